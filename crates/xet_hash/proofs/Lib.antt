@@ -1,0 +1,9 @@
+pub mod Absorbing
+pub mod Blocks
+pub mod Finishing
+pub mod HashLaws
+pub mod HashLemmas
+pub mod HexDigitLemmas
+pub mod HexTextLemmas
+pub mod Merging
+pub mod Waiting

@@ -1,0 +1,252 @@
+//! The 256-bit Merkle hash of a chunk, a xorb or a file, and its forms as words, bytes and hex text,
+//! after the module `merklehash::data_hash` of the crate `xet-core-structures` 1.5.2.
+
+ghost use Rattle.std.specs.Prelude.{◌≡◌, ◌+◌, ◌*◌, ◌↔◌, ◌<◌, ◌≤◌, ℕ, List, Some, codes, length, drop, IsOk, IfOk};
+ghost use Rattle.std.specs.Int.{w64, from_le_bytes, from_be_bytes};
+ghost use Rattle.std.specs.Str.{IsAscii, str_to_ascii_lowercase};
+ghost use Rattle.hex.specs.Hex.{encode_lower};
+ghost use Rattle.xet_hash.specs.Blake3.{keyed_hash};
+ghost use Rattle.xet_hash.specs.Hash.{default_hash, bytes_of, hash_of, hex_text, internal_key, IsHash, IsHexText};
+
+use crate::blake3;
+use hex::FromHex;
+use std::marker::Model;
+use std::{error, fmt, str};
+
+// The key of a hash over the texts of other hashes.
+const INTERNAL_KEY: [u8; 32] = [
+    1, 126, 197, 199, 165, 71, 41, 150, 253, 148, 102, 102, 180, 138, 2, 230, 93, 221, 83, 111, 55,
+    199, 109, 210, 248, 99, 82, 230, 74, 83, 113, 63,
+];
+
+/// A Merkle hash of 256 bits, as four words.
+///
+/// A contract sees the list of the words.
+#[derive(Clone, Copy, PartialEq, Eq)]
+pub struct DataHash {
+    words: [u64; 4],
+}
+
+/// The hash of a chunk, a xorb or a file.
+pub type MerkleHash = DataHash;
+
+/// A key of [`DataHash::hmac`].
+pub type HMACKey = DataHash;
+
+impl Model for DataHash {
+    ghost Value = { List ℕ };
+
+    ghost view = { λ hash. hash.words };
+
+    ghost inverse = { λ words. record { words = words } };
+}
+
+impl Default for DataHash {
+    ghost is_default = { λ hash. hash ≡ default_hash };
+
+    /// The hash of no data: all bits zero.
+    fn default() -> DataHash {
+        DataHash { words: [0; 4] }
+    }
+}
+
+impl DataHash {
+    /// The four words.
+    ///
+    /// This call is this port's own; it stands for the dereferencing of the Rust type.
+    pub fn words(&self) -> [u64; 4]
+        ensures value { result ≡ self.now }
+        ensures fits { IsHash self.now }
+    {
+        // Each word is read here, which shows a proof that it fits.
+        let [first, second, third, fourth] = self.words;
+        [first, second, third, fourth]
+    }
+
+    /// The 32 bytes: the words in order, each little-endian on every machine.
+    pub fn as_bytes(&self) -> [u8; 32]
+        ensures { result ≡ bytes_of self.now }
+    {
+        let mut bytes = [0; 32];
+        bytes[0..8].copy_from_slice(&self.words[0].to_le_bytes());
+        bytes[8..16].copy_from_slice(&self.words[1].to_le_bytes());
+        bytes[16..24].copy_from_slice(&self.words[2].to_le_bytes());
+        bytes[24..32].copy_from_slice(&self.words[3].to_le_bytes());
+        bytes
+    }
+
+    /// The hex text: each word in order as 16 lower-case digits, the high digit first.
+    ///
+    /// This call is this port's own. It gives what [`fmt::Display`] writes, with no writer and no
+    /// memory.
+    pub fn hex_digits(&self) -> [u8; 64]
+        ensures text { result ≡ hex_text self.now }
+        ensures ascii { IsAscii result }
+    {
+        let mut digits = [0; 64];
+        let _ = hex::encode_to_slice(self.text_bytes(), &mut digits);
+        digits
+    }
+
+    /// The hash whose hex text is `text`, in either case. It succeeds exactly on 64 ASCII hex digits.
+    pub fn from_hex(text: &str) -> Result<DataHash, DataHashHexParseError>
+        ensures accepted { IsOk result ↔ IsHexText text.now }
+        ensures is_hash { IfOk result IsHash }
+        ensures value { IfOk result (λ hash. hex_text hash ≡ str_to_ascii_lowercase text.now) }
+    {
+        DataHash::from_hex_digits(text.as_bytes())
+    }
+
+    /// [`DataHash::from_hex`] for bytes that may not be UTF-8.
+    ///
+    /// This call is this port's own.
+    pub fn from_hex_digits(digits: &[u8]) -> Result<DataHash, DataHashHexParseError>
+        ensures accepted { IsOk result ↔ IsHexText digits.now }
+        ensures is_hash { IfOk result IsHash }
+        ensures value { IfOk result (λ hash. hex_text hash ≡ str_to_ascii_lowercase digits.now) }
+    {
+        match <[u8; 32] as FromHex>::from_hex(digits) {
+            Ok(bytes) => Ok(DataHash::from_text_bytes(&bytes)),
+            Err(_) => Err(DataHashHexParseError),
+        }
+    }
+
+    /// The keyed hash of this hash's bytes under the bytes of `key`.
+    pub fn hmac(&self, key: HMACKey) -> DataHash
+        ensures { result ≡ hash_of (keyed_hash (bytes_of key) (bytes_of self.now)) }
+    {
+        DataHash::from(blake3::keyed_hash(&key.as_bytes(), &self.as_bytes()))
+    }
+
+    // The 32 bytes in the order of the hex text: each word high byte first.
+    fn text_bytes(&self) -> [u8; 32]
+        ensures { encode_lower result ≡ hex_text self.now }
+    {
+        let mut bytes = [0; 32];
+        bytes[0..8].copy_from_slice(&self.words[0].to_be_bytes());
+        bytes[8..16].copy_from_slice(&self.words[1].to_be_bytes());
+        bytes[16..24].copy_from_slice(&self.words[2].to_be_bytes());
+        bytes[24..32].copy_from_slice(&self.words[3].to_be_bytes());
+        bytes
+    }
+
+    // The hash of 32 bytes in the order of the hex text.
+    fn from_text_bytes(bytes: &[u8; 32]) -> DataHash
+        ensures is_hash { IsHash result }
+        ensures text { hex_text result ≡ encode_lower bytes.now }
+    {
+        DataHash {
+            words: [
+                big_endian_word(bytes, 0),
+                big_endian_word(bytes, 1),
+                big_endian_word(bytes, 2),
+                big_endian_word(bytes, 3),
+            ],
+        }
+    }
+}
+
+impl From<[u64; 4]> for DataHash {
+    ghost from_gives = { λ words hash. hash ≡ words };
+
+    fn from(words: [u64; 4]) -> DataHash {
+        DataHash { words }
+    }
+}
+
+impl From<&[u8; 32]> for DataHash {
+    ghost from_gives = { λ bytes hash. hash ≡ hash_of bytes.now };
+
+    #[tactic(auto, unfolding(crate::specs::Hash::hash_of))]
+    fn from(bytes: &[u8; 32]) -> DataHash {
+        DataHash {
+            words: [
+                little_endian_word(bytes, 0),
+                little_endian_word(bytes, 1),
+                little_endian_word(bytes, 2),
+                little_endian_word(bytes, 3),
+            ],
+        }
+    }
+}
+
+impl From<[u8; 32]> for DataHash {
+    ghost from_gives = { λ bytes hash. hash ≡ hash_of bytes };
+
+    fn from(bytes: [u8; 32]) -> DataHash {
+        DataHash::from(&bytes)
+    }
+}
+
+impl From<DataHash> for [u8; 32] {
+    ghost from_gives = { λ hash bytes. bytes ≡ bytes_of hash };
+
+    fn from(hash: DataHash) -> [u8; 32] {
+        hash.as_bytes()
+    }
+}
+
+/// The hash of an inner node of a tree, whose text `bytes` is.
+pub fn compute_internal_node_hash(bytes: &[u8]) -> DataHash
+    ensures { result ≡ hash_of (keyed_hash internal_key bytes.now) }
+{
+    DataHash::from(blake3::keyed_hash(&INTERNAL_KEY, bytes))
+}
+
+// Word number `k` of 32 bytes.
+fn little_endian_word(bytes: &[u8; 32], k: usize) -> u64
+    requires { k < 4 }
+    ensures { result ≡ from_le_bytes w64 (drop (8 * k) bytes.now) }
+{
+    let mut word = [0; 8];
+    word.copy_from_slice(&bytes[8 * k..8 * k + 8]);
+    u64::from_le_bytes(word)
+}
+
+// Word number `k` of 32 bytes in the order of the hex text.
+fn big_endian_word(bytes: &[u8; 32], k: usize) -> u64
+    requires { k < 4 }
+    ensures { result ≡ from_be_bytes w64 (drop (8 * k) bytes.now) }
+{
+    let mut word = [0; 8];
+    word.copy_from_slice(&bytes[8 * k..8 * k + 8]);
+    u64::from_be_bytes(word)
+}
+
+/// The error of [`DataHash::from_hex`]: the text is not 64 hex digits.
+#[derive(Clone, Debug, Drop)]
+pub struct DataHashHexParseError;
+
+impl fmt::Display for DataHashHexParseError {
+    ghost output = { λ _. Some (codes "Invalid hex input for DataHash") };
+
+    fn fmt<W: fmt::Write>(&self, f: &mut fmt::Formatter<W>) -> fmt::Result {
+        f.write_str("Invalid hex input for DataHash")
+    }
+}
+
+impl error::Error for DataHashHexParseError {}
+
+impl fmt::Display for DataHash {
+    ghost output = { λ hash. Some (hex_text hash) };
+
+    ghost styled_output = { λ hash _. Some (hex_text hash) };
+
+    /// Writes the hex text, whatever width and flags are asked for.
+    fn fmt<W: fmt::Write>(&self, f: &mut fmt::Formatter<W>) -> fmt::Result {
+        let digits = self.hex_digits();
+        f.write_str(str::from_utf8(&digits).unwrap())
+    }
+}
+
+impl fmt::Debug for DataHash {
+    ghost debug_output = { λ hash. Some (hex_text hash) };
+
+    /// Writes the hex text, whatever width and flags are asked for.
+    fn fmt<W: fmt::Write>(&self, f: &mut fmt::Formatter<W>) -> fmt::Result {
+        fmt::Display::fmt(self, f)
+    }
+}
+
+#[cfg(test)]
+mod tests;

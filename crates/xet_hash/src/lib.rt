@@ -1,0 +1,5 @@
+#![tactic(auto)]
+
+pub mod blake3;
+pub mod data_hash;
+pub mod laws;

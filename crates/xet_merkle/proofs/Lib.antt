@@ -1,0 +1,5 @@
+pub mod Places
+pub mod GroupLaws
+pub mod RootLaws
+pub mod FirstGroup
+pub mod Scanning

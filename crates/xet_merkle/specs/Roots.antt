@@ -1,0 +1,41 @@
+-- Parents, roots and file hashes of a list of nodes (module `merklehash::aggregated_hashes` of the
+-- crate `xet-core-structures`).
+use Rattle.std.specs.Prelude.{◌≡◌, ℕ, ◌≤◌, List, [], ◌∷◌, ◌++◌, length, map, flat_map, sum_by, codes, decimal}
+use Rattle.xet_hash.specs.Blake3.{keyed_hash}
+use Rattle.xet_hash.specs.Hash.{default_hash, bytes_of, hash_of, hex_text, internal_key}
+use Rattle.xet_merkle.specs.Groups.{Node, Groups}
+
+-- the sum of the sizes of some nodes
+abbrev pub total_size : List Node → ℕ
+total_size nodes = sum_by (λ node. node.1) nodes
+
+-- the line of a node: its hash in hex, a space, a colon, a space, its size in decimal, a newline
+unfoldable pub node_line : Node → List ℕ
+node_line node = hex_text node.0 ++ codes " : " ++ decimal node.1 ++ codes "\n"
+
+-- the text of a group: the lines of its nodes
+abbrev pub group_text : List Node → List ℕ
+group_text group = flat_map node_line group
+
+-- the parent of a group: the internal node hash of its text, and the sum of its sizes
+unfoldable pub parent : List Node → Node
+parent group = (hash_of (keyed_hash internal_key (group_text group)), total_size group)
+
+-- the root of a list of nodes, under what makes a parent of a group: the default hash for no node, the
+-- node's own hash for one, else the root of the parents of the list's groups
+pub data IsRootBy (make : List Node → Node) : List Node → List ℕ → Type 0 where
+  no_node : IsRootBy make [] default_hash
+  one_node : {hash : List ℕ} {size : ℕ} → IsRootBy make ((hash, size) ∷ []) hash
+  of_parents : {nodes : List Node} {groups : List (List Node)} {hash : List ℕ} →
+      2 ≤ length nodes → Groups nodes groups → IsRootBy make (map make groups) hash → IsRootBy make nodes hash
+
+-- the root of a list of nodes
+abbrev pub IsRoot : List Node → List ℕ → Type 0
+IsRoot nodes hash = IsRootBy parent nodes hash
+
+-- the file hash of a list of nodes under a salt of 32 bytes: the default hash for no node, else the
+-- keyed hash of the root's bytes under the salt
+abbrev pub IsFileHash : List Node → List ℕ → List ℕ → Type 0
+IsFileHash [] salt hash = hash ≡ default_hash
+IsFileHash (node ∷ more) salt hash =
+    (root : List ℕ) × IsRoot (node ∷ more) root × (hash ≡ hash_of (keyed_hash salt (bytes_of root)))

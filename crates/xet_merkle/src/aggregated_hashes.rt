@@ -1,0 +1,196 @@
+//! The root and the file hash of a list of chunks, after the module `aggregated_hashes` of the crate
+//! `xet-core-structures`.
+//!
+//! A list is cut into groups of nodes; each group becomes a parent, whose hash is that of the group's
+//! text and whose size is the sum of the group's. The root of a list is that of its parents.
+
+ghost use Rattle.std.specs.Prelude.{◌≡◌, ◌+◌, ◌^◌, ◌<◌, ◌≤◌, ◌↔◌, List, ◌++◌, length, take, drop, replicate, IsOk, IfOk, IfErr, IsErrOf, IsSome, SomeIff};
+ghost use Rattle.arrayvec.specs.ArrayVec.{array_vec_len};
+ghost use Rattle.xet_merkle.specs.Groups.{Node, is_cut};
+ghost use Rattle.xet_merkle.specs.Roots.{total_size, node_line, group_text, parent, IsRoot, IsFileHash};
+ghost use Rattle.xet_merkle.specs.Scan.{IsFirstGroup, AreParents};
+
+use crate::error::CoreError;
+use arrayvec::ArrayVec;
+use std::alloc::Allocator;
+use xet_hash::data_hash::{HMACKey, MerkleHash, compute_internal_node_hash};
+
+/// One in so many hashes is a natural cut, so groups have about this many nodes.
+pub const AGGREGATED_HASHES_MEAN_TREE_BRANCHING_FACTOR: u64 = 4;
+
+// The most nodes of a group.
+const MAX_GROUP_LEN: usize = 9;
+
+// The first index in a group at which a natural cut ends it.
+const FIRST_CUT_INDEX: usize = 2;
+
+// The most bytes of a node's line: 64 digits, 3 characters, 20 digits and a newline.
+const MAX_LINE_LEN: usize = 88;
+
+// The most bytes of a group's text.
+const MAX_TEXT_LEN: usize = 792;
+
+/// A node of the tree over a list of chunks: its hash, and its size in bytes.
+pub type Node = (MerkleHash, u64);
+
+// Whether a node is a natural cut.
+#[tactic(auto, unfolding(crate::specs::Groups::is_cut))]
+fn is_natural_cut(node: &Node) -> bool
+    ensures { result ≡ is_cut node.now }
+{
+    node.0.words()[3] % AGGREGATED_HASHES_MEAN_TREE_BRANCHING_FACTOR == 0
+}
+
+// How many nodes the first group of some nodes has.
+fn first_group_len(nodes: &[Node]) -> usize
+    requires { 0 < length nodes.now }
+    ensures bound { result ≤ length nodes.now }
+    ensures first { IsFirstGroup (take result nodes.now) (drop result nodes.now) }
+{
+    let longest = nodes.len().min(MAX_GROUP_LEN);
+    'scan: for i in FIRST_CUT_INDEX..longest {
+        if is_natural_cut(&nodes[i]) {
+            return i + 1;
+        }
+    }
+    longest
+}
+
+fn push_bytes(text: &mut ArrayVec<u8, MAX_TEXT_LEN>, bytes: &[u8])
+    requires { array_vec_len text.old + length bytes.now ≤ MAX_TEXT_LEN }
+    ensures { text.new.items ≡ text.old.items ++ bytes.now }
+{
+    text.try_extend_from_slice(bytes).unwrap();
+}
+
+// Adds a node's line to a text.
+#[tactic(auto, unfolding(crate::specs::Roots::node_line))]
+fn push_line(text: &mut ArrayVec<u8, MAX_TEXT_LEN>, node: &Node)
+    requires { array_vec_len text.old + MAX_LINE_LEN ≤ MAX_TEXT_LEN }
+    ensures line { text.new.items ≡ text.old.items ++ node_line node.now }
+    ensures bound { array_vec_len text.new ≤ array_vec_len text.old + MAX_LINE_LEN }
+{
+    let (hash, size) = *node;
+    push_bytes(text, &hash.hex_digits());
+    push_bytes(text, b" : ");
+    push_bytes(text, itoa::Buffer::new().format(size).as_bytes());
+    push_bytes(text, b"\n");
+}
+
+// The text of a group: a line for each of its nodes.
+fn group_text(group: &[Node]) -> ArrayVec<u8, MAX_TEXT_LEN>
+    requires { length group.now ≤ MAX_GROUP_LEN }
+    ensures { result.items ≡ group_text group.now }
+{
+    let mut text = ArrayVec::new();
+    for node in group {
+        push_line(&mut text, node);
+    }
+    text
+}
+
+// The sum of the sizes of some nodes, where it is a `u64`, as that of one node is.
+fn total_size(nodes: &[Node]) -> Option<u64>
+    ensures short { length nodes.now ≤ 1 → IsSome result }
+    ensures total { SomeIff result (total_size nodes.now < 2 ^ 64) (total_size nodes.now) }
+{
+    let mut total = 0u64;
+    for (_, size) in nodes {
+        total = total.checked_add(*size)?;
+    }
+    Some(total)
+}
+
+// The parent of a group.
+#[tactic(auto, unfolding(crate::specs::Roots::parent))]
+fn parent(group: &[Node]) -> Node
+    requires few { length group.now ≤ MAX_GROUP_LEN }
+    requires fits { total_size group.now < 2 ^ 64 }
+    ensures { result ≡ parent group.now }
+{
+    let size = group.iter().map(|node| node.1).sum();
+    (compute_internal_node_hash(&group_text(group)), size)
+}
+
+// The parents of the groups of some nodes, in a new list.
+fn parents<A: Allocator>(alloc: A, nodes: &[Node]) -> Result<Vec<Node, A>, CoreError>
+    requires { total_size nodes.now < 2 ^ 64 }
+    ensures parents { IfOk result (λ made. AreParents parent nodes.now made.items) }
+    ensures err { IfErr result (λ e. e ≡ CoreError.OutOfMemory) }
+{
+    let mut made = Vec::new(alloc);
+    let mut rest = nodes;
+    'groups: while !rest.is_empty() {
+        let (group, after) = rest.split_at(first_group_len(rest));
+        made.push(parent(group))?;
+        rest = after;
+    }
+    Ok(made)
+}
+
+// Replaces some nodes by the parents of their groups, in the nodes' own place.
+fn shrink<A: Allocator>(nodes: &mut Vec<Node, A>)
+    requires { total_size nodes.old.items < 2 ^ 64 }
+    ensures { AreParents parent nodes.old.items nodes.new.items }
+{
+    let mut made = 0;
+    let mut read = 0;
+    'groups: while read < nodes.len() {
+        let rest = &nodes[read..];
+        let len = first_group_len(rest);
+        let parent = parent(&rest[..len]);
+        nodes[made] = parent;
+        made += 1;
+        read += len;
+    }
+    nodes.truncate(made);
+}
+
+// The root of a list with a node, in the list's own place.
+fn root<A: Allocator>(mut nodes: Vec<Node, A>) -> MerkleHash
+    requires some { 0 < length nodes.items }
+    requires fits { total_size nodes.items < 2 ^ 64 }
+    ensures { IsRoot nodes.items result }
+{
+    'levels: while nodes.len() > 1 {
+        shrink(&mut nodes);
+    }
+    nodes[0].0
+}
+
+/// The root of a list of chunks: the default hash for no chunk, the chunk's own hash for one, else the
+/// root of the parents of the list's groups.
+///
+/// It fails with [`CoreError::SizeOverflow`] where the sizes add up to more than `u64::MAX`, before
+/// anything is allocated, and with [`CoreError::OutOfMemory`] where an allocation is refused. A list of
+/// at most one chunk takes no memory and never fails.
+pub fn xorb_hash<A: Allocator>(alloc: A, chunks: &[Node]) -> Result<MerkleHash, CoreError>
+    ensures root { IfOk result (IsRoot chunks.now) }
+    ensures overflow { IsErrOf result CoreError.SizeOverflow ↔ (2 ^ 64 ≤ total_size chunks.now) }
+    ensures short { length chunks.now ≤ 1 → IsOk result }
+{
+    if total_size(chunks).is_none() {
+        return Err(CoreError::SizeOverflow);
+    }
+    match chunks {
+        [] => Ok(MerkleHash::default()),
+        [(hash, _)] => Ok(*hash),
+        _ => Ok(root(parents(alloc, chunks)?)),
+    }
+}
+
+/// The file hash of a list of chunks, without a salt: the default hash for no chunk, else the root's
+/// [`hmac`](xet_hash::data_hash::DataHash::hmac) under the key of 32 zero bytes.
+///
+/// It fails where [`xorb_hash`] does, in the same order.
+pub fn file_hash<A: Allocator>(alloc: A, chunks: &[Node]) -> Result<MerkleHash, CoreError>
+    ensures file { IfOk result (IsFileHash chunks.now (replicate 32 0)) }
+    ensures overflow { IsErrOf result CoreError.SizeOverflow ↔ (2 ^ 64 ≤ total_size chunks.now) }
+    ensures short { length chunks.now ≤ 1 → IsOk result }
+{
+    let root = xorb_hash(alloc, chunks)?;
+    if chunks.is_empty() {
+        return Ok(root);
+    }
+    Ok(root.hmac(HMACKey::default()))
+}

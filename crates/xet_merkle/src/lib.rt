@@ -1,0 +1,9 @@
+//! Roots and file hashes of lists of chunks, after the module `merklehash` of the crate
+//! `xet-core-structures` 1.5.2.
+#![tactic(auto)]
+
+pub mod aggregated_hashes;
+pub mod error;
+pub mod laws;
+
+pub use error::CoreError;

@@ -1,0 +1,11 @@
+use Rattle.std.proofs.Common.{ℕ, List, ◌-◌, ◌^◌}
+use Rattle.std.specs.Io.KnownBytes.{Consumes}
+use Rattle.xetroot.specs.Taken.{IsTaken}
+use Rattle.xetroot.proofs.run.read_pairs.Given as goal
+
+abbrev pub invariant-pieces : goal.invariant-pieces
+invariant-pieces g l = (text : List ℕ) × IsTaken l.reading text
+    × Consumes (g.R.Read.remaining l.fn.r) (g.R.Read.remaining l.r) text
+
+abbrev pub decreases-pieces : goal.decreases-pieces
+decreases-pieces g l = 2 ^ 40 - l.reading.count

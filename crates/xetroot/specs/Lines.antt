@@ -1,0 +1,77 @@
+-- The lines of the program's input, and what a line says.
+use Rattle.std.specs.Prelude.{◌≡◌, ◌≢◌, ℕ, ◌+◌, ◌^◌, ◌<◌, ◌≤◌, ◌==◌, if◌then◌else◌, ◌⊎◌, List, [], ◌∷◌, ◌++◌, length, codes, decimal}
+use Rattle.std.specs.List.{concat}
+use Rattle.std.specs.Str.{str_to_ascii_lowercase}
+use Rattle.xet_hash.specs.Hash.{IsHash, IsHexText, hex_text}
+use Rattle.xet_merkle.specs.Groups.{Node}
+use Rattle.xet_merkle.specs.Roots.{total_size}
+
+-- the byte 0A, which ends a line
+abbrev pub newline : ℕ
+newline = 10
+
+-- no newline stands in some bytes
+abbrev pub NoNewline : List ℕ → Type 0
+NoNewline [] = Unit {0}
+NoNewline (byte ∷ bytes) = (byte ≢ newline) × NoNewline bytes
+
+abbrev pub onto_first : ℕ → List (List ℕ) → List (List ℕ)
+onto_first byte [] = (byte ∷ []) ∷ []
+onto_first byte (line ∷ lines) = (byte ∷ line) ∷ lines
+
+-- the lines of a text, each with the newline that ends it; a last piece without a newline is a line
+-- where it isn't empty
+abbrev pub lines_of : List ℕ → List (List ℕ)
+lines_of [] = []
+lines_of (byte ∷ text) =
+    if byte == newline then (byte ∷ []) ∷ lines_of text else onto_first byte (lines_of text)
+
+-- a line without its newline
+abbrev pub content : List ℕ → List ℕ
+content [] = []
+content (byte ∷ []) = if byte == newline then [] else byte ∷ []
+content (byte ∷ next ∷ more) = byte ∷ content (next ∷ more)
+
+-- the line that ends a range
+abbrev pub IsSeparator : List ℕ → Type 0
+IsSeparator line = line ≡ codes "--"
+
+-- the line of a pair: the 64 hex digits of its hash in either case, one space, and its size in decimal
+pub record IsPairLine (line : List ℕ) (node : Node) : Type 0 where
+  pub digits : List ℕ
+  pub parts : line ≡ digits ++ codes " " ++ decimal node.1
+  pub are_digits : IsHexText digits
+  pub reads : hex_text node.0 ≡ str_to_ascii_lowercase digits
+  pub is_hash : IsHash node.0
+  pub is_size : node.1 < 2 ^ 64
+
+-- what some lines say that are none of them bad: the pairs, in order
+pub data Say : List (List ℕ) → List Node → Type 0 where
+  no_line : Say [] []
+  separator : {line : List ℕ} {lines : List (List ℕ)} {pairs : List Node} →
+      IsSeparator (content line) → Say lines pairs → Say (line ∷ lines) pairs
+  pair : {line : List ℕ} {node : Node} {lines : List (List ℕ)} {pairs : List Node} →
+      IsPairLine (content line) node → Say lines pairs → Say (line ∷ lines) (node ∷ pairs)
+
+-- the most bytes of an input
+abbrev pub byte_limit : ℕ
+byte_limit = 2 ^ 40
+
+-- lines of which none is faulty, where they begin the input: what they say, sizes that fit, and no byte
+-- past the limit
+pub record AreGood (lines : List (List ℕ)) (pairs : List Node) : Type 0 where
+  pub say : Say lines pairs
+  pub fits : total_size pairs < 2 ^ 64
+  pub within : length (concat lines) ≤ byte_limit
+
+-- a line that is neither a separator nor a pair line
+abbrev pub SaysNothing : List ℕ → Type 0
+SaysNothing line = ¬ (IsSeparator (content line)) × ((node : Node) → ¬ (IsPairLine (content line) node))
+
+-- a line after good lines is bad: the first byte past the limit stands in it, or it says nothing
+abbrev pub IsBad : List (List ℕ) → List ℕ → Type 0
+IsBad before line = (byte_limit < length (concat before) + length line) ⊎ SaysNothing line
+
+-- a line after good lines, which say these pairs, makes the sizes pass 2 ^ 64 - 1
+abbrev pub PassesSizes : List Node → List ℕ → Type 0
+PassesSizes pairs line = (node : Node) × IsPairLine (content line) node × (2 ^ 64 ≤ total_size pairs + node.1)

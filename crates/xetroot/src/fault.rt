@@ -1,0 +1,58 @@
+//! Why the program ends without an answer.
+
+ghost use Rattle.std.specs.Prelude.{◌≡◌};
+ghost use Rattle.xetroot.specs.Status.{status_of};
+ghost use Rattle.xetroot.specs.declared.fault.Fault.TheVariants.{Memory};
+
+use std::alloc::AllocFailed;
+use std::fmt;
+
+/// Why [`run`](crate::run::run) was refused.
+#[derive(Clone, Copy, Debug, PartialEq, Eq)]
+pub enum Fault {
+    /// The first faulty line, of this number from 1, is bad.
+    BadLine(u64),
+    /// With the pair of the first faulty line, of this number from 1, the sizes pass `u64::MAX`.
+    Sizes(u64),
+    /// An allocation was refused.
+    Memory,
+    /// A read failed.
+    Read,
+    /// A write or the flush failed, or a write took nothing.
+    Write,
+}
+
+impl Fault {
+    /// The number of the fault, from 1 to 5, which is the program's exit status.
+    pub fn status(&self) -> u8
+        ensures { result ≡ status_of self.now }
+    {
+        match self {
+            Fault::BadLine(_) => 1,
+            Fault::Sizes(_) => 2,
+            Fault::Memory => 3,
+            Fault::Read => 4,
+            Fault::Write => 5,
+        }
+    }
+}
+
+impl fmt::Display for Fault {
+    fn fmt<W: fmt::Write>(&self, f: &mut fmt::Formatter<W>) -> fmt::Result {
+        let status = self.status();
+        match self {
+            Fault::BadLine(line) | Fault::Sizes(line) => {
+                write!(f, "xetroot: fault {status} at line {line}")
+            }
+            Fault::Memory | Fault::Read | Fault::Write => write!(f, "xetroot: fault {status}"),
+        }
+    }
+}
+
+impl<T: Drop> From<AllocFailed<T>> for Fault {
+    ghost from_gives = { λ _ fault. fault ≡ Memory };
+
+    fn from(_error: AllocFailed<T>) -> Fault {
+        Fault::Memory
+    }
+}

@@ -1,0 +1,21 @@
+//! The program `xetroot`: the root and the file hash of the pairs on its standard input.
+#![tactic(auto)]
+
+mod fault;
+mod line;
+mod reading;
+mod run;
+
+use run::run;
+use std::process::ExitCode;
+
+fn main(rt: HostRuntime) -> ExitCode {
+    match run(rt.alloc(), &mut rt.stdin(), &mut rt.stdout()) {
+        Ok(()) => ExitCode::SUCCESS,
+        Err(fault) => {
+            // Where the fault can't be printed, the status still tells it.
+            let _ = eprintln!(rt; "{fault}");
+            ExitCode::from(fault.status())
+        }
+    }
+}

@@ -1,0 +1,182 @@
+//! The reading of the input, piece by piece.
+
+ghost use Rattle.std.specs.Prelude.{◌≡◌, ◌≢◌, ◌+◌, ◌^◌, ◌<◌, ◌≤◌, ◌⊎◌, ℕ, List, [], ◌∷◌, ◌++◌, length, IfSome, IfNone, IfOk, IfErr, OnOk};
+ghost use Rattle.xet_merkle.specs.Roots.{total_size};
+ghost use Rattle.xetroot.specs.Lines.{lines_of, content, AreGood, NoNewline, newline};
+ghost use Rattle.xetroot.specs.Answer.{IsFaultOf};
+
+use crate::fault::Fault;
+use crate::line::{self, Line};
+use arrayvec::ArrayVec;
+use memchr::memchr;
+use std::alloc::Allocator;
+use xet_merkle::aggregated_hashes::Node;
+
+// The most bytes of an input.
+const BYTE_LIMIT: u64 = 1 << 40;
+
+// The most bytes of a line that isn't bad: 64 hex digits, a space and 20 decimal digits.
+const MAX_LINE_LEN: usize = 85;
+
+/// What has been read of the input: the pairs of the lines that are whole, and the open line.
+///
+/// It keeps the pairs, 40 bytes each, and no more of the text than the longest line that isn't bad.
+#[derive(Drop)]
+pub struct Reading<A: Allocator> {
+    pairs: Vec<Node, A>,
+    // The sum of the pairs' sizes.
+    total: u64,
+    // The number of bytes taken.
+    count: u64,
+    // The number of the open line, from 1.
+    number: u64,
+    // The open line so far.
+    line: ArrayVec<u8, MAX_LINE_LEN>,
+}
+
+impl<A: Allocator> Reading<A> {
+    ghost use Rattle.xetroot.specs.Taken.{IsTaken, AddsLine, IsLineFault};
+
+    /// A reading of nothing yet.
+    pub fn new(alloc: A) -> Self
+        ensures { IsTaken result [] }
+    {
+        Reading {
+            pairs: Vec::new(alloc),
+            total: 0,
+            count: 0,
+            number: 1,
+            line: ArrayVec::new(),
+        }
+    }
+
+    /// Takes the next piece of the input. A fault is that of the first faulty line, or want of memory.
+    pub fn take(&mut self, piece: &[u8]) -> Result<(), Fault>
+        ensures taken { OnOk result ((text : List ℕ) →
+            IsTaken self.old text → IsTaken self.new (text ++ piece.now)) }
+        ensures fault { IfErr result (λ fault. (text rest : List ℕ) →
+            IsTaken self.old text → IsFaultOf (text ++ piece.now ++ rest) fault) }
+        ensures not_write { IfErr result (λ fault. fault ≢ Fault.Write) }
+    {
+        let room = BYTE_LIMIT.saturating_sub(self.count);
+        if piece.len() as u64 <= room {
+            return self.take_within(piece);
+        }
+        self.take_within(&piece[..room as usize])?;
+        Err(Fault::BadLine(self.number))
+    }
+
+    /// The pairs, where the input ends here. A fault is as that of `take`.
+    pub fn finish(mut self) -> Result<Vec<Node, A>, Fault>
+        ensures pairs { IfOk result (λ pairs. (text : List ℕ) →
+            IsTaken self text → AreGood (lines_of text) pairs.items) }
+        ensures fault { IfErr result (λ fault. (text : List ℕ) →
+            IsTaken self text → IsFaultOf text fault) }
+        ensures not_write { IfErr result (λ fault. fault ≢ Fault.Write) }
+    {
+        if self.line.is_empty() {
+            return Ok(self.pairs);
+        }
+        self.add_line()?;
+        Ok(self.pairs)
+    }
+
+    // Takes a piece in which no byte is past the limit.
+    fn take_within(&mut self, piece: &[u8]) -> Result<(), Fault>
+        ensures taken { OnOk result ((text : List ℕ) → length text + length piece.now ≤ 2 ^ 40 →
+            IsTaken self.old text → IsTaken self.new (text ++ piece.now)) }
+        ensures fault { IfErr result (λ fault. (text rest : List ℕ) → length text + length piece.now ≤ 2 ^ 40 →
+            IsTaken self.old text → IsFaultOf (text ++ piece.now ++ rest) fault) }
+        ensures not_write { IfErr result (λ fault. fault ≢ Fault.Write) }
+    {
+        let mut rest = piece;
+        'lines: while let Some((begun, after)) = split_line(rest) {
+            self.extend_line(begun)?;
+            self.end_line()?;
+            rest = after;
+        }
+        self.extend_line(rest)
+    }
+
+    // Takes bytes without a newline.
+    fn extend_line(&mut self, bytes: &[u8]) -> Result<(), Fault>
+        requires { NoNewline bytes.now }
+        ensures taken { OnOk result ((text : List ℕ) → length text + length bytes.now ≤ 2 ^ 40 →
+            IsTaken self.old text → IsTaken self.new (text ++ bytes.now)) }
+        ensures fault { IfErr result (λ fault. (text rest : List ℕ) →
+            IsTaken self.old text → IsFaultOf (text ++ bytes.now ++ rest) fault) }
+        ensures not_write { IfErr result (λ fault. fault ≢ Fault.Write) }
+    {
+        let Ok(()) = self.line.try_extend_from_slice(bytes) else {
+            return Err(Fault::BadLine(self.number));
+        };
+        self.count = self.count.saturating_add(bytes.len() as u64);
+        Ok(())
+    }
+
+    // Takes a newline.
+    fn end_line(&mut self) -> Result<(), Fault>
+        ensures taken { OnOk result ((text : List ℕ) → length text + 1 ≤ 2 ^ 40 →
+            IsTaken self.old text → IsTaken self.new (text ++ newline ∷ [])) }
+        ensures fault { IfErr result (λ fault. (text rest : List ℕ) →
+            length text + 1 ≤ 2 ^ 40 → IsTaken self.old text →
+            IsFaultOf (text ++ newline ∷ rest) fault) }
+        ensures not_write { IfErr result (λ fault. fault ≢ Fault.Write) }
+    {
+        self.add_line()?;
+        self.line.clear();
+        self.count = self.count.saturating_add(1);
+        self.number = self.number.saturating_add(1);
+        Ok(())
+    }
+
+    // Adds what the open line says to the pairs.
+    fn add_line(&mut self) -> Result<(), Fault>
+        ensures says { OnOk result ((line : List ℕ) → content line ≡ self.old.line.items →
+            AddsLine self.old.pairs.items self.new.pairs.items line) }
+        ensures total { OnOk result (self.old.total ≡ total_size self.old.pairs.items →
+            self.new.total ≡ total_size self.new.pairs.items) }
+        ensures fits { OnOk result (self.old.total < 2 ^ 64 → self.new.total < 2 ^ 64) }
+        ensures kept { OnOk result ((self.new.line ≡ self.old.line) × (self.new.number ≡ self.old.number)
+            × (self.new.count ≡ self.old.count)) }
+        ensures fault { IfErr result (λ fault. (line : List ℕ) → content line ≡ self.old.line.items →
+            self.old.total ≡ total_size self.old.pairs.items →
+            IsLineFault self.old.number self.old.pairs.items line fault) }
+        ensures not_write { IfErr result (λ fault. fault ≢ Fault.Write) }
+    {
+        match line::parse(self.line.as_slice()) {
+            None => Err(Fault::BadLine(self.number)),
+            Some(Line::Separator) => Ok(()),
+            Some(Line::Pair(pair)) => self.add_pair(pair),
+        }
+    }
+
+    // Adds a pair.
+    fn add_pair(&mut self, pair: Node) -> Result<(), Fault>
+        ensures pairs { OnOk result (self.new.pairs.items ≡ self.old.pairs.items ++ pair ∷ []) }
+        ensures total { OnOk result (self.new.total ≡ self.old.total + pair.1) }
+        ensures fits { OnOk result (self.new.total < 2 ^ 64) }
+        ensures kept { OnOk result ((self.new.line ≡ self.old.line) × (self.new.number ≡ self.old.number)
+            × (self.new.count ≡ self.old.count)) }
+        ensures sizes { IfErr result (λ fault. fault ≡ Fault.Memory
+            ⊎ ((fault ≡ Fault.Sizes self.old.number) × (2 ^ 64 ≤ self.old.total + pair.1))) }
+    {
+        let total = self
+            .total
+            .checked_add(pair.1)
+            .ok_or(Fault::Sizes(self.number))?;
+        self.pairs.push(pair)?;
+        self.total = total;
+        Ok(())
+    }
+}
+
+// Some bytes before and after their first newline.
+fn split_line(bytes: &[u8]) -> Option<(&[u8], &[u8])>
+    ensures found { IfSome result (λ parts.
+        (bytes.now ≡ parts.0.now ++ newline ∷ parts.1.now) × NoNewline parts.0.now) }
+    ensures none { IfNone result (NoNewline bytes.now) }
+{
+    let end = memchr(b'\n', bytes)?;
+    Some((&bytes[..end], &bytes[end + 1..]))
+}

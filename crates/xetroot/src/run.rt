@@ -1,0 +1,122 @@
+//! The program's work: pairs in, two hashes out.
+
+ghost use Rattle.std.specs.Prelude.{◌≡◌, ◌≢◌, List, ℕ, ◌++◌, ◌+◌, ◌≤◌, length, replicate, IfSome, IfOk, IfErr, OnOk, Err};
+ghost use Rattle.std.specs.Io.KnownBytes.{Appends, IsAtEnd, Keeps};
+ghost use Rattle.xet_hash.specs.Hash.{hex_text};
+ghost use Rattle.xet_merkle.specs.Roots.{IsRoot, IsFileHash};
+ghost use Rattle.xetroot.specs.Lines.{lines_of, AreGood};
+ghost use Rattle.xetroot.specs.Answer.{IsAnswer, IsFaultOf, output_text};
+
+use crate::fault::Fault;
+use crate::reading::Reading;
+use arrayvec::ArrayVec;
+use std::alloc::Allocator;
+use std::io::{Read, Write};
+use xet_hash::data_hash::{HMACKey, MerkleHash};
+use xet_merkle::aggregated_hashes::{Node, xorb_hash};
+
+// The most bytes that one read is asked for.
+const BUFFER_LEN: usize = 65536;
+
+// The bytes of the two lines of output.
+const OUTPUT_LEN: usize = 140;
+
+/// Reads pair lines to the end of `r`, and then writes the root and the file hash of all pairs, as
+/// `xorb <hex>` and `file <hex>`, to `w`, and flushes it.
+///
+/// It keeps the pairs, 40 bytes each, until the whole input is read. A fault is as [`Fault`] says. After
+/// `BadLine`, `Sizes`, `Memory` and `Read` nothing was written; after `Write` a beginning of the output
+/// was. How much of the input was read after a fault isn't said.
+pub fn run<R: Read, W: Write>(alloc: impl Allocator, r: &mut R, w: &mut W) -> Result<(), Fault>
+    // What was written is the answer to the whole input.
+    ensures answer { OnOk result (IfSome (R.remaining r.old) (λ text.
+        (output : List ℕ) × IsAnswer text output × Appends (W.contents w.old) (W.contents w.new) output)) }
+    ensures read { OnOk result (IsAtEnd (R.remaining r.new)) }
+
+    // The fault of a line is that of the whole input, the part that was left unread included.
+    ensures fault { IfErr result (λ fault. IfSome (R.remaining r.old) (λ text. IsFaultOf text fault)) }
+    ensures unwritten { IfErr result (λ fault. fault ≢ Fault.Write →
+        Keeps (W.contents w.old) (W.contents w.new)) }
+    ensures begun { result ≡ Err Fault.Write → IfSome (R.remaining r.old) (λ text.
+        (written rest : List ℕ) × IsAnswer text (written ++ rest)
+        × Appends (W.contents w.old) (W.contents w.new) written) }
+{
+    let pairs = read_pairs(&alloc, r)?;
+    let chunks = pairs.as_slice();
+    let Ok(root) = xorb_hash(&alloc, chunks) else {
+        // The sizes fit, so it was an allocation that was refused.
+        return Err(Fault::Memory);
+    };
+    let file = file_hash(chunks, root);
+    write_all(w, output(&root, &file).as_slice())
+}
+
+// The pairs of the whole input.
+fn read_pairs<A: Allocator, R: Read>(alloc: A, r: &mut R) -> Result<Vec<Node, A>, Fault>
+    ensures pairs { IfOk result (λ pairs. IfSome (R.remaining r.old) (λ text.
+        AreGood (lines_of text) pairs.items)) }
+    ensures read { OnOk result (IsAtEnd (R.remaining r.new)) }
+    ensures fault { IfErr result (λ fault. IfSome (R.remaining r.old) (λ text. IsFaultOf text fault)) }
+    ensures not_write { IfErr result (λ fault. fault ≢ Fault.Write) }
+{
+    let mut reading = Reading::new(alloc);
+    let mut buffer = [0; BUFFER_LEN];
+    'pieces: loop {
+        match r.read(&mut buffer) {
+            Ok(0) => return reading.finish(),
+            Ok(n) => reading.take(&buffer[..n])?,
+            Err(_) => return Err(Fault::Read),
+        }
+    }
+}
+
+// The file hash without a salt of some pairs, whose root is given.
+fn file_hash(pairs: &[Node], root: MerkleHash) -> MerkleHash
+    ensures { IsRoot pairs.now root → IsFileHash pairs.now (replicate 32 0) result }
+{
+    if pairs.is_empty() {
+        root
+    } else {
+        root.hmac(HMACKey::default())
+    }
+}
+
+// The two lines of output.
+fn output(root: &MerkleHash, file: &MerkleHash) -> ArrayVec<u8, OUTPUT_LEN>
+    ensures { result.items ≡ output_text root.now file.now }
+{
+    let mut text = ArrayVec::new();
+    push_bytes(&mut text, b"xorb ");
+    push_bytes(&mut text, &root.hex_digits());
+    push_bytes(&mut text, b"\nfile ");
+    push_bytes(&mut text, &file.hex_digits());
+    push_bytes(&mut text, b"\n");
+    text
+}
+
+fn push_bytes(text: &mut ArrayVec<u8, OUTPUT_LEN>, bytes: &[u8])
+    requires { length text.old.items + length bytes.now ≤ OUTPUT_LEN }
+    ensures { text.new.items ≡ text.old.items ++ bytes.now }
+{
+    text.try_extend_from_slice(bytes).unwrap();
+}
+
+// Writes some bytes and flushes.
+fn write_all<W: Write>(w: &mut W, bytes: &[u8]) -> Result<(), Fault>
+    ensures ok { OnOk result (Appends (W.contents w.old) (W.contents w.new) bytes.now) }
+    ensures err { IfErr result (λ fault. fault ≡ Fault.Write) }
+    ensures begun { IfErr result (λ _. (written rest : List ℕ) × (bytes.now ≡ written ++ rest)
+        × Appends (W.contents w.old) (W.contents w.new) written) }
+{
+    let mut rest = bytes;
+    'rest: while !rest.is_empty() {
+        match w.write(rest) {
+            Ok(0) | Err(_) => return Err(Fault::Write),
+            Ok(n) => rest = &rest[n..],
+        }
+    }
+    match w.flush() {
+        Ok(()) => Ok(()),
+        Err(_) => Err(Fault::Write),
+    }
+}
