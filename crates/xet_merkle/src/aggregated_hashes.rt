@@ -194,3 +194,31 @@ pub fn file_hash<A: Allocator>(alloc: A, chunks: &[Node]) -> Result<MerkleHash, 
     }
     Ok(root.hmac(HMACKey::default()))
 }
+
+#[cfg(test)]
+mod tests {
+    use super::*;
+
+    // Nodes of which those marked with true are natural cuts.
+    fn nodes<const N: usize>(cuts: [bool; N]) -> [Node; N] {
+        cuts.map(|is_cut| (MerkleHash::from([0, 0, 0, u64::from(!is_cut)]), 1))
+    }
+
+    #[test]
+    fn first_groups_end_at_a_cut_from_index_two_on(rt: HostRuntime) {
+        let far = nodes([true, true, false, true, false]);
+        let near = nodes([true, false, true, false]);
+        let none = nodes([false; 12]);
+        for (list, len) in [
+            (near.as_slice(), 3),
+            (&near[3..], 1),
+            (far.as_slice(), 4),
+            (&far[4..], 1),
+            (none.as_slice(), 9),
+            (&none[9..], 3),
+        ] {
+            assert!(rt; !list.is_empty());
+            assert_eq!(rt; first_group_len(list), len);
+        }
+    }
+}

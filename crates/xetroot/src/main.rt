@@ -5,6 +5,8 @@ mod fault;
 mod line;
 mod reading;
 mod run;
+#[cfg(test)]
+mod tests;
 
 use run::run;
 use std::process::ExitCode;

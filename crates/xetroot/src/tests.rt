@@ -1,0 +1,180 @@
+use crate::fault::Fault;
+use crate::run::run;
+use std::io;
+use std::io::{Read, Write};
+use std::test::Fail;
+
+const H1: &str = "cfc5d07f6f03c29bbf424132963fe08d19a37d5757aaf520bf08119f05cd56d6";
+
+const H2: &str = "c3e67584b5c4fc2a89837ec39e40f2c8a6bb0b2987ac94cd4b31e5fbdd210a72";
+
+const H3: &str = "0d2beb91b9196929a5ddec9f6e306924ddf4a24268e3e59fd8464738d525af37";
+
+const NO_PAIR: &str = "xorb 0000000000000000000000000000000000000000000000000000000000000000
+file 0000000000000000000000000000000000000000000000000000000000000000
+";
+
+const ONE_PAIR: &str = "xorb cfc5d07f6f03c29bbf424132963fe08d19a37d5757aaf520bf08119f05cd56d6
+file 8e16257caa3fe079d484d872a8975264b2ff683b0d6db9028cc7c0f968a45661
+";
+
+const THREE_PAIRS: &str = "xorb 71ec1275fca074724e2dd666921b3277c7cee603e4d025bcab2d4050015be2bc
+file 54e55dccc6653c612bdb5576c5d3cb34bb31bc4e100248abccf4c908b3ef7715
+";
+
+#[test]
+fn answers_pairs_in_lines(rt: HostRuntime) -> Result<(), Fail> {
+    let three = format!(in rt.alloc(); "{H1} 100\n{H2} 200\n{H3} 300\n")?;
+    let with_ranges = format!(in rt.alloc(); "--\n--\n{H1} 100\n--\n{H2} 200\n{H3} 300\n--")?;
+    let one = format!(in rt.alloc(); "{H1} 100")?;
+    let upper = one.as_str().to_ascii_uppercase(rt.alloc())?;
+    for (input, want) in [
+        ("", NO_PAIR),
+        ("--", NO_PAIR),
+        (one.as_str(), ONE_PAIR),
+        (upper.as_str(), ONE_PAIR),
+        (three.as_str(), THREE_PAIRS),
+        (with_ranges.as_str(), THREE_PAIRS),
+    ] {
+        let mut output = Vec::new(rt.alloc());
+        assert_eq!(rt;
+            run(rt.alloc(), &mut input.as_bytes(), &mut output),
+            Ok(()),
+            "{input}"
+        );
+        assert_eq!(rt; output.as_slice(), want.as_bytes(), "{input}");
+    }
+    Ok(())
+}
+
+#[test]
+fn names_the_first_faulty_line(rt: HostRuntime) -> Result<(), Fail> {
+    for (after, fault) in [
+        (" 0100", Fault::BadLine(1)),
+        (" 18446744073709551616", Fault::BadLine(1)),
+        (" +1", Fault::BadLine(1)),
+        (" ", Fault::BadLine(1)),
+        ("  1", Fault::BadLine(1)),
+        (" 1 ", Fault::BadLine(1)),
+        (" 1\r\n", Fault::BadLine(1)),
+        ("", Fault::BadLine(1)),
+        ("0 1", Fault::BadLine(1)),
+        (" 1\n\n--", Fault::BadLine(2)),
+        (" 1\n--\n-\n", Fault::BadLine(3)),
+        (
+            " 000000000000000000000000000000000000000000001\n",
+            Fault::BadLine(1),
+        ),
+        (
+            " 18446744073709551615\n--\nc3e67584b5c4fc2a89837ec39e40f2c8a6bb0b2987ac94cd4b31e5fbdd210a72 1\n!",
+            Fault::Sizes(3),
+        ),
+    ] {
+        let input = format!(in rt.alloc(); "{H1}{after}")?;
+        let mut output = Vec::new(rt.alloc());
+        let result = run(rt.alloc(), &mut input.as_bytes(), &mut output);
+        assert_eq!(rt; result, Err(fault), "{after}");
+        assert_eq!(rt; output.len(), 0, "{after}");
+    }
+    Ok(())
+}
+
+#[test]
+fn faults_print_their_status_and_line(rt: HostRuntime) -> Result<(), Fail> {
+    for (fault, text, status) in [
+        (Fault::BadLine(7), "xetroot: fault 1 at line 7", 1),
+        (Fault::Sizes(12), "xetroot: fault 2 at line 12", 2),
+        (Fault::Memory, "xetroot: fault 3", 3),
+        (Fault::Read, "xetroot: fault 4", 4),
+        (Fault::Write, "xetroot: fault 5", 5),
+    ] {
+        assert_eq!(rt; fault.to_string(rt.alloc())?.as_str(), text);
+        assert_eq!(rt; fault.status(), status);
+    }
+    Ok(())
+}
+
+// A reader that gives a text three bytes at a time, and then fails.
+#[derive(Drop)]
+struct Failing<'a>(&'a [u8]);
+
+impl Read for Failing<'_> {
+    fn read(&mut self, buf: &mut [u8]) -> io::Result<usize> {
+        let len = self.0.len().min(buf.len()).min(3);
+        if len == 0 {
+            return Err(io::Error::other("no more"));
+        }
+        let (front, rest) = self.0.split_at(len);
+        buf[..len].copy_from_slice(front);
+        self.0 = rest;
+        Ok(len)
+    }
+}
+
+#[test]
+fn a_failed_read_is_a_fault_unless_a_line_before_it_is_faulty(rt: HostRuntime) -> Result<(), Fail> {
+    for (after, fault) in [
+        (" 100\n", Fault::Read),
+        (" 100\n--\n!", Fault::Read),
+        (" 0100", Fault::Read),
+        (" 100\n!\n--", Fault::BadLine(2)),
+    ] {
+        let input = format!(in rt.alloc(); "{H1}{after}")?;
+        let mut output = Vec::new(rt.alloc());
+        let result = run(rt.alloc(), &mut Failing(input.as_bytes()), &mut output);
+        assert_eq!(rt; result, Err(fault), "{after}");
+        assert_eq!(rt; output.len(), 0, "{after}");
+    }
+    Ok(())
+}
+
+// A writer that keeps what it is given, seven bytes at a time, and fails once it has so many.
+#[derive(Drop)]
+struct Full {
+    bytes: Vec<u8>,
+    room: usize,
+    fails_to_flush: bool,
+}
+
+impl Write for Full {
+    fn write(&mut self, buf: &[u8]) -> io::Result<usize> {
+        let len = self.room.min(buf.len()).min(7);
+        if len == 0 {
+            return Err(io::Error::other("full"));
+        }
+        self.bytes.extend_from_slice(&buf[..len])?;
+        self.room -= len;
+        Ok(len)
+    }
+
+    fn flush(&mut self) -> io::Result<()> {
+        if self.fails_to_flush {
+            return Err(io::Error::other("not flushed"));
+        }
+        Ok(())
+    }
+}
+
+#[test]
+fn a_failed_write_leaves_a_beginning(rt: HostRuntime) -> Result<(), Fail> {
+    for (room, fails_to_flush, result) in [
+        (0, false, Err(Fault::Write)),
+        (100, false, Err(Fault::Write)),
+        (140, true, Err(Fault::Write)),
+        (140, false, Ok(())),
+    ] {
+        let mut writer = Full {
+            bytes: Vec::new(rt.alloc()),
+            room,
+            fails_to_flush,
+        };
+        let mut input = b"--".as_slice();
+        assert_eq!(rt; run(rt.alloc(), &mut input, &mut writer), result, "{room}");
+        let Full { bytes, .. } = writer;
+        assert_eq!(rt;
+            bytes.as_slice(),
+            NO_PAIR.as_bytes().get(..room).ok_or("short")?
+        );
+    }
+    Ok(())
+}
