@@ -1,9 +1,9 @@
-pub mod Absorbing
-pub mod Blocks
-pub mod Finishing
+pub mod Blake3Absorbing
+pub mod Blake3Blocks
+pub mod Blake3Finishing
+pub mod Blake3Merging
+pub mod Blake3Waiting
 pub mod HashLaws
 pub mod HashLemmas
 pub mod HexDigitLemmas
 pub mod HexTextLemmas
-pub mod Merging
-pub mod Waiting

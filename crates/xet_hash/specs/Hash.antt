@@ -41,6 +41,12 @@ hex_text words = map (hex_character words) (range_with_len 0 64)
 abbrev pub IsHexText : List ℕ → Type 0
 IsHexText text = (length text ≡ 64) × AllPass is_ascii_hexdigit text
 
+-- the key of a hash over data, a leaf of the tree
+abbrev pub data_key : List ℕ
+data_key =
+    102 ∷ 151 ∷ 245 ∷ 119 ∷ 91 ∷ 149 ∷ 80 ∷ 222 ∷ 49 ∷ 53 ∷ 203 ∷ 172 ∷ 165 ∷ 151 ∷ 24 ∷ 28
+    ∷ 157 ∷ 228 ∷ 33 ∷ 16 ∷ 155 ∷ 235 ∷ 43 ∷ 88 ∷ 180 ∷ 208 ∷ 176 ∷ 75 ∷ 147 ∷ 173 ∷ 242 ∷ 41 ∷ []
+
 -- the key of a hash over the texts of other hashes, an inner node of the tree
 abbrev pub internal_key : List ℕ
 internal_key =

@@ -1,4 +1,5 @@
 pub mod Blake3
+pub mod Blake3Hasher
+pub mod Blake3Tree
 pub mod Hash
-pub mod Streaming
-pub mod Waiting
+pub mod HashedWrite

@@ -4,8 +4,8 @@ ghost use Rattle.std.specs.Prelude.{◌≡◌, ◌==◌, ◌↔◌, ℕ, ◌+◌
 ghost use Rattle.std.specs.Int.{from_le_bytes, to_le_bytes, w32};
 ghost use Rattle.std.specs.List.{flat_map};
 ghost use Rattle.xet_hash.specs.Blake3.{block, chunk_end_flag, chunk_value, compress, first_state, folded, half_mix, keyed_hash, keyed_hash_flag, mix, parent_value, permuted, root_flag, round, start_flag, words_at};
-ghost use Rattle.xet_hash.specs.Streaming.{Holds, IsAbsorbed, count_of};
-ghost use Rattle.xet_hash.specs.Waiting.{IsWaiting, subtree_at};
+ghost use Rattle.xet_hash.specs.Blake3Hasher.{Holds, IsAbsorbed, count_of};
+ghost use Rattle.xet_hash.specs.Blake3Tree.{IsWaiting, subtree_at};
 
 // The bytes of a block and of a chunk, and the blocks of a whole chunk.
 const BLOCK_LENGTH: usize = 64;
@@ -13,6 +13,9 @@ const BLOCK_LENGTH: usize = 64;
 const CHUNK_LENGTH: usize = 1024;
 
 const BLOCKS_PER_CHUNK: u64 = 16;
+
+// How many values may wait: a message has at most 2^54 chunks.
+const MAX_WAITING: usize = 54;
 
 // The domain flags (table 3).
 const CHUNK_START: u32 = 1;
@@ -177,17 +180,18 @@ fn words<const N: usize>(bytes: &[u8]) -> [u32; N]
     words
 }
 
-// The words of a block of at most 64 bytes, filled up with zero bytes.
-fn last_words(rest: &[u8]) -> [u32; 16]
-    requires { length rest.now ≤ 64 }
-    ensures { result ≡ words_at 16 (block rest.now 0) }
+// The compression of a block of 64 bytes.
+fn compress_block(
+    h: &[u32; 8],
+    block: &[u8],
+    counter: u64,
+    block_length: u32,
+    flags: u32,
+) -> [u32; 8]
+    requires { length block.now ≡ 64 }
+    ensures { result ≡ compress h.now (words_at 16 block.now) counter block_length flags }
 {
-    if rest.len() == BLOCK_LENGTH {
-        return words(rest);
-    }
-    let mut block = [0u8; BLOCK_LENGTH];
-    block[..rest.len()].copy_from_slice(rest);
-    words(&block)
+    compress(h, &words(block), counter, block_length, flags)
 }
 
 // CHUNK_START at a chunk's first block.
@@ -203,11 +207,7 @@ fn start_flag(place: u64) -> u32
 fn root_flag(waiting: usize) -> u32
     ensures { result ≡ (if waiting == 0 then root_flag else 0) }
 {
-    if waiting == 0 {
-        ROOT
-    } else {
-        0
-    }
+    if waiting == 0 { ROOT } else { 0 }
 }
 
 // The bytes of eight words, little-endian.
@@ -226,10 +226,16 @@ fn output(value: &[u32; 8]) -> [u8; 32]
 fn last_value(h: &[u32; 8], rest: &[u8], counter: u64, place: u64, flags: u32) -> [u32; 8]
     requires block { length rest.now ≤ 64 }
     requires flags { flags ≤ 8 }
-    ensures { result ≡ compress h.now (words_at 16 (block rest.now 0)) counter (length rest.now) (keyed_hash_flag + start_flag place + chunk_end_flag + flags) }
+    ensures { result ≡ compress h.now (words_at 16 (block rest.now 0)) counter (length rest.now)
+        (keyed_hash_flag + start_flag place + chunk_end_flag + flags) }
 {
     let flags = KEYED_HASH + start_flag(place) + CHUNK_END + flags;
-    compress(h, &last_words(rest), counter, rest.len() as u32, flags)
+    if rest.len() == BLOCK_LENGTH {
+        return compress_block(h, rest, counter, BLOCK_LENGTH as u32, flags);
+    }
+    let mut block = [0u8; BLOCK_LENGTH];
+    block[..rest.len()].copy_from_slice(rest);
+    compress_block(h, &block, counter, rest.len() as u32, flags)
 }
 
 // The value of a chunk of at most 1024 bytes (2.4).
@@ -242,9 +248,9 @@ fn chunk_value(key: &[u32; 8], chunk: &[u8], counter: u64, flags: u32) -> [u32; 
     let mut h = *key;
     'chain: for n in 0..last {
         let at = BLOCK_LENGTH * n;
-        let block = words(&chunk[at..at + BLOCK_LENGTH]);
+        let block = &chunk[at..at + BLOCK_LENGTH];
         let flags = KEYED_HASH + start_flag(n as u64);
-        h = compress(&h, &block, counter, BLOCK_LENGTH as u32, flags);
+        h = compress_block(&h, block, counter, BLOCK_LENGTH as u32, flags);
     }
     let rest = &chunk[BLOCK_LENGTH * last..];
     last_value(&h, rest, counter, last as u64, flags)
@@ -264,7 +270,7 @@ fn parent_value(key: &[u32; 8], left: &[u32; 8], right: &[u32; 8], flags: u32) -
 
 // Adds the value of chunk number `chunk` to those that wait, joined with each subtree of its size on
 // its left: as a 1 is added to a binary number, with a carry for each join.
-fn push(stack: &mut [[u32; 8]; 54], key: &[u32; 8], chunk: u64, value: [u32; 8])
+fn push(stack: &mut [[u32; 8]; MAX_WAITING], key: &[u32; 8], chunk: u64, value: [u32; 8])
     requires { chunk + 1 < 2 ^ 54 }
     ensures { (m : List ℕ) → IsWaiting key.now stack.old chunk m → value ≡ subtree_at key.now 0 chunk m
         → 1024 * (chunk + 1) ≤ length m → IsWaiting key.now stack.new (chunk + 1) m }
@@ -286,7 +292,7 @@ fn push(stack: &mut [[u32; 8]; 54], key: &[u32; 8], chunk: u64, value: [u32; 8])
 struct Tree {
     key: [u32; 8],
     value: [u32; 8],
-    stack: [[u32; 8]; 54],
+    stack: [[u32; 8]; MAX_WAITING],
 }
 
 impl Tree {
@@ -299,15 +305,14 @@ impl Tree {
     {
         let chunk = number / BLOCKS_PER_CHUNK;
         let place = number % BLOCKS_PER_CHUNK;
-        let words = words(block);
         if place == BLOCKS_PER_CHUNK - 1 {
             let flags = KEYED_HASH + CHUNK_END;
-            let value = compress(&self.value, &words, chunk, BLOCK_LENGTH as u32, flags);
+            let value = compress_block(&self.value, block, chunk, BLOCK_LENGTH as u32, flags);
             push(&mut self.stack, &self.key, chunk, value);
             self.value = self.key;
         } else {
             let flags = KEYED_HASH + start_flag(place);
-            self.value = compress(&self.value, &words, chunk, BLOCK_LENGTH as u32, flags);
+            self.value = compress_block(&self.value, block, chunk, BLOCK_LENGTH as u32, flags);
         }
     }
 }
@@ -335,7 +340,7 @@ impl Hasher {
             tree: Tree {
                 key,
                 value: key,
-                stack: [[0; 8]; 54],
+                stack: [[0; 8]; MAX_WAITING],
             },
             block: [0; 64],
             count: 0,
@@ -343,7 +348,7 @@ impl Hasher {
     }
 
     /// The length of the message, in bytes.
-    #[tactic(auto, unfolding(crate::specs::Streaming::count_of, crate::specs::Streaming::Holds))]
+    #[tactic(auto, unfolding(crate::specs::Blake3Hasher::count_of, crate::specs::Blake3Hasher::Holds))]
     pub fn count(&self) -> u64
         ensures count { result ≡ count_of self.now }
         ensures message { (key m : List ℕ) → Holds key self.now m → result ≡ length m }
@@ -352,9 +357,11 @@ impl Hasher {
     }
 
     /// Whether the message may get `n` more bytes: a message has less than 2^64.
-    #[tactic(auto, unfolding(crate::specs::Streaming::count_of))]
+    #[tactic(auto, unfolding(crate::specs::Blake3Hasher::count_of, crate::specs::Blake3Hasher::Holds))]
     pub fn has_room(&self, n: usize) -> bool
-        ensures { IsTrue result ↔ (count_of self.now + n < 2 ^ 64) }
+        ensures room { IsTrue result ↔ (count_of self.now + n < 2 ^ 64) }
+        ensures message { (key m : List ℕ) → Holds key self.now m →
+            (IsTrue result ↔ (length m + n < 2 ^ 64)) }
     {
         n as u64 <= u64::MAX - self.count
     }
@@ -367,7 +374,7 @@ impl Hasher {
     }
 
     /// Adds `piece` to the message.
-    #[tactic(auto, unfolding(crate::specs::Streaming::count_of))]
+    #[tactic(auto, unfolding(crate::specs::Blake3Hasher::count_of))]
     pub fn update(&mut self, piece: &[u8])
         requires { count_of self.old + length piece.now < 2 ^ 64 }
         ensures message { (key m : List ℕ) → Holds key self.old m → Holds key self.new (m ++ piece.now) }
@@ -432,7 +439,7 @@ pub fn keyed_hash(key: &[u8; 32], data: &[u8]) -> [u8; 32]
 
 #[cfg(test)]
 mod tests {
-    use super::{keyed_hash, Hasher};
+    use super::{Hasher, keyed_hash};
     use std::test::Fail;
 
     // Lengths of messages, and their hashes under the key 0, 1, .., 31: byte i of a message is i % 251.

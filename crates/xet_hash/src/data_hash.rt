@@ -6,12 +6,23 @@ ghost use Rattle.std.specs.Int.{w64, from_le_bytes, from_be_bytes};
 ghost use Rattle.std.specs.Str.{IsAscii, str_to_ascii_lowercase};
 ghost use Rattle.hex.specs.Hex.{encode_lower};
 ghost use Rattle.xet_hash.specs.Blake3.{keyed_hash};
-ghost use Rattle.xet_hash.specs.Hash.{default_hash, bytes_of, hash_of, hex_text, internal_key, IsHash, IsHexText};
+ghost use Rattle.xet_hash.specs.Hash.{default_hash, bytes_of, hash_of, hex_text, data_key, internal_key, IsHash, IsHexText};
 
 use crate::blake3;
 use hex::FromHex;
 use std::marker::Model;
 use std::{error, fmt, str};
+
+mod hashed_write;
+
+pub use hashed_write::HashedWrite;
+
+/// The key of [`compute_data_hash`], for a [`Hasher`](crate::blake3::Hasher) that takes the bytes in
+/// pieces. This item is this port's own.
+pub const DATA_KEY: [u8; 32] = [
+    102, 151, 245, 119, 91, 149, 80, 222, 49, 53, 203, 172, 165, 151, 24, 28, 157, 228, 33, 16,
+    155, 235, 43, 88, 180, 208, 176, 75, 147, 173, 242, 41,
+];
 
 // The key of a hash over the texts of other hashes.
 const INTERNAL_KEY: [u8; 32] = [
@@ -184,6 +195,13 @@ impl From<DataHash> for [u8; 32] {
     fn from(hash: DataHash) -> [u8; 32] {
         hash.as_bytes()
     }
+}
+
+/// The hash of a chunk, whose data `bytes` is.
+pub fn compute_data_hash(bytes: &[u8]) -> DataHash
+    ensures { result ≡ hash_of (keyed_hash data_key bytes.now) }
+{
+    DataHash::from(blake3::keyed_hash(&DATA_KEY, bytes))
 }
 
 /// The hash of an inner node of a tree, whose text `bytes` is.

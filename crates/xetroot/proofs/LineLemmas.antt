@@ -1,11 +1,13 @@
 -- Where the lines of a text fall. Rests on the definitions of Lines alone.
-use Rattle.std.proofs.Common.{◌≡◌, ◌≢◌, ◌==◌, ℕ, ◌+◌, ◌<◌, ◌≤◌, false, List, [], ◌∷◌, ◌++◌, length, refl, sym, ap, subst, ◌∙◌, inl, inr, arith, length-append, codes, decimal}
+use Rattle.std.proofs.Common.{Option, Some, None, IfNone, ◌≡◌, ◌≢◌, ◌==◌, ℕ, ◌+◌, ◌<◌, ◌≤◌, false, List, [], ◌∷◌, ◌++◌, length, refl, sym, ap, subst, ◌∙◌, inl, inr, arith, length-append, codes, decimal}
 use Rattle.std.proofs.Common.{suc, get_or, take, drop, length-take}
 use Rattle.std.proofs.lemmas.List.{take-append-drop, drop_more, get_or-take}
 use Rattle.std.proofs.lemmas.Bool.{cases_eq}
 use Rattle.std.proofs.lemmas.Bool.Decides.{nat_tests}
 use Rattle.std.proofs.lemmas.Fmt.{length-decimal-le}
-use Rattle.xetroot.specs.Lines.{newline, NoNewline, onto_first, lines_of, content, SaysNothing}
+use Rattle.xetroot.specs.Lines.{newline, NoNewline, onto_first, lines_of, content, IsSeparator, IsPairLine, IsChunkLine, SaysPair, SaysNothing}
+use Rattle.xet_merkle.specs.Groups.{Node}
+use Rattle.xetroot.specs.Open.{NoPlus}
 
 -- the first line of a text whose first bytes are known
 abbrev FirstLine : List ℕ → List ℕ → Type 0
@@ -79,17 +81,31 @@ length-content (b ∷ []) [] h = rw (not_newline b h.0) (omega arith)
 length-content (b ∷ []) (c ∷ more) h = omega arith
 length-content (b ∷ c ∷ line) more h = let rest = length-content (c ∷ line) more h.1 in omega arith
 
--- a line of more than 85 bytes says nothing
-pub SaysNothing-long : (line more : List ℕ) → NoNewline line → 85 < length line → SaysNothing (line ++ more)
-SaysNothing-long line more h long =
+NoPlus-content : (line more : List ℕ) → NoNewline line → 0 < length line → NoPlus line → NoPlus (content (line ++ more))
+NoPlus-content [] more h some plus = absurd (omega arith)
+NoPlus-content (b ∷ []) [] h some plus = rw (not_newline b h.0) plus
+NoPlus-content (b ∷ []) (c ∷ more) h some plus = plus
+NoPlus-content (b ∷ c ∷ line) more h some plus = plus
+
+-- a line that doesn't begin with a plus sign says no chunk
+pub NoPlus-no_chunk : (line : List ℕ) (node : Node) → NoPlus line → ¬ (IsChunkLine line node)
+NoPlus-no_chunk [] node plus chunk = let clash : ⊥ = cc (chunk.1) in clash
+NoPlus-no_chunk (byte ∷ bytes) node plus chunk = let is : byte ≡ 43 = cc (chunk.1) in plus is
+
+-- a line of more than 85 bytes that doesn't begin with a plus sign says nothing
+pub SaysNothing-long : (line more : List ℕ) → NoNewline line → NoPlus line → 85 < length line → SaysNothing (line ++ more)
+SaysNothing-long line more h plus long =
     let len = length-content line more h in (
       λ separator. let two = ap length separator in omega arith,
-      λ node says.
-          let parts = ap length says.parts in
-          let digits = says.are_digits.0 in
-          let size = says.is_size in
-          let decimals = length-decimal-le 20 node.1 (omega arith) (omega arith) says.is_size in
-          omega (arith, length-append (says.digits ++ codes " ") (decimal node.1), length-append says.digits (codes " ")),
+      λ node says. elim says [
+        | inl pair ↦
+            let parts = ap length pair.parts in
+            let digits = pair.are_digits.0 in
+            let size = pair.is_size in
+            let decimals = length-decimal-le 20 node.1 (omega arith) (omega arith) pair.is_size in
+            omega (arith, length-append (pair.digits ++ codes " ") (decimal node.1), length-append pair.digits (codes " "))
+        | inr chunk ↦ NoPlus-no_chunk (content (line ++ more)) node (NoPlus-content line more h (omega arith) plus) chunk
+      ],
     )
 
 -- the first newline by its index
@@ -107,3 +123,8 @@ pub split_at_newline : (bytes : List ℕ) (end : ℕ) → end < length bytes →
 split_at_newline bytes end within is =
     sym (take-append-drop end bytes)
     ∙ ap (λ (l : List ℕ). take end bytes ++ l) (drop_more bytes end 0 within ∙ ap (λ (b : ℕ). b ∷ drop (end + 1) bytes) is)
+
+-- two facts of no answer
+pub IfNone-both : {A P Q R : Type 0} (o : Option A) → IfNone o P → IfNone o Q → (P → Q → R) → IfNone o R
+IfNone-both None p q h = h p q
+IfNone-both (Some x) p q h = tt

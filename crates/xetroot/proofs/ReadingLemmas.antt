@@ -9,7 +9,7 @@ use Rattle.xet_merkle.specs.Groups.{Node}
 use Rattle.xet_merkle.specs.Roots.{total_size}
 use Rattle.xetroot.specs.declared.fault.Fault.{Fault}
 use Rattle.xetroot.specs.declared.fault.Fault.TheVariants.{BadLine, Sizes, Memory, Read, Write}
-use Rattle.xetroot.specs.Lines.{newline, NoNewline, lines_of, content, IsSeparator, IsPairLine, Say, AreGood, byte_limit}
+use Rattle.xetroot.specs.Lines.{newline, NoNewline, lines_of, content, IsSeparator, SaysPair, Say, AreGood, byte_limit}
 use Rattle.xetroot.specs.Lines.Say.{no_line, separator, pair}
 use Rattle.xetroot.specs.Answer.{IsFaultOf}
 use Rattle.xetroot.specs.Taken.{StandsAt, AddsLine, IsLineFault}
@@ -22,7 +22,7 @@ AddsLine-separator pairs line is = λ before say. after before pairs say where
   after (first ∷ before) pairs (separator s say) = separator s (after before pairs say)
   after (first ∷ before) (node ∷ pairs) (pair p say) = pair p (after before pairs say)
 
-pub AddsLine-pair : (pairs : List Node) (line : List ℕ) (node : Node) → IsPairLine (content line) node → AddsLine pairs (pairs ++ node ∷ []) line
+pub AddsLine-pair : (pairs : List Node) (line : List ℕ) (node : Node) → SaysPair (content line) node → AddsLine pairs (pairs ++ node ∷ []) line
 AddsLine-pair pairs line node is = λ before say. after before pairs say where
   after : (before : List (List ℕ)) (pairs : List Node) → Say before pairs → Say (before ++ line ∷ []) (pairs ++ node ∷ [])
   after [] pairs no_line = pair is no_line

@@ -1,5 +1,6 @@
 pub mod Status
 pub mod Lines
 pub mod LineSays
+pub mod Open
 pub mod Answer
 pub mod Taken

@@ -2,9 +2,9 @@
 use Rattle.std.specs.Prelude.{ℕ, List}
 use Rattle.xetroot.specs.declared.line.Line.{Line}
 use Rattle.xetroot.specs.declared.line.Line.TheVariants.{Separator, Pair}
-use Rattle.xetroot.specs.Lines.{IsSeparator, IsPairLine}
+use Rattle.xetroot.specs.Lines.{IsSeparator, SaysPair}
 
 -- a line's content says what it is read as
 abbrev pub Says : List ℕ → Line → Type 0
 Says line Separator = IsSeparator line
-Says line (Pair node) = IsPairLine line node
+Says line (Pair node) = SaysPair line node

@@ -2,7 +2,8 @@
 use Rattle.std.specs.Prelude.{◌≡◌, ◌≢◌, ℕ, ◌+◌, ◌^◌, ◌<◌, ◌≤◌, ◌==◌, if◌then◌else◌, ◌⊎◌, List, [], ◌∷◌, ◌++◌, length, codes, decimal}
 use Rattle.std.specs.List.{concat}
 use Rattle.std.specs.Str.{str_to_ascii_lowercase}
-use Rattle.xet_hash.specs.Hash.{IsHash, IsHexText, hex_text}
+use Rattle.xet_hash.specs.Blake3.{keyed_hash}
+use Rattle.xet_hash.specs.Hash.{IsHash, IsHexText, data_key, hash_of, hex_text}
 use Rattle.xet_merkle.specs.Groups.{Node}
 use Rattle.xet_merkle.specs.Roots.{total_size}
 
@@ -45,13 +46,21 @@ pub record IsPairLine (line : List ℕ) (node : Node) : Type 0 where
   pub is_hash : IsHash node.0
   pub is_size : node.1 < 2 ^ 64
 
+-- the line of a chunk: a plus sign and the chunk's bytes; its pair is their data hash and their number
+abbrev pub IsChunkLine : List ℕ → Node → Type 0
+IsChunkLine line node = (bytes : List ℕ) × (line ≡ codes "+" ++ bytes) × (node ≡ (hash_of (keyed_hash data_key bytes), length bytes))
+
+-- a line that says a pair
+abbrev pub SaysPair : List ℕ → Node → Type 0
+SaysPair line node = IsPairLine line node ⊎ IsChunkLine line node
+
 -- what some lines say that are none of them bad: the pairs, in order
 pub data Say : List (List ℕ) → List Node → Type 0 where
   no_line : Say [] []
   separator : {line : List ℕ} {lines : List (List ℕ)} {pairs : List Node} →
       IsSeparator (content line) → Say lines pairs → Say (line ∷ lines) pairs
   pair : {line : List ℕ} {node : Node} {lines : List (List ℕ)} {pairs : List Node} →
-      IsPairLine (content line) node → Say lines pairs → Say (line ∷ lines) (node ∷ pairs)
+      SaysPair (content line) node → Say lines pairs → Say (line ∷ lines) (node ∷ pairs)
 
 -- the most bytes of an input
 abbrev pub byte_limit : ℕ
@@ -64,9 +73,9 @@ pub record AreGood (lines : List (List ℕ)) (pairs : List Node) : Type 0 where
   pub fits : total_size pairs < 2 ^ 64
   pub within : length (concat lines) ≤ byte_limit
 
--- a line that is neither a separator nor a pair line
+-- a line that is neither a separator nor says a pair
 abbrev pub SaysNothing : List ℕ → Type 0
-SaysNothing line = ¬ (IsSeparator (content line)) × ((node : Node) → ¬ (IsPairLine (content line) node))
+SaysNothing line = ¬ (IsSeparator (content line)) × ((node : Node) → ¬ (SaysPair (content line) node))
 
 -- a line after good lines is bad: the first byte past the limit stands in it, or it says nothing
 abbrev pub IsBad : List (List ℕ) → List ℕ → Type 0
@@ -74,4 +83,4 @@ IsBad before line = (byte_limit < length (concat before) + length line) ⊎ Says
 
 -- a line after good lines, which say these pairs, makes the sizes pass 2 ^ 64 - 1
 abbrev pub PassesSizes : List Node → List ℕ → Type 0
-PassesSizes pairs line = (node : Node) × IsPairLine (content line) node × (2 ^ 64 ≤ total_size pairs + node.1)
+PassesSizes pairs line = (node : Node) × SaysPair (content line) node × (2 ^ 64 ≤ total_size pairs + node.1)

@@ -6,6 +6,7 @@ use Rattle.xet_merkle.specs.Roots.{total_size}
 use Rattle.xetroot.specs.declared.reading.Reading.{Reading}
 use Rattle.xetroot.specs.declared.fault.Fault.{Fault}
 use Rattle.xetroot.specs.declared.fault.Fault.TheVariants.{BadLine, Sizes, Memory, Read, Write}
+use Rattle.xetroot.specs.Open.{IsOpenLine}
 use Rattle.xetroot.specs.Lines.{NoNewline, lines_of, Say, SaysNothing, PassesSizes, AreGood, byte_limit}
 
 -- the lines that some bytes begin with, all whole and good, and the open line after them
@@ -20,7 +21,9 @@ pub record StandsAt (text : List ℕ) (pairs : List Node) (number : ℕ) (line :
 
 -- a reading has taken a text
 pub record IsTaken {A : Type 0} (reading : Reading A) (text : List ℕ) : Type 0 where
-  pub stands : StandsAt text reading.pairs.items reading.number reading.line.items
+  pub line : List ℕ
+  pub stands : StandsAt text reading.pairs.items reading.number line
+  pub open_line : IsOpenLine reading.line line
   pub total_is : reading.total ≡ total_size reading.pairs.items
   pub count_is : reading.count ≡ length text
   pub within : length text ≤ byte_limit

@@ -3,6 +3,7 @@
 
 mod fault;
 mod line;
+mod open_line;
 mod reading;
 mod run;
 #[cfg(test)]

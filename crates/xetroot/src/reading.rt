@@ -6,8 +6,8 @@ ghost use Rattle.xetroot.specs.Lines.{lines_of, content, AreGood, NoNewline, new
 ghost use Rattle.xetroot.specs.Answer.{IsFaultOf};
 
 use crate::fault::Fault;
-use crate::line::{self, Line};
-use arrayvec::ArrayVec;
+use crate::line::Line;
+use crate::open_line::OpenLine;
 use memchr::memchr;
 use std::alloc::Allocator;
 use xet_merkle::aggregated_hashes::Node;
@@ -15,12 +15,9 @@ use xet_merkle::aggregated_hashes::Node;
 // The most bytes of an input.
 const BYTE_LIMIT: u64 = 1 << 40;
 
-// The most bytes of a line that isn't bad: 64 hex digits, a space and 20 decimal digits.
-const MAX_LINE_LEN: usize = 85;
-
 /// What has been read of the input: the pairs of the lines that are whole, and the open line.
 ///
-/// It keeps the pairs, 40 bytes each, and no more of the text than the longest line that isn't bad.
+/// It keeps the pairs, 40 bytes each, and of the text the open line alone, in fixed room.
 #[derive(Drop)]
 pub struct Reading<A: Allocator> {
     pairs: Vec<Node, A>,
@@ -30,11 +27,11 @@ pub struct Reading<A: Allocator> {
     count: u64,
     // The number of the open line, from 1.
     number: u64,
-    // The open line so far.
-    line: ArrayVec<u8, MAX_LINE_LEN>,
+    line: OpenLine,
 }
 
 impl<A: Allocator> Reading<A> {
+    ghost use Rattle.xetroot.specs.Open.{IsOpenLine};
     ghost use Rattle.xetroot.specs.Taken.{IsTaken, AddsLine, IsLineFault};
 
     /// A reading of nothing yet.
@@ -46,7 +43,7 @@ impl<A: Allocator> Reading<A> {
             total: 0,
             count: 0,
             number: 1,
-            line: ArrayVec::new(),
+            line: OpenLine::new(),
         }
     }
 
@@ -103,11 +100,11 @@ impl<A: Allocator> Reading<A> {
         requires { NoNewline bytes.now }
         ensures taken { OnOk result ((text : List ℕ) → length text + length bytes.now ≤ 2 ^ 40 →
             IsTaken self.old text → IsTaken self.new (text ++ bytes.now)) }
-        ensures fault { IfErr result (λ fault. (text rest : List ℕ) →
+        ensures fault { IfErr result (λ fault. (text rest : List ℕ) → length text + length bytes.now ≤ 2 ^ 40 →
             IsTaken self.old text → IsFaultOf (text ++ bytes.now ++ rest) fault) }
         ensures not_write { IfErr result (λ fault. fault ≢ Fault.Write) }
     {
-        let Ok(()) = self.line.try_extend_from_slice(bytes) else {
+        let Ok(()) = self.line.extend(bytes) else {
             return Err(Fault::BadLine(self.number));
         };
         self.count = self.count.saturating_add(bytes.len() as u64);
@@ -132,19 +129,19 @@ impl<A: Allocator> Reading<A> {
 
     // Adds what the open line says to the pairs.
     fn add_line(&mut self) -> Result<(), Fault>
-        ensures says { OnOk result ((line : List ℕ) → content line ≡ self.old.line.items →
+        ensures says { OnOk result ((line : List ℕ) → IsOpenLine self.old.line (content line) →
             AddsLine self.old.pairs.items self.new.pairs.items line) }
         ensures total { OnOk result (self.old.total ≡ total_size self.old.pairs.items →
             self.new.total ≡ total_size self.new.pairs.items) }
         ensures fits { OnOk result (self.old.total < 2 ^ 64 → self.new.total < 2 ^ 64) }
         ensures kept { OnOk result ((self.new.line ≡ self.old.line) × (self.new.number ≡ self.old.number)
             × (self.new.count ≡ self.old.count)) }
-        ensures fault { IfErr result (λ fault. (line : List ℕ) → content line ≡ self.old.line.items →
+        ensures fault { IfErr result (λ fault. (line : List ℕ) → IsOpenLine self.old.line (content line) →
             self.old.total ≡ total_size self.old.pairs.items →
             IsLineFault self.old.number self.old.pairs.items line fault) }
         ensures not_write { IfErr result (λ fault. fault ≢ Fault.Write) }
     {
-        match line::parse(self.line.as_slice()) {
+        match self.line.says() {
             None => Err(Fault::BadLine(self.number)),
             Some(Line::Separator) => Ok(()),
             Some(Line::Pair(pair)) => self.add_pair(pair),

@@ -1,7 +1,7 @@
 //! The program's work: pairs in, two hashes out.
 
-ghost use Rattle.std.specs.Prelude.{◌≡◌, ◌≢◌, List, ℕ, ◌++◌, ◌+◌, ◌≤◌, length, replicate, IfSome, IfOk, IfErr, OnOk, Err};
-ghost use Rattle.std.specs.Io.KnownBytes.{Appends, IsAtEnd, Keeps};
+ghost use Rattle.std.specs.Prelude.{◌≡◌, ◌≢◌, List, ℕ, ◌++◌, ◌+◌, ◌<◌, ◌≤◌, length, take, replicate, IfSome, IfOk, IfErr, OnErr, OnOk, Err};
+ghost use Rattle.std.specs.Io.KnownBytes.{Appends, Consumes, IsAtEnd, Keeps};
 ghost use Rattle.xet_hash.specs.Hash.{hex_text};
 ghost use Rattle.xet_merkle.specs.Roots.{IsRoot, IsFileHash};
 ghost use Rattle.xetroot.specs.Lines.{lines_of, AreGood};
@@ -11,12 +11,15 @@ use crate::fault::Fault;
 use crate::reading::Reading;
 use arrayvec::ArrayVec;
 use std::alloc::Allocator;
-use std::io::{Read, Write};
+use std::io::{ErrorKind, Read, Write};
 use xet_hash::data_hash::{HMACKey, MerkleHash};
 use xet_merkle::aggregated_hashes::{Node, xorb_hash};
 
 // The most bytes that one read is asked for.
 const BUFFER_LEN: usize = 65536;
+
+// How often in a row a call that was interrupted is repeated.
+const MAX_REPEATS: u32 = 16;
 
 // The bytes of the two lines of output.
 const OUTPUT_LEN: usize = 140;
@@ -62,11 +65,31 @@ fn read_pairs<A: Allocator, R: Read>(alloc: A, r: &mut R) -> Result<Vec<Node, A>
     let mut reading = Reading::new(alloc);
     let mut buffer = [0; BUFFER_LEN];
     'pieces: loop {
-        match r.read(&mut buffer) {
-            Ok(0) => return reading.finish(),
-            Ok(n) => reading.take(&buffer[..n])?,
+        let n = read(r, &mut buffer)?;
+        if n == 0 {
+            return reading.finish();
+        }
+        reading.take(&buffer[..n])?;
+    }
+}
+
+// Reads some bytes. None only at the end of the input.
+fn read<R: Read>(r: &mut R, buffer: &mut [u8]) -> Result<usize, Fault>
+    ensures bound { IfOk result (λ n. n ≤ length buffer.new) }
+    ensures bytes { IfOk result (λ n. Consumes (R.remaining r.old) (R.remaining r.new) (take n buffer.new)) }
+    ensures end { IfOk result (λ n. n ≡ 0 → 0 < length buffer.new → IsAtEnd (R.remaining r.new)) }
+    ensures fault { IfErr result (λ fault. fault ≡ Fault.Read) }
+{
+    'repeats: for _ in 0..MAX_REPEATS {
+        match r.read(buffer) {
+            Ok(n) => return Ok(n),
+            Err(error) if error.kind() == ErrorKind::Interrupted => {}
             Err(_) => return Err(Fault::Read),
         }
+    }
+    match r.read(buffer) {
+        Ok(n) => Ok(n),
+        Err(_) => Err(Fault::Read),
     }
 }
 
@@ -110,9 +133,43 @@ fn write_all<W: Write>(w: &mut W, bytes: &[u8]) -> Result<(), Fault>
 {
     let mut rest = bytes;
     'rest: while !rest.is_empty() {
-        match w.write(rest) {
-            Ok(0) | Err(_) => return Err(Fault::Write),
-            Ok(n) => rest = &rest[n..],
+        let n = write(w, rest)?;
+        rest = &rest[n..];
+    }
+    flush(w)
+}
+
+// Writes a beginning of some bytes, one at least.
+fn write<W: Write>(w: &mut W, bytes: &[u8]) -> Result<usize, Fault>
+    ensures some { IfOk result (λ n. 0 < n) }
+    ensures bound { IfOk result (λ n. n ≤ length bytes.now) }
+    ensures bytes { IfOk result (λ n. Appends (W.contents w.old) (W.contents w.new) (take n bytes.now)) }
+    ensures fault { IfErr result (λ fault. fault ≡ Fault.Write) }
+    ensures unwritten { OnErr result (Keeps (W.contents w.old) (W.contents w.new)) }
+{
+    'repeats: for _ in 0..MAX_REPEATS {
+        match w.write(bytes) {
+            Ok(0) => return Err(Fault::Write),
+            Ok(n) => return Ok(n),
+            Err(error) if error.kind() == ErrorKind::Interrupted => {}
+            Err(_) => return Err(Fault::Write),
+        }
+    }
+    match w.write(bytes) {
+        Ok(0) | Err(_) => Err(Fault::Write),
+        Ok(n) => Ok(n),
+    }
+}
+
+fn flush<W: Write>(w: &mut W) -> Result<(), Fault>
+    ensures contents { Keeps (W.contents w.old) (W.contents w.new) }
+    ensures fault { IfErr result (λ fault. fault ≡ Fault.Write) }
+{
+    'repeats: for _ in 0..MAX_REPEATS {
+        match w.flush() {
+            Ok(()) => return Ok(()),
+            Err(error) if error.kind() == ErrorKind::Interrupted => {}
+            Err(_) => return Err(Fault::Write),
         }
     }
     match w.flush() {

@@ -47,6 +47,45 @@ fn answers_pairs_in_lines(rt: HostRuntime) -> Result<(), Fail> {
     Ok(())
 }
 
+const ABC: &str = "xorb a8803506f7aff014f19aa9e9b79dc6455c49672570f96156071329698dd0284e
+file 55b9df318a7c45f470d57b04d8ca79a15b0637ffe94b25041a58d00c3528afff
+";
+
+const NO_BYTES: &str = "xorb e0f2cf784e7e5f10c34f84af150e9a5ff9664216debad915364d741049870f67
+file c5b8746ae7e55c74d71e80fd99d34bf9a2c5666c690f1c113dec6d292790488a
+";
+
+// Of `{H1} 100`, and of the chunks of no bytes, of `+a`, a zero byte and a carriage return, and of `--`.
+const PAIR_AND_CHUNKS: &str = "xorb 859115aa66e63b78efe686437a7cdda2aec8e69a732662ad5fe5c62c665c459e
+file 5ca6e50a28a8d975b146c9925696bf176766a6661f828c4108bcf4f2a8dac543
+";
+
+// Of 200000 times the letter a.
+const LONG_CHUNK: &str = "xorb 22b4a2f49d46c6fc515ae744088b4eae05b0d117f224dd1ac51350457433b5f3
+file ef4601d711ad197f16f928aa87efcedee8a7c35df45ad740918127e2561559da
+";
+
+#[test]
+fn answers_chunks_in_lines(rt: HostRuntime) -> Result<(), Fail> {
+    let mixed = format!(in rt.alloc(); "{H1} 100\n+\n--\n++a\0\r\n+--\n")?;
+    let mut long = vec![in rt.alloc(); b'a'; 200_001]?;
+    if let Some(first) = long.first_mut() {
+        *first = b'+';
+    }
+    for (input, want) in [
+        (b"+abc".as_slice(), ABC),
+        (b"+", NO_BYTES),
+        (mixed.as_bytes(), PAIR_AND_CHUNKS),
+        (long.as_slice(), LONG_CHUNK),
+    ] {
+        let mut output = Vec::new(rt.alloc());
+        let mut reader = input;
+        assert_eq!(rt; run(rt.alloc(), &mut reader, &mut output), Ok(()));
+        assert_eq!(rt; output.as_slice(), want.as_bytes());
+    }
+    Ok(())
+}
+
 #[test]
 fn names_the_first_faulty_line(rt: HostRuntime) -> Result<(), Fail> {
     for (after, fault) in [
@@ -175,6 +214,74 @@ fn a_failed_write_leaves_a_beginning(rt: HostRuntime) -> Result<(), Fail> {
             bytes.as_slice(),
             NO_PAIR.as_bytes().get(..room).ok_or("short")?
         );
+    }
+    Ok(())
+}
+
+// A reader and a writer, each of whose calls is interrupted so many times before it is done.
+#[derive(Drop)]
+struct Interrupted<T> {
+    inner: T,
+    times: u32,
+    left: u32,
+}
+
+fn make_interrupted<T>(inner: T, times: u32) -> Interrupted<T> {
+    Interrupted {
+        inner,
+        times,
+        left: times,
+    }
+}
+
+// Whether a call is interrupted.
+fn interrupts<T>(device: &mut Interrupted<T>) -> bool {
+    if device.left == 0 {
+        device.left = device.times;
+        return false;
+    }
+    device.left -= 1;
+    true
+}
+
+impl Read for Interrupted<&[u8]> {
+    fn read(&mut self, buf: &mut [u8]) -> io::Result<usize> {
+        if interrupts(self) {
+            return Err(io::Error::from(io::ErrorKind::Interrupted));
+        }
+        self.inner.read(buf)
+    }
+}
+
+impl Write for Interrupted<Vec<u8>> {
+    fn write(&mut self, buf: &[u8]) -> io::Result<usize> {
+        if interrupts(self) {
+            return Err(io::Error::from(io::ErrorKind::Interrupted));
+        }
+        self.inner.write(buf)
+    }
+
+    fn flush(&mut self) -> io::Result<()> {
+        if interrupts(self) {
+            return Err(io::Error::from(io::ErrorKind::Interrupted));
+        }
+        self.inner.flush()
+    }
+}
+
+#[test]
+fn interrupted_calls_are_repeated_sixteen_times(rt: HostRuntime) -> Result<(), Fail> {
+    for (reads, writes, result) in [
+        (16, 16, Ok(())),
+        (17, 0, Err(Fault::Read)),
+        (0, 17, Err(Fault::Write)),
+    ] {
+        let mut reader = make_interrupted(b"+abc".as_slice(), reads);
+        let mut writer = make_interrupted(Vec::new(rt.alloc()), writes);
+        assert_eq!(rt; run(rt.alloc(), &mut reader, &mut writer), result);
+        let Interrupted { inner, .. } = writer;
+        let want = if result.is_ok() { ABC } else { "" };
+        assert_eq!(rt; inner.as_slice(), want.as_bytes());
     }
     Ok(())
 }

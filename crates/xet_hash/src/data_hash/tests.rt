@@ -102,6 +102,14 @@ fn hashes_under_its_keys(rt: HostRuntime) -> Result<(), Fail> {
             "9cb37f73951e7bd6d139f1ca83c6a60db18b413b391e2ea0552d9731140289ae",
         ),
         (
+            compute_data_hash(b""),
+            "e0f2cf784e7e5f10c34f84af150e9a5ff9664216debad915364d741049870f67",
+        ),
+        (
+            compute_data_hash(b"abc"),
+            "a8803506f7aff014f19aa9e9b79dc6455c49672570f96156071329698dd0284e",
+        ),
+        (
             compute_internal_node_hash(b""),
             "5269cbcb3dd94b6706937b205ab5eb9cd1fbd675e534aea67dd27b2c1ff69db9",
         ),

@@ -1,7 +1,7 @@
 use Rattle.std.proofs.Common.{◌≡◌, ◌+◌, ◌-◌, ◌*◌, ◌/◌, length, refl, sym, arith}
 use Rattle.std.proofs.lemmas.List.{take_rest, length-drop}
 use Rattle.xet_hash.specs.Blake3.{after_blocks, chunk_value}
-use Rattle.xet_hash.proofs.Blocks.{after_blocks_next}
+use Rattle.xet_hash.proofs.Blake3Blocks.{after_blocks_next}
 use Rattle.xet_hash.proofs.blake3.chunk_value.Goals as goal
 
 pub chain-init : goal.chain-init
@@ -11,7 +11,7 @@ chain-init c = refl
 pub chain-preserved : goal.chain-preserved
 chain-preserved c =
     let width : 64 * c.chain.n + 64 - 64 * c.chain.n ≡ 64 = omega arith in
-    rw (c.compress-h.ensures, c.words-block.ensures, width, c.start_flag-flags.ensures, c.chain.invariant)
+    rw (c.compress_block-h.ensures, width, c.start_flag-flags.ensures, c.chain.invariant)
     (sym (after_blocks_next c.args.key.now c.args.counter c.args.chunk.now c.chain.n (omega arith)))
 
 pub returns : goal.returns

@@ -2,7 +2,7 @@ use Rattle.std.proofs.Common.{ℕ, List, sym, ap, ◌∙◌}
 use Rattle.std.specs.Int.{w32, to_le_bytes}
 use Rattle.std.specs.List.{flat_map}
 use Rattle.xet_hash.specs.Blake3.{chunk_value, keyed_hash, words_at}
-use Rattle.xet_hash.proofs.Blocks.{subtree_value-chunk}
+use Rattle.xet_hash.proofs.Blake3Blocks.{subtree_value-chunk}
 use Rattle.xet_hash.proofs.blake3.keyed_hash.Goals as goal
 
 pub returns-then-data-le-CHUNK_LENGTH : goal.returns-then-data-le-CHUNK_LENGTH

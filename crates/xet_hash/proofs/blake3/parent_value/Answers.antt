@@ -1,6 +1,6 @@
 use Rattle.std.proofs.Common.{List, ℕ, ◌+◌, ap, ◌∙◌}
 use Rattle.xet_hash.specs.Blake3.{compress, parent_value}
-use Rattle.xet_hash.proofs.Blocks.{pair_of}
+use Rattle.xet_hash.proofs.Blake3Blocks.{pair_of}
 use Rattle.xet_hash.proofs.blake3.parent_value.Goals as goal
 
 pub returns : goal.returns

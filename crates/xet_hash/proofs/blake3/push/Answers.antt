@@ -1,5 +1,5 @@
 use Rattle.std.proofs.Common.{◌≡◌, ◌+◌, ◌%◌, arith, refl}
-use Rattle.xet_hash.proofs.Merging.{IsMerging-first, IsMerging-join, IsMerging-put, ones_below, ones_of_even, ones_of_odd}
+use Rattle.xet_hash.proofs.Blake3Merging.{IsMerging-first, IsMerging-join, IsMerging-put, ones_below, ones_of_even, ones_of_odd}
 use Rattle.xet_hash.proofs.blake3.push.Goals as goal
 
 pub joins-init : goal.joins-init

@@ -1,9 +1,9 @@
 use Rattle.std.proofs.Common.{◌≡◌, ◌+◌, ◌-◌, ◌*◌, ◌/◌, ◌%◌, ℕ, List, [], length, take, get_or, arith, refl, ap, sym, ◌∙◌}
 use Rattle.std.specs.Int.{w32, to_le_bytes}
 use Rattle.std.specs.List.{flat_map}
-use Rattle.xet_hash.specs.Blake3.{block, chunk_end_flag, compress, keyed_hash, keyed_hash_flag, parent_value, root_flag, start_flag, words_at}
-use Rattle.xet_hash.proofs.Finishing.{Holds_key, joined_done, joined_top, root_flag-some, root_value}
-use Rattle.xet_hash.proofs.Merging.{ones_below}
+use Rattle.xet_hash.specs.Blake3.{block, chunk_end_flag, compress, keyed_hash, keyed_hash_flag, parent_value, start_flag, words_at}
+use Rattle.xet_hash.proofs.Blake3Finishing.{Holds_key, joined_done, joined_top, root_flag-some, root_value}
+use Rattle.xet_hash.proofs.Blake3Merging.{ones_below}
 use Rattle.xet_hash.proofs.blake3.Hasher.finalize.Goals as goal
 
 pub joins-init : goal.joins-init

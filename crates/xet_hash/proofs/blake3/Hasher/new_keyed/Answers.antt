@@ -1,8 +1,8 @@
 use Rattle.std.proofs.Common.{[], refl, sym}
 use Rattle.xet_hash.specs.Blake3.{after_blocks, words_at}
 use Rattle.std.specs.Int.RustNames.{count_ones}
-use Rattle.xet_hash.specs.Streaming.{Holds, count_of}
-use Rattle.xet_hash.proofs.Waiting.{waiting-none}
+use Rattle.xet_hash.specs.Blake3Hasher.{Holds, count_of}
+use Rattle.xet_hash.proofs.Blake3Waiting.{waiting-none}
 use Rattle.xet_hash.proofs.blake3.Hasher.new_keyed.Goals as goal
 
 pub returns-clause-message : goal.returns-clause-message

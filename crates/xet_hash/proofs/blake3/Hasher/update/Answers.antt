@@ -1,8 +1,8 @@
-use Rattle.std.proofs.Common.{◌≡◌, ℕ, List, ◌++◌, ◌+◌, ◌-◌, ◌*◌, ◌/◌, length, take, drop, arith, refl, ap, sym, ◌∙◌, length-append, add-zero}
+use Rattle.std.proofs.Common.{◌≡◌, ℕ, ◌++◌, ◌+◌, ◌-◌, ◌*◌, ◌/◌, length, drop, arith, refl, ap, ◌∙◌, length-append, add-zero}
 use Rattle.std.proofs.lemmas.List.{take_rest}
 use Rattle.xet_hash.specs.Blake3.{words_at}
 use Rattle.xet_hash.specs.declared.blake3.Hasher.{Hasher}
-use Rattle.xet_hash.proofs.Absorbing.{Holds_count, Holds_grown, Holds_short, Holds_tail, block_full, block_next}
+use Rattle.xet_hash.proofs.Blake3Absorbing.{Holds_count, Holds_grown, Holds_short, Holds_tail, block_full, block_next}
 use Rattle.xet_hash.proofs.blake3.Hasher.update.Goals as goal
 use Rattle.xet_hash.proofs.blake3.Hasher.update.Goals.{then-held-gt0, else-held-gt0}
 
@@ -24,8 +24,8 @@ whole-init c =
             let total = Holds_count key s m held in
             let tree = ap (λ (r : Hasher). r.tree) w.self-is in
             let step = w.absorb.ensures (words_at 8 key) (m ++ d) (Holds_grown key s m d c.blocks_before_last-number.result held c.blocks_before_last-number.ensures)
-                (omega (arith, length-append m d))
-                (block_full key s m d w.copy_from_slice-then-held-gt0.new.self c.blocks_before_last-number.result _ _ _ held (omega arith) c.blocks_before_last-number.ensures refl refl (omega arith) (omega arith) w.copy_from_slice-then-held-gt0.ensures.after) in
+            (omega (arith, length-append m d))
+            (block_full key s m d w.copy_from_slice-then-held-gt0.new.self c.blocks_before_last-number.result _ _ _ held (omega arith) c.blocks_before_last-number.ensures refl refl (omega arith) (omega arith) w.copy_from_slice-then-held-gt0.ensures.after) in
             rw (w.number-is, add-zero, tree) step;
       }
       | else-held-gt0 w ↦ record {

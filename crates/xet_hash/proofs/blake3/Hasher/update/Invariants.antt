@@ -1,6 +1,6 @@
 use Rattle.std.proofs.Common.{◌≡◌, ℕ, List, ◌++◌, ◌+◌, ◌*◌, ◌<◌, length}
 use Rattle.xet_hash.specs.Blake3.{words_at}
-use Rattle.xet_hash.specs.Streaming.{Holds, IsAbsorbed}
+use Rattle.xet_hash.specs.Blake3Hasher.{Holds, IsAbsorbed}
 use Rattle.xet_hash.proofs.blake3.Hasher.update.Given as goal
 
 abbrev pub invariant-whole : goal.invariant-whole
@@ -8,5 +8,5 @@ invariant-whole l = record {
   count : l.self.count ≡ l.fn.self.count + length l.piece;
   number : 64 * l.number ≡ l.fn.self.count + l.start;
   start : l.start < length l.piece;
-  absorbed : (key m : List ℕ) → Holds key l.fn.self m → IsAbsorbed (words_at 8 key) l.self.tree (l.number + l.i) (m ++ l.piece)
+  absorbed : (key m : List ℕ) → Holds key l.fn.self m → IsAbsorbed (words_at 8 key) l.self.tree (l.number + l.i) (m ++ l.piece);
 }

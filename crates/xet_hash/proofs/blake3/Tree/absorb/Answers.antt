@@ -1,7 +1,7 @@
-use Rattle.std.proofs.Common.{◌≡◌, ◌+◌, ◌*◌, ◌/◌, ◌%◌, ◌<◌, ◌≤◌, List, length, take, count_ones, sym, ap, ◌∙◌, arith, refl}
+use Rattle.std.proofs.Common.{◌≡◌, ◌+◌, ◌/◌, ◌%◌, arith}
 use Rattle.xet_hash.specs.Blake3.{after_blocks}
-use Rattle.xet_hash.specs.Waiting.{IsWaiting, subtree_at}
-use Rattle.xet_hash.proofs.Absorbing.{chunk_done, chunk_goes_on}
+use Rattle.xet_hash.specs.Blake3Tree.{IsWaiting, subtree_at}
+use Rattle.xet_hash.proofs.Blake3Absorbing.{chunk_done, chunk_goes_on}
 use Rattle.xet_hash.proofs.blake3.Tree.absorb.Goals as goal
 
 pub returns-then-place : goal.returns-then-place
@@ -11,7 +11,7 @@ returns-then-place c = λ key m held fits e.
     let next : (n + 1) / 16 ≡ n / 16 + 1 = omega arith in
     let start : (n + 1) % 16 ≡ 0 = omega arith in
     let chunk = chunk_done key c.args.self.now n m c.args.block.now held c.if-place.true fits e in
-    let value : c.compress-value.result ≡ subtree_at c.args.self.now.key 0 (n / 16) m = rw (held.0, c.compress-value.ensures, c.words-words.ensures) chunk in
+    let value : c.compress_block-value.result ≡ subtree_at c.args.self.now.key 0 (n / 16) m = rw (held.0, c.compress_block-value.ensures) chunk in
     let pushed : IsWaiting c.args.self.now.key c.push.new.stack (n / 16 + 1) m = c.push.ensures m (rw held.0 held.2) value (omega arith) in
     (held.0, rw start held.0, rw (next, ← held.0) pushed)
 
@@ -20,4 +20,4 @@ returns-else-place c = λ key m held fits e.
     let n = c.args.number in
     let next : (n + 1) / 16 ≡ n / 16 = omega arith in
     let value = chunk_goes_on key c.args.self.now n m c.args.block.now held (omega arith) fits e in
-    (held.0, rw (c.compress-self.ensures, c.words-words.ensures, c.start_flag-flags.ensures) value, rw next held.2)
+    (held.0, rw (c.compress_block-self.ensures, c.start_flag-flags.ensures) value, rw next held.2)

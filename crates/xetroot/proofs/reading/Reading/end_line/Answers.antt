@@ -2,6 +2,7 @@ use Rattle.std.proofs.Common.{◌≡◌, ◌<◌, ◌^◌, ◌+◌, ℕ, [], ◌
 use Rattle.std.proofs.lemmas.Result.{err_from_is_err_and}
 use Rattle.xet_merkle.specs.Roots.{total_size}
 use Rattle.xetroot.specs.Lines.{newline}
+use Rattle.xetroot.specs.Open.{IsOpenLine}
 use Rattle.xetroot.proofs.LineLemmas.{content-whole}
 use Rattle.xetroot.proofs.ReadingLemmas.{StandsAt-end, IsFaultOf-ended}
 use Rattle.xetroot.proofs.reading.Reading.end_line.Goals as goal
@@ -10,17 +11,19 @@ pub returns-in_err-add_line-clause-fault : goal.returns-in_err-add_line-clause-f
 returns-in_err-add_line-clause-fault g c =
     let p = err_from_is_err_and c.from_residual.result c.from_residual.ensures.1 in
     rw (p.1, p.2) (λ text rest within taken.
-    let line = c.args.self.now.line.items in
-    IsFaultOf-ended text rest _ _ line _ (c.in_err-add_line.ensures.fault (line ++ newline ∷ []) (content-whole line) taken.total_is) taken.stands)
+    let line = taken.line in
+    let held = subst (IsOpenLine c.args.self.now.line) (sym (content-whole line)) taken.open_line in
+    IsFaultOf-ended text rest _ _ line _ (c.in_err-add_line.ensures.fault (line ++ newline ∷ []) held taken.total_is) taken.stands)
 
 pub returns-clause-taken : goal.returns-clause-taken
 returns-clause-taken g c = λ text within taken.
-    let line = c.args.self.now.line.items in
+    let line = taken.line in
+    let held = subst (IsOpenLine c.args.self.now.line) (sym (content-whole line)) taken.open_line in
     let added = c.in_ok-add_line.ensures in
     let total = added.total taken.total_is in
     let old : c.args.self.now.total < 2 ^ 64 = rw taken.total_is taken.stands.good.fits in
     let fits : total_size c.add_line.new.self.pairs.items < 2 ^ 64 = subst (λ (n : ℕ). n < 2 ^ 64) total (added.fits old) in
-    let stands = StandsAt-end text _ _ _ line (added.says (line ++ newline ∷ []) (content-whole line)) fits within taken.stands in
+    let stands = StandsAt-end text _ _ _ line (added.says (line ++ newline ∷ []) held) fits within taken.stands in
     let number : c.saturating_add-self-2.result ≡ c.args.self.now.number + 1 =
     let kept = added.kept.1 in
     let is = taken.stands.number_is in
@@ -31,7 +34,9 @@ returns-clause-taken g c = λ text within taken.
     let is = taken.count_is in
     omega arith in
     record {
-      stands = rw (number, c.clear.ensures) stands;
+      line = [];
+      stands = rw number stands;
+      open_line = c.clear.ensures;
       total_is = total;
       count_is = count ∙ sym (length-append text (newline ∷ []));
       within = omega (arith, length-append text (newline ∷ []));

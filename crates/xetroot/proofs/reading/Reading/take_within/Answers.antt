@@ -1,4 +1,4 @@
-use Rattle.std.proofs.Common.{◌≡◌, ◌∷◌, [], ◌++◌, ℕ, List, length, sym, ap, subst, ◌∙◌, arith, append_assoc, length-append}
+use Rattle.std.proofs.Common.{refl, append-nil, ◌≡◌, ◌+◌, ◌≤◌, ◌^◌, ◌∷◌, [], ◌++◌, ℕ, List, length, sym, ap, subst, ◌∙◌, arith, append_assoc, length-append}
 use Rattle.std.proofs.lemmas.Result.{err_from_is_err_and, on_ok_weaker, IfErr-weaker}
 use Rattle.xetroot.specs.Lines.{newline}
 use Rattle.xetroot.specs.Answer.{IsFaultOf}
@@ -11,9 +11,17 @@ returns-in_err-extend_line-clause-fault g c =
     let p = err_from_is_err_and c.from_residual.result c.from_residual.ensures.1 in
     rw (p.1, p.2) (λ text rest within taken.
     let inv = c.lines.invariant in
+    let begun = c.in-Some.begun.now in
+    let after = c.in-Some.after.now in
+    let len_piece = ap length inv.1 in
+    let len_rest = ap length c.in-Some.ensures.found.0 in
+    let len = length-append inv.0 c.lines.rest.now in
+    let len_text = length-append text inv.0 in
+    let len_begun = length-append begun (newline ∷ after) in
+    let room : length (text ++ inv.0) + length begun ≤ 2 ^ 40 = omega arith in
     subst (λ (l : List ℕ). IsFaultOf l c.in_err-extend_line.field-0.0)
-    (regrouped text c.args.piece.now rest inv.0 c.lines.rest.now c.in-Some.begun.now c.in-Some.after.now newline inv.1 c.in-Some.ensures.found.0)
-    (c.in_err-extend_line.ensures.fault (text ++ inv.0) (newline ∷ (c.in-Some.after.now ++ rest)) (inv.2 text within taken)))
+    (regrouped text c.args.piece.now rest inv.0 c.lines.rest.now begun after newline inv.1 c.in-Some.ensures.found.0)
+    (c.in_err-extend_line.ensures.fault (text ++ inv.0) (newline ∷ (after ++ rest)) room (inv.2 text within taken)))
 
 pub returns-in_err-end_line-clause-fault : goal.returns-in_err-end_line-clause-fault
 returns-in_err-end_line-clause-fault g c =
@@ -69,5 +77,8 @@ returns-clause-fault g c =
     IfErr-weaker c.extend_line-2.result _ _ (λ fault faulty text rest within taken.
     let same : ((text ++ inv.0) ++ left) ++ rest ≡ text ++ c.args.piece.now ++ rest =
     ap (λ (l : List ℕ). l ++ rest) (append_assoc text inv.0 left ∙ ap (λ (l : List ℕ). text ++ l) (sym inv.1)) in
-    subst (λ (l : List ℕ). IsFaultOf l fault) same (faulty (text ++ inv.0) rest (inv.2 text within taken)))
+    subst (λ (l : List ℕ). IsFaultOf l fault) same (faulty (text ++ inv.0) rest (omega (arith, length-append text inv.0, length-append inv.0 left, ap length inv.1)) (inv.2 text within taken)))
     c.extend_line-2.ensures.fault
+
+pub lines-init : goal.lines-init
+lines-init g c = ([], refl, λ text within taken. subst (IsTaken c.args.self.now) (sym (append-nil text)) taken)

@@ -1,12 +1,12 @@
 -- A subtree is added to those that wait, as a 1 to a binary number: with a carry.
-use Rattle.std.proofs.Common.{◌≡◌, ℕ, get_or, set, subst, zero, suc, ◌+◌, ◌-◌, ◌*◌, ◌/◌, ◌%◌, ◌^◌, ◌<◌, ◌≤◌, List, [], ◌∷◌, ◌++◌, length, take, drop, refl, sym, ap, ◌∙◌, arith}
+use Rattle.std.proofs.Common.{◌≡◌, ℕ, get_or, set, subst, zero, suc, ◌+◌, ◌-◌, ◌*◌, ◌/◌, ◌%◌, ◌^◌, ◌<◌, ◌≤◌, List, [], ◌∷◌, ◌++◌, length, take, refl, sym, ap, ◌∙◌, arith}
 use Rattle.std.proofs.lemmas.List.{length-take-le, length_push, same_from_push, take_more, take_more_set}
 use Rattle.std.proofs.lemmas.Nat.{ones-le}
 use Rattle.std.specs.Int.RustNames.{count_ones}
 use Rattle.std.proofs.Math.Nat.{pow-succ', one-mul}
 use Rattle.xet_hash.specs.Blake3.{parent_value}
-use Rattle.xet_hash.specs.Waiting.{IsWaiting, subtree_at, waiting}
-use Rattle.xet_hash.proofs.Waiting.{double, length-waiting, ones-even, ones-odd, subtree_at-join, waiting-even, waiting-odd}
+use Rattle.xet_hash.specs.Blake3Tree.{IsWaiting, subtree_at, waiting}
+use Rattle.xet_hash.proofs.Blake3Waiting.{double, length-waiting, ones-even, ones-odd, subtree_at-join, waiting-even, waiting-odd}
 
 -- Chunk number `chunk` of m is added. The subtree of 2 ^ level chunks that ends with it has this value; the
 -- values ws wait before it, rest subtrees of its size; and what waits in the end is what waits

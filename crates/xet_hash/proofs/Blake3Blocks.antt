@@ -1,6 +1,6 @@
 -- Blocks and chunks of a message, as the code takes them.
 use Rattle.std.proofs.Common.{◌≡◌, ℕ, zero, suc, ◌+◌, ◌-◌, ◌*◌, ◌^◌, ◌≤◌, List, [], ◌++◌, length, take, drop, replicate, refl, sym, ap, ◌∙◌, arith, length-drop, add-one}
-use Rattle.std.proofs.lemmas.List.{append-nil, drop_at, take_at, take-append-le, drop-replicate, take-replicate}
+use Rattle.std.proofs.lemmas.List.{append-nil, drop_at, take_all, take_at, take-append-le, drop-replicate, take-replicate}
 use borrow.Rule.Slice.PartMut.{put_mid}
 use Rattle.std.proofs.Math.Seq.{take-append-add}
 use Rattle.std.proofs.lemmas.Bool.Decides.{nat_tests}
@@ -42,3 +42,7 @@ pair_of a b ha hb =
     let back : drop 8 (drop 8 (a ++ replicate 8 0)) ≡ [] =
     ap (drop 8) (drop_at a (replicate {A = ℕ} 8 0) 8 ha) in
     rw (front, back, append-nil b) refl
+
+-- a message of one whole block
+pub block_of_whole : (m : List ℕ) → length m ≡ 64 → block m 0 ≡ m
+block_of_whole m h = block_whole m 0 (omega arith) ∙ take_all 64 m (omega arith)

@@ -1,17 +1,17 @@
 -- How the tree follows a message, block by block.
-use Rattle.std.proofs.Common.{◌≡◌, ℕ, zero, suc, ◌+◌, ◌-◌, ◌*◌, ◌/◌, ◌%◌, ◌^◌, ◌<◌, ◌≤◌, List, [], ◌∷◌, ◌++◌, length, take, drop, refl, sym, ap, ◌∙◌, arith, length-append, length-drop}
+use Rattle.std.proofs.Common.{◌≡◌, ℕ, zero, suc, ◌+◌, ◌-◌, ◌*◌, ◌/◌, ◌%◌, ◌<◌, ◌≤◌, List, [], ◌++◌, length, take, drop, refl, sym, ap, ◌∙◌, arith, length-append, length-drop}
 use Rattle.std.proofs.lemmas.Slice.{take-put_mid}
 use Rattle.std.proofs.Math.Seq.{drop-append-add, take-append-add}
 use borrow.Rule.Slice.PartMut.{put_mid, post_of}
-use Rattle.std.proofs.lemmas.List.{append-nil, drop_all, take_at, take-append-le, drop-append-le, take-append-drop, take-take, drop-drop, drop-take, length-take-le, take_all}
-use Rattle.xet_hash.specs.Blake3.{after_blocks, block, blocks_before_last, chunk_end_flag, chunk_value, compress, keyed_hash_flag, root_flag, start_flag, subtree_value, words_at}
-use Rattle.xet_hash.specs.Streaming.{Holds, IsAbsorbed}
-use Rattle.xet_hash.specs.Waiting.{IsWaiting, subtree_at, waiting}
+use Rattle.std.proofs.lemmas.List.{append-nil, drop_all, take_at, take-append-le, drop-append-le, take-append-drop, take-take, drop-drop, drop-take, length-take-le}
+use Rattle.xet_hash.specs.Blake3.{after_blocks, block, blocks_before_last, chunk_end_flag, chunk_value, compress, keyed_hash_flag, start_flag, words_at}
+use Rattle.xet_hash.specs.Blake3Hasher.{Holds, IsAbsorbed}
+use Rattle.xet_hash.specs.Blake3Tree.{subtree_at}
 use Rattle.xet_hash.specs.declared.blake3.Hasher.{Hasher}
 use Rattle.xet_hash.specs.declared.blake3.Tree.{Tree}
-use Rattle.xet_hash.proofs.Blocks.{after_blocks_next, block_whole, subtree_value-chunk}
+use Rattle.xet_hash.proofs.Blake3Blocks.{after_blocks_next, block_whole, subtree_value-chunk}
 use Rattle.std.proofs.Math.Nat.{one-mul}
-use Rattle.xet_hash.proofs.Waiting.{joined, joined-same, joined-waiting, rest_at, waiting-append}
+use Rattle.xet_hash.proofs.Blake3Waiting.{waiting-append}
 
 -- ---- what has been taken in stays as the message grows
 
@@ -100,10 +100,11 @@ Holds_short key s n m d ys number k j h size en ek short same count tree block =
     let front : take k s.block ≡ drop (64 * blocks_before_last m) m = ap (λ (i : ℕ). take i s.block) (sym held) ∙ h.2 in
     let placed : take (k + length d) n.block ≡ drop (64 * blocks_before_last m) (m ++ d) =
     rw (block, same) (take-put_mid k j s.block d (k + length d) refl (omega arith))
-    ∙ ap (λ (x : List ℕ). x ++ d) front ∙ sym (drop-append-le (64 * blocks_before_last m) m d (omega arith)) in
-    (count ∙ ap (λ (i : ℕ). i + length d) total ∙ sym len,
-     rw (last, tree) (IsAbsorbed-append (words_at 8 key) s.tree (blocks_before_last m) m d h.1 (omega arith)),
-     rw (last, bytes) placed)
+    ∙ ap (λ (x : List ℕ). x ++ d) front ∙ sym (drop-append-le (64 * blocks_before_last m) m d (omega arith)) in (
+      count ∙ ap (λ (i : ℕ). i + length d) total ∙ sym len,
+      rw (last, tree) (IsAbsorbed-append (words_at 8 key) s.tree (blocks_before_last m) m d h.1 (omega arith)),
+      rw (last, bytes) placed,
+    )
 
 -- the bytes of the last block and those that fill it
 pub block_full : (key : List ℕ) (s : Hasher) (m d ys : List ℕ) (number k j room : ℕ) → Holds key s m → length s.block ≡ 64
@@ -136,7 +137,8 @@ Holds_tail key n t m d ys b i a j absorbed place some short count tree block sam
     let len : length (m ++ d) ≡ length m + length d = length-append m d in
     let last : blocks_before_last (m ++ d) ≡ i = omega arith in
     let size : length ys ≡ length d - a = ap length same ∙ length-drop a d in
-    let bytes : length (m ++ d) - 64 * i ≡ length ys = omega arith in
-    (count ∙ sym len,
-     rw (last, tree) absorbed,
-     rw (last, bytes, block, take_at ys (post_of 0 j b) (length ys) refl, place, drop-append-add m d a) same)
+    let bytes : length (m ++ d) - 64 * i ≡ length ys = omega arith in (
+      count ∙ sym len,
+      rw (last, tree) absorbed,
+      rw (last, bytes, block, take_at ys (post_of 0 j b) (length ys) refl, place, drop-append-add m d a) same,
+    )

@@ -1,7 +1,7 @@
 -- The message that a hasher of keyed BLAKE3 holds.
 use Rattle.std.specs.Prelude.{◌≡◌, ℕ, ◌-◌, ◌*◌, ◌/◌, ◌%◌, List, length, take, drop}
 use Rattle.xet_hash.specs.Blake3.{after_blocks, blocks_before_last, words_at}
-use Rattle.xet_hash.specs.Waiting.{IsWaiting}
+use Rattle.xet_hash.specs.Blake3Tree.{IsWaiting}
 use Rattle.xet_hash.specs.declared.blake3.Hasher.{Hasher}
 use Rattle.xet_hash.specs.declared.blake3.Tree.{Tree}
 

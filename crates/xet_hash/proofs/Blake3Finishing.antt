@@ -1,22 +1,22 @@
 -- The end of a message: what waits is joined with the open chunk, from the top of the stack.
-use Rattle.std.proofs.Common.{◌≡◌, ℕ, zero, suc, ◌+◌, ◌-◌, ◌*◌, ◌/◌, ◌%◌, ◌^◌, ◌<◌, ◌≤◌, ◌==◌, if◌then◌else◌, List, [], ◌∷◌, ◌++◌, length, take, drop, get_or, replicate, refl, sym, ap, ◌∙◌, arith, length-drop}
+use Rattle.std.proofs.Common.{◌≡◌, ℕ, ◌+◌, ◌-◌, ◌*◌, ◌/◌, ◌%◌, ◌^◌, ◌<◌, ◌≤◌, ◌==◌, if◌then◌else◌, List, [], ◌∷◌, ◌++◌, length, take, drop, get_or, replicate, refl, sym, ap, ◌∙◌, arith, length-drop}
 use Rattle.std.specs.Int.RustNames.{count_ones}
 use Rattle.std.proofs.Math.Nat.{one-mul}
 use Rattle.std.proofs.lemmas.List.{drop-drop, take_more}
 use Rattle.std.proofs.lemmas.Bool.Decides.{nat_tests}
 use Rattle.xet_hash.specs.Blake3.{after_blocks, block, blocks_before_last, chunk_end_flag, compress, keyed_hash_flag, parent_value, root_flag, start_flag, subtree_value, words_at}
-use Rattle.xet_hash.specs.Streaming.{Holds}
-use Rattle.xet_hash.specs.Waiting.{waiting}
+use Rattle.xet_hash.specs.Blake3Hasher.{Holds}
+use Rattle.xet_hash.specs.Blake3Tree.{waiting}
 use Rattle.xet_hash.specs.declared.blake3.Hasher.{Hasher}
-use Rattle.xet_hash.proofs.Absorbing.{chunk_value-last}
-use Rattle.xet_hash.proofs.Blocks.{subtree_value-chunk}
-use Rattle.xet_hash.proofs.Waiting.{joined, joined-same, joined-waiting, joined_push, rest_at}
+use Rattle.xet_hash.proofs.Blake3Absorbing.{chunk_value-last}
+use Rattle.xet_hash.proofs.Blake3Blocks.{subtree_value-chunk}
+use Rattle.xet_hash.proofs.Blake3Waiting.{joined, joined-same, joined-waiting, joined_push, rest_at}
 
 -- the value of the open chunk, by the flag that is added, is joined with what waits
 pub root_value : (key : List ℕ) (s : Hasher) (m rest : List ℕ) (number held : ℕ) → Holds key s m → s.count < 2 ^ 64
     → number ≡ (s.count - 1) / 64 → held ≡ s.count - 64 * number → rest ≡ take held s.block
     → joined (words_at 8 key) (take (count_ones (number / 16)) s.tree.stack)
-        (λ f. compress s.tree.value (words_at 16 (block rest 0)) (number / 16) (length rest) (keyed_hash_flag + start_flag (number % 16) + chunk_end_flag + f)) 8
+    (λ f. compress s.tree.value (words_at 16 (block rest 0)) (number / 16) (length rest) (keyed_hash_flag + start_flag (number % 16) + chunk_end_flag + f)) 8
     ≡ subtree_value (words_at 8 key) 54 0 m 8
 unfolding Holds
 root_value key s m rest number held h small en eh er =

@@ -1,14 +1,14 @@
 -- The two views of a message: the tree by halving, and the binary counter of complete subtrees that wait
 -- for what is on their right.
-use Rattle.std.proofs.Common.{◌≡◌, ℕ, zero, suc, ◌+◌, ◌-◌, ◌*◌, ◌/◌, ◌%◌, ◌^◌, ◌<◌, ◌≤◌, ◌⊎◌, inl, inr, List, [], ◌∷◌, ◌++◌, length, take, drop, refl, sym, ap, ◌∙◌, arith, length-append, length-drop}
-use Rattle.std.proofs.lemmas.List.{append-nil, append_assoc, take-append-le, drop-append-le, drop-drop, drop-take, take-take, length-take-le, length_push}
+use Rattle.std.proofs.Common.{◌≡◌, ℕ, zero, suc, ◌+◌, ◌-◌, ◌*◌, ◌/◌, ◌%◌, ◌^◌, ◌<◌, ◌≤◌, ◌⊎◌, inl, inr, List, [], ◌∷◌, ◌++◌, length, take, drop, refl, sym, ap, ◌∙◌, arith, length-drop}
+use Rattle.std.proofs.lemmas.List.{append-nil, take-append-le, drop-append-le, drop-drop, drop-take, take-take, length-take-le, length_push}
 use Rattle.std.proofs.lemmas.Bool.{cases_lt}
 use Rattle.std.proofs.lemmas.Bool.Decides.{nat_tests}
 use Rattle.std.proofs.lemmas.Nat.{pow_pos, ones_cat}
 use Rattle.std.proofs.Math.Nat.{pow-succ', mul_assoc}
 use Rattle.std.specs.Int.RustNames.{count_ones}
 use Rattle.xet_hash.specs.Blake3.{parent_value, subtree_value}
-use Rattle.xet_hash.specs.Waiting.{subtree_at, waiting}
+use Rattle.xet_hash.specs.Blake3Tree.{subtree_at, waiting}
 
 -- ---- even and odd numbers
 
@@ -104,8 +104,13 @@ waiting-append key (suc bits) k n m d h =
           rw (e, waiting-even key bits k q (m ++ d), waiting-even key bits k q m) (waiting-append key bits (suc k) q m d (omega arith))
       | inr e ↦
           let size : 2 ^ k * n ≡ 2 ^ suc k * q + 2 ^ k = ap (λ (x : ℕ). 2 ^ k * x) e ∙ omega (arith, whole) in
-          rw (e, waiting-odd key bits k q (m ++ d), waiting-odd key bits k q m,
-          waiting-append key bits (suc k) q m d (omega arith), subtree_at-append key k (2 ^ suc k * q) m d (omega arith)) refl
+          rw (
+            e,
+            waiting-odd key bits k q (m ++ d),
+            waiting-odd key bits k q m,
+            waiting-append key bits (suc k) q m d (omega arith),
+            subtree_at-append key k (2 ^ suc k * q) m d (omega arith),
+          ) refl
     ]
 
 -- one waits for each 1 in the binary form

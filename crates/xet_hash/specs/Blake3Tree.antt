@@ -1,6 +1,6 @@
 -- How a message is taken in piece by piece: the subtrees that are complete, and wait for what is on their
 -- right (BLAKE3 specification, 5.1.2).
-use Rattle.std.specs.Prelude.{◌≡◌, ℕ, zero, suc, ◌+◌, ◌-◌, ◌*◌, ◌/◌, ◌%◌, ◌^◌, if◌then◌else◌, ◌==◌, List, [], ◌∷◌, ◌++◌, take, drop, count_ones}
+use Rattle.std.specs.Prelude.{◌≡◌, ℕ, zero, suc, ◌-◌, ◌*◌, ◌/◌, ◌%◌, ◌^◌, if◌then◌else◌, ◌==◌, List, [], ◌∷◌, ◌++◌, take, drop, count_ones}
 use Rattle.xet_hash.specs.Blake3.{subtree_value}
 
 -- the value of the subtree over 2 ^ k whole chunks of m, from chunk number c on

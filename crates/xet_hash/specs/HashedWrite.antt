@@ -1,0 +1,19 @@
+-- What a writer that hashes has taken, and the writer behind it.
+use Rattle.std.specs.Prelude.{ℕ, List, [], take, Result, Ok, Err}
+use Rattle.xet_hash.specs.Hash.{data_key}
+use Rattle.xet_hash.specs.Blake3Hasher.{Holds}
+use Rattle.xet_hash.specs.declared.data_hash.hashed_write.HashedWrite.{HashedWrite}
+
+-- the writer that gets the bytes
+abbrev pub inner_writer : {W : Type 0} → HashedWrite W → W
+inner_writer w = w.writer
+
+-- the bytes that w has reported as taken are m
+unfoldable pub HoldsWritten : {W : Type 0} → HashedWrite W → List ℕ → Type 0
+HoldsWritten w m = Holds data_key w.hasher m
+
+-- the bytes of `slice` that a write took by its answer: the first k at `Ok(k)`, all of them where k is
+-- greater, and none at an error
+abbrev pub taken_bytes : {E : Type 0} → Result ℕ E → List ℕ → List ℕ
+taken_bytes (Ok k) slice = take k slice
+taken_bytes (Err e) slice = []

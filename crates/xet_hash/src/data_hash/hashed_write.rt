@@ -1,0 +1,81 @@
+//! A writer that hashes what is written.
+
+ghost use Rattle.std.specs.Prelude.{◌≡◌, ◌+◌, ◌^◌, ◌≤◌, ℕ, List, [], ◌++◌, length, IsErrAnd};
+ghost use Rattle.std.specs.Io.{WritesAtMost};
+ghost use Rattle.std.specs.Io.KnownBytes.{Keeps, WriteAppends};
+ghost use Rattle.std.specs.IoError.{error_kind};
+ghost use Rattle.xet_hash.specs.Blake3.{keyed_hash};
+ghost use Rattle.xet_hash.specs.Hash.{data_key, hash_of};
+ghost use Rattle.xet_hash.specs.HashedWrite.{inner_writer, taken_bytes, HoldsWritten};
+
+use super::{DATA_KEY, DataHash};
+use crate::blake3::Hasher;
+use std::io::{self, ErrorKind, Write};
+
+/// A writer that hands what it is given to an inner writer, and hashes what that one takes.
+#[derive(Drop)]
+pub struct HashedWrite<W: Write> {
+    hasher: Hasher,
+    writer: W,
+}
+
+impl<W: Write> HashedWrite<W> {
+    /// Hashes what is written to `writer` from here on.
+    pub fn new(writer: W) -> HashedWrite<W>
+        ensures message { HoldsWritten result [] }
+        ensures writer { inner_writer result ≡ writer }
+    {
+        HashedWrite {
+            hasher: Hasher::new_keyed(&DATA_KEY),
+            writer,
+        }
+    }
+
+    /// The hash of the bytes that were taken so far, that of [`compute_data_hash`](super::compute_data_hash).
+    pub fn hash(&self) -> DataHash
+        ensures { (m : List ℕ) → HoldsWritten self.now m → result ≡ hash_of (keyed_hash data_key m) }
+    {
+        DataHash::from(self.hasher.finalize())
+    }
+
+    /// The inner writer, as it stands.
+    pub fn into_inner(self) -> W
+        ensures { result ≡ inner_writer self }
+    {
+        let HashedWrite { hasher: _, writer } = self;
+        writer
+    }
+}
+
+impl<W: Write> Write for HashedWrite<W> {
+    ghost contents = { λ w. W.contents (inner_writer w) };
+
+    /// Hands `slice` to the inner writer in one call, whose answer is the answer. A message has less
+    /// than 2^64 bytes: with no room for all of `slice` the error is [`ErrorKind::InvalidInput`], and
+    /// the inner writer is not called.
+    fn write(&mut self, slice: &[u8]) -> io::Result<usize>
+        ensures bound { WritesAtMost result slice.now }
+        ensures bytes { WriteAppends (W.contents (inner_writer self.old)) (W.contents (inner_writer self.new)) result slice.now }
+        ensures message { (m : List ℕ) → HoldsWritten self.old m → HoldsWritten self.new (m ++ taken_bytes result slice.now) }
+        ensures full { (m : List ℕ) → HoldsWritten self.old m → 2 ^ 64 ≤ length m + length slice.now
+            → IsErrAnd result (λ e. error_kind e ≡ ErrorKind.InvalidInput) × (self.new ≡ self.old) }
+    {
+        if !self.hasher.has_room(slice.len()) {
+            return Err(io::Error::from(ErrorKind::InvalidInput));
+        }
+        let taken = self.writer.write(slice)?;
+        self.hasher.update(&slice[..taken]);
+        Ok(taken)
+    }
+
+    /// Flushes the inner writer.
+    fn flush(&mut self) -> io::Result<()>
+        ensures bytes { Keeps (W.contents (inner_writer self.old)) (W.contents (inner_writer self.new)) }
+        ensures message { (m : List ℕ) → HoldsWritten self.old m → HoldsWritten self.new m }
+    {
+        self.writer.flush()
+    }
+}
+
+#[cfg(test)]
+mod tests;
