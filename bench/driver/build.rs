@@ -1,0 +1,11 @@
+// Links the static library of the repository, whose folder the script names, and the kit's C part.
+fn main() {
+    for variable in ["XET_BENCH_DIR", "KIT_C_DIR"] {
+        println!("cargo:rerun-if-env-changed={variable}");
+        let folder = std::env::var(variable).expect(variable);
+        println!("cargo:rustc-link-search=native={folder}");
+        println!("cargo:rerun-if-changed={folder}");
+    }
+    println!("cargo:rustc-link-lib=static=xet_bench");
+    println!("cargo:rustc-link-lib=static=libc_c");
+}

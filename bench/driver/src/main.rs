@@ -1,0 +1,164 @@
+//! Runs the library and the crate `blake3` in one process on the same buffers, one after the other in
+//! turn, and prints for each task the best speed of either and their ratio.
+
+use std::hint::black_box;
+use std::time::Instant;
+
+extern "C" {
+    fn xet_bench_keyed_hash(message: *const u8, len: usize, out: *mut u8, out_len: usize);
+    fn xet_bench_hasher(message: *const u8, len: usize, piece: usize, out: *mut u8, out_len: usize);
+    fn xet_bench_xorb_hash(nodes: *const u64, len: usize, out: *mut u8, out_len: usize) -> bool;
+}
+
+const DATA_KEY: [u8; 32] = [
+    102, 151, 245, 119, 91, 149, 80, 222, 49, 53, 203, 172, 165, 151, 24, 28, 157, 228, 33, 16, 155,
+    235, 43, 88, 180, 208, 176, 75, 147, 173, 242, 41,
+];
+
+const INTERNAL_KEY: [u8; 32] = [
+    1, 126, 197, 199, 165, 71, 41, 150, 253, 148, 102, 102, 180, 138, 2, 230, 93, 221, 83, 111, 55,
+    199, 109, 210, 248, 99, 82, 230, 74, 83, 113, 63,
+];
+
+const TURNS: usize = 15;
+
+fn ours(message: &[u8]) -> [u8; 32] {
+    let mut out = [0; 32];
+    unsafe { xet_bench_keyed_hash(message.as_ptr(), message.len(), out.as_mut_ptr(), 32) };
+    out
+}
+
+fn ours_in_pieces(message: &[u8], piece: usize) -> [u8; 32] {
+    let mut out = [0; 32];
+    unsafe { xet_bench_hasher(message.as_ptr(), message.len(), piece, out.as_mut_ptr(), 32) };
+    out
+}
+
+fn theirs(message: &[u8]) -> [u8; 32] {
+    *blake3::keyed_hash(&DATA_KEY, message).as_bytes()
+}
+
+fn theirs_in_pieces(message: &[u8], piece: usize) -> [u8; 32] {
+    let mut hasher = blake3::Hasher::new_keyed(&DATA_KEY);
+    for part in message.chunks(piece) {
+        hasher.update(part);
+    }
+    *hasher.finalize().as_bytes()
+}
+
+fn our_root(nodes: &[u64]) -> [u8; 32] {
+    let mut out = [0; 32];
+    let done =
+        unsafe { xet_bench_xorb_hash(nodes.as_ptr(), nodes.len(), out.as_mut_ptr(), 32) };
+    assert!(done);
+    out
+}
+
+// The root by a plain loop over the crate.
+fn their_root(words: &[u64]) -> [u8; 32] {
+    use std::fmt::Write;
+    let mut nodes: Vec<([u64; 4], u64)> = words
+        .chunks_exact(5)
+        .map(|n| ([n[0], n[1], n[2], n[3]], n[4]))
+        .collect();
+    let mut text = String::new();
+    while nodes.len() > 1 {
+        let mut parents = Vec::with_capacity(nodes.len() / 3 + 1);
+        let mut rest = nodes.as_slice();
+        while !rest.is_empty() {
+            let longest = rest.len().min(9);
+            let cut = (2..longest).find(|&i| rest[i].0[3] % 4 == 0);
+            let (group, after) = rest.split_at(cut.map_or(longest, |i| i + 1));
+            text.clear();
+            let mut size = 0;
+            for (hash, bytes) in group {
+                for word in hash {
+                    write!(text, "{word:016x}").unwrap();
+                }
+                writeln!(text, " : {bytes}").unwrap();
+                size += bytes;
+            }
+            let hash = blake3::keyed_hash(&INTERNAL_KEY, text.as_bytes());
+            let mut parent = [0; 4];
+            for (word, bytes) in parent.iter_mut().zip(hash.as_bytes().chunks_exact(8)) {
+                *word = u64::from_le_bytes(bytes.try_into().unwrap());
+            }
+            parents.push((parent, size));
+            rest = after;
+        }
+        nodes = parents;
+    }
+    let mut out = [0; 32];
+    for (bytes, word) in out.chunks_exact_mut(8).zip(nodes[0].0) {
+        bytes.copy_from_slice(&word.to_le_bytes());
+    }
+    out
+}
+
+// Seconds of one run, repeated so often that a run takes some milliseconds.
+fn seconds(repeats: usize, mut task: impl FnMut() -> [u8; 32]) -> f64 {
+    let start = Instant::now();
+    for _ in 0..repeats {
+        black_box(task());
+    }
+    start.elapsed().as_secs_f64() / repeats as f64
+}
+
+fn compare(
+    name: &str,
+    bytes: usize,
+    mut ours: impl FnMut() -> [u8; 32],
+    mut theirs: impl FnMut() -> [u8; 32],
+) {
+    assert_eq!(ours(), theirs(), "{name}");
+    let repeats = (4_000_000 / bytes).max(1);
+    let (mut best, mut peer) = (f64::MAX, f64::MAX);
+    for _ in 0..TURNS {
+        best = best.min(seconds(repeats, &mut ours));
+        peer = peer.min(seconds(repeats, &mut theirs));
+    }
+    let rate = |time: f64| bytes as f64 / time / 1e6;
+    println!("| {name} | {:.0} | {:.0} | {:.2} |", rate(best), rate(peer), peer / best);
+}
+
+fn main() {
+    let message: Vec<u8> = (0..64usize << 20).map(|i| (i % 251) as u8).collect();
+    println!("| Task | ours, MB/s | crate, MB/s | ratio |\n|---|---|---|---|");
+    for (name, len) in [
+        ("`keyed_hash`, 64 B", 64),
+        ("`keyed_hash`, 316 B", 316),
+        ("`keyed_hash`, 1 KiB", 1024),
+        ("`keyed_hash`, 64 KiB", 64 << 10),
+        ("`keyed_hash`, 64 MiB", 64 << 20),
+    ] {
+        let part = &message[..len];
+        compare(name, len, || ours(black_box(part)), || theirs(black_box(part)));
+    }
+    let part = &message[..1 << 20];
+    for (name, piece) in [
+        ("`Hasher`, 1 MiB in pieces of 100 B", 100),
+        ("`Hasher`, 1 MiB in pieces of 64 KiB", 64 << 10),
+    ] {
+        compare(
+            name,
+            part.len(),
+            || ours_in_pieces(black_box(part), piece),
+            || theirs_in_pieces(black_box(part), piece),
+        );
+    }
+    // Hashes by a plain generator, and sizes below 2^20.
+    let mut state = 1u64;
+    let nodes: Vec<u64> = (0..5_000_000)
+        .map(|i| {
+            state = state.wrapping_mul(6364136223846793005).wrapping_add(1442695040888963407);
+            let word = state ^ state >> 29;
+            if i % 5 == 4 { word >> 44 } else { word }
+        })
+        .collect();
+    compare(
+        "`xorb_hash`, a million pairs of 40 B",
+        nodes.len() * 8,
+        || our_root(black_box(&nodes)),
+        || their_root(black_box(&nodes)),
+    );
+}

@@ -1,0 +1,60 @@
+//! What the benchmark calls of the libraries, as exports of a static library.
+#![tactic(auto)]
+
+ghost use Rattle.std.specs.Prelude.{◌≡◌, ◌<◌, ◌*◌, ℕ, List, length};
+
+use std::alloc::{AllocError, Global};
+use xet_hash::blake3::{Hasher, keyed_hash};
+use xet_hash::data_hash::{DATA_KEY, MerkleHash};
+use xet_merkle::aggregated_hashes::{Node, xorb_hash};
+
+/// Writes the keyed hash of `message` under the data key to `out`.
+#[unsafe(no_mangle)]
+pub extern "C" fn xet_bench_keyed_hash(message: &[u8], out: &mut [u8])
+    requires { length out.old ≡ 32 }
+{
+    out.copy_from_slice(&keyed_hash(&DATA_KEY, message));
+}
+
+/// The same, by a hasher that takes the message in pieces of `piece` bytes.
+#[unsafe(no_mangle)]
+pub extern "C" fn xet_bench_hasher(message: &[u8], piece: usize, out: &mut [u8])
+    requires some { 0 < piece }
+    requires out { length out.old ≡ 32 }
+{
+    let mut hasher = Hasher::new_keyed(&DATA_KEY);
+    for part in message.chunks(piece) {
+        if hasher.has_room(part.len()) {
+            hasher.update(part);
+        }
+    }
+    out.copy_from_slice(&hasher.finalize());
+}
+
+/// Writes the root of a list of nodes to `out`: each node is the four words of its hash, and its size.
+/// False where memory runs out or the sizes pass `u64::MAX`.
+#[unsafe(no_mangle)]
+pub extern "C" fn xet_bench_xorb_hash(alloc: Global, nodes: &[u64], out: &mut [u8]) -> bool
+    requires { length out.old ≡ 32 }
+{
+    match nodes_of(alloc, nodes) {
+        Ok(nodes) => match xorb_hash(alloc, nodes.as_slice()) {
+            Ok(root) => {
+                out.copy_from_slice(&root.as_bytes());
+                true
+            }
+            Err(_) => false,
+        },
+        Err(_) => false,
+    }
+}
+
+fn nodes_of(alloc: Global, nodes: &[u64]) -> Result<Vec<Node>, AllocError> {
+    let mut list = Vec::with_capacity(alloc, nodes.len() / 5)?;
+    for node in nodes.chunks(5) {
+        if let [first, second, third, fourth, size] = node {
+            list.push((MerkleHash::from([*first, *second, *third, *fourth]), *size))?;
+        }
+    }
+    Ok(list)
+}
