@@ -93,7 +93,7 @@ IsHashBytes-bytes_of words h =
     (len, All-bytes_of words)
 
 -- a byte at any place, past the end too
-fits_at : (bytes : List ℕ) → All IsByte bytes → (i : ℕ) → slice_index bytes i < 256
+pub fits_at : (bytes : List ℕ) → All IsByte bytes → (i : ℕ) → slice_index bytes i < 256
 fits_at bytes h i =
     elim (cases_lt i (length bytes)) [
       | inl inside ↦ All-get_or IsByte bytes i 0 inside h

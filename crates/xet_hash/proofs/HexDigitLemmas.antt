@@ -17,7 +17,7 @@ same_digit : (c : ℕ) → is_hex_digit c ≡ is_ascii_hexdigit c
 same_digit c = grind (arith, nat_tests)
 
 -- the lower-case digit of v
-lower_digit : (v : ℕ) → v < 16 → slice_index lower_digits v ≡ cond (ltb v 10) (48 + v) (87 + v)
+pub lower_digit : (v : ℕ) → v < 16 → slice_index lower_digits v ≡ cond (ltb v 10) (48 + v) (87 + v)
 lower_digit v small =
     get_or-map-range_with_len (λ k. cond (ltb k 10) (48 + k) (87 + k)) 0 16 v v 0 small (omega arith)
 

@@ -27,7 +27,7 @@ low_digit : (n : ℕ) → n % 256 % 16 ≡ n % 16
 low_digit n = omega arith
 
 -- the 16 digits of a word
-abbrev word_text : ℕ → List ℕ
+abbrev pub word_text : ℕ → List ℕ
 word_text w = map (λ j. hex_digit (w / 16 ^ (15 - j) % 16)) (range_with_len 0 16)
 
 -- the text of the bytes of a word
@@ -66,7 +66,7 @@ encode_words (w ∷ ws) =
     ∙ ap (λ (l : List ℕ). word_text w ++ l) rest
 
 -- the hex text by position, word by word
-hex_text-four : (words : List ℕ) → length words ≡ 4 → hex_text words ≡ flat_map word_text words
+pub hex_text-four : (words : List ℕ) → length words ≡ 4 → hex_text words ≡ flat_map word_text words
 unfolding hex_text
 hex_text-four words h = rw (four_words words h)
 

@@ -1,6 +1,6 @@
 -- A hash as its four words, each a number below 2 ^ 64, and its forms as bytes and as text (module
 -- `merklehash::data_hash` of the crate `xet-core-structures`).
-use Rattle.std.specs.Prelude.{◌≡◌, ℕ, ◌-◌, ◌*◌, ◌/◌, ◌%◌, ◌^◌, ◌<◌, All, List, [], ◌∷◌, length, map, drop, codes, slice_index}
+use Rattle.std.specs.Prelude.{◌≡◌, ℕ, ◌-◌, ◌*◌, ◌/◌, ◌%◌, ◌^◌, ◌<◌, All, List, [], ◌∷◌, length, map, drop, replicate, codes, slice_index}
 use Rattle.std.specs.Int.{w64, from_le_bytes, to_le_bytes}
 use Rattle.std.specs.Char.{is_ascii_hexdigit}
 use Rattle.std.specs.List.{flat_map, range_with_len, AllPass}
@@ -16,6 +16,10 @@ IsHashBytes bytes = (length bytes ≡ 32) × All (λ byte. byte < 256) bytes
 -- the hash of no data: four zeros
 abbrev pub default_hash : List ℕ
 default_hash = 0 ∷ 0 ∷ 0 ∷ 0 ∷ []
+
+-- the hash with all bits one
+abbrev pub marker_hash : List ℕ
+marker_hash = replicate 4 (2 ^ 64 - 1)
 
 -- the 32 bytes of a hash: its words in order, each little-endian
 unfoldable pub bytes_of : List ℕ → List ℕ

@@ -1,11 +1,16 @@
-//! Keyed BLAKE3 with 32 bytes of output (BLAKE3 specification), in scalar code.
+//! Keyed BLAKE3 with 32 bytes of output (BLAKE3 specification).
 
 ghost use Rattle.std.specs.Prelude.{◌≡◌, ◌==◌, ◌↔◌, ℕ, ◌+◌, ◌-◌, ◌*◌, ◌/◌, ◌^◌, ◌≤◌, ◌<◌, IsTrue, if◌then◌else◌, List, [], ◌++◌, drop, length, take};
 ghost use Rattle.std.specs.Int.{from_le_bytes, to_le_bytes, w32};
 ghost use Rattle.std.specs.List.{flat_map};
-ghost use Rattle.xet_hash.specs.Blake3.{block, chunk_end_flag, chunk_value, compress, first_state, folded, half_mix, keyed_hash, keyed_hash_flag, mix, parent_value, permuted, root_flag, round, start_flag, words_at};
+ghost use Rattle.xet_hash.specs.Blake3.{block, chunk_end_flag, chunk_value, compress, keyed_hash, keyed_hash_flag, parent_value, root_flag, start_flag, words_at};
 ghost use Rattle.xet_hash.specs.Blake3Hasher.{Holds, IsAbsorbed, count_of};
 ghost use Rattle.xet_hash.specs.Blake3Tree.{IsWaiting, subtree_at};
+
+mod compression;
+mod rows;
+
+use compression::compress;
 
 // The bytes of a block and of a chunk, and the blocks of a whole chunk.
 const BLOCK_LENGTH: usize = 64;
@@ -27,136 +32,6 @@ const PARENT: u32 = 4;
 const ROOT: u32 = 8;
 
 const KEYED_HASH: u32 = 16;
-
-// The initialization vector's first four words (table 1).
-const IV_0: u32 = 0x6A09E667;
-
-const IV_1: u32 = 0xBB67AE85;
-
-const IV_2: u32 = 0x3C6EF372;
-
-const IV_3: u32 = 0xA54FF53A;
-
-// Half of G on the places a, b, c, d of the state: one message word, and two rotations.
-#[inline(always)]
-#[tactic(auto, unfolding(crate::specs::Blake3::half_mix))]
-fn half_mix(v: &mut [u32; 16], a: usize, b: usize, c: usize, d: usize, x: u32, r: u32, s: u32)
-    requires a_in { a < 16 }
-    requires b_in { b < 16 }
-    requires c_in { c < 16 }
-    requires d_in { d < 16 }
-    ensures { v.new ≡ half_mix v.old a b c d x r s }
-{
-    v[a] = v[a].wrapping_add(v[b]).wrapping_add(x);
-    v[d] = (v[d] ^ v[a]).rotate_right(r);
-    v[c] = v[c].wrapping_add(v[d]);
-    v[b] = (v[b] ^ v[c]).rotate_right(s);
-}
-
-// G on the places a, b, c, d of the state (2.2).
-#[inline(always)]
-#[tactic(auto, unfolding(crate::specs::Blake3::mix))]
-fn mix(v: &mut [u32; 16], a: usize, b: usize, c: usize, d: usize, x: u32, y: u32)
-    requires a_in { a < 16 }
-    requires b_in { b < 16 }
-    requires c_in { c < 16 }
-    requires d_in { d < 16 }
-    ensures { v.new ≡ mix v.old a b c d x y }
-{
-    half_mix(v, a, b, c, d, x, 16, 12);
-    half_mix(v, a, b, c, d, y, 8, 7);
-}
-
-// One round: the four columns of the state, then its four diagonals.
-#[inline(always)]
-#[tactic(auto, unfolding(crate::specs::Blake3::round))]
-fn round(v: &mut [u32; 16], m: &[u32; 16])
-    ensures { v.new ≡ round v.old m.now }
-{
-    mix(v, 0, 4, 8, 12, m[0], m[1]);
-    mix(v, 1, 5, 9, 13, m[2], m[3]);
-    mix(v, 2, 6, 10, 14, m[4], m[5]);
-    mix(v, 3, 7, 11, 15, m[6], m[7]);
-    mix(v, 0, 5, 10, 15, m[8], m[9]);
-    mix(v, 1, 6, 11, 12, m[10], m[11]);
-    mix(v, 2, 7, 8, 13, m[12], m[13]);
-    mix(v, 3, 4, 9, 14, m[14], m[15]);
-}
-
-// The message words of the next round.
-#[inline(always)]
-fn permuted(m: &[u32; 16]) -> [u32; 16]
-    ensures { result ≡ permuted m.now }
-{
-    [
-        m[2], m[6], m[3], m[10], m[7], m[0], m[4], m[13], m[1], m[11], m[12], m[5], m[9], m[14],
-        m[15], m[8],
-    ]
-}
-
-// The state at first.
-#[inline(always)]
-fn first_state(h: &[u32; 8], counter: u64, block_length: u32, flags: u32) -> [u32; 16]
-    ensures { result ≡ first_state h.now counter block_length flags }
-{
-    [
-        h[0],
-        h[1],
-        h[2],
-        h[3],
-        h[4],
-        h[5],
-        h[6],
-        h[7],
-        IV_0,
-        IV_1,
-        IV_2,
-        IV_3,
-        (counter % (1 << 32)) as u32,
-        (counter >> 32) as u32,
-        block_length,
-        flags,
-    ]
-}
-
-// The first eight words of the output.
-#[inline(always)]
-fn folded(v: &[u32; 16]) -> [u32; 8]
-    ensures { result ≡ folded v.now }
-{
-    [
-        v[0] ^ v[8],
-        v[1] ^ v[9],
-        v[2] ^ v[10],
-        v[3] ^ v[11],
-        v[4] ^ v[12],
-        v[5] ^ v[13],
-        v[6] ^ v[14],
-        v[7] ^ v[15],
-    ]
-}
-
-// The compression of a message block, from the chaining value `h` (2.2). The rounds are written out:
-// a loop over them costs a fifth of the speed.
-fn compress(h: &[u32; 8], m: &[u32; 16], counter: u64, block_length: u32, flags: u32) -> [u32; 8]
-    ensures { result ≡ compress h.now m.now counter block_length flags }
-{
-    let mut v = first_state(h, counter, block_length, flags);
-    round(&mut v, m);
-    let m1 = permuted(m);
-    round(&mut v, &m1);
-    let m2 = permuted(&m1);
-    round(&mut v, &m2);
-    let m3 = permuted(&m2);
-    round(&mut v, &m3);
-    let m4 = permuted(&m3);
-    round(&mut v, &m4);
-    let m5 = permuted(&m4);
-    round(&mut v, &m5);
-    let m6 = permuted(&m5);
-    round(&mut v, &m6);
-    folded(&v)
-}
 
 // The little-endian word at place `at` of some bytes.
 #[inline(always)]

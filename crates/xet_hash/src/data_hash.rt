@@ -1,20 +1,27 @@
 //! The 256-bit Merkle hash of a chunk, a xorb or a file, and its forms as words, bytes and hex text,
 //! after the module `merklehash::data_hash` of the crate `xet-core-structures` 1.5.2.
 
-ghost use Rattle.std.specs.Prelude.{◌≡◌, ◌+◌, ◌*◌, ◌↔◌, ◌<◌, ◌≤◌, ℕ, List, Some, codes, length, drop, IsOk, IfOk};
+ghost use Rattle.std.specs.Prelude.{◌≡◌, ◌≢◌, ◌+◌, ◌%◌, slice_index, ◌*◌, ◌↔◌, ◌<◌, ◌≤◌, ℕ, List, Some, codes, length, drop, IsOk, IfOk};
 ghost use Rattle.std.specs.Int.{w64, from_le_bytes, from_be_bytes};
 ghost use Rattle.std.specs.Str.{IsAscii, str_to_ascii_lowercase};
 ghost use Rattle.hex.specs.Hex.{encode_lower};
 ghost use Rattle.xet_hash.specs.Blake3.{keyed_hash};
-ghost use Rattle.xet_hash.specs.Hash.{default_hash, bytes_of, hash_of, hex_text, data_key, internal_key, IsHash, IsHexText};
+ghost use Rattle.xet_hash.specs.HashForms.{random_hash};
+ghost use Rattle.xet_hash.specs.Hash.{default_hash, bytes_of, hash_of, hex_text, data_key, internal_key, marker_hash, IsHash, IsHexText};
 
 use crate::blake3;
 use hex::FromHex;
+use rand_core::{Rng, SeedableRng};
+use rand_xoshiro::Xoshiro256PlusPlus;
 use std::marker::Model;
+use std::ops::Rem;
 use std::{error, fmt, str};
 
+mod compared;
+mod forms;
 mod hashed_write;
 
+pub use forms::{DataHashBytesParseError, HashTextError};
 pub use hashed_write::HashedWrite;
 
 /// The key of [`compute_data_hash`], for a [`Hasher`](crate::blake3::Hasher) that takes the bytes in
@@ -129,6 +136,26 @@ impl DataHash {
         DataHash::from(blake3::keyed_hash(&key.as_bytes(), &self.as_bytes()))
     }
 
+    /// The hash with all bits one.
+    pub fn marker() -> DataHash
+        ensures { result ≡ marker_hash }
+    {
+        DataHash {
+            words: [u64::MAX; 4],
+        }
+    }
+
+    /// A hash drawn from `seed`: its bytes are the first 32 that Xoshiro256++, seeded by
+    /// `seed_from_u64`, gives. It is for tests and simulations.
+    #[tactic(auto, unfolding(crate::specs::HashForms::random_hash))]
+    pub fn random_from_seed(seed: u64) -> DataHash
+        ensures { result ≡ random_hash seed }
+    {
+        let mut bytes = [0; 32];
+        Xoshiro256PlusPlus::seed_from_u64(seed).fill_bytes(&mut bytes);
+        DataHash::from(bytes)
+    }
+
     // The 32 bytes in the order of the hex text: each word high byte first.
     fn text_bytes(&self) -> [u8; 32]
         ensures { encode_lower result ≡ hex_text self.now }
@@ -166,7 +193,7 @@ impl From<[u64; 4]> for DataHash {
 }
 
 impl From<&[u8; 32]> for DataHash {
-    ghost from_gives = { λ bytes hash. hash ≡ hash_of bytes.now };
+    ghost from_gives = { λ bytes hash. (hash ≡ hash_of bytes.now) × (bytes_of hash ≡ bytes.now) };
 
     #[tactic(auto, unfolding(crate::specs::Hash::hash_of))]
     fn from(bytes: &[u8; 32]) -> DataHash {
@@ -182,7 +209,7 @@ impl From<&[u8; 32]> for DataHash {
 }
 
 impl From<[u8; 32]> for DataHash {
-    ghost from_gives = { λ bytes hash. hash ≡ hash_of bytes };
+    ghost from_gives = { λ bytes hash. (hash ≡ hash_of bytes) × (bytes_of hash ≡ bytes) };
 
     fn from(bytes: [u8; 32]) -> DataHash {
         DataHash::from(&bytes)
@@ -194,6 +221,19 @@ impl From<DataHash> for [u8; 32] {
 
     fn from(hash: DataHash) -> [u8; 32] {
         hash.as_bytes()
+    }
+}
+
+impl Rem<u64> for DataHash {
+    type Output = u64;
+
+    ghost can_rem = { λ hash divisor. divisor ≢ 0 };
+
+    ghost rem_gives = { λ hash divisor rest. rest ≡ slice_index hash 3 % divisor };
+
+    /// Word 3 modulo `divisor`, which is not 0.
+    fn rem(self, divisor: u64) -> u64 {
+        self.words[3] % divisor
     }
 }
 

@@ -1,9 +1,16 @@
 //! Laws of the definitions that the contracts of this crate speak of. Each function has an empty body,
 //! and its clause is the law.
 
-ghost use Rattle.std.specs.Prelude.{◌≡◌, ℕ, List, length};
+ghost use Rattle.std.specs.Prelude.{◌≡◌, ◌↔◌, ℕ, List, Some, IsTrue, length};
+ghost use Rattle.std.specs.Cmp.{IsTotalOrder};
+ghost use Rattle.std.specs.Cmp.Lexicographic.{slice_cmp};
+ghost use Rattle.std.specs.Ordering.{nat_cmp, is_eq};
 ghost use Rattle.std.specs.Str.{str_to_ascii_lowercase};
 ghost use Rattle.xet_hash.specs.Hash.{bytes_of, hash_of, hex_text, IsHash, IsHashBytes, IsHexText};
+ghost use Rattle.xet_hash.specs.HashForms.{base64_text, hash_cmp};
+
+use crate::data_hash::DataHash;
+use std::hash::Hash;
 
 /// A hash is read back from its bytes, of which there are 32.
 pub fn hash_reads_back_from_bytes()
@@ -27,4 +34,35 @@ pub fn hex_text_is_lowercase_digits()
 /// Two hashes with the same hex text are equal.
 pub fn hex_text_tells_hashes_apart()
     ensures { (a b : List ℕ) → IsHash a → IsHash b → hex_text a ≡ hex_text b → a ≡ b }
+{}
+
+/// A hash is read back from its hex text.
+pub fn hash_reads_back_from_hex_text()
+    ensures { (words answer : List ℕ) → IsHash words → IsHash answer
+        → hex_text answer ≡ str_to_ascii_lowercase (hex_text words) → answer ≡ words }
+{}
+
+/// A hash is read back from its base64 text, which has 43 characters.
+pub fn hash_reads_back_from_base64_text()
+    ensures characters { (words : List ℕ) → IsHash words → length (base64_text words) ≡ 43 }
+    ensures back { (words answer : List ℕ) → IsHash words → IsHash answer
+        → base64_text answer ≡ base64_text words → answer ≡ words }
+{}
+
+/// The order of hashes is the byte order of their hex texts.
+pub fn hash_order_is_that_of_hex_texts()
+    ensures { (a b : List ℕ) → IsHash a → IsHash b
+        → hash_cmp a b ≡ slice_cmp nat_cmp (hex_text a) (hex_text b) }
+{}
+
+/// The comparisons of hashes agree with one another and with `Hash`.
+pub fn hash_comparisons_agree()
+    ensures order { IsTotalOrder ⟦<DataHash as Ord>⟧.cmp }
+    ensures partial { (a b : List ℕ)
+        → ⟦<DataHash as PartialOrd>⟧.partial_cmp a b ≡ Some (⟦<DataHash as Ord>⟧.cmp a b) }
+    ensures ties { (a b : List ℕ)
+        → ⟦<DataHash as PartialEq>⟧.eq a b ≡ is_eq (⟦<DataHash as Ord>⟧.cmp a b) }
+    ensures equal { (a b : List ℕ) → IsTrue (⟦<DataHash as PartialEq>⟧.eq a b) ↔ (a ≡ b) }
+    ensures alike { (a b : List ℕ) → IsTrue (⟦<DataHash as PartialEq>⟧.eq a b)
+        → ⟦<DataHash as Hash>⟧.hash_input a ≡ ⟦<DataHash as Hash>⟧.hash_input b }
 {}

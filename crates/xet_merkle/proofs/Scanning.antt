@@ -1,6 +1,6 @@
 -- Making the parents of a list group by group, and a root level by level. Rests on GroupLaws and
 -- RootLaws.
-use Rattle.std.proofs.Common.{◌≡◌, ℕ, ◌+◌, ◌<◌, ◌≤◌, List, [], ◌∷◌, ◌++◌, length, get_or, replicate, map, take, drop, refl, sym, ap, subst, ◌∙◌, arith, append_assoc, append-nil}
+use Rattle.std.proofs.Common.{◌≡◌, ℕ, ◌+◌, ◌<◌, ◌≤◌, List, [], ◌∷◌, ◌++◌, length, get_or, map, take, drop, refl, sym, ap, subst, ◌∙◌, arith, append_assoc, append-nil}
 use Rattle.std.proofs.lemmas.List.{take-append-drop, length-map}
 use Rattle.std.proofs.lemmas.List.Sums.{sum_by-append, sum_by-cons, sum_by-take-drop}
 use Rattle.xet_hash.specs.Blake3.{keyed_hash}
@@ -76,8 +76,3 @@ pub IsFileHash-some : (nodes : List Node) (salt root hash : List ℕ) → 0 < le
     hash ≡ hash_of (keyed_hash salt (bytes_of root)) → IsFileHash nodes salt hash
 IsFileHash-some [] salt root hash some is_root e = absurd (omega arith)
 IsFileHash-some (node ∷ nodes) salt root hash some is_root e = (root, is_root, e)
-
--- the bytes of the default hash
-pub bytes_of-default : bytes_of default_hash ≡ replicate 32 0
-unfolding bytes_of
-bytes_of-default = refl

@@ -179,12 +179,16 @@ pub fn xorb_hash<A: Allocator>(alloc: A, chunks: &[Node]) -> Result<MerkleHash, 
     }
 }
 
-/// The file hash of a list of chunks, without a salt: the default hash for no chunk, else the root's
-/// [`hmac`](xet_hash::data_hash::DataHash::hmac) under the key of 32 zero bytes.
+/// The file hash of a list of chunks under a salt: the default hash for no chunk, whatever the salt, else
+/// the root's [`hmac`](xet_hash::data_hash::DataHash::hmac) under the salt's 32 bytes.
 ///
 /// It fails where [`xorb_hash`] does, in the same order.
-pub fn file_hash<A: Allocator>(alloc: A, chunks: &[Node]) -> Result<MerkleHash, CoreError>
-    ensures file { IfOk result (IsFileHash chunks.now (replicate 32 0)) }
+pub fn file_hash_with_salt<A: Allocator>(
+    alloc: A,
+    chunks: &[Node],
+    salt: &[u8; 32],
+) -> Result<MerkleHash, CoreError>
+    ensures file { IfOk result (IsFileHash chunks.now salt.now) }
     ensures overflow { IsErrOf result CoreError.SizeOverflow ↔ (2 ^ 64 ≤ total_size chunks.now) }
     ensures short { length chunks.now ≤ 1 → IsOk result }
 {
@@ -192,33 +196,53 @@ pub fn file_hash<A: Allocator>(alloc: A, chunks: &[Node]) -> Result<MerkleHash, 
     if chunks.is_empty() {
         return Ok(root);
     }
-    Ok(root.hmac(HMACKey::default()))
+    Ok(root.hmac(HMACKey::from(salt)))
+}
+
+/// The file hash of a list of chunks without a salt, which is that under 32 zero bytes.
+///
+/// It fails where [`xorb_hash`] does, in the same order.
+pub fn file_hash<A: Allocator>(alloc: A, chunks: &[Node]) -> Result<MerkleHash, CoreError>
+    ensures file { IfOk result (IsFileHash chunks.now (replicate 32 0)) }
+    ensures overflow { IsErrOf result CoreError.SizeOverflow ↔ (2 ^ 64 ≤ total_size chunks.now) }
+    ensures short { length chunks.now ≤ 1 → IsOk result }
+{
+    file_hash_with_salt(alloc, chunks, &[0; 32])
 }
 
 #[cfg(test)]
 mod tests {
     use super::*;
 
-    // Nodes of which those marked with true are natural cuts.
-    fn nodes<const N: usize>(cuts: [bool; N]) -> [Node; N] {
-        cuts.map(|is_cut| (MerkleHash::from([0, 0, 0, u64::from(!is_cut)]), 1))
+    // Twelve nodes of which each that has a 1 here is a natural cut.
+    fn nodes(cuts: [u64; 12]) -> [Node; 12] {
+        cuts.map(|cut| (MerkleHash::from([0, 0, 0, 1 - cut.min(1)]), 1))
     }
 
     #[test]
     fn first_groups_end_at_a_cut_from_index_two_on(rt: HostRuntime) {
-        let far = nodes([true, true, false, true, false]);
-        let near = nodes([true, false, true, false]);
-        let none = nodes([false; 12]);
-        for (list, len) in [
-            (near.as_slice(), 3),
-            (&near[3..], 1),
-            (far.as_slice(), 4),
-            (&far[4..], 1),
-            (none.as_slice(), 9),
-            (&none[9..], 3),
+        for (cuts, count, len) in [
+            ([1, 0, 1, 0, 0, 0, 0, 0, 0, 0, 0, 0], 4, 3),
+            ([1, 1, 0, 1, 0, 0, 0, 0, 0, 0, 0, 0], 12, 4),
+            ([1, 1, 0, 0, 0, 0, 0, 0, 1, 0, 0, 0], 12, 9),
+            ([1, 1, 0, 0, 0, 0, 0, 0, 0, 1, 0, 0], 12, 9),
+            ([0; 12], 12, 9),
+            ([1; 12], 12, 3),
+            ([0; 12], 8, 8),
+            ([1; 12], 2, 2),
+            ([1; 12], 1, 1),
         ] {
-            assert!(rt; !list.is_empty());
-            assert_eq!(rt; first_group_len(list), len);
+            let nodes = nodes(cuts);
+            assert!(rt; 0 < count && count <= nodes.len());
+            assert_eq!(rt; first_group_len(&nodes[..count]), len);
+        }
+    }
+
+    #[test]
+    fn lines_have_69_to_88_bytes(rt: HostRuntime) {
+        for (size, len) in [(0, 69), (100, 71), (u64::MAX, 88)] {
+            let text = group_text(&[(MerkleHash::default(), size)]);
+            assert_eq!(rt; text.len(), len, "{size}");
         }
     }
 }

@@ -5,7 +5,7 @@ use Rattle.std.proofs.lemmas.List.{take-append-drop, drop_more, get_or-take}
 use Rattle.std.proofs.lemmas.Bool.{cases_eq}
 use Rattle.std.proofs.lemmas.Bool.Decides.{nat_tests}
 use Rattle.std.proofs.lemmas.Fmt.{length-decimal-le}
-use Rattle.xetroot.specs.Lines.{newline, NoNewline, onto_first, lines_of, content, IsSeparator, IsPairLine, IsChunkLine, SaysPair, SaysNothing}
+use Rattle.xetroot.specs.Lines.{newline, NoNewline, onto_first, lines_of, content, IsChunkLine, SaysNothing}
 use Rattle.xet_merkle.specs.Groups.{Node}
 use Rattle.xetroot.specs.Open.{NoPlus}
 

@@ -1,4 +1,6 @@
 use super::*;
+use std::cmp::Ordering;
+use std::hash::{DefaultHasher, Hash, Hasher};
 use std::test::Fail;
 
 // A hash as its 32 bytes, as its words and as its text.
@@ -119,6 +121,65 @@ fn hashes_under_its_keys(rt: HostRuntime) -> Result<(), Fail> {
         ),
     ] {
         assert_eq!(rt; hash, DataHash::from_hex(text)?);
+    }
+    Ok(())
+}
+
+#[test]
+fn compares_words(rt: HostRuntime) {
+    let low = DataHash::from([1, 0, 0, 0]);
+    let high = DataHash::from([256, 0, 0, 0]);
+    assert!(rt; low < high);
+    assert_eq!(rt; low.cmp(&high), Ordering::Less);
+    assert_eq!(rt; high.cmp(&high), Ordering::Equal);
+    assert!(rt; DataHash::from([0, 0, 0, 1]) < low);
+    assert_eq!(rt; DataHash::marker() % 4, 3);
+    assert_eq!(rt; DataHash::default() % 4, 0);
+    assert_eq!(rt; DataHash::from([1, 2, 3, 14]) % 10, 4);
+}
+
+#[test]
+fn feeds_word_zero_to_a_hash_function(rt: HostRuntime) {
+    let mut of_hash = DefaultHasher::new();
+    DataHash::from([5, 6, 7, 8]).hash(&mut of_hash);
+    let mut of_word = DefaultHasher::new();
+    of_word.write_u64(5);
+    assert_eq!(rt; of_hash.finish(), of_word.finish());
+}
+
+#[test]
+fn draws_from_a_seed(rt: HostRuntime) -> Result<(), Fail> {
+    for (seed, text) in [
+        (
+            1,
+            "cfc5d07f6f03c29bbf424132963fe08d19a37d5757aaf520bf08119f05cd56d6",
+        ),
+        (
+            2,
+            "c3e67584b5c4fc2a89837ec39e40f2c8a6bb0b2987ac94cd4b31e5fbdd210a72",
+        ),
+        (
+            3,
+            "0d2beb91b9196929a5ddec9f6e306924ddf4a24268e3e59fd8464738d525af37",
+        ),
+        (
+            4,
+            "adf8773496a9b7319b2e50dc98093f344053b17d8ad37100b9c07d9805988784",
+        ),
+        (
+            5,
+            "4ac202caf347fc1e9c874b1ef6a1c5e619141eb775a6f43f0f0124ccd0060d9e",
+        ),
+        (
+            6,
+            "b3b28636f65c149ea52eb1f94669466f70f033b54cea792824c696ba6ef3c389",
+        ),
+        (
+            7,
+            "0e2c1a002aae913d2c0fc8ddfa4e9e14b7b311b3b0d458726d5d9f6a6318013c",
+        ),
+    ] {
+        assert_eq!(rt; DataHash::random_from_seed(seed), DataHash::from_hex(text)?);
     }
     Ok(())
 }

@@ -1,6 +1,5 @@
-use Rattle.std.proofs.Common.{◌≡◌, ℕ, List, sym, ap, subst, ◌∙◌, inl, inr}
+use Rattle.std.proofs.Common.{ℕ, List, sym, subst, ◌∙◌, inl, inr}
 use Rattle.xetroot.specs.Lines.{IsSeparator, IsPairLine}
-use Rattle.xetroot.specs.Open.{IsOpenLine}
 use Rattle.xetroot.proofs.LineLemmas.{NoPlus-no_chunk, IfNone-both}
 use Rattle.xetroot.proofs.open_line.OpenLine.says.Goals as goal
 

@@ -1,6 +1,6 @@
-use Rattle.std.proofs.Common.{◌≡◌, ℕ, List, sym, subst, ◌∙◌, refl}
+use Rattle.std.proofs.Common.{refl}
 use Rattle.std.proofs.lemmas.Result.{on_ok_weaker}
-use Rattle.xetroot.specs.Lines.{content, IsPairLine}
+use Rattle.xetroot.specs.Lines.{content}
 use Rattle.xetroot.proofs.ReadingLemmas.{AddsLine-separator, AddsLine-pair}
 use Rattle.xetroot.proofs.reading.Reading.add_line.Goals as goal
 

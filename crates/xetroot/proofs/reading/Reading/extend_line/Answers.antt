@@ -1,5 +1,4 @@
-use Rattle.std.proofs.Common.{◌≡◌, ◌<◌, ◌+◌, ◌++◌, ℕ, List, length, sym, ◌∙◌, refl, inl, inr, arith, length-append}
-use Rattle.std.proofs.lemmas.Bool.{cases_lt, false≢true}
+use Rattle.std.proofs.Common.{◌≡◌, ◌+◌, ◌++◌, ℕ, List, length, sym, ◌∙◌, refl, inl, inr, arith, length-append}
 use Rattle.xetroot.specs.declared.fault.Fault.TheVariants.{BadLine}
 use Rattle.xetroot.specs.Taken.{IsLineFault}
 use Rattle.xetroot.proofs.LineLemmas.{FirstLine-open, SaysNothing-long}
