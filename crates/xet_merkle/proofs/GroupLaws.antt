@@ -81,7 +81,7 @@ Groups-push group rest (next ∷ others) first tail = record {
   );
 }
 
-is_or_not_cut : (node : Node) → Cut node ⊎ NotCut node
+pub is_or_not_cut : (node : Node) → Cut node ⊎ NotCut node
 is_or_not_cut node = elim (is_cut node) as (λ b. (b ≡ true) ⊎ (b ≡ false)) [ true ↦ inl refl | false ↦ inr refl ]
 
 -- some nodes that a group may begin with and go on

@@ -3,3 +3,17 @@ pub mod GroupLaws
 pub mod RootLaws
 pub mod FirstGroup
 pub mod Scanning
+pub mod CutPlaces
+pub mod StableGroups
+pub mod PlaceSearch
+pub mod StableSearch
+pub mod Splits
+pub mod CanonicalLaws
+pub mod Triples
+pub mod StableScan
+pub mod StableLoops
+pub mod FlatLevelLaws
+pub mod Collapsing
+pub mod InsideLevels
+pub mod FinalHash
+pub mod FlatLevelEquality

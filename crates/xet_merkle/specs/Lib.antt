@@ -1,3 +1,10 @@
 pub mod Groups
 pub mod Roots
 pub mod Scan
+pub mod StablePoints
+pub mod StableScan
+pub mod Canonical
+pub mod Subtree
+pub mod SubtreeEquality
+pub mod FlatLevels
+pub mod OpenLevels

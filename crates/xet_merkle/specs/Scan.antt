@@ -1,6 +1,7 @@
--- What the reading of a list of nodes from its first one finds: the first group. Private contracts and
--- proofs speak of it; what a reader has to believe stands in Groups and Roots.
-use Rattle.std.specs.Prelude.{◌≡◌, ◌⊎◌, List, [], map}
+-- What the reading of a list of nodes from its first one finds: the first group, and gaps between natural
+-- cuts. Private contracts and proofs speak of it; what a reader has to believe stands in Groups, Roots and
+-- StablePoints.
+use Rattle.std.specs.Prelude.{◌≡◌, ◌⊎◌, ℕ, Bool, ◌&&◌, nat_le, List, [], map}
 use Rattle.xet_merkle.specs.Groups.{Node, IsGroup, IsFull, Groups}
 
 -- the first group of a list, and what follows it
@@ -11,3 +12,7 @@ pub record IsFirstGroup (group rest : List Node) : Type 0 where
 -- some nodes are the parents of the groups of a list
 abbrev pub AreParents : (List Node → Node) → List Node → List Node → Type 0
 AreParents make nodes parents = (groups : List (List Node)) × Groups nodes groups × (parents ≡ map make groups)
+
+-- whether so many nodes between two natural cuts make the second one 3 to 7 nodes after the first
+abbrev pub is_stable_gap : ℕ → Bool
+is_stable_gap between = nat_le 2 between && nat_le between 6

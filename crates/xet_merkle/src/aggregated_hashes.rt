@@ -35,7 +35,7 @@ pub type Node = (MerkleHash, u64);
 
 // Whether a node is a natural cut.
 #[tactic(auto, unfolding(crate::specs::Groups::is_cut))]
-fn is_natural_cut(node: &Node) -> bool
+pub(crate) fn is_natural_cut(node: &Node) -> bool
     ensures { result ≡ is_cut node.now }
 {
     node.0.words()[3] % AGGREGATED_HASHES_MEAN_TREE_BRANCHING_FACTOR == 0
@@ -90,7 +90,7 @@ fn group_text(group: &[Node]) -> ArrayVec<u8, MAX_TEXT_LEN>
 }
 
 // The sum of the sizes of some nodes, where it is a `u64`, as that of one node is.
-fn total_size(nodes: &[Node]) -> Option<u64>
+pub(crate) fn total_size(nodes: &[Node]) -> Option<u64>
     ensures short { length nodes.now ≤ 1 → IsSome result }
     ensures total { SomeIff result (total_size nodes.now < 2 ^ 64) (total_size nodes.now) }
 {
@@ -113,7 +113,7 @@ fn parent(group: &[Node]) -> Node
 }
 
 // The parents of the groups of some nodes, in a new list.
-fn parents<A: Allocator>(alloc: A, nodes: &[Node]) -> Result<Vec<Node, A>, CoreError>
+pub(crate) fn parents<A: Allocator>(alloc: A, nodes: &[Node]) -> Result<Vec<Node, A>, CoreError>
     requires { total_size nodes.now < 2 ^ 64 }
     ensures parents { IfOk result (λ made. AreParents parent nodes.now made.items) }
     ensures err { IfErr result (λ e. e ≡ CoreError.OutOfMemory) }

@@ -1,9 +1,11 @@
 //! Laws of the definitions that the contracts of this crate speak of. Each function does nothing: its
 //! contract is the law.
 
-ghost use Rattle.std.specs.Prelude.{◌≡◌, ℕ, ◌<◌, ◌≤◌, List, ◌∷◌, ◌++◌, length};
-ghost use Rattle.xet_merkle.specs.Groups.{Node, Groups};
-ghost use Rattle.xet_merkle.specs.Roots.{IsRoot};
+ghost use Rattle.std.specs.Prelude.{◌≡◌, ℕ, ◌+◌, ◌<◌, ◌≤◌, ◌↔◌, Bool, true, List, ◌∷◌, ◌++◌, length, take, drop};
+ghost use Rattle.xet_merkle.specs.Groups.{Node, Cut, Groups};
+ghost use Rattle.xet_merkle.specs.Roots.{IsRoot, parent};
+ghost use Rattle.xet_merkle.specs.StablePoints.{EndsStable, IsStable, IsTriple, IsGroupBoundary};
+ghost use Rattle.xet_merkle.specs.Canonical.{Level, IsSplit, IsCanonicalBy, top_nodes, top_hash};
 
 /// Each list of nodes has exactly one cutting into groups.
 pub fn one_cutting()
@@ -24,4 +26,52 @@ pub fn one_root()
     ensures exists { (nodes : List Node) → (hash : List ℕ) × IsRoot nodes hash }
     ensures unique { (nodes : List Node) (hash other : List ℕ) →
         IsRoot nodes hash → IsRoot nodes other → hash ≡ other }
+{}
+
+/// A place is a stable point where, and only where, it stands after the second of three natural cuts
+/// with no natural cut between them, each 3 to 7 nodes after the one before it.
+pub fn stable_points_are_triples()
+    ensures { (nodes : List Node) (place : ℕ) → IsStable (take place nodes) (drop place nodes)
+        ↔ ((a b c : ℕ) × IsTriple nodes a b c × (place ≡ b + 1)) }
+{}
+
+/// A group ends after the second of two natural cuts with no natural cut between them, 3 to 7 nodes
+/// after the first one, whatever nodes stand before and after; also where the first of the two is a
+/// natural cut in front of the list.
+pub fn stable_boundaries()
+    ensures inside { (before left after : List Node) →
+        EndsStable left → IsGroupBoundary (before ++ left) after }
+    ensures behind_cut { (cut : Node) (left after : List Node) →
+        Cut cut → EndsStable (cut ∷ left) → IsGroupBoundary left after }
+{}
+
+/// A list has at most one split under given marks.
+pub fn one_split()
+    ensures { (at_start at_end : Bool) (nodes left middle right left2 middle2 right2 : List Node) →
+        IsSplit at_start at_end nodes left middle right → IsSplit at_start at_end nodes left2 middle2 right2 →
+        (left ≡ left2) × (middle ≡ middle2) × (right ≡ right2) }
+{}
+
+/// The lower end of a split stands before the upper one.
+pub fn lower_end_below_upper_end()
+    ensures { (at_start at_end : Bool) (nodes left middle right : List Node) →
+        IsSplit at_start at_end nodes left middle right → 0 < length middle }
+{}
+
+/// Each list has exactly one canonical subtree under given marks, which needs one number of parents.
+pub fn one_canonical_subtree()
+    ensures exists { (make : List Node → Node) (at_start at_end : Bool) (nodes : List Node) →
+        (levels : List Level) × (parents : ℕ) × IsCanonicalBy make at_start at_end nodes levels parents }
+    ensures unique { (make : List Node → Node) (at_start at_end : Bool) (nodes : List Node) →
+        (levels others : List Level) (parents others_parents : ℕ) →
+        IsCanonicalBy make at_start at_end nodes levels parents → IsCanonicalBy make at_start at_end nodes others others_parents →
+        (levels ≡ others) × (parents ≡ others_parents) }
+{}
+
+/// The canonical subtree of a list with both ends marked has at most one node at the top, whose hash is
+/// the root of the list.
+pub fn closed_subtree_has_root()
+    ensures { (nodes : List Node) (levels : List Level) (parents : ℕ) →
+        IsCanonicalBy parent true true nodes levels parents →
+        (length (top_nodes levels) ≤ 1) × IsRoot nodes (top_hash levels) }
 {}

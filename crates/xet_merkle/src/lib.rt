@@ -5,5 +5,6 @@
 pub mod aggregated_hashes;
 pub mod error;
 pub mod laws;
+pub mod merkle_hash_subtree;
 
 pub use error::CoreError;

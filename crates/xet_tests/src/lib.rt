@@ -1,5 +1,10 @@
-//! Tests of the crates below it, by values from outside: the hashes of the crate `xet-core-structures`.
+//! Tests of the crates below it, by values from outside: the hashes of the crate `xet-core-structures`, and
+//! worked examples.
 #![tactic(auto)]
 
 #[cfg(test)]
 mod aggregated_hashes;
+#[cfg(test)]
+mod blake3;
+#[cfg(test)]
+mod merkle_hash_subtree;

@@ -1,0 +1,5 @@
+use Rattle.xet_merkle.proofs.Splits.{same_split}
+use Rattle.xet_merkle.proofs.laws.one_split.Goals as goal
+
+pub returns : goal.returns
+returns c = same_split

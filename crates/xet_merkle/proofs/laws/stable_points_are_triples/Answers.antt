@@ -1,0 +1,5 @@
+use Rattle.xet_merkle.proofs.Triples.{stable_at_triples}
+use Rattle.xet_merkle.proofs.laws.stable_points_are_triples.Goals as goal
+
+pub returns : goal.returns
+returns c = stable_at_triples

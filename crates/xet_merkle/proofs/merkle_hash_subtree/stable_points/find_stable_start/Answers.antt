@@ -1,0 +1,27 @@
+use Rattle.std.proofs.Common.{sym, ap, ◌∙◌, arith}
+use Rattle.xet_merkle.specs.Groups.{is_cut}
+use Rattle.xet_merkle.specs.StableScan.{completes}
+use Rattle.xet_merkle.proofs.StableLoops.{since_more, NoneSoFar-none, NoneSoFar-more, NoneSoFar-found, NoneSoFar-all}
+use Rattle.xet_merkle.proofs.merkle_hash_subtree.stable_points.find_stable_start.Goals as goal
+
+pub scan-init : goal.scan-init
+scan-init c = rw c.new-scan.ensures (record { since = omega arith; so_far = NoneSoFar-none c.args.nodes.now })
+
+pub returns-then-completes-clause-first : goal.returns-then-completes-clause-first
+returns-then-completes-clause-first c =
+    let is = c.is_natural_cut-is_cut.ensures ∙ ap is_cut c.index-nodes-i.is in
+    let new = ap (completes c.scan.scan) (sym is) ∙ sym c.completes.ensures ∙ c.if-completes.true in
+    NoneSoFar-found c.args.nodes.now c.scan.i c.scan.scan c.index-nodes-i.result (omega arith) c.scan.invariant.since new c.scan.invariant.so_far
+
+pub scan-preserved : goal.scan-preserved
+scan-preserved c =
+    let is = c.is_natural_cut-is_cut.ensures ∙ ap is_cut c.index-nodes-i.is in
+    let no_new = ap (completes c.scan.scan) (sym is) ∙ sym c.completes.ensures ∙ c.if-completes.false in
+    let since = c.scan.invariant.since in
+    rw c.pass.ensures (record {
+      since = omega (arith, since_more c.scan.scan c.is_natural_cut-is_cut.result);
+      so_far = rw is (NoneSoFar-more c.args.nodes.now c.scan.i c.scan.scan c.index-nodes-i.result (omega arith) no_new c.scan.invariant.so_far);
+    })
+
+pub returns-clause-none : goal.returns-clause-none
+returns-clause-none c = NoneSoFar-all c.args.nodes.now c.scan.i c.scan.scan (omega arith) c.scan.invariant.so_far

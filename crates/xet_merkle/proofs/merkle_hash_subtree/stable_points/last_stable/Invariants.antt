@@ -1,0 +1,12 @@
+use Rattle.std.proofs.Common.{◌≤◌, List, IfSome}
+use Rattle.xet_merkle.specs.Groups.{Node}
+use Rattle.xet_merkle.specs.StableScan.{IsFront}
+use Rattle.xet_merkle.proofs.StableLoops.{LastSoFar}
+use Rattle.xet_merkle.proofs.merkle_hash_subtree.stable_points.last_stable.Given as goal
+
+abbrev pub invariant-scan : goal.invariant-scan
+invariant-scan l = record {
+  since : l.scan.since_cut ≤ l.i;
+  bound : IfSome l.found (λ p. p ≤ l.i);
+  so_far : (front : List Node) → IsFront l.behind_cut front → LastSoFar l.nodes l.i l.scan l.found front;
+}

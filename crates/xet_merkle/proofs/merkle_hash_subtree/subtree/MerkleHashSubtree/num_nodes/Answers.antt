@@ -1,0 +1,9 @@
+use Rattle.std.proofs.Common.{◌≡◌, length, ap, ◌∙◌, rules}
+use Rattle.xet_merkle.specs.Subtree.{Subtree, node_count}
+use Rattle.xet_merkle.proofs.InsideLevels.{stored_nodes}
+use Rattle.xet_merkle.proofs.merkle_hash_subtree.subtree.MerkleHashSubtree.num_nodes.Goals as goal
+
+pub returns : goal.returns
+returns g c =
+    let len : c.len.result ≡ length c.self.inside.nodes.items = search rules in
+    len ∙ stored_nodes _ _ _ c.self.invariant ∙ ap (λ (s : Subtree). node_count s.levels) c.self.view_is

@@ -1,0 +1,7 @@
+use Rattle.std.proofs.Common.{ap, ◌∙◌}
+use Rattle.xet_merkle.specs.Subtree.{Subtree, levels_size}
+use Rattle.xet_merkle.proofs.InsideLevels.{stored_size}
+use Rattle.xet_merkle.proofs.merkle_hash_subtree.subtree.MerkleHashSubtree.total_size.Goals as goal
+
+pub returns : goal.returns
+returns g c = stored_size _ _ _ c.self.invariant ∙ ap (λ (s : Subtree). levels_size s.levels) c.self.view_is

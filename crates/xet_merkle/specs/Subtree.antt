@@ -1,0 +1,48 @@
+-- A subtree as contracts see it (module `merklehash::merkle_hash_subtree` of the crate
+-- `xet-core-structures`): its marks, and what it keeps of each level, from the chunks up.
+use Rattle.std.specs.Prelude.{ℕ, ◌+◌, zero, suc, Bool, ◌&&◌, nat_eq, List, [], ◌∷◌, length}
+use mathlib.Core.Bool.{beq}
+use Rattle.std.specs.Cmp.Lexicographic.{pointwise}
+use Rattle.xet_merkle.specs.Groups.{Node}
+use Rattle.xet_merkle.specs.Roots.{total_size, parent}
+use Rattle.xet_merkle.specs.Canonical.{Level, IsCanonicalBy}
+
+pub record Subtree : Type 0 where
+  pub at_start : Bool
+  pub at_end : Bool
+  pub levels : List Level
+
+-- a subtree is the canonical subtree of a list under the subtree's marks
+abbrev pub IsCanonical : Subtree → List Node → Type 0
+IsCanonical subtree nodes = (parents : ℕ) × IsCanonicalBy parent subtree.at_start subtree.at_end nodes subtree.levels parents
+
+-- the left and the right nodes of a level, and none where there is no such level
+abbrev pub left_at : List Level → ℕ → List Node
+left_at [] i = []
+left_at (level ∷ levels) zero = level.left
+left_at (level ∷ levels) (suc i) = left_at levels i
+
+abbrev pub right_at : List Level → ℕ → List Node
+right_at [] i = []
+right_at (level ∷ levels) zero = level.right
+right_at (level ∷ levels) (suc i) = right_at levels i
+
+-- how many nodes some levels have
+abbrev pub node_count : List Level → ℕ
+node_count [] = 0
+node_count (level ∷ levels) = length level.left + length level.right + node_count levels
+
+-- the sum of the sizes of all nodes of some levels
+abbrev pub levels_size : List Level → ℕ
+levels_size [] = 0
+levels_size (level ∷ levels) = total_size level.left + total_size level.right + levels_size levels
+
+-- whether two nodes, two levels and two subtrees are equal
+abbrev pub same_node : Node → Node → Bool
+same_node a b = pointwise nat_eq a.0 b.0 && nat_eq a.1 b.1
+
+abbrev pub same_level : Level → Level → Bool
+same_level a b = pointwise same_node a.left b.left && pointwise same_node a.right b.right
+
+abbrev pub same_subtree : Subtree → Subtree → Bool
+same_subtree a b = beq a.at_start b.at_start && (beq a.at_end b.at_end && pointwise same_level a.levels b.levels)

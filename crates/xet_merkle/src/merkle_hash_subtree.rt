@@ -1,0 +1,10 @@
+//! Canonical subtrees of lists of chunks, after the module `merkle_hash_subtree` of the crate
+//! `xet-core-structures`.
+
+mod open_levels;
+mod split;
+mod stable_points;
+mod subtree;
+
+pub use stable_points::{find_stable_end, find_stable_start};
+pub use subtree::MerkleHashSubtree;

@@ -1,0 +1,82 @@
+//! Levels under construction, from the chunks up.
+
+ghost use Rattle.std.specs.Prelude.{◌≡◌, ◌^◌, ◌<◌, List, [], ◌∷◌, ◌++◌, length, IfOk, IfErr, IfSome, MatchOption};
+ghost use Rattle.xet_merkle.specs.Groups.{Node};
+ghost use Rattle.xet_merkle.specs.Roots.{total_size};
+ghost use Rattle.xet_merkle.specs.Canonical.{Level};
+ghost use Rattle.xet_merkle.specs.FlatLevels.{IsOpen};
+ghost use Rattle.xet_merkle.specs.OpenLevels.{StandsBelow, StandsFor};
+
+use super::split::find_split;
+use crate::aggregated_hashes::{Node, parents};
+use crate::error::CoreError;
+use std::alloc::Allocator;
+
+// Levels of a subtree to which more are added at the top.
+#[derive(Drop)]
+pub(super) struct OpenLevels<A: Allocator> {
+    // How many left and right nodes each level has.
+    pub(super) counts: Vec<(usize, usize), A>,
+    // The left nodes by rising level.
+    pub(super) lefts: Vec<Node, A>,
+    // The right nodes by falling level, from the last to the first.
+    pub(super) rights: Vec<Node, A>,
+}
+
+impl<A: Allocator + Clone> OpenLevels<A> {
+    pub(super) fn new(alloc: A) -> Result<Self, CoreError>
+        ensures none { IfOk result (λ levels. IsOpen levels.counts.items levels.lefts.items levels.rights.items []) }
+        ensures err { IfErr result (λ e. e ≡ CoreError.OutOfMemory) }
+    {
+        Ok(OpenLevels {
+            counts: Vec::new(alloc.clone()?),
+            lefts: Vec::new(alloc.clone()?),
+            rights: Vec::new(alloc),
+        })
+    }
+
+    // Adds a level at the top. After a refusal the levels are spent.
+    fn push(&mut self, left: &[Node], right: &[Node]) -> Result<(), CoreError>
+        ensures pushed { IfOk result (λ _. (levels : List Level) →
+            IsOpen self.old.counts.items self.old.lefts.items self.old.rights.items levels →
+            IsOpen self.new.counts.items self.new.lefts.items self.new.rights.items
+            (levels ++ record { left = left.now; right = right.now } ∷ [])) }
+        ensures err { IfErr result (λ e. e ≡ CoreError.OutOfMemory) }
+    {
+        self.counts.push((left.len(), right.len()))?;
+        self.lefts.extend_from_slice(left)?;
+        self.rights.extend(right.iter().rev().copied())?;
+        Ok(())
+    }
+
+    // Adds the level of some nodes at the top, and answers the parents of what is collapsed. After a
+    // refusal the levels are spent.
+    pub(super) fn collapse(
+        &mut self,
+        alloc: A,
+        nodes: &[Node],
+        at_start: bool,
+        at_end: bool,
+    ) -> Result<Option<Vec<Node, A>>, CoreError>
+        requires { total_size nodes.now < 2 ^ 64 }
+        ensures stands { IfOk result (λ next. (chunks : List Node) →
+            StandsBelow at_start at_end chunks nodes.now self.old.counts.items self.old.lefts.items self.old.rights.items →
+            MatchOption next
+            (StandsFor at_start at_end chunks self.new.counts.items self.new.lefts.items self.new.rights.items)
+            (λ made. StandsBelow at_start at_end chunks made.items self.new.counts.items self.new.lefts.items self.new.rights.items)) }
+        ensures fits { IfOk result (λ next. IfSome next (λ made. total_size made.items < 2 ^ 64)) }
+        ensures fewer { IfOk result (λ next. IfSome next (λ made. length made.items < length nodes.now)) }
+        ensures err { IfErr result (λ e. e ≡ CoreError.OutOfMemory) }
+    {
+        match find_split(nodes, at_start, at_end) {
+            None => {
+                self.push(nodes, &[])?;
+                Ok(None)
+            }
+            Some(split) => {
+                self.push(split.left, split.right)?;
+                Ok(Some(parents(alloc, split.middle)?))
+            }
+        }
+    }
+}

@@ -1,0 +1,61 @@
+//! What is collapsed of a level's nodes, and what stays on either side.
+
+ghost use Rattle.std.specs.Prelude.{◌≡◌, ℕ, ◌<◌, ◌≤◌, List, ◌++◌, length, take, drop, IfSome, IfNone};
+ghost use Rattle.xet_merkle.specs.Groups.{Node};
+ghost use Rattle.xet_merkle.specs.Canonical.{IsLow, IsHigh, IsSplit};
+
+use super::stable_points::{find_stable_end, find_stable_start};
+use crate::aggregated_hashes::Node;
+
+// The nodes of a level: those that are collapsed, between those that stay on either side.
+#[derive(Clone, Copy)]
+pub(super) struct Split<'a> {
+    pub(super) left: &'a [Node],
+    pub(super) middle: &'a [Node],
+    pub(super) right: &'a [Node],
+}
+
+// Where what is collapsed begins.
+fn low_end(nodes: &[Node], at_start: bool) -> Option<usize>
+    ensures bound { IfSome result (λ p. p ≤ length nodes.now) }
+    ensures low { IfSome result (λ p. IsLow at_start (take p nodes.now) (drop p nodes.now)) }
+    ensures none { IfNone result ((left rest : List Node) → nodes.now ≡ left ++ rest → ¬ (IsLow at_start left rest)) }
+{
+    if at_start {
+        Some(0)
+    } else {
+        find_stable_start(nodes)
+    }
+}
+
+// Where it ends, in the nodes from its beginning on.
+fn high_end(nodes: &[Node], at_end: bool) -> Option<usize>
+    ensures bound { IfSome result (λ p. p ≤ length nodes.now) }
+    ensures high { IfSome result (λ p. IsHigh at_end (take p nodes.now) (drop p nodes.now)) }
+    ensures none { IfNone result ((middle right : List Node) → nodes.now ≡ middle ++ right → ¬ (IsHigh at_end middle right)) }
+{
+    if at_end {
+        Some(nodes.len())
+    } else {
+        find_stable_end(nodes)
+    }
+}
+
+// The split of a level's nodes under marks.
+pub(super) fn find_split(nodes: &[Node], at_start: bool, at_end: bool) -> Option<Split>
+    ensures split { IfSome result (λ s. IsSplit at_start at_end nodes.now s.left.now s.middle.now s.right.now) }
+    ensures none { IfNone result ((left middle right : List Node) → ¬ (IsSplit at_start at_end nodes.now left middle right)) }
+{
+    if nodes.len() < 2 {
+        return None;
+    }
+    let low = low_end(nodes, at_start)?;
+    let (left, rest) = nodes.split_at(low);
+    let high = high_end(rest, at_end)?;
+    let (middle, right) = rest.split_at(high);
+    Some(Split {
+        left,
+        middle,
+        right,
+    })
+}

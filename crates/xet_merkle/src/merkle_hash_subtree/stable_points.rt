@@ -1,0 +1,107 @@
+//! The stable points of a list of nodes: places at which groups end, whatever nodes stand before and
+//! after the list.
+
+ghost use Rattle.std.specs.Prelude.{◌≡◌, ◌<◌, ◌≤◌, List, ◌++◌, false, length, take, drop, IfSome, IfNone};
+ghost use Rattle.xet_merkle.specs.Groups.{Node};
+ghost use Rattle.xet_merkle.specs.StablePoints.{NoStable, IsFirstStable, IsLastStable};
+ghost use Rattle.xet_merkle.specs.Scan.{is_stable_gap};
+ghost use Rattle.xet_merkle.specs.StableScan.{completes, next_scan, IsFront};
+
+use crate::aggregated_hashes::{Node, is_natural_cut};
+
+// What a scan keeps of the nodes that it has passed.
+#[derive(Clone, Copy)]
+struct CutScan {
+    // Whether a natural cut was among them, or stood in front of them.
+    has_cut: bool,
+    // Whether the nodes up to the last natural cut end 3 to 7 nodes after the natural cut before it.
+    ends_stable: bool,
+    // How many nodes stand behind the last natural cut.
+    since_cut: usize,
+}
+
+// Whether so many nodes between two natural cuts make the second one 3 to 7 nodes after the first.
+fn is_stable_gap(between: usize) -> bool
+    ensures { result ≡ is_stable_gap between }
+{
+    2 <= between && between <= 6
+}
+
+impl CutScan {
+    // The start of a scan, behind a natural cut or behind nothing.
+    fn new(behind_cut: bool) -> Self
+        ensures { result ≡ record { has_cut = behind_cut; ends_stable = false; since_cut = 0 } }
+    {
+        CutScan {
+            has_cut: behind_cut,
+            ends_stable: false,
+            since_cut: 0,
+        }
+    }
+
+    // Whether the next node is the third natural cut of a stable point.
+    fn completes(&self, is_cut: bool) -> bool
+        ensures { result ≡ completes self.now is_cut }
+    {
+        is_cut && self.ends_stable && is_stable_gap(self.since_cut)
+    }
+
+    // Passes the next node.
+    fn pass(&mut self, is_cut: bool)
+        requires { self.old.since_cut < usize.MAX }
+        ensures { self.new ≡ next_scan self.old is_cut }
+    {
+        if is_cut {
+            self.ends_stable = self.has_cut && is_stable_gap(self.since_cut);
+            self.has_cut = true;
+            self.since_cut = 0;
+        } else {
+            self.since_cut += 1;
+        }
+    }
+}
+
+/// The first stable point of some nodes: the number of nodes before it, or `None` where there is none.
+pub fn find_stable_start(nodes: &[Node]) -> Option<usize>
+    ensures bound { IfSome result (λ p. p ≤ length nodes.now) }
+    ensures first { IfSome result (λ p. IsFirstStable (take p nodes.now) (drop p nodes.now)) }
+    ensures none { IfNone result (NoStable nodes.now) }
+{
+    let mut scan = CutScan::new(false);
+    'scan: for i in 0..nodes.len() {
+        let is_cut = is_natural_cut(&nodes[i]);
+        if scan.completes(is_cut) {
+            return Some(i - scan.since_cut);
+        }
+        scan.pass(is_cut);
+    }
+    None
+}
+
+// The last stable point of some nodes, where they stand behind a natural cut or behind nothing.
+pub(crate) fn last_stable(nodes: &[Node], behind_cut: bool) -> Option<usize>
+    ensures bound { IfSome result (λ p. p ≤ length nodes.now) }
+    ensures last { IfSome result (λ p. (front : List Node) → IsFront behind_cut front →
+        IsLastStable (front ++ take p nodes.now) (drop p nodes.now)) }
+    ensures none { IfNone result ((front : List Node) → IsFront behind_cut front → NoStable (front ++ nodes.now)) }
+{
+    let mut scan = CutScan::new(behind_cut);
+    let mut found = None;
+    'scan: for i in 0..nodes.len() {
+        let is_cut = is_natural_cut(&nodes[i]);
+        if scan.completes(is_cut) {
+            found = Some(i - scan.since_cut);
+        }
+        scan.pass(is_cut);
+    }
+    found
+}
+
+/// The last stable point of some nodes: the number of nodes before it, or `None` where there is none.
+pub fn find_stable_end(nodes: &[Node]) -> Option<usize>
+    ensures bound { IfSome result (λ p. p ≤ length nodes.now) }
+    ensures last { IfSome result (λ p. IsLastStable (take p nodes.now) (drop p nodes.now)) }
+    ensures none { IfNone result (NoStable nodes.now) }
+{
+    last_stable(nodes, false)
+}

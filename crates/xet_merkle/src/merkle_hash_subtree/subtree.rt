@@ -1,0 +1,280 @@
+//! The canonical subtree of a list of chunks.
+
+ghost use Rattle.std.specs.Prelude.{◌≡◌, ◌^◌, ◌<◌, ◌≤◌, ◌↔◌, ◌-◌, List, drop, length, reverse, IfOk, IfErr, IsErrOf, IfSome, IsSome, IsTrue};
+ghost use Rattle.std.specs.Cmp.Lexicographic.{pointwise};
+ghost use Rattle.xet_merkle.specs.Groups.{Node};
+ghost use Rattle.xet_merkle.specs.Roots.{total_size, IsRoot};
+ghost use Rattle.xet_merkle.specs.Canonical.{top_hash, hash_of_first};
+ghost use Rattle.xet_merkle.specs.Subtree.{Subtree, IsCanonical, left_at, right_at, node_count, levels_size, same_level, same_subtree};
+ghost use Rattle.xet_merkle.specs.SubtreeEquality.{same_subtree-per, same_subtree-equiv};
+ghost use Rattle.xet_merkle.specs.FlatLevels.{levels_of, flat_nodes, IsFlat, IsStored};
+ghost use Rattle.xet_merkle.specs.OpenLevels.{StandsFor};
+
+use super::open_levels::OpenLevels;
+use crate::aggregated_hashes::{Node, total_size};
+use crate::error::CoreError;
+use std::alloc::{Allocator, Global};
+use std::marker::Model;
+use xet_hash::data_hash::MerkleHash;
+
+/// What is known of the tree over a list of chunks without the chunks that stand before and after it:
+/// at each level the nodes whose groups may still change, on either side. A list's start, or its end, is
+/// marked where no more chunks come before, or after, it.
+#[derive(Drop)]
+pub struct MerkleHashSubtree<A: Allocator = Global> {
+    at_start: bool,
+    at_end: bool,
+    // The left nodes of all levels by rising level, then the right nodes by falling level.
+    nodes: Vec<Node, A>,
+    // How many left and right nodes each level has.
+    counts: Vec<(usize, usize), A>,
+    // The sum of the sizes of all nodes.
+    total_size: u64,
+}
+
+impl<A: Allocator> Model for MerkleHashSubtree<A> {
+    ghost Value = { Subtree };
+
+    ghost view = { λ stored. record {
+      at_start = stored.at_start;
+      at_end = stored.at_end;
+      levels = levels_of stored.counts.items stored.nodes.items;
+    } };
+
+    ghost invariant = { λ stored. IsStored stored.counts.items stored.nodes.items stored.total_size };
+}
+
+// The nodes of a level and of all levels above it.
+fn inside<'a>(counts: &[(usize, usize)], nodes: &'a [Node], level: usize) -> &'a [Node]
+    requires flat { IsFlat counts.now nodes.now (levels_of counts.now nodes.now) }
+    requires within { level ≤ length counts.now }
+    ensures { result.now ≡ flat_nodes (drop level (levels_of counts.now nodes.now)) }
+{
+    let mut inner = nodes;
+    'levels: for i in 0..level {
+        let (left, right) = counts[i];
+        let (_, rest) = inner.split_at(left);
+        let (above, _) = rest.split_at(rest.len() - right);
+        inner = above;
+    }
+    inner
+}
+
+// The hash of the first of some nodes, or the default hash.
+fn first_hash(nodes: &[Node]) -> MerkleHash
+    ensures { result ≡ hash_of_first nodes.now }
+{
+    match nodes {
+        [] => MerkleHash::default(),
+        [(hash, _), ..] => *hash,
+    }
+}
+
+impl<A: Allocator + Clone> MerkleHashSubtree<A> {
+    /// The canonical subtree of some chunks, whose list is marked at its start, at its end, at both or at
+    /// neither.
+    ///
+    /// It fails with [`CoreError::SizeOverflow`] where the sizes add up to more than `u64::MAX`, before
+    /// anything is allocated, and with [`CoreError::OutOfMemory`] where an allocation is refused.
+    pub fn from_chunks(
+        alloc: A,
+        at_start: bool,
+        chunks: &[Node],
+        at_end: bool,
+    ) -> Result<Self, CoreError>
+        ensures canonical { IfOk result (λ subtree. IsCanonical subtree chunks.now) }
+        ensures start { IfOk result (λ subtree. subtree.at_start ≡ at_start) }
+        ensures end { IfOk result (λ subtree. subtree.at_end ≡ at_end) }
+        ensures size { IfOk result (λ subtree. levels_size subtree.levels ≡ total_size chunks.now) }
+        ensures overflow { IsErrOf result CoreError.SizeOverflow ↔ (2 ^ 64 ≤ total_size chunks.now) }
+    {
+        let Some(size) = total_size(chunks) else {
+            return Err(CoreError::SizeOverflow);
+        };
+        let levels = collapse_all(alloc, chunks, at_start, at_end)?;
+        Self::close(levels, at_start, at_end, size)
+    }
+
+    /// A copy. It fails with [`CoreError::OutOfMemory`] where an allocation is refused.
+    pub fn try_clone(&self) -> Result<Self, CoreError>
+        ensures copy { IfOk result (λ copy. copy ≡ self.now) }
+        ensures err { IfErr result (λ e. e ≡ CoreError.OutOfMemory) }
+    {
+        let mut nodes = Vec::new(self.nodes.allocator().clone()?);
+        nodes.extend_from_slice(&self.nodes)?;
+        let mut counts = Vec::new(self.counts.allocator().clone()?);
+        counts.extend_from_slice(&self.counts)?;
+        Ok(MerkleHashSubtree {
+            at_start: self.at_start,
+            at_end: self.at_end,
+            nodes,
+            counts,
+            total_size: self.total_size,
+        })
+    }
+
+    // The subtree of levels that stand for some chunks.
+    fn close(
+        levels: OpenLevels<A>,
+        at_start: bool,
+        at_end: bool,
+        size: u64,
+    ) -> Result<Self, CoreError>
+        requires { (chunks : List Node) ×
+            StandsFor at_start at_end chunks levels.counts.items levels.lefts.items levels.rights.items ×
+            (size ≡ total_size chunks) }
+        ensures closed { IfOk result (λ subtree. (chunks : List Node) →
+            StandsFor at_start at_end chunks levels.counts.items levels.lefts.items levels.rights.items →
+            IsCanonical subtree chunks) }
+        ensures start { IfOk result (λ subtree. subtree.at_start ≡ at_start) }
+        ensures end { IfOk result (λ subtree. subtree.at_end ≡ at_end) }
+        ensures size { IfOk result (λ subtree. levels_size subtree.levels ≡ size) }
+        ensures err { IfErr result (λ e. e ≡ CoreError.OutOfMemory) }
+    {
+        let OpenLevels {
+            counts,
+            lefts,
+            mut rights,
+        } = levels;
+        let mut nodes = lefts;
+        rights.reverse();
+        nodes.extend_from_slice(&rights)?;
+        Ok(MerkleHashSubtree {
+            at_start,
+            at_end,
+            nodes,
+            counts,
+            total_size: size,
+        })
+    }
+}
+
+// The levels of the canonical subtree of some chunks.
+fn collapse_all<A: Allocator + Clone>(
+    alloc: A,
+    chunks: &[Node],
+    at_start: bool,
+    at_end: bool,
+) -> Result<OpenLevels<A>, CoreError>
+    requires { total_size chunks.now < 2 ^ 64 }
+    ensures stands { IfOk result (λ levels.
+        StandsFor at_start at_end chunks.now levels.counts.items levels.lefts.items levels.rights.items) }
+    ensures err { IfErr result (λ e. e ≡ CoreError.OutOfMemory) }
+{
+    let mut levels = OpenLevels::new(alloc.clone()?)?;
+    let mut next = levels.collapse(alloc.clone()?, chunks, at_start, at_end)?;
+    'collapsing: while let Some(nodes) = next {
+        next = levels.collapse(alloc.clone()?, &nodes, at_start, at_end)?;
+    }
+    Ok(levels)
+}
+
+impl<A: Allocator> MerkleHashSubtree<A> {
+    /// How many nodes are kept.
+    pub fn num_nodes(&self) -> usize
+        ensures { result ≡ node_count self.now.levels }
+    {
+        self.nodes.len()
+    }
+
+    /// How many levels there are, at least one.
+    pub fn num_levels(&self) -> usize
+        ensures levels { result ≡ length self.now.levels }
+        ensures some { 0 < result }
+    {
+        self.counts.len()
+    }
+
+    /// Whether no node is kept.
+    pub fn is_empty(&self) -> bool
+        ensures { IsTrue result ↔ (node_count self.now.levels ≡ 0) }
+    {
+        self.nodes.is_empty()
+    }
+
+    /// The left nodes of a level, counted from the chunks up, and none where there is no such level.
+    pub fn left(&self, level: usize) -> &[Node]
+        ensures { result.now ≡ left_at self.now.levels level }
+    {
+        if level >= self.counts.len() {
+            return &[];
+        }
+        &inside(&self.counts, &self.nodes, level)[..self.counts[level].0]
+    }
+
+    /// The right nodes of a level, counted from the chunks up, and none where there is no such level.
+    pub fn right(&self, level: usize) -> &[Node]
+        ensures { result.now ≡ right_at self.now.levels level }
+    {
+        if level >= self.counts.len() {
+            return &[];
+        }
+        let nodes = inside(&self.counts, &self.nodes, level);
+        &nodes[nodes.len() - self.counts[level].1..]
+    }
+
+    /// Whether the list's start is marked.
+    pub fn at_start(&self) -> bool
+        ensures { result ≡ self.now.at_start }
+    {
+        self.at_start
+    }
+
+    /// Whether the list's end is marked.
+    pub fn at_end(&self) -> bool
+        ensures { result ≡ self.now.at_end }
+    {
+        self.at_end
+    }
+
+    /// The sum of the sizes of all nodes, in bytes.
+    pub fn total_size(&self) -> u64
+        ensures { result ≡ levels_size self.now.levels }
+    {
+        self.total_size
+    }
+
+    /// The root of the list, where both of its ends are marked, and `None` where they aren't: the hash of
+    /// the top's node, or the default hash where there is none.
+    pub fn final_hash(&self) -> Option<MerkleHash>
+        ensures marks { IsSome result ↔ (IsTrue self.now.at_start × IsTrue self.now.at_end) }
+        ensures hash { IfSome result (λ hash. hash ≡ top_hash self.now.levels) }
+        ensures root { (chunks : List Node) → IsCanonical self.now chunks → IfSome result (IsRoot chunks) }
+    {
+        if !(self.at_start && self.at_end) {
+            return None;
+        }
+        let top = inside(&self.counts, &self.nodes, self.counts.len() - 1);
+        Some(first_hash(top))
+    }
+}
+
+// Whether counts and nodes are those of the same levels.
+fn same_levels(
+    counts: &[(usize, usize)],
+    nodes: &[Node],
+    other_counts: &[(usize, usize)],
+    other_nodes: &[Node],
+) -> bool
+    requires flat { IsFlat counts.now nodes.now (levels_of counts.now nodes.now) }
+    requires other_flat { IsFlat other_counts.now other_nodes.now (levels_of other_counts.now other_nodes.now) }
+    ensures { result ≡ pointwise same_level (levels_of counts.now nodes.now) (levels_of other_counts.now other_nodes.now) }
+{
+    counts == other_counts && nodes == other_nodes
+}
+
+impl<A: Allocator> PartialEq for MerkleHashSubtree<A> {
+    ghost eq = { same_subtree };
+
+    ghost laws = { same_subtree-per };
+
+    fn eq(&self, other: &Self) -> bool {
+        self.at_start == other.at_start
+            && self.at_end == other.at_end
+            && same_levels(&self.counts, &self.nodes, &other.counts, &other.nodes)
+    }
+}
+
+impl<A: Allocator> Eq for MerkleHashSubtree<A> {
+    ghost laws = { same_subtree-equiv };
+}

@@ -1,0 +1,179 @@
+//! Stable points and canonical subtrees of lists whose natural cuts are told, and of drawn lists.
+
+use std::alloc::{AllocError, Global};
+use std::test::Fail;
+use xet_hash::data_hash::{DataHash, MerkleHash};
+use xet_merkle::CoreError;
+use xet_merkle::aggregated_hashes::{Node, xorb_hash};
+use xet_merkle::merkle_hash_subtree::{MerkleHashSubtree, find_stable_end, find_stable_start};
+
+// Nodes of size 1 of which those at the given indices are natural cuts.
+fn with_cuts<const N: usize>(cuts: &[u64]) -> [Node; N] {
+    let mut nodes = [(MerkleHash::default(), 1); N];
+    let mut number = 0;
+    for node in nodes.iter_mut() {
+        let is_cut = cuts.contains(&number);
+        node.0 = MerkleHash::from([number, 0, 0, u64::from(!is_cut)]);
+        number = number.saturating_add(1);
+    }
+    nodes
+}
+
+const EACH_FOURTH: [u64; 7] = [3, 7, 11, 15, 19, 23, 27];
+
+// Whether each level of a subtree has so many left and right nodes.
+fn has_counts(subtree: &MerkleHashSubtree, counts: &[(usize, usize)]) -> bool {
+    let mut total = 0usize;
+    for (level, (left, right)) in counts.iter().enumerate() {
+        if subtree.left(level).len() != *left || subtree.right(level).len() != *right {
+            return false;
+        }
+        total = total.saturating_add(*left).saturating_add(*right);
+    }
+    subtree.num_levels() == counts.len()
+        && subtree.num_nodes() == total
+        && subtree.is_empty() == (total == 0)
+        && subtree.left(counts.len()).is_empty()
+        && subtree.right(usize::MAX).is_empty()
+}
+
+#[test]
+fn stable_points_need_gaps_from_three_to_seven(rt: HostRuntime) {
+    let twenty = with_cuts::<20>(&EACH_FOURTH);
+    let shortest = with_cuts::<7>(&[0, 3, 6]);
+    let longest = with_cuts::<15>(&[0, 7, 14]);
+    let too_long = with_cuts::<17>(&[0, 8, 16]);
+    let too_short = with_cuts::<5>(&[0, 2, 4]);
+    let one_fits = with_cuts::<24>(&[2, 5, 9, 18, 20, 23]);
+    for (nodes, start, end) in [
+        (twenty.as_slice(), Some(8), Some(16)),
+        (&twenty[..16], Some(8), Some(12)),
+        (&shortest, Some(4), Some(4)),
+        (&longest, Some(8), Some(8)),
+        (&too_long, None, None),
+        (&too_short, None, None),
+        (&one_fits, Some(6), Some(6)),
+        (&[], None, None),
+    ] {
+        assert_eq!(rt; find_stable_start(nodes), start);
+        assert_eq!(rt; find_stable_end(nodes), end);
+    }
+}
+
+#[test]
+fn keeps_what_stands_outside_the_stable_points(rt: HostRuntime) -> Result<(), Fail> {
+    let nodes = with_cuts::<28>(&EACH_FOURTH);
+    let shortest = with_cuts::<7>(&[0, 3, 6]);
+    for (at_start, chunks, at_end, counts) in [
+        (false, &nodes[..20], false, [(8, 4), (2, 0)].as_slice()),
+        (false, &nodes[..24], false, &[(8, 4), (3, 0)]),
+        (true, &nodes, false, &[(0, 4), (6, 0)]),
+        (false, &nodes[..16], false, &[(16, 0)]),
+        (false, &shortest, false, &[(7, 0)]),
+        (true, &shortest, false, &[(0, 3), (1, 0)]),
+        (false, &shortest, true, &[(4, 0), (1, 0)]),
+        (true, &[], true, &[(0, 0)]),
+    ] {
+        let subtree = MerkleHashSubtree::from_chunks(rt.alloc(), at_start, chunks, at_end)?;
+        assert!(rt; has_counts(&subtree, counts));
+        assert_eq!(rt; subtree.at_start(), at_start);
+        assert_eq!(rt; subtree.at_end(), at_end);
+        assert_eq!(rt; subtree.total_size(), chunks.len() as u64);
+        assert!(rt; subtree == subtree.try_clone()?);
+    }
+    Ok(())
+}
+
+#[test]
+fn has_the_nodes_of_either_side(rt: HostRuntime) -> Result<(), Fail> {
+    let nodes = with_cuts::<20>(&EACH_FOURTH);
+    let subtree = MerkleHashSubtree::from_chunks(rt.alloc(), false, &nodes, false)?;
+    let (left, rest) = nodes.split_at(8);
+    let (middle, right) = rest.split_at(8);
+    let (first_group, _) = middle.split_at(4);
+    let parent = xorb_hash(rt.alloc(), first_group)?;
+    assert!(rt; subtree.left(0) == left);
+    assert!(rt; subtree.right(0) == right);
+    assert!(rt; subtree.left(1).first() == Some(&(parent, 4)));
+    let other = MerkleHashSubtree::from_chunks(rt.alloc(), false, &nodes[..19], false)?;
+    assert!(rt; subtree != other);
+    Ok(())
+}
+
+#[test]
+fn a_closed_subtree_has_the_root_of_its_list(rt: HostRuntime) -> Result<(), Fail> {
+    let nodes = with_cuts::<28>(&EACH_FOURTH);
+    for chunks in [nodes.as_slice(), &nodes[..1], &[]] {
+        let root = xorb_hash(rt.alloc(), chunks)?;
+        let closed = MerkleHashSubtree::from_chunks(rt.alloc(), true, chunks, true)?;
+        assert_eq!(rt; closed.final_hash(), Some(root));
+        for (at_start, at_end) in [(false, true), (true, false), (false, false)] {
+            let open = MerkleHashSubtree::from_chunks(rt.alloc(), at_start, chunks, at_end)?;
+            assert_eq!(rt; open.final_hash(), None);
+        }
+    }
+    Ok(())
+}
+
+#[test]
+fn sizes_stay_below_two_to_the_64(rt: HostRuntime) -> Result<(), Fail> {
+    let hash = MerkleHash::default();
+    let fits = MerkleHashSubtree::from_chunks(
+        rt.alloc(),
+        false,
+        &[(hash, u64::MAX), (hash, 0)],
+        true,
+    )?;
+    assert_eq!(rt; fits.total_size(), u64::MAX);
+    let refused = MerkleHashSubtree::from_chunks(
+        rt.alloc(),
+        false,
+        &[(hash, u64::MAX), (hash, 1)],
+        true,
+    );
+    assert_eq!(rt; refused.err(), Some(CoreError::SizeOverflow));
+    Ok(())
+}
+
+// A drawn list: hashes from the seeds 0, 1, .., and sizes from 100 on.
+fn drawn(alloc: Global, count: u64) -> Result<Vec<Node>, AllocError> {
+    let mut nodes = Vec::new(alloc);
+    for i in 0..count {
+        nodes.push((DataHash::random_from_seed(i), (i % 1000) + 100))?;
+    }
+    Ok(nodes)
+}
+
+#[test]
+fn drawn_lists_have_their_root_on_top(rt: HostRuntime) -> Result<(), Fail> {
+    for count in 0..31 {
+        let nodes = drawn(rt.alloc(), count)?;
+        let root = xorb_hash(rt.alloc(), nodes.as_slice())?;
+        let closed = MerkleHashSubtree::from_chunks(rt.alloc(), true, nodes.as_slice(), true)?;
+        assert_eq!(rt; closed.final_hash(), Some(root), "{count}");
+    }
+    Ok(())
+}
+
+#[test]
+fn no_level_keeps_more_nodes_than_the_list_has(rt: HostRuntime) -> Result<(), Fail> {
+    for count in [20usize, 50, 100, 200] {
+        let nodes = drawn(rt.alloc(), count as u64)?;
+        for (at_start, at_end) in [(false, false), (false, true), (true, false), (true, true)] {
+            let subtree = MerkleHashSubtree::from_chunks(
+                rt.alloc(),
+                at_start,
+                nodes.as_slice(),
+                at_end,
+            )?;
+            for level in 0..subtree.num_levels() {
+                let kept = subtree
+                    .left(level)
+                    .len()
+                    .saturating_add(subtree.right(level).len());
+                assert!(rt; kept <= count, "{count}, {at_start}, {at_end}, {level}");
+            }
+        }
+    }
+    Ok(())
+}
