@@ -17,3 +17,4 @@ pub mod Collapsing
 pub mod InsideLevels
 pub mod FinalHash
 pub mod FlatLevelEquality
+pub mod CanonicalBounds

@@ -92,3 +92,7 @@ boundary_inside before left after ends = λ groups others. Groups-behind (before
 
 pub boundary_behind_cut : (cut : Node) (left after : List Node) → Cut cut → EndsStable (cut ∷ left) → IsGroupBoundary left after
 boundary_behind_cut cut left after is_cut ends = λ groups others. Groups-at_stable cut left after groups others is_cut ends
+
+-- a stable place stays a boundary whatever nodes stand around it
+pub boundary_around : (left right : List Node) → EndsStable left → (before after : List Node) → IsGroupBoundary (before ++ left) (right ++ after)
+boundary_around left right ends before after = boundary_inside before left (right ++ after) ends

@@ -123,70 +123,104 @@ TripleAt-from_stable left right h =
 abbrev StableAt : List Node → ℕ → Type 0
 StableAt nodes place = (left right : List Node) × (nodes ≡ left ++ right) × (length left ≡ place) × IsStable left right
 
-StableAt-from_triple : (nodes : List Node) (a b c : ℕ) → IsTriple nodes a b c → StableAt nodes (b + 1)
-StableAt-from_triple nodes a b c h =
+-- a natural cut at an index, and none before it
+record NextCut (nodes : List Node) (i : ℕ) : Type 0 where
+  between : List Node
+  node : Node
+  after : List Node
+  parts : nodes ≡ between ++ node ∷ after
+  index : length between ≡ i
+  cut : Cut node
+  no_cut : NoCut between
+
+next_cut : (nodes : List Node) (i : ℕ) → CutAt nodes i → ((k : ℕ) → k < i → CutAt nodes k → ⊥) → NextCut nodes i
+next_cut nodes i h none =
+    let at = around_cut nodes i h in
+    let len = at.index in record {
+      between = at.before;
+      node = at.node;
+      after = at.after;
+      parts = at.parts;
+      index = len;
+      cut = at.cut;
+      no_cut = NoCut-from at.before (at.node ∷ at.after) (λ k within cut. none k (omega arith) (subst (λ (l : List Node). CutAt l k) (sym at.parts) cut));
+    }
+
+-- behind a node
+CutAt-after : (before : List Node) (node : Node) (after : List Node) (i j : ℕ) → j ≡ length before + 1 + i → CutAt (before ++ node ∷ after) j → CutAt after i
+CutAt-after before node after i j e h =
+    let inner : CutAt after i = CutAt-back before (node ∷ after) (suc i) j (omega arith) h in inner
+
+CutAt-from_after : (before : List Node) (node : Node) (after : List Node) (i j : ℕ) → j ≡ length before + 1 + i → CutAt after i → CutAt (before ++ node ∷ after) j
+CutAt-from_after before node after i j e h = CutAt-behind before (node ∷ after) (suc i) j (omega arith) h
+
+-- the natural cut that comes next after one
+cut_after_cut : (before : List Node) (node : Node) (after : List Node) (b : ℕ) → length before < b → CutAt (before ++ node ∷ after) b →
+    ((k : ℕ) → length before < k → k < b → CutAt (before ++ node ∷ after) k → ⊥) → NextCut after (b - (length before + 1))
+cut_after_cut before node after b beyond h none =
+    next_cut after (b - (length before + 1)) (CutAt-after before node after (b - (length before + 1)) b (omega arith) h)
+    (λ k below cut. none (length before + 1 + k) (omega arith) (omega arith) (CutAt-from_after before node after k (length before + 1 + k) refl cut))
+
+StableAt-from_third : (before : List Node) (first : Node) (one : List Node) (second : Node) (rest : List Node) (a b c : ℕ) →
+    a ≡ length before → b ≡ length before + (length one + 1) → Cut first → Cut second → NoCut one →
+    IsTriple ((before ++ first ∷ one) ++ second ∷ rest) a b c → StableAt ((before ++ first ∷ one) ++ second ∷ rest) (b + 1)
+StableAt-from_third before first one second rest a b c a_is b_is cut_first cut_second no_one h =
+    let front = before ++ first ∷ one in
+    let len = length-append before (first ∷ one) in
     let low = h.three_to_b in
     let high = h.seven_to_b in
     let low_c = h.three_to_c in
     let high_c = h.seven_to_c in
-    let one = around_cut nodes a h.cut_a in
-    let at_a = one.index in
-    let behind_a = λ (i : ℕ) (cut : CutAt nodes (a + 1 + i)).
-    let inner : CutAt one.after i =
-    CutAt-back one.before (one.node ∷ one.after) (suc i) (a + 1 + i) (omega arith) (subst (λ (l : List Node). CutAt l (a + 1 + i)) one.parts cut) in inner in
-    let from_a = λ (i : ℕ) (cut : CutAt one.after i).
-    subst (λ (l : List Node). CutAt l (a + 1 + i)) (sym one.parts) (CutAt-behind one.before (one.node ∷ one.after) (suc i) (a + 1 + i) (omega arith) cut) in
-    let b' = b - (a + 1) in
-    let b_is : b ≡ a + 1 + b' = omega arith in
-    let two = around_cut one.after b' (behind_a b' (subst (CutAt nodes) b_is h.cut_b)) in
-    let at_b = two.index in
-    let behind_b = λ (i : ℕ) (cut : CutAt one.after (b' + 1 + i)).
-    let inner : CutAt two.after i =
-    CutAt-back two.before (two.node ∷ two.after) (suc i) (b' + 1 + i) (omega arith) (subst (λ (l : List Node). CutAt l (b' + 1 + i)) two.parts cut) in inner in
-    let from_b = λ (i : ℕ) (cut : CutAt two.after i).
-    subst (λ (l : List Node). CutAt l (b' + 1 + i)) (sym two.parts) (CutAt-behind two.before (two.node ∷ two.after) (suc i) (b' + 1 + i) (omega arith) cut) in
-    let c' = c - (b + 1) in
-    let c_is : c ≡ a + 1 + (b' + 1 + c') = omega arith in
-    let three = around_cut two.after c' (behind_b c' (behind_a (b' + 1 + c') (subst (CutAt nodes) c_is h.cut_c))) in
-    let at_c = three.index in
-    let no_cut_two : NoCut two.before = NoCut-from two.before (two.node ∷ two.after) (λ i within cut.
-    h.no_cut_before_b (a + 1 + i) (omega arith) (omega arith) (from_a i (subst (λ (l : List Node). CutAt l i) (sym two.parts) cut))) in
-    let no_cut_three : NoCut three.before = NoCut-from three.before (three.node ∷ three.after) (λ i within cut.
-    h.no_cut_after_b (a + 1 + (b' + 1 + i)) (omega arith) (omega arith)
-    (from_a (b' + 1 + i) (from_b i (subst (λ (l : List Node). CutAt l i) (sym three.parts) cut)))) in
-    let left = one.before ++ one.node ∷ (two.before ++ two.node ∷ []) in
-    let whole : nodes ≡ left ++ two.after =
-    one.parts
-    ∙ ap (λ (l : List Node). one.before ++ one.node ∷ l) (two.parts ∙ sym (append_assoc two.before (two.node ∷ []) two.after))
-    ∙ sym (append_assoc one.before (one.node ∷ (two.before ++ two.node ∷ [])) two.after) in
-    let ends : EndsStable left = record {
-      before = one.before;
-      first = one.node;
-      between = two.before;
-      last = two.node;
-      parts = refl;
-      first_cut = one.cut;
-      last_cut = two.cut;
-      no_cut = no_cut_two;
+    let third = cut_after_cut front second rest c (omega arith) h.cut_c (λ k beyond below. h.no_cut_after_b k (omega arith) below) in
+    let at = third.index in
+    let ends : EndsStable (front ++ second ∷ []) = record {
+      before = before;
+      first = first;
+      between = one;
+      last = second;
+      parts = append_assoc before (first ∷ one) (second ∷ []);
+      first_cut = cut_first;
+      last_cut = cut_second;
+      no_cut = no_one;
       two = omega arith;
       six = omega arith;
     } in
-    let begins : BeginsStable two.after = record {
-      between = three.before;
-      first = three.node;
-      after = three.after;
-      parts = three.parts;
-      first_cut = three.cut;
-      no_cut = no_cut_three;
+    let begins : BeginsStable rest = record {
+      between = third.between;
+      first = third.node;
+      after = third.after;
+      parts = third.parts;
+      first_cut = third.cut;
+      no_cut = third.no_cut;
       two = omega arith;
       six = omega arith;
     } in (
-      left,
-      two.after,
-      whole,
-      omega (arith, length-append one.before (one.node ∷ (two.before ++ two.node ∷ [])), length-append two.before (two.node ∷ [])),
+      front ++ second ∷ [],
+      rest,
+      sym (append_assoc front (second ∷ []) rest),
+      omega (arith, length-append front (second ∷ [])),
       record { ends = ends; begins = begins },
     )
+
+StableAt-from_second : (before : List Node) (first : Node) (rest : List Node) (b c : ℕ) → Cut first → IsTriple (before ++ first ∷ rest) (length before) b c →
+    StableAt (before ++ first ∷ rest) (b + 1)
+StableAt-from_second before first rest b c cut h =
+    let low = h.three_to_b in
+    let second = cut_after_cut before first rest b (omega arith) h.cut_b (λ k beyond below. h.no_cut_before_b k beyond below) in
+    let at = second.index in
+    let whole : before ++ first ∷ rest ≡ (before ++ first ∷ second.between) ++ second.node ∷ second.after =
+    ap (λ (l : List Node). before ++ first ∷ l) second.parts ∙ sym (append_assoc before (first ∷ second.between) (second.node ∷ second.after)) in
+    subst (λ (l : List Node). StableAt l (b + 1)) (sym whole)
+    (StableAt-from_third before first second.between second.node second.after (length before) b c refl (omega arith) cut second.cut second.no_cut
+    (subst (λ (l : List Node). IsTriple l (length before) b c) whole h))
+
+StableAt-from_triple : (nodes : List Node) (a b c : ℕ) → IsTriple nodes a b c → StableAt nodes (b + 1)
+StableAt-from_triple nodes a b c h =
+    let first = around_cut nodes a h.cut_a in
+    subst (λ (l : List Node). StableAt l (b + 1)) (sym first.parts)
+    (StableAt-from_second first.before first.node first.after b c first.cut
+    (subst (λ (k : ℕ). IsTriple (first.before ++ first.node ∷ first.after) k b c) (sym first.index)
+    (subst (λ (l : List Node). IsTriple l a b c) first.parts h)))
 
 -- ---- the law
 

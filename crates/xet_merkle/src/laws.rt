@@ -1,11 +1,12 @@
 //! Laws of the definitions that the contracts of this crate speak of. Each function does nothing: its
 //! contract is the law.
 
-ghost use Rattle.std.specs.Prelude.{◌≡◌, ℕ, ◌+◌, ◌<◌, ◌≤◌, ◌↔◌, Bool, true, List, ◌∷◌, ◌++◌, length, take, drop};
+ghost use Rattle.std.specs.Prelude.{◌≡◌, ℕ, ◌+◌, ◌^◌, ◌<◌, ◌≤◌, ◌↔◌, Bool, true, List, ◌∷◌, ◌++◌, length, take, drop, IsTrue};
 ghost use Rattle.xet_merkle.specs.Groups.{Node, Cut, Groups};
 ghost use Rattle.xet_merkle.specs.Roots.{IsRoot, parent};
 ghost use Rattle.xet_merkle.specs.StablePoints.{EndsStable, IsStable, IsTriple, IsGroupBoundary};
 ghost use Rattle.xet_merkle.specs.Canonical.{Level, IsSplit, IsCanonicalBy, top_nodes, top_hash};
+ghost use Rattle.xet_merkle.specs.Subtree.{Subtree, node_count, same_subtree};
 
 /// Each list of nodes has exactly one cutting into groups.
 pub fn one_cutting()
@@ -74,4 +75,18 @@ pub fn closed_subtree_has_root()
     ensures { (nodes : List Node) (levels : List Level) (parents : ℕ) →
         IsCanonicalBy parent true true nodes levels parents →
         (length (top_nodes levels) ≤ 1) × IsRoot nodes (top_hash levels) }
+{}
+
+/// A canonical subtree keeps at most as many nodes as its list has, and a list whose canonical subtree has
+/// n levels, two or more, has more nodes than 3 to the power of n - 2.
+pub fn canonical_subtree_bounds()
+    ensures nodes { (make : List Node → Node) (at_start at_end : Bool) (nodes : List Node) (levels : List Level) (parents : ℕ) →
+        IsCanonicalBy make at_start at_end nodes levels parents → node_count levels ≤ length nodes }
+    ensures levels { (make : List Node → Node) (at_start at_end : Bool) (nodes : List Node) (levels : List Level) (parents n : ℕ) →
+        IsCanonicalBy make at_start at_end nodes levels parents → length levels ≡ n + 2 → 3 ^ n < length nodes }
+{}
+
+/// Two subtrees are equal where, and only where, their marks and their levels are.
+pub fn equal_subtrees()
+    ensures { (a b : Subtree) → IsTrue (same_subtree a b) ↔ (a ≡ b) }
 {}

@@ -1,6 +1,6 @@
 //! What is collapsed of a level's nodes, and what stays on either side.
 
-ghost use Rattle.std.specs.Prelude.{◌≡◌, ℕ, ◌<◌, ◌≤◌, List, ◌++◌, length, take, drop, IfSome, IfNone};
+ghost use Rattle.std.specs.Prelude.{◌≡◌, ◌≤◌, List, ◌++◌, length, take, drop, IfSome, IfNone};
 ghost use Rattle.xet_merkle.specs.Groups.{Node};
 ghost use Rattle.xet_merkle.specs.Canonical.{IsLow, IsHigh, IsSplit};
 

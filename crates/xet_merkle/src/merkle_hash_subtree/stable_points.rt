@@ -3,7 +3,7 @@
 
 ghost use Rattle.std.specs.Prelude.{◌≡◌, ◌<◌, ◌≤◌, List, ◌++◌, false, length, take, drop, IfSome, IfNone};
 ghost use Rattle.xet_merkle.specs.Groups.{Node};
-ghost use Rattle.xet_merkle.specs.StablePoints.{NoStable, IsFirstStable, IsLastStable};
+ghost use Rattle.xet_merkle.specs.StablePoints.{NoStable, IsFirstStable, IsLastStable, IsGroupBoundary};
 ghost use Rattle.xet_merkle.specs.Scan.{is_stable_gap};
 ghost use Rattle.xet_merkle.specs.StableScan.{completes, next_scan, IsFront};
 
@@ -61,10 +61,13 @@ impl CutScan {
     }
 }
 
-/// The first stable point of some nodes: the number of nodes before it, or `None` where there is none.
+/// The first stable point of some nodes: the number of nodes before it, or `None` where there is none. A
+/// group ends there whatever nodes stand before and after the given ones.
 pub fn find_stable_start(nodes: &[Node]) -> Option<usize>
     ensures bound { IfSome result (λ p. p ≤ length nodes.now) }
     ensures first { IfSome result (λ p. IsFirstStable (take p nodes.now) (drop p nodes.now)) }
+    ensures boundary { IfSome result (λ p. (before after : List Node) →
+        IsGroupBoundary (before ++ take p nodes.now) (drop p nodes.now ++ after)) }
     ensures none { IfNone result (NoStable nodes.now) }
 {
     let mut scan = CutScan::new(false);
@@ -97,10 +100,13 @@ pub(crate) fn last_stable(nodes: &[Node], behind_cut: bool) -> Option<usize>
     found
 }
 
-/// The last stable point of some nodes: the number of nodes before it, or `None` where there is none.
+/// The last stable point of some nodes: the number of nodes before it, or `None` where there is none. A
+/// group ends there whatever nodes stand before and after the given ones.
 pub fn find_stable_end(nodes: &[Node]) -> Option<usize>
     ensures bound { IfSome result (λ p. p ≤ length nodes.now) }
     ensures last { IfSome result (λ p. IsLastStable (take p nodes.now) (drop p nodes.now)) }
+    ensures boundary { IfSome result (λ p. (before after : List Node) →
+        IsGroupBoundary (before ++ take p nodes.now) (drop p nodes.now ++ after)) }
     ensures none { IfNone result (NoStable nodes.now) }
 {
     last_stable(nodes, false)

@@ -1,3 +1,6 @@
+use Rattle.std.proofs.Common.{take, drop}
+use Rattle.std.proofs.lemmas.Option.{IfSome_then}
+use Rattle.xet_merkle.proofs.StableGroups.{boundary_around}
 use Rattle.xet_merkle.proofs.StableLoops.{last_behind_nothing, none_behind_nothing}
 use Rattle.xet_merkle.proofs.merkle_hash_subtree.stable_points.find_stable_end.Goals as goal
 
@@ -6,3 +9,8 @@ returns-clause-last c = last_behind_nothing c.args.nodes.now c.last_stable.resul
 
 pub returns-clause-none : goal.returns-clause-none
 returns-clause-none c = none_behind_nothing c.args.nodes.now c.last_stable.result c.last_stable.ensures.none
+
+pub returns-clause-boundary : goal.returns-clause-boundary
+returns-clause-boundary c =
+    let nodes = c.args.nodes.now in
+    IfSome_then c.last_stable.result (returns-clause-last c) (λ place last. boundary_around (take place nodes) (drop place nodes) last.stable.ends)

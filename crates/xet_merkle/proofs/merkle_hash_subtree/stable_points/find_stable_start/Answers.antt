@@ -1,6 +1,7 @@
-use Rattle.std.proofs.Common.{sym, ap, ◌∙◌, arith}
+use Rattle.std.proofs.Common.{◌-◌, take, drop, sym, ap, ◌∙◌, arith}
 use Rattle.xet_merkle.specs.Groups.{is_cut}
 use Rattle.xet_merkle.specs.StableScan.{completes}
+use Rattle.xet_merkle.proofs.StableGroups.{boundary_around}
 use Rattle.xet_merkle.proofs.StableLoops.{since_more, NoneSoFar-none, NoneSoFar-more, NoneSoFar-found, NoneSoFar-all}
 use Rattle.xet_merkle.proofs.merkle_hash_subtree.stable_points.find_stable_start.Goals as goal
 
@@ -12,6 +13,11 @@ returns-then-completes-clause-first c =
     let is = c.is_natural_cut-is_cut.ensures ∙ ap is_cut c.index-nodes-i.is in
     let new = ap (completes c.scan.scan) (sym is) ∙ sym c.completes.ensures ∙ c.if-completes.true in
     NoneSoFar-found c.args.nodes.now c.scan.i c.scan.scan c.index-nodes-i.result (omega arith) c.scan.invariant.since new c.scan.invariant.so_far
+
+pub returns-then-completes-clause-boundary : goal.returns-then-completes-clause-boundary
+returns-then-completes-clause-boundary c =
+    let place = c.scan.i - c.scan.scan.since_cut in
+    boundary_around (take place c.args.nodes.now) (drop place c.args.nodes.now) (returns-then-completes-clause-first c).stable.ends
 
 pub scan-preserved : goal.scan-preserved
 scan-preserved c =

@@ -1,0 +1,5 @@
+use Rattle.xet_merkle.specs.SubtreeEquality.{same_subtree-decides}
+use Rattle.xet_merkle.proofs.laws.equal_subtrees.Goals as goal
+
+pub returns : goal.returns
+returns c = same_subtree-decides
