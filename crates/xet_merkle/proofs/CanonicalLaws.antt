@@ -21,7 +21,7 @@ groups_fewer at_start at_end nodes left middle right groups split cutting =
     let several = split.several in
     omega arith
 
-top_nodes-more : (level : Level) (levels : List Level) → 0 < length levels → top_nodes (level ∷ levels) ≡ top_nodes levels
+pub top_nodes-more : (level : Level) (levels : List Level) → 0 < length levels → top_nodes (level ∷ levels) ≡ top_nodes levels
 top_nodes-more level [] some = absurd (omega arith)
 top_nodes-more level (next ∷ levels) some = refl
 

@@ -1,5 +1,5 @@
 -- Building a canonical subtree level by level. Rests on CanonicalLaws and FlatLevelLaws.
-use Rattle.std.proofs.Common.{◌≡◌, ℕ, ◌+◌, ◌<◌, ◌^◌, Bool, List, [], ◌∷◌, ◌++◌, length, map, reverse, refl, sym, ap, subst, ◌∙◌, arith, append_assoc}
+use Rattle.std.proofs.Common.{◌≡◌, ℕ, ◌+◌, ◌<◌, ◌^◌, Bool, List, [], ◌∷◌, ◌++◌, length, map, refl, sym, ap, subst, ◌∙◌, arith, append_assoc}
 use Rattle.std.proofs.lemmas.List.{length-map}
 use Rattle.xet_merkle.specs.Groups.{Node}
 use Rattle.xet_merkle.specs.Roots.{total_size, parent}
@@ -7,11 +7,11 @@ use Rattle.xet_merkle.specs.Scan.{AreParents}
 use Rattle.xet_merkle.specs.Canonical.{Level, IsSplit, IsCanonicalBy}
 use Rattle.xet_merkle.specs.Canonical.IsCanonicalBy.{whole, collapsed}
 use Rattle.xet_merkle.specs.Subtree.{levels_size}
-use Rattle.xet_merkle.specs.FlatLevels.{count_of, levels_of, IsFlat, IsOpen, IsStored}
-use Rattle.xet_merkle.specs.OpenLevels.{HasCanonical, StandsBelow, StandsFor}
+use Rattle.xet_merkle.specs.FlatLevels.{IsOpen}
+use Rattle.xet_merkle.specs.OpenLevels.{HasJoin, StandsBelow, StandsFor}
 use Rattle.xet_merkle.proofs.Scanning.{total_size-are_parents}
-use Rattle.xet_merkle.proofs.CanonicalLaws.{groups_fewer, levels_some}
-use Rattle.xet_merkle.proofs.FlatLevelLaws.{total_size-append, levels_size-flat, IsFlat-from_open, levels_of-IsOpen}
+use Rattle.xet_merkle.proofs.CanonicalLaws.{groups_fewer}
+use Rattle.xet_merkle.proofs.FlatLevelLaws.{total_size-append}
 
 -- ---- sizes
 
@@ -46,64 +46,32 @@ module _ (at_start at_end : Bool) where
       let len = ap length made.2 in
       omega (arith, length-map made.0 parent)
 
-  -- ---- levels
+  module _ (xs ys : List Level) where
+    -- ---- levels
 
-  pub StandsBelow-none : (chunks : List Node) (counts : List (ℕ × ℕ)) (lefts rights : List Node) → IsOpen counts lefts rights [] →
-      StandsBelow at_start at_end chunks chunks counts lefts rights
-  StandsBelow-none chunks counts lefts rights none = record { levels = []; open_levels = none; completed = λ top h. h }
+    -- no split: the nodes are the top
+    pub StandsFor-whole : (nodes : List Node) (counts : List (ℕ × ℕ)) (lefts rights : List Node) (h : StandsBelow at_start at_end xs ys nodes counts lefts rights) →
+        ((left middle right : List Node) → IsSplit at_start at_end nodes left middle right → ⊥) →
+        (counts' : List (ℕ × ℕ)) (lefts' rights' : List Node) → IsOpen counts' lefts' rights' (h.levels ++ record { left = nodes; right = [] } ∷ []) →
+        StandsFor at_start at_end xs ys counts' lefts' rights'
+    StandsFor-whole nodes counts lefts rights h none counts' lefts' rights' pushed = record {
+      levels = h.levels ++ record { left = nodes; right = [] } ∷ [];
+      open_levels = pushed;
+      joined = h.completed (record { left = nodes; right = [] } ∷ []) (0, whole none);
+    }
 
-  -- no split: the nodes are the top
-  pub StandsFor-whole : (chunks nodes : List Node) (counts : List (ℕ × ℕ)) (lefts rights : List Node) (h : StandsBelow at_start at_end chunks nodes counts lefts rights) →
-      ((left middle right : List Node) → IsSplit at_start at_end nodes left middle right → ⊥) →
-      (counts' : List (ℕ × ℕ)) (lefts' rights' : List Node) → IsOpen counts' lefts' rights' (h.levels ++ record { left = nodes; right = [] } ∷ []) →
-      StandsFor at_start at_end chunks counts' lefts' rights'
-  StandsFor-whole chunks nodes counts lefts rights h none counts' lefts' rights' pushed = record {
-    levels = h.levels ++ record { left = nodes; right = [] } ∷ [];
-    open_levels = pushed;
-    canonical = h.completed (record { left = nodes; right = [] } ∷ []) (0, whole none);
-  }
-
-  -- a split: the canonical subtree of the parents goes on top
-  pub StandsBelow-more : (chunks nodes left middle right parents : List Node) (counts : List (ℕ × ℕ)) (lefts rights : List Node)
-      (h : StandsBelow at_start at_end chunks nodes counts lefts rights) → IsSplit at_start at_end nodes left middle right → AreParents parent middle parents →
-      (counts' : List (ℕ × ℕ)) (lefts' rights' : List Node) → IsOpen counts' lefts' rights' (h.levels ++ record { left = left; right = right } ∷ []) →
-      StandsBelow at_start at_end chunks parents counts' lefts' rights'
-  StandsBelow-more chunks nodes left middle right parents counts lefts rights h split made counts' lefts' rights' pushed =
-      let level : Level = record { left = left; right = right } in record {
-        levels = h.levels ++ level ∷ [];
-        open_levels = pushed;
-        completed = λ top canonical.
-            let above : IsCanonicalBy parent at_start at_end (map parent made.0) top canonical.0 =
-            subst (λ (l : List Node). IsCanonicalBy parent at_start at_end l top canonical.0) made.2 canonical.1 in
-            subst (HasCanonical at_start at_end chunks) (sym (append_assoc h.levels (level ∷ []) top))
-            (h.completed (level ∷ top) (length made.0 + canonical.0, collapsed split made.1 above));
-      }
-
-  -- ---- in one list
-
-  canonical_some : (nodes : List Node) (levels : List Level) → HasCanonical at_start at_end nodes levels → 0 < length levels
-  canonical_some nodes levels h = levels_some parent at_start at_end h.1
-
-  module _ (chunks : List Node) (counts : List (ℕ × ℕ)) (lefts rights : List Node) where
-    same_levels : (h : StandsFor at_start at_end chunks counts lefts rights) → levels_of counts (lefts ++ reverse rights) ≡ h.levels
-    same_levels h = levels_of-IsOpen counts lefts rights h.levels h.open_levels
-
-    pub StandsFor-levels : StandsFor at_start at_end chunks counts lefts rights → HasCanonical at_start at_end chunks (levels_of counts (lefts ++ reverse rights))
-    StandsFor-levels h = subst (HasCanonical at_start at_end chunks) (sym (same_levels h)) h.canonical
-
-    pub StandsFor-size : (size : ℕ) → StandsFor at_start at_end chunks counts lefts rights → size ≡ total_size chunks →
-        levels_size (levels_of counts (lefts ++ reverse rights)) ≡ size
-    StandsFor-size size h e = levels_size-canonical (StandsFor-levels h).1 ∙ sym e
-
-    pub StandsFor-stored : (size : ℕ) → StandsFor at_start at_end chunks counts lefts rights → size ≡ total_size chunks →
-        IsStored counts (lefts ++ reverse rights) size
-    StandsFor-stored size h e =
-        let nodes = lefts ++ reverse rights in
-        let flat : IsFlat counts nodes (levels_of counts nodes) =
-        subst (IsFlat counts nodes) (sym (same_levels h)) (IsFlat-from_open counts lefts rights h.levels h.open_levels) in
-        let some = canonical_some chunks h.levels h.canonical in
-        let len = ap length h.open_levels.counts_are in record {
-          flat = flat;
-          some = omega (arith, length-map h.levels count_of);
-          size_is = sym (StandsFor-size size h e) ∙ sym (levels_size-flat (levels_of counts nodes)) ∙ ap total_size (sym flat.nodes_are);
+    -- a split: the canonical subtree of the parents goes on top
+    pub StandsBelow-more : (nodes left middle right parents : List Node) (counts : List (ℕ × ℕ)) (lefts rights : List Node)
+        (h : StandsBelow at_start at_end xs ys nodes counts lefts rights) → IsSplit at_start at_end nodes left middle right → AreParents parent middle parents →
+        (counts' : List (ℕ × ℕ)) (lefts' rights' : List Node) → IsOpen counts' lefts' rights' (h.levels ++ record { left = left; right = right } ∷ []) →
+        StandsBelow at_start at_end xs ys parents counts' lefts' rights'
+    StandsBelow-more nodes left middle right parents counts lefts rights h split made counts' lefts' rights' pushed =
+        let level : Level = record { left = left; right = right } in record {
+          levels = h.levels ++ level ∷ [];
+          open_levels = pushed;
+          completed = λ top canonical.
+              let above : IsCanonicalBy parent at_start at_end (map parent made.0) top canonical.0 =
+              subst (λ (l : List Node). IsCanonicalBy parent at_start at_end l top canonical.0) made.2 canonical.1 in
+              subst (HasJoin at_start at_end xs [] ys) (sym (append_assoc h.levels (level ∷ []) top))
+              (h.completed (level ∷ top) (length made.0 + canonical.0, collapsed split made.1 above));
         }

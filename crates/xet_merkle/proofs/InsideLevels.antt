@@ -1,6 +1,6 @@
 -- Reading levels that stand in one list of nodes, level by level from the outside. Rests on
 -- FlatLevelLaws.
-use Rattle.std.proofs.Common.{◌≡◌, ℕ, zero, suc, ◌+◌, ◌-◌, ◌<◌, ◌≤◌, List, [], ◌∷◌, ◌++◌, length, get_or, take, drop, refl, sym, ap, subst, ◌∙◌, arith, length-append}
+use Rattle.std.proofs.Common.{◌≡◌, ℕ, zero, suc, ◌+◌, ◌-◌, ◌<◌, ◌≤◌, Bool, List, [], ◌∷◌, ◌++◌, length, get_or, take, drop, refl, sym, ap, subst, ◌∙◌, arith, length-append}
 use Rattle.std.proofs.lemmas.List.{length-map, get_or-map, drop_more}
 use Rattle.xet_merkle.specs.Groups.{Node}
 use Rattle.xet_merkle.specs.Roots.{total_size}
@@ -74,18 +74,18 @@ flat-top (level ∷ next ∷ levels) (suc n) e = flat-top (next ∷ levels) n (o
 
 -- ---- what is stored
 
-module _ (counts : List (ℕ × ℕ)) (nodes : List Node) (size : ℕ) (h : IsStored counts nodes size) where
+module _ (at_start at_end : Bool) (counts : List (ℕ × ℕ)) (nodes : List Node) (size : ℕ) (h : IsStored at_start at_end counts nodes size) where
   pub stored_nodes : length nodes ≡ node_count (levels_of counts nodes)
-  stored_nodes = ap length h.flat.nodes_are ∙ node_count-flat (levels_of counts nodes)
+  stored_nodes = ap length h.some_flat.flat.nodes_are ∙ node_count-flat (levels_of counts nodes)
 
   pub stored_levels : length counts ≡ length (levels_of counts nodes)
-  stored_levels = ap length h.flat.counts_are ∙ length-map (levels_of counts nodes) count_of
+  stored_levels = ap length h.some_flat.flat.counts_are ∙ length-map (levels_of counts nodes) count_of
 
   pub stored_size : size ≡ levels_size (levels_of counts nodes)
-  stored_size = h.size_is ∙ ap total_size h.flat.nodes_are ∙ levels_size-flat (levels_of counts nodes)
+  stored_size = h.size_is ∙ ap total_size h.some_flat.flat.nodes_are ∙ levels_size-flat (levels_of counts nodes)
 
   pub stored_top : flat_nodes (drop (length counts - 1) (levels_of counts nodes)) ≡ top_nodes (levels_of counts nodes)
   stored_top =
-      let some = h.some in
+      let some = h.some_flat.some in
       let len = stored_levels in
       flat-top (levels_of counts nodes) (length counts - 1) (omega arith)

@@ -5,6 +5,9 @@ pub mod StablePoints
 pub mod StableScan
 pub mod Canonical
 pub mod Subtree
+pub mod WellFormed
+pub mod Merging
+pub mod Joining
 pub mod SubtreeEquality
 pub mod FlatLevels
 pub mod OpenLevels

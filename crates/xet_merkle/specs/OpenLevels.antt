@@ -1,22 +1,45 @@
--- Levels under construction, and the list for which they stand. Private contracts and proofs speak of it;
--- what a reader has to believe stands in Canonical.
-use Rattle.std.specs.Prelude.{ℕ, Bool, List, ◌++◌}
+-- Levels under construction, and the operands whose join they are. Private contracts and proofs speak of it;
+-- what a reader has to believe stands in Canonical and Subtree.
+use Rattle.std.specs.Prelude.{ℕ, ◌<◌, Bool, false, List, [], ◌∷◌, ◌++◌, length}
 use Rattle.xet_merkle.specs.Groups.{Node}
 use Rattle.xet_merkle.specs.Roots.{parent}
-use Rattle.xet_merkle.specs.Canonical.{Level, IsCanonicalBy}
+use Rattle.xet_merkle.specs.Canonical.{Level, IsCanonicalBy, top_nodes}
 use Rattle.xet_merkle.specs.FlatLevels.{IsOpen}
+use Rattle.xet_merkle.specs.WellFormed.{HaveSides}
+use Rattle.xet_merkle.specs.Joining.{IsJoin}
 
 abbrev pub HasCanonical : Bool → Bool → List Node → List Level → Type 0
 HasCanonical at_start at_end nodes levels = (parents : ℕ) × IsCanonicalBy parent at_start at_end nodes levels parents
 
--- levels that stand for some chunks, once the canonical subtree of some nodes is put on top
-pub record StandsBelow (at_start at_end : Bool) (chunks nodes : List Node) (counts : List (ℕ × ℕ)) (lefts rights : List Node) : Type 0 where
-  pub levels : List Level
-  pub open_levels : IsOpen counts lefts rights levels
-  pub completed : (top : List Level) → HasCanonical at_start at_end nodes top → HasCanonical at_start at_end chunks (levels ++ top)
+abbrev pub HasJoin : Bool → Bool → List Level → List Node → List Level → List Level → Type 0
+HasJoin at_start at_end xs carry ys levels = (parents : ℕ) × IsJoin parent at_start at_end xs carry ys levels parents
 
--- levels that stand for some chunks
-pub record StandsFor (at_start at_end : Bool) (chunks : List Node) (counts : List (ℕ × ℕ)) (lefts rights : List Node) : Type 0 where
+-- the levels of two subtrees that can be joined, whose outer marks are given
+pub record AreOperands (at_start at_end : Bool) (xs ys : List Level) : Type 0 where
+  pub sides_x : HaveSides at_start false xs
+  pub sides_y : HaveSides false at_end ys
+  pub top_x : 1 < length xs → 0 < length (top_nodes xs)
+  pub top_y : 1 < length ys → 0 < length (top_nodes ys)
+
+-- some chunks as an operand
+abbrev pub chunk_level : List Node → List Level
+chunk_level chunks = record { left = chunks; right = [] } ∷ []
+
+-- levels that two operands are joined to, once what is left of them is joined and put on top
+pub record JoinsBelow (at_start at_end : Bool) (xs ys rest_x : List Level) (carry : List Node) (rest_y : List Level)
+    (counts : List (ℕ × ℕ)) (lefts rights : List Node) : Type 0 where
   pub levels : List Level
   pub open_levels : IsOpen counts lefts rights levels
-  pub canonical : HasCanonical at_start at_end chunks levels
+  pub completed : (top : List Level) → HasJoin at_start at_end rest_x carry rest_y top → HasJoin at_start at_end xs [] ys (levels ++ top)
+
+-- levels that two operands are joined to, once the canonical subtree of some nodes is put on top
+pub record StandsBelow (at_start at_end : Bool) (xs ys : List Level) (nodes : List Node) (counts : List (ℕ × ℕ)) (lefts rights : List Node) : Type 0 where
+  pub levels : List Level
+  pub open_levels : IsOpen counts lefts rights levels
+  pub completed : (top : List Level) → HasCanonical at_start at_end nodes top → HasJoin at_start at_end xs [] ys (levels ++ top)
+
+-- levels that two operands are joined to
+pub record StandsFor (at_start at_end : Bool) (xs ys : List Level) (counts : List (ℕ × ℕ)) (lefts rights : List Node) : Type 0 where
+  pub levels : List Level
+  pub open_levels : IsOpen counts lefts rights levels
+  pub joined : HasJoin at_start at_end xs [] ys levels

@@ -4,7 +4,7 @@
 //! A list is cut into groups of nodes; each group becomes a parent, whose hash is that of the group's
 //! text and whose size is the sum of the group's. The root of a list is that of its parents.
 
-ghost use Rattle.std.specs.Prelude.{◌≡◌, ◌+◌, ◌^◌, ◌<◌, ◌≤◌, ◌↔◌, List, ◌++◌, length, take, drop, replicate, IsOk, IfOk, IfErr, IsErrOf, IsSome, SomeIff};
+ghost use Rattle.std.specs.Prelude.{◌≡◌, ◌⊎◌, ◌+◌, ◌^◌, ◌<◌, ◌≤◌, ◌↔◌, List, ◌++◌, length, take, drop, replicate, IsOk, IfOk, IfErr, IsErrOf, IsSome, SomeIff};
 ghost use Rattle.arrayvec.specs.ArrayVec.{array_vec_len};
 ghost use Rattle.xet_merkle.specs.Groups.{Node, is_cut};
 ghost use Rattle.xet_merkle.specs.Roots.{total_size, node_line, group_text, parent, IsRoot, IsFileHash};
@@ -167,6 +167,7 @@ fn root<A: Allocator>(mut nodes: Vec<Node, A>) -> MerkleHash
 pub fn xorb_hash<A: Allocator>(alloc: A, chunks: &[Node]) -> Result<MerkleHash, CoreError>
     ensures root { IfOk result (IsRoot chunks.now) }
     ensures overflow { IsErrOf result CoreError.SizeOverflow ↔ (2 ^ 64 ≤ total_size chunks.now) }
+    ensures errors { IfErr result (λ e. (e ≡ CoreError.SizeOverflow) ⊎ (e ≡ CoreError.OutOfMemory)) }
     ensures short { length chunks.now ≤ 1 → IsOk result }
 {
     if total_size(chunks).is_none() {
@@ -190,6 +191,7 @@ pub fn file_hash_with_salt<A: Allocator>(
 ) -> Result<MerkleHash, CoreError>
     ensures file { IfOk result (IsFileHash chunks.now salt.now) }
     ensures overflow { IsErrOf result CoreError.SizeOverflow ↔ (2 ^ 64 ≤ total_size chunks.now) }
+    ensures errors { IfErr result (λ e. (e ≡ CoreError.SizeOverflow) ⊎ (e ≡ CoreError.OutOfMemory)) }
     ensures short { length chunks.now ≤ 1 → IsOk result }
 {
     let root = xorb_hash(alloc, chunks)?;
@@ -205,6 +207,7 @@ pub fn file_hash_with_salt<A: Allocator>(
 pub fn file_hash<A: Allocator>(alloc: A, chunks: &[Node]) -> Result<MerkleHash, CoreError>
     ensures file { IfOk result (IsFileHash chunks.now (replicate 32 0)) }
     ensures overflow { IsErrOf result CoreError.SizeOverflow ↔ (2 ^ 64 ≤ total_size chunks.now) }
+    ensures errors { IfErr result (λ e. (e ≡ CoreError.SizeOverflow) ⊎ (e ≡ CoreError.OutOfMemory)) }
     ensures short { length chunks.now ≤ 1 → IsOk result }
 {
     file_hash_with_salt(alloc, chunks, &[0; 32])

@@ -9,6 +9,9 @@ use thiserror::Error;
 /// Why a call was refused. After a refusal every object that was lent to the call is unchanged.
 #[derive(Clone, Copy, Debug, PartialEq, Eq, Error)]
 pub enum CoreError {
+    /// A mark stands where ranges would be joined.
+    #[error("invalid arguments")]
+    InvalidArguments,
     /// The sizes of all nodes add up to more than `u64::MAX` bytes.
     #[error("size overflow")]
     SizeOverflow,

@@ -1,12 +1,13 @@
 //! Laws of the definitions that the contracts of this crate speak of. Each function does nothing: its
 //! contract is the law.
 
-ghost use Rattle.std.specs.Prelude.{◌≡◌, ℕ, ◌+◌, ◌^◌, ◌<◌, ◌≤◌, ◌↔◌, Bool, true, List, ◌∷◌, ◌++◌, length, take, drop, IsTrue};
+ghost use Rattle.std.specs.Prelude.{◌≡◌, ℕ, ◌+◌, ◌^◌, ◌<◌, ◌≤◌, ◌↔◌, Bool, true, false, List, [], ◌∷◌, ◌++◌, length, take, drop, IsTrue};
 ghost use Rattle.xet_merkle.specs.Groups.{Node, Cut, Groups};
 ghost use Rattle.xet_merkle.specs.Roots.{IsRoot, parent};
 ghost use Rattle.xet_merkle.specs.StablePoints.{EndsStable, IsStable, IsTriple, IsGroupBoundary};
 ghost use Rattle.xet_merkle.specs.Canonical.{Level, IsSplit, IsCanonicalBy, top_nodes, top_hash};
-ghost use Rattle.xet_merkle.specs.Subtree.{Subtree, node_count, same_subtree};
+ghost use Rattle.xet_merkle.specs.Subtree.{Subtree, IsCanonical, node_count, same_subtree};
+ghost use Rattle.xet_merkle.specs.Merging.{IsMerged};
 
 /// Each list of nodes has exactly one cutting into groups.
 pub fn one_cutting()
@@ -89,4 +90,21 @@ pub fn canonical_subtree_bounds()
 /// Two subtrees are equal where, and only where, their marks and their levels are.
 pub fn equal_subtrees()
     ensures { (a b : Subtree) → IsTrue (same_subtree a b) ↔ (a ≡ b) }
+{}
+
+/// Merging is associative: adjacent ranges that are the canonical subtrees of lists are merged to the one
+/// canonical subtree of the joined list, whichever two are merged first.
+pub fn merging_is_associative()
+    ensures { (a b c ab bc left right : Subtree) (first second third : List Node) →
+        IsCanonical a first → IsCanonical b second → IsCanonical c third →
+        IsMerged a b ab → IsMerged ab c left → IsMerged b c bc → IsMerged a bc right →
+        (left ≡ right) × IsCanonical left (first ++ (second ++ third)) }
+{}
+
+/// An empty range without marks changes nothing where it is merged with the canonical subtree of a list.
+pub fn empty_range_is_neutral()
+    ensures behind { (range empty merged : Subtree) (nodes : List Node) →
+        IsCanonical range nodes → IsCanonical empty [] → empty.at_end ≡ false → IsMerged range empty merged → merged ≡ range }
+    ensures before { (range empty merged : Subtree) (nodes : List Node) →
+        IsCanonical range nodes → IsCanonical empty [] → empty.at_start ≡ false → IsMerged empty range merged → merged ≡ range }
 {}

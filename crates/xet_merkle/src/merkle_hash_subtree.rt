@@ -1,6 +1,8 @@
 //! Canonical subtrees of lists of chunks, after the module `merkle_hash_subtree` of the crate
 //! `xet-core-structures`.
 
+mod join;
+mod levels;
 mod open_levels;
 mod split;
 mod stable_points;

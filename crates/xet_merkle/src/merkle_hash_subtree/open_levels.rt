@@ -36,7 +36,7 @@ impl<A: Allocator + Clone> OpenLevels<A> {
     }
 
     // Adds a level at the top. After a refusal the levels are spent.
-    fn push(&mut self, left: &[Node], right: &[Node]) -> Result<(), CoreError>
+    pub(super) fn push(&mut self, left: &[Node], right: &[Node]) -> Result<(), CoreError>
         ensures pushed { IfOk result (λ _. (levels : List Level) →
             IsOpen self.old.counts.items self.old.lefts.items self.old.rights.items levels →
             IsOpen self.new.counts.items self.new.lefts.items self.new.rights.items
@@ -51,7 +51,7 @@ impl<A: Allocator + Clone> OpenLevels<A> {
 
     // Adds the level of some nodes at the top, and answers the parents of what is collapsed. After a
     // refusal the levels are spent.
-    pub(super) fn collapse(
+    fn collapse(
         &mut self,
         alloc: A,
         nodes: &[Node],
@@ -59,11 +59,11 @@ impl<A: Allocator + Clone> OpenLevels<A> {
         at_end: bool,
     ) -> Result<Option<Vec<Node, A>>, CoreError>
         requires { total_size nodes.now < 2 ^ 64 }
-        ensures stands { IfOk result (λ next. (chunks : List Node) →
-            StandsBelow at_start at_end chunks nodes.now self.old.counts.items self.old.lefts.items self.old.rights.items →
+        ensures stands { IfOk result (λ next. (xs ys : List Level) →
+            StandsBelow at_start at_end xs ys nodes.now self.old.counts.items self.old.lefts.items self.old.rights.items →
             MatchOption next
-            (StandsFor at_start at_end chunks self.new.counts.items self.new.lefts.items self.new.rights.items)
-            (λ made. StandsBelow at_start at_end chunks made.items self.new.counts.items self.new.lefts.items self.new.rights.items)) }
+            (StandsFor at_start at_end xs ys self.new.counts.items self.new.lefts.items self.new.rights.items)
+            (λ made. StandsBelow at_start at_end xs ys made.items self.new.counts.items self.new.lefts.items self.new.rights.items)) }
         ensures fits { IfOk result (λ next. IfSome next (λ made. total_size made.items < 2 ^ 64)) }
         ensures fewer { IfOk result (λ next. IfSome next (λ made. length made.items < length nodes.now)) }
         ensures err { IfErr result (λ e. e ≡ CoreError.OutOfMemory) }
@@ -78,5 +78,26 @@ impl<A: Allocator + Clone> OpenLevels<A> {
                 Ok(Some(parents(alloc, split.middle)?))
             }
         }
+    }
+    // Adds the levels of the canonical subtree of some nodes at the top. After a refusal the levels are
+    // spent.
+    pub(super) fn collapse_all(
+        &mut self,
+        alloc: A,
+        nodes: &[Node],
+        at_start: bool,
+        at_end: bool,
+    ) -> Result<(), CoreError>
+        requires { total_size nodes.now < 2 ^ 64 }
+        ensures stands { IfOk result (λ _. (xs ys : List Level) →
+            StandsBelow at_start at_end xs ys nodes.now self.old.counts.items self.old.lefts.items self.old.rights.items →
+            StandsFor at_start at_end xs ys self.new.counts.items self.new.lefts.items self.new.rights.items) }
+        ensures err { IfErr result (λ e. e ≡ CoreError.OutOfMemory) }
+    {
+        let mut next = self.collapse(alloc.clone()?, nodes, at_start, at_end)?;
+        'collapsing: while let Some(nodes) = next {
+            next = self.collapse(alloc.clone()?, &nodes, at_start, at_end)?;
+        }
+        Ok(())
     }
 }

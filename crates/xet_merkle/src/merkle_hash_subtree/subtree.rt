@@ -1,15 +1,19 @@
 //! The canonical subtree of a list of chunks.
 
-ghost use Rattle.std.specs.Prelude.{◌≡◌, ◌^◌, ◌<◌, ◌≤◌, ◌↔◌, List, drop, length, IfOk, IfErr, IsErrOf, IfSome, IsSome, IsTrue};
+ghost use Rattle.std.specs.Prelude.{◌≡◌, ◌^◌, ◌<◌, ◌≤◌, ◌↔◌, ◌⊎◌, ◌+◌, List, [], drop, length, IfOk, IfErr, IsErrOf, IfSome, IsSome, IsTrue};
 ghost use Rattle.std.specs.Cmp.Lexicographic.{pointwise};
 ghost use Rattle.xet_merkle.specs.Groups.{Node};
 ghost use Rattle.xet_merkle.specs.Roots.{total_size, IsRoot};
-ghost use Rattle.xet_merkle.specs.Canonical.{top_hash, hash_of_first};
+ghost use Rattle.xet_merkle.specs.Canonical.{Level, top_hash, hash_of_first};
 ghost use Rattle.xet_merkle.specs.Subtree.{Subtree, IsCanonical, left_at, right_at, node_count, levels_size, same_level, same_subtree};
 ghost use Rattle.xet_merkle.specs.SubtreeEquality.{same_subtree-per, same_subtree-equiv};
+ghost use Rattle.xet_merkle.specs.WellFormed.{IsWellFormed};
 ghost use Rattle.xet_merkle.specs.FlatLevels.{levels_of, flat_nodes, IsFlat, IsStored};
-ghost use Rattle.xet_merkle.specs.OpenLevels.{StandsFor};
+ghost use Rattle.xet_merkle.specs.OpenLevels.{AreOperands, HasJoin, StandsFor};
 
+mod merging;
+
+use super::levels::Levels;
 use super::open_levels::OpenLevels;
 use crate::aggregated_hashes::{Node, total_size};
 use crate::error::CoreError;
@@ -41,7 +45,7 @@ impl<A: Allocator> Model for MerkleHashSubtree<A> {
       levels = levels_of stored.counts.items stored.nodes.items;
     } };
 
-    ghost invariant = { λ stored. IsStored stored.counts.items stored.nodes.items stored.total_size };
+    ghost invariant = { λ stored. IsStored stored.at_start stored.at_end stored.counts.items stored.nodes.items stored.total_size };
 }
 
 // The nodes of a level and of all levels above it.
@@ -87,12 +91,14 @@ impl<A: Allocator + Clone> MerkleHashSubtree<A> {
         ensures end { IfOk result (λ subtree. subtree.at_end ≡ at_end) }
         ensures size { IfOk result (λ subtree. levels_size subtree.levels ≡ total_size chunks.now) }
         ensures overflow { IsErrOf result CoreError.SizeOverflow ↔ (2 ^ 64 ≤ total_size chunks.now) }
+        ensures errors { IfErr result (λ e. (e ≡ CoreError.SizeOverflow) ⊎ (e ≡ CoreError.OutOfMemory)) }
     {
         let Some(size) = total_size(chunks) else {
             return Err(CoreError::SizeOverflow);
         };
-        let levels = collapse_all(alloc, chunks, at_start, at_end)?;
-        Self::close(levels, at_start, at_end, size)
+        let mut levels = OpenLevels::new(alloc.clone()?)?;
+        levels.collapse_all(alloc, chunks, at_start, at_end)?;
+        Ok(Self::close(levels, at_start, at_end, size)?)
     }
 
     /// A copy. It fails with [`CoreError::OutOfMemory`] where an allocation is refused.
@@ -100,9 +106,17 @@ impl<A: Allocator + Clone> MerkleHashSubtree<A> {
         ensures copy { IfOk result (λ copy. copy ≡ self.now) }
         ensures err { IfErr result (λ e. e ≡ CoreError.OutOfMemory) }
     {
-        let mut nodes = Vec::new(self.nodes.allocator().clone()?);
+        self.copy(self.nodes.allocator().clone()?)
+    }
+
+    // A copy in memory of `alloc`.
+    fn copy(&self, alloc: A) -> Result<Self, CoreError>
+        ensures copy { IfOk result (λ copy. copy ≡ self.now) }
+        ensures err { IfErr result (λ e. e ≡ CoreError.OutOfMemory) }
+    {
+        let mut nodes = Vec::new(alloc.clone()?);
         nodes.extend_from_slice(&self.nodes)?;
-        let mut counts = Vec::new(self.counts.allocator().clone()?);
+        let mut counts = Vec::new(alloc);
         counts.extend_from_slice(&self.counts)?;
         Ok(MerkleHashSubtree {
             at_start: self.at_start,
@@ -113,19 +127,19 @@ impl<A: Allocator + Clone> MerkleHashSubtree<A> {
         })
     }
 
-    // The subtree of levels that stand for some chunks.
+    // The subtree of levels that two operands are joined to.
     fn close(
         levels: OpenLevels<A>,
         at_start: bool,
         at_end: bool,
         size: u64,
     ) -> Result<Self, CoreError>
-        requires { (chunks : List Node) ×
-            StandsFor at_start at_end chunks levels.counts.items levels.lefts.items levels.rights.items ×
-            (size ≡ total_size chunks) }
-        ensures closed { IfOk result (λ subtree. (chunks : List Node) →
-            StandsFor at_start at_end chunks levels.counts.items levels.lefts.items levels.rights.items →
-            IsCanonical subtree chunks) }
+        requires { (xs ys : List Level) × AreOperands at_start at_end xs ys ×
+            StandsFor at_start at_end xs ys levels.counts.items levels.lefts.items levels.rights.items ×
+            (size ≡ levels_size xs + levels_size ys) }
+        ensures joined { IfOk result (λ subtree. (xs ys : List Level) →
+            StandsFor at_start at_end xs ys levels.counts.items levels.lefts.items levels.rights.items →
+            HasJoin at_start at_end xs [] ys subtree.levels) }
         ensures start { IfOk result (λ subtree. subtree.at_start ≡ at_start) }
         ensures end { IfOk result (λ subtree. subtree.at_end ≡ at_end) }
         ensures size { IfOk result (λ subtree. levels_size subtree.levels ≡ size) }
@@ -149,27 +163,15 @@ impl<A: Allocator + Clone> MerkleHashSubtree<A> {
     }
 }
 
-// The levels of the canonical subtree of some chunks.
-fn collapse_all<A: Allocator + Clone>(
-    alloc: A,
-    chunks: &[Node],
-    at_start: bool,
-    at_end: bool,
-) -> Result<OpenLevels<A>, CoreError>
-    requires { total_size chunks.now < 2 ^ 64 }
-    ensures stands { IfOk result (λ levels.
-        StandsFor at_start at_end chunks.now levels.counts.items levels.lefts.items levels.rights.items) }
-    ensures err { IfErr result (λ e. e ≡ CoreError.OutOfMemory) }
-{
-    let mut levels = OpenLevels::new(alloc.clone()?)?;
-    let mut next = levels.collapse(alloc.clone()?, chunks, at_start, at_end)?;
-    'collapsing: while let Some(nodes) = next {
-        next = levels.collapse(alloc.clone()?, &nodes, at_start, at_end)?;
-    }
-    Ok(levels)
-}
-
 impl<A: Allocator> MerkleHashSubtree<A> {
+    // The levels, to be read one after another.
+    fn levels(&self) -> Levels
+        ensures levels { result ≡ self.now.levels }
+        ensures well_formed { IsWellFormed self.now }
+    {
+        Levels::new(&self.counts, &self.nodes)
+    }
+
     /// How many nodes are kept.
     pub fn num_nodes(&self) -> usize
         ensures { result ≡ node_count self.now.levels }

@@ -2,12 +2,12 @@ use Rattle.xet_merkle.proofs.Collapsing.{StandsFor-whole, StandsBelow-more, pare
 use Rattle.xet_merkle.proofs.merkle_hash_subtree.open_levels.OpenLevels.collapse.Goals as goal
 
 pub returns-in_ok-push-in-None-clause-stands : goal.returns-in_ok-push-in-None-clause-stands
-returns-in_ok-push-in-None-clause-stands g c = λ chunks h.
-    StandsFor-whole c.args.at_start c.args.at_end chunks c.args.nodes.now _ _ _ h c.in-None.ensures.none _ _ _ (c.in_ok-push-in-None.ensures.pushed h.levels h.open_levels)
+returns-in_ok-push-in-None-clause-stands g c = λ xs ys h.
+    StandsFor-whole c.args.at_start c.args.at_end xs ys c.args.nodes.now _ _ _ h c.in-None.ensures.none _ _ _ (c.in_ok-push-in-None.ensures.pushed h.levels h.open_levels)
 
 pub returns-in_ok-parents-in-Some-clause-stands : goal.returns-in_ok-parents-in-Some-clause-stands
-returns-in_ok-parents-in-Some-clause-stands g c = λ chunks h.
-    StandsBelow-more c.args.at_start c.args.at_end chunks c.args.nodes.now _ _ _ c.in_ok-parents-in-Some.field-0.items _ _ _ h c.in-Some.ensures.split
+returns-in_ok-parents-in-Some-clause-stands g c = λ xs ys h.
+    StandsBelow-more c.args.at_start c.args.at_end xs ys c.args.nodes.now _ _ _ c.in_ok-parents-in-Some.field-0.items _ _ _ h c.in-Some.ensures.split
     c.in_ok-parents-in-Some.ensures.parents _ _ _ (c.in_ok-push-in-Some.ensures.pushed h.levels h.open_levels)
 
 pub returns-in_ok-parents-in-Some-clause-fits : goal.returns-in_ok-parents-in-Some-clause-fits

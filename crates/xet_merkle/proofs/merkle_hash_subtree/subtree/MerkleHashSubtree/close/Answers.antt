@@ -1,18 +1,20 @@
 use Rattle.std.proofs.Common.{◌≡◌, ◌++◌, reverse, rules}
-use Rattle.xet_merkle.proofs.Collapsing.{StandsFor-levels, StandsFor-stored, StandsFor-size}
+use Rattle.xet_merkle.proofs.Joined.{StandsFor-levels, StandsFor-stored, StandsFor-size}
 use Rattle.xet_merkle.proofs.merkle_hash_subtree.subtree.MerkleHashSubtree.close.Goals as goal
 
 pub invariant_of-result : goal.invariant_of-result
 invariant_of-result g c =
     let items : c.extend_from_slice.new.self.items ≡ c.args.levels.lefts.items ++ reverse c.args.levels.rights.items = search rules in
-    rw items (StandsFor-stored c.args.at_start c.args.at_end c.requires.0 _ _ _ c.args.size c.requires.1 c.requires.2)
+    let given = c.requires in
+    rw items (StandsFor-stored c.args.at_start c.args.at_end given.0 given.1 _ _ _ given.3 c.args.size given.2 given.4)
 
-pub returns-clause-closed : goal.returns-clause-closed
-returns-clause-closed g c = λ chunks h.
+pub returns-clause-joined : goal.returns-clause-joined
+returns-clause-joined g c = λ xs ys h.
     let items : c.extend_from_slice.new.self.items ≡ c.args.levels.lefts.items ++ reverse c.args.levels.rights.items = search rules in
-    rw items (StandsFor-levels c.args.at_start c.args.at_end chunks _ _ _ h)
+    rw items (StandsFor-levels c.args.at_start c.args.at_end xs ys _ _ _ h)
 
 pub returns-clause-size : goal.returns-clause-size
 returns-clause-size g c =
     let items : c.extend_from_slice.new.self.items ≡ c.args.levels.lefts.items ++ reverse c.args.levels.rights.items = search rules in
-    rw items (StandsFor-size c.args.at_start c.args.at_end c.requires.0 _ _ _ c.args.size c.requires.1 c.requires.2)
+    let given = c.requires in
+    rw items (StandsFor-size c.args.at_start c.args.at_end given.0 given.1 _ _ _ given.3 c.args.size given.2 given.4)

@@ -16,7 +16,7 @@ returns-clause-hash g c =
     let last : c.len.result ≡ length counts = search rules in
     let top : c.inside-top.result.now ≡ flat_nodes (drop (length counts - 1) (levels_of counts nodes)) = rw (c.inside-top.ensures, c.deref.ensures.value, c.deref-2.ensures.value, last) in
     c.first_hash.ensures
-    ∙ ap hash_of_first (top ∙ stored_top counts nodes c.self.inside.total_size c.self.invariant)
+    ∙ ap hash_of_first (top ∙ stored_top _ _ counts nodes c.self.inside.total_size c.self.invariant)
     ∙ ap (λ (s : Subtree). top_hash s.levels) c.self.view_is
 
 pub returns-clause-root : goal.returns-clause-root

@@ -7,5 +7,5 @@ use Rattle.xet_merkle.proofs.merkle_hash_subtree.subtree.MerkleHashSubtree.is_em
 pub returns : goal.returns
 returns g c =
     let count : length c.self.inside.nodes.items ≡ node_count c.args.self.now.levels =
-    stored_nodes _ _ _ c.self.invariant ∙ ap (λ (s : Subtree). node_count s.levels) c.self.view_is in
+    stored_nodes _ _ _ _ _ c.self.invariant ∙ ap (λ (s : Subtree). node_count s.levels) c.self.view_is in
     grind (arith, nat_tests, c.is_empty.ensures)

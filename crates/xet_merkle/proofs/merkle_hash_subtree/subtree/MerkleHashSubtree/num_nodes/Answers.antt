@@ -6,4 +6,4 @@ use Rattle.xet_merkle.proofs.merkle_hash_subtree.subtree.MerkleHashSubtree.num_n
 pub returns : goal.returns
 returns g c =
     let len : c.len.result ≡ length c.self.inside.nodes.items = search rules in
-    len ∙ stored_nodes _ _ _ c.self.invariant ∙ ap (λ (s : Subtree). node_count s.levels) c.self.view_is
+    len ∙ stored_nodes _ _ _ _ _ c.self.invariant ∙ ap (λ (s : Subtree). node_count s.levels) c.self.view_is

@@ -8,7 +8,7 @@ use Rattle.xet_merkle.proofs.merkle_hash_subtree.subtree.MerkleHashSubtree.right
 pub returns-then-level-len : goal.returns-then-level-len
 returns-then-level-len g c =
     let levels = levels_of c.self.inside.counts.items c.self.inside.nodes.items in
-    let len = stored_levels _ _ _ c.self.invariant in
+    let len = stored_levels _ _ _ _ _ c.self.invariant in
     let past : length levels ≤ c.args.level = let beyond = c.if-level-len.true in omega (arith, c.len.ensures) in
     sym (right_at-past levels c.args.level past) ∙ ap (λ (s : Subtree). right_at s.levels c.args.level) c.self.view_is
 
@@ -18,7 +18,7 @@ overflow_sub-result g c =
     let nodes = c.self.inside.nodes.items in
     let here : c.args.level < length counts = let below = c.if-level-len.false in omega (arith, c.len.ensures) in
     let inner : c.inside-nodes.result.now ≡ flat_nodes (drop c.args.level (levels_of counts nodes)) = rw (c.inside-nodes.ensures, c.deref.ensures.value, c.deref-2.ensures.value) in
-    let at = at_level counts nodes (levels_of counts nodes) c.args.level c.inside-nodes.result.now c.index.result.now c.self.invariant.flat here c.index.ensures inner in
+    let at = at_level counts nodes (levels_of counts nodes) c.args.level c.inside-nodes.result.now c.index.result.now c.self.invariant.some_flat.flat here c.index.ensures inner in
     let within = at.within in
     omega arith
 
@@ -28,6 +28,6 @@ returns g c =
     let nodes = c.self.inside.nodes.items in
     let here : c.args.level < length counts = let below = c.if-level-len.false in omega (arith, c.len.ensures) in
     let inner : c.inside-nodes.result.now ≡ flat_nodes (drop c.args.level (levels_of counts nodes)) = rw (c.inside-nodes.ensures, c.deref.ensures.value, c.deref-2.ensures.value) in
-    let at = at_level counts nodes (levels_of counts nodes) c.args.level c.inside-nodes.result.now c.index.result.now c.self.invariant.flat here c.index.ensures inner in
+    let at = at_level counts nodes (levels_of counts nodes) c.args.level c.inside-nodes.result.now c.index.result.now c.self.invariant.some_flat.flat here c.index.ensures inner in
     take_rest c.inside-nodes.result.now (length c.inside-nodes.result.now - c.index.result.now.1)
     ∙ at.right_is ∙ ap (λ (s : Subtree). right_at s.levels c.args.level) c.self.view_is

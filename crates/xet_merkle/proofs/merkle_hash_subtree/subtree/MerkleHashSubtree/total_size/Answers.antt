@@ -4,4 +4,4 @@ use Rattle.xet_merkle.proofs.InsideLevels.{stored_size}
 use Rattle.xet_merkle.proofs.merkle_hash_subtree.subtree.MerkleHashSubtree.total_size.Goals as goal
 
 pub returns : goal.returns
-returns g c = stored_size _ _ _ c.self.invariant ∙ ap (λ (s : Subtree). levels_size s.levels) c.self.view_is
+returns g c = stored_size _ _ _ _ _ c.self.invariant ∙ ap (λ (s : Subtree). levels_size s.levels) c.self.view_is

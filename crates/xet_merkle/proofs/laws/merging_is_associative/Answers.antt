@@ -1,0 +1,5 @@
+use Rattle.xet_merkle.proofs.MergeLaws.{associative}
+use Rattle.xet_merkle.proofs.laws.merging_is_associative.Goals as goal
+
+pub returns : goal.returns
+returns c = associative

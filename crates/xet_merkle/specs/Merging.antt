@@ -1,0 +1,51 @@
+-- Merging the subtrees of adjacent ranges of chunks (module `merklehash::merkle_hash_subtree` of the crate
+-- `xet-core-structures`).
+use Rattle.std.specs.Prelude.{◌≡◌, ℕ, ◌+◌, Bool, true, false, List, [], ◌∷◌, ◌++◌, flat_map, sum_by}
+use Rattle.xet_merkle.specs.Groups.{Node}
+use Rattle.xet_merkle.specs.Subtree.{Subtree, IsCanonical, levels_size}
+
+-- two subtrees are merged to a third: no mark stands between them, and the third has their outer marks, the
+-- sum of their sizes, and is the canonical subtree of the joined list wherever they are those of two lists
+pub record IsMerged (front back merged : Subtree) : Type 0 where
+  pub no_end : front.at_end ≡ false
+  pub no_start : back.at_start ≡ false
+  pub start : merged.at_start ≡ front.at_start
+  pub end : merged.at_end ≡ back.at_end
+  pub size : levels_size merged.levels ≡ levels_size front.levels + levels_size back.levels
+  pub canonical : (first second : List Node) → IsCanonical front first → IsCanonical back second → IsCanonical merged (first ++ second)
+
+-- no mark stands between adjacent ranges
+abbrev pub NoMarkBetween : List Subtree → Type 0
+NoMarkBetween [] = Unit {0}
+NoMarkBetween (range ∷ []) = Unit {0}
+NoMarkBetween (range ∷ next ∷ ranges) = (range.at_end ≡ false) × (next.at_start ≡ false) × NoMarkBetween (next ∷ ranges)
+
+-- the start mark of the first range, and the end mark of the last; no ranges have both
+abbrev pub start_mark : List Subtree → Bool
+start_mark [] = true
+start_mark (range ∷ ranges) = range.at_start
+
+abbrev pub end_mark : List Subtree → Bool
+end_mark [] = true
+end_mark (range ∷ []) = range.at_end
+end_mark (range ∷ next ∷ ranges) = end_mark (next ∷ ranges)
+
+-- the sum of the sizes of all ranges
+abbrev pub ranges_size : List Subtree → ℕ
+ranges_size ranges = sum_by (λ range. levels_size range.levels) ranges
+
+-- ranges are the canonical subtrees of lists, one of each
+abbrev pub AreCanonical : List Subtree → List (List Node) → Type 0
+AreCanonical [] [] = Unit {0}
+AreCanonical [] (list ∷ lists) = ⊥
+AreCanonical (range ∷ ranges) [] = ⊥
+AreCanonical (range ∷ ranges) (list ∷ lists) = IsCanonical range list × AreCanonical ranges lists
+
+-- the merging of some ranges is that of others. Private contracts and proofs speak of it.
+pub record MergesTo (ranges others : List Subtree) : Type 0 where
+  pub marks : NoMarkBetween others
+  pub start : start_mark others ≡ start_mark ranges
+  pub end : end_mark others ≡ end_mark ranges
+  pub size : ranges_size others ≡ ranges_size ranges
+  pub canonical : (lists : List (List Node)) → AreCanonical ranges lists →
+      (joined : List (List Node)) × AreCanonical others joined × (flat_map (λ list. list) joined ≡ flat_map (λ list. list) lists)

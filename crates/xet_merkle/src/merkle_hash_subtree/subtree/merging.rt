@@ -1,0 +1,121 @@
+//! Merging the subtrees of adjacent ranges, without their chunks.
+
+ghost use Rattle.std.specs.Prelude.{◌≡◌, ◌+◌, ◌^◌, ◌<◌, ◌≤◌, ◌⊎◌, ◌↔◌, List, [], ◌∷◌, flat_map, IfOk, IfErr, SomeIff, IsErrOf, IsTrue};
+ghost use Rattle.xet_merkle.specs.Groups.{Node};
+ghost use Rattle.xet_merkle.specs.Subtree.{Subtree, IsCanonical, levels_size};
+ghost use Rattle.xet_merkle.specs.Merging.{IsMerged, MergesTo, NoMarkBetween, start_mark, end_mark, ranges_size, AreCanonical};
+
+use super::MerkleHashSubtree;
+use crate::error::CoreError;
+use crate::merkle_hash_subtree::join::join;
+use std::alloc::Allocator;
+
+// Whether no mark stands between adjacent ranges.
+fn no_mark_between<A: Allocator>(ranges: &[MerkleHashSubtree<A>]) -> bool
+    ensures { IsTrue result ↔ NoMarkBetween ranges.now }
+{
+    let mut rest = ranges;
+    'marks: while let [range, next @ ..] = rest {
+        if let [other, ..] = next {
+            if range.at_end() || other.at_start() {
+                return false;
+            }
+        }
+        rest = next;
+    }
+    true
+}
+
+// The sum of the sizes of all ranges, where it is at most `u64::MAX`.
+fn ranges_size<A: Allocator>(ranges: &[MerkleHashSubtree<A>]) -> Option<u64>
+    ensures { SomeIff result (ranges_size ranges.now < 2 ^ 64) (ranges_size ranges.now) }
+{
+    let mut size = 0u64;
+    'sizes: for range in ranges {
+        size = size.checked_add(range.total_size())?;
+    }
+    Some(size)
+}
+
+impl<A: Allocator + Clone> MerkleHashSubtree<A> {
+    /// Merges the subtree of the range that follows this one's into it: it becomes the canonical subtree
+    /// of the joined list, with its own start mark and the other's end mark.
+    ///
+    /// It fails with [`CoreError::InvalidArguments`] where this range is marked at its end or the other at
+    /// its start, also where either is empty; then with [`CoreError::SizeOverflow`] where the sizes of both
+    /// add up to more than `u64::MAX`, before anything is allocated; and with [`CoreError::OutOfMemory`]
+    /// where an allocation is refused.
+    pub fn merge_into(&mut self, other: &Self) -> Result<(), CoreError>
+        ensures merged { IfOk result (λ _. IsMerged self.old other.now self.new) }
+        ensures unchanged { IfErr result (λ _. self.new ≡ self.old) }
+        ensures arguments { IsErrOf result CoreError.InvalidArguments ↔ (IsTrue self.old.at_end ⊎ IsTrue other.now.at_start) }
+        ensures overflow { IsErrOf result CoreError.SizeOverflow ↔
+            (¬ (IsTrue self.old.at_end ⊎ IsTrue other.now.at_start) × (2 ^ 64 ≤ levels_size self.old.levels + levels_size other.now.levels)) }
+        ensures errors { IfErr result (λ e.
+            (e ≡ CoreError.InvalidArguments) ⊎ ((e ≡ CoreError.SizeOverflow) ⊎ (e ≡ CoreError.OutOfMemory))) }
+    {
+        if self.at_end() || other.at_start() {
+            return Err(CoreError::InvalidArguments);
+        }
+        let Some(size) = self.total_size().checked_add(other.total_size()) else {
+            return Err(CoreError::SizeOverflow);
+        };
+        let alloc = self.nodes.allocator().clone()?;
+        let levels = join(
+            alloc,
+            self.levels(),
+            other.levels(),
+            self.at_start(),
+            other.at_end(),
+        )?;
+        *self = Self::close(levels, self.at_start(), other.at_end(), size)?;
+        Ok(())
+    }
+    /// Merges adjacent ranges in order: the canonical subtree of the joined list, with the first range's
+    /// start mark and the last one's end mark. Of no ranges it is the empty subtree with both marks; of one
+    /// it is a copy.
+    ///
+    /// It fails with [`CoreError::InvalidArguments`] where a range other than the first is marked at its
+    /// start or one other than the last at its end; then with [`CoreError::SizeOverflow`] where the sizes of
+    /// all ranges add up to more than `u64::MAX`, before anything is allocated; and with
+    /// [`CoreError::OutOfMemory`] where an allocation is refused.
+    pub fn merge(alloc: A, ranges: &[MerkleHashSubtree<A>]) -> Result<Self, CoreError>
+        ensures canonical { IfOk result (λ merged. (lists : List (List Node)) →
+            AreCanonical ranges.now lists → IsCanonical merged (flat_map (λ list. list) lists)) }
+        ensures start { IfOk result (λ merged. merged.at_start ≡ start_mark ranges.now) }
+        ensures end { IfOk result (λ merged. merged.at_end ≡ end_mark ranges.now) }
+        ensures size { IfOk result (λ merged. levels_size merged.levels ≡ ranges_size ranges.now) }
+        ensures copy { IfOk result (λ merged. (range : Subtree) → ranges.now ≡ range ∷ [] → merged ≡ range) }
+        ensures arguments { IsErrOf result CoreError.InvalidArguments ↔ ¬ (NoMarkBetween ranges.now) }
+        ensures overflow { IsErrOf result CoreError.SizeOverflow ↔
+            (NoMarkBetween ranges.now × (2 ^ 64 ≤ ranges_size ranges.now)) }
+        ensures errors { IfErr result (λ e.
+            (e ≡ CoreError.InvalidArguments) ⊎ ((e ≡ CoreError.SizeOverflow) ⊎ (e ≡ CoreError.OutOfMemory))) }
+    {
+        if !no_mark_between(ranges) {
+            return Err(CoreError::InvalidArguments);
+        }
+        if ranges_size(ranges).is_none() {
+            return Err(CoreError::SizeOverflow);
+        }
+        match ranges {
+            [] => Self::from_chunks(alloc, true, &[], true),
+            [range] => range.copy(alloc),
+            [first, others @ ..] => Ok(first.copy(alloc)?.followed_by(others)?),
+        }
+    }
+
+    // This range and all that follow it, merged.
+    fn followed_by(self, others: &[MerkleHashSubtree<A>]) -> Result<Self, CoreError>
+        requires marks { NoMarkBetween (self ∷ others.now) }
+        requires fits { ranges_size (self ∷ others.now) < 2 ^ 64 }
+        ensures merges { IfOk result (λ merged. MergesTo (self ∷ others.now) (merged ∷ [])) }
+        ensures err { IfErr result (λ e. e ≡ CoreError.OutOfMemory) }
+    {
+        let mut merged = self;
+        'merging: for range in others {
+            merged.merge_into(range)?;
+        }
+        Ok(merged)
+    }
+}
