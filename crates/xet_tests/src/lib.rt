@@ -7,4 +7,6 @@ mod aggregated_hashes;
 #[cfg(test)]
 mod blake3;
 #[cfg(test)]
+mod drawn;
+#[cfg(test)]
 mod merkle_hash_subtree;
