@@ -9,4 +9,8 @@ mod blake3;
 #[cfg(test)]
 mod drawn;
 #[cfg(test)]
+mod error;
+#[cfg(test)]
 mod merkle_hash_subtree;
+#[cfg(test)]
+mod refused_allocations;
