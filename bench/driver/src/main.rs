@@ -8,6 +8,14 @@ extern "C" {
     fn xet_bench_keyed_hash(message: *const u8, len: usize, out: *mut u8, out_len: usize);
     fn xet_bench_hasher(message: *const u8, len: usize, piece: usize, out: *mut u8, out_len: usize);
     fn xet_bench_xorb_hash(nodes: *const u64, len: usize, out: *mut u8, out_len: usize) -> bool;
+    fn xet_bench_from_chunks(
+        at_start: bool,
+        nodes: *const u64,
+        len: usize,
+        at_end: bool,
+        out: *mut u8,
+        out_len: usize,
+    ) -> bool;
 }
 
 const DATA_KEY: [u8; 32] = [
@@ -50,6 +58,14 @@ fn our_root(nodes: &[u64]) -> [u8; 32] {
     let mut out = [0; 32];
     let done =
         unsafe { xet_bench_xorb_hash(nodes.as_ptr(), nodes.len(), out.as_mut_ptr(), 32) };
+    assert!(done);
+    out
+}
+
+fn our_subtree(at_start: bool, nodes: &[u64], at_end: bool) -> [u8; 32] {
+    let mut out = [0; 32];
+    let (nodes, len, out_start) = (nodes.as_ptr(), nodes.len(), out.as_mut_ptr());
+    let done = unsafe { xet_bench_from_chunks(at_start, nodes, len, at_end, out_start, 32) };
     assert!(done);
     out
 }
@@ -121,6 +137,27 @@ fn compare(
     println!("| {name} | {:.0} | {:.0} | {:.2} |", rate(best), rate(peer), peer / best);
 }
 
+// The time of a task of ours beside that of `xorb_hash` over the same list.
+fn beside_root(name: &str, nodes: &[u64], mut task: impl FnMut() -> [u8; 32]) {
+    let (mut best, mut root) = (f64::MAX, f64::MAX);
+    for _ in 0..TURNS {
+        best = best.min(seconds(1, &mut task));
+        root = root.min(seconds(1, || our_root(black_box(nodes))));
+    }
+    println!("| {name} | {:.0} | {:.0} | {:.2} |", best * 1e3, root * 1e3, best / root);
+}
+
+fn compare_subtrees(nodes: &[u64]) {
+    assert_eq!(our_subtree(true, nodes, true), our_root(nodes));
+    println!("\n| Task | time, ms | `xorb_hash`, ms | ratio |\n|---|---|---|---|");
+    for (name, is_marked) in [
+        ("`from_chunks`, a million pairs, no end marked", false),
+        ("`from_chunks`, a million pairs, both ends marked", true),
+    ] {
+        beside_root(name, nodes, || our_subtree(is_marked, black_box(nodes), is_marked));
+    }
+}
+
 fn main() {
     let message: Vec<u8> = (0..64usize << 20).map(|i| (i % 251) as u8).collect();
     println!("| Task | ours, MB/s | crate, MB/s | ratio |\n|---|---|---|---|");
@@ -161,4 +198,5 @@ fn main() {
         || our_root(black_box(&nodes)),
         || their_root(black_box(&nodes)),
     );
+    compare_subtrees(&nodes);
 }

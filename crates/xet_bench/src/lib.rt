@@ -7,6 +7,7 @@ use std::alloc::{AllocError, Global};
 use xet_hash::blake3::{Hasher, keyed_hash};
 use xet_hash::data_hash::{DATA_KEY, MerkleHash};
 use xet_merkle::aggregated_hashes::{Node, xorb_hash};
+use xet_merkle::merkle_hash_subtree::MerkleHashSubtree;
 
 /// Writes the keyed hash of `message` under the data key to `out`.
 #[unsafe(no_mangle)]
@@ -45,6 +46,30 @@ pub extern "C" fn xet_bench_xorb_hash(alloc: Global, nodes: &[u64], out: &mut [u
             }
             Err(_) => false,
         },
+        Err(_) => false,
+    }
+}
+
+/// Makes the subtree of a list of nodes, given as to `xet_bench_xorb_hash`, and writes its final hash to
+/// `out`, zeros where it has none. False where memory runs out or the sizes pass `u64::MAX`.
+#[unsafe(no_mangle)]
+pub extern "C" fn xet_bench_from_chunks(
+    alloc: Global,
+    at_start: bool,
+    nodes: &[u64],
+    at_end: bool,
+    out: &mut [u8],
+) -> bool
+    requires { length out.old ≡ 32 }
+{
+    let Ok(nodes) = nodes_of(alloc, nodes) else {
+        return false;
+    };
+    match MerkleHashSubtree::from_chunks(alloc, at_start, nodes.as_slice(), at_end) {
+        Ok(subtree) => {
+            out.copy_from_slice(&subtree.final_hash().unwrap_or_default().as_bytes());
+            true
+        }
         Err(_) => false,
     }
 }

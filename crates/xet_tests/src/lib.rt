@@ -7,4 +7,10 @@ mod aggregated_hashes;
 #[cfg(test)]
 mod blake3;
 #[cfg(test)]
+mod drawn;
+#[cfg(test)]
+mod error;
+#[cfg(test)]
 mod merkle_hash_subtree;
+#[cfg(test)]
+mod refused_allocations;

@@ -1,8 +1,13 @@
 //! Stable points and canonical subtrees of lists whose natural cuts are told, and of drawn lists.
 
-use std::alloc::{AllocError, Global};
+mod boundaries;
+mod levels;
+
+use crate::drawn::drawn_list;
+use rand_core::SeedableRng;
+use rand_xoshiro::Xoshiro256PlusPlus;
 use std::test::Fail;
-use xet_hash::data_hash::{DataHash, MerkleHash};
+use xet_hash::data_hash::MerkleHash;
 use xet_merkle::CoreError;
 use xet_merkle::aggregated_hashes::{Node, xorb_hash};
 use xet_merkle::merkle_hash_subtree::{MerkleHashSubtree, find_stable_end, find_stable_start};
@@ -135,19 +140,11 @@ fn sizes_stay_below_two_to_the_64(rt: HostRuntime) -> Result<(), Fail> {
     Ok(())
 }
 
-// A drawn list: hashes from the seeds 0, 1, .., and sizes from 100 on.
-fn drawn(alloc: Global, count: u64) -> Result<Vec<Node>, AllocError> {
-    let mut nodes = Vec::new(alloc);
-    for i in 0..count {
-        nodes.push((DataHash::random_from_seed(i), (i % 1000) + 100))?;
-    }
-    Ok(nodes)
-}
-
 #[test]
 fn drawn_lists_have_their_root_on_top(rt: HostRuntime) -> Result<(), Fail> {
+    let mut generator = Xoshiro256PlusPlus::seed_from_u64(5);
     for count in 0..31 {
-        let nodes = drawn(rt.alloc(), count)?;
+        let nodes = drawn_list(&mut generator, rt.alloc(), count)?;
         let root = xorb_hash(rt.alloc(), nodes.as_slice())?;
         let closed = MerkleHashSubtree::from_chunks(rt.alloc(), true, nodes.as_slice(), true)?;
         assert_eq!(rt; closed.final_hash(), Some(root), "{count}");
@@ -157,8 +154,9 @@ fn drawn_lists_have_their_root_on_top(rt: HostRuntime) -> Result<(), Fail> {
 
 #[test]
 fn no_level_keeps_more_nodes_than_the_list_has(rt: HostRuntime) -> Result<(), Fail> {
+    let mut generator = Xoshiro256PlusPlus::seed_from_u64(6);
     for count in [20usize, 50, 100, 200] {
-        let nodes = drawn(rt.alloc(), count as u64)?;
+        let nodes = drawn_list(&mut generator, rt.alloc(), count as u64)?;
         for (at_start, at_end) in [(false, false), (false, true), (true, false), (true, true)] {
             let subtree = MerkleHashSubtree::from_chunks(
                 rt.alloc(),

@@ -1,0 +1,16 @@
+//! The texts of the error.
+
+use std::test::Fail;
+use xet_merkle::CoreError;
+
+#[test]
+fn prints_why_a_call_was_refused(rt: HostRuntime) -> Result<(), Fail> {
+    for (error, text) in [
+        (CoreError::SizeOverflow, "size overflow"),
+        (CoreError::OutOfMemory, "out of memory"),
+    ] {
+        let printed = format!(in rt.alloc(); "{error}")?;
+        assert_eq!(rt; printed.as_str(), text);
+    }
+    Ok(())
+}

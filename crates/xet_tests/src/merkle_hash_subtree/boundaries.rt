@@ -1,0 +1,72 @@
+//! The stable points of drawn lists, where other drawn nodes stand before or after the list.
+
+use crate::drawn::drawn_list;
+use rand_core::{Rng, SeedableRng};
+use rand_xoshiro::Xoshiro256PlusPlus;
+use std::alloc::{AllocError, Global};
+use std::test::Fail;
+use xet_merkle::aggregated_hashes::Node;
+use xet_merkle::merkle_hash_subtree::{find_stable_end, find_stable_start};
+
+// Whether one of the groups of two lists in a row ends after so many nodes. A group ends at its ninth node,
+// or before that at the first natural cut from the third node on.
+fn has_group_end(first: &[Node], second: &[Node], place: usize) -> bool {
+    let mut passed = 0usize;
+    let mut len = 0usize;
+    for (hash, _) in first.iter().chain(second.iter()) {
+        passed = passed.saturating_add(1);
+        len = len.saturating_add(1);
+        if len == 9 || len >= 3 && *hash % 4 == 0 {
+            if passed == place {
+                return true;
+            }
+            len = 0;
+        }
+    }
+    false
+}
+
+// 20 drawn lists of each length from 1 to 20.
+fn drawn_lists(
+    generator: &mut Xoshiro256PlusPlus,
+    alloc: Global,
+) -> Result<Vec<Vec<Node>>, AllocError> {
+    let mut lists = Vec::new(alloc);
+    for length in 1..21 {
+        for _ in 0..20 {
+            lists.push(drawn_list(generator, alloc, length)?)?;
+        }
+    }
+    Ok(lists)
+}
+
+// Whether the first stable point of some nodes stays a group's end behind each of some lists, and the last
+// one before each.
+fn stay_group_ends(nodes: &[Node], start: usize, end: usize, others: &[Vec<Node>]) -> bool {
+    others.iter().all(|other| {
+        has_group_end(other.as_slice(), nodes, start.saturating_add(other.len()))
+            && has_group_end(nodes, other.as_slice(), end)
+    })
+}
+
+// How many of the 1000 lists have a stable point is a value from outside.
+#[test]
+fn stable_points_end_groups_among_drawn_nodes(rt: HostRuntime) -> Result<(), Fail> {
+    let mut generator = Xoshiro256PlusPlus::seed_from_u64(1);
+    let others = drawn_lists(&mut Xoshiro256PlusPlus::seed_from_u64(2), rt.alloc())?;
+    let mut count = 0usize;
+    for number in 0..1000 {
+        let length = generator.next_u64() % 85 + 15;
+        let nodes = drawn_list(&mut generator, rt.alloc(), length)?;
+        let nodes = nodes.as_slice();
+        if let (Some(start), Some(end)) = (find_stable_start(nodes), find_stable_end(nodes)) {
+            assert!(rt;
+                stay_group_ends(nodes, start, end, others.as_slice()),
+                "{number}"
+            );
+            count = count.saturating_add(1);
+        }
+    }
+    assert_eq!(rt; count, 765);
+    Ok(())
+}
