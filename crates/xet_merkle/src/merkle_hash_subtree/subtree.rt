@@ -187,9 +187,10 @@ impl<A: Allocator> MerkleHashSubtree<A> {
         self.counts.len()
     }
 
-    /// Whether no node is kept.
+    /// Whether no node is kept, as of the empty list and of no other.
     pub fn is_empty(&self) -> bool
-        ensures { IsTrue result ↔ (node_count self.now.levels ≡ 0) }
+        ensures nodes { IsTrue result ↔ (node_count self.now.levels ≡ 0) }
+        ensures chunks { (chunks : List Node) → IsCanonical self.now chunks → IsTrue result ↔ (length chunks ≡ 0) }
     {
         self.nodes.is_empty()
     }
