@@ -183,6 +183,7 @@ impl<A: Allocator> MerkleHashSubtree<A> {
     pub fn num_levels(&self) -> usize
         ensures levels { result ≡ length self.now.levels }
         ensures some { 0 < result }
+        ensures well_formed { IsWellFormed self.now }
     {
         self.counts.len()
     }
