@@ -10,4 +10,5 @@ pub mod Merging
 pub mod Joining
 pub mod SubtreeEquality
 pub mod FlatLevels
+pub mod SubtreeJson
 pub mod OpenLevels

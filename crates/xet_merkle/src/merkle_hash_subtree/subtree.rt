@@ -11,6 +11,7 @@ ghost use Rattle.xet_merkle.specs.WellFormed.{IsWellFormed};
 ghost use Rattle.xet_merkle.specs.FlatLevels.{levels_of, flat_nodes, IsFlat, IsStored};
 ghost use Rattle.xet_merkle.specs.OpenLevels.{AreOperands, HasJoin, StandsFor};
 
+mod json;
 mod merging;
 
 use super::levels::Levels;
