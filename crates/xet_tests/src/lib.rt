@@ -8,3 +8,7 @@ mod aggregated_hashes;
 mod blake3;
 #[cfg(test)]
 mod merkle_hash_subtree;
+#[cfg(test)]
+mod passthrough_hasher;
+#[cfg(test)]
+mod passthrough_hashmap;
