@@ -19,6 +19,8 @@ use std::hash::{BuildHasherDefault, FoldHasher, Hash};
 use std::marker::Model;
 
 /// How the map inside hashes: as every `HashMap` of the standard library for which nothing else is named.
+///
+/// This item is this port's own.
 pub type DefaultBuildHasher = BuildHasherDefault<FoldHasher>;
 
 /// A finite map from keys that are hashes to values.
