@@ -4,7 +4,7 @@ ghost use Rattle.std.specs.Prelude.{◌≡◌, List, [], ◌∷◌, length, map,
 ghost use Rattle.serde_json.specs.Data.{Data};
 ghost use Rattle.serde_json.specs.View.{view};
 ghost use Rattle.xet_merkle.specs.Groups.{Node};
-ghost use Rattle.xet_merkle.specs.SubtreeJson.{node_json, counts_json, subtree_json};
+ghost use Rattle.xet_merkle.specs.SubtreeJson.{node_json, counts_json, subtree_object, subtree_json};
 
 use super::MerkleHashSubtree;
 use crate::aggregated_hashes::Node;
@@ -34,6 +34,19 @@ fn nodes_to_json(alloc: Global, nodes: &[Node]) -> Result<Vec<Value>, AllocError
     Ok(values)
 }
 
+// The object of a subtree's marks, levels and nodes.
+fn object_of(
+    alloc: Global,
+    at_start: bool,
+    at_end: bool,
+    levels: Value,
+    nodes: Value,
+) -> Result<Value, AllocError>
+    ensures { IfOk result (λ value. view value ≡ subtree_object at_start at_end (view levels) (view nodes)) }
+{
+    json!(in alloc; {"at_end": at_end, "at_start": at_start, "levels": levels, "nodes": nodes})
+}
+
 impl<A: Allocator> MerkleHashSubtree<A> {
     /// The JSON object of the subtree: `levels` has the number of left and right nodes of each level, from the
     /// chunks up, and `nodes` the left nodes of all levels by rising level, then the right nodes by falling
@@ -47,7 +60,6 @@ impl<A: Allocator> MerkleHashSubtree<A> {
     {
         let levels = Value::Array(counts_to_json(alloc, &self.counts)?);
         let nodes = Value::Array(nodes_to_json(alloc, &self.nodes)?);
-        let (at_start, at_end) = (self.at_start, self.at_end);
-        Ok(json!(in alloc; {"at_end": at_end, "at_start": at_start, "levels": levels, "nodes": nodes})?)
+        Ok(object_of(alloc, self.at_start, self.at_end, levels, nodes)?)
     }
 }
