@@ -11,4 +11,5 @@ pub mod Joining
 pub mod SubtreeEquality
 pub mod FlatLevels
 pub mod SubtreeJson
+pub mod JsonParts
 pub mod OpenLevels
