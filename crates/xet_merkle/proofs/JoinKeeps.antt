@@ -19,7 +19,8 @@ use Rattle.xet_merkle.proofs.Splits.{middle_some}
 use Rattle.xet_merkle.proofs.FlatLevelLaws.{total_size-append}
 use Rattle.xet_merkle.proofs.Collapsing.{levels_size-canonical}
 use Rattle.xet_merkle.proofs.CanonicalLaws.{top_nodes-more, levels_some, closed_root}
-use Rattle.xet_merkle.proofs.SideLaws.{BeginsStable-append, first_leaves_none, last_leaves_none, low_side, high_side}
+use Rattle.xet_merkle.proofs.StableScan.{BeginsStable-append}
+use Rattle.xet_merkle.proofs.SideLaws.{first_leaves_none, last_leaves_none, low_side, high_side}
 
 -- ---- sides
 

@@ -15,7 +15,9 @@ use Rattle.xet_merkle.proofs.GroupLaws.{Groups-unique}
 use Rattle.xet_merkle.proofs.CutPlaces.{EndsStable-append, before_cut, after_cut, behind_one}
 use Rattle.xet_merkle.proofs.StableGroups.{Groups-behind}
 use Rattle.xet_merkle.proofs.CanonicalLaws.{levels_some}
-use Rattle.xet_merkle.proofs.SideLaws.{BeginsStable-append, BeginsStable-some, EndsStable-cut, first_from_sides, last_from_sides, last_leaves_none, low_before_more, high_behind_more}
+use Rattle.xet_merkle.proofs.StableScan.{BeginsStable-append}
+use Rattle.xet_merkle.proofs.Splits.{BeginsStable-some}
+use Rattle.xet_merkle.proofs.SideLaws.{EndsStable-cut, first_from_sides, last_from_sides, last_leaves_none, low_before_more, high_behind_more}
 
 -- ---- one level
 

@@ -5,15 +5,15 @@ pub mod FirstGroup
 pub mod Scanning
 pub mod CutPlaces
 pub mod StableGroups
-pub mod SideLaws
 pub mod PlaceSearch
 pub mod StableSearch
 pub mod Splits
 pub mod CanonicalLaws
-pub mod JoinLaws
 pub mod Triples
 pub mod StableScan
 pub mod StableLoops
+pub mod SideLaws
+pub mod JoinLaws
 pub mod FlatLevelLaws
 pub mod Collapsing
 pub mod JoinKeeps
@@ -23,3 +23,4 @@ pub mod InsideLevels
 pub mod FinalHash
 pub mod FlatLevelEquality
 pub mod CanonicalBounds
+pub mod RuleLaws

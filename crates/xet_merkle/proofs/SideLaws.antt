@@ -1,6 +1,6 @@
 -- What stays on either side of a level below the top: a first stable point is known by the nodes before it
 -- and the beginning of those behind it, a last one by the end of the nodes before it and those behind it.
--- Rests on CutPlaces.
+-- Rests on StableScan and Splits.
 use Rattle.std.proofs.Common.{◌≡◌, ◌<◌, Bool, true, false, List, [], ◌∷◌, ◌++◌, length, sym, ap, subst, ◌∙◌, inl, arith, append_assoc, length-append}
 use Rattle.xet_merkle.specs.Groups.{Node, Cut, EndsWithCut}
 use Rattle.xet_merkle.specs.StablePoints.{EndsStable, BeginsStable, NoStable, IsFirstStable, IsLastStable}
@@ -8,24 +8,11 @@ use Rattle.xet_merkle.specs.Canonical.{IsLow, IsHigh}
 use Rattle.xet_merkle.specs.WellFormed.{IsLeftSide, IsRightSide}
 use Rattle.xet_merkle.proofs.Places.{meets}
 use Rattle.xet_merkle.proofs.Places.Meets.{same, earlier, later}
+use Rattle.xet_merkle.proofs.StableScan.{BeginsStable-append, IsFirstStable-append}
+use Rattle.xet_merkle.proofs.Splits.{BeginsStable-some}
 use Rattle.xet_merkle.proofs.CutPlaces.{not_among, back_of, EndsStable-append, swap_front, EndsWithCut-one, EndsBehind-ends}
 
 -- ---- beginnings and ends
-
-pub BeginsStable-append : (nodes more : List Node) → BeginsStable nodes → BeginsStable (nodes ++ more)
-BeginsStable-append nodes more h = record {
-  between = h.between;
-  first = h.first;
-  after = h.after ++ more;
-  parts = ap (λ (l : List Node). l ++ more) h.parts ∙ append_assoc h.between (h.first ∷ h.after) more;
-  first_cut = h.first_cut;
-  no_cut = h.no_cut;
-  two = h.two;
-  six = h.six;
-}
-
-pub BeginsStable-some : (nodes : List Node) → BeginsStable nodes → 0 < length nodes
-BeginsStable-some nodes h = let len = ap length h.parts in omega (arith, length-append h.between (h.first ∷ h.after))
 
 pub EndsStable-cut : (nodes : List Node) → EndsStable nodes → EndsWithCut nodes
 EndsStable-cut nodes h = (EndsBehind-ends nodes (inl h)).0
@@ -127,8 +114,7 @@ high_side false middle right h = (h.stable.begins, last_leaves_none middle right
 -- more nodes behind, and before
 pub low_before_more : (at_start : Bool) (left rest more : List Node) → IsLow at_start left rest → IsLow at_start left (rest ++ more)
 low_before_more true left rest more h = h
-low_before_more false left rest more h =
-    first_from_sides left (rest ++ more) h.stable.ends (first_leaves_none left rest h) (BeginsStable-append rest more h.stable.begins)
+low_before_more false left rest more h = IsFirstStable-append left rest more h
 
 pub high_behind_more : (at_end : Bool) (more middle right : List Node) → IsHigh at_end middle right → IsHigh at_end (more ++ middle) right
 high_behind_more true more middle right h = h

@@ -97,7 +97,7 @@ module _ (at_start at_end : Bool) where
 EndsStable-some : (nodes : List Node) → EndsStable nodes → 0 < length nodes
 EndsStable-some nodes h = let len = ap length h.parts in omega (arith, length-append h.before (h.first ∷ (h.between ++ h.last ∷ [])))
 
-BeginsStable-some : (nodes : List Node) → BeginsStable nodes → 0 < length nodes
+pub BeginsStable-some : (nodes : List Node) → BeginsStable nodes → 0 < length nodes
 BeginsStable-some nodes h = let len = ap length h.parts in omega (arith, length-append h.between (h.first ∷ h.after))
 
 -- the lower end stands before the upper one

@@ -96,7 +96,7 @@ pub record LastSoFar (nodes : List Node) (i : ℕ) (scan : CutScan) (found : Opt
   pub scanned : Scanned (front ++ take i nodes) scan
   pub last : FoundLast found front (take i nodes)
 
-Scanned-more : (nodes : List Node) (i : ℕ) (scan : CutScan) (front : List Node) (d : Node) → i < length nodes → Scanned (front ++ take i nodes) scan →
+pub Scanned-more : (nodes : List Node) (i : ℕ) (scan : CutScan) (front : List Node) (d : Node) → i < length nodes → Scanned (front ++ take i nodes) scan →
     Scanned (front ++ take (i + 1) nodes) (next_scan scan (is_cut (get_or nodes i d)))
 Scanned-more nodes i scan front d within h =
     let node = get_or nodes i d in

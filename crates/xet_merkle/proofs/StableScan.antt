@@ -32,8 +32,11 @@ pub record IsScanned (front : List Node) (has_cut ends_stable : Bool) (since : �
 pub IsScanned-none : IsScanned [] false false 0
 IsScanned-none = record { head = []; tail = []; parts = refl; no_cut = tt; since_is = refl; head_is = refl }
 
-gap_parts : (n : ℕ) → is_stable_gap n ≡ true → (2 ≤ n) × (n ≤ 6)
+pub gap_parts : (n : ℕ) → is_stable_gap n ≡ true → (2 ≤ n) × (n ≤ 6)
 gap_parts n h = let both = and_parts (leb 2 n) (leb n 6) h in (leb-true 2 n both.0, leb-true n 6 both.1)
+
+pub gap_from : (n : ℕ) → 2 ≤ n → n ≤ 6 → is_stable_gap n ≡ true
+gap_from n two six = and_from (leb 2 n) (leb n 6) (le-leb 2 n two) (le-leb n 6 six)
 
 no_gap : (n : ℕ) → is_stable_gap n ≡ false → 2 ≤ n → n ≤ 6 → ⊥
 no_gap n h two six = elim (and_cases (leb 2 n) (leb n 6) h) [
@@ -263,7 +266,7 @@ module _ (front : List Node) (has_cut ends_stable : Bool) (since : ℕ) (node : 
       let len_tail = ap length at.1 in
       let two = new.two in
       let six = new.six in
-      let is_gap : is_stable_gap since ≡ true = and_from (leb 2 since) (leb since 6) (le-leb 2 since (omega arith)) (le-leb since 6 (omega arith)) in
+      let is_gap = gap_from since (omega arith) (omega arith) in
       (and_from (is_cut node) (ends_stable && is_stable_gap since) new.cut (and_from ends_stable (is_stable_gap since) stable is_gap), sym len)
 
   pub NoStable-more : completing ≡ false → NoStable front → NoStable (front ++ node ∷ [])

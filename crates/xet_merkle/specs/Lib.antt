@@ -12,4 +12,5 @@ pub mod SubtreeEquality
 pub mod FlatLevels
 pub mod SubtreeJson
 pub mod JsonParts
+pub mod LevelRules
 pub mod OpenLevels

@@ -3,8 +3,10 @@
 
 mod join;
 mod json_parts;
+mod level_rules;
 mod levels;
 mod open_levels;
+mod sides;
 mod split;
 mod stable_points;
 mod subtree;

@@ -34,6 +34,16 @@ impl<'a> Levels<'a> {
         Levels { counts, nodes }
     }
 
+    // The same levels, to be read once more.
+    pub(super) fn again(&self) -> Self
+        ensures { result ≡ self.now }
+    {
+        Levels {
+            counts: self.counts,
+            nodes: self.nodes,
+        }
+    }
+
     // Whether there are levels above the first.
     pub(super) fn has_above(&self) -> bool
         ensures above { IsTrue result ↔ (1 < length self.now) }

@@ -1,9 +1,9 @@
 //! The stable points of a list of nodes: places at which groups end, whatever nodes stand before and
 //! after the list.
 
-ghost use Rattle.std.specs.Prelude.{◌≡◌, ◌<◌, ◌≤◌, List, ◌++◌, false, length, take, drop, IfSome, IfNone};
+ghost use Rattle.std.specs.Prelude.{◌≡◌, ◌<◌, ◌≤◌, ◌↔◌, List, ◌++◌, true, false, length, take, drop, IfSome, IfNone, IsTrue};
 ghost use Rattle.xet_merkle.specs.Groups.{Node};
-ghost use Rattle.xet_merkle.specs.StablePoints.{NoStable, IsFirstStable, IsLastStable, IsGroupBoundary};
+ghost use Rattle.xet_merkle.specs.StablePoints.{EndsStable, NoStable, IsFirstStable, IsLastStable, IsGroupBoundary};
 ghost use Rattle.xet_merkle.specs.Scan.{is_stable_gap};
 ghost use Rattle.xet_merkle.specs.StableScan.{completes, next_scan, IsFront};
 
@@ -21,7 +21,7 @@ struct CutScan {
 }
 
 // Whether so many nodes between two natural cuts make the second one 3 to 7 nodes after the first.
-fn is_stable_gap(between: usize) -> bool
+pub(super) fn is_stable_gap(between: usize) -> bool
     ensures { result ≡ is_stable_gap between }
 {
     2 <= between && between <= 6
@@ -46,6 +46,13 @@ impl CutScan {
         is_cut && self.ends_stable && is_stable_gap(self.since_cut)
     }
 
+    // Whether the nodes passed end stable.
+    fn is_end(&self) -> bool
+        ensures { IsTrue result ↔ ((self.now.ends_stable ≡ true) × (self.now.since_cut ≡ 0)) }
+    {
+        self.ends_stable && self.since_cut == 0
+    }
+
     // Passes the next node.
     fn pass(&mut self, is_cut: bool)
         requires { self.old.since_cut < usize.MAX }
@@ -59,6 +66,17 @@ impl CutScan {
             self.since_cut += 1;
         }
     }
+}
+
+// Whether some nodes end with a natural cut that stands 3 to 7 nodes after the natural cut before it.
+pub(super) fn ends_stable(nodes: &[Node]) -> bool
+    ensures { IsTrue result ↔ EndsStable nodes.now }
+{
+    let mut scan = CutScan::new(false);
+    'scan: for i in 0..nodes.len() {
+        scan.pass(is_natural_cut(&nodes[i]));
+    }
+    scan.is_end()
 }
 
 /// The first stable point of some nodes: the number of nodes before it, or `None` where there is none. A

@@ -1,0 +1,10 @@
+use Rattle.std.proofs.Common.{◌≡◌, ◌↔◌, false, [], length}
+use Rattle.xet_merkle.specs.WellFormed.{IsLeftSide, IsRightSide}
+use Rattle.xet_merkle.specs.LevelRules.{Each, below_top}
+use Rattle.xet_merkle.proofs.merkle_hash_subtree.level_rules.no_rights.Given as goal
+
+abbrev pub invariant-rights : goal.invariant-rights
+invariant-rights l = Each (λ level. level.right ≡ []) (below_top l.levels) ↔ Each (λ level. level.right ≡ []) (below_top l.rest)
+
+abbrev pub decreases-rights : goal.decreases-rights
+decreases-rights l = length l.rest

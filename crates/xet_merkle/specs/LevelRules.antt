@@ -1,0 +1,53 @@
+-- The rules that marks and levels keep: rules 8 to 13 of a subtree's JSON form. Levels that keep them are those of
+-- a well formed subtree.
+use Rattle.std.specs.Prelude.{◌≡◌, ℕ, ◌<◌, ◌≤◌, Bool, true, false, List, [], ◌∷◌, length}
+use Rattle.xet_merkle.specs.StablePoints.{EndsStable, BeginsStable, NoStable}
+use Rattle.xet_merkle.specs.Canonical.{Level, top_nodes}
+use Rattle.xet_merkle.specs.Joining.{no_level}
+use Rattle.xet_merkle.specs.WellFormed.{IsLeftSide, IsRightSide}
+
+-- all levels but the last
+abbrev pub below_top : List Level → List Level
+below_top [] = []
+below_top (top ∷ []) = []
+below_top (level ∷ next ∷ levels) = level ∷ below_top (next ∷ levels)
+
+-- the last level
+abbrev pub top_of : List Level → Level
+top_of [] = no_level
+top_of (top ∷ []) = top
+top_of (level ∷ next ∷ levels) = top_of (next ∷ levels)
+
+abbrev pub Each : (Level → Type 0) → List Level → Type 0
+Each Keeps [] = Unit {0}
+Each Keeps (level ∷ levels) = Keeps level × Each Keeps levels
+
+-- the rules by their numbers
+abbrev pub Rule8 : Bool → List Level → Type 0
+Rule8 at_end levels = ((top_of levels).right ≡ []) × (at_end ≡ true → Each (λ level. level.right ≡ []) (below_top levels))
+
+abbrev pub Rule9 : Bool → List Level → Type 0
+Rule9 at_start levels = at_start ≡ true → Each (λ level. level.left ≡ []) (below_top levels)
+
+abbrev pub Rule10 : Bool → Bool → List Level → Type 0
+Rule10 at_start at_end levels = at_start ≡ true → at_end ≡ true → length (top_nodes levels) ≤ 1
+
+abbrev pub Rule11 : List Level → Type 0
+Rule11 levels = 1 < length levels → 0 < length (top_nodes levels)
+
+abbrev pub Rule12 : Bool → List Level → Type 0
+Rule12 at_start levels = at_start ≡ false → Each (λ level. IsLeftSide false level.left) (below_top levels)
+
+abbrev pub Rule13 : Bool → List Level → Type 0
+Rule13 at_end levels = at_end ≡ false → Each (λ level. IsRightSide false level.right) (below_top levels)
+
+-- the least of them that is broken
+pub data BreaksLevelRule (at_start at_end : Bool) (levels : List Level) : ℕ → Type 0 where
+  at_8 : ¬ (Rule8 at_end levels) → BreaksLevelRule at_start at_end levels 8
+  at_9 : Rule8 at_end levels → ¬ (Rule9 at_start levels) → BreaksLevelRule at_start at_end levels 9
+  at_10 : Rule8 at_end levels → Rule9 at_start levels → ¬ (Rule10 at_start at_end levels) → BreaksLevelRule at_start at_end levels 10
+  at_11 : Rule8 at_end levels → Rule9 at_start levels → Rule10 at_start at_end levels → ¬ (Rule11 levels) → BreaksLevelRule at_start at_end levels 11
+  at_12 : Rule8 at_end levels → Rule9 at_start levels → Rule10 at_start at_end levels → Rule11 levels → ¬ (Rule12 at_start levels) →
+      BreaksLevelRule at_start at_end levels 12
+  at_13 : Rule8 at_end levels → Rule9 at_start levels → Rule10 at_start at_end levels → Rule11 levels → Rule12 at_start levels → ¬ (Rule13 at_end levels) →
+      BreaksLevelRule at_start at_end levels 13

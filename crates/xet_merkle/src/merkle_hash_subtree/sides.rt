@@ -1,0 +1,34 @@
+//! What may stay on either side of a level below the top.
+
+ghost use Rattle.std.specs.Prelude.{◌≡◌, ◌↔◌, false, List, IsTrue};
+ghost use Rattle.xet_merkle.specs.StablePoints.{EndsStable, BeginsStable};
+ghost use Rattle.xet_merkle.specs.WellFormed.{IsLeftSide, IsRightSide};
+
+use super::stable_points::{ends_stable, find_stable_start, is_stable_gap, last_stable};
+use crate::aggregated_hashes::{Node, is_natural_cut};
+
+// Whether nodes may stay on the left where the start isn't marked.
+pub(super) fn is_left_side(nodes: &[Node]) -> bool
+    ensures { IsTrue result ↔ IsLeftSide false nodes.now }
+{
+    ends_stable(nodes) && find_stable_start(nodes).is_none()
+}
+
+// Whether nodes may stay on the right where the end isn't marked.
+pub(super) fn is_right_side(nodes: &[Node]) -> bool
+    ensures { IsTrue result ↔ IsRightSide false nodes.now }
+{
+    begins_stable(nodes) && last_stable(nodes, true).is_none()
+}
+
+// Whether the first natural cut stands at index 2 to 6.
+fn begins_stable(nodes: &[Node]) -> bool
+    ensures { IsTrue result ↔ BeginsStable nodes.now }
+{
+    'nodes: for i in 0..nodes.len() {
+        if is_natural_cut(&nodes[i]) {
+            return is_stable_gap(i);
+        }
+    }
+    false
+}
