@@ -23,3 +23,4 @@ pub mod InsideLevels
 pub mod FinalHash
 pub mod FlatLevelEquality
 pub mod CanonicalBounds
+pub mod JsonLaws
