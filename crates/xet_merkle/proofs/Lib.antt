@@ -24,3 +24,4 @@ pub mod FinalHash
 pub mod FlatLevelEquality
 pub mod CanonicalBounds
 pub mod RuleLaws
+pub mod JsonLaws

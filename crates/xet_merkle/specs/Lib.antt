@@ -13,4 +13,5 @@ pub mod FlatLevels
 pub mod SubtreeJson
 pub mod JsonParts
 pub mod LevelRules
+pub mod JsonRules
 pub mod OpenLevels

@@ -1,15 +1,18 @@
 //! What is read of a subtree's JSON value before its levels and nodes are looked at together.
 
-ghost use Rattle.serde_json.specs.View.{view};
-ghost use Rattle.std.specs.Prelude.{◌≡◌, ℕ, Bool, List, IfOk, IfErr};
+ghost use Rattle.serde_json.specs.Data.{Data};
+ghost use Rattle.serde_json.specs.Find.{get, as_bool, as_array};
+ghost use Rattle.serde_json.specs.View.{view, items_view};
+ghost use Rattle.std.specs.Prelude.{◌≡◌, ◌⊎◌, ℕ, Bool, List, map, option_map, option_and_then, IfOk, IfErr, IfSome, IfNone};
 ghost use Rattle.xet_merkle.specs.Groups.{Node};
 ghost use Rattle.xet_merkle.specs.declared.error.CoreError.TheVariants.{OutOfMemory, InvalidJson};
-ghost use Rattle.xet_merkle.specs.JsonParts.{ReadsParts, BreaksPartRule};
+ghost use Rattle.xet_merkle.specs.JsonParts.{whole, ReadsNode, ReadsCounts, ReadAll, HasMembers, ReadsParts, BreaksPartRule};
 
 use crate::aggregated_hashes::Node;
 use crate::error::CoreError;
 use serde_json::Value;
 use std::alloc::Allocator;
+use xet_hash::data_hash::DataHash;
 
 // The marks, the counts of each level and the nodes that a value says.
 #[derive(Drop)]
@@ -19,4 +22,135 @@ pub(super) struct Parts<A: Allocator> {
     // How many left and right nodes each level has.
     pub(super) counts: Vec<(usize, usize), A>,
     pub(super) nodes: Vec<Node, A>,
+}
+
+// The members of a subtree's object, each of its kind.
+#[derive(Drop)]
+struct Members<'v> {
+    at_start: bool,
+    at_end: bool,
+    levels: &'v [Value],
+    nodes: &'v [Value],
+}
+
+// The truth value that a member is.
+fn truth_member(value: &Value, name: &str) -> Option<bool>
+    ensures { result ≡ option_and_then as_bool (get name.now (view value.now)) }
+{
+    value.get(name)?.as_bool()
+}
+
+// The values of the array that a member is.
+fn array_member<'v>(value: &'v Value, name: &str) -> Option<&'v [Value]>
+    ensures { option_map (λ values. items_view values.now) result ≡ option_and_then as_array (get name.now (view value.now)) }
+{
+    Some(value.get(name)?.as_array()?.as_slice())
+}
+
+// The members of a subtree's object, where each is there and of its kind.
+fn read_members<'v>(value: &'v Value) -> Option<Members<'v>>
+    ensures some { IfSome result (λ members. HasMembers (view value.now) members.at_start members.at_end
+        (map view members.levels.now) (map view members.nodes.now)) }
+    ensures none { IfNone result ((at_start at_end : Bool) (levels nodes : List Data) →
+        ¬ (HasMembers (view value.now) at_start at_end levels nodes)) }
+{
+    let at_start = truth_member(value, "at_start")?;
+    let at_end = truth_member(value, "at_end")?;
+    let levels = array_member(value, "levels")?;
+    let nodes = array_member(value, "nodes")?;
+    Some(Members {
+        at_start,
+        at_end,
+        levels,
+        nodes,
+    })
+}
+
+// The node that a value is.
+fn read_node(value: &Value) -> Option<Node>
+    ensures some { IfSome result (λ node. ReadsNode (view value.now) node) }
+    ensures none { IfNone result ((node : Node) → ¬ (ReadsNode (view value.now) node)) }
+{
+    let hash = DataHash::from_json(value.get("hash")?).ok()?;
+    let size = value.get("size")?.as_u64()?;
+    Some((hash, size))
+}
+
+// The whole number that a value is, as a count of nodes.
+fn read_count(value: &Value) -> Option<usize>
+    ensures { result ≡ whole (view value.now) }
+{
+    let count = value.as_u64()?;
+    Some(count as usize)
+}
+
+// The counts of left and right nodes that a value is.
+fn read_counts(value: &Value) -> Option<(usize, usize)>
+    ensures some { IfSome result (λ count. ReadsCounts (view value.now) count) }
+    ensures none { IfNone result ((count : ℕ × ℕ) → ¬ (ReadsCounts (view value.now) count)) }
+{
+    let [left, right] = value.as_array()?.as_slice() else {
+        return None;
+    };
+    Some((read_count(left)?, read_count(right)?))
+}
+
+// The nodes that some values are.
+fn read_nodes<A: Allocator>(alloc: A, values: &[Value]) -> Result<Vec<Node, A>, CoreError>
+    ensures read { IfOk result (λ nodes. ReadAll ReadsNode (map view values.now) nodes.items) }
+    ensures refused { IfErr result (λ e. (e ≡ OutOfMemory)
+        ⊎ ((e ≡ InvalidJson 3) × ((nodes : List Node) → ¬ (ReadAll ReadsNode (map view values.now) nodes)))) }
+{
+    let mut nodes = Vec::with_capacity(alloc, values.len())?;
+    'nodes: for value in values {
+        let Some(node) = read_node(value) else {
+            return Err(CoreError::InvalidJson(3));
+        };
+        nodes.push(node)?;
+    }
+    Ok(nodes)
+}
+
+// The counts that some values are.
+fn read_levels<A: Allocator>(
+    alloc: A,
+    values: &[Value],
+) -> Result<Vec<(usize, usize), A>, CoreError>
+    ensures read { IfOk result (λ counts. ReadAll ReadsCounts (map view values.now) counts.items) }
+    ensures refused { IfErr result (λ e. (e ≡ OutOfMemory)
+        ⊎ ((e ≡ InvalidJson 4) × ((counts : List (ℕ × ℕ)) → ¬ (ReadAll ReadsCounts (map view values.now) counts)))) }
+{
+    let mut counts = Vec::with_capacity(alloc, values.len())?;
+    'levels: for value in values {
+        let Some(count) = read_counts(value) else {
+            return Err(CoreError::InvalidJson(4));
+        };
+        counts.push(count)?;
+    }
+    Ok(counts)
+}
+
+// The parts of a subtree that a value says, or the least of the rules 1 to 4 that it breaks.
+pub(super) fn read_parts<A: Allocator + Clone>(
+    alloc: A,
+    value: &Value,
+) -> Result<Parts<A>, CoreError>
+    ensures parts { IfOk result (λ parts. ReadsParts (view value.now) parts.at_start parts.at_end parts.counts.items parts.nodes.items) }
+    ensures rule { IfErr result (λ e. (e ≡ OutOfMemory)
+        ⊎ ((rule : ℕ) × (e ≡ InvalidJson rule) × BreaksPartRule (view value.now) rule)) }
+{
+    if !value.is_object() {
+        return Err(CoreError::InvalidJson(1));
+    }
+    let Some(members) = read_members(value) else {
+        return Err(CoreError::InvalidJson(2));
+    };
+    let nodes = read_nodes(alloc.clone()?, members.nodes)?;
+    let counts = read_levels(alloc, members.levels)?;
+    Ok(Parts {
+        at_start: members.at_start,
+        at_end: members.at_end,
+        counts,
+        nodes,
+    })
 }

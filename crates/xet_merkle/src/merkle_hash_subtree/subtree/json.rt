@@ -1,14 +1,18 @@
 //! The JSON form of a subtree.
 
-ghost use Rattle.std.specs.Prelude.{◌≡◌, List, [], ◌∷◌, length, map, IfOk, IfErr};
-ghost use Rattle.serde_json.specs.Data.{Data};
+ghost use Rattle.std.specs.Prelude.{◌≡◌, ℕ, ◌^◌, ◌<◌, ◌⊎◌, map, IfOk, IfErr, SomeIff};
 ghost use Rattle.serde_json.specs.View.{view};
 ghost use Rattle.xet_merkle.specs.Groups.{Node};
+ghost use Rattle.xet_merkle.specs.JsonRules.{count_sum, Reads, BreaksRule};
+ghost use Rattle.xet_merkle.specs.declared.error.CoreError.TheVariants.{InvalidJson};
 ghost use Rattle.xet_merkle.specs.SubtreeJson.{node_json, counts_json, subtree_object, subtree_json};
 
 use super::MerkleHashSubtree;
-use crate::aggregated_hashes::Node;
+use crate::aggregated_hashes::{Node, total_size};
 use crate::error::CoreError;
+use crate::merkle_hash_subtree::json_parts::{Parts, read_parts};
+use crate::merkle_hash_subtree::level_rules::broken_rule;
+use crate::merkle_hash_subtree::levels::Levels;
 use serde_json::{Value, json};
 use std::alloc::{AllocError, Allocator, Global};
 
@@ -45,6 +49,76 @@ fn object_of(
     ensures { IfOk result (λ value. view value ≡ subtree_object at_start at_end (view levels) (view nodes)) }
 {
     json!(in alloc; {"at_end": at_end, "at_start": at_start, "levels": levels, "nodes": nodes})
+}
+
+// The sum of all counts, where it is at most `usize::MAX`.
+fn count_sum(counts: &[(usize, usize)]) -> Option<usize>
+    ensures { SomeIff result (count_sum counts.now < 2 ^ 64) (count_sum counts.now) }
+{
+    let mut sum = 0usize;
+    'sum: for (left, right) in counts {
+        sum = sum.checked_add(*left)?.checked_add(*right)?;
+    }
+    Some(sum)
+}
+
+impl<A: Allocator + Clone> MerkleHashSubtree<A> {
+    /// The subtree that a JSON value says, in the form that [`Self::to_json`] gives. Hex digits of either case are
+    /// read, and members other than the four are ignored; a number with a fraction or an exponent is no whole
+    /// number.
+    ///
+    /// It fails with [`CoreError::InvalidJson`] and the least broken rule:
+    ///
+    /// 1. the value is no object;
+    /// 2. `nodes` or `levels` isn't an array, or `at_start` or `at_end` no truth value;
+    /// 3. a node isn't an object with `hash`, a string of 64 hex digits, and `size`, a whole number from 0 to
+    ///    2^64 - 1;
+    /// 4. a level isn't an array of two whole numbers from 0 to 2^64 - 1;
+    /// 5. there are no levels;
+    /// 6. the counts of all levels don't add up to the number of nodes;
+    /// 7. the sizes of all nodes pass 2^64 - 1;
+    /// 8. the top level has right nodes, or any level has under `at_end`;
+    /// 9. a level below the top has left nodes under `at_start`;
+    /// 10. both ends are marked, and the top has several nodes;
+    /// 11. the top has no nodes, and there are other levels;
+    /// 12. the start isn't marked, and left nodes below the top don't end with a natural cut 3 to 7 nodes after
+    ///     the natural cut before it, or have a stable point among them;
+    /// 13. the end isn't marked, and right nodes below the top don't have their first natural cut at index 2 to
+    ///     6, or have a stable point among them when a natural cut is put in front of them.
+    ///
+    /// It fails with [`CoreError::OutOfMemory`] where an allocation is refused, which may come in the place of
+    /// a rule. This call is this port's own; it stands for the `Deserialize` of the Rust crate.
+    pub fn from_json(alloc: A, value: &Value) -> Result<Self, CoreError>
+        ensures reads { IfOk result (Reads (view value.now)) }
+        ensures rule { IfErr result (λ e. (e ≡ CoreError.OutOfMemory)
+            ⊎ ((rule : ℕ) × (e ≡ InvalidJson rule) × BreaksRule (view value.now) rule)) }
+    {
+        let Parts {
+            at_start,
+            at_end,
+            counts,
+            nodes,
+        } = read_parts(alloc, value)?;
+        if counts.is_empty() {
+            return Err(CoreError::InvalidJson(5));
+        }
+        if count_sum(&counts) != Some(nodes.len()) {
+            return Err(CoreError::InvalidJson(6));
+        }
+        let Some(total_size) = total_size(&nodes) else {
+            return Err(CoreError::InvalidJson(7));
+        };
+        if let Some(rule) = broken_rule(&Levels::new(&counts, &nodes), at_start, at_end) {
+            return Err(CoreError::InvalidJson(rule));
+        }
+        Ok(MerkleHashSubtree {
+            at_start,
+            at_end,
+            nodes,
+            counts,
+            total_size,
+        })
+    }
 }
 
 impl<A: Allocator> MerkleHashSubtree<A> {

@@ -1,0 +1,32 @@
+-- What subtree a JSON value is, and the least of the rules 1 to 13 that it breaks.
+use Rattle.std.specs.Prelude.{◌≡◌, ℕ, ◌+◌, ◌^◌, ◌<◌, ◌≤◌, Bool, List, [], length, sum_by}
+use Rattle.serde_json.specs.Data.{Data}
+use Rattle.xet_merkle.specs.Groups.{Node}
+use Rattle.xet_merkle.specs.Roots.{total_size}
+use Rattle.xet_merkle.specs.Subtree.{Subtree}
+use Rattle.xet_merkle.specs.FlatLevels.{levels_of, IsFlat}
+use Rattle.xet_merkle.specs.JsonParts.{ReadsParts, BreaksPartRule}
+use Rattle.xet_merkle.specs.LevelRules.{BreaksLevelRule}
+
+-- a value says a subtree: its marks, its counts and its nodes are those of the subtree
+pub record Reads (json : Data) (subtree : Subtree) : Type 0 where
+  pub counts : List (ℕ × ℕ)
+  pub nodes : List Node
+  pub parts : ReadsParts json subtree.at_start subtree.at_end counts nodes
+  pub flat : IsFlat counts nodes subtree.levels
+
+-- the sum of all counts
+abbrev pub count_sum : List (ℕ × ℕ) → ℕ
+count_sum counts = sum_by (λ count. count.0 + count.1) counts
+
+-- the least rule that a value breaks: one of its parts; that there is a level; that the counts add up to the
+-- number of nodes; that the sizes fit 64 bits; one of the levels
+pub data BreaksRule (json : Data) : ℕ → Type 0 where
+  of_parts : {rule : ℕ} → BreaksPartRule json rule → BreaksRule json rule
+  no_level : {at_start at_end : Bool} {nodes : List Node} → ReadsParts json at_start at_end [] nodes → BreaksRule json 5
+  wrong_counts : {at_start at_end : Bool} {counts : List (ℕ × ℕ)} {nodes : List Node} → ReadsParts json at_start at_end counts nodes → 0 < length counts →
+      ¬ (count_sum counts ≡ length nodes) → BreaksRule json 6
+  sizes_pass : {at_start at_end : Bool} {counts : List (ℕ × ℕ)} {nodes : List Node} → ReadsParts json at_start at_end counts nodes → 0 < length counts →
+      count_sum counts ≡ length nodes → 2 ^ 64 ≤ total_size nodes → BreaksRule json 7
+  of_levels : {rule : ℕ} {at_start at_end : Bool} {counts : List (ℕ × ℕ)} {nodes : List Node} → ReadsParts json at_start at_end counts nodes → 0 < length counts →
+      count_sum counts ≡ length nodes → total_size nodes < 2 ^ 64 → BreaksLevelRule at_start at_end (levels_of counts nodes) rule → BreaksRule json rule
