@@ -3,6 +3,7 @@
 
 mod boundaries;
 mod levels;
+mod merged_levels;
 mod merging;
 
 use crate::drawn::drawn_list;
