@@ -23,6 +23,7 @@ extern "C" {
         out: *mut u8,
         out_len: usize,
     ) -> bool;
+    fn xet_bench_map(words: *const u64, len: usize, out: *mut u8, out_len: usize) -> bool;
 }
 
 const DATA_KEY: [u8; 32] = [
@@ -116,6 +117,72 @@ fn their_root(words: &[u64]) -> [u8; 32] {
         bytes.copy_from_slice(&word.to_le_bytes());
     }
     out
+}
+
+fn our_map(words: &[u64]) -> [u8; 32] {
+    let mut out = [0; 32];
+    let done = unsafe { xet_bench_map(words.as_ptr(), words.len(), out.as_mut_ptr(), 32) };
+    assert!(done);
+    out
+}
+
+#[derive(PartialEq, Eq)]
+struct Key([u64; 4]);
+
+impl std::hash::Hash for Key {
+    fn hash<H: std::hash::Hasher>(&self, state: &mut H) {
+        state.write_u64(self.0[0]);
+    }
+}
+
+#[derive(Default)]
+struct PassThrough(u64);
+
+impl std::hash::Hasher for PassThrough {
+    fn finish(&self) -> u64 {
+        self.0
+    }
+
+    fn write(&mut self, _: &[u8]) {
+        unreachable!();
+    }
+
+    fn write_u64(&mut self, number: u64) {
+        self.0 = number;
+    }
+}
+
+// The same over Rust's map, with a hasher that hands word 0 on.
+fn their_map(words: &[u64]) -> [u8; 32] {
+    let key = |hash: &[u64]| Key([hash[0], hash[1], hash[2], hash[3]]);
+    type Build = std::hash::BuildHasherDefault<PassThrough>;
+    let mut map = std::collections::HashMap::<Key, u64, Build>::default();
+    for (hash, place) in words.chunks_exact(4).zip(0..) {
+        map.insert(key(hash), place);
+    }
+    let mut sum = 0u64;
+    for hash in words.chunks_exact(4) {
+        sum = sum.wrapping_add(map.get(&key(hash)).copied().unwrap_or(0));
+    }
+    let mut out = [0; 32];
+    out[..8].copy_from_slice(&sum.to_le_bytes());
+    out
+}
+
+fn compare_maps() {
+    let mut state = 7u64;
+    let words: Vec<u64> = (0..4_000_000)
+        .map(|_| {
+            state = state.wrapping_mul(6364136223846793005).wrapping_add(1442695040888963407);
+            (state ^ state >> 29).wrapping_mul(0x9e3779b97f4a7c15)
+        })
+        .collect();
+    compare(
+        "`PassThroughHashMap`, a million hashes of 32 B inserted and looked up",
+        words.len() * 8,
+        || our_map(black_box(&words)),
+        || their_map(black_box(&words)),
+    );
 }
 
 // Seconds of one run, repeated so often that a run takes some milliseconds.
@@ -232,6 +299,7 @@ fn main() {
         || our_root(black_box(&nodes)),
         || their_root(black_box(&nodes)),
     );
+    compare_maps();
     compare_subtrees(&nodes);
     compare_joining(&nodes);
 }

@@ -6,6 +6,7 @@ ghost use Rattle.std.specs.Prelude.{◌≡◌, ◌<◌, ◌*◌, ℕ, List, leng
 use std::alloc::{AllocError, Global};
 use xet_hash::blake3::{Hasher, keyed_hash};
 use xet_hash::data_hash::{DATA_KEY, MerkleHash};
+use xet_hash::passthrough_hashmap::PassThroughHashMap;
 use xet_merkle::CoreError;
 use xet_merkle::aggregated_hashes::{Node, xorb_hash};
 use xet_merkle::merkle_hash_subtree::MerkleHashSubtree;
@@ -139,4 +140,38 @@ fn nodes_of(alloc: Global, nodes: &[u64]) -> Result<Vec<Node>, AllocError> {
         }
     }
     Ok(list)
+}
+
+/// Puts hashes of four words each into a map, each with its place, looks all of them up, and writes the sum
+/// of the places that were found to `out`. False where memory runs out.
+#[unsafe(no_mangle)]
+pub extern "C" fn xet_bench_map(alloc: Global, words: &[u64], out: &mut [u8]) -> bool
+    requires { length out.old ≡ 32 }
+{
+    match sum_of_places(alloc, words) {
+        Ok(sum) => {
+            out[..8].copy_from_slice(&sum.to_le_bytes());
+            true
+        }
+        Err(_) => false,
+    }
+}
+
+fn sum_of_places(alloc: Global, words: &[u64]) -> Result<u64, AllocError> {
+    let mut map = PassThroughHashMap::new(alloc);
+    let mut place = 0u64;
+    for hash in words.chunks(4) {
+        if let [first, second, third, fourth] = hash {
+            map.insert(MerkleHash::from([*first, *second, *third, *fourth]), place)?;
+            place = place.wrapping_add(1);
+        }
+    }
+    let mut sum = 0u64;
+    for hash in words.chunks(4) {
+        if let [first, second, third, fourth] = hash {
+            let found = map.get(&MerkleHash::from([*first, *second, *third, *fourth]));
+            sum = sum.wrapping_add(found.copied().unwrap_or(0));
+        }
+    }
+    Ok(sum)
 }

@@ -1,11 +1,12 @@
 -- How large a canonical subtree is. Rests on CanonicalLaws.
-use Rattle.std.proofs.Common.{◌≡◌, ℕ, zero, suc, ◌+◌, ◌^◌, ◌<◌, ◌≤◌, Bool, List, ◌++◌, length, ap, arith, length-append}
+use Rattle.std.proofs.Common.{◌≡◌, ℕ, zero, suc, ◌+◌, ◌^◌, ◌<◌, ◌≤◌, ◌↔◌, Bool, List, ◌++◌, length, ap, inl, inr, arith, length-append}
+use Rattle.std.proofs.lemmas.Bool.{cases_lt}
 use Rattle.std.proofs.lemmas.List.{length-map}
 use Rattle.xet_merkle.specs.Groups.{Node}
 use Rattle.xet_merkle.specs.Canonical.{Level, IsCanonicalBy}
 use Rattle.xet_merkle.specs.Canonical.IsCanonicalBy.{whole, collapsed}
 use Rattle.xet_merkle.specs.Subtree.{node_count}
-use Rattle.xet_merkle.proofs.RootLaws.{Groups-few}
+use Rattle.xet_merkle.proofs.RootLaws.{Groups-few, Groups-some}
 use Rattle.xet_merkle.proofs.Splits.{middle_some, middle_within}
 
 module _ (make : List Node → Node) (at_start at_end : Bool) where
@@ -29,3 +30,20 @@ module _ (make : List Node → Node) (at_start at_end : Bool) where
       let few = Groups-few middle groups cutting in
       let within = middle_within at_start at_end nodes left middle right split in
       omega (arith, length-map groups make)
+
+  -- it keeps a node where its list has one
+  pub some_node : {nodes : List Node} {levels : List Level} {parents : ℕ} → IsCanonicalBy make at_start at_end nodes levels parents → 0 < length nodes → 0 < node_count levels
+  some_node (whole {nodes} none) some = omega arith
+  some_node (collapsed {nodes} {left} {middle} {right} {groups} {levels} {parents} split cutting canonical) some =
+      let made = Groups-some middle groups cutting (middle_some at_start at_end nodes left middle right split) in
+      let rest = some_node canonical (omega (arith, length-map groups make)) in
+      omega arith
+
+  pub nodes_of_none : {nodes : List Node} {levels : List Level} {parents : ℕ} → IsCanonicalBy make at_start at_end nodes levels parents → node_count levels ≡ 0 ↔ (length nodes ≡ 0)
+  nodes_of_none {nodes} canonical = (
+    λ none. elim (cases_lt 0 (length nodes)) [
+      | inl some ↦ absurd (let kept = some_node canonical some in omega arith)
+      | inr few ↦ omega arith
+    ],
+    λ none. let few = few_nodes canonical in omega arith,
+  )

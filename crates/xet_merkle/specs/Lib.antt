@@ -10,4 +10,6 @@ pub mod Merging
 pub mod Joining
 pub mod SubtreeEquality
 pub mod FlatLevels
+pub mod SubtreeJson
+pub mod JsonParts
 pub mod OpenLevels

@@ -18,6 +18,9 @@ pub enum CoreError {
     /// An allocation was refused.
     #[error("out of memory")]
     OutOfMemory,
+    /// A JSON value is no subtree's: the least rule, from 1 to 13, that it breaks.
+    #[error("invalid JSON: rule {0}")]
+    InvalidJson(u8),
 }
 
 impl From<AllocError> for CoreError {

@@ -2,6 +2,7 @@
 //! `xet-core-structures`.
 
 mod join;
+mod json_parts;
 mod levels;
 mod open_levels;
 mod split;

@@ -13,4 +13,8 @@ mod error;
 #[cfg(test)]
 mod merkle_hash_subtree;
 #[cfg(test)]
+mod passthrough_hasher;
+#[cfg(test)]
+mod passthrough_hashmap;
+#[cfg(test)]
 mod refused_allocations;

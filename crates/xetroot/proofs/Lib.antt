@@ -1,4 +1,5 @@
 pub mod LineLemmas
+pub mod RangeLemmas
 pub mod ReadingLemmas
 pub mod PairLineLemmas
 pub mod RunLemmas

@@ -20,15 +20,9 @@ IfSome-weaker None p h = tt
 IfSome-weaker (Some text) p h = h text p
 
 -- what is written for some pairs is their output
-pub IsOutput-made : (pairs same : List Node) (root file written : List ℕ) → same ≡ pairs → IsRoot same root →
-    (IsRoot same root → IsFileHash same (replicate 32 0) file) → written ≡ output_text root file → IsOutput pairs written
-IsOutput-made pairs same root file written e is_root is_file text = record {
-  root = root;
-  file = file;
-  is_root = subst (λ (l : List Node). IsRoot l root) e is_root;
-  is_file = subst (λ (l : List Node). IsFileHash l (replicate 32 0) file) e (is_file is_root);
-  text = text;
-}
+pub IsOutput-made : (pairs : List Node) (root file written : List ℕ) → IsRoot pairs root → IsFileHash pairs (replicate 32 0) file → written ≡ output_text root file →
+    IsOutput pairs written
+IsOutput-made pairs root file written is_root is_file text = record { root = root; file = file; is_root = is_root; is_file = is_file; text = text }
 
 root_of_none : {nodes : List Node} {hash : List ℕ} → length nodes ≡ 0 → IsRoot nodes hash → hash ≡ default_hash
 root_of_none e no_node = refl

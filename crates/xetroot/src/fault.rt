@@ -4,8 +4,9 @@ ghost use Rattle.std.specs.Prelude.{◌≡◌};
 ghost use Rattle.xetroot.specs.Status.{status_of};
 ghost use Rattle.xetroot.specs.declared.fault.Fault.TheVariants.{Memory};
 
-use std::alloc::AllocFailed;
+use std::alloc::{AllocError, AllocFailed};
 use std::fmt;
+use xet_merkle::CoreError;
 
 /// Why [`run`](crate::run::run) was refused.
 #[derive(Clone, Copy, Debug, PartialEq, Eq)]
@@ -53,6 +54,24 @@ impl<T: Drop> From<AllocFailed<T>> for Fault {
     ghost from_gives = { λ _ fault. fault ≡ Memory };
 
     fn from(_error: AllocFailed<T>) -> Fault {
+        Fault::Memory
+    }
+}
+
+// The marks of ranges are as they have to be, and the sizes of all pairs fit, so that nothing but memory can
+// be wanting where ranges are merged.
+impl From<CoreError> for Fault {
+    ghost from_gives = { λ _ fault. fault ≡ Memory };
+
+    fn from(_error: CoreError) -> Fault {
+        Fault::Memory
+    }
+}
+
+impl From<AllocError> for Fault {
+    ghost from_gives = { λ _ fault. fault ≡ Memory };
+
+    fn from(_error: AllocError) -> Fault {
         Fault::Memory
     }
 }

@@ -4,6 +4,7 @@
 mod fault;
 mod line;
 mod open_line;
+mod ranges;
 mod reading;
 mod run;
 #[cfg(test)]

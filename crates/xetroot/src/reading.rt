@@ -1,28 +1,26 @@
 //! The reading of the input, piece by piece.
 
 ghost use Rattle.std.specs.Prelude.{◌≡◌, ◌≢◌, ◌+◌, ◌^◌, ◌<◌, ◌≤◌, ◌⊎◌, ℕ, List, [], ◌∷◌, ◌++◌, length, IfSome, IfNone, IfOk, IfErr, OnOk};
-ghost use Rattle.xet_merkle.specs.Roots.{total_size};
-ghost use Rattle.xetroot.specs.Lines.{lines_of, content, AreGood, NoNewline, newline};
+ghost use Rattle.xet_merkle.specs.Groups.{Node};
+ghost use Rattle.xetroot.specs.Lines.{content, NoNewline, newline};
 ghost use Rattle.xetroot.specs.Answer.{IsFaultOf};
 
 use crate::fault::Fault;
 use crate::line::Line;
 use crate::open_line::OpenLine;
+use crate::ranges::Ranges;
 use memchr::memchr;
 use std::alloc::Allocator;
-use xet_merkle::aggregated_hashes::Node;
 
 // The most bytes of an input.
 const BYTE_LIMIT: u64 = 1 << 40;
 
 /// What has been read of the input: the pairs of the lines that are whole, and the open line.
 ///
-/// It keeps the pairs, 40 bytes each, and of the text the open line alone, in fixed room.
+/// It keeps the pairs as [`Ranges`] do, and of the text the open line alone, in fixed room.
 #[derive(Drop)]
-pub struct Reading<A: Allocator> {
-    pairs: Vec<Node, A>,
-    // The sum of the pairs' sizes.
-    total: u64,
+pub struct Reading<A: Allocator + Clone> {
+    ranges: Ranges<A>,
     // The number of bytes taken.
     count: u64,
     // The number of the open line, from 1.
@@ -30,21 +28,22 @@ pub struct Reading<A: Allocator> {
     line: OpenLine,
 }
 
-impl<A: Allocator> Reading<A> {
+impl<A: Allocator + Clone> Reading<A> {
     ghost use Rattle.xetroot.specs.Open.{IsOpenLine};
-    ghost use Rattle.xetroot.specs.Taken.{IsTaken, AddsLine, IsLineFault};
+    ghost use Rattle.xetroot.specs.Ranges.{HoldPairs};
+    ghost use Rattle.xetroot.specs.Taken.{IsTaken, HoldGood, HoldMore, IsLineFault};
 
     /// A reading of nothing yet.
-    pub fn new(alloc: A) -> Self
-        ensures { IsTaken result [] }
+    pub fn new(alloc: A) -> Result<Self, Fault>
+        ensures taken { IfOk result (λ reading. IsTaken reading []) }
+        ensures err { IfErr result (λ fault. fault ≡ Fault.Memory) }
     {
-        Reading {
-            pairs: Vec::new(alloc),
-            total: 0,
+        Ok(Reading {
+            ranges: Ranges::new(alloc)?,
             count: 0,
             number: 1,
             line: OpenLine::new(),
-        }
+        })
     }
 
     /// Takes the next piece of the input. A fault is that of the first faulty line, or want of memory.
@@ -64,18 +63,17 @@ impl<A: Allocator> Reading<A> {
     }
 
     /// The pairs, where the input ends here. A fault is as that of `take`.
-    pub fn finish(mut self) -> Result<Vec<Node, A>, Fault>
-        ensures pairs { IfOk result (λ pairs. (text : List ℕ) →
-            IsTaken self text → AreGood (lines_of text) pairs.items) }
+    pub fn finish(mut self) -> Result<Ranges<A>, Fault>
+        ensures pairs { IfOk result (λ ranges. (text : List ℕ) → IsTaken self text → HoldGood ranges text) }
         ensures fault { IfErr result (λ fault. (text : List ℕ) →
             IsTaken self text → IsFaultOf text fault) }
         ensures not_write { IfErr result (λ fault. fault ≢ Fault.Write) }
     {
         if self.line.is_empty() {
-            return Ok(self.pairs);
+            return Ok(self.ranges);
         }
         self.add_line()?;
-        Ok(self.pairs)
+        Ok(self.ranges)
     }
 
     // Takes a piece in which no byte is past the limit.
@@ -129,42 +127,21 @@ impl<A: Allocator> Reading<A> {
 
     // Adds what the open line says to the pairs.
     fn add_line(&mut self) -> Result<(), Fault>
-        ensures says { OnOk result ((line : List ℕ) → IsOpenLine self.old.line (content line) →
-            AddsLine self.old.pairs.items self.new.pairs.items line) }
-        ensures total { OnOk result (self.old.total ≡ total_size self.old.pairs.items →
-            self.new.total ≡ total_size self.new.pairs.items) }
-        ensures fits { OnOk result (self.old.total < 2 ^ 64 → self.new.total < 2 ^ 64) }
+        ensures says { OnOk result ((pairs : List Node) (line : List ℕ) →
+            HoldPairs self.old.ranges pairs → IsOpenLine self.old.line (content line) →
+            HoldMore self.new.ranges pairs line) }
         ensures kept { OnOk result ((self.new.line ≡ self.old.line) × (self.new.number ≡ self.old.number)
             × (self.new.count ≡ self.old.count)) }
-        ensures fault { IfErr result (λ fault. (line : List ℕ) → IsOpenLine self.old.line (content line) →
-            self.old.total ≡ total_size self.old.pairs.items →
-            IsLineFault self.old.number self.old.pairs.items line fault) }
+        ensures fault { IfErr result (λ fault. (pairs : List Node) (line : List ℕ) →
+            HoldPairs self.old.ranges pairs → IsOpenLine self.old.line (content line) →
+            IsLineFault self.old.number pairs line fault) }
         ensures not_write { IfErr result (λ fault. fault ≢ Fault.Write) }
     {
         match self.line.says() {
             None => Err(Fault::BadLine(self.number)),
-            Some(Line::Separator) => Ok(()),
-            Some(Line::Pair(pair)) => self.add_pair(pair),
+            Some(Line::Separator) => self.ranges.end_range(),
+            Some(Line::Pair(pair)) => self.ranges.push(pair, self.number),
         }
-    }
-
-    // Adds a pair.
-    fn add_pair(&mut self, pair: Node) -> Result<(), Fault>
-        ensures pairs { OnOk result (self.new.pairs.items ≡ self.old.pairs.items ++ pair ∷ []) }
-        ensures total { OnOk result (self.new.total ≡ self.old.total + pair.1) }
-        ensures fits { OnOk result (self.new.total < 2 ^ 64) }
-        ensures kept { OnOk result ((self.new.line ≡ self.old.line) × (self.new.number ≡ self.old.number)
-            × (self.new.count ≡ self.old.count)) }
-        ensures sizes { IfErr result (λ fault. fault ≡ Fault.Memory
-            ⊎ ((fault ≡ Fault.Sizes self.old.number) × (2 ^ 64 ≤ self.old.total + pair.1))) }
-    {
-        let total = self
-            .total
-            .checked_add(pair.1)
-            .ok_or(Fault::Sizes(self.number))?;
-        self.pairs.push(pair)?;
-        self.total = total;
-        Ok(())
     }
 }
 

@@ -3,17 +3,18 @@
 ghost use Rattle.std.specs.Prelude.{◌≡◌, ◌≢◌, List, ℕ, ◌++◌, ◌+◌, ◌<◌, ◌≤◌, length, take, replicate, IfSome, IfOk, IfErr, OnErr, OnOk, Err};
 ghost use Rattle.std.specs.Io.KnownBytes.{Appends, Consumes, IsAtEnd, Keeps};
 ghost use Rattle.xet_hash.specs.Hash.{hex_text};
-ghost use Rattle.xet_merkle.specs.Roots.{IsRoot, IsFileHash};
-ghost use Rattle.xetroot.specs.Lines.{lines_of, AreGood};
+ghost use Rattle.xet_merkle.specs.Groups.{Node};
 ghost use Rattle.xetroot.specs.Answer.{IsAnswer, IsFaultOf, output_text};
+ghost use Rattle.xetroot.specs.Ranges.{HoldPairs};
+ghost use Rattle.xetroot.specs.Taken.{HoldGood};
 
 use crate::fault::Fault;
+use crate::ranges::Ranges;
 use crate::reading::Reading;
 use arrayvec::ArrayVec;
 use std::alloc::Allocator;
 use std::io::{ErrorKind, Read, Write};
-use xet_hash::data_hash::{HMACKey, MerkleHash};
-use xet_merkle::aggregated_hashes::{Node, xorb_hash};
+use xet_hash::data_hash::MerkleHash;
 
 // The most bytes that one read is asked for.
 const BUFFER_LEN: usize = 65536;
@@ -27,7 +28,8 @@ const OUTPUT_LEN: usize = 140;
 /// Reads pair lines to the end of `r`, and then writes the root and the file hash of all pairs, as
 /// `xorb <hex>` and `file <hex>`, to `w`, and flushes it.
 ///
-/// It keeps the pairs, 40 bytes each, until the whole input is read. A fault is as [`Fault`] says. After
+/// It keeps the subtree of the ranges that are ended, the pairs of the open one, and the open line, each in
+/// little memory. A fault is as [`Fault`] says. After
 /// `BadLine`, `Sizes`, `Memory` and `Read` nothing was written; after `Write` a beginning of the output
 /// was. How much of the input was read after a fault isn't said.
 pub fn run<R: Read, W: Write>(alloc: impl Allocator, r: &mut R, w: &mut W) -> Result<(), Fault>
@@ -44,25 +46,19 @@ pub fn run<R: Read, W: Write>(alloc: impl Allocator, r: &mut R, w: &mut W) -> Re
         (written rest : List ℕ) × IsAnswer text (written ++ rest)
         × Appends (W.contents w.old) (W.contents w.new) written) }
 {
-    let pairs = read_pairs(&alloc, r)?;
-    let chunks = pairs.as_slice();
-    let Ok(root) = xorb_hash(&alloc, chunks) else {
-        // The sizes fit, so it was an allocation that was refused.
-        return Err(Fault::Memory);
-    };
-    let file = file_hash(chunks, root);
+    let (root, file) = read_ranges(&alloc, r)?.hashes()?;
     write_all(w, output(&root, &file).as_slice())
 }
 
 // The pairs of the whole input.
-fn read_pairs<A: Allocator, R: Read>(alloc: A, r: &mut R) -> Result<Vec<Node, A>, Fault>
-    ensures pairs { IfOk result (λ pairs. IfSome (R.remaining r.old) (λ text.
-        AreGood (lines_of text) pairs.items)) }
+fn read_ranges<A: Allocator + Clone, R: Read>(alloc: A, r: &mut R) -> Result<Ranges<A>, Fault>
+    ensures held { IfOk result (λ ranges. (pairs : List Node) × HoldPairs ranges pairs) }
+    ensures pairs { IfOk result (λ ranges. IfSome (R.remaining r.old) (HoldGood ranges)) }
     ensures read { OnOk result (IsAtEnd (R.remaining r.new)) }
     ensures fault { IfErr result (λ fault. IfSome (R.remaining r.old) (λ text. IsFaultOf text fault)) }
     ensures not_write { IfErr result (λ fault. fault ≢ Fault.Write) }
 {
-    let mut reading = Reading::new(alloc);
+    let mut reading = Reading::new(alloc)?;
     let mut buffer = [0; BUFFER_LEN];
     'pieces: loop {
         let n = read(r, &mut buffer)?;
@@ -90,17 +86,6 @@ fn read<R: Read>(r: &mut R, buffer: &mut [u8]) -> Result<usize, Fault>
     match r.read(buffer) {
         Ok(n) => Ok(n),
         Err(_) => Err(Fault::Read),
-    }
-}
-
-// The file hash without a salt of some pairs, whose root is given.
-fn file_hash(pairs: &[Node], root: MerkleHash) -> MerkleHash
-    ensures { IsRoot pairs.now root → IsFileHash pairs.now (replicate 32 0) result }
-{
-    if pairs.is_empty() {
-        root
-    } else {
-        root.hmac(HMACKey::default())
     }
 }
 

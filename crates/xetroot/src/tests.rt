@@ -3,6 +3,7 @@ use crate::run::run;
 use std::io;
 use std::io::{Read, Write};
 use std::test::Fail;
+use xet_hash::data_hash::DataHash;
 
 const H1: &str = "cfc5d07f6f03c29bbf424132963fe08d19a37d5757aaf520bf08119f05cd56d6";
 
@@ -44,6 +45,41 @@ fn answers_pairs_in_lines(rt: HostRuntime) -> Result<(), Fail> {
         );
         assert_eq!(rt; output.as_slice(), want.as_bytes(), "{input}");
     }
+    Ok(())
+}
+
+#[test]
+fn separators_change_nothing(rt: HostRuntime) -> Result<(), Fail> {
+    for first in ["", "--\n"] {
+        for second in ["", "--\n"] {
+            for third in ["", "--\n"] {
+                for last in ["", "--\n", "--\n--"] {
+                    let input = format!(in rt.alloc(); "{first}{H1} 100\n{second}{H2} 200\n{third}{H3} 300\n{last}")?;
+                    let mut output = Vec::new(rt.alloc());
+                    assert_eq!(rt; run(rt.alloc(), &mut input.as_bytes(), &mut output), Ok(()));
+                    assert_eq!(rt; output.as_slice(), THREE_PAIRS.as_bytes(), "{input}");
+                }
+            }
+        }
+    }
+    Ok(())
+}
+
+// Of 9000 pairs of size 1, whose hashes have the words i, 0, 0 and i modulo 4.
+const MANY_PAIRS: &str = "xorb 1fa8c4f5d2b1ecb1ed7ec711894bcfaaa0c225182391131bc4f8c2b740f58ac0
+file 05fe8458ce220b994314c014b404ea97b6b86ef0ed06b74ab4c4b60cf2bc1beb
+";
+
+#[test]
+fn a_long_range_is_answered_as_a_whole(rt: HostRuntime) -> Result<(), Fail> {
+    let mut input = String::new(rt.alloc());
+    for i in 0..9000 {
+        let hash = DataHash::from([i, 0, 0, i % 4]);
+        writeln!(input, "{hash} 1")?;
+    }
+    let mut output = Vec::new(rt.alloc());
+    assert_eq!(rt; run(rt.alloc(), &mut input.as_bytes(), &mut output), Ok(()));
+    assert_eq!(rt; output.as_slice(), MANY_PAIRS.as_bytes());
     Ok(())
 }
 

@@ -11,6 +11,7 @@ ghost use Rattle.xet_merkle.specs.WellFormed.{IsWellFormed};
 ghost use Rattle.xet_merkle.specs.FlatLevels.{levels_of, flat_nodes, IsFlat, IsStored};
 ghost use Rattle.xet_merkle.specs.OpenLevels.{AreOperands, HasJoin, StandsFor};
 
+mod json;
 mod merging;
 
 use super::levels::Levels;
@@ -183,13 +184,15 @@ impl<A: Allocator> MerkleHashSubtree<A> {
     pub fn num_levels(&self) -> usize
         ensures levels { result ≡ length self.now.levels }
         ensures some { 0 < result }
+        ensures well_formed { IsWellFormed self.now }
     {
         self.counts.len()
     }
 
-    /// Whether no node is kept.
+    /// Whether no node is kept, as of the empty list and of no other.
     pub fn is_empty(&self) -> bool
-        ensures { IsTrue result ↔ (node_count self.now.levels ≡ 0) }
+        ensures nodes { IsTrue result ↔ (node_count self.now.levels ≡ 0) }
+        ensures chunks { (chunks : List Node) → IsCanonical self.now chunks → IsTrue result ↔ (length chunks ≡ 0) }
     {
         self.nodes.is_empty()
     }

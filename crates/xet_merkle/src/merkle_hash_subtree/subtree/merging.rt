@@ -71,6 +71,7 @@ impl<A: Allocator + Clone> MerkleHashSubtree<A> {
         *self = Self::close(levels, self.at_start(), other.at_end(), size)?;
         Ok(())
     }
+
     /// Merges adjacent ranges in order: the canonical subtree of the joined list, with the first range's
     /// start mark and the last one's end mark. Of no ranges it is the empty subtree with both marks; of one
     /// it is a copy.

@@ -1,6 +1,5 @@
-use Rattle.std.proofs.Common.{◌≡◌, ◌<◌, ◌^◌, ◌+◌, ℕ, [], ◌∷◌, ◌++◌, length, sym, subst, ◌∙◌, arith, length-append}
+use Rattle.std.proofs.Common.{◌≡◌, ◌+◌, [], ◌∷◌, ◌++◌, length, sym, subst, ◌∙◌, arith, length-append}
 use Rattle.std.proofs.lemmas.Result.{err_from_is_err_and}
-use Rattle.xet_merkle.specs.Roots.{total_size}
 use Rattle.xetroot.specs.Lines.{newline}
 use Rattle.xetroot.specs.Open.{IsOpenLine}
 use Rattle.xetroot.proofs.LineLemmas.{content-whole}
@@ -13,17 +12,15 @@ returns-in_err-add_line-clause-fault g c =
     rw (p.1, p.2) (λ text rest within taken.
     let line = taken.line in
     let held = subst (IsOpenLine c.args.self.now.line) (sym (content-whole line)) taken.open_line in
-    IsFaultOf-ended text rest _ _ line _ (c.in_err-add_line.ensures.fault (line ++ newline ∷ []) held taken.total_is) taken.stands)
+    IsFaultOf-ended text rest _ _ line _ (c.in_err-add_line.ensures.fault taken.pairs (line ++ newline ∷ []) taken.held held) taken.stands)
 
 pub returns-clause-taken : goal.returns-clause-taken
 returns-clause-taken g c = λ text within taken.
     let line = taken.line in
     let held = subst (IsOpenLine c.args.self.now.line) (sym (content-whole line)) taken.open_line in
     let added = c.in_ok-add_line.ensures in
-    let total = added.total taken.total_is in
-    let old : c.args.self.now.total < 2 ^ 64 = rw taken.total_is taken.stands.good.fits in
-    let fits : total_size c.add_line.new.self.pairs.items < 2 ^ 64 = subst (λ (n : ℕ). n < 2 ^ 64) total (added.fits old) in
-    let stands = StandsAt-end text _ _ _ line (added.says (line ++ newline ∷ []) held) fits within taken.stands in
+    let more = added.says taken.pairs (line ++ newline ∷ []) taken.held held in
+    let stands = StandsAt-end text _ _ _ line more.2 more.1.fits within taken.stands in
     let number : c.saturating_add-self-2.result ≡ c.args.self.now.number + 1 =
     let kept = added.kept.1 in
     let is = taken.stands.number_is in
@@ -34,10 +31,11 @@ returns-clause-taken g c = λ text within taken.
     let is = taken.count_is in
     omega arith in
     record {
+      pairs = more.0;
       line = [];
+      held = more.1;
       stands = rw number stands;
       open_line = c.clear.ensures;
-      total_is = total;
       count_is = count ∙ sym (length-append text (newline ∷ []));
       within = omega (arith, length-append text (newline ∷ []));
     }

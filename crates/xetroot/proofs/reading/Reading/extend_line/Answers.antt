@@ -9,7 +9,7 @@ pub returns-in_default-clause-fault : goal.returns-in_default-clause-fault
 returns-in_default-clause-fault g c = λ text rest within taken.
     let bytes = c.args.bytes.now in
     let number = c.args.self.now.number in
-    let pairs = c.args.self.now.pairs.items in
+    let pairs = taken.pairs in
     let longer : List ℕ = taken.line ++ bytes in
     let stands = StandsAt-extend text bytes _ _ taken.line c.requires taken.stands in
     elim (c.in_default.ensures.overlong taken.line taken.open_line) [
@@ -26,10 +26,11 @@ returns-clause-taken g c = λ text within taken.
     let bytes = c.args.bytes.now in
     let count : c.saturating_add-self.result ≡ length text + length bytes =
     let is = taken.count_is in omega arith in record {
+      pairs = taken.pairs;
       line = taken.line ++ bytes;
+      held = taken.held;
       stands = StandsAt-extend text bytes _ _ _ c.requires taken.stands;
       open_line = c.in-Ok.ensures.open taken.line taken.open_line;
-      total_is = taken.total_is;
       count_is = count ∙ sym (length-append text bytes);
       within = omega (arith, length-append text bytes);
     }

@@ -1,7 +1,6 @@
-use Rattle.std.proofs.Common.{sym, ◌<◌, ◌^◌, ℕ, length, subst, arith, tests, rules}
+use Rattle.std.proofs.Common.{sym, ◌<◌, length, subst, arith, tests, rules}
 use Rattle.std.proofs.lemmas.Result.{err_from_is_err_and}
 use Rattle.std.proofs.lemmas.Bool.Decides.{nat_tests}
-use Rattle.xet_merkle.specs.Roots.{total_size}
 use Rattle.xetroot.specs.Open.{IsOpenLine}
 use Rattle.xetroot.proofs.LineLemmas.{content-open}
 use Rattle.xetroot.proofs.ReadingLemmas.{AreGood-all, AreGood-last, IsFaultOf-last}
@@ -10,7 +9,7 @@ use Rattle.xetroot.proofs.reading.Reading.finish.Goals as goal
 pub returns-then-is_empty-clause-pairs : goal.returns-then-is_empty-clause-pairs
 returns-then-is_empty-clause-pairs g c = λ text taken.
     let empty = c.if-is_empty.ensures taken.line taken.open_line in
-    AreGood-all text _ _ taken.line (search (rules, tests)) taken.stands
+    (taken.pairs, taken.held, AreGood-all text _ _ taken.line (search (rules, tests)) taken.stands)
 
 pub returns-in_err-add_line-clause-fault : goal.returns-in_err-add_line-clause-fault
 returns-in_err-add_line-clause-fault g c =
@@ -19,7 +18,7 @@ returns-in_err-add_line-clause-fault g c =
     let line = taken.line in
     let some : 0 < length line = grind (arith, nat_tests, c.if-is_empty.ensures line taken.open_line) in
     let held = subst (IsOpenLine c.args.self.line) (sym (content-open line taken.stands.is_open)) taken.open_line in
-    IsFaultOf-last text _ _ line _ some (c.in_err-add_line.ensures.fault line held taken.total_is) taken.stands)
+    IsFaultOf-last text _ _ line _ some (c.in_err-add_line.ensures.fault taken.pairs line taken.held held) taken.stands)
 
 pub returns-clause-pairs : goal.returns-clause-pairs
 returns-clause-pairs g c = λ text taken.
@@ -27,7 +26,5 @@ returns-clause-pairs g c = λ text taken.
     let some : 0 < length line = grind (arith, nat_tests, c.if-is_empty.ensures line taken.open_line) in
     let held = subst (IsOpenLine c.args.self.line) (sym (content-open line taken.stands.is_open)) taken.open_line in
     let added = c.in_ok-add_line.ensures in
-    let total = added.total taken.total_is in
-    let old : c.args.self.total < 2 ^ 64 = rw taken.total_is taken.stands.good.fits in
-    let fits : total_size c.add_line.new.self.pairs.items < 2 ^ 64 = subst (λ (n : ℕ). n < 2 ^ 64) total (added.fits old) in
-    AreGood-last text _ _ _ line some taken.within (added.says line held) fits taken.stands
+    let more = added.says taken.pairs line taken.held held in
+    (more.0, more.1, AreGood-last text _ _ _ line some taken.within more.2 more.1.fits taken.stands)

@@ -1,13 +1,14 @@
-use Rattle.std.proofs.Common.{[], arith, refl}
+use Rattle.std.proofs.Common.{[], refl, arith}
 use Rattle.xetroot.proofs.ReadingLemmas.{StandsAt-start}
 use Rattle.xetroot.proofs.reading.Reading.new.Goals as goal
 
-pub returns : goal.returns
-returns g c = record {
+pub returns-clause-taken : goal.returns-clause-taken
+returns-clause-taken g c = record {
+  pairs = [];
   line = [];
-  stands = rw c.new.ensures.items StandsAt-start;
+  held = c.in_ok-new.ensures.none;
+  stands = StandsAt-start;
   open_line = c.new-2.ensures;
-  total_is = rw c.new.ensures.items refl;
   count_is = refl;
   within = omega arith;
 }

@@ -1,11 +1,19 @@
 use Rattle.std.proofs.Common.{◌≡◌, length, ap, ◌∙◌, arith}
 use Rattle.std.proofs.lemmas.Bool.Decides.{nat_tests}
+use Rattle.xet_merkle.specs.Roots.{parent}
 use Rattle.xet_merkle.specs.Subtree.{Subtree, node_count}
+use Rattle.xet_merkle.proofs.CanonicalBounds.{nodes_of_none}
 use Rattle.xet_merkle.proofs.InsideLevels.{stored_nodes}
 use Rattle.xet_merkle.proofs.merkle_hash_subtree.subtree.MerkleHashSubtree.is_empty.Goals as goal
 
-pub returns : goal.returns
-returns g c =
+pub returns-clause-nodes : goal.returns-clause-nodes
+returns-clause-nodes g c =
     let count : length c.self.inside.nodes.items ≡ node_count c.args.self.now.levels =
     stored_nodes _ _ _ _ _ c.self.invariant ∙ ap (λ (s : Subtree). node_count s.levels) c.self.view_is in
     grind (arith, nat_tests, c.is_empty.ensures)
+
+pub returns-clause-chunks : goal.returns-clause-chunks
+returns-clause-chunks g c = λ chunks canonical.
+    let empty = returns-clause-nodes g c in
+    let none = nodes_of_none parent c.args.self.now.at_start c.args.self.now.at_end canonical.1 in
+    (λ is. none.0 (empty.0 is), λ is. empty.1 (none.1 is))

@@ -1,7 +1,7 @@
 use Rattle.std.proofs.Common.{ℕ, List, ◌-◌, ◌^◌}
 use Rattle.std.specs.Io.KnownBytes.{Consumes}
 use Rattle.xetroot.specs.Taken.{IsTaken}
-use Rattle.xetroot.proofs.run.read_pairs.Given as goal
+use Rattle.xetroot.proofs.run.read_ranges.Given as goal
 
 abbrev pub invariant-pieces : goal.invariant-pieces
 invariant-pieces g l = (text : List ℕ) × IsTaken l.reading text

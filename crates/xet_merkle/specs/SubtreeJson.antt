@@ -1,0 +1,36 @@
+-- The JSON form of a subtree, as data of the kit's `serde_json` (module `merklehash::merkle_hash_subtree` of
+-- the crate `xet-core-structures`, whose derives write the same members). Members stand in the order of their
+-- names.
+use Rattle.std.specs.Prelude.{ℕ, Bool, List, [], ◌∷◌, map, codes}
+use Rattle.serde_json.specs.Data.{Data, boolean, number, string, array, object, unsigned, no_members, member}
+use Rattle.serde_json.specs.View.{items_of}
+use Rattle.xet_hash.specs.Hash.{hex_text}
+use Rattle.xet_merkle.specs.Groups.{Node}
+use Rattle.xet_merkle.specs.Subtree.{Subtree}
+use Rattle.xet_merkle.specs.FlatLevels.{flat_nodes, count_of}
+
+-- a whole number
+abbrev pub number_json : ℕ → Data
+number_json n = number (unsigned n)
+
+-- a node: the hex text of its hash, and its size
+abbrev pub node_json : Node → Data
+node_json node = object (member (codes "hash") (string (hex_text node.0)) (member (codes "size") (number_json node.1) no_members))
+
+-- how many left and right nodes a level has
+abbrev pub counts_json : ℕ × ℕ → Data
+counts_json count = array (items_of (number_json count.0 ∷ number_json count.1 ∷ []))
+
+-- the members of a subtree's object
+abbrev pub subtree_object : Bool → Bool → Data → Data → Data
+subtree_object at_start at_end levels nodes = object (
+    member (codes "at_end") (boolean at_end) (
+    member (codes "at_start") (boolean at_start) (
+    member (codes "levels") levels (
+    member (codes "nodes") nodes no_members))))
+
+-- the marks; the counts of each level, from the chunks up; and the left nodes of all levels by rising level,
+-- then the right nodes by falling level
+abbrev pub subtree_json : Subtree → Data
+subtree_json subtree = subtree_object subtree.at_start subtree.at_end
+    (array (items_of (map counts_json (map count_of subtree.levels)))) (array (items_of (map node_json (flat_nodes subtree.levels))))
