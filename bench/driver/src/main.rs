@@ -16,6 +16,13 @@ extern "C" {
         out: *mut u8,
         out_len: usize,
     ) -> bool;
+    fn xet_bench_ranges(
+        nodes: *const u64,
+        len: usize,
+        steps: usize,
+        out: *mut u8,
+        out_len: usize,
+    ) -> bool;
     fn xet_bench_map(words: *const u64, len: usize, out: *mut u8, out_len: usize) -> bool;
 }
 
@@ -225,6 +232,33 @@ fn compare_subtrees(nodes: &[u64]) {
     }
 }
 
+fn our_ranges(nodes: &[u64], steps: usize) -> [u8; 32] {
+    let mut out = [0; 32];
+    let done =
+        unsafe { xet_bench_ranges(nodes.as_ptr(), nodes.len(), steps, out.as_mut_ptr(), 32) };
+    assert!(done);
+    out
+}
+
+// The time of joining ranges beside that of making them. Either is what a run takes longer with that step.
+fn compare_joining(nodes: &[u64]) {
+    assert_eq!(our_ranges(nodes, 2), our_root(nodes));
+    let mut best = [f64::MAX; 3];
+    for _ in 0..TURNS {
+        for (steps, best) in best.iter_mut().enumerate() {
+            *best = best.min(seconds(1, || our_ranges(black_box(nodes), steps)));
+        }
+    }
+    let (making, joining) = (best[1] - best[0], best[2] - best[1]);
+    println!("\n| Task | joining, ms | making, ms | ratio |\n|---|---|---|---|");
+    println!(
+        "| 1000 ranges of 1000 pairs, joined from the left | {:.1} | {:.0} | {:.2} |",
+        joining * 1e3,
+        making * 1e3,
+        joining / making
+    );
+}
+
 fn main() {
     let message: Vec<u8> = (0..64usize << 20).map(|i| (i % 251) as u8).collect();
     println!("| Task | ours, MB/s | crate, MB/s | ratio |\n|---|---|---|---|");
@@ -265,6 +299,7 @@ fn main() {
         || our_root(black_box(&nodes)),
         || their_root(black_box(&nodes)),
     );
-    compare_subtrees(&nodes);
     compare_maps();
+    compare_subtrees(&nodes);
+    compare_joining(&nodes);
 }

@@ -7,6 +7,7 @@ use std::alloc::{AllocError, Global};
 use xet_hash::blake3::{Hasher, keyed_hash};
 use xet_hash::data_hash::{DATA_KEY, MerkleHash};
 use xet_hash::passthrough_hashmap::PassThroughHashMap;
+use xet_merkle::CoreError;
 use xet_merkle::aggregated_hashes::{Node, xorb_hash};
 use xet_merkle::merkle_hash_subtree::MerkleHashSubtree;
 
@@ -73,6 +74,62 @@ pub extern "C" fn xet_bench_from_chunks(
         }
         Err(_) => false,
     }
+}
+
+/// Makes the nodes of a list, given as to `xet_bench_xorb_hash`. Where `steps` is at least 1, it makes the
+/// subtrees of each 1000 of them, with the list's start and end marked, and where it is at least 2, it joins
+/// them from the left and writes the final hash to `out`. False where a call was refused.
+#[unsafe(no_mangle)]
+pub extern "C" fn xet_bench_ranges(
+    alloc: Global,
+    nodes: &[u64],
+    steps: usize,
+    out: &mut [u8],
+) -> bool
+    requires { length out.old ≡ 32 }
+{
+    let Ok(nodes) = nodes_of(alloc, nodes) else {
+        return false;
+    };
+    if steps < 1 {
+        return true;
+    }
+    let Ok(ranges) = ranges_of(alloc, nodes.as_slice()) else {
+        return false;
+    };
+    if steps < 2 {
+        return true;
+    }
+    match final_hash_of_joined(ranges.as_slice()) {
+        Ok(Some(root)) => {
+            out.copy_from_slice(&root.as_bytes());
+            true
+        }
+        _ => false,
+    }
+}
+
+fn ranges_of(alloc: Global, nodes: &[Node]) -> Result<Vec<MerkleHashSubtree>, CoreError> {
+    let mut ranges = Vec::new(alloc);
+    let mut rest = nodes;
+    for range in nodes.chunks(1000) {
+        let at_start = rest.len() == nodes.len();
+        let (_, after) = rest.split_at(range.len().min(rest.len()));
+        rest = after;
+        ranges.push(MerkleHashSubtree::from_chunks(alloc, at_start, range, rest.is_empty())?)?;
+    }
+    Ok(ranges)
+}
+
+fn final_hash_of_joined(ranges: &[MerkleHashSubtree]) -> Result<Option<MerkleHash>, CoreError> {
+    let [first, others @ ..] = ranges else {
+        return Ok(None);
+    };
+    let mut joined = first.try_clone()?;
+    for range in others {
+        joined.merge_into(range)?;
+    }
+    Ok(joined.final_hash())
 }
 
 fn nodes_of(alloc: Global, nodes: &[u64]) -> Result<Vec<Node>, AllocError> {

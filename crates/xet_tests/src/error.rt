@@ -6,6 +6,7 @@ use xet_merkle::CoreError;
 #[test]
 fn prints_why_a_call_was_refused(rt: HostRuntime) -> Result<(), Fail> {
     for (error, text) in [
+        (CoreError::InvalidArguments, "invalid arguments"),
         (CoreError::SizeOverflow, "size overflow"),
         (CoreError::OutOfMemory, "out of memory"),
     ] {

@@ -1,7 +1,10 @@
-//! Stable points and canonical subtrees of lists whose natural cuts are told, and of drawn lists.
+//! Stable points, canonical subtrees and their merging, of lists whose natural cuts are told, and of drawn
+//! lists.
 
 mod boundaries;
 mod levels;
+mod merged_levels;
+mod merging;
 
 use crate::drawn::drawn_list;
 use rand_core::SeedableRng;

@@ -25,8 +25,8 @@ const GAPS: [Option<[u64; 8]>; 7] = [
     Some([1, 1, 2, 1, 1, 4, 1, 1]),
 ];
 
-// Whether a list's start and end are marked. Lists take these in turn.
-const MARKS: [(bool, bool); 4] = [(false, false), (true, false), (false, true), (true, true)];
+/// Whether a list's start and end are marked. Lists take these in turn.
+pub const MARKS: [(bool, bool); 4] = [(false, false), (true, false), (false, true), (true, true)];
 
 // A hash with some of its bits changed so that it is a natural cut, or none, as told.
 fn with_cut(hash: MerkleHash, is_cut: bool) -> MerkleHash {
@@ -36,8 +36,8 @@ fn with_cut(hash: MerkleHash, is_cut: bool) -> MerkleHash {
     MerkleHash::from([first, second, third, last])
 }
 
-// The list of a number.
-fn list(alloc: Global, number: u64) -> Result<Vec<Node>, AllocError> {
+/// The list of a number.
+pub fn list(alloc: Global, number: u64) -> Result<Vec<Node>, AllocError> {
     let mut generator = Xoshiro256PlusPlus::seed_from_u64(number);
     let gaps = GAPS[(number % 7) as usize];
     let count = generator.next_u64() % LENGTHS[(number % 5) as usize];
@@ -67,9 +67,9 @@ fn push_nodes(bytes: &mut Vec<u8>, nodes: &[Node]) -> Result<(), AllocError> {
     Ok(())
 }
 
-// How many left and right nodes each level has, and the first word of the data hash of all nodes: the left
-// ones by rising level, then the right ones by falling level, and last the root, where there is one.
-fn summary(alloc: Global, subtree: &MerkleHashSubtree) -> Result<String, AllocError> {
+/// How many left and right nodes each level has, and the first word of the data hash of all nodes: the left
+/// ones by rising level, then the right ones by falling level, and last the root, where there is one.
+pub fn summary(alloc: Global, subtree: &MerkleHashSubtree) -> Result<String, AllocError> {
     let mut text = String::new(alloc);
     let mut bytes = Vec::new(alloc);
     for level in 0..subtree.num_levels() {

@@ -1,0 +1,361 @@
+//! Merging the subtrees of adjacent ranges: worked examples, refusals, and the roots of lists that are split
+//! at many places.
+
+use super::levels::MARKS;
+use super::{EACH_FOURTH, has_counts, with_cuts};
+use crate::drawn::drawn_list;
+use rand_core::{Rng, SeedableRng};
+use rand_xoshiro::Xoshiro256PlusPlus;
+use std::alloc::{AllocError, Global};
+use std::test::Fail;
+use xet_hash::data_hash::{DataHash, MerkleHash};
+use xet_merkle::CoreError;
+use xet_merkle::aggregated_hashes::{Node, xorb_hash};
+use xet_merkle::merkle_hash_subtree::{MerkleHashSubtree, find_stable_end, find_stable_start};
+
+// The merged subtree of two ranges, which both stay.
+fn joined(
+    left: &MerkleHashSubtree,
+    right: &MerkleHashSubtree,
+) -> Result<MerkleHashSubtree, CoreError> {
+    let mut merged = left.try_clone()?;
+    merged.merge_into(right)?;
+    Ok(merged)
+}
+
+/// The subtrees of a list's ranges: as many nodes in turn as told, and last all that are left. The list's
+/// start and end are marked as told.
+pub fn ranges(
+    alloc: Global,
+    nodes: &[Node],
+    lengths: &[usize],
+    marks: (bool, bool),
+) -> Result<Vec<MerkleHashSubtree>, CoreError> {
+    let mut ranges = Vec::new(alloc);
+    let mut rest = nodes;
+    let (mut at_start, at_end) = marks;
+    for length in lengths {
+        let (range, after) = rest.split_at((*length).min(rest.len()));
+        ranges.push(MerkleHashSubtree::from_chunks(alloc, at_start, range, false)?)?;
+        rest = after;
+        at_start = false;
+    }
+    ranges.push(MerkleHashSubtree::from_chunks(alloc, at_start, rest, at_end)?)?;
+    Ok(ranges)
+}
+
+// Whether the merged ranges of a list have the root of the whole.
+fn merge_to_root(alloc: Global, nodes: &[Node], lengths: &[usize]) -> Result<bool, CoreError> {
+    let ranges = ranges(alloc, nodes, lengths, (true, true))?;
+    let merged = MerkleHashSubtree::merge(alloc, ranges.as_slice())?;
+    Ok(merged.final_hash() == Some(xorb_hash(alloc, nodes)?))
+}
+
+#[test]
+fn an_open_range_takes_in_its_neighbours(rt: HostRuntime) -> Result<(), Fail> {
+    let nodes = with_cuts::<28>(&EACH_FOURTH);
+    let (nodes, _) = nodes.split_at(24);
+    let whole = MerkleHashSubtree::from_chunks(rt.alloc(), false, nodes, false)?;
+    let (first, last) = nodes.split_at(20);
+    let twenty = MerkleHashSubtree::from_chunks(rt.alloc(), false, first, false)?;
+    let after = MerkleHashSubtree::from_chunks(rt.alloc(), false, last, false)?;
+    let merged = joined(&twenty, &after)?;
+    assert!(rt; has_counts(&merged, &[(8, 4), (3, 0)]));
+    assert!(rt; merged == whole);
+    let (first, last) = nodes.split_at(4);
+    let before = MerkleHashSubtree::from_chunks(rt.alloc(), false, first, false)?;
+    let twenty = MerkleHashSubtree::from_chunks(rt.alloc(), false, last, false)?;
+    assert!(rt; joined(&before, &twenty)? == whole);
+    Ok(())
+}
+
+#[test]
+fn a_range_at_the_start_takes_in_a_merged_one(rt: HostRuntime) -> Result<(), Fail> {
+    let nodes = with_cuts::<28>(&EACH_FOURTH);
+    let (first, rest) = nodes.split_at(4);
+    let (second, third) = rest.split_at(20);
+    let first = MerkleHashSubtree::from_chunks(rt.alloc(), true, first, false)?;
+    let twenty = MerkleHashSubtree::from_chunks(rt.alloc(), false, second, false)?;
+    let four = MerkleHashSubtree::from_chunks(rt.alloc(), false, third, false)?;
+    let merged = joined(&first, &joined(&twenty, &four)?)?;
+    assert!(rt; has_counts(&merged, &[(0, 4), (6, 0)]));
+    assert!(rt; merged == MerkleHashSubtree::from_chunks(rt.alloc(), true, &nodes, false)?);
+    let end = MerkleHashSubtree::from_chunks(rt.alloc(), false, &[], true)?;
+    let root = xorb_hash(rt.alloc(), &nodes)?;
+    assert_eq!(rt; joined(&merged, &end)?.final_hash(), Some(root));
+    Ok(())
+}
+
+#[test]
+fn each_bracketing_gives_the_same_subtree(rt: HostRuntime) -> Result<(), Fail> {
+    let nodes = with_cuts::<28>(&EACH_FOURTH);
+    let (first, rest) = nodes.split_at(4);
+    let (second, third) = rest.split_at(20);
+    let a = MerkleHashSubtree::from_chunks(rt.alloc(), true, first, false)?;
+    let b = MerkleHashSubtree::from_chunks(rt.alloc(), false, second, false)?;
+    let c = MerkleHashSubtree::from_chunks(rt.alloc(), false, third, false)?;
+    let d = MerkleHashSubtree::from_chunks(rt.alloc(), false, &[], true)?;
+    let (ab, bc, cd) = (joined(&a, &b)?, joined(&b, &c)?, joined(&c, &d)?);
+    let whole = MerkleHashSubtree::from_chunks(rt.alloc(), true, &nodes, true)?;
+    let root = "b1026a806e25e14a5a9d00c9400b8b5b92e81027e1c574046edb37f500fcdeae";
+    for merged in [
+        joined(&joined(&ab, &c)?, &d)?,
+        joined(&joined(&a, &bc)?, &d)?,
+        joined(&ab, &cd)?,
+        joined(&a, &joined(&bc, &d)?)?,
+        joined(&a, &joined(&b, &cd)?)?,
+    ] {
+        assert!(rt; merged == whole);
+        assert_eq!(rt; merged.final_hash(), Some(DataHash::from_hex(root)?));
+    }
+    Ok(())
+}
+
+#[test]
+fn no_ranges_are_the_closed_empty_list(rt: HostRuntime) -> Result<(), Fail> {
+    let merged = MerkleHashSubtree::merge(rt.alloc(), &[])?;
+    assert!(rt; has_counts(&merged, &[(0, 0)]));
+    assert!(rt; merged == MerkleHashSubtree::from_chunks(rt.alloc(), true, &[], true)?);
+    assert_eq!(rt; merged.final_hash(), Some(MerkleHash::default()));
+    Ok(())
+}
+
+#[test]
+fn one_range_is_copied_whatever_its_marks(rt: HostRuntime) -> Result<(), Fail> {
+    let hash = DataHash::random_from_seed(1);
+    for (at_start, at_end) in MARKS {
+        let range = MerkleHashSubtree::from_chunks(rt.alloc(), at_start, &[(hash, 100)], at_end)?;
+        let is_closed = at_start && at_end;
+        let ranges = [range];
+        let merged = MerkleHashSubtree::merge(rt.alloc(), &ranges)?;
+        assert!(rt; merged == ranges[0], "{at_start}, {at_end}");
+        assert_eq!(rt; merged.final_hash(), is_closed.then_some(hash));
+    }
+    Ok(())
+}
+
+// What a merge of two ranges is refused with, where their sizes don't fit together.
+fn refusal(left_at_end: bool, right_at_start: bool, overflows: bool) -> Option<CoreError> {
+    if left_at_end || right_at_start {
+        Some(CoreError::InvalidArguments)
+    } else if overflows {
+        Some(CoreError::SizeOverflow)
+    } else {
+        None
+    }
+}
+
+// A range without nodes, or of one node with the largest size.
+fn largest(
+    alloc: Global,
+    (at_start, at_end): (bool, bool),
+    is_empty: bool,
+) -> Result<MerkleHashSubtree, CoreError> {
+    let node = [(DataHash::random_from_seed(2), u64::MAX)];
+    let nodes: &[Node] = if is_empty { &[] } else { &node };
+    MerkleHashSubtree::from_chunks(alloc, at_start, nodes, at_end)
+}
+
+#[test]
+fn marks_between_ranges_are_refused_before_sizes(rt: HostRuntime) -> Result<(), Fail> {
+    for left_marks in MARKS {
+        for right_marks in MARKS {
+            for (left_empty, right_empty) in [
+                (false, false),
+                (true, false),
+                (false, true),
+                (true, true),
+            ] {
+                let left = largest(rt.alloc(), left_marks, left_empty)?;
+                let right = largest(rt.alloc(), right_marks, right_empty)?;
+                let overflows = !left_empty && !right_empty;
+                let expected = refusal(left.at_end(), right.at_start(), overflows);
+                let mut merged = left.try_clone()?;
+                let case = (left_marks, left_empty, right_marks, right_empty);
+                assert_eq!(rt; merged.merge_into(&right).err(), expected, "{case:?}");
+                assert!(rt; expected.is_none() || merged == left, "{case:?}");
+                let answer = MerkleHashSubtree::merge(rt.alloc(), &[left, right]);
+                assert_eq!(rt; answer.err(), expected, "{case:?}");
+            }
+        }
+    }
+    Ok(())
+}
+
+#[test]
+fn all_marks_are_looked_at_before_all_sizes(rt: HostRuntime) -> Result<(), Fail> {
+    let (open, closed) = ((false, false), (true, true));
+    for (third_marks, third_empty, expected) in [
+        (closed, true, CoreError::InvalidArguments),
+        (closed, false, CoreError::InvalidArguments),
+        (open, true, CoreError::SizeOverflow),
+        (open, false, CoreError::SizeOverflow),
+    ] {
+        let ranges = [
+            largest(rt.alloc(), open, false)?,
+            largest(rt.alloc(), open, false)?,
+            largest(rt.alloc(), third_marks, third_empty)?,
+        ];
+        let answer = MerkleHashSubtree::merge(rt.alloc(), &ranges);
+        assert_eq!(rt;
+            answer.err(),
+            Some(expected),
+            "{third_marks:?}, {third_empty}"
+        );
+    }
+    Ok(())
+}
+
+#[test]
+fn joint_sizes_stay_below_two_to_the_64(rt: HostRuntime) -> Result<(), Fail> {
+    let hash = DataHash::random_from_seed(3);
+    for (size, next, expected) in [
+        (u64::MAX, 0, None),
+        (0, u64::MAX, None),
+        (u64::MAX, 1, Some(CoreError::SizeOverflow)),
+        (1, u64::MAX, Some(CoreError::SizeOverflow)),
+        (1 << 63, 1 << 63, Some(CoreError::SizeOverflow)),
+    ] {
+        let left = MerkleHashSubtree::from_chunks(rt.alloc(), true, &[(hash, size)], false)?;
+        let right = MerkleHashSubtree::from_chunks(rt.alloc(), false, &[(hash, next)], true)?;
+        let mut merged = left.try_clone()?;
+        assert_eq!(rt;
+            merged.merge_into(&right).err(),
+            expected,
+            "{size} and {next}"
+        );
+        let whole = xorb_hash(rt.alloc(), &[(hash, size), (hash, next)]);
+        assert_eq!(rt; merged.final_hash(), whole.ok(), "{size} and {next}");
+        assert!(rt; expected.is_none() || merged == left, "{size} and {next}");
+    }
+    Ok(())
+}
+
+#[test]
+fn short_drawn_lists_merge_to_their_root_at_each_split(rt: HostRuntime) -> Result<(), Fail> {
+    let mut generator = Xoshiro256PlusPlus::seed_from_u64(7);
+    for number in 0..10 {
+        let nodes = drawn_list(&mut generator, rt.alloc(), 16)?;
+        for first in 0..17 {
+            assert!(rt;
+                merge_to_root(rt.alloc(), nodes.as_slice(), &[first])?,
+                "{number}, {first}"
+            );
+        }
+    }
+    for count in [8usize, 12, 16, 20, 24] {
+        let nodes = drawn_list(&mut generator, rt.alloc(), count as u64)?;
+        for first in 0..=count {
+            for second in 0..=count.saturating_sub(first) {
+                assert!(rt;
+                    merge_to_root(rt.alloc(), nodes.as_slice(), &[first, second])?,
+                    "{count}, {first}, {second}"
+                );
+            }
+        }
+    }
+    Ok(())
+}
+
+/// The lengths of all ranges but the last, of from two to six.
+pub fn drawn_lengths(
+    generator: &mut Xoshiro256PlusPlus,
+    alloc: Global,
+    count: u64,
+) -> Result<Vec<usize>, AllocError> {
+    let ranges = generator.next_u64() % 5 + 2;
+    let most = count / ranges * 2;
+    let mut lengths = Vec::new(alloc);
+    for _ in 1..ranges {
+        lengths.push((generator.next_u64() % most.saturating_add(1)) as usize)?;
+    }
+    Ok(lengths)
+}
+
+#[test]
+fn drawn_lists_merge_to_their_root_at_drawn_splits(rt: HostRuntime) -> Result<(), Fail> {
+    let mut generator = Xoshiro256PlusPlus::seed_from_u64(8);
+    for number in 0..100 {
+        let count = generator.next_u64() % 181 + 20;
+        let nodes = drawn_list(&mut generator, rt.alloc(), count)?;
+        let lengths = drawn_lengths(&mut generator, rt.alloc(), count)?;
+        assert!(rt;
+            merge_to_root(rt.alloc(), nodes.as_slice(), lengths.as_slice())?,
+            "{number}"
+        );
+    }
+    Ok(())
+}
+
+#[test]
+fn long_drawn_lists_merge_to_their_root_at_stable_points(rt: HostRuntime) -> Result<(), Fail> {
+    let mut generator = Xoshiro256PlusPlus::seed_from_u64(9);
+    let mut places = 0usize;
+    for number in 0..50 {
+        let count = generator.next_u64() % 470 + 30;
+        let nodes = drawn_list(&mut generator, rt.alloc(), count)?;
+        let nodes = nodes.as_slice();
+        for place in [find_stable_start(nodes), find_stable_end(nodes)] {
+            if let Some(place) = place {
+                assert!(rt;
+                    merge_to_root(rt.alloc(), nodes, &[place])?,
+                    "{number}, {place}"
+                );
+                places = places.saturating_add(1);
+            }
+        }
+    }
+    assert!(rt; 90 < places);
+    Ok(())
+}
+
+// The nodes of the reference lists: the default hash of size 0, and the hashes of the seeds from 1 on, with a
+// size of 100 for each number.
+fn reference_nodes(alloc: Global, numbers: &[u64]) -> Result<Vec<Node>, AllocError> {
+    let mut nodes = Vec::new(alloc);
+    for number in numbers {
+        let hash = if *number == 0 {
+            MerkleHash::default()
+        } else {
+            DataHash::random_from_seed(*number)
+        };
+        nodes.push((hash, number.saturating_mul(100)))?;
+    }
+    Ok(nodes)
+}
+
+#[test]
+fn reference_lists_merge_to_their_root_at_each_split(rt: HostRuntime) -> Result<(), Fail> {
+    let lists: [(&[u64], &str); 5] = [
+        (
+            &[1, 2, 3],
+            "71ec1275fca074724e2dd666921b3277c7cee603e4d025bcab2d4050015be2bc",
+        ),
+        (
+            &[1, 2, 1, 2, 3, 4],
+            "52c826f99507aa05d0b45e9837fa1709e0485425cfbcb1e80db3905cf98b3ee9",
+        ),
+        (
+            &[0, 1, 2, 3, 4, 5, 6, 7],
+            "f62abe77e3fb9c954fe52b0028027ddc90c064c45951a4fd2211d87e5c0011db",
+        ),
+        (
+            &[0, 1, 2, 3, 4, 5, 6, 7, 1, 1, 1, 1],
+            "e7fc30b73ec9930593f80fe777b334e9d3bb73e45e6a79fa5784b2603446158b",
+        ),
+        (
+            &[0, 0, 1, 1, 2, 2, 3, 3, 4, 4, 5, 5, 6, 6, 7, 7],
+            "636c65db520ec16e8166f9ec7a0cf9f74b26369077ac60160ec0221c86bc9f77",
+        ),
+    ];
+    for (numbers, root) in lists {
+        let nodes = reference_nodes(rt.alloc(), numbers)?;
+        let root = Some(DataHash::from_hex(root)?);
+        for first in 0..numbers.len().saturating_add(1) {
+            let ranges = ranges(rt.alloc(), nodes.as_slice(), &[first], (true, true))?;
+            let merged = MerkleHashSubtree::merge(rt.alloc(), ranges.as_slice())?;
+            assert_eq!(rt; merged.final_hash(), root, "{numbers:?}, {first}");
+        }
+    }
+    Ok(())
+}
