@@ -1,12 +1,13 @@
 -- Levels in one list of nodes: counts and nodes that are those of some levels give these levels back.
 -- Rests on nothing but lists.
-use Rattle.std.proofs.Common.{◌≡◌, ℕ, ◌+◌, ◌-◌, List, [], ◌∷◌, ◌++◌, length, map, take, drop, reverse, refl, sym, ap, ◌∙◌, arith, append_assoc, append-nil, length-append}
-use Rattle.std.proofs.lemmas.List.{take_at, drop_at, map_push, reverse-append, reverse-reverse}
-use Rattle.std.proofs.lemmas.List.Sums.{sum_by-append}
+use Rattle.std.proofs.Common.{◌≡◌, ℕ, zero, suc, ◌+◌, ◌-◌, List, [], ◌∷◌, ◌++◌, length, map, take, drop, reverse, refl, sym, ap, ◌∙◌, arith, append_assoc, append-nil, length-append, length-take}
+use Rattle.std.proofs.lemmas.List.{take-append-drop, length-drop, drop_all, take_at, drop_at, map_push, reverse-append, reverse-reverse}
+use Rattle.std.proofs.lemmas.List.Sums.{sum_by-append, sum_by-cons}
 use Rattle.xet_merkle.specs.Groups.{Node}
 use Rattle.xet_merkle.specs.Roots.{total_size}
 use Rattle.xet_merkle.specs.Canonical.{Level, top_nodes}
 use Rattle.xet_merkle.specs.Subtree.{node_count, levels_size}
+use Rattle.xet_merkle.specs.JsonRules.{count_sum}
 use Rattle.xet_merkle.specs.FlatLevels.{left_nodes, right_nodes, flat_nodes, count_of, levels_of, IsFlat, IsOpen}
 
 -- the first level's sides stand on the outside
@@ -47,6 +48,39 @@ levels_of-flat (level ∷ levels) = rw (take_left level levels, drop_to_right le
 
 pub levels_of-IsFlat : (counts : List (ℕ × ℕ)) (nodes : List Node) (levels : List Level) → IsFlat counts nodes levels → levels_of counts nodes ≡ levels
 levels_of-IsFlat counts nodes levels h = rw (h.counts_are, h.nodes_are) (levels_of-flat levels)
+
+drop_twice : (m n : ℕ) (nodes : List Node) → drop n (drop m nodes) ≡ drop (m + n) nodes
+drop_twice zero n nodes = ap (λ (k : ℕ). drop k nodes) (let same : n ≡ 0 + n = omega arith in same)
+drop_twice (suc m) n [] = drop_all n [] (omega arith) ∙ sym (drop_all (suc m + n) [] (omega arith))
+drop_twice (suc m) n (node ∷ nodes) =
+    drop_twice m n nodes ∙ ap (λ (k : ℕ). drop k (node ∷ nodes)) (let same : suc (m + n) ≡ suc m + n = omega arith in same)
+
+-- counts that add up to a number of nodes cut levels out of them
+pub IsFlat-from_sum : (counts : List (ℕ × ℕ)) (nodes : List Node) → count_sum counts ≡ length nodes → IsFlat counts nodes (levels_of counts nodes)
+IsFlat-from_sum [] [] sum = record { counts_are = refl; nodes_are = refl }
+IsFlat-from_sum [] (node ∷ nodes) sum = absurd (omega arith)
+IsFlat-from_sum (count ∷ counts) nodes sum =
+    let all = sum_by-cons (λ (c : ℕ × ℕ). c.0 + c.1) count counts in
+    let n = length nodes - count.1 - count.0 in
+    let behind = drop count.0 nodes in
+    let inner = take n behind in
+    let len_behind = length-drop count.0 nodes in
+    let len_inner = length-take n behind in
+    let len_right = length-drop (length nodes - count.1) nodes in
+    let len_left = length-take count.0 nodes in
+    let rest = IsFlat-from_sum counts inner (omega arith) in
+    let right : drop n behind ≡ drop (length nodes - count.1) nodes =
+    drop_twice count.0 n nodes ∙ ap (λ (k : ℕ). drop k nodes) (let same : count.0 + n ≡ length nodes - count.1 = omega arith in same) in
+    let count_is : count ≡ count_of (record { left = take count.0 nodes; right = drop (length nodes - count.1) nodes }) =
+    λ i. ((let left_len : count.0 ≡ length (take count.0 nodes) = omega arith in left_len) i, (let right_len : count.1 ≡ length (drop (length nodes - count.1) nodes) = omega arith in right_len) i) in
+    record {
+      counts_are = ap (λ (c : ℕ × ℕ). c ∷ counts) count_is ∙ ap (λ (l : List (ℕ × ℕ)). count_of (record { left = take count.0 nodes; right = drop (length nodes - count.1) nodes }) ∷ l) rest.counts_are;
+      nodes_are =
+          sym (take-append-drop count.0 nodes)
+          ∙ ap (λ (l : List Node). take count.0 nodes ++ l) (sym (take-append-drop n behind) ∙ ap (λ (l : List Node). l ++ drop n behind) rest.nodes_are
+          ∙ ap (λ (l : List Node). flat_nodes (levels_of counts inner) ++ l) right)
+          ∙ sym (flat-more (record { left = take count.0 nodes; right = drop (length nodes - count.1) nodes }) (levels_of counts inner));
+    }
 
 -- ---- counts and sizes
 

@@ -1,5 +1,5 @@
 -- What subtree a JSON value is, and the least of the rules 1 to 13 that it breaks.
-use Rattle.std.specs.Prelude.{◌≡◌, ℕ, ◌+◌, ◌^◌, ◌<◌, ◌≤◌, Bool, List, [], length, sum_by}
+use Rattle.std.specs.Prelude.{◌≡◌, ℕ, ◌+◌, ◌^◌, ◌<◌, ◌≤◌, Bool, List, length, sum_by}
 use Rattle.serde_json.specs.Data.{Data}
 use Rattle.xet_merkle.specs.Groups.{Node}
 use Rattle.xet_merkle.specs.Roots.{total_size}
@@ -19,14 +19,17 @@ pub record Reads (json : Data) (subtree : Subtree) : Type 0 where
 abbrev pub count_sum : List (ℕ × ℕ) → ℕ
 count_sum counts = sum_by (λ count. count.0 + count.1) counts
 
--- the least rule that a value breaks: one of its parts; that there is a level; that the counts add up to the
--- number of nodes; that the sizes fit 64 bits; one of the levels
+-- of the rules 5 to 13, the least that marks, counts and nodes break: there is a level; the counts add up to the
+-- number of nodes; the sizes fit 64 bits; and those of the levels
+pub data BreaksValueRule (at_start at_end : Bool) (counts : List (ℕ × ℕ)) (nodes : List Node) : ℕ → Type 0 where
+  no_level : length counts ≡ 0 → BreaksValueRule at_start at_end counts nodes 5
+  wrong_counts : 0 < length counts → ¬ (count_sum counts ≡ length nodes) → BreaksValueRule at_start at_end counts nodes 6
+  sizes_pass : 0 < length counts → count_sum counts ≡ length nodes → 2 ^ 64 ≤ total_size nodes → BreaksValueRule at_start at_end counts nodes 7
+  of_levels : {rule : ℕ} → 0 < length counts → count_sum counts ≡ length nodes → total_size nodes < 2 ^ 64 →
+      BreaksLevelRule at_start at_end (levels_of counts nodes) rule → BreaksValueRule at_start at_end counts nodes rule
+
+-- the least rule that a value breaks: one of its parts, or one of what they say together
 pub data BreaksRule (json : Data) : ℕ → Type 0 where
   of_parts : {rule : ℕ} → BreaksPartRule json rule → BreaksRule json rule
-  no_level : {at_start at_end : Bool} {nodes : List Node} → ReadsParts json at_start at_end [] nodes → BreaksRule json 5
-  wrong_counts : {at_start at_end : Bool} {counts : List (ℕ × ℕ)} {nodes : List Node} → ReadsParts json at_start at_end counts nodes → 0 < length counts →
-      ¬ (count_sum counts ≡ length nodes) → BreaksRule json 6
-  sizes_pass : {at_start at_end : Bool} {counts : List (ℕ × ℕ)} {nodes : List Node} → ReadsParts json at_start at_end counts nodes → 0 < length counts →
-      count_sum counts ≡ length nodes → 2 ^ 64 ≤ total_size nodes → BreaksRule json 7
-  of_levels : {rule : ℕ} {at_start at_end : Bool} {counts : List (ℕ × ℕ)} {nodes : List Node} → ReadsParts json at_start at_end counts nodes → 0 < length counts →
-      count_sum counts ≡ length nodes → total_size nodes < 2 ^ 64 → BreaksLevelRule at_start at_end (levels_of counts nodes) rule → BreaksRule json rule
+  of_value : {rule : ℕ} {at_start at_end : Bool} {counts : List (ℕ × ℕ)} {nodes : List Node} → ReadsParts json at_start at_end counts nodes →
+      BreaksValueRule at_start at_end counts nodes rule → BreaksRule json rule

@@ -2,6 +2,7 @@
 //! lists.
 
 mod boundaries;
+mod json;
 mod levels;
 mod merged_levels;
 mod merging;

@@ -1,9 +1,10 @@
 //! The JSON form of a subtree.
 
-ghost use Rattle.std.specs.Prelude.{◌≡◌, ℕ, ◌^◌, ◌<◌, ◌⊎◌, map, IfOk, IfErr, SomeIff};
+ghost use Rattle.std.specs.Prelude.{◌≡◌, ℕ, ◌^◌, ◌<◌, ◌⊎◌, ◌↔◌, map, IfOk, IfErr, SomeIff, IsTrue};
 ghost use Rattle.serde_json.specs.View.{view};
 ghost use Rattle.xet_merkle.specs.Groups.{Node};
-ghost use Rattle.xet_merkle.specs.JsonRules.{count_sum, Reads, BreaksRule};
+ghost use Rattle.xet_merkle.specs.FlatLevels.{IsFlat};
+ghost use Rattle.xet_merkle.specs.JsonRules.{count_sum, Reads, BreaksValueRule, BreaksRule};
 ghost use Rattle.xet_merkle.specs.declared.error.CoreError.TheVariants.{InvalidJson};
 ghost use Rattle.xet_merkle.specs.SubtreeJson.{node_json, counts_json, subtree_object, subtree_json};
 
@@ -62,6 +63,16 @@ fn count_sum(counts: &[(usize, usize)]) -> Option<usize>
     Some(sum)
 }
 
+// Whether counts add up to a number of nodes.
+fn add_up(counts: &[(usize, usize)], len: usize) -> bool
+    ensures { IsTrue result ↔ (count_sum counts.now ≡ len) }
+{
+    match count_sum(counts) {
+        Some(sum) => sum == len,
+        None => false,
+    }
+}
+
 impl<A: Allocator + Clone> MerkleHashSubtree<A> {
     /// The subtree that a JSON value says, in the form that [`Self::to_json`] gives. Hex digits of either case are
     /// read, and members other than the four are ignored; a number with a fraction or an exponent is no whole
@@ -93,16 +104,27 @@ impl<A: Allocator + Clone> MerkleHashSubtree<A> {
         ensures rule { IfErr result (λ e. (e ≡ CoreError.OutOfMemory)
             ⊎ ((rule : ℕ) × (e ≡ InvalidJson rule) × BreaksRule (view value.now) rule)) }
     {
+        Ok(Self::from_parts(read_parts(alloc, value)?)?)
+    }
+
+    // The subtree of parts that keep the rules 5 to 13.
+    fn from_parts(parts: Parts<A>) -> Result<Self, CoreError>
+        ensures start { IfOk result (λ subtree. subtree.at_start ≡ parts.at_start) }
+        ensures end { IfOk result (λ subtree. subtree.at_end ≡ parts.at_end) }
+        ensures flat { IfOk result (λ subtree. IsFlat parts.counts.items parts.nodes.items subtree.levels) }
+        ensures rule { IfErr result (λ e. (rule : ℕ) × (e ≡ InvalidJson rule)
+            × BreaksValueRule parts.at_start parts.at_end parts.counts.items parts.nodes.items rule) }
+    {
         let Parts {
             at_start,
             at_end,
             counts,
             nodes,
-        } = read_parts(alloc, value)?;
+        } = parts;
         if counts.is_empty() {
             return Err(CoreError::InvalidJson(5));
         }
-        if count_sum(&counts) != Some(nodes.len()) {
+        if !add_up(&counts, nodes.len()) {
             return Err(CoreError::InvalidJson(6));
         }
         let Some(total_size) = total_size(&nodes) else {

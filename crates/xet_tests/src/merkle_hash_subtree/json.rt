@@ -1,0 +1,135 @@
+//! The JSON form of subtrees: its text, what is read back, and the least broken rule of what isn't a subtree's.
+
+use super::levels::MARKS;
+use super::{EACH_FOURTH, with_cuts};
+use crate::drawn::drawn_list;
+use rand_core::SeedableRng;
+use rand_xoshiro::Xoshiro256PlusPlus;
+use serde_json::Value;
+use std::alloc::Global;
+use std::test::Fail;
+use xet_hash::data_hash::DataHash;
+use xet_merkle::CoreError;
+use xet_merkle::aggregated_hashes::xorb_hash;
+use xet_merkle::merkle_hash_subtree::MerkleHashSubtree;
+
+const ONE: &str = "{\"at_end\":false,\"at_start\":true,\"levels\":[[1,0]],\"nodes\":[{\"hash\":\"cfc5d07f6f03c29bbf424132963fe08d19a37d5757aaf520bf08119f05cd56d6\",\"size\":100}]}";
+
+const NONE: &str = "{\"at_end\":true,\"at_start\":true,\"levels\":[[0,0]],\"nodes\":[]}";
+
+// What the JSON value of a text is read as.
+fn read(alloc: Global, text: &str) -> Result<Result<MerkleHashSubtree, CoreError>, Fail> {
+    Ok(MerkleHashSubtree::from_json(
+        alloc,
+        &Value::from_str(alloc, text)?,
+    ))
+}
+
+#[test]
+fn subtrees_print_as_their_marks_counts_and_nodes(rt: HostRuntime) -> Result<(), Fail> {
+    let chunk = (DataHash::random_from_seed(1), 100);
+    let one = MerkleHashSubtree::from_chunks(rt.alloc(), true, &[chunk], false)?;
+    assert_eq!(rt; one.to_json(rt.alloc())?.to_string(rt.alloc())?.as_str(), ONE);
+    let none = MerkleHashSubtree::from_chunks(rt.alloc(), true, &[], true)?;
+    assert_eq!(rt; none.to_json(rt.alloc())?.to_string(rt.alloc())?.as_str(), NONE);
+    Ok(())
+}
+
+#[test]
+fn the_text_of_a_subtree_is_read_back(rt: HostRuntime) -> Result<(), Fail> {
+    let mut rng = Xoshiro256PlusPlus::seed_from_u64(20261122);
+    for length in [0, 1, 5, 20, 100] {
+        let nodes = drawn_list(&mut rng, rt.alloc(), length)?;
+        for (at_start, at_end) in MARKS {
+            let subtree =
+                MerkleHashSubtree::from_chunks(rt.alloc(), at_start, nodes.as_slice(), at_end)?;
+            let text = subtree.to_json(rt.alloc())?.to_string(rt.alloc())?;
+            assert!(rt; read(rt.alloc(), text.as_str())?? == subtree);
+        }
+    }
+    Ok(())
+}
+
+#[test]
+fn a_subtree_read_back_is_merged_on(rt: HostRuntime) -> Result<(), Fail> {
+    let mut rng = Xoshiro256PlusPlus::seed_from_u64(50);
+    let nodes = drawn_list(&mut rng, rt.alloc(), 50)?;
+    let (first, last) = nodes.as_slice().split_at(20);
+    let mut front = MerkleHashSubtree::from_chunks(rt.alloc(), true, first, false)?;
+    front.merge_into(&MerkleHashSubtree::from_chunks(rt.alloc(), false, last, true)?)?;
+    let back = MerkleHashSubtree::from_json(rt.alloc(), &front.to_json(rt.alloc())?)?;
+    assert!(rt; back.final_hash() == Some(xorb_hash(rt.alloc(), nodes.as_slice())?));
+
+    let nodes = with_cuts::<28>(&EACH_FOURTH);
+    let (first, rest) = nodes.split_at(20);
+    let (second, third) = rest.split_at(4);
+    let mut merged = MerkleHashSubtree::from_chunks(rt.alloc(), false, first, false)?;
+    merged.merge_into(&MerkleHashSubtree::from_chunks(rt.alloc(), false, second, false)?)?;
+    let mut read = MerkleHashSubtree::from_json(rt.alloc(), &merged.to_json(rt.alloc())?)?;
+    read.merge_into(&MerkleHashSubtree::from_chunks(rt.alloc(), false, third, false)?)?;
+    let whole = MerkleHashSubtree::from_chunks(rt.alloc(), false, &nodes, false)?;
+    assert!(rt; read == whole);
+    Ok(())
+}
+
+const ZERO: &str = "{\"hash\":\"0000000000000000000000000000000000000000000000000000000000000000\",\"size\":0}";
+
+const GREAT: &str = "{\"hash\":\"0000000000000000000000000000000000000000000000000000000000000000\",\"size\":18446744073709551615}";
+
+const SMALL: &str = "{\"hash\":\"0000000000000000000000000000000000000000000000000000000000000000\",\"size\":1}";
+
+const FIRST: &str = "{\"hash\":\"CFC5D07F6F03C29BBF424132963FE08D19A37D5757AAF520BF08119F05CD56D6\",\"size\":100,\"more\":[]}";
+
+#[test]
+fn the_least_broken_rule_is_told(rt: HostRuntime) -> Result<(), Fail> {
+    let zeros = format!(in rt.alloc(); "{ZERO},{ZERO}")?;
+    let sizes = format!(in rt.alloc(); "{GREAT},{SMALL}")?;
+    let firsts = format!(in rt.alloc(); "{FIRST},{FIRST}")?;
+    for (start, end, levels, nodes, rule) in [
+        (true, true, "[[1,0]]", "{\"hash\":\"00\",\"size\":1}", 3),
+        (true, true, "[[1,0]]", "{\"hash\":\"0000000000000000000000000000000000000000000000000000000000000000\",\"size\":-1}", 3),
+        (true, true, "[[1,0]]", "{\"hash\":\"0000000000000000000000000000000000000000000000000000000000000000\",\"size\":1.0}", 3),
+        (true, true, "[[1,0]]", "{\"hash\":\"0000000000000000000000000000000000000000000000000000000000000000\",\"size\":-0}", 3),
+        (true, true, "[[1,0]]", "{\"hash\":\"0000000000000000000000000000000000000000000000000000000000000000\",\"size\":18446744073709551616}", 3),
+        (true, true, "[[0]]", "", 4),
+        (true, true, "[[0,-1]]", "", 4),
+        (true, true, "[[0,0,0]]", "", 4),
+        (true, true, "[]", "", 5),
+        (true, true, "[[1,0]]", "", 6),
+        (true, true, "[[18446744073709551615,18446744073709551615]]", "", 6),
+        (true, true, "[[18446744073709551615,1]]", "", 6),
+        (true, true, "[[9223372036854775808,0],[9223372036854775808,0]]", "", 6),
+        (false, false, "[[2,0]]", sizes.as_str(), 7),
+        (false, false, "[[0,1]]", ZERO, 8),
+        (true, false, "[[1,0],[1,0]]", zeros.as_str(), 9),
+        (true, true, "[[2,0]]", zeros.as_str(), 10),
+        (true, true, "[[0,0],[0,0]]", "", 11),
+        (false, false, "[[1,0],[1,0]]", zeros.as_str(), 12),
+        (true, false, "[[0,1],[1,0]]", firsts.as_str(), 13),
+    ] {
+        let text = format!(in rt.alloc(); "{{\"at_start\":{start},\"at_end\":{end},\"levels\":{levels},\"nodes\":[{nodes}]}}")?;
+        assert!(rt; read(rt.alloc(), text.as_str())? == Err(CoreError::InvalidJson(rule)), "{text}");
+    }
+    for (text, rule) in [
+        ("[]", 1),
+        ("null", 1),
+        ("{}", 2),
+        ("{\"at_start\":0,\"at_end\":true,\"levels\":[],\"nodes\":[]}", 2),
+        ("{\"at_start\":true,\"at_end\":true,\"levels\":{},\"nodes\":[]}", 2),
+    ] {
+        assert!(rt; read(rt.alloc(), text)? == Err(CoreError::InvalidJson(rule)), "{text}");
+    }
+    Ok(())
+}
+
+#[test]
+fn empty_sides_and_further_members_are_read(rt: HostRuntime) -> Result<(), Fail> {
+    let text = format!(in rt.alloc(); "{{\"at_start\":true,\"at_end\":true,\"levels\":[[0,0],[0,0],[1,0]],\"nodes\":[{FIRST}],\"x\":1}}")?;
+    let subtree = read(rt.alloc(), text.as_str())??;
+    assert_eq!(rt; subtree.num_levels(), 3);
+    assert!(rt; subtree.final_hash() == Some(DataHash::random_from_seed(1)));
+    // The last of two equal members counts.
+    let text = format!(in rt.alloc(); "{{\"at_start\":0,\"at_end\":true,\"levels\":[[0,0]],\"nodes\":[],\"at_start\":true}}")?;
+    assert!(rt; read(rt.alloc(), text.as_str())??.is_empty());
+    Ok(())
+}
