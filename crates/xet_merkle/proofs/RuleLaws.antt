@@ -1,9 +1,9 @@
 -- The rules that levels keep, as the code tests them. Rests on StableLoops and SideLaws.
-use Rattle.std.proofs.Common.{◌≡◌, ℕ, ◌+◌, ◌<◌, ◌≤◌, ◌↔◌, ◌⊎◌, Bool, true, false, Option, Some, None, IfSome, IfNone, is_some, not, List, [], ◌∷◌, ◌++◌, length, take, drop, get_or, refl, sym, ap, subst, ◌∙◌, inl, inr, arith, append-nil, length-append, length-take}
+use Rattle.std.proofs.Common.{◌≡◌, ℕ, ◌+◌, ◌<◌, ◌≤◌, ◌↔◌, Bool, true, false, Option, Some, None, IfSome, IfNone, is_some, not, List, [], ◌∷◌, ◌++◌, length, take, drop, get_or, refl, sym, ap, subst, ◌∙◌, arith, append-nil, length-append, length-take}
 use Rattle.std.proofs.lemmas.Bool.{false≢true}
 use Rattle.std.proofs.lemmas.List.{take-append-drop, drop_more}
-use Rattle.xet_merkle.specs.Groups.{Node, Cut, NotCut, EndsWithCut}
-use Rattle.xet_merkle.specs.StablePoints.{NoCut, EndsStable, BeginsStable, IsStable, NoStable, IsFirstStable, IsLastStable}
+use Rattle.xet_merkle.specs.Groups.{Node, Cut, EndsWithCut}
+use Rattle.xet_merkle.specs.StablePoints.{NoCut, EndsStable, BeginsStable, NoStable, IsFirstStable, IsLastStable}
 use Rattle.xet_merkle.specs.Scan.{is_stable_gap}
 use Rattle.xet_merkle.specs.StableScan.{IsFront}
 use Rattle.xet_merkle.specs.Canonical.{Level, top_nodes}
@@ -11,7 +11,7 @@ use Rattle.xet_merkle.specs.Subtree.{left_at, right_at}
 use Rattle.xet_merkle.specs.Joining.{above}
 use Rattle.xet_merkle.specs.WellFormed.{IsLeftSide, IsRightSide, HaveSides, IsWellFormed}
 use Rattle.xet_merkle.specs.LevelRules.{below_top, top_of, Each, Rule8, Rule9, Rule10, Rule11, Rule12, Rule13}
-use Rattle.xet_merkle.proofs.CutPlaces.{not_among, back_of, EndsBehind-ends}
+use Rattle.xet_merkle.proofs.CutPlaces.{not_among, back_of}
 use Rattle.xet_merkle.proofs.StableScan.{HeadIs, IsScanned, gap_parts, gap_from}
 use Rattle.xet_merkle.proofs.StableSearch.{FirstCut, same_first_cut}
 use Rattle.xet_merkle.proofs.SideLaws.{EndsStable-cut}

@@ -1,6 +1,6 @@
 -- Levels in one list of nodes: the left nodes of all levels by rising level, then the right nodes by
--- falling level; beside it, for each level, how many nodes it has on either side. Private contracts and
--- proofs speak of it; what a reader has to believe stands in Subtree.
+-- falling level; beside it, for each level, how many nodes it has on either side. The JSON form and private
+-- contracts speak of it.
 use Rattle.std.specs.Prelude.{◌≡◌, ℕ, ◌-◌, ◌<◌, Bool, List, [], ◌∷◌, ◌++◌, length, map, take, drop, reverse}
 use Rattle.xet_merkle.specs.Groups.{Node}
 use Rattle.xet_merkle.specs.Roots.{total_size}

@@ -1,7 +1,6 @@
 -- The rules that marks and levels keep: rules 8 to 13 of a subtree's JSON form. Levels that keep them are those of
 -- a well formed subtree.
 use Rattle.std.specs.Prelude.{◌≡◌, ℕ, ◌<◌, ◌≤◌, Bool, true, false, List, [], ◌∷◌, length}
-use Rattle.xet_merkle.specs.StablePoints.{EndsStable, BeginsStable, NoStable}
 use Rattle.xet_merkle.specs.Canonical.{Level, top_nodes}
 use Rattle.xet_merkle.specs.Joining.{no_level}
 use Rattle.xet_merkle.specs.WellFormed.{IsLeftSide, IsRightSide}

@@ -1,7 +1,7 @@
 -- The JSON form of a subtree, as data of the kit's `serde_json` (module `merklehash::merkle_hash_subtree` of
 -- the crate `xet-core-structures`, whose derives write the same members). Members stand in the order of their
 -- names.
-use Rattle.std.specs.Prelude.{ℕ, Bool, List, [], ◌∷◌, map, codes}
+use Rattle.std.specs.Prelude.{ℕ, Bool, [], ◌∷◌, map, codes}
 use Rattle.serde_json.specs.Data.{Data, boolean, number, string, array, object, unsigned, no_members, member}
 use Rattle.serde_json.specs.View.{items_of}
 use Rattle.xet_hash.specs.Hash.{hex_text}

@@ -13,25 +13,29 @@ use xet_merkle::CoreError;
 use xet_merkle::aggregated_hashes::xorb_hash;
 use xet_merkle::merkle_hash_subtree::MerkleHashSubtree;
 
-const ONE: &str = "{\"at_end\":false,\"at_start\":true,\"levels\":[[1,0]],\"nodes\":[{\"hash\":\"cfc5d07f6f03c29bbf424132963fe08d19a37d5757aaf520bf08119f05cd56d6\",\"size\":100}]}";
+const ONE: &str =
+    "{\"at_end\":false,\"at_start\":true,\"levels\":[[1,0]],\"nodes\":[{\"hash\":\"cfc5d07f6f03c29bbf424132963fe08d19a37d5757aaf520bf08119f05cd56d6\",\"size\":100}]}";
 
 const NONE: &str = "{\"at_end\":true,\"at_start\":true,\"levels\":[[0,0]],\"nodes\":[]}";
 
 // What the JSON value of a text is read as.
 fn read(alloc: Global, text: &str) -> Result<Result<MerkleHashSubtree, CoreError>, Fail> {
-    Ok(MerkleHashSubtree::from_json(
-        alloc,
-        &Value::from_str(alloc, text)?,
-    ))
+    Ok(MerkleHashSubtree::from_json(alloc, &Value::from_str(alloc, text)?))
 }
 
 #[test]
 fn subtrees_print_as_their_marks_counts_and_nodes(rt: HostRuntime) -> Result<(), Fail> {
     let chunk = (DataHash::random_from_seed(1), 100);
     let one = MerkleHashSubtree::from_chunks(rt.alloc(), true, &[chunk], false)?;
-    assert_eq!(rt; one.to_json(rt.alloc())?.to_string(rt.alloc())?.as_str(), ONE);
+    assert_eq!(rt;
+        one.to_json(rt.alloc())?.to_string(rt.alloc())?.as_str(),
+        ONE
+    );
     let none = MerkleHashSubtree::from_chunks(rt.alloc(), true, &[], true)?;
-    assert_eq!(rt; none.to_json(rt.alloc())?.to_string(rt.alloc())?.as_str(), NONE);
+    assert_eq!(rt;
+        none.to_json(rt.alloc())?.to_string(rt.alloc())?.as_str(),
+        NONE
+    );
     Ok(())
 }
 
@@ -41,8 +45,12 @@ fn the_text_of_a_subtree_is_read_back(rt: HostRuntime) -> Result<(), Fail> {
     for length in [0, 1, 5, 20, 100] {
         let nodes = drawn_list(&mut rng, rt.alloc(), length)?;
         for (at_start, at_end) in MARKS {
-            let subtree =
-                MerkleHashSubtree::from_chunks(rt.alloc(), at_start, nodes.as_slice(), at_end)?;
+            let subtree = MerkleHashSubtree::from_chunks(
+                rt.alloc(),
+                at_start,
+                nodes.as_slice(),
+                at_end,
+            )?;
             let text = subtree.to_json(rt.alloc())?.to_string(rt.alloc())?;
             assert!(rt; read(rt.alloc(), text.as_str())?? == subtree);
         }
@@ -72,13 +80,17 @@ fn a_subtree_read_back_is_merged_on(rt: HostRuntime) -> Result<(), Fail> {
     Ok(())
 }
 
-const ZERO: &str = "{\"hash\":\"0000000000000000000000000000000000000000000000000000000000000000\",\"size\":0}";
+const ZERO: &str =
+    "{\"hash\":\"0000000000000000000000000000000000000000000000000000000000000000\",\"size\":0}";
 
-const GREAT: &str = "{\"hash\":\"0000000000000000000000000000000000000000000000000000000000000000\",\"size\":18446744073709551615}";
+const GREAT: &str =
+    "{\"hash\":\"0000000000000000000000000000000000000000000000000000000000000000\",\"size\":18446744073709551615}";
 
-const SMALL: &str = "{\"hash\":\"0000000000000000000000000000000000000000000000000000000000000000\",\"size\":1}";
+const SMALL: &str =
+    "{\"hash\":\"0000000000000000000000000000000000000000000000000000000000000000\",\"size\":1}";
 
-const FIRST: &str = "{\"hash\":\"CFC5D07F6F03C29BBF424132963FE08D19A37D5757AAF520BF08119F05CD56D6\",\"size\":100,\"more\":[]}";
+const FIRST: &str =
+    "{\"hash\":\"CFC5D07F6F03C29BBF424132963FE08D19A37D5757AAF520BF08119F05CD56D6\",\"size\":100,\"more\":[]}";
 
 #[test]
 fn the_least_broken_rule_is_told(rt: HostRuntime) -> Result<(), Fail> {
@@ -87,18 +99,54 @@ fn the_least_broken_rule_is_told(rt: HostRuntime) -> Result<(), Fail> {
     let firsts = format!(in rt.alloc(); "{FIRST},{FIRST}")?;
     for (start, end, levels, nodes, rule) in [
         (true, true, "[[1,0]]", "{\"hash\":\"00\",\"size\":1}", 3),
-        (true, true, "[[1,0]]", "{\"hash\":\"0000000000000000000000000000000000000000000000000000000000000000\",\"size\":-1}", 3),
-        (true, true, "[[1,0]]", "{\"hash\":\"0000000000000000000000000000000000000000000000000000000000000000\",\"size\":1.0}", 3),
-        (true, true, "[[1,0]]", "{\"hash\":\"0000000000000000000000000000000000000000000000000000000000000000\",\"size\":-0}", 3),
-        (true, true, "[[1,0]]", "{\"hash\":\"0000000000000000000000000000000000000000000000000000000000000000\",\"size\":18446744073709551616}", 3),
+        (
+            true,
+            true,
+            "[[1,0]]",
+            "{\"hash\":\"0000000000000000000000000000000000000000000000000000000000000000\",\"size\":-1}",
+            3,
+        ),
+        (
+            true,
+            true,
+            "[[1,0]]",
+            "{\"hash\":\"0000000000000000000000000000000000000000000000000000000000000000\",\"size\":1.0}",
+            3,
+        ),
+        (
+            true,
+            true,
+            "[[1,0]]",
+            "{\"hash\":\"0000000000000000000000000000000000000000000000000000000000000000\",\"size\":-0}",
+            3,
+        ),
+        (
+            true,
+            true,
+            "[[1,0]]",
+            "{\"hash\":\"0000000000000000000000000000000000000000000000000000000000000000\",\"size\":18446744073709551616}",
+            3,
+        ),
         (true, true, "[[0]]", "", 4),
         (true, true, "[[0,-1]]", "", 4),
         (true, true, "[[0,0,0]]", "", 4),
         (true, true, "[]", "", 5),
         (true, true, "[[1,0]]", "", 6),
-        (true, true, "[[18446744073709551615,18446744073709551615]]", "", 6),
+        (
+            true,
+            true,
+            "[[18446744073709551615,18446744073709551615]]",
+            "",
+            6,
+        ),
         (true, true, "[[18446744073709551615,1]]", "", 6),
-        (true, true, "[[9223372036854775808,0],[9223372036854775808,0]]", "", 6),
+        (
+            true,
+            true,
+            "[[9223372036854775808,0],[9223372036854775808,0]]",
+            "",
+            6,
+        ),
         (false, false, "[[2,0]]", sizes.as_str(), 7),
         (false, false, "[[0,1]]", ZERO, 8),
         (true, false, "[[1,0],[1,0]]", zeros.as_str(), 9),
@@ -107,29 +155,47 @@ fn the_least_broken_rule_is_told(rt: HostRuntime) -> Result<(), Fail> {
         (false, false, "[[1,0],[1,0]]", zeros.as_str(), 12),
         (true, false, "[[0,1],[1,0]]", firsts.as_str(), 13),
     ] {
-        let text = format!(in rt.alloc(); "{{\"at_start\":{start},\"at_end\":{end},\"levels\":{levels},\"nodes\":[{nodes}]}}")?;
-        assert!(rt; read(rt.alloc(), text.as_str())? == Err(CoreError::InvalidJson(rule)), "{text}");
+        let text = format!(in rt.alloc();
+            "{{\"at_start\":{start},\"at_end\":{end},\"levels\":{levels},\"nodes\":[{nodes}]}}"
+        )?;
+        assert!(rt;
+            read(rt.alloc(), text.as_str())? == Err(CoreError::InvalidJson(rule)),
+            "{text}"
+        );
     }
     for (text, rule) in [
         ("[]", 1),
         ("null", 1),
         ("{}", 2),
-        ("{\"at_start\":0,\"at_end\":true,\"levels\":[],\"nodes\":[]}", 2),
-        ("{\"at_start\":true,\"at_end\":true,\"levels\":{},\"nodes\":[]}", 2),
+        (
+            "{\"at_start\":0,\"at_end\":true,\"levels\":[],\"nodes\":[]}",
+            2,
+        ),
+        (
+            "{\"at_start\":true,\"at_end\":true,\"levels\":{},\"nodes\":[]}",
+            2,
+        ),
     ] {
-        assert!(rt; read(rt.alloc(), text)? == Err(CoreError::InvalidJson(rule)), "{text}");
+        assert!(rt;
+            read(rt.alloc(), text)? == Err(CoreError::InvalidJson(rule)),
+            "{text}"
+        );
     }
     Ok(())
 }
 
 #[test]
 fn empty_sides_and_further_members_are_read(rt: HostRuntime) -> Result<(), Fail> {
-    let text = format!(in rt.alloc(); "{{\"at_start\":true,\"at_end\":true,\"levels\":[[0,0],[0,0],[1,0]],\"nodes\":[{FIRST}],\"x\":1}}")?;
+    let text = format!(in rt.alloc();
+        "{{\"at_start\":true,\"at_end\":true,\"levels\":[[0,0],[0,0],[1,0]],\"nodes\":[{FIRST}],\"x\":1}}"
+    )?;
     let subtree = read(rt.alloc(), text.as_str())??;
     assert_eq!(rt; subtree.num_levels(), 3);
     assert!(rt; subtree.final_hash() == Some(DataHash::random_from_seed(1)));
     // The last of two equal members counts.
-    let text = format!(in rt.alloc(); "{{\"at_start\":0,\"at_end\":true,\"levels\":[[0,0]],\"nodes\":[],\"at_start\":true}}")?;
+    let text = format!(in rt.alloc();
+        "{{\"at_start\":0,\"at_end\":true,\"levels\":[[0,0]],\"nodes\":[],\"at_start\":true}}"
+    )?;
     assert!(rt; read(rt.alloc(), text.as_str())??.is_empty());
     Ok(())
 }

@@ -1,8 +1,7 @@
-use Rattle.std.proofs.Common.{◌≡◌, ◌<◌, ◌==◌, false, List, [], length, sym, ap, subst, ◌∙◌, rules}
+use Rattle.std.proofs.Common.{◌≡◌, ◌<◌, ◌==◌, List, [], length, ap, ◌∙◌, rules}
 use Rattle.std.proofs.lemmas.Bool.{false≢true}
 use Rattle.xet_merkle.specs.Groups.{Node}
 use Rattle.xet_merkle.specs.Canonical.{Level}
-use Rattle.xet_merkle.specs.WellFormed.{IsLeftSide, IsRightSide}
 use Rattle.xet_merkle.proofs.RuleLaws.{walk_ends, walk_stops}
 use Rattle.xet_merkle.proofs.merkle_hash_subtree.level_rules.no_lefts.Goals as goal
 

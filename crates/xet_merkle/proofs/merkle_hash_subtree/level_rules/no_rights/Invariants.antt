@@ -1,5 +1,4 @@
-use Rattle.std.proofs.Common.{◌≡◌, ◌↔◌, false, [], length}
-use Rattle.xet_merkle.specs.WellFormed.{IsLeftSide, IsRightSide}
+use Rattle.std.proofs.Common.{◌≡◌, ◌↔◌, [], length}
 use Rattle.xet_merkle.specs.LevelRules.{Each, below_top}
 use Rattle.xet_merkle.proofs.merkle_hash_subtree.level_rules.no_rights.Given as goal
 

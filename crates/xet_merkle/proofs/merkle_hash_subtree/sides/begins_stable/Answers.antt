@@ -1,7 +1,7 @@
-use Rattle.std.proofs.Common.{◌≡◌, ◌+◌, true, List, take, subst, sym, ap, ◌∙◌, arith}
+use Rattle.std.proofs.Common.{take, subst, sym, ap, ◌∙◌}
 use Rattle.std.proofs.lemmas.Bool.{false≢true}
 use Rattle.std.proofs.lemmas.List.{take_all, take_more}
-use Rattle.xet_merkle.specs.Groups.{Node, is_cut, Cut, NotCut}
+use Rattle.xet_merkle.specs.Groups.{is_cut}
 use Rattle.xet_merkle.specs.StablePoints.{NoCut}
 use Rattle.xet_merkle.proofs.CutPlaces.{NoCut-append}
 use Rattle.xet_merkle.proofs.RuleLaws.{begins_at_gap, begins_nowhere}

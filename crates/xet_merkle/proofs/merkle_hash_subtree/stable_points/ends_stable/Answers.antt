@@ -1,4 +1,4 @@
-use Rattle.std.proofs.Common.{◌≡◌, ◌+◌, List, [], take, subst, ap, ◌∙◌, arith, refl}
+use Rattle.std.proofs.Common.{List, [], subst, ap, ◌∙◌, arith}
 use Rattle.std.proofs.lemmas.List.{take_all}
 use Rattle.xet_merkle.specs.Groups.{Node, is_cut}
 use Rattle.xet_merkle.proofs.StableScan.{IsScanned, IsScanned-none}
