@@ -1,8 +1,10 @@
 -- Rows of four words, and the laws of the columns.
 use Rattle.std.proofs.Common.{◌≡◌, ℕ, ◌-◌, ◌*◌, ◌/◌, ◌%◌, ◌^◌, ◌<◌, ◌≤◌, List, [], ◌∷◌, ◌++◌, length, map, get_or, bit_or, bit_xor, slice_index, refl, sym, ◌∙◌, arith}
 use Rattle.std.specs.Int.{rotate_right, w32}
+use Rattle.std.specs.List.{range_with_len}
 use Rattle.xet_hash.specs.Blake3.{add32, compress, first_state, folded, half_mix, mix, permuted, round, rounds}
-use Rattle.xet_hash.specs.Blake3Rows.{half_columns}
+use Rattle.xet_hash.specs.Blake3Rows.{from_second, half_columns}
+use Rattle.std.proofs.lemmas.List.FromFn.{fill_by_all}
 use Rattle.std.proofs.lemmas.Simd.{length-zip2}
 use lib.Lanes.{zip2}
 
@@ -14,6 +16,10 @@ four (a ∷ b ∷ []) h = absurd (omega arith)
 four (a ∷ b ∷ c ∷ []) h = absurd (omega arith)
 four (a ∷ b ∷ c ∷ d ∷ []) h = refl
 four (a ∷ b ∷ c ∷ d ∷ e ∷ x) h = absurd (omega arith)
+
+-- sixteen words
+pub sixteen : (x : List ℕ) → length x ≡ 16 → x ≡ map (λ k. get_or x k 0) (range_with_len 0 16)
+sixteen x h = fill_by_all (λ k. get_or x k 0) x 16 0 h (λ k fits. refl)
 
 pub rotated_lanes : (x : List ℕ) (n : ℕ) → length x ≡ 4 → 1 ≤ n → n < 32
     → zip2 bit_or (zip2 (λ a k. a / 2 ^ k) x (n ∷ n ∷ n ∷ n ∷ [])) (zip2 (λ a k. (a * 2 ^ k) % 2 ^ 32) x ((32 - n) ∷ (32 - n) ∷ (32 - n) ∷ (32 - n) ∷ []))
@@ -60,24 +66,24 @@ unfoldable pub diagonals : List ℕ → List ℕ → List ℕ → List ℕ
 diagonals v x y = mix (mix (mix (mix v 0 5 10 15 (slice_index x 0) (slice_index y 0)) 1 6 11 12 (slice_index x 1) (slice_index y 1)) 2 7 8 13 (slice_index x 2) (slice_index y 2))
     3 4 9 14 (slice_index x 3) (slice_index y 3)
 
--- the rows turned, so that the diagonals stand as columns, and back
+-- the rows but b turned, so that the diagonals stand as columns, the last one first, and back
 abbrev pub turned : List ℕ → List ℕ
-turned v = map (slice_index v) (0 ∷ 1 ∷ 2 ∷ 3 ∷ 5 ∷ 6 ∷ 7 ∷ 4 ∷ 10 ∷ 11 ∷ 8 ∷ 9 ∷ 15 ∷ 12 ∷ 13 ∷ 14 ∷ [])
+turned v = map (slice_index v) (3 ∷ 0 ∷ 1 ∷ 2 ∷ 4 ∷ 5 ∷ 6 ∷ 7 ∷ 9 ∷ 10 ∷ 11 ∷ 8 ∷ 14 ∷ 15 ∷ 12 ∷ 13 ∷ [])
 
 abbrev pub turned_back : List ℕ → List ℕ
-turned_back v = map (slice_index v) (0 ∷ 1 ∷ 2 ∷ 3 ∷ 7 ∷ 4 ∷ 5 ∷ 6 ∷ 10 ∷ 11 ∷ 8 ∷ 9 ∷ 13 ∷ 14 ∷ 15 ∷ 12 ∷ [])
+turned_back v = map (slice_index v) (1 ∷ 2 ∷ 3 ∷ 0 ∷ 4 ∷ 5 ∷ 6 ∷ 7 ∷ 11 ∷ 8 ∷ 9 ∷ 10 ∷ 14 ∷ 15 ∷ 12 ∷ 13 ∷ [])
 
 pub turned-rows : (a b c d : List ℕ) → length a ≡ 4 → length b ≡ 4 → length c ≡ 4 → length d ≡ 4
-    → a ++ (get_or (b ++ b) 1 0 ∷ get_or (b ++ b) 2 0 ∷ get_or (b ++ b) 3 0 ∷ get_or (b ++ b) 0 0 ∷ [])
-    ++ (get_or (c ++ c) 2 0 ∷ get_or (c ++ c) 3 0 ∷ get_or (c ++ c) 0 0 ∷ get_or (c ++ c) 1 0 ∷ [])
-    ++ (get_or (d ++ d) 3 0 ∷ get_or (d ++ d) 0 0 ∷ get_or (d ++ d) 1 0 ∷ get_or (d ++ d) 2 0 ∷ [])
+    → (get_or (a ++ a) 3 0 ∷ get_or (a ++ a) 0 0 ∷ get_or (a ++ a) 1 0 ∷ get_or (a ++ a) 2 0 ∷ []) ++ b
+    ++ (get_or (c ++ c) 1 0 ∷ get_or (c ++ c) 2 0 ∷ get_or (c ++ c) 3 0 ∷ get_or (c ++ c) 0 0 ∷ [])
+    ++ (get_or (d ++ d) 2 0 ∷ get_or (d ++ d) 3 0 ∷ get_or (d ++ d) 0 0 ∷ get_or (d ++ d) 1 0 ∷ [])
     ≡ turned (a ++ b ++ c ++ d)
 turned-rows a b c d ha hb hc hd = rw (four a ha, four b hb, four c hc, four d hd) refl
 
 pub turned_back-rows : (a b c d : List ℕ) → length a ≡ 4 → length b ≡ 4 → length c ≡ 4 → length d ≡ 4
-    → a ++ (get_or (b ++ b) 3 0 ∷ get_or (b ++ b) 0 0 ∷ get_or (b ++ b) 1 0 ∷ get_or (b ++ b) 2 0 ∷ [])
-    ++ (get_or (c ++ c) 2 0 ∷ get_or (c ++ c) 3 0 ∷ get_or (c ++ c) 0 0 ∷ get_or (c ++ c) 1 0 ∷ [])
-    ++ (get_or (d ++ d) 1 0 ∷ get_or (d ++ d) 2 0 ∷ get_or (d ++ d) 3 0 ∷ get_or (d ++ d) 0 0 ∷ [])
+    → (get_or (a ++ a) 1 0 ∷ get_or (a ++ a) 2 0 ∷ get_or (a ++ a) 3 0 ∷ get_or (a ++ a) 0 0 ∷ []) ++ b
+    ++ (get_or (c ++ c) 3 0 ∷ get_or (c ++ c) 0 0 ∷ get_or (c ++ c) 1 0 ∷ get_or (c ++ c) 2 0 ∷ [])
+    ++ (get_or (d ++ d) 2 0 ∷ get_or (d ++ d) 3 0 ∷ get_or (d ++ d) 0 0 ∷ get_or (d ++ d) 1 0 ∷ [])
     ≡ turned_back (a ++ b ++ c ++ d)
 turned_back-rows a b c d ha hb hc hd = rw (four a ha, four b hb, four c hc, four d hd) refl
 
@@ -87,7 +93,7 @@ unfolding columns half_columns mix half_mix
 columns_by_halves a b c d x y ha hb hc hd = rw (four a ha, four b hb, four c hc, four d hd) refl
 
 pub diagonals_by_halves : (a b c d x y : List ℕ) → length a ≡ 4 → length b ≡ 4 → length c ≡ 4 → length d ≡ 4
-    → turned_back (half_columns (half_columns (turned (a ++ b ++ c ++ d)) x 16 12) y 8 7) ≡ diagonals (a ++ b ++ c ++ d) x y
+    → turned_back (half_columns (half_columns (turned (a ++ b ++ c ++ d)) x 16 12) y 8 7) ≡ diagonals (a ++ b ++ c ++ d) (from_second x) (from_second y)
 unfolding diagonals half_columns mix half_mix
 diagonals_by_halves a b c d x y ha hb hc hd = rw (four a ha, four b hb, four c hc, four d hd) refl
 

@@ -1,5 +1,5 @@
 -- The words of a state in four rows, and of a message block in four quads.
-use Rattle.std.specs.Prelude.{ℕ, List, [], ◌∷◌, ◌++◌, slice_index}
+use Rattle.std.specs.Prelude.{ℕ, List, [], ◌∷◌, ◌++◌, map, slice_index}
 use Rattle.xet_hash.specs.Blake3.{half_mix}
 use Rattle.xet_hash.specs.declared.blake3.rows.Rows.{Rows}
 use Rattle.xet_hash.specs.declared.blake3.rows.Quads.{Quads}
@@ -13,9 +13,13 @@ abbrev pub zipped : List ℕ → List ℕ → List ℕ
 zipped x y = slice_index x 0 ∷ slice_index y 0 ∷ slice_index x 1 ∷ slice_index y 1
     ∷ slice_index x 2 ∷ slice_index y 2 ∷ slice_index x 3 ∷ slice_index y 3 ∷ []
 
--- the words of a message block
+-- the words of a quad from the second on, and then its first
+abbrev pub from_second : List ℕ → List ℕ
+from_second x = map (slice_index x) (1 ∷ 2 ∷ 3 ∷ 0 ∷ [])
+
+-- the words of a message block: the quads of the diagonals begin with the last diagonal's
 abbrev pub words_of : Quads → List ℕ
-words_of m = zipped m.column_first m.column_second ++ zipped m.diagonal_first m.diagonal_second
+words_of m = zipped m.column_first m.column_second ++ zipped (from_second m.diagonal_first) (from_second m.diagonal_second)
 
 -- half of G on each column of the state: one word of x for each, and the rotations r and s
 unfoldable pub half_columns : List ℕ → List ℕ → ℕ → ℕ → List ℕ

@@ -37,7 +37,8 @@ fn half_columns(v: Rows, x: u32x4, r: u32, s: u32) -> Rows
     Rows { a, b, c, d }
 }
 
-// One round: G on the columns, then on the diagonals, which are turned to stand as columns.
+// One round: G on the columns, then on the diagonals, which are turned to stand as columns. Row b stays
+// in place: a half step makes it last and the next one needs it first, so a turn of it would be waited for.
 #[inline(always)]
 fn round(v: Rows, m: Quads) -> Rows
     ensures { state_of result ≡ round (state_of v) (words_of m) }
@@ -45,18 +46,18 @@ fn round(v: Rows, m: Quads) -> Rows
     let v = half_columns(v, m.column_first, 16, 12);
     let v = half_columns(v, m.column_second, 8, 7);
     let v = Rows {
-        a: v.a,
-        b: v.b.rotate_elements_left::<1>(),
-        c: v.c.rotate_elements_left::<2>(),
-        d: v.d.rotate_elements_left::<3>(),
+        a: v.a.rotate_elements_left::<3>(),
+        b: v.b,
+        c: v.c.rotate_elements_left::<1>(),
+        d: v.d.rotate_elements_left::<2>(),
     };
     let v = half_columns(v, m.diagonal_first, 16, 12);
     let v = half_columns(v, m.diagonal_second, 8, 7);
     Rows {
-        a: v.a,
-        b: v.b.rotate_elements_left::<3>(),
-        c: v.c.rotate_elements_left::<2>(),
-        d: v.d.rotate_elements_left::<1>(),
+        a: v.a.rotate_elements_left::<1>(),
+        b: v.b,
+        c: v.c.rotate_elements_left::<3>(),
+        d: v.d.rotate_elements_left::<2>(),
     }
 }
 
@@ -68,10 +69,10 @@ fn permuted(m: Quads) -> Quads
     let (x, y) = (m.column_first, m.column_second);
     let (z, w) = (m.diagonal_first, m.diagonal_second);
     Quads {
-        column_first: x.shuffle(y, [1, 5, 7, 2]),
-        column_second: x.shuffle(z, [3, 5, 0, 0]).shuffle(w, [0, 1, 2, 6]),
-        diagonal_first: y.shuffle(z, [0, 6, 0, 0]).shuffle(w, [0, 1, 4, 7]),
-        diagonal_second: w.shuffle(y, [1, 6, 1, 1]).shuffle(z, [0, 1, 7, 4]),
+        column_first: x.shuffle(y, [2, 1, 5, 7]).rotate_elements_left::<1>(),
+        column_second: x.shuffle(z, [3, 6, 0, 0]).shuffle(w, [0, 1, 2, 7]),
+        diagonal_first: w.shuffle(y, [0, 1, 4, 0]).shuffle(z, [0, 2, 7, 1]),
+        diagonal_second: z.shuffle(w, [1, 6, 0, 0]).shuffle(y, [0, 1, 6, 2]),
     }
 }
 
@@ -80,15 +81,15 @@ fn permuted(m: Quads) -> Quads
 fn quads_of(m: &[u32; 16]) -> Quads
     ensures { words_of result ≡ m.now }
 {
-    let p = u32x4::from_array([m[0], m[1], m[2], m[3]]);
-    let q = u32x4::from_array([m[4], m[5], m[6], m[7]]);
-    let r = u32x4::from_array([m[8], m[9], m[10], m[11]]);
-    let s = u32x4::from_array([m[12], m[13], m[14], m[15]]);
+    let p = u32x4::from_slice(&m[..4]);
+    let q = u32x4::from_slice(&m[4..8]);
+    let r = u32x4::from_slice(&m[8..12]);
+    let s = u32x4::from_slice(&m[12..]);
     Quads {
         column_first: p.shuffle(q, [0, 2, 4, 6]),
         column_second: p.shuffle(q, [1, 3, 5, 7]),
-        diagonal_first: r.shuffle(s, [0, 2, 4, 6]),
-        diagonal_second: r.shuffle(s, [1, 3, 5, 7]),
+        diagonal_first: r.shuffle(s, [6, 0, 2, 4]),
+        diagonal_second: r.shuffle(s, [7, 1, 3, 5]),
     }
 }
 
@@ -100,8 +101,8 @@ fn first_state(h: &[u32; 8], counter: u64, block_length: u32, flags: u32) -> Row
     let low = (counter % (1 << 32)) as u32;
     let high = (counter >> 32) as u32;
     Rows {
-        a: u32x4::from_array([h[0], h[1], h[2], h[3]]),
-        b: u32x4::from_array([h[4], h[5], h[6], h[7]]),
+        a: u32x4::from_slice(&h[..4]),
+        b: u32x4::from_slice(&h[4..]),
         c: u32x4::from_array(INITIALIZATION_VECTOR),
         d: u32x4::from_array([low, high, block_length, flags]),
     }

@@ -15,7 +15,8 @@ pub(crate) struct Rows {
 }
 
 // The words of a message block, by the part of the round that they enter: the columns' first and
-// second halves, then the diagonals'.
+// second halves, then the diagonals'. The last diagonal stands first, since it has the first word of
+// row b.
 #[derive(Clone, Copy)]
 pub(crate) struct Quads {
     pub(crate) column_first: u32x4,

@@ -1,6 +1,6 @@
 use Rattle.std.proofs.Common.{List, ℕ, ap, ◌∙◌}
 use Rattle.xet_hash.specs.Blake3.{round}
-use Rattle.xet_hash.specs.Blake3Rows.{half_columns}
+use Rattle.xet_hash.specs.Blake3Rows.{from_second, half_columns}
 use Rattle.xet_hash.proofs.Blake3Rows.{columns, columns_by_halves, diagonals, diagonals_by_halves, turned-rows, turned_back, turned_back-rows}
 use Rattle.xet_hash.proofs.blake3.compression.round.Goals as goal
 
@@ -18,4 +18,4 @@ returns c =
     ∙ ap (λ (s : List ℕ). half_columns s m.diagonal_second 8 7)
     (c.half_columns-v-3.ensures ∙ ap (λ (s : List ℕ). half_columns s m.diagonal_first 16 12) (turned-rows v2.a v2.b v2.c v2.d v2.fours.0 v2.fours.1 v2.fours.2 v2.fours.3)))
     ∙ diagonals_by_halves v2.a v2.b v2.c v2.d m.diagonal_first m.diagonal_second v2.fours.0 v2.fours.1 v2.fours.2 v2.fours.3
-    ∙ ap (λ (s : List ℕ). diagonals s m.diagonal_first m.diagonal_second) first
+    ∙ ap (λ (s : List ℕ). diagonals s (from_second m.diagonal_first) (from_second m.diagonal_second)) first
