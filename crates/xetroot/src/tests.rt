@@ -54,7 +54,9 @@ fn separators_change_nothing(rt: HostRuntime) -> Result<(), Fail> {
         for second in ["", "--\n"] {
             for third in ["", "--\n"] {
                 for last in ["", "--\n", "--\n--"] {
-                    let input = format!(in rt.alloc(); "{first}{H1} 100\n{second}{H2} 200\n{third}{H3} 300\n{last}")?;
+                    let input = format!(in rt.alloc();
+                        "{first}{H1} 100\n{second}{H2} 200\n{third}{H3} 300\n{last}"
+                    )?;
                     let mut output = Vec::new(rt.alloc());
                     assert_eq!(rt; run(rt.alloc(), &mut input.as_bytes(), &mut output), Ok(()));
                     assert_eq!(rt; output.as_slice(), THREE_PAIRS.as_bytes(), "{input}");
