@@ -29,7 +29,7 @@ array-of (Some (object entries)) items e = cc
 
 -- ---- an array of two
 
-items_of-injective : (xs ys : List Data) → items_of xs ≡ items_of ys → xs ≡ ys
+pub items_of-injective : (xs ys : List Data) → items_of xs ≡ items_of ys → xs ≡ ys
 items_of-injective [] [] e = refl
 items_of-injective [] (y ∷ ys) e = cc
 items_of-injective (x ∷ xs) [] e = cc

@@ -25,3 +25,4 @@ pub mod FlatLevelEquality
 pub mod CanonicalBounds
 pub mod RuleLaws
 pub mod JsonLaws
+pub mod JsonBack

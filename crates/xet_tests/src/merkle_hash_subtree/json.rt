@@ -7,10 +7,11 @@ use rand_core::SeedableRng;
 use rand_xoshiro::Xoshiro256PlusPlus;
 use serde_json::Value;
 use std::alloc::Global;
+use std::fmt::Write;
 use std::test::Fail;
 use xet_hash::data_hash::DataHash;
 use xet_merkle::CoreError;
-use xet_merkle::aggregated_hashes::xorb_hash;
+use xet_merkle::aggregated_hashes::{Node, xorb_hash};
 use xet_merkle::merkle_hash_subtree::MerkleHashSubtree;
 
 const ONE: &str =
@@ -197,5 +198,48 @@ fn empty_sides_and_further_members_are_read(rt: HostRuntime) -> Result<(), Fail>
         "{{\"at_start\":0,\"at_end\":true,\"levels\":[[0,0]],\"nodes\":[],\"at_start\":true}}"
     )?;
     assert!(rt; read(rt.alloc(), text.as_str())??.is_empty());
+    Ok(())
+}
+
+// The text of an open subtree of two levels: left and right nodes of the lower one, and left nodes of the upper one.
+fn two_levels(alloc: Global, left: &[Node], right: &[Node], top: &[Node]) -> Result<String, Fail> {
+    let mut text = format!(in alloc;
+        "{{\"at_end\":false,\"at_start\":false,\"levels\":[[{},{}],[{},0]],\"nodes\":[",
+        left.len(),
+        right.len(),
+        top.len()
+    )?;
+    let mut comma = "";
+    for nodes in [left, top, right] {
+        for (hash, size) in nodes {
+            write!(text, "{comma}{{\"hash\":\"{hash}\",\"size\":{size}}}")?;
+            comma = ",";
+        }
+    }
+    write!(text, "]}}")?;
+    Ok(text)
+}
+
+#[test]
+fn sides_from_strangers_are_looked_at(rt: HostRuntime) -> Result<(), Fail> {
+    let nodes = with_cuts::<28>(&EACH_FOURTH);
+    let (nodes, _) = nodes.split_at(24);
+    let whole = MerkleHashSubtree::from_chunks(rt.alloc(), false, nodes, false)?;
+    let (first, last) = nodes.split_at(8);
+    let (_, right) = last.split_at(12);
+    let text = two_levels(rt.alloc(), first, right, whole.left(1))?;
+    assert!(rt; read(rt.alloc(), text.as_str())?? == whole);
+    // A stable point among the left nodes.
+    let mut longer = Vec::new(rt.alloc());
+    longer.extend_from_slice(first)?;
+    longer.extend_from_slice(last.split_at(8).1)?;
+    let (twenty, _) = nodes.split_at(20);
+    let open = MerkleHashSubtree::from_chunks(rt.alloc(), false, twenty, false)?;
+    let text = two_levels(rt.alloc(), longer.as_slice(), &[], open.left(1))?;
+    assert!(rt; read(rt.alloc(), text.as_str())? == Err(CoreError::InvalidJson(12)));
+    // Right nodes without a natural cut.
+    let plain = with_cuts::<4>(&[]);
+    let text = two_levels(rt.alloc(), first, &plain, whole.left(1))?;
+    assert!(rt; read(rt.alloc(), text.as_str())? == Err(CoreError::InvalidJson(13)));
     Ok(())
 }

@@ -1,0 +1,216 @@
+-- A JSON value says at most one subtree, and the object of a well formed subtree says it and breaks no rule. Rests on
+-- JsonLaws, RuleLaws and FlatLevelLaws.
+use Rattle.std.proofs.Common.{◌≡◌, ℕ, ◌+◌, ◌<◌, ◌≤◌, ◌^◌, Bool, true, false, List, [], ◌∷◌, ◌++◌, length, map, Some, None, refl, sym, ap, subst, ◌∙◌, arith}
+use Rattle.std.specs.Str.{str_to_ascii_lowercase}
+use Rattle.std.proofs.lemmas.List.{length-map}
+use Rattle.std.proofs.lemmas.List.Sums.{sum_by-cons}
+use Rattle.serde_json.specs.Data.{Data, array}
+use Rattle.serde_json.specs.View.{items_of}
+use Rattle.xet_hash.specs.Hash.{IsHash, IsHexText, hex_text}
+use Rattle.xet_merkle.specs.Groups.{Node}
+use Rattle.xet_merkle.specs.Roots.{total_size}
+use Rattle.xet_merkle.specs.Canonical.{Level}
+use Rattle.xet_merkle.specs.Subtree.{Subtree, node_count, levels_size}
+use Rattle.xet_merkle.specs.WellFormed.{HaveSides, IsLeftSide, IsRightSide, IsWellFormed}
+use Rattle.xet_merkle.specs.FlatLevels.{count_of, flat_nodes, levels_of, IsFlat}
+use Rattle.xet_merkle.specs.SubtreeJson.{node_json, counts_json, number_json, subtree_json, AreHashes}
+use Rattle.xet_merkle.specs.JsonParts.{ReadsNode, ReadsCounts, ReadAll, HasMembers, ReadsParts, BreaksPartRule, whole}
+use Rattle.xet_merkle.specs.JsonParts.BreaksPartRule.{no_object, no_members, no_nodes, no_levels}
+use Rattle.xet_merkle.specs.LevelRules.{below_top, top_of, Each, Rule8, Rule9, Rule10, Rule11, Rule12, Rule13, BreaksLevelRule}
+use Rattle.xet_merkle.specs.LevelRules.BreaksLevelRule.{at_8, at_9, at_10, at_11, at_12, at_13}
+use Rattle.xet_merkle.specs.JsonRules.{Reads, count_sum, BreaksValueRule, BreaksRule}
+use Rattle.xet_merkle.specs.JsonRules.BreaksValueRule.{no_level, wrong_counts, sizes_pass, of_levels}
+use Rattle.xet_merkle.specs.JsonRules.BreaksRule.{of_parts, of_value}
+use Rattle.xet_merkle.proofs.FlatLevelLaws.{levels_of-flat, levels_of-IsFlat, node_count-flat, levels_size-flat}
+use Rattle.xet_merkle.proofs.JoinKeeps.{HaveSides-some}
+use Rattle.xet_merkle.proofs.JsonLaws.{items_of-injective}
+
+-- ---- the rules of well formed levels
+
+sides_rule_8 : (at_start at_end : Bool) (levels : List Level) → HaveSides at_start at_end levels → Rule8 at_end levels
+sides_rule_8 at_start at_end [] h = elim h [ ]
+sides_rule_8 at_start at_end (top ∷ []) h = (h, λ _. tt)
+sides_rule_8 at_start true (level ∷ next ∷ levels) h =
+    let rest = sides_rule_8 at_start true (next ∷ levels) h.2 in
+    (rest.0, λ e. (h.1, rest.1 e))
+sides_rule_8 at_start false (level ∷ next ∷ levels) h =
+    let rest = sides_rule_8 at_start false (next ∷ levels) h.2 in
+    (rest.0, λ e. (cc, rest.1 e))
+
+sides_rule_9 : (at_end : Bool) (levels : List Level) → HaveSides true at_end levels → Each (λ level. level.left ≡ []) (below_top levels)
+sides_rule_9 at_end [] h = elim h [ ]
+sides_rule_9 at_end (top ∷ []) h = tt
+sides_rule_9 at_end (level ∷ next ∷ levels) h = (h.0, sides_rule_9 at_end (next ∷ levels) h.2)
+
+sides_rule_12 : (at_end : Bool) (levels : List Level) → HaveSides false at_end levels → Each (λ level. IsLeftSide false level.left) (below_top levels)
+sides_rule_12 at_end [] h = elim h [ ]
+sides_rule_12 at_end (top ∷ []) h = tt
+sides_rule_12 at_end (level ∷ next ∷ levels) h = (h.0, sides_rule_12 at_end (next ∷ levels) h.2)
+
+sides_rule_13 : (at_start : Bool) (levels : List Level) → HaveSides at_start false levels → Each (λ level. IsRightSide false level.right) (below_top levels)
+sides_rule_13 at_start [] h = elim h [ ]
+sides_rule_13 at_start (top ∷ []) h = tt
+sides_rule_13 at_start (level ∷ next ∷ levels) h = (h.1, sides_rule_13 at_start (next ∷ levels) h.2)
+
+levels_kept : (at_start at_end : Bool) (levels : List Level) (rule : ℕ) → IsWellFormed (record { at_start = at_start; at_end = at_end; levels = levels }) →
+    BreaksLevelRule at_start at_end levels rule → ⊥
+levels_kept at_start at_end levels rule h (at_8 broken) = broken (sides_rule_8 at_start at_end levels h.sides)
+levels_kept at_start at_end levels rule h (at_9 _ broken) = broken (λ start. sides_rule_9 at_end levels (subst (λ (s : Bool). HaveSides s at_end levels) start h.sides))
+levels_kept at_start at_end levels rule h (at_10 _ _ broken) = broken h.one_at_top
+levels_kept at_start at_end levels rule h (at_11 _ _ _ broken) = broken h.some_at_top
+levels_kept at_start at_end levels rule h (at_12 _ _ _ _ broken) = broken (λ start. sides_rule_12 at_end levels (subst (λ (s : Bool). HaveSides s at_end levels) start h.sides))
+levels_kept at_start at_end levels rule h (at_13 _ _ _ _ _ broken) = broken (λ end. sides_rule_13 at_start levels (subst (λ (e : Bool). HaveSides at_start e levels) end h.sides))
+
+count_sum-levels : (levels : List Level) → count_sum (map count_of levels) ≡ node_count levels
+count_sum-levels [] = refl
+count_sum-levels (level ∷ levels) =
+    let rest = count_sum-levels levels in
+    omega (arith, sum_by-cons (λ (c : ℕ × ℕ). c.0 + c.1) (count_of level) (map count_of levels))
+
+value_kept : (subtree : Subtree) (rule : ℕ) → IsWellFormed subtree → levels_size subtree.levels < 2 ^ 64 →
+    BreaksValueRule subtree.at_start subtree.at_end (map count_of subtree.levels) (flat_nodes subtree.levels) rule → ⊥
+value_kept subtree rule h fits (no_level none) =
+    let some = HaveSides-some subtree.at_start subtree.at_end subtree.levels h.sides in omega (arith, length-map subtree.levels count_of)
+value_kept subtree rule h fits (wrong_counts some wrong) = wrong (count_sum-levels subtree.levels ∙ sym (node_count-flat subtree.levels))
+value_kept subtree rule h fits (sizes_pass some sum past) = let size = levels_size-flat subtree.levels in omega arith
+value_kept subtree rule h fits (of_levels some sum small broken) =
+    levels_kept subtree.at_start subtree.at_end subtree.levels rule h
+    (subst (λ (l : List Level). BreaksLevelRule subtree.at_start subtree.at_end l rule) (levels_of-flat subtree.levels) broken)
+
+-- ---- one subtree for a value
+
+one_list : {X : Type 0} (Reads : Data → X → Type 0) → ((value : Data) (x y : X) → Reads value x → Reads value y → x ≡ y) →
+    (values : List Data) (xs ys : List X) → ReadAll Reads values xs → ReadAll Reads values ys → xs ≡ ys
+one_list Reads one [] [] [] h k = refl
+one_list Reads one [] [] (y ∷ ys) h k = elim k [ ]
+one_list Reads one [] (x ∷ xs) ys h k = elim h [ ]
+one_list Reads one (value ∷ values) [] ys h k = elim h [ ]
+one_list Reads one (value ∷ values) (x ∷ xs) [] h k = elim k [ ]
+one_list Reads one (value ∷ values) (x ∷ xs) (y ∷ ys) h k =
+    let head = one value x y h.0 k.0 in
+    let tail = one_list Reads one values xs ys h.1 k.1 in
+    λ i. head i ∷ tail i
+
+one_counts : (value : Data) (a b : ℕ × ℕ) → ReadsCounts value a → ReadsCounts value b → a ≡ b
+one_counts value a b h k =
+    let items : items_of (h.left ∷ h.right ∷ []) ≡ items_of (k.left ∷ k.right ∷ []) = cc (sym h.two ∙ k.two) in
+    let both = items_of-injective (h.left ∷ h.right ∷ []) (k.left ∷ k.right ∷ []) items in
+    let left : h.left ≡ k.left = cc in
+    let right : h.right ≡ k.right = cc in
+    let first : a.0 ≡ b.0 = cc (sym h.left_is ∙ ap whole left ∙ k.left_is) in
+    let second : a.1 ≡ b.1 = cc (sym h.right_is ∙ ap whole right ∙ k.right_is) in
+    λ i. (first i, second i)
+
+module _ (apart : (a b : List ℕ) → IsHash a → IsHash b → hex_text a ≡ hex_text b → a ≡ b) where
+  one_node : (value : Data) (a b : Node) → ReadsNode value a → ReadsNode value b → a ≡ b
+  one_node value a b h k =
+      let text : h.text ≡ k.text = cc (sym h.text_is ∙ k.text_is) in
+      let words = apart a.0 b.0 h.is_hash k.is_hash (h.reads ∙ ap str_to_ascii_lowercase text ∙ sym k.reads) in
+      let size : a.1 ≡ b.1 = cc (sym h.size_is ∙ k.size_is) in
+      λ i. (words i, size i)
+
+  -- the parts that a value says
+  record SameParts (start other_start end other_end : Bool) (counts other_counts : List (ℕ × ℕ)) (nodes other_nodes : List Node) : Type 0 where
+    same_start : start ≡ other_start
+    same_end : end ≡ other_end
+    same_counts : counts ≡ other_counts
+    same_nodes : nodes ≡ other_nodes
+
+  one_members : (json : Data) (start end other_start other_end : Bool) (levels nodes other_levels other_nodes : List Data) →
+      HasMembers json start end levels nodes → HasMembers json other_start other_end other_levels other_nodes →
+      (start ≡ other_start) × (end ≡ other_end) × (levels ≡ other_levels) × (nodes ≡ other_nodes)
+  one_members json start end other_start other_end levels nodes other_levels other_nodes h k =
+      let starts : start ≡ other_start = cc (sym h.start_is ∙ k.start_is) in
+      let ends : end ≡ other_end = cc (sym h.end_is ∙ k.end_is) in
+      let level_items : items_of levels ≡ items_of other_levels = cc (sym h.levels_are ∙ k.levels_are) in
+      let node_items : items_of nodes ≡ items_of other_nodes = cc (sym h.nodes_are ∙ k.nodes_are) in
+      (starts, ends, items_of-injective levels other_levels level_items, items_of-injective nodes other_nodes node_items)
+
+  one_parts : (json : Data) (start end other_start other_end : Bool) (counts other_counts : List (ℕ × ℕ)) (nodes other_nodes : List Node) →
+      ReadsParts json start end counts nodes → ReadsParts json other_start other_end other_counts other_nodes →
+      SameParts start other_start end other_end counts other_counts nodes other_nodes
+  one_parts json start end other_start other_end counts other_counts nodes other_nodes h k =
+      let same = one_members json start end other_start other_end h.level_values h.node_values k.level_values k.node_values h.members k.members in record {
+        same_start = same.0;
+        same_end = same.1;
+        same_counts = one_list ReadsCounts one_counts k.level_values counts other_counts
+            (subst (λ (values : List Data). ReadAll ReadsCounts values counts) same.2 h.counts_are) k.counts_are;
+        same_nodes = one_list ReadsNode one_node k.node_values nodes other_nodes
+            (subst (λ (values : List Data). ReadAll ReadsNode values nodes) same.3 h.nodes_are) k.nodes_are;
+      }
+
+  pub one_subtree : (json : Data) (a b : Subtree) → Reads json a → Reads json b → a ≡ b
+  one_subtree json a b h k =
+      let same = one_parts json a.at_start a.at_end b.at_start b.at_end h.counts k.counts h.nodes k.nodes h.parts k.parts in
+      let levels = sym (levels_of-IsFlat h.counts h.nodes a.levels h.flat)
+      ∙ ap (λ (counts : List (ℕ × ℕ)). levels_of counts h.nodes) same.same_counts
+      ∙ ap (levels_of k.counts) same.same_nodes
+      ∙ levels_of-IsFlat k.counts k.nodes b.levels k.flat in
+      λ i. record { at_start = same.same_start i; at_end = same.same_end i; levels = levels i }
+
+  -- ---- the object of a subtree
+
+  module _ (digits : (words : List ℕ) → IsHash words → IsHexText (hex_text words))
+      (lowercase : (words : List ℕ) → IsHash words → str_to_ascii_lowercase (hex_text words) ≡ hex_text words) where
+    reads_nodes : (nodes : List Node) → AreHashes nodes → ReadAll ReadsNode (map node_json nodes) nodes
+    reads_nodes [] h = tt
+    reads_nodes (node ∷ nodes) h = (
+      record {
+        text = hex_text node.0;
+        text_is = refl;
+        are_digits = digits node.0 h.0;
+        reads = sym (lowercase node.0 h.0);
+        is_hash = h.0;
+        size_is = refl;
+      },
+      reads_nodes nodes h.1,
+    )
+
+    reads_counts : (counts : List (ℕ × ℕ)) → ReadAll ReadsCounts (map counts_json counts) counts
+    reads_counts [] = tt
+    reads_counts (count ∷ counts) = (
+      record { left = number_json count.0; right = number_json count.1; two = refl; left_is = refl; right_is = refl },
+      reads_counts counts,
+    )
+
+    object_members : (subtree : Subtree) →
+        HasMembers (subtree_json subtree) subtree.at_start subtree.at_end (map counts_json (map count_of subtree.levels)) (map node_json (flat_nodes subtree.levels))
+    object_members subtree = record { start_is = refl; end_is = refl; levels_are = refl; nodes_are = refl }
+
+    object_parts : (subtree : Subtree) → AreHashes (flat_nodes subtree.levels) →
+        ReadsParts (subtree_json subtree) subtree.at_start subtree.at_end (map count_of subtree.levels) (flat_nodes subtree.levels)
+    object_parts subtree h = record {
+      level_values = map counts_json (map count_of subtree.levels);
+      node_values = map node_json (flat_nodes subtree.levels);
+      members = object_members subtree;
+      counts_are = reads_counts (map count_of subtree.levels);
+      nodes_are = reads_nodes (flat_nodes subtree.levels) h;
+    }
+
+    pub object_says : (subtree : Subtree) → AreHashes (flat_nodes subtree.levels) → Reads (subtree_json subtree) subtree
+    object_says subtree h = record {
+      counts = map count_of subtree.levels;
+      nodes = flat_nodes subtree.levels;
+      parts = object_parts subtree h;
+      flat = record { counts_are = refl; nodes_are = refl };
+    }
+
+    parts_kept : (subtree : Subtree) (rule : ℕ) → AreHashes (flat_nodes subtree.levels) → BreaksPartRule (subtree_json subtree) rule → ⊥
+    parts_kept subtree rule h (no_object e) = absurd (let clash : ⊥ = cc in clash)
+    parts_kept subtree rule h (no_members e none) = none _ _ _ _ (object_members subtree)
+    parts_kept subtree rule h (no_nodes {at_start} {at_end} {levels} {node_values} members none) =
+        let same = one_members (subtree_json subtree) at_start at_end subtree.at_start subtree.at_end levels node_values _ _ members (object_members subtree) in
+        none (flat_nodes subtree.levels) (subst (λ (values : List Data). ReadAll ReadsNode values (flat_nodes subtree.levels)) (sym same.3) (reads_nodes (flat_nodes subtree.levels) h))
+    parts_kept subtree rule h (no_levels {at_start} {at_end} {level_values} {node_values} nodes members read none) =
+        let same = one_members (subtree_json subtree) at_start at_end subtree.at_start subtree.at_end level_values node_values _ _ members (object_members subtree) in
+        none (map count_of subtree.levels) (subst (λ (values : List Data). ReadAll ReadsCounts values (map count_of subtree.levels)) (sym same.2) (reads_counts (map count_of subtree.levels)))
+
+    pub object_kept : (subtree : Subtree) (rule : ℕ) → AreHashes (flat_nodes subtree.levels) → IsWellFormed subtree → levels_size subtree.levels < 2 ^ 64 →
+        BreaksRule (subtree_json subtree) rule → ⊥
+    object_kept subtree rule h well_formed fits (of_parts broken) = parts_kept subtree rule h broken
+    object_kept subtree _ h well_formed fits (of_value {rule} {at_start} {at_end} {counts} {nodes} parts broken) =
+        let same = one_parts (subtree_json subtree) at_start at_end subtree.at_start subtree.at_end counts (map count_of subtree.levels) nodes (flat_nodes subtree.levels) parts (object_parts subtree h) in
+        let first = subst (λ (s : Bool). BreaksValueRule s at_end counts nodes rule) same.same_start broken in
+        let second = subst (λ (e : Bool). BreaksValueRule subtree.at_start e counts nodes rule) same.same_end first in
+        let third = subst (λ (c : List (ℕ × ℕ)). BreaksValueRule subtree.at_start subtree.at_end c nodes rule) same.same_counts second in
+        value_kept subtree rule well_formed fits (subst (λ (n : List Node). BreaksValueRule subtree.at_start subtree.at_end (map count_of subtree.levels) n rule) same.same_nodes third)
