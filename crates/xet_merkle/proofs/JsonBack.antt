@@ -1,22 +1,21 @@
 -- A JSON value says at most one subtree, and the object of a well formed subtree says it and breaks no rule. Rests on
 -- JsonLaws, RuleLaws and FlatLevelLaws.
-use Rattle.std.proofs.Common.{◌≡◌, ℕ, ◌+◌, ◌<◌, ◌≤◌, ◌^◌, Bool, true, false, List, [], ◌∷◌, ◌++◌, length, map, Some, None, refl, sym, ap, subst, ◌∙◌, arith}
+use Rattle.std.proofs.Common.{◌≡◌, ℕ, ◌+◌, ◌<◌, ◌^◌, Bool, true, false, List, [], ◌∷◌, map, refl, sym, ap, subst, ◌∙◌, arith}
 use Rattle.std.specs.Str.{str_to_ascii_lowercase}
 use Rattle.std.proofs.lemmas.List.{length-map}
 use Rattle.std.proofs.lemmas.List.Sums.{sum_by-cons}
-use Rattle.serde_json.specs.Data.{Data, array}
+use Rattle.serde_json.specs.Data.{Data}
 use Rattle.serde_json.specs.View.{items_of}
 use Rattle.xet_hash.specs.Hash.{IsHash, IsHexText, hex_text}
 use Rattle.xet_merkle.specs.Groups.{Node}
-use Rattle.xet_merkle.specs.Roots.{total_size}
 use Rattle.xet_merkle.specs.Canonical.{Level}
 use Rattle.xet_merkle.specs.Subtree.{Subtree, node_count, levels_size}
 use Rattle.xet_merkle.specs.WellFormed.{HaveSides, IsLeftSide, IsRightSide, IsWellFormed}
-use Rattle.xet_merkle.specs.FlatLevels.{count_of, flat_nodes, levels_of, IsFlat}
+use Rattle.xet_merkle.specs.FlatLevels.{count_of, flat_nodes, levels_of}
 use Rattle.xet_merkle.specs.SubtreeJson.{node_json, counts_json, number_json, subtree_json, AreHashes}
 use Rattle.xet_merkle.specs.JsonParts.{ReadsNode, ReadsCounts, ReadAll, HasMembers, ReadsParts, BreaksPartRule, whole}
 use Rattle.xet_merkle.specs.JsonParts.BreaksPartRule.{no_object, no_members, no_nodes, no_levels}
-use Rattle.xet_merkle.specs.LevelRules.{below_top, top_of, Each, Rule8, Rule9, Rule10, Rule11, Rule12, Rule13, BreaksLevelRule}
+use Rattle.xet_merkle.specs.LevelRules.{below_top, Each, Rule8, BreaksLevelRule}
 use Rattle.xet_merkle.specs.LevelRules.BreaksLevelRule.{at_8, at_9, at_10, at_11, at_12, at_13}
 use Rattle.xet_merkle.specs.JsonRules.{Reads, count_sum, BreaksValueRule, BreaksRule}
 use Rattle.xet_merkle.specs.JsonRules.BreaksValueRule.{no_level, wrong_counts, sizes_pass, of_levels}
