@@ -1,6 +1,6 @@
 //! The pairs of the input, range by range.
 
-ghost use Rattle.std.specs.Prelude.{◌≡◌, ◌+◌, ◌^◌, ◌≤◌, ◌⊎◌, true, List, [], ◌∷◌, ◌++◌, replicate, IfOk, IfErr, OnOk};
+ghost use Rattle.std.specs.Prelude.{◌≡◌, ◌+◌, ◌^◌, ◌<◌, ◌≤◌, ◌⊎◌, true, List, length, [], ◌∷◌, ◌++◌, replicate, IfOk, IfErr, OnOk};
 ghost use Rattle.xet_merkle.specs.Groups.{Node};
 ghost use Rattle.xet_merkle.specs.Roots.{total_size, IsRoot, IsFileHash};
 ghost use Rattle.xet_merkle.specs.Subtree.{IsCanonical};
@@ -47,6 +47,7 @@ impl<A: Allocator + Clone> Ranges<A> {
     /// Adds a pair, which the line of this number says.
     pub fn push(&mut self, pair: Node, number: u64) -> Result<(), Fault>
         ensures pushed { OnOk result ((pairs : List Node) → HoldPairs self.old pairs → HoldPairs self.new (pairs ++ pair ∷ [])) }
+        ensures few { OnOk result (length self.new.range.items ≤ MAX_RANGE_LEN) }
         ensures fault { IfErr result (λ fault. (fault ≡ Fault.Memory)
             ⊎ ((fault ≡ Fault.Sizes number) × ((pairs : List Node) → HoldPairs self.old pairs → 2 ^ 64 ≤ total_size pairs + pair.1))) }
     {
@@ -60,6 +61,7 @@ impl<A: Allocator + Clone> Ranges<A> {
     // Ends the open range where it is full.
     fn make_room(&mut self) -> Result<(), Fault>
         ensures same { OnOk result ((pairs : List Node) → HoldPairs self.old pairs → HoldPairs self.new pairs) }
+        ensures room { OnOk result (length self.new.range.items < MAX_RANGE_LEN) }
         ensures err { IfErr result (λ fault. fault ≡ Fault.Memory) }
     {
         if self.range.len() < MAX_RANGE_LEN {
