@@ -63,7 +63,7 @@ fn the_text_of_a_subtree_is_read_back(rt: HostRuntime) -> Result<(), Fail> {
 fn a_subtree_read_back_is_merged_on(rt: HostRuntime) -> Result<(), Fail> {
     let mut rng = Xoshiro256PlusPlus::seed_from_u64(50);
     let nodes = drawn_list(&mut rng, rt.alloc(), 50)?;
-    let (first, last) = nodes.as_slice().split_at(20);
+    let (first, last) = nodes.as_slice().split_at(20.min(nodes.len()));
     let mut front = MerkleHashSubtree::from_chunks(rt.alloc(), true, first, false)?;
     front.merge_into(&MerkleHashSubtree::from_chunks(rt.alloc(), false, last, true)?)?;
     let back = MerkleHashSubtree::from_json(rt.alloc(), &front.to_json(rt.alloc())?)?;
