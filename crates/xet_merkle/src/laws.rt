@@ -116,8 +116,8 @@ pub fn empty_range_is_neutral()
         IsCanonical range nodes → IsCanonical empty [] → empty.at_start ≡ false → IsMerged empty range merged → merged ≡ range }
 {}
 
-/// A JSON value says at most one subtree. The object of a well formed subtree, whose sizes fit 64 bits, says that
-/// subtree and breaks no rule; so it is read back.
+/// A JSON value says at most one subtree. The object of a well formed subtree, whose nodes have the words of hashes
+/// and whose sizes fit 64 bits, says that subtree and breaks no rule; so it is read back.
 pub fn subtree_reads_back_from_json()
     ensures one { (json : Data) (a b : Subtree) → Reads json a → Reads json b → a ≡ b }
     ensures says { (subtree : Subtree) → AreHashes (flat_nodes subtree.levels) → Reads (subtree_json subtree) subtree }
