@@ -158,7 +158,8 @@ impl DataHash {
 
     // The 32 bytes in the order of the hex text: each word high byte first.
     fn text_bytes(&self) -> [u8; 32]
-        ensures { encode_lower result ≡ hex_text self.now }
+        ensures text { encode_lower result ≡ hex_text self.now }
+        ensures fits { IsHash self.now }
     {
         let mut bytes = [0; 32];
         bytes[0..8].copy_from_slice(&self.words[0].to_be_bytes());

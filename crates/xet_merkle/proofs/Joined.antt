@@ -1,6 +1,6 @@
 -- Joining level by level: what stands below, and what is stored of a join. Rests on JoinLaws, JoinKeeps and
 -- Collapsing.
-use Rattle.std.proofs.Common.{◌≡◌, ℕ, ◌+◌, ◌<◌, ◌≤◌, Bool, true, false, List, [], ◌∷◌, ◌++◌, length, map, reverse, refl, sym, ap, subst, ◌∙◌, arith, append_assoc, append-nil}
+use Rattle.std.proofs.Common.{◌≡◌, ℕ, ◌+◌, ◌^◌, ◌<◌, ◌≤◌, Bool, true, false, List, [], ◌∷◌, ◌++◌, length, map, reverse, refl, sym, ap, subst, ◌∙◌, arith, append_assoc, append-nil}
 use Rattle.std.proofs.lemmas.List.{length-map}
 use Rattle.xet_merkle.specs.Groups.{Node}
 use Rattle.xet_merkle.specs.Roots.{total_size, parent}
@@ -104,9 +104,9 @@ module _ (at_start at_end : Bool) where
       one_at_top levels made joined start end =
           joined_one parent (subst (λ (e : Bool). IsJoin parent true e xs [] ys levels made) end (subst (λ (s : Bool). IsJoin parent s at_end xs [] ys levels made) start joined))
 
-      pub StandsFor-stored : (size : ℕ) → AreOperands at_start at_end xs ys → size ≡ levels_size xs + levels_size ys →
+      pub StandsFor-stored : (size : ℕ) → size < 2 ^ 64 → AreOperands at_start at_end xs ys → size ≡ levels_size xs + levels_size ys →
           IsStored at_start at_end counts (lefts ++ reverse rights) size
-      StandsFor-stored size operands e =
+      StandsFor-stored size fits operands e =
           let nodes = lefts ++ reverse rights in
           let levels = levels_of counts nodes in
           let flat : IsFlat counts nodes levels = subst (IsFlat counts nodes) (sym same_levels) (IsFlat-from_open counts lefts rights h.levels h.open_levels) in
@@ -120,6 +120,7 @@ module _ (at_start at_end : Bool) where
               some_at_top = joined_top parent at_start at_end joined.1 operands.sides_x operands.sides_y operands.top_x operands.top_y;
             };
             size_is = sym (StandsFor-size size operands e) ∙ sym (levels_size-flat levels) ∙ ap total_size (sym flat.nodes_are);
+            fits = fits;
           }
 
   -- ---- a list of chunks

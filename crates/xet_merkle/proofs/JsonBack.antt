@@ -1,6 +1,7 @@
 -- A JSON value says at most one subtree, and the object of a well formed subtree says it and breaks no rule. Rests on
 -- JsonLaws, RuleLaws and FlatLevelLaws.
-use Rattle.std.proofs.Common.{◌≡◌, ℕ, ◌+◌, ◌<◌, ◌^◌, Bool, true, false, List, [], ◌∷◌, map, refl, sym, ap, subst, ◌∙◌, arith}
+use Rattle.std.proofs.Common.{◌≡◌, ℕ, ◌+◌, ◌<◌, ◌^◌, Bool, List, [], ◌∷◌, map, refl, sym, ap, subst, ◌∙◌, arith}
+use Rattle.std.specs.List.{AllZip, AllByRecursion}
 use Rattle.std.specs.Str.{str_to_ascii_lowercase}
 use Rattle.std.proofs.lemmas.List.{length-map}
 use Rattle.std.proofs.lemmas.List.Sums.{sum_by-cons}
@@ -10,55 +11,25 @@ use Rattle.xet_hash.specs.Hash.{IsHash, IsHexText, hex_text}
 use Rattle.xet_merkle.specs.Groups.{Node}
 use Rattle.xet_merkle.specs.Canonical.{Level}
 use Rattle.xet_merkle.specs.Subtree.{Subtree, node_count, levels_size}
-use Rattle.xet_merkle.specs.WellFormed.{HaveSides, IsLeftSide, IsRightSide, IsWellFormed}
+use Rattle.xet_merkle.specs.WellFormed.{IsWellFormed}
 use Rattle.xet_merkle.specs.FlatLevels.{count_of, flat_nodes, levels_of}
-use Rattle.xet_merkle.specs.SubtreeJson.{node_json, counts_json, number_json, subtree_json, AreHashes}
-use Rattle.xet_merkle.specs.JsonParts.{ReadsNode, ReadsCounts, ReadAll, HasMembers, ReadsParts, BreaksPartRule, whole}
+use Rattle.xet_merkle.specs.SubtreeJson.{node_json, counts_json, number_json, subtree_json}
+use Rattle.xet_merkle.specs.JsonParts.{ReadsNode, ReadsCounts, HasMembers, ReadsParts, BreaksPartRule, whole}
 use Rattle.xet_merkle.specs.JsonParts.BreaksPartRule.{no_object, no_members, no_nodes, no_levels}
-use Rattle.xet_merkle.specs.LevelRules.{below_top, Each, Rule8, BreaksLevelRule}
-use Rattle.xet_merkle.specs.LevelRules.BreaksLevelRule.{at_8, at_9, at_10, at_11, at_12, at_13}
+use Rattle.xet_merkle.specs.LevelRules.{BreaksLevelRule}
 use Rattle.xet_merkle.specs.JsonRules.{Reads, count_sum, BreaksValueRule, BreaksRule}
 use Rattle.xet_merkle.specs.JsonRules.BreaksValueRule.{no_level, wrong_counts, sizes_pass, of_levels}
 use Rattle.xet_merkle.specs.JsonRules.BreaksRule.{of_parts, of_value}
 use Rattle.xet_merkle.proofs.FlatLevelLaws.{levels_of-flat, levels_of-IsFlat, node_count-flat, levels_size-flat}
 use Rattle.xet_merkle.proofs.JoinKeeps.{HaveSides-some}
+use Rattle.xet_merkle.proofs.RuleLaws.{levels_kept}
 use Rattle.xet_merkle.proofs.JsonLaws.{items_of-injective}
 
--- ---- the rules of well formed levels
+-- the words of each node are those of a hash
+abbrev pub AreHashes : List Node → Type 0
+AreHashes = AllByRecursion (λ node. IsHash node.0)
 
-sides_rule_8 : (at_start at_end : Bool) (levels : List Level) → HaveSides at_start at_end levels → Rule8 at_end levels
-sides_rule_8 at_start at_end [] h = elim h [ ]
-sides_rule_8 at_start at_end (top ∷ []) h = (h, λ _. tt)
-sides_rule_8 at_start true (level ∷ next ∷ levels) h =
-    let rest = sides_rule_8 at_start true (next ∷ levels) h.2 in
-    (rest.0, λ e. (h.1, rest.1 e))
-sides_rule_8 at_start false (level ∷ next ∷ levels) h =
-    let rest = sides_rule_8 at_start false (next ∷ levels) h.2 in
-    (rest.0, λ e. (cc, rest.1 e))
-
-sides_rule_9 : (at_end : Bool) (levels : List Level) → HaveSides true at_end levels → Each (λ level. level.left ≡ []) (below_top levels)
-sides_rule_9 at_end [] h = elim h [ ]
-sides_rule_9 at_end (top ∷ []) h = tt
-sides_rule_9 at_end (level ∷ next ∷ levels) h = (h.0, sides_rule_9 at_end (next ∷ levels) h.2)
-
-sides_rule_12 : (at_end : Bool) (levels : List Level) → HaveSides false at_end levels → Each (λ level. IsLeftSide false level.left) (below_top levels)
-sides_rule_12 at_end [] h = elim h [ ]
-sides_rule_12 at_end (top ∷ []) h = tt
-sides_rule_12 at_end (level ∷ next ∷ levels) h = (h.0, sides_rule_12 at_end (next ∷ levels) h.2)
-
-sides_rule_13 : (at_start : Bool) (levels : List Level) → HaveSides at_start false levels → Each (λ level. IsRightSide false level.right) (below_top levels)
-sides_rule_13 at_start [] h = elim h [ ]
-sides_rule_13 at_start (top ∷ []) h = tt
-sides_rule_13 at_start (level ∷ next ∷ levels) h = (h.1, sides_rule_13 at_start (next ∷ levels) h.2)
-
-levels_kept : (at_start at_end : Bool) (levels : List Level) (rule : ℕ) → IsWellFormed (record { at_start = at_start; at_end = at_end; levels = levels }) →
-    BreaksLevelRule at_start at_end levels rule → ⊥
-levels_kept at_start at_end levels rule h (at_8 broken) = broken (sides_rule_8 at_start at_end levels h.sides)
-levels_kept at_start at_end levels rule h (at_9 _ broken) = broken (λ start. sides_rule_9 at_end levels (subst (λ (s : Bool). HaveSides s at_end levels) start h.sides))
-levels_kept at_start at_end levels rule h (at_10 _ _ broken) = broken h.one_at_top
-levels_kept at_start at_end levels rule h (at_11 _ _ _ broken) = broken h.some_at_top
-levels_kept at_start at_end levels rule h (at_12 _ _ _ _ broken) = broken (λ start. sides_rule_12 at_end levels (subst (λ (s : Bool). HaveSides s at_end levels) start h.sides))
-levels_kept at_start at_end levels rule h (at_13 _ _ _ _ _ broken) = broken (λ end. sides_rule_13 at_start levels (subst (λ (e : Bool). HaveSides at_start e levels) end h.sides))
+-- ---- the rules of a value
 
 count_sum-levels : (levels : List Level) → count_sum (map count_of levels) ≡ node_count levels
 count_sum-levels [] = refl
@@ -79,7 +50,7 @@ value_kept subtree rule h fits (of_levels some sum small broken) =
 -- ---- one subtree for a value
 
 one_list : {X : Type 0} (Reads : Data → X → Type 0) → ((value : Data) (x y : X) → Reads value x → Reads value y → x ≡ y) →
-    (values : List Data) (xs ys : List X) → ReadAll Reads values xs → ReadAll Reads values ys → xs ≡ ys
+    (values : List Data) (xs ys : List X) → AllZip Reads values xs → AllZip Reads values ys → xs ≡ ys
 one_list Reads one [] [] [] h k = refl
 one_list Reads one [] [] (y ∷ ys) h k = elim k [ ]
 one_list Reads one [] (x ∷ xs) ys h k = elim h [ ]
@@ -133,9 +104,9 @@ module _ (apart : (a b : List ℕ) → IsHash a → IsHash b → hex_text a ≡ 
         same_start = same.0;
         same_end = same.1;
         same_counts = one_list ReadsCounts one_counts k.level_values counts other_counts
-            (subst (λ (values : List Data). ReadAll ReadsCounts values counts) same.2 h.counts_are) k.counts_are;
+            (subst (λ (values : List Data). AllZip ReadsCounts values counts) same.2 h.counts_are) k.counts_are;
         same_nodes = one_list ReadsNode one_node k.node_values nodes other_nodes
-            (subst (λ (values : List Data). ReadAll ReadsNode values nodes) same.3 h.nodes_are) k.nodes_are;
+            (subst (λ (values : List Data). AllZip ReadsNode values nodes) same.3 h.nodes_are) k.nodes_are;
       }
 
   pub one_subtree : (json : Data) (a b : Subtree) → Reads json a → Reads json b → a ≡ b
@@ -151,7 +122,7 @@ module _ (apart : (a b : List ℕ) → IsHash a → IsHash b → hex_text a ≡ 
 
   module _ (digits : (words : List ℕ) → IsHash words → IsHexText (hex_text words))
       (lowercase : (words : List ℕ) → IsHash words → str_to_ascii_lowercase (hex_text words) ≡ hex_text words) where
-    reads_nodes : (nodes : List Node) → AreHashes nodes → ReadAll ReadsNode (map node_json nodes) nodes
+    reads_nodes : (nodes : List Node) → AreHashes nodes → AllZip ReadsNode (map node_json nodes) nodes
     reads_nodes [] h = tt
     reads_nodes (node ∷ nodes) h = (
       record {
@@ -165,7 +136,7 @@ module _ (apart : (a b : List ℕ) → IsHash a → IsHash b → hex_text a ≡ 
       reads_nodes nodes h.1,
     )
 
-    reads_counts : (counts : List (ℕ × ℕ)) → ReadAll ReadsCounts (map counts_json counts) counts
+    reads_counts : (counts : List (ℕ × ℕ)) → AllZip ReadsCounts (map counts_json counts) counts
     reads_counts [] = tt
     reads_counts (count ∷ counts) = (
       record { left = number_json count.0; right = number_json count.1; two = refl; left_is = refl; right_is = refl },
@@ -199,10 +170,10 @@ module _ (apart : (a b : List ℕ) → IsHash a → IsHash b → hex_text a ≡ 
     parts_kept subtree rule h (no_members e none) = none _ _ _ _ (object_members subtree)
     parts_kept subtree rule h (no_nodes {at_start} {at_end} {levels} {node_values} members none) =
         let same = one_members (subtree_json subtree) at_start at_end subtree.at_start subtree.at_end levels node_values _ _ members (object_members subtree) in
-        none (flat_nodes subtree.levels) (subst (λ (values : List Data). ReadAll ReadsNode values (flat_nodes subtree.levels)) (sym same.3) (reads_nodes (flat_nodes subtree.levels) h))
+        none (flat_nodes subtree.levels) (subst (λ (values : List Data). AllZip ReadsNode values (flat_nodes subtree.levels)) (sym same.3) (reads_nodes (flat_nodes subtree.levels) h))
     parts_kept subtree rule h (no_levels {at_start} {at_end} {level_values} {node_values} nodes members read none) =
         let same = one_members (subtree_json subtree) at_start at_end subtree.at_start subtree.at_end level_values node_values _ _ members (object_members subtree) in
-        none (map count_of subtree.levels) (subst (λ (values : List Data). ReadAll ReadsCounts values (map count_of subtree.levels)) (sym same.2) (reads_counts (map count_of subtree.levels)))
+        none (map count_of subtree.levels) (subst (λ (values : List Data). AllZip ReadsCounts values (map count_of subtree.levels)) (sym same.2) (reads_counts (map count_of subtree.levels)))
 
     pub object_kept : (subtree : Subtree) (rule : ℕ) → AreHashes (flat_nodes subtree.levels) → IsWellFormed subtree → levels_size subtree.levels < 2 ^ 64 →
         BreaksRule (subtree_json subtree) rule → ⊥

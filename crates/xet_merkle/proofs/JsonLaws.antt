@@ -1,11 +1,12 @@
 -- Reading JSON values: kinds of members, arrays of two, and values read in order.
 use Rattle.std.proofs.Common.{◌≡◌, ℕ, zero, suc, ◌+◌, ◌<◌, Bool, List, [], ◌∷◌, ◌++◌, length, get_or, take, map, Option, Some, None, option_and_then, is_some, Result, Ok, Err, IfErr, IsErrAnd, true, false, refl, sym, ap, subst, ◌∙◌, arith}
+use Rattle.std.specs.List.{AllZip}
 use Rattle.std.proofs.lemmas.List.{map-append, take_more}
 use Rattle.serde_json.specs.Data.{Data, null, boolean, number, string, array, object, Items}
 use Rattle.serde_json.specs.Find.{as_bool, as_array, as_object}
 use Rattle.serde_json.specs.View.{view, items_of, items_view}
 use Rattle.serde_json.specs.declared.value.Value.{Value}
-use Rattle.xet_merkle.specs.JsonParts.{ReadsCounts, ReadAll, HasMembers, BreaksPartRule, no_object, no_members}
+use Rattle.xet_merkle.specs.JsonParts.{ReadsCounts, HasMembers, BreaksPartRule, no_object, no_members}
 
 -- ---- the kind of a member
 
@@ -51,26 +52,26 @@ two_counts value values count e h =
 -- ---- values read in order
 
 module _ {X : Type 0} (Reads : Data → X → Type 0) where
-  ReadAll-more : (front : List Data) (value : Data) (done : List X) (x : X) → ReadAll Reads front done → Reads value x →
-      ReadAll Reads (front ++ value ∷ []) (done ++ x ∷ [])
-  ReadAll-more [] value [] x all here = (here, tt)
-  ReadAll-more [] value (y ∷ done) x all here = elim all [ ]
-  ReadAll-more (first ∷ front) value [] x all here = elim all [ ]
-  ReadAll-more (first ∷ front) value (y ∷ done) x all here = (all.0, ReadAll-more front value done x all.1 here)
+  zip_more : (front : List Data) (value : Data) (done : List X) (x : X) → AllZip Reads front done → Reads value x →
+      AllZip Reads (front ++ value ∷ []) (done ++ x ∷ [])
+  zip_more [] value [] x all here = (here, tt)
+  zip_more [] value (y ∷ done) x all here = elim all [ ]
+  zip_more (first ∷ front) value [] x all here = elim all [ ]
+  zip_more (first ∷ front) value (y ∷ done) x all here = (all.0, zip_more front value done x all.1 here)
 
   -- one more value is read
   pub read_next : (values : List Value) (i : ℕ) (value : Value) (done after : List X) (x : X) → i < length values → value ≡ get_or values i value →
-      ReadAll Reads (map view (take i values)) done → Reads (view value) x → after ≡ done ++ x ∷ [] → ReadAll Reads (map view (take (i + 1) values)) after
+      AllZip Reads (map view (take i values)) done → Reads (view value) x → after ≡ done ++ x ∷ [] → AllZip Reads (map view (take (i + 1) values)) after
   read_next values i value done after x within e all here pushed =
       let front : map view (take (i + 1) values) ≡ map view (take i values) ++ view value ∷ [] =
       ap (map view) (take_more values i value within) ∙ map-append view (take i values) (get_or values i value ∷ [])
       ∙ ap (λ (other : Value). map view (take i values) ++ view other ∷ []) (sym e) in
-      let more = ReadAll-more (map view (take i values)) (view value) done x all here in
-      subst (λ (read : List Data). ReadAll Reads read after) (sym front) (subst (ReadAll Reads (map view (take i values) ++ view value ∷ [])) (sym pushed) more)
+      let more = zip_more (map view (take i values)) (view value) done x all here in
+      subst (λ (read : List Data). AllZip Reads read after) (sym front) (subst (AllZip Reads (map view (take i values) ++ view value ∷ [])) (sym pushed) more)
 
   -- where all are read, each one is
   pub read_each : (values : List Value) (i : ℕ) (value : Value) (done : List X) → i < length values → value ≡ get_or values i value →
-      ReadAll Reads (map view values) done → (x : X) × Reads (view value) x
+      AllZip Reads (map view values) done → (x : X) × Reads (view value) x
   read_each [] i value done within e all = absurd (omega arith)
   read_each (first ∷ values) i value [] within e all = elim all [ ]
   read_each (first ∷ values) zero value (x ∷ done) within e all = (x, subst (λ (other : Value). Reads (view other) x) (sym e) all.0)

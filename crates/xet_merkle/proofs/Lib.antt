@@ -19,7 +19,7 @@ pub mod Collapsing
 pub mod JoinKeeps
 pub mod Joined
 pub mod MergeLaws
-pub mod InsideLevels
+pub mod StoredLevels
 pub mod FinalHash
 pub mod FlatLevelEquality
 pub mod CanonicalBounds

@@ -1,16 +1,20 @@
--- The rules that levels keep, as the code tests them. Rests on StableLoops and SideLaws.
+-- The rules that levels keep, as the code tests them; they are those of well formed levels. Rests on StableLoops
+-- and SideLaws.
 use Rattle.std.proofs.Common.{◌≡◌, ℕ, ◌+◌, ◌<◌, ◌≤◌, ◌↔◌, Bool, true, false, Option, Some, None, IfSome, IfNone, is_some, not, List, [], ◌∷◌, ◌++◌, length, take, drop, get_or, refl, sym, ap, subst, ◌∙◌, arith, append-nil, length-append, length-take}
 use Rattle.std.proofs.lemmas.Bool.{false≢true}
 use Rattle.std.proofs.lemmas.List.{take-append-drop, drop_more}
+use Rattle.std.specs.List.{AllByRecursion as Each}
 use Rattle.xet_merkle.specs.Groups.{Node, Cut, EndsWithCut}
 use Rattle.xet_merkle.specs.StablePoints.{NoCut, EndsStable, BeginsStable, NoStable, IsFirstStable, IsLastStable}
 use Rattle.xet_merkle.specs.Scan.{is_stable_gap}
 use Rattle.xet_merkle.specs.StableScan.{IsFront}
 use Rattle.xet_merkle.specs.Canonical.{Level, top_nodes}
-use Rattle.xet_merkle.specs.Subtree.{left_at, right_at}
+use Rattle.xet_merkle.specs.Subtree.{left_at}
 use Rattle.xet_merkle.specs.Joining.{above}
 use Rattle.xet_merkle.specs.WellFormed.{IsLeftSide, IsRightSide, HaveSides, IsWellFormed}
-use Rattle.xet_merkle.specs.LevelRules.{below_top, top_of, Each, Rule8, Rule9, Rule10, Rule11, Rule12, Rule13}
+use Rattle.xet_merkle.specs.LevelRules.{below_top, top_of, Rule8, Rule9, Rule10, Rule11, Rule12, Rule13, BreaksLevelRule}
+use Rattle.xet_merkle.specs.LevelRules.BreaksLevelRule.{at_8, at_9, at_10, at_11, at_12, at_13}
+use Rattle.xet_merkle.specs.LevelSides.{first_of}
 use Rattle.xet_merkle.proofs.CutPlaces.{not_among, back_of}
 use Rattle.xet_merkle.proofs.StableScan.{HeadIs, IsScanned, gap_parts, gap_from}
 use Rattle.xet_merkle.proofs.StableSearch.{FirstCut, same_first_cut}
@@ -105,9 +109,6 @@ begins_at_gap nodes i d within cut none =
 
 -- ---- levels
 
-abbrev pub first_of : List Level → Level
-first_of levels = record { left = left_at levels 0; right = right_at levels 0 }
-
 pub Each-more : (Keeps : Level → Type 0) (levels : List Level) → 1 < length levels → Each Keeps (below_top levels) ↔ (Keeps (first_of levels) × Each Keeps (below_top (above levels)))
 Each-more Keeps [] more = absurd (omega arith)
 Each-more Keeps (top ∷ []) more = absurd (omega arith)
@@ -141,12 +142,10 @@ module _ (Keeps : Level → Type 0) (levels rest : List Level) (so_far : Each Ke
   pub walk_stops : 1 < length rest → (Keeps (first_of rest) → ⊥) → (false ≡ true) ↔ Each Keeps (below_top levels)
   walk_stops more broken = (λ clash. absurd (false≢true clash), λ h. absurd (broken ((Each-more Keeps rest more).0 (so_far.0 h)).0))
 
-pub top_nodes-left : (levels top : List Level) (left : List Node) → top ≡ top_of levels ∷ [] → left ≡ left_at top 0 → (top_of levels).right ≡ [] → length left ≡ length (top_nodes levels)
+pub top_nodes-left : (levels top : List Level) (left : List Node) → top ≡ top_of levels ∷ [] → left ≡ left_at top 0 → (top_of levels).right ≡ [] → left ≡ top_nodes levels
 top_nodes-left levels top left top_is left_is none =
-    let whole = ap length (top_nodes-top levels) in
-    let right = ap length none in
-    let same = ap length (left_is ∙ ap (λ (l : List Level). left_at l 0) top_is) in
-    omega (arith, length-append (top_of levels).left (top_of levels).right)
+    left_is ∙ ap (λ (l : List Level). left_at l 0) top_is ∙ sym (append-nil (top_of levels).left)
+    ∙ ap (λ (l : List Node). (top_of levels).left ++ l) (sym none) ∙ sym (top_nodes-top levels)
 
 -- ---- the rules together
 
@@ -172,3 +171,39 @@ well_formed_from_rules at_start at_end levels some rule_8 rule_9 rule_10 rule_11
   one_at_top = rule_10;
   some_at_top = rule_11;
 }
+
+-- ---- the rules of well formed levels
+
+pub sides_rule_8 : (at_start at_end : Bool) (levels : List Level) → HaveSides at_start at_end levels → Rule8 at_end levels
+sides_rule_8 at_start at_end [] h = elim h [ ]
+sides_rule_8 at_start at_end (top ∷ []) h = (h, λ _. tt)
+sides_rule_8 at_start true (level ∷ next ∷ levels) h =
+    let rest = sides_rule_8 at_start true (next ∷ levels) h.2 in
+    (rest.0, λ e. (h.1, rest.1 e))
+sides_rule_8 at_start false (level ∷ next ∷ levels) h =
+    let rest = sides_rule_8 at_start false (next ∷ levels) h.2 in
+    (rest.0, λ e. (cc, rest.1 e))
+
+sides_rule_9 : (at_end : Bool) (levels : List Level) → HaveSides true at_end levels → Each (λ level. level.left ≡ []) (below_top levels)
+sides_rule_9 at_end [] h = elim h [ ]
+sides_rule_9 at_end (top ∷ []) h = tt
+sides_rule_9 at_end (level ∷ next ∷ levels) h = (h.0, sides_rule_9 at_end (next ∷ levels) h.2)
+
+sides_rule_12 : (at_end : Bool) (levels : List Level) → HaveSides false at_end levels → Each (λ level. IsLeftSide false level.left) (below_top levels)
+sides_rule_12 at_end [] h = elim h [ ]
+sides_rule_12 at_end (top ∷ []) h = tt
+sides_rule_12 at_end (level ∷ next ∷ levels) h = (h.0, sides_rule_12 at_end (next ∷ levels) h.2)
+
+sides_rule_13 : (at_start : Bool) (levels : List Level) → HaveSides at_start false levels → Each (λ level. IsRightSide false level.right) (below_top levels)
+sides_rule_13 at_start [] h = elim h [ ]
+sides_rule_13 at_start (top ∷ []) h = tt
+sides_rule_13 at_start (level ∷ next ∷ levels) h = (h.1, sides_rule_13 at_start (next ∷ levels) h.2)
+
+pub levels_kept : (at_start at_end : Bool) (levels : List Level) (rule : ℕ) → IsWellFormed (record { at_start = at_start; at_end = at_end; levels = levels }) →
+    BreaksLevelRule at_start at_end levels rule → ⊥
+levels_kept at_start at_end levels rule h (at_8 broken) = broken (sides_rule_8 at_start at_end levels h.sides)
+levels_kept at_start at_end levels rule h (at_9 _ broken) = broken (λ start. sides_rule_9 at_end levels (subst (λ (s : Bool). HaveSides s at_end levels) start h.sides))
+levels_kept at_start at_end levels rule h (at_10 _ _ broken) = broken h.one_at_top
+levels_kept at_start at_end levels rule h (at_11 _ _ _ broken) = broken h.some_at_top
+levels_kept at_start at_end levels rule h (at_12 _ _ _ _ broken) = broken (λ start. sides_rule_12 at_end levels (subst (λ (s : Bool). HaveSides s at_end levels) start h.sides))
+levels_kept at_start at_end levels rule h (at_13 _ _ _ _ _ broken) = broken (λ end. sides_rule_13 at_start levels (subst (λ (e : Bool). HaveSides at_start e levels) end h.sides))

@@ -1,6 +1,7 @@
 -- What is read of a subtree's JSON value before its levels and nodes are looked at together: rules 1 to 4.
 -- Members other than those named are ignored.
 use Rattle.std.specs.Prelude.{◌≡◌, ℕ, Bool, List, [], ◌∷◌, Option, Some, None, option_and_then, codes}
+use Rattle.std.specs.List.{AllZip}
 use Rattle.std.specs.Str.{str_to_ascii_lowercase}
 use Rattle.serde_json.specs.Data.{Data, Members, boolean, array}
 use Rattle.serde_json.specs.Find.{get, as_str, as_number, as_u64, as_object}
@@ -29,13 +30,6 @@ pub record ReadsCounts (value : Data) (count : ℕ × ℕ) : Type 0 where
   pub left_is : whole left ≡ Some count.0
   pub right_is : whole right ≡ Some count.1
 
--- each of some values is read, in order
-abbrev pub ReadAll : {X : Type 0} → (Data → X → Type 0) → List Data → List X → Type 0
-ReadAll Reads [] [] = Unit {0}
-ReadAll Reads [] (x ∷ xs) = ⊥
-ReadAll Reads (value ∷ values) [] = ⊥
-ReadAll Reads (value ∷ values) (x ∷ xs) = Reads value x × ReadAll Reads values xs
-
 -- the members of an object, as far as their kinds are right
 pub record HasMembers (json : Data) (at_start at_end : Bool) (levels nodes : List Data) : Type 0 where
   pub start_is : get (codes "at_start") json ≡ Some (boolean at_start)
@@ -48,8 +42,8 @@ pub record ReadsParts (json : Data) (at_start at_end : Bool) (counts : List (ℕ
   pub level_values : List Data
   pub node_values : List Data
   pub members : HasMembers json at_start at_end level_values node_values
-  pub counts_are : ReadAll ReadsCounts level_values counts
-  pub nodes_are : ReadAll ReadsNode node_values nodes
+  pub counts_are : AllZip ReadsCounts level_values counts
+  pub nodes_are : AllZip ReadsNode node_values nodes
 
 -- of the rules 1 to 4, the least that a value breaks: it is no object; a member is lacking or of another kind; a
 -- node isn't one; a level isn't one
@@ -58,6 +52,6 @@ pub data BreaksPartRule (json : Data) : ℕ → Type 0 where
   no_members : {members : Members} → as_object json ≡ Some members →
       ((at_start at_end : Bool) (levels nodes : List Data) → ¬ (HasMembers json at_start at_end levels nodes)) → BreaksPartRule json 2
   no_nodes : {at_start at_end : Bool} {levels node_values : List Data} → HasMembers json at_start at_end levels node_values →
-      ((nodes : List Node) → ¬ (ReadAll ReadsNode node_values nodes)) → BreaksPartRule json 3
+      ((nodes : List Node) → ¬ (AllZip ReadsNode node_values nodes)) → BreaksPartRule json 3
   no_levels : {at_start at_end : Bool} {level_values node_values : List Data} (nodes : List Node) → HasMembers json at_start at_end level_values node_values →
-      ReadAll ReadsNode node_values nodes → ((counts : List (ℕ × ℕ)) → ¬ (ReadAll ReadsCounts level_values counts)) → BreaksPartRule json 4
+      AllZip ReadsNode node_values nodes → ((counts : List (ℕ × ℕ)) → ¬ (AllZip ReadsCounts level_values counts)) → BreaksPartRule json 4

@@ -1,6 +1,7 @@
 -- The rules that marks and levels keep: rules 8 to 13 of a subtree's JSON form. Levels that keep them are those of
 -- a well formed subtree.
 use Rattle.std.specs.Prelude.{◌≡◌, ℕ, ◌<◌, ◌≤◌, Bool, true, false, List, [], ◌∷◌, length}
+use Rattle.std.specs.List.{AllByRecursion as Each}
 use Rattle.xet_merkle.specs.Canonical.{Level, top_nodes}
 use Rattle.xet_merkle.specs.Joining.{no_level}
 use Rattle.xet_merkle.specs.WellFormed.{IsLeftSide, IsRightSide}
@@ -16,10 +17,6 @@ abbrev pub top_of : List Level → Level
 top_of [] = no_level
 top_of (top ∷ []) = top
 top_of (level ∷ next ∷ levels) = top_of (next ∷ levels)
-
-abbrev pub Each : (Level → Type 0) → List Level → Type 0
-Each Keeps [] = Unit {0}
-Each Keeps (level ∷ levels) = Keeps level × Each Keeps levels
 
 -- the rules by their numbers
 abbrev pub Rule8 : Bool → List Level → Type 0

@@ -13,5 +13,6 @@ pub mod FlatLevels
 pub mod SubtreeJson
 pub mod JsonParts
 pub mod LevelRules
+pub mod LevelSides
 pub mod JsonRules
 pub mod OpenLevels

@@ -1,10 +1,10 @@
 -- The JSON form of a subtree, as data of the kit's `serde_json` (module `merklehash::merkle_hash_subtree` of
 -- the crate `xet-core-structures`, whose derives write the same members). Members stand in the order of their
 -- names.
-use Rattle.std.specs.Prelude.{ℕ, Bool, List, [], ◌∷◌, map, codes}
+use Rattle.std.specs.Prelude.{ℕ, Bool, [], ◌∷◌, map, codes}
 use Rattle.serde_json.specs.Data.{Data, boolean, number, string, array, object, unsigned, no_members, member}
 use Rattle.serde_json.specs.View.{items_of}
-use Rattle.xet_hash.specs.Hash.{IsHash, hex_text}
+use Rattle.xet_hash.specs.Hash.{hex_text}
 use Rattle.xet_merkle.specs.Groups.{Node}
 use Rattle.xet_merkle.specs.Subtree.{Subtree}
 use Rattle.xet_merkle.specs.FlatLevels.{flat_nodes, count_of}
@@ -34,8 +34,3 @@ subtree_object at_start at_end levels nodes = object (
 abbrev pub subtree_json : Subtree → Data
 subtree_json subtree = subtree_object subtree.at_start subtree.at_end
     (array (items_of (map counts_json (map count_of subtree.levels)))) (array (items_of (map node_json (flat_nodes subtree.levels))))
-
--- the words of each node are those of a hash
-abbrev pub AreHashes : List Node → Type 0
-AreHashes [] = Unit {0}
-AreHashes (node ∷ nodes) = IsHash node.0 × AreHashes nodes

@@ -3,6 +3,7 @@
 
 mod boundaries;
 mod json;
+mod json_rules;
 mod levels;
 mod merged_levels;
 mod merging;

@@ -37,7 +37,8 @@ impl DataHash {
 
     /// The hex text, of 64 characters.
     pub fn hex<A: Allocator>(&self, alloc: A) -> Result<String<A>, AllocError>
-        ensures { IfOk result (λ text. string_bytes text ≡ hex_text self.now) }
+        ensures text { IfOk result (λ text. string_bytes text ≡ hex_text self.now) }
+        ensures fits { IsHash self.now }
     {
         hex::encode(alloc, self.text_bytes())
     }
@@ -72,7 +73,8 @@ impl DataHash {
     ///
     /// This call is this port's own; it stands for `hex::serde::serialize` of the Rust crate.
     pub fn to_json(&self, alloc: Global) -> Result<Value, AllocError>
-        ensures { IfOk result (λ value. view value ≡ string (hex_text self.now)) }
+        ensures text { IfOk result (λ value. view value ≡ string (hex_text self.now)) }
+        ensures fits { IsHash self.now }
     {
         Ok(Value::String(self.hex(alloc)?))
     }

@@ -4,9 +4,10 @@ ghost use Rattle.serde_json.specs.Data.{Data};
 ghost use Rattle.serde_json.specs.Find.{get, as_bool, as_array};
 ghost use Rattle.serde_json.specs.View.{view, items_view};
 ghost use Rattle.std.specs.Prelude.{◌≡◌, ◌⊎◌, ℕ, Bool, List, map, option_map, option_and_then, IfOk, IfErr, IfSome, IfNone};
+ghost use Rattle.std.specs.List.{AllZip};
 ghost use Rattle.xet_merkle.specs.Groups.{Node};
 ghost use Rattle.xet_merkle.specs.declared.error.CoreError.TheVariants.{OutOfMemory, InvalidJson};
-ghost use Rattle.xet_merkle.specs.JsonParts.{whole, ReadsNode, ReadsCounts, ReadAll, HasMembers, ReadsParts, BreaksPartRule};
+ghost use Rattle.xet_merkle.specs.JsonParts.{whole, ReadsNode, ReadsCounts, HasMembers, ReadsParts, BreaksPartRule};
 
 use crate::aggregated_hashes::Node;
 use crate::error::CoreError;
@@ -97,9 +98,9 @@ fn read_counts(value: &Value) -> Option<(usize, usize)>
 
 // The nodes that some values are.
 fn read_nodes<A: Allocator>(alloc: A, values: &[Value]) -> Result<Vec<Node, A>, CoreError>
-    ensures read { IfOk result (λ nodes. ReadAll ReadsNode (map view values.now) nodes.items) }
+    ensures read { IfOk result (λ nodes. AllZip ReadsNode (map view values.now) nodes.items) }
     ensures refused { IfErr result (λ e. (e ≡ OutOfMemory)
-        ⊎ ((e ≡ InvalidJson 3) × ((nodes : List Node) → ¬ (ReadAll ReadsNode (map view values.now) nodes)))) }
+        ⊎ ((e ≡ InvalidJson 3) × ((nodes : List Node) → ¬ (AllZip ReadsNode (map view values.now) nodes)))) }
 {
     let mut nodes = Vec::with_capacity(alloc, values.len())?;
     'nodes: for value in values {
@@ -116,9 +117,9 @@ fn read_levels<A: Allocator>(
     alloc: A,
     values: &[Value],
 ) -> Result<Vec<(usize, usize), A>, CoreError>
-    ensures read { IfOk result (λ counts. ReadAll ReadsCounts (map view values.now) counts.items) }
+    ensures read { IfOk result (λ counts. AllZip ReadsCounts (map view values.now) counts.items) }
     ensures refused { IfErr result (λ e. (e ≡ OutOfMemory)
-        ⊎ ((e ≡ InvalidJson 4) × ((counts : List (ℕ × ℕ)) → ¬ (ReadAll ReadsCounts (map view values.now) counts)))) }
+        ⊎ ((e ≡ InvalidJson 4) × ((counts : List (ℕ × ℕ)) → ¬ (AllZip ReadsCounts (map view values.now) counts)))) }
 {
     let mut counts = Vec::with_capacity(alloc, values.len())?;
     'levels: for value in values {

@@ -1,25 +1,15 @@
 //! The rules that the marks and the levels of a subtree keep.
 
 ghost use Rattle.std.specs.Prelude.{◌≡◌, ◌↔◌, ◌∷◌, ◌<◌, ◌≤◌, false, List, [], length, IfSome, IfNone, IsTrue};
+ghost use Rattle.std.specs.List.{AllByRecursion as Each};
 ghost use Rattle.xet_merkle.specs.Canonical.{Level, top_nodes};
 ghost use Rattle.xet_merkle.specs.Subtree.{Subtree};
 ghost use Rattle.xet_merkle.specs.WellFormed.{IsLeftSide, IsRightSide, IsWellFormed};
-ghost use Rattle.xet_merkle.specs.LevelRules.{below_top, top_of, Each, Rule8, Rule9, Rule10, Rule11, Rule12, Rule13, BreaksLevelRule};
+ghost use Rattle.xet_merkle.specs.LevelRules.{below_top, top_of, Rule8, Rule9, Rule10, Rule11, Rule12, Rule13, BreaksLevelRule};
+ghost use Rattle.xet_merkle.specs.LevelSides.{first_of, HasSide};
 
 use super::levels::Levels;
 use super::sides::{is_left_side, is_right_side};
-
-// The top alone.
-fn top<'a>(levels: &Levels<'a>) -> Levels<'a>
-    requires { 0 < length levels.now }
-    ensures { result ≡ top_of levels.now ∷ [] }
-{
-    let mut rest = levels.again();
-    'levels: while rest.has_above() {
-        rest = rest.above();
-    }
-    rest
-}
 
 // How many nodes the top has, where it has no right ones.
 fn top_len(levels: &Levels) -> usize
@@ -27,58 +17,39 @@ fn top_len(levels: &Levels) -> usize
     requires no_right { (top_of levels.now).right ≡ [] }
     ensures { result ≡ length (top_nodes levels.now) }
 {
-    top(levels).left().len()
+    levels.top().left().len()
 }
 
-// Whether no level below the top has right nodes.
-fn no_rights(levels: &Levels) -> bool
-    ensures { IsTrue result ↔ Each (λ level. level.right ≡ []) (below_top levels.now) }
+// What each level below the top is asked for.
+#[derive(Clone, Copy)]
+enum Side {
+    NoLeft,
+    NoRight,
+    // Nodes that may stay on the left where the start isn't marked.
+    Left,
+    // Nodes that may stay on the right where the end isn't marked.
+    Right,
+}
+
+// Whether the first of some levels has what is asked for.
+fn has_side(levels: &Levels, side: Side) -> bool
+    ensures { IsTrue result ↔ HasSide side (first_of levels.now) }
 {
-    let mut rest = levels.again();
-    'rights: while rest.has_above() {
-        if !rest.right().is_empty() {
-            return false;
-        }
-        rest = rest.above();
+    match side {
+        Side::NoLeft => levels.left().is_empty(),
+        Side::NoRight => levels.right().is_empty(),
+        Side::Left => is_left_side(levels.left()),
+        Side::Right => is_right_side(levels.right()),
     }
-    true
 }
 
-// Whether no level below the top has left nodes.
-fn no_lefts(levels: &Levels) -> bool
-    ensures { IsTrue result ↔ Each (λ level. level.left ≡ []) (below_top levels.now) }
+// Whether each level below the top has what is asked for.
+fn each_has_side(levels: &Levels, side: Side) -> bool
+    ensures { IsTrue result ↔ Each (HasSide side) (below_top levels.now) }
 {
     let mut rest = levels.again();
-    'lefts: while rest.has_above() {
-        if !rest.left().is_empty() {
-            return false;
-        }
-        rest = rest.above();
-    }
-    true
-}
-
-// Whether each level below the top has nodes on the left that may stay where the start isn't marked.
-fn left_sides(levels: &Levels) -> bool
-    ensures { IsTrue result ↔ Each (λ level. IsLeftSide false level.left) (below_top levels.now) }
-{
-    let mut rest = levels.again();
-    'left_sides: while rest.has_above() {
-        if !is_left_side(rest.left()) {
-            return false;
-        }
-        rest = rest.above();
-    }
-    true
-}
-
-// Whether each level below the top has nodes on the right that may stay where the end isn't marked.
-fn right_sides(levels: &Levels) -> bool
-    ensures { IsTrue result ↔ Each (λ level. IsRightSide false level.right) (below_top levels.now) }
-{
-    let mut rest = levels.again();
-    'right_sides: while rest.has_above() {
-        if !is_right_side(rest.right()) {
+    'below_top: while rest.has_above() {
+        if !has_side(&rest, side) {
             return false;
         }
         rest = rest.above();
@@ -91,13 +62,13 @@ fn keep_rule_8(levels: &Levels, at_end: bool) -> bool
     requires { 0 < length levels.now }
     ensures { IsTrue result ↔ Rule8 at_end levels.now }
 {
-    top(levels).right().is_empty() && (!at_end || no_rights(levels))
+    levels.top().right().is_empty() && (!at_end || each_has_side(levels, Side::NoRight))
 }
 
 fn keep_rule_9(levels: &Levels, at_start: bool) -> bool
     ensures { IsTrue result ↔ Rule9 at_start levels.now }
 {
-    !at_start || no_lefts(levels)
+    !at_start || each_has_side(levels, Side::NoLeft)
 }
 
 fn keep_rule_10(levels: &Levels, at_start: bool, at_end: bool) -> bool
@@ -119,13 +90,13 @@ fn keep_rule_11(levels: &Levels, at_end: bool) -> bool
 fn keep_rule_12(levels: &Levels, at_start: bool) -> bool
     ensures { IsTrue result ↔ Rule12 at_start levels.now }
 {
-    at_start || left_sides(levels)
+    at_start || each_has_side(levels, Side::Left)
 }
 
 fn keep_rule_13(levels: &Levels, at_end: bool) -> bool
     ensures { IsTrue result ↔ Rule13 at_end levels.now }
 {
-    at_end || right_sides(levels)
+    at_end || each_has_side(levels, Side::Right)
 }
 
 // The least of the rules 8 to 13 that marks and levels break.

@@ -1,10 +1,11 @@
 //! Reading the levels of a subtree one after another, from the chunks up.
 
-ghost use Rattle.std.specs.Prelude.{◌≡◌, ◌<◌, ◌↔◌, List, length, IsTrue};
+ghost use Rattle.std.specs.Prelude.{◌≡◌, ◌<◌, ◌↔◌, List, [], ◌∷◌, length, IsTrue};
 ghost use Rattle.xet_merkle.specs.Canonical.{Level};
 ghost use Rattle.xet_merkle.specs.Subtree.{left_at, right_at};
 ghost use Rattle.xet_merkle.specs.FlatLevels.{levels_of, IsSomeFlat};
 ghost use Rattle.xet_merkle.specs.Joining.{above, inner_nodes};
+ghost use Rattle.xet_merkle.specs.LevelRules.{top_of};
 
 use crate::aggregated_hashes::Node;
 use std::marker::Model;
@@ -94,5 +95,28 @@ impl<'a> Levels<'a> {
                 nodes: &[],
             },
         }
+    }
+
+    // The level of a number and the levels above it, and one without nodes above the top.
+    pub(super) fn from_level(&self, level: usize) -> Self
+        ensures left { left_at result 0 ≡ left_at self.now level }
+        ensures right { right_at result 0 ≡ right_at self.now level }
+    {
+        let mut rest = self.again();
+        'below: for _ in 0..level.min(self.counts.len()) {
+            rest = rest.above();
+        }
+        rest
+    }
+
+    // The top alone.
+    pub(super) fn top(&self) -> Self
+        ensures { result ≡ top_of self.now ∷ [] }
+    {
+        let mut rest = self.again();
+        'below_top: while rest.has_above() {
+            rest = rest.above();
+        }
+        rest
     }
 }

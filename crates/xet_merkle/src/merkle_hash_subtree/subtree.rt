@@ -49,22 +49,6 @@ impl<A: Allocator> Model for MerkleHashSubtree<A> {
     ghost invariant = { λ stored. IsStored stored.at_start stored.at_end stored.counts.items stored.nodes.items stored.total_size };
 }
 
-// The nodes of a level and of all levels above it.
-fn inside<'a>(counts: &[(usize, usize)], nodes: &'a [Node], level: usize) -> &'a [Node]
-    requires flat { IsFlat counts.now nodes.now (levels_of counts.now nodes.now) }
-    requires within { level ≤ length counts.now }
-    ensures { result.now ≡ flat_nodes (drop level (levels_of counts.now nodes.now)) }
-{
-    let mut inner = nodes;
-    'levels: for i in 0..level {
-        let (left, right) = counts[i];
-        let (_, rest) = inner.split_at(left);
-        let (above, _) = rest.split_at(rest.len() - right);
-        inner = above;
-    }
-    inner
-}
-
 // The hash of the first of some nodes, or the default hash.
 fn first_hash(nodes: &[Node]) -> MerkleHash
     ensures { result ≡ hash_of_first nodes.now }
@@ -201,21 +185,14 @@ impl<A: Allocator> MerkleHashSubtree<A> {
     pub fn left(&self, level: usize) -> &[Node]
         ensures { result.now ≡ left_at self.now.levels level }
     {
-        if level >= self.counts.len() {
-            return &[];
-        }
-        &inside(&self.counts, &self.nodes, level)[..self.counts[level].0]
+        self.levels().from_level(level).left()
     }
 
     /// The right nodes of a level, counted from the chunks up, and none where there is no such level.
     pub fn right(&self, level: usize) -> &[Node]
         ensures { result.now ≡ right_at self.now.levels level }
     {
-        if level >= self.counts.len() {
-            return &[];
-        }
-        let nodes = inside(&self.counts, &self.nodes, level);
-        &nodes[nodes.len() - self.counts[level].1..]
+        self.levels().from_level(level).right()
     }
 
     /// Whether the list's start is marked.
@@ -249,8 +226,7 @@ impl<A: Allocator> MerkleHashSubtree<A> {
         if !(self.at_start && self.at_end) {
             return None;
         }
-        let top = inside(&self.counts, &self.nodes, self.counts.len() - 1);
-        Some(first_hash(top))
+        Some(first_hash(self.levels().top().left()))
     }
 }
 

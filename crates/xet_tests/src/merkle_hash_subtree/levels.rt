@@ -28,8 +28,8 @@ const GAPS: [Option<[u64; 8]>; 7] = [
 /// Whether a list's start and end are marked. Lists take these in turn.
 pub const MARKS: [(bool, bool); 4] = [(false, false), (true, false), (false, true), (true, true)];
 
-// A hash with some of its bits changed so that it is a natural cut, or none, as told.
-fn with_cut(hash: MerkleHash, is_cut: bool) -> MerkleHash {
+/// A hash with some of its bits changed so that it is a natural cut, or none, as told.
+pub fn with_cut(hash: MerkleHash, is_cut: bool) -> MerkleHash {
     let [first, second, third, last] = hash.words();
     let cut = last & !3;
     let last = if is_cut { cut } else { last.max(cut | 1) };

@@ -1,7 +1,10 @@
 //! The JSON form of a subtree.
 
 ghost use Rattle.std.specs.Prelude.{◌≡◌, ℕ, ◌^◌, ◌<◌, ◌⊎◌, ◌↔◌, map, IfOk, IfErr, SomeIff, IsTrue};
-ghost use Rattle.serde_json.specs.View.{view};
+ghost use Rattle.std.specs.List.{AllByRecursion};
+ghost use Rattle.serde_json.specs.Data.{array};
+ghost use Rattle.serde_json.specs.View.{view, items_of};
+ghost use Rattle.xet_hash.specs.Hash.{IsHash};
 ghost use Rattle.xet_merkle.specs.Groups.{Node};
 ghost use Rattle.xet_merkle.specs.FlatLevels.{IsFlat};
 ghost use Rattle.xet_merkle.specs.JsonRules.{count_sum, Reads, BreaksValueRule, BreaksRule};
@@ -16,27 +19,29 @@ use crate::merkle_hash_subtree::level_rules::broken_rule;
 use crate::merkle_hash_subtree::levels::Levels;
 use serde_json::{Value, json};
 use std::alloc::{AllocError, Allocator, Global};
+use xet_hash::laws::{hex_text_is_lowercase_digits, hex_text_tells_hashes_apart};
 
 // The counts of all levels.
-fn counts_to_json(alloc: Global, counts: &[(usize, usize)]) -> Result<Vec<Value>, AllocError>
-    ensures { IfOk result (λ values. map view values.items ≡ map counts_json counts.now) }
+fn counts_to_json(alloc: Global, counts: &[(usize, usize)]) -> Result<Value, AllocError>
+    ensures { IfOk result (λ value. view value ≡ array (items_of (map counts_json counts.now))) }
 {
     let mut values = Vec::new(alloc);
     'counts: for (left, right) in counts {
         values.push(json!(in alloc; [*left, *right])?)?;
     }
-    Ok(values)
+    Ok(Value::Array(values))
 }
 
 // The nodes, each with the hex text of its hash and its size.
-fn nodes_to_json(alloc: Global, nodes: &[Node]) -> Result<Vec<Value>, AllocError>
-    ensures { IfOk result (λ values. map view values.items ≡ map node_json nodes.now) }
+fn nodes_to_json(alloc: Global, nodes: &[Node]) -> Result<Value, AllocError>
+    ensures json { IfOk result (λ value. view value ≡ array (items_of (map node_json nodes.now))) }
+    ensures hashes { IfOk result (λ _. AllByRecursion (λ node. IsHash node.0) nodes.now) }
 {
     let mut values = Vec::new(alloc);
     'nodes: for (hash, size) in nodes {
         values.push(json!(in alloc; {"hash": hash.to_json(alloc)?, "size": *size})?)?;
     }
-    Ok(values)
+    Ok(Value::Array(values))
 }
 
 // The object of a subtree's marks, levels and nodes.
@@ -152,10 +157,15 @@ impl<A: Allocator> MerkleHashSubtree<A> {
     /// it stands for the `Serialize` of the Rust crate.
     pub fn to_json(&self, alloc: Global) -> Result<Value, CoreError>
         ensures json { IfOk result (λ value. view value ≡ subtree_json self.now) }
+        ensures says { IfOk result (λ value. Reads (view value) self.now) }
+        ensures kept { IfOk result (λ value. (rule : ℕ) → ¬ (BreaksRule (view value) rule)) }
         ensures errors { IfErr result (λ e. e ≡ CoreError.OutOfMemory) }
     {
-        let levels = Value::Array(counts_to_json(alloc, &self.counts)?);
-        let nodes = Value::Array(nodes_to_json(alloc, &self.nodes)?);
+        let levels = counts_to_json(alloc, &self.counts)?;
+        let nodes = nodes_to_json(alloc, &self.nodes)?;
+        // Laws of hex texts, for the clauses `says` and `kept`.
+        hex_text_is_lowercase_digits();
+        hex_text_tells_hashes_apart();
         Ok(object_of(alloc, self.at_start, self.at_end, levels, nodes)?)
     }
 }

@@ -3,8 +3,8 @@ use Rattle.hex.specs.Hex.{encode_lower}
 use Rattle.xet_hash.proofs.HexTextLemmas.{encode_lower-text_bytes, text_bytes-four}
 use Rattle.xet_hash.proofs.data_hash.DataHash.text_bytes.Goals as goal
 
-pub returns : goal.returns
-returns c =
+pub returns-clause-text : goal.returns-clause-text
+returns-clause-text c =
     let text = encode_lower-text_bytes c.self.inside.words c.self.told in
     let four = text_bytes-four c.self.inside.words c.self.told in
     rw (

@@ -1,5 +1,6 @@
+use Rattle.std.proofs.Common.{length, ap}
 use Rattle.xet_merkle.proofs.RuleLaws.{top_nodes-left}
 use Rattle.xet_merkle.proofs.merkle_hash_subtree.level_rules.top_len.Goals as goal
 
 pub returns : goal.returns
-returns c = top_nodes-left c.args.levels.now c.top.result c.left.result.now c.top.ensures c.left.ensures c.requires.no_right
+returns c = ap length (top_nodes-left c.args.levels.now c.top.result c.left.result.now c.top.ensures c.left.ensures c.requires.no_right)

@@ -6,7 +6,7 @@ pub invariant_of-result : goal.invariant_of-result
 invariant_of-result g c =
     let items : c.extend_from_slice.new.self.items ≡ c.args.levels.lefts.items ++ reverse c.args.levels.rights.items = search rules in
     let given = c.requires in
-    rw items (StandsFor-stored c.args.at_start c.args.at_end given.0 given.1 _ _ _ given.3 c.args.size given.2 given.4)
+    rw items (StandsFor-stored c.args.at_start c.args.at_end given.0 given.1 _ _ _ given.3 c.args.size c.ranges.size.fits given.2 given.4)
 
 pub returns-clause-joined : goal.returns-clause-joined
 returns-clause-joined g c = λ xs ys h.

@@ -1,23 +1,20 @@
-use Rattle.std.proofs.Common.{◌≡◌, ◌-◌, drop, length, true, ap, subst, ◌∙◌, rules, sym}
+use Rattle.std.proofs.Common.{◌≡◌, List, [], ◌∷◌, true, ap, subst, ◌∙◌, rules, sym}
 use Rattle.std.proofs.lemmas.Bool.{false≢true}
 use Rattle.xet_merkle.specs.Roots.{IsRoot}
-use Rattle.xet_merkle.specs.Canonical.{hash_of_first, top_hash}
+use Rattle.xet_merkle.specs.Canonical.{Level, hash_of_first}
+use Rattle.xet_merkle.specs.LevelRules.{top_of}
 use Rattle.xet_merkle.specs.Subtree.{Subtree}
-use Rattle.xet_merkle.specs.FlatLevels.{flat_nodes, levels_of}
-use Rattle.xet_merkle.proofs.InsideLevels.{stored_top}
+use Rattle.xet_merkle.proofs.RuleLaws.{top_nodes-left, sides_rule_8}
 use Rattle.xet_merkle.proofs.FinalHash.{top_is_root}
 use Rattle.xet_merkle.proofs.merkle_hash_subtree.subtree.MerkleHashSubtree.final_hash.Goals as goal
 use Rattle.xet_merkle.proofs.merkle_hash_subtree.subtree.MerkleHashSubtree.final_hash.Goals.{then-self, else-self}
 
 pub returns-clause-hash : goal.returns-clause-hash
 returns-clause-hash g c =
-    let counts = c.self.inside.counts.items in
-    let nodes = c.self.inside.nodes.items in
-    let last : c.len.result ≡ length counts = search rules in
-    let top : c.inside-top.result.now ≡ flat_nodes (drop (length counts - 1) (levels_of counts nodes)) = rw (c.inside-top.ensures, c.deref.ensures.value, c.deref-2.ensures.value, last) in
-    c.first_hash.ensures
-    ∙ ap hash_of_first (top ∙ stored_top _ _ counts nodes c.self.inside.total_size c.self.invariant)
-    ∙ ap (λ (s : Subtree). top_hash s.levels) c.self.view_is
+    let levels = c.args.self.now.levels in
+    let no_right = (sides_rule_8 _ _ levels c.levels.ensures.well_formed.sides).0 in
+    let top = c.top.ensures ∙ ap (λ (l : List Level). top_of l ∷ []) c.levels.ensures.levels in
+    c.first_hash.ensures ∙ ap hash_of_first (top_nodes-left levels c.top.result c.left.result.now top c.left.ensures no_right)
 
 pub returns-clause-root : goal.returns-clause-root
 returns-clause-root g c = λ chunks h.

@@ -1,4 +1,4 @@
-use Rattle.std.proofs.Common.{◌≡◌, ◌<◌, ◌≤◌, ◌^◌, List, length, refl, sym, ap, subst, ◌∙◌, arith, rules}
+use Rattle.std.proofs.Common.{ℕ, ◌≡◌, ◌<◌, ◌≤◌, ◌^◌, List, length, refl, sym, ap, subst, ◌∙◌, arith, rules}
 use Rattle.std.proofs.lemmas.Bool.{false≢true}
 use Rattle.std.proofs.lemmas.Bool.Decides.{nat_tests}
 use Rattle.xet_merkle.specs.Groups.{Node}
@@ -62,8 +62,10 @@ invariant_of-result g c =
     let sum = sym (ap count_sum c.deref.ensures.value) ∙ c.if-not-add_up.ensures.0 refl ∙ len in
     let levels : c.new.result ≡ levels_of c.args.parts.counts.items c.args.parts.nodes.items = rw (sym c.deref-3.ensures.value, sym c.deref-4.ensures.value) c.new.ensures in
     let size : c.in-Some.total_size ≡ total_size c.deref-2.result.now = search rules in
+    let fits : total_size c.deref-2.result.now < 2 ^ 64 = search rules in
     record {
       some_flat = record { flat = IsFlat-from_sum c.args.parts.counts.items c.args.parts.nodes.items sum; some = some };
       well_formed = subst (λ (l : List Level). IsWellFormed (record { at_start = c.args.parts.at_start; at_end = c.args.parts.at_end; levels = l })) levels c.in_default-broken_rule.ensures.kept;
       size_is = size ∙ ap total_size c.deref-2.ensures.value;
+      fits = subst (λ (n : ℕ). n < 2 ^ 64) (sym size) fits;
     }

@@ -1,6 +1,6 @@
 use Rattle.std.proofs.Common.{ap, ◌∙◌}
 use Rattle.xet_merkle.specs.Subtree.{Subtree, levels_size}
-use Rattle.xet_merkle.proofs.InsideLevels.{stored_size}
+use Rattle.xet_merkle.proofs.StoredLevels.{stored_size}
 use Rattle.xet_merkle.proofs.merkle_hash_subtree.subtree.MerkleHashSubtree.total_size.Goals as goal
 
 pub returns : goal.returns

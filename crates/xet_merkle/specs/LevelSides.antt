@@ -1,0 +1,17 @@
+-- What the sides of a level below the top are asked for, where the rules of levels are tested. Private contracts
+-- speak of it.
+use Rattle.std.specs.Prelude.{◌≡◌, false, List, []}
+use Rattle.xet_merkle.specs.declared.merkle_hash_subtree.level_rules.Side.{Side}
+use Rattle.xet_merkle.specs.declared.merkle_hash_subtree.level_rules.Side.TheVariants.{NoLeft, NoRight, Left, Right}
+use Rattle.xet_merkle.specs.Canonical.{Level}
+use Rattle.xet_merkle.specs.Subtree.{left_at, right_at}
+use Rattle.xet_merkle.specs.WellFormed.{IsLeftSide, IsRightSide}
+
+abbrev pub first_of : List Level → Level
+first_of levels = record { left = left_at levels 0; right = right_at levels 0 }
+
+abbrev pub HasSide : Side → Level → Type 0
+HasSide NoLeft level = level.left ≡ []
+HasSide NoRight level = level.right ≡ []
+HasSide Left level = IsLeftSide false level.left
+HasSide Right level = IsRightSide false level.right

@@ -1,0 +1,194 @@
+//! The JSON values of 300 drawn subtrees, changed at drawn places, beside the least rule that each of them breaks,
+//! which was told apart from this code.
+
+use super::levels::{MARKS, list, with_cut};
+use rand_core::{Rng, SeedableRng};
+use rand_xoshiro::Xoshiro256PlusPlus;
+use serde_json::Value;
+use std::alloc::{AllocError, Global};
+use std::fmt::Write;
+use std::test::Fail;
+use xet_merkle::CoreError;
+use xet_merkle::aggregated_hashes::Node;
+use xet_merkle::merkle_hash_subtree::MerkleHashSubtree;
+
+// What a text may get in the place of something that it has.
+const SPELLINGS: [(&str, &str); 5] = [
+    ("\"at_start\"", "\"start\""),
+    ("true", "null"),
+    ("\"size\":", "\"size\":-"),
+    ("\"hash\":\"", "\"hash\":\"0"),
+    ("[[", "[[0,"),
+];
+
+// What the JSON value of a subtree says.
+#[derive(Drop)]
+struct Parts {
+    at_start: bool,
+    at_end: bool,
+    counts: Vec<(usize, usize)>,
+    nodes: Vec<Node>,
+}
+
+// A drawn place in a list of some length.
+fn place(generator: &mut Xoshiro256PlusPlus, len: usize) -> usize {
+    (generator.next_u64() % len.max(1) as u64) as usize
+}
+
+impl Parts {
+    fn of(alloc: Global, subtree: &MerkleHashSubtree) -> Result<Parts, AllocError> {
+        let mut counts = Vec::new(alloc);
+        let mut nodes = Vec::new(alloc);
+        for level in 0..subtree.num_levels() {
+            counts.push((subtree.left(level).len(), subtree.right(level).len()))?;
+            nodes.extend_from_slice(subtree.left(level))?;
+        }
+        for level in (0..subtree.num_levels()).rev() {
+            nodes.extend_from_slice(subtree.right(level))?;
+        }
+        Ok(Parts {
+            at_start: subtree.at_start(),
+            at_end: subtree.at_end(),
+            counts,
+            nodes,
+        })
+    }
+
+    // One more left node of a level: the node of a place, once more.
+    fn add_node(&mut self, level: usize, place: usize) -> Result<(), AllocError> {
+        if let Some(count) = self.counts.get_mut(level)
+            && let Some(node) = self.nodes.get(place)
+        {
+            count.0 = count.0.saturating_add(1);
+            let node = *node;
+            self.nodes.insert(place, node)?;
+        }
+        Ok(())
+    }
+
+    // One left node of a level less: that of a place goes.
+    fn remove_node(&mut self, level: usize, place: usize) {
+        if let Some(count) = self.counts.get_mut(level)
+            && count.0 > 0
+            && place < self.nodes.len()
+        {
+            count.0 -= 1;
+            self.nodes.remove(place);
+        }
+    }
+
+    // The last left node of a level becomes one on the right.
+    fn move_node(&mut self, level: usize) {
+        if let Some(count) = self.counts.get_mut(level)
+            && count.0 > 0
+        {
+            *count = (count.0 - 1, count.1.saturating_add(1));
+        }
+    }
+
+    // Changes something at a drawn place.
+    fn change(&mut self, generator: &mut Xoshiro256PlusPlus) -> Result<(), AllocError> {
+        let level = place(generator, self.counts.len());
+        let place = place(generator, self.nodes.len());
+        match generator.next_u64() % 10 {
+            0 => self.at_start = !self.at_start,
+            1 => self.at_end = !self.at_end,
+            2 => self.counts.push((0, 0))?,
+            3 => {
+                self.counts.pop();
+            }
+            4 => {
+                if let Some(count) = self.counts.get_mut(level) {
+                    count.0 = count.0.saturating_add(1);
+                }
+            }
+            5 => self.move_node(level),
+            6 => self.add_node(level, place)?,
+            7 => self.remove_node(level, place),
+            8 => {
+                if let Some(node) = self.nodes.get_mut(place) {
+                    node.1 = u64::MAX;
+                }
+            }
+            _ => {
+                if let Some(node) = self.nodes.get_mut(place) {
+                    node.0 = with_cut(node.0, true);
+                }
+            }
+        }
+        Ok(())
+    }
+
+    fn text(&self, alloc: Global) -> Result<String, Fail> {
+        let mut text = format!(in alloc;
+            "{{\"at_end\":{},\"at_start\":{},\"levels\":[",
+            self.at_end, self.at_start
+        )?;
+        let mut comma = "";
+        for (left, right) in &self.counts {
+            write!(text, "{comma}[{left},{right}]")?;
+            comma = ",";
+        }
+        write!(text, "],\"nodes\":[")?;
+        comma = "";
+        for (hash, size) in &self.nodes {
+            write!(text, "{comma}{{\"hash\":\"{hash}\",\"size\":{size}}}")?;
+            comma = ",";
+        }
+        write!(text, "]}}")?;
+        Ok(text)
+    }
+}
+
+// The text of a number.
+fn drawn_text(alloc: Global, number: u64) -> Result<String, Fail> {
+    let mut generator = Xoshiro256PlusPlus::seed_from_u64(number.saturating_add(2000));
+    let (at_start, at_end) = MARKS[(generator.next_u64() % 4) as usize];
+    let chunks = list(alloc, number)?;
+    let subtree = MerkleHashSubtree::from_chunks(alloc, at_start, chunks.as_slice(), at_end)?;
+    let mut parts = Parts::of(alloc, &subtree)?;
+    for _ in 0..generator.next_u64() % 3 {
+        parts.change(&mut generator)?;
+    }
+    let text = parts.text(alloc)?;
+    match SPELLINGS.get((generator.next_u64() % 16) as usize) {
+        Some((from, to)) => Ok(text.replace(alloc, *from, to)?),
+        None => Ok(text),
+    }
+}
+
+// The least rule that a text breaks, or 0 where it is that of the subtree that is read of it.
+fn broken_rule(alloc: Global, text: &str) -> Result<Option<u8>, Fail> {
+    match MerkleHashSubtree::from_json(alloc, &Value::from_str(alloc, text)?) {
+        Ok(subtree) if subtree.to_json(alloc)?.to_string(alloc)?.as_str() == text => Ok(Some(0)),
+        Err(CoreError::InvalidJson(rule)) => Ok(Some(rule)),
+        _ => Ok(None),
+    }
+}
+
+#[test]
+fn changed_values_break_the_rules_that_they_should(rt: HostRuntime) -> Result<(), Fail> {
+    for (number, rule) in RULES.iter().enumerate() {
+        let text = drawn_text(rt.alloc(), number as u64)?;
+        assert_eq!(rt;
+            broken_rule(rt.alloc(), text.as_str())?,
+            Some(*rule),
+            "{number}"
+        );
+    }
+    Ok(())
+}
+
+// The expected rules, from that of number 0 on; 0 where none is broken.
+const RULES: [u8; 300] = [
+    3, 6, 4, 0, 0, 5, 5, 0, 2, 13, 4, 0, 9, 0, 6, 0, 11, 6, 0, 3, 3, 0, 8, 0, 2, 0, 12, 0, 7, 8, 8,
+    0, 5, 6, 0, 0, 12, 0, 0, 0, 10, 2, 2, 0, 6, 0, 8, 6, 9, 4, 0, 2, 2, 0, 3, 4, 0, 0, 3, 0, 4, 2,
+    2, 3, 2, 0, 2, 0, 8, 9, 0, 0, 3, 0, 8, 2, 2, 5, 7, 2, 11, 0, 7, 8, 2, 7, 6, 9, 3, 3, 0, 3, 6,
+    2, 0, 3, 8, 10, 6, 2, 10, 0, 0, 6, 6, 0, 8, 0, 2, 0, 2, 6, 0, 0, 2, 6, 5, 6, 9, 6, 7, 0, 0, 11,
+    3, 2, 0, 0, 0, 4, 0, 9, 5, 0, 0, 0, 6, 3, 7, 0, 0, 2, 12, 6, 0, 10, 0, 0, 4, 12, 10, 0, 0, 9,
+    0, 0, 5, 3, 6, 0, 6, 3, 0, 2, 3, 0, 0, 0, 0, 0, 5, 0, 0, 0, 6, 4, 2, 2, 11, 0, 11, 8, 9, 6, 12,
+    10, 6, 4, 0, 0, 0, 0, 0, 6, 2, 0, 3, 9, 5, 13, 12, 0, 3, 6, 4, 4, 4, 0, 7, 0, 0, 6, 0, 4, 0, 0,
+    7, 0, 0, 6, 7, 5, 0, 7, 8, 9, 4, 8, 6, 7, 6, 0, 0, 5, 3, 4, 2, 3, 6, 12, 2, 3, 0, 9, 3, 9, 0,
+    6, 0, 0, 2, 6, 4, 4, 12, 0, 0, 0, 2, 3, 3, 0, 0, 3, 0, 0, 4, 6, 0, 7, 9, 3, 0, 0, 2, 6, 13, 13,
+    8, 4, 0, 3, 2, 12, 0, 0, 4, 0, 3, 7, 0, 0, 7, 0, 4, 0, 8, 0, 2, 13,
+];
