@@ -7,8 +7,7 @@ use Rattle.xet_merkle.specs.Scan.{AreParents}
 use Rattle.xet_merkle.specs.Canonical.{Level, IsSplit, IsCanonicalBy}
 use Rattle.xet_merkle.specs.Canonical.IsCanonicalBy.{whole, collapsed}
 use Rattle.xet_merkle.specs.Subtree.{levels_size}
-use Rattle.xet_merkle.specs.FlatLevels.{IsOpen}
-use Rattle.xet_merkle.specs.OpenLevels.{HasJoin, StandsBelow, StandsFor}
+use Rattle.xet_merkle.specs.OpenLevels.{IsOpen, HasJoin, StandsBelow, StandsFor}
 use Rattle.xet_merkle.proofs.Scanning.{total_size-are_parents}
 use Rattle.xet_merkle.proofs.CanonicalLaws.{groups_fewer}
 use Rattle.xet_merkle.proofs.FlatLevelLaws.{total_size-append}

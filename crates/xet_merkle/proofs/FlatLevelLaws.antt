@@ -8,7 +8,8 @@ use Rattle.xet_merkle.specs.Roots.{total_size}
 use Rattle.xet_merkle.specs.Canonical.{Level, top_nodes}
 use Rattle.xet_merkle.specs.Subtree.{node_count, levels_size}
 use Rattle.xet_merkle.specs.JsonRules.{count_sum}
-use Rattle.xet_merkle.specs.FlatLevels.{left_nodes, right_nodes, flat_nodes, count_of, levels_of, IsFlat, IsOpen}
+use Rattle.xet_merkle.specs.FlatLevels.{left_nodes, right_nodes, flat_nodes, count_of, levels_of, IsFlat}
+use Rattle.xet_merkle.specs.OpenLevels.{IsOpen}
 
 -- the first level's sides stand on the outside
 pub flat-more : (level : Level) (levels : List Level) → flat_nodes (level ∷ levels) ≡ level.left ++ (flat_nodes levels ++ level.right)

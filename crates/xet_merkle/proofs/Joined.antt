@@ -8,11 +8,12 @@ use Rattle.xet_merkle.specs.Scan.{AreParents}
 use Rattle.xet_merkle.specs.Canonical.{Level, top_nodes, IsCanonicalBy}
 use Rattle.xet_merkle.specs.Subtree.{Subtree, IsCanonical, levels_size}
 use Rattle.xet_merkle.specs.WellFormed.{HaveSides, IsWellFormed}
-use Rattle.xet_merkle.specs.FlatLevels.{count_of, levels_of, IsFlat, IsOpen, IsStored}
+use Rattle.xet_merkle.specs.FlatLevels.{count_of, levels_of, IsFlat}
+use Rattle.xet_merkle.specs.StoredLevels.{IsStored}
 use Rattle.xet_merkle.specs.Joining.{no_level, above, between, IsJoinSplit, IsJoin}
 use Rattle.xet_merkle.specs.Joining.IsJoinSplit.{both, left_alone, right_alone}
 use Rattle.xet_merkle.specs.Joining.IsJoin.{all_in_sight, step}
-use Rattle.xet_merkle.specs.OpenLevels.{HasCanonical, HasJoin, AreOperands, chunk_level, JoinsBelow, StandsBelow, StandsFor}
+use Rattle.xet_merkle.specs.OpenLevels.{IsOpen, HasCanonical, HasJoin, AreOperands, chunk_level, JoinsBelow, StandsBelow, StandsFor}
 use Rattle.xet_merkle.proofs.FlatLevelLaws.{total_size-append, levels_size-flat, IsFlat-from_open, levels_of-IsOpen}
 use Rattle.xet_merkle.proofs.JoinLaws.{join}
 use Rattle.xet_merkle.proofs.JoinKeeps.{joined_sides, joined_some, joined_top, joined_one, joined_size}

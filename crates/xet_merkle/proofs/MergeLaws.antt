@@ -5,7 +5,8 @@ use Rattle.xet_merkle.specs.Groups.{Node}
 use Rattle.xet_merkle.specs.Roots.{parent}
 use Rattle.xet_merkle.specs.Canonical.{IsCanonicalBy}
 use Rattle.xet_merkle.specs.Subtree.{Subtree, IsCanonical, levels_size}
-use Rattle.xet_merkle.specs.Merging.{IsMerged, NoMarkBetween, end_mark, ranges_size, AreCanonical, MergesTo}
+use Rattle.xet_merkle.specs.Merging.{IsMerged, NoMarkBetween, end_mark, ranges_size, AreCanonical}
+use Rattle.xet_merkle.specs.RangeMerging.{MergesTo}
 use Rattle.xet_merkle.proofs.CanonicalLaws.{IsCanonicalBy-unique}
 
 abbrev joined_lists : List (List Node) → List Node

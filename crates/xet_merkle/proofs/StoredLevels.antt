@@ -4,7 +4,8 @@ use Rattle.xet_merkle.specs.Groups.{Node}
 use Rattle.xet_merkle.specs.Roots.{total_size}
 use Rattle.xet_merkle.specs.Canonical.{Level}
 use Rattle.xet_merkle.specs.Subtree.{left_at, right_at, node_count, levels_size}
-use Rattle.xet_merkle.specs.FlatLevels.{levels_of, IsStored}
+use Rattle.xet_merkle.specs.FlatLevels.{levels_of}
+use Rattle.xet_merkle.specs.StoredLevels.{IsStored}
 use Rattle.xet_merkle.specs.Joining.{above}
 use Rattle.xet_merkle.proofs.FlatLevelLaws.{node_count-flat, levels_size-flat}
 

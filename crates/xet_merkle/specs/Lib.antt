@@ -7,9 +7,11 @@ pub mod Canonical
 pub mod Subtree
 pub mod WellFormed
 pub mod Merging
+pub mod RangeMerging
 pub mod Joining
 pub mod SubtreeEquality
 pub mod FlatLevels
+pub mod StoredLevels
 pub mod SubtreeJson
 pub mod JsonParts
 pub mod LevelRules

@@ -1,6 +1,7 @@
 -- Merging the subtrees of adjacent ranges of chunks (module `merklehash::merkle_hash_subtree` of the crate
 -- `xet-core-structures`).
-use Rattle.std.specs.Prelude.{◌≡◌, ℕ, ◌+◌, Bool, true, false, List, [], ◌∷◌, ◌++◌, flat_map, sum_by}
+use Rattle.std.specs.Prelude.{◌≡◌, ℕ, ◌+◌, Bool, true, false, List, [], ◌∷◌, ◌++◌, sum_by}
+use Rattle.std.specs.List.{AllZip}
 use Rattle.xet_merkle.specs.Groups.{Node}
 use Rattle.xet_merkle.specs.Subtree.{Subtree, IsCanonical, levels_size}
 
@@ -36,16 +37,4 @@ ranges_size ranges = sum_by (λ range. levels_size range.levels) ranges
 
 -- ranges are the canonical subtrees of lists, one of each
 abbrev pub AreCanonical : List Subtree → List (List Node) → Type 0
-AreCanonical [] [] = Unit {0}
-AreCanonical [] (list ∷ lists) = ⊥
-AreCanonical (range ∷ ranges) [] = ⊥
-AreCanonical (range ∷ ranges) (list ∷ lists) = IsCanonical range list × AreCanonical ranges lists
-
--- the merging of some ranges is that of others. Private contracts and proofs speak of it.
-pub record MergesTo (ranges others : List Subtree) : Type 0 where
-  pub marks : NoMarkBetween others
-  pub start : start_mark others ≡ start_mark ranges
-  pub end : end_mark others ≡ end_mark ranges
-  pub size : ranges_size others ≡ ranges_size ranges
-  pub canonical : (lists : List (List Node)) → AreCanonical ranges lists →
-      (joined : List (List Node)) × AreCanonical others joined × (flat_map (λ list. list) joined ≡ flat_map (λ list. list) lists)
+AreCanonical = AllZip IsCanonical

@@ -1,12 +1,19 @@
 -- Levels under construction, and the operands whose join they are. Private contracts and proofs speak of it;
 -- what a reader has to believe stands in Canonical and Subtree.
-use Rattle.std.specs.Prelude.{ℕ, ◌<◌, Bool, false, List, [], ◌∷◌, ◌++◌, length}
+use Rattle.std.specs.Prelude.{◌≡◌, ℕ, ◌<◌, Bool, false, List, [], ◌∷◌, ◌++◌, length, map, reverse}
 use Rattle.xet_merkle.specs.Groups.{Node}
 use Rattle.xet_merkle.specs.Roots.{parent}
 use Rattle.xet_merkle.specs.Canonical.{Level, IsCanonicalBy, top_nodes}
-use Rattle.xet_merkle.specs.FlatLevels.{IsOpen}
+use Rattle.xet_merkle.specs.FlatLevels.{left_nodes, right_nodes, count_of}
 use Rattle.xet_merkle.specs.WellFormed.{HaveSides}
 use Rattle.xet_merkle.specs.Joining.{IsJoin}
+
+-- levels to which more are added at the top, in parts: their counts, their left nodes, and their right
+-- nodes from the last to the first
+pub record IsOpen (counts : List (ℕ × ℕ)) (lefts rights : List Node) (levels : List Level) : Type 0 where
+  pub counts_are : counts ≡ map count_of levels
+  pub lefts_are : lefts ≡ left_nodes levels
+  pub rights_are : reverse rights ≡ right_nodes levels
 
 abbrev pub HasCanonical : Bool → Bool → List Node → List Level → Type 0
 HasCanonical at_start at_end nodes levels = (parents : ℕ) × IsCanonicalBy parent at_start at_end nodes levels parents

@@ -1,7 +1,6 @@
 -- What is known of a whole input from what was read of it, and the file hash of a root.
 use Rattle.std.proofs.Common.{◌≡◌, ◌<◌, ℕ, List, [], ◌∷◌, ◌++◌, length, replicate, refl, sym, ap, subst, ◌∙◌, arith, Option, Some, None, IfSome}
 use Rattle.std.specs.Io.KnownBytes.{Consumes}
-use Rattle.xetroot.specs.Answer.{IsOutput, output_text}
 use Rattle.xet_hash.specs.Blake3.{keyed_hash}
 use Rattle.xet_hash.specs.Hash.{default_hash, bytes_of, hash_of}
 use Rattle.xet_merkle.specs.Groups.{Node}
@@ -18,11 +17,6 @@ IfSome-consumed (Some text) (Some rest) read P consumed h = subst P (sym consume
 pub IfSome-weaker : {P Q : List ℕ → Type 0} (o : Option (List ℕ)) → IfSome o P → ((text : List ℕ) → P text → Q text) → IfSome o Q
 IfSome-weaker None p h = tt
 IfSome-weaker (Some text) p h = h text p
-
--- what is written for some pairs is their output
-pub IsOutput-made : (pairs : List Node) (root file written : List ℕ) → IsRoot pairs root → IsFileHash pairs (replicate 32 0) file → written ≡ output_text root file →
-    IsOutput pairs written
-IsOutput-made pairs root file written is_root is_file text = record { root = root; file = file; is_root = is_root; is_file = is_file; text = text }
 
 root_of_none : {nodes : List Node} {hash : List ℕ} → length nodes ≡ 0 → IsRoot nodes hash → hash ≡ default_hash
 root_of_none e no_node = refl

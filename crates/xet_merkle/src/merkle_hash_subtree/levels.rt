@@ -3,7 +3,8 @@
 ghost use Rattle.std.specs.Prelude.{◌≡◌, ◌<◌, ◌↔◌, List, [], ◌∷◌, length, IsTrue};
 ghost use Rattle.xet_merkle.specs.Canonical.{Level};
 ghost use Rattle.xet_merkle.specs.Subtree.{left_at, right_at};
-ghost use Rattle.xet_merkle.specs.FlatLevels.{levels_of, IsSomeFlat};
+ghost use Rattle.xet_merkle.specs.FlatLevels.{levels_of};
+ghost use Rattle.xet_merkle.specs.StoredLevels.{IsSomeFlat};
 ghost use Rattle.xet_merkle.specs.Joining.{above, inner_nodes};
 ghost use Rattle.xet_merkle.specs.LevelRules.{top_of};
 

@@ -4,8 +4,7 @@ ghost use Rattle.std.specs.Prelude.{◌≡◌, ◌^◌, ◌<◌, List, [], ◌�
 ghost use Rattle.xet_merkle.specs.Groups.{Node};
 ghost use Rattle.xet_merkle.specs.Roots.{total_size};
 ghost use Rattle.xet_merkle.specs.Canonical.{Level};
-ghost use Rattle.xet_merkle.specs.FlatLevels.{IsOpen};
-ghost use Rattle.xet_merkle.specs.OpenLevels.{StandsBelow, StandsFor};
+ghost use Rattle.xet_merkle.specs.OpenLevels.{IsOpen, StandsBelow, StandsFor};
 
 use super::split::find_split;
 use crate::aggregated_hashes::{Node, parents};

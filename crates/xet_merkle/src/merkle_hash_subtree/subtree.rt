@@ -8,7 +8,8 @@ ghost use Rattle.xet_merkle.specs.Canonical.{Level, top_hash, hash_of_first};
 ghost use Rattle.xet_merkle.specs.Subtree.{Subtree, IsCanonical, left_at, right_at, node_count, levels_size, same_level, same_subtree};
 ghost use Rattle.xet_merkle.specs.SubtreeEquality.{same_subtree-per, same_subtree-equiv};
 ghost use Rattle.xet_merkle.specs.WellFormed.{IsWellFormed};
-ghost use Rattle.xet_merkle.specs.FlatLevels.{levels_of, flat_nodes, IsFlat, IsStored};
+ghost use Rattle.xet_merkle.specs.FlatLevels.{levels_of, IsFlat};
+ghost use Rattle.xet_merkle.specs.StoredLevels.{IsStored};
 ghost use Rattle.xet_merkle.specs.OpenLevels.{AreOperands, HasJoin, StandsFor};
 
 mod json;
