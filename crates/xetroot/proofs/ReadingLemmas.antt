@@ -9,7 +9,7 @@ use Rattle.xet_merkle.specs.Groups.{Node}
 use Rattle.xet_merkle.specs.Roots.{total_size}
 use Rattle.xetroot.specs.declared.fault.Fault.{Fault}
 use Rattle.xetroot.specs.declared.fault.Fault.TheVariants.{BadLine, Sizes, Memory, Read, Write}
-use Rattle.xetroot.specs.Lines.{newline, NoNewline, lines_of, content, IsSeparator, SaysPair, Say, AreGood, byte_limit}
+use Rattle.xetroot.specs.Lines.{newline, NoNewline, lines_of, content, IsSeparator, SaysPair, Say, AreGood, IsBad, byte_limit}
 use Rattle.xetroot.specs.Lines.Say.{no_line, separator, pair}
 use Rattle.xetroot.specs.Answer.{IsFaultOf}
 use Rattle.xetroot.specs.Taken.{StandsAt, AddsLine, IsLineFault}
@@ -116,33 +116,41 @@ AreGood-last text old new number line some within adds fits h =
 
 -- ---- faults
 
+not_bad : (before : List (List ℕ)) (line : List ℕ) (node : Node) → SaysPair (content line) node → length (concat before) + length line ≤ byte_limit → IsBad before line → ⊥
+not_bad before line node says within (inl past) = omega arith
+not_bad before line node says within (inr nothing) = nothing.1 node says
+
 IsFaultOf-line : (text : List ℕ) (before : List (List ℕ)) (pairs : List Node) (line : List ℕ) (after : List (List ℕ)) (number : ℕ) (fault : Fault) →
-    lines_of text ≡ before ++ line ∷ after → AreGood before pairs → number ≡ length before + 1 → IsLineFault number pairs line fault → IsFaultOf text fault
-IsFaultOf-line text before pairs line after number (BadLine n) lines good is h =
+    lines_of text ≡ before ++ line ∷ after → AreGood before pairs → number ≡ length before + 1 →
+    ((n : ℕ) → fault ≡ Sizes n → length (concat before) + length line ≤ byte_limit) → IsLineFault number pairs line fault → IsFaultOf text fault
+IsFaultOf-line text before pairs line after number (BadLine n) lines good is within h =
     (before, pairs, line, record { after = after; lines = lines; good = good; number_is = h.0 ∙ is }, inr h.1)
-IsFaultOf-line text before pairs line after number (Sizes n) lines good is h =
-    (before, pairs, line, record { after = after; lines = lines; good = good; number_is = h.0 ∙ is }, h.1)
-IsFaultOf-line text before pairs line after number Memory lines good is h = tt
-IsFaultOf-line text before pairs line after number Read lines good is h = tt
-IsFaultOf-line text before pairs line after number Write lines good is h = tt
+IsFaultOf-line text before pairs line after number (Sizes n) lines good is within h =
+    (before, pairs, line, record { after = after; lines = lines; good = good; number_is = h.0 ∙ is }, not_bad before line h.1.0 h.1.1 (within n refl), h.1)
+IsFaultOf-line text before pairs line after number Memory lines good is within h = tt
+IsFaultOf-line text before pairs line after number Read lines good is within h = tt
+IsFaultOf-line text before pairs line after number Write lines good is within h = tt
 
 -- the fault of an open line, whatever follows
 pub IsFaultOf-open : (text rest : List ℕ) (pairs : List Node) (number : ℕ) (line whole : List ℕ) (after : List (List ℕ)) (fault : Fault) →
-    lines_of (line ++ rest) ≡ whole ∷ after → IsLineFault number pairs whole fault → StandsAt text pairs number line → IsFaultOf (text ++ rest) fault
-IsFaultOf-open text rest pairs number line whole after fault first h stands =
+    lines_of (line ++ rest) ≡ whole ∷ after → ((n : ℕ) → fault ≡ Sizes n → length text + length whole ≤ byte_limit + length line) →
+    IsLineFault number pairs whole fault → StandsAt text pairs number line → IsFaultOf (text ++ rest) fault
+IsFaultOf-open text rest pairs number line whole after fault first within h stands =
+    let len = stands.bytes in
     IsFaultOf-line (text ++ rest) stands.before pairs whole after number fault
-    (stands.lines rest ∙ ap (λ (l : List (List ℕ)). stands.before ++ l) first) stands.good stands.number_is h
+    (stands.lines rest ∙ ap (λ (l : List (List ℕ)). stands.before ++ l) first) stands.good stands.number_is (λ n e. let room = within n e in omega arith) h
 
 pub IsFaultOf-ended : (text rest : List ℕ) (pairs : List Node) (number : ℕ) (line : List ℕ) (fault : Fault) →
-    IsLineFault number pairs (line ++ newline ∷ []) fault → StandsAt text pairs number line → IsFaultOf (text ++ newline ∷ rest) fault
-IsFaultOf-ended text rest pairs number line fault h stands =
-    IsFaultOf-open text (newline ∷ rest) pairs number line (line ++ newline ∷ []) (lines_of rest) fault (lines_of-whole line rest stands.is_open) h stands
+    length text + 1 ≤ byte_limit → IsLineFault number pairs (line ++ newline ∷ []) fault → StandsAt text pairs number line → IsFaultOf (text ++ newline ∷ rest) fault
+IsFaultOf-ended text rest pairs number line fault within h stands =
+    IsFaultOf-open text (newline ∷ rest) pairs number line (line ++ newline ∷ []) (lines_of rest) fault (lines_of-whole line rest stands.is_open)
+    (λ n e. omega (arith, length-append line (newline ∷ []))) h stands
 
 pub IsFaultOf-last : (text : List ℕ) (pairs : List Node) (number : ℕ) (line : List ℕ) (fault : Fault) → 0 < length line →
-    IsLineFault number pairs line fault → StandsAt text pairs number line → IsFaultOf text fault
-IsFaultOf-last text pairs number line fault some h stands =
+    length text ≤ byte_limit → IsLineFault number pairs line fault → StandsAt text pairs number line → IsFaultOf text fault
+IsFaultOf-last text pairs number line fault some within h stands =
     subst (λ (l : List ℕ). IsFaultOf l fault) (append-nil text)
-    (IsFaultOf-open text [] pairs number line line [] fault (ap lines_of (append-nil line) ∙ lines_of-open line stands.is_open some) h stands)
+    (IsFaultOf-open text [] pairs number line line [] fault (ap lines_of (append-nil line) ∙ lines_of-open line stands.is_open some) (λ n e. omega arith) h stands)
 
 -- the first byte past the limit
 pub IsFaultOf-limit : (text : List ℕ) (byte : ℕ) (rest : List ℕ) (pairs : List Node) (number : ℕ) (line : List ℕ) → byte_limit ≤ length text →

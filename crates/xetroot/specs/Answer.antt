@@ -36,7 +36,7 @@ abbrev pub IsFaultOf : List ℕ → Fault → Type 0
 IsFaultOf text (BadLine number) = (before : List (List ℕ)) × (pairs : List Node) × (line : List ℕ) ×
     IsFirstFaulty text number before pairs line × IsBad before line
 IsFaultOf text (Sizes number) = (before : List (List ℕ)) × (pairs : List Node) × (line : List ℕ) ×
-    IsFirstFaulty text number before pairs line × PassesSizes pairs line
+    IsFirstFaulty text number before pairs line × ¬ (IsBad before line) × PassesSizes pairs line
 IsFaultOf text Memory = Unit {0}
 IsFaultOf text Read = Unit {0}
 IsFaultOf text Write = Unit {0}

@@ -12,7 +12,7 @@ returns-in_err-add_line-clause-fault g c =
     rw (p.1, p.2) (λ text rest within taken.
     let line = taken.line in
     let held = subst (IsOpenLine c.args.self.now.line) (sym (content-whole line)) taken.open_line in
-    IsFaultOf-ended text rest _ _ line _ (c.in_err-add_line.ensures.fault taken.pairs (line ++ newline ∷ []) taken.held held) taken.stands)
+    IsFaultOf-ended text rest _ _ line _ within (c.in_err-add_line.ensures.fault taken.pairs (line ++ newline ∷ []) taken.held held) taken.stands)
 
 pub returns-clause-taken : goal.returns-clause-taken
 returns-clause-taken g c = λ text within taken.

@@ -17,7 +17,7 @@ returns-in_default-clause-fault g c = λ text rest within taken.
           let first = FirstLine-open longer rest stands.is_open (let h = long.1 in omega arith) in
           let fault : IsLineFault number pairs (longer ++ first.0) (BadLine number) =
           (refl, SaysNothing-long longer first.0 stands.is_open long.0 long.1) in
-          IsFaultOf-open (text ++ bytes) rest _ _ longer (longer ++ first.0) first.1 (BadLine number) first.2 fault stands
+          IsFaultOf-open (text ++ bytes) rest _ _ longer (longer ++ first.0) first.1 (BadLine number) first.2 (λ n e. cc) fault stands
       | inr far ↦ absurd (let len = stands.bytes in omega (arith, length-append text bytes))
     ]
 

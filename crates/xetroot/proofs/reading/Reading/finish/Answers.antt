@@ -18,7 +18,7 @@ returns-in_err-add_line-clause-fault g c =
     let line = taken.line in
     let some : 0 < length line = grind (arith, nat_tests, c.if-is_empty.ensures line taken.open_line) in
     let held = subst (IsOpenLine c.args.self.line) (sym (content-open line taken.stands.is_open)) taken.open_line in
-    IsFaultOf-last text _ _ line _ some (c.in_err-add_line.ensures.fault taken.pairs line taken.held held) taken.stands)
+    IsFaultOf-last text _ _ line _ some taken.within (c.in_err-add_line.ensures.fault taken.pairs line taken.held held) taken.stands)
 
 pub returns-clause-pairs : goal.returns-clause-pairs
 returns-clause-pairs g c = λ text taken.
