@@ -1,6 +1,6 @@
 -- The law of canonical subtrees: each list has exactly one under given marks, and the top of one with both
 -- ends marked is the root of its list. Rests on Splits, GroupLaws and RootLaws.
-use Rattle.std.proofs.Common.{◌≡◌, ℕ, zero, suc, ◌+◌, ◌<◌, ◌≤◌, ◌↔◌, Bool, true, List, [], ◌∷◌, ◌++◌, length, map, refl, sym, subst, inl, inr, arith, length-append}
+use Rattle.std.proofs.Common.{◌≡◌, ℕ, zero, suc, ◌+◌, ◌<◌, ◌≤◌, Bool, true, List, [], ◌∷◌, ◌++◌, length, map, refl, sym, subst, inl, inr, arith, length-append}
 use Rattle.std.proofs.lemmas.Bool.{cases_lt}
 use Rattle.std.proofs.lemmas.List.{length-map}
 use Rattle.xet_merkle.specs.Groups.{Node, Groups}
@@ -9,7 +9,7 @@ use Rattle.xet_merkle.specs.Roots.IsRootBy.{no_node, one_node, of_parents}
 use Rattle.xet_merkle.specs.Canonical.{IsSplit, Level, top_nodes, hash_of_first, top_hash, IsCanonicalBy}
 use Rattle.xet_merkle.specs.Canonical.IsCanonicalBy.{whole, collapsed}
 use Rattle.xet_merkle.proofs.GroupLaws.{Groups-unique, Groups-exist}
-use Rattle.xet_merkle.proofs.RootLaws.{Groups-few, IsRootBy-unique}
+use Rattle.xet_merkle.proofs.RootLaws.{Groups-few}
 use Rattle.xet_merkle.proofs.Splits.{split_or_none, same_split, middle_within, closed_split}
 
 -- the parents of what is collapsed are fewer than the list's nodes
@@ -79,9 +79,3 @@ module _ (make : List Node → Node) where
         subst (λ (l : List Node). IsRootBy make nodes (hash_of_first l)) (sym top)
             (of_parents split.several (subst (λ (l : List Node). Groups l groups) (sym all) cutting) rest.1),
       )
-
-  pub closed_root-iff : {nodes : List Node} {levels : List Level} {parents : ℕ} {hash : List ℕ} → IsCanonicalBy make true true nodes levels parents →
-      IsRootBy make nodes hash ↔ (hash ≡ top_hash levels)
-  closed_root-iff {nodes} {levels} canonical =
-      let root = (closed_root canonical).1 in
-      (λ other. IsRootBy-unique make other root, λ e. subst (IsRootBy make nodes) (sym e) root)

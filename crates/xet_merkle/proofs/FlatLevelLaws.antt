@@ -5,7 +5,7 @@ use Rattle.std.proofs.lemmas.List.{take-append-drop, length-drop, drop_all, take
 use Rattle.std.proofs.lemmas.List.Sums.{sum_by-append, sum_by-cons}
 use Rattle.xet_merkle.specs.Groups.{Node}
 use Rattle.xet_merkle.specs.Roots.{total_size}
-use Rattle.xet_merkle.specs.Canonical.{Level, top_nodes}
+use Rattle.xet_merkle.specs.Canonical.{Level}
 use Rattle.xet_merkle.specs.Subtree.{node_count, levels_size}
 use Rattle.xet_merkle.specs.JsonRules.{count_sum}
 use Rattle.xet_merkle.specs.FlatLevels.{left_nodes, right_nodes, flat_nodes, count_of, levels_of, IsFlat}
@@ -104,10 +104,6 @@ levels_size-flat (level ∷ levels) =
     let rest = levels_size-flat levels in
     omega (arith, total_size-append level.left (inner ++ level.right), total_size-append inner level.right)
 
--- the top's nodes are those inside all other levels
-pub top_nodes-flat : (level : Level) → flat_nodes (level ∷ []) ≡ top_nodes (level ∷ [])
-top_nodes-flat level = ap (λ (l : List Node). l ++ level.right) (append-nil level.left)
-
 -- ---- adding a level at the top
 
 left_nodes-push : (levels : List Level) (level : Level) → left_nodes (levels ++ level ∷ []) ≡ left_nodes levels ++ level.left
@@ -118,9 +114,6 @@ right_nodes-push : (levels : List Level) (level : Level) → right_nodes (levels
 right_nodes-push [] level = sym (append-nil level.right)
 right_nodes-push (first ∷ levels) level =
     ap (λ (l : List Node). l ++ first.right) (right_nodes-push levels level) ∙ append_assoc level.right (right_nodes levels) first.right
-
-pub IsOpen-none : IsOpen [] [] [] []
-IsOpen-none = record { counts_are = refl; lefts_are = refl; rights_are = refl }
 
 pub IsOpen-push : (counts : List (ℕ × ℕ)) (lefts rights : List Node) (levels : List Level) (level : Level) → IsOpen counts lefts rights levels →
     IsOpen (counts ++ count_of level ∷ []) (lefts ++ level.left) (rights ++ reverse level.right) (levels ++ level ∷ [])

@@ -54,9 +54,6 @@ module _ (at_start at_end : Bool) where
   module _ (xs ys : List Level) where
     -- ---- levels
 
-    pub JoinsBelow-none : (counts : List (ℕ × ℕ)) (lefts rights : List Node) → IsOpen counts lefts rights [] → JoinsBelow at_start at_end xs ys xs [] ys counts lefts rights
-    JoinsBelow-none counts lefts rights none = record { levels = []; open_levels = none; completed = λ top h. h }
-
     pub JoinsBelow-step : (rest_x rest_y : List Level) (carry left middle right parents : List Node) (counts : List (ℕ × ℕ)) (lefts rights : List Node)
         (h : JoinsBelow at_start at_end xs ys rest_x carry rest_y counts lefts rights) →
         IsJoinSplit at_start at_end rest_x rest_y (between rest_x carry rest_y) left middle right → AreParents parent middle parents →

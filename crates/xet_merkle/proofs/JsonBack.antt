@@ -1,18 +1,19 @@
--- A JSON value says at most one subtree, and the object of a well formed subtree says it and breaks no rule. Rests on
--- JsonLaws, RuleLaws and FlatLevelLaws.
-use Rattle.std.proofs.Common.{◌≡◌, ℕ, ◌+◌, ◌<◌, ◌^◌, Bool, List, [], ◌∷◌, map, refl, sym, ap, subst, ◌∙◌, arith}
+-- A JSON value says at most one subtree, and parts that a well formed subtree has break no rule; so its object says it.
+-- Rests on JsonLaws, RuleLaws and FlatLevelLaws.
+use Rattle.std.proofs.Common.{◌≡◌, ℕ, ◌+◌, ◌<◌, ◌^◌, Bool, List, [], ◌∷◌, map, Some, None, codes, refl, sym, ap, subst, ◌∙◌, arith}
 use Rattle.std.specs.List.{AllZip, AllByRecursion}
 use Rattle.std.specs.Str.{str_to_ascii_lowercase}
 use Rattle.std.proofs.lemmas.List.{length-map}
 use Rattle.std.proofs.lemmas.List.Sums.{sum_by-cons}
-use Rattle.serde_json.specs.Data.{Data}
+use Rattle.serde_json.specs.Data.{Data, null, boolean, number, string, array, object}
+use Rattle.serde_json.specs.Find.{get, as_object}
 use Rattle.serde_json.specs.View.{items_of}
 use Rattle.xet_hash.specs.Hash.{IsHash, IsHexText, hex_text}
 use Rattle.xet_merkle.specs.Groups.{Node}
 use Rattle.xet_merkle.specs.Canonical.{Level}
 use Rattle.xet_merkle.specs.Subtree.{Subtree, node_count, levels_size}
 use Rattle.xet_merkle.specs.WellFormed.{IsWellFormed}
-use Rattle.xet_merkle.specs.FlatLevels.{count_of, flat_nodes, levels_of}
+use Rattle.xet_merkle.specs.FlatLevels.{count_of, flat_nodes, levels_of, IsFlat}
 use Rattle.xet_merkle.specs.SubtreeJson.{node_json, counts_json, number_json, subtree_json}
 use Rattle.xet_merkle.specs.JsonParts.{ReadsNode, ReadsCounts, HasMembers, ReadsParts, BreaksPartRule, whole}
 use Rattle.xet_merkle.specs.JsonParts.BreaksPartRule.{no_object, no_members, no_nodes, no_levels}
@@ -48,6 +49,14 @@ value_kept subtree rule h fits (of_levels some sum small broken) =
     (subst (λ (l : List Level). BreaksLevelRule subtree.at_start subtree.at_end l rule) (levels_of-flat subtree.levels) broken)
 
 -- ---- one subtree for a value
+
+no_member : (json : Data) (name : List ℕ) (member : Data) → as_object json ≡ None → get name json ≡ Some member → ⊥
+no_member null name member e found = let clash : ⊥ = cc in clash
+no_member (boolean b) name member e found = let clash : ⊥ = cc in clash
+no_member (number n) name member e found = let clash : ⊥ = cc in clash
+no_member (string s) name member e found = let clash : ⊥ = cc in clash
+no_member (array items) name member e found = let clash : ⊥ = cc in clash
+no_member (object entries) name member e found = let clash : ⊥ = cc in clash
 
 one_list : {X : Type 0} (Reads : Data → X → Type 0) → ((value : Data) (x y : X) → Reads value x → Reads value y → x ≡ y) →
     (values : List Data) (xs ys : List X) → AllZip Reads values xs → AllZip Reads values ys → xs ≡ ys
@@ -118,6 +127,41 @@ module _ (apart : (a b : List ℕ) → IsHash a → IsHash b → hex_text a ≡ 
       ∙ levels_of-IsFlat k.counts k.nodes b.levels k.flat in
       λ i. record { at_start = same.same_start i; at_end = same.same_end i; levels = levels i }
 
+  -- ---- parts that a well formed subtree has
+
+  module _ (json : Data) (start end : Bool) (counts : List (ℕ × ℕ)) (nodes : List Node) (parts : ReadsParts json start end counts nodes) where
+    parts_kept : (rule : ℕ) → BreaksPartRule json rule → ⊥
+    parts_kept rule (no_object e) = no_member json (codes "at_start") _ e parts.members.start_is
+    parts_kept rule (no_members e none) = none _ _ _ _ parts.members
+    parts_kept rule (no_nodes {at_start} {at_end} {levels} {node_values} members none) =
+        let same = one_members json at_start at_end start end levels node_values _ _ members parts.members in
+        none nodes (subst (λ (values : List Data). AllZip ReadsNode values nodes) (sym same.3) parts.nodes_are)
+    parts_kept rule (no_levels {at_start} {at_end} {level_values} {node_values} _ members read none) =
+        let same = one_members json at_start at_end start end level_values node_values _ _ members parts.members in
+        none counts (subst (λ (values : List Data). AllZip ReadsCounts values counts) (sym same.2) parts.counts_are)
+
+    all_kept : ((rule : ℕ) → BreaksValueRule start end counts nodes rule → ⊥) → (rule : ℕ) → BreaksRule json rule → ⊥
+    all_kept kept rule (of_parts broken) = parts_kept rule broken
+    all_kept kept _ (of_value {rule} {at_start} {at_end} {counts = others} {nodes = other_nodes} other_parts broken) =
+        let same = one_parts json at_start at_end start end others counts other_nodes nodes other_parts parts in
+        let first = subst (λ (s : Bool). BreaksValueRule s at_end others other_nodes rule) same.same_start broken in
+        let second = subst (λ (e : Bool). BreaksValueRule start e others other_nodes rule) same.same_end first in
+        let third = subst (λ (c : List (ℕ × ℕ)). BreaksValueRule start end c other_nodes rule) same.same_counts second in
+        kept rule (subst (λ (n : List Node). BreaksValueRule start end counts n rule) same.same_nodes third)
+
+  pub Reads-parts : (json : Data) (subtree : Subtree) (counts : List (ℕ × ℕ)) (nodes : List Node) → ReadsParts json subtree.at_start subtree.at_end counts nodes →
+      IsFlat counts nodes subtree.levels → IsWellFormed subtree → levels_size subtree.levels < 2 ^ 64 → Reads json subtree
+  Reads-parts json subtree counts nodes parts flat well_formed fits = record {
+    counts = counts;
+    nodes = nodes;
+    parts = parts;
+    flat = flat;
+    kept = all_kept json subtree.at_start subtree.at_end counts nodes parts (λ rule broken.
+        value_kept subtree rule well_formed fits
+        (subst (λ (n : List Node). BreaksValueRule subtree.at_start subtree.at_end (map count_of subtree.levels) n rule) flat.nodes_are
+        (subst (λ (c : List (ℕ × ℕ)). BreaksValueRule subtree.at_start subtree.at_end c nodes rule) flat.counts_are broken)));
+  }
+
   -- ---- the object of a subtree
 
   module _ (digits : (words : List ℕ) → IsHash words → IsHexText (hex_text words))
@@ -157,30 +201,8 @@ module _ (apart : (a b : List ℕ) → IsHash a → IsHash b → hex_text a ≡ 
       nodes_are = reads_nodes (flat_nodes subtree.levels) h;
     }
 
-    pub object_says : (subtree : Subtree) → AreHashes (flat_nodes subtree.levels) → Reads (subtree_json subtree) subtree
-    object_says subtree h = record {
-      counts = map count_of subtree.levels;
-      nodes = flat_nodes subtree.levels;
-      parts = object_parts subtree h;
-      flat = record { counts_are = refl; nodes_are = refl };
-    }
-
-    parts_kept : (subtree : Subtree) (rule : ℕ) → AreHashes (flat_nodes subtree.levels) → BreaksPartRule (subtree_json subtree) rule → ⊥
-    parts_kept subtree rule h (no_object e) = absurd (let clash : ⊥ = cc in clash)
-    parts_kept subtree rule h (no_members e none) = none _ _ _ _ (object_members subtree)
-    parts_kept subtree rule h (no_nodes {at_start} {at_end} {levels} {node_values} members none) =
-        let same = one_members (subtree_json subtree) at_start at_end subtree.at_start subtree.at_end levels node_values _ _ members (object_members subtree) in
-        none (flat_nodes subtree.levels) (subst (λ (values : List Data). AllZip ReadsNode values (flat_nodes subtree.levels)) (sym same.3) (reads_nodes (flat_nodes subtree.levels) h))
-    parts_kept subtree rule h (no_levels {at_start} {at_end} {level_values} {node_values} nodes members read none) =
-        let same = one_members (subtree_json subtree) at_start at_end subtree.at_start subtree.at_end level_values node_values _ _ members (object_members subtree) in
-        none (map count_of subtree.levels) (subst (λ (values : List Data). AllZip ReadsCounts values (map count_of subtree.levels)) (sym same.2) (reads_counts (map count_of subtree.levels)))
-
-    pub object_kept : (subtree : Subtree) (rule : ℕ) → AreHashes (flat_nodes subtree.levels) → IsWellFormed subtree → levels_size subtree.levels < 2 ^ 64 →
-        BreaksRule (subtree_json subtree) rule → ⊥
-    object_kept subtree rule h well_formed fits (of_parts broken) = parts_kept subtree rule h broken
-    object_kept subtree _ h well_formed fits (of_value {rule} {at_start} {at_end} {counts} {nodes} parts broken) =
-        let same = one_parts (subtree_json subtree) at_start at_end subtree.at_start subtree.at_end counts (map count_of subtree.levels) nodes (flat_nodes subtree.levels) parts (object_parts subtree h) in
-        let first = subst (λ (s : Bool). BreaksValueRule s at_end counts nodes rule) same.same_start broken in
-        let second = subst (λ (e : Bool). BreaksValueRule subtree.at_start e counts nodes rule) same.same_end first in
-        let third = subst (λ (c : List (ℕ × ℕ)). BreaksValueRule subtree.at_start subtree.at_end c nodes rule) same.same_counts second in
-        value_kept subtree rule well_formed fits (subst (λ (n : List Node). BreaksValueRule subtree.at_start subtree.at_end (map count_of subtree.levels) n rule) same.same_nodes third)
+    pub Reads-object : (subtree : Subtree) → AreHashes (flat_nodes subtree.levels) → IsWellFormed subtree → levels_size subtree.levels < 2 ^ 64 →
+        Reads (subtree_json subtree) subtree
+    Reads-object subtree hashes well_formed fits =
+        Reads-parts (subtree_json subtree) subtree (map count_of subtree.levels) (flat_nodes subtree.levels) (object_parts subtree hashes)
+        (record { counts_are = refl; nodes_are = refl }) well_formed fits

@@ -12,9 +12,6 @@ use Rattle.xet_merkle.proofs.CanonicalLaws.{IsCanonicalBy-unique}
 abbrev joined_lists : List (List Node) → List Node
 joined_lists lists = flat_map (λ (list : List Node). list) lists
 
-pub MergesTo-none : (ranges : List Subtree) → NoMarkBetween ranges → MergesTo ranges ranges
-MergesTo-none ranges marks = record { marks = marks; start = refl; end = refl; size = refl; canonical = λ lists h. (lists, h, refl) }
-
 -- ---- the first two ranges of several, merged
 
 module _ (front back merged : Subtree) (h : IsMerged front back merged) where
@@ -57,12 +54,6 @@ merged_list : (merged : Subtree) (joined : List (List Node)) (nodes : List Node)
 merged_list merged [] nodes all e = elim all [ ]
 merged_list merged (list ∷ []) nodes all e = subst (IsCanonical merged) (sym (append-nil list) ∙ e) all.0
 merged_list merged (list ∷ next ∷ lists) nodes all e = elim all.1 [ ]
-
-pub MergesTo-all : (ranges : List Subtree) (merged : Subtree) → MergesTo ranges (merged ∷ []) →
-    (lists : List (List Node)) → AreCanonical ranges lists → IsCanonical merged (joined_lists lists)
-MergesTo-all ranges merged h lists all =
-    let one = h.canonical lists all in
-    merged_list merged one.0 (joined_lists lists) one.1 one.2
 
 -- ---- in any order
 

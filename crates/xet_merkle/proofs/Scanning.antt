@@ -17,9 +17,6 @@ abbrev pub MadeSoFar : (List Node → Node) → List Node → List Node → List
 MadeSoFar make nodes made rest = (groups : List (List Node)) → Groups rest groups → AreParents make nodes (made ++ map make groups)
 
 module _ (make : List Node → Node) (nodes : List Node) where
-  pub MadeSoFar-none : MadeSoFar make nodes [] nodes
-  MadeSoFar-none = λ groups cutting. (groups, cutting, refl)
-
   pub MadeSoFar-more : (made rest : List Node) (n : ℕ) → IsFirstGroup (take n rest) (drop n rest) → MadeSoFar make nodes made rest →
       MadeSoFar make nodes (made ++ make (take n rest) ∷ []) (drop n rest)
   MadeSoFar-more made rest n first so_far = λ groups cutting.

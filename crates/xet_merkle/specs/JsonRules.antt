@@ -8,13 +8,6 @@ use Rattle.xet_merkle.specs.FlatLevels.{levels_of, IsFlat}
 use Rattle.xet_merkle.specs.JsonParts.{ReadsParts, BreaksPartRule}
 use Rattle.xet_merkle.specs.LevelRules.{BreaksLevelRule}
 
--- a value says a subtree: its marks, its counts and its nodes are those of the subtree
-pub record Reads (json : Data) (subtree : Subtree) : Type 0 where
-  pub counts : List (ℕ × ℕ)
-  pub nodes : List Node
-  pub parts : ReadsParts json subtree.at_start subtree.at_end counts nodes
-  pub flat : IsFlat counts nodes subtree.levels
-
 -- the sum of all counts
 abbrev pub count_sum : List (ℕ × ℕ) → ℕ
 count_sum counts = sum_by (λ count. count.0 + count.1) counts
@@ -33,3 +26,11 @@ pub data BreaksRule (json : Data) : ℕ → Type 0 where
   of_parts : {rule : ℕ} → BreaksPartRule json rule → BreaksRule json rule
   of_value : {rule : ℕ} {at_start at_end : Bool} {counts : List (ℕ × ℕ)} {nodes : List Node} → ReadsParts json at_start at_end counts nodes →
       BreaksValueRule at_start at_end counts nodes rule → BreaksRule json rule
+
+-- a value says a subtree: its marks, its counts and its nodes are those of the subtree, and it breaks no rule
+pub record Reads (json : Data) (subtree : Subtree) : Type 0 where
+  pub counts : List (ℕ × ℕ)
+  pub nodes : List Node
+  pub parts : ReadsParts json subtree.at_start subtree.at_end counts nodes
+  pub flat : IsFlat counts nodes subtree.levels
+  pub kept : (rule : ℕ) → ¬ (BreaksRule json rule)

@@ -28,7 +28,7 @@ const FIRST_CUT_INDEX: usize = 2;
 const MAX_LINE_LEN: usize = 88;
 
 // The most bytes of a group's text.
-const MAX_TEXT_LEN: usize = 792;
+const MAX_TEXT_LEN: usize = MAX_GROUP_LEN * MAX_LINE_LEN;
 
 /// A node of the tree over a list of chunks: its hash, and its size in bytes.
 pub type Node = (MerkleHash, u64);
@@ -38,7 +38,7 @@ pub type Node = (MerkleHash, u64);
 pub(crate) fn is_natural_cut(node: &Node) -> bool
     ensures { result ≡ is_cut node.now }
 {
-    node.0.words()[3] % AGGREGATED_HASHES_MEAN_TREE_BRANCHING_FACTOR == 0
+    node.0 % AGGREGATED_HASHES_MEAN_TREE_BRANCHING_FACTOR == 0
 }
 
 // How many nodes the first group of some nodes has.

@@ -113,8 +113,7 @@ pub fn empty_range_is_neutral()
         IsCanonical range nodes → IsCanonical empty [] → empty.at_start ≡ false → IsMerged empty range merged → merged ≡ range }
 {}
 
-/// A JSON value says at most one subtree. So what `to_json` answers is read back as its subtree, memory apart: it
-/// says that subtree and breaks no rule.
+/// A JSON value says at most one subtree. So what `to_json` answers is read back as its subtree, memory apart.
 pub fn json_says_one_subtree()
     ensures { (json : Data) (a b : Subtree) → Reads json a → Reads json b → a ≡ b }
 {

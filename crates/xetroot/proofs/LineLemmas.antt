@@ -16,9 +16,6 @@ FirstLine text begun = (more : List ℕ) × (after : List (List ℕ)) × (lines_
 not_newline : (byte : ℕ) → byte ≢ newline → (byte == newline) ≡ false
 not_newline byte h = grind (arith, nat_tests)
 
-lines_of-newline : (text : List ℕ) → lines_of (newline ∷ text) ≡ (newline ∷ []) ∷ lines_of text
-lines_of-newline text = refl
-
 lines_of-byte : (byte : ℕ) (text : List ℕ) → byte ≢ newline → lines_of (byte ∷ text) ≡ onto_first byte (lines_of text)
 lines_of-byte byte text h = rw (not_newline byte h) refl
 

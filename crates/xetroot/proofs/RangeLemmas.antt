@@ -1,6 +1,5 @@
 -- What ranges hold after a pair, after the end of a range, and in all.
-use Rattle.std.proofs.Common.{◌≡◌, ◌+◌, ◌<◌, ◌^◌, true, false, List, [], ◌∷◌, ◌++◌, sym, ap, subst, ◌∙◌, arith, append_assoc, append-nil}
-use Rattle.std.proofs.lemmas.List.Sums.{sum_by-append}
+use Rattle.std.proofs.Common.{◌≡◌, true, false, List, [], ◌++◌, sym, ap, subst, ◌∙◌, append-nil}
 use Rattle.xet_merkle.specs.Groups.{Node}
 use Rattle.xet_merkle.specs.Subtree.{Subtree, IsCanonical}
 use Rattle.xet_merkle.specs.Merging.{IsMerged}
@@ -8,23 +7,6 @@ use Rattle.xetroot.specs.declared.ranges.Ranges.{Ranges}
 use Rattle.xetroot.specs.Ranges.{HoldPairs}
 
 module _ {A : Type 0} (old new : Ranges A) (pairs : List Node) (h : HoldPairs old pairs) where
-  pub HoldPairs-push : (pair : Node) → new.ended ≡ old.ended → new.range.items ≡ old.range.items ++ pair ∷ [] → new.total ≡ old.total + pair.1 → new.total < 2 ^ 64 →
-      HoldPairs new (pairs ++ pair ∷ [])
-  HoldPairs-push pair ended range total fits =
-      let size = sum_by-append (λ (node : Node). node.1) pairs (pair ∷ []) in
-      let is = h.total_is in record {
-        before = h.before;
-        canonical = subst (λ (t : Subtree). IsCanonical t h.before) (sym ended) h.canonical;
-        start = ap (λ (t : Subtree). t.at_start) ended ∙ h.start;
-        no_end = ap (λ (t : Subtree). t.at_end) ended ∙ h.no_end;
-        parts =
-            ap (λ (l : List Node). l ++ pair ∷ []) h.parts
-            ∙ append_assoc h.before old.range.items (pair ∷ [])
-            ∙ ap (λ (l : List Node). h.before ++ l) (sym range);
-        total_is = omega arith;
-        fits = omega arith;
-      }
-
   pub HoldPairs-ended : (range : Subtree) → IsCanonical range old.range.items → IsMerged old.ended range new.ended → range.at_end ≡ false → new.range.items ≡ [] → new.total ≡ old.total →
       HoldPairs new pairs
   HoldPairs-ended range canonical merged no_end none total = record {

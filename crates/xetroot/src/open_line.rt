@@ -38,17 +38,6 @@ impl OpenLine {
         OpenLine::Text(ArrayVec::new())
     }
 
-    /// Leaves a line without a byte.
-    pub fn clear(&mut self)
-        ensures { IsOpenLine self.new [] }
-    {
-        if let OpenLine::Text(text) = self {
-            text.clear();
-        } else {
-            *self = OpenLine::new();
-        }
-    }
-
     /// Whether the line has no byte.
     pub fn is_empty(&self) -> bool
         ensures { (line : List ℕ) → IsOpenLine self.now line → result ≡ (length line == 0) }
@@ -66,7 +55,9 @@ impl OpenLine {
         ensures overlong { OnErr result ((line : List ℕ) →
             IsOpenLine self.old line → IsOverlong (line ++ bytes.now)) }
     {
-        if let (true, Some(chunk)) = (self.is_empty(), bytes.strip_prefix(b"+")) {
+        if self.is_empty()
+            && let Some(chunk) = bytes.strip_prefix(b"+")
+        {
             let mut hasher = Hasher::new_keyed(&DATA_KEY);
             hasher.update(chunk);
             *self = OpenLine::Chunk(hasher);

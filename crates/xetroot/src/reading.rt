@@ -119,7 +119,7 @@ impl<A: Allocator + Clone> Reading<A> {
         ensures not_write { IfErr result (λ fault. fault ≢ Fault.Write) }
     {
         self.add_line()?;
-        self.line.clear();
+        self.line = OpenLine::new();
         self.count = self.count.saturating_add(1);
         self.number = self.number.saturating_add(1);
         Ok(())

@@ -76,17 +76,14 @@ fn read<R: Read>(r: &mut R, buffer: &mut [u8]) -> Result<usize, Fault>
     ensures end { IfOk result (λ n. n ≡ 0 → 0 < length buffer.new → IsAtEnd (R.remaining r.new)) }
     ensures fault { IfErr result (λ fault. fault ≡ Fault.Read) }
 {
-    'repeats: for _ in 0..MAX_REPEATS {
+    'repeats: for _ in 0..=MAX_REPEATS {
         match r.read(buffer) {
             Ok(n) => return Ok(n),
             Err(error) if error.kind() == ErrorKind::Interrupted => {}
             Err(_) => return Err(Fault::Read),
         }
     }
-    match r.read(buffer) {
-        Ok(n) => Ok(n),
-        Err(_) => Err(Fault::Read),
-    }
+    Err(Fault::Read)
 }
 
 // The two lines of output.
@@ -132,7 +129,7 @@ fn write<W: Write>(w: &mut W, bytes: &[u8]) -> Result<usize, Fault>
     ensures fault { IfErr result (λ fault. fault ≡ Fault.Write) }
     ensures unwritten { OnErr result (Keeps (W.contents w.old) (W.contents w.new)) }
 {
-    'repeats: for _ in 0..MAX_REPEATS {
+    'repeats: for _ in 0..=MAX_REPEATS {
         match w.write(bytes) {
             Ok(0) => return Err(Fault::Write),
             Ok(n) => return Ok(n),
@@ -140,25 +137,19 @@ fn write<W: Write>(w: &mut W, bytes: &[u8]) -> Result<usize, Fault>
             Err(_) => return Err(Fault::Write),
         }
     }
-    match w.write(bytes) {
-        Ok(0) | Err(_) => Err(Fault::Write),
-        Ok(n) => Ok(n),
-    }
+    Err(Fault::Write)
 }
 
 fn flush<W: Write>(w: &mut W) -> Result<(), Fault>
     ensures contents { Keeps (W.contents w.old) (W.contents w.new) }
     ensures fault { IfErr result (λ fault. fault ≡ Fault.Write) }
 {
-    'repeats: for _ in 0..MAX_REPEATS {
+    'repeats: for _ in 0..=MAX_REPEATS {
         match w.flush() {
             Ok(()) => return Ok(()),
             Err(error) if error.kind() == ErrorKind::Interrupted => {}
             Err(_) => return Err(Fault::Write),
         }
     }
-    match w.flush() {
-        Ok(()) => Ok(()),
-        Err(_) => Err(Fault::Write),
-    }
+    Err(Fault::Write)
 }

@@ -24,7 +24,7 @@ struct CutScan {
 pub(super) fn is_stable_gap(between: usize) -> bool
     ensures { result ≡ is_stable_gap between }
 {
-    2 <= between && between <= 6
+    (2..=6).contains(&between)
 }
 
 impl CutScan {

@@ -84,7 +84,7 @@ impl<A: Allocator + Clone> MerkleHashSubtree<A> {
         };
         let mut levels = OpenLevels::new(alloc.clone()?)?;
         levels.collapse_all(alloc, chunks, at_start, at_end)?;
-        Ok(Self::close(levels, at_start, at_end, size)?)
+        Ok(Self::from_open_levels(levels, at_start, at_end, size)?)
     }
 
     /// A copy. It fails with [`CoreError::OutOfMemory`] where an allocation is refused.
@@ -113,8 +113,8 @@ impl<A: Allocator + Clone> MerkleHashSubtree<A> {
         })
     }
 
-    // The subtree of levels that two operands are joined to.
-    fn close(
+    // The subtree of levels that are complete: those that two operands are joined to.
+    fn from_open_levels(
         levels: OpenLevels<A>,
         at_start: bool,
         at_end: bool,

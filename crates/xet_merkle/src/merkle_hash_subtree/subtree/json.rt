@@ -6,6 +6,8 @@ ghost use Rattle.serde_json.specs.Data.{array};
 ghost use Rattle.serde_json.specs.View.{view, items_of};
 ghost use Rattle.xet_hash.specs.Hash.{IsHash};
 ghost use Rattle.xet_merkle.specs.Groups.{Node};
+ghost use Rattle.xet_merkle.specs.Subtree.{levels_size};
+ghost use Rattle.xet_merkle.specs.WellFormed.{IsWellFormed};
 ghost use Rattle.xet_merkle.specs.FlatLevels.{IsFlat};
 ghost use Rattle.xet_merkle.specs.JsonRules.{count_sum, Reads, BreaksValueRule, BreaksRule};
 ghost use Rattle.xet_merkle.specs.declared.error.CoreError.TheVariants.{InvalidJson};
@@ -72,10 +74,7 @@ fn count_sum(counts: &[(usize, usize)]) -> Option<usize>
 fn add_up(counts: &[(usize, usize)], len: usize) -> bool
     ensures { IsTrue result ↔ (count_sum counts.now ≡ len) }
 {
-    match count_sum(counts) {
-        Some(sum) => sum == len,
-        None => false,
-    }
+    count_sum(counts) == Some(len)
 }
 
 impl<A: Allocator + Clone> MerkleHashSubtree<A> {
@@ -109,6 +108,8 @@ impl<A: Allocator + Clone> MerkleHashSubtree<A> {
         ensures rule { IfErr result (λ e. (e ≡ CoreError.OutOfMemory)
             ⊎ ((rule : ℕ) × (e ≡ InvalidJson rule) × BreaksRule (view value.now) rule)) }
     {
+        // A law of hex texts, for the clause `reads`.
+        hex_text_tells_hashes_apart();
         Ok(Self::from_parts(read_parts(alloc, value)?)?)
     }
 
@@ -117,6 +118,8 @@ impl<A: Allocator + Clone> MerkleHashSubtree<A> {
         ensures start { IfOk result (λ subtree. subtree.at_start ≡ parts.at_start) }
         ensures end { IfOk result (λ subtree. subtree.at_end ≡ parts.at_end) }
         ensures flat { IfOk result (λ subtree. IsFlat parts.counts.items parts.nodes.items subtree.levels) }
+        ensures well_formed { IfOk result IsWellFormed }
+        ensures fits { IfOk result (λ subtree. levels_size subtree.levels < 2 ^ 64) }
         ensures rule { IfErr result (λ e. (rule : ℕ) × (e ≡ InvalidJson rule)
             × BreaksValueRule parts.at_start parts.at_end parts.counts.items parts.nodes.items rule) }
     {
@@ -158,12 +161,11 @@ impl<A: Allocator> MerkleHashSubtree<A> {
     pub fn to_json(&self, alloc: Global) -> Result<Value, CoreError>
         ensures json { IfOk result (λ value. view value ≡ subtree_json self.now) }
         ensures says { IfOk result (λ value. Reads (view value) self.now) }
-        ensures kept { IfOk result (λ value. (rule : ℕ) → ¬ (BreaksRule (view value) rule)) }
         ensures errors { IfErr result (λ e. e ≡ CoreError.OutOfMemory) }
     {
         let levels = counts_to_json(alloc, &self.counts)?;
         let nodes = nodes_to_json(alloc, &self.nodes)?;
-        // Laws of hex texts, for the clauses `says` and `kept`.
+        // Laws of hex texts, for the clause `says`.
         hex_text_is_lowercase_digits();
         hex_text_tells_hashes_apart();
         Ok(object_of(alloc, self.at_start, self.at_end, levels, nodes)?)

@@ -69,7 +69,7 @@ impl<A: Allocator + Clone> MerkleHashSubtree<A> {
             self.at_start(),
             other.at_end(),
         )?;
-        *self = Self::close(levels, self.at_start(), other.at_end(), size)?;
+        *self = Self::from_open_levels(levels, self.at_start(), other.at_end(), size)?;
         Ok(())
     }
 

@@ -35,7 +35,7 @@ returns-clause-taken g c = λ text within taken.
       line = [];
       held = more.1;
       stands = rw number stands;
-      open_line = c.clear.ensures;
+      open_line = c.new-self.ensures;
       count_is = count ∙ sym (length-append text (newline ∷ []));
       within = omega (arith, length-append text (newline ∷ []));
     }

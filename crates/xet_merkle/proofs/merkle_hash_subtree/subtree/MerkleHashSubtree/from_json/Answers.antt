@@ -1,6 +1,9 @@
-use Rattle.std.proofs.Common.{inl, inr}
+use Rattle.std.proofs.Common.{Bool, inl, inr, sym, subst}
+use Rattle.serde_json.specs.View.{view}
+use Rattle.xet_merkle.specs.JsonParts.{ReadsParts}
 use Rattle.xet_merkle.specs.JsonRules.BreaksRule.{of_parts, of_value}
 use Rattle.xet_merkle.proofs.JsonLaws.{passed_on}
+use Rattle.xet_merkle.proofs.JsonBack.{Reads-parts}
 use Rattle.xet_merkle.proofs.merkle_hash_subtree.subtree.MerkleHashSubtree.from_json.Goals as goal
 
 pub returns-in_err-read_parts-clause-rule : goal.returns-in_err-read_parts-clause-rule
@@ -15,3 +18,12 @@ returns-in_err-from_parts-clause-rule g c =
     let broken = c.in_err-from_parts.ensures.rule in
     passed_on _ c.from_residual-in_err-from_parts.result c.in_err-from_parts.field-0.0 c.from_residual-in_err-from_parts.ensures.1
     (inr (broken.0, broken.1, of_value c.in_ok-read_parts.ensures.parts broken.2))
+
+pub returns-clause-reads : goal.returns-clause-reads
+returns-clause-reads g c =
+    let json = view c.args.value.now in
+    let said = c.in_ok-read_parts.field-0 in
+    let subtree = c.in_ok-from_parts.field-0 in
+    let from_start = subst (λ (b : Bool). ReadsParts json b said.at_end said.counts.items said.nodes.items) (sym c.in_ok-from_parts.ensures.start) c.in_ok-read_parts.ensures.parts in
+    let parts = subst (λ (b : Bool). ReadsParts json subtree.at_start b said.counts.items said.nodes.items) (sym c.in_ok-from_parts.ensures.end) from_start in
+    Reads-parts c.hex_text_tells_hashes_apart.ensures json subtree _ _ parts c.in_ok-from_parts.ensures.flat c.in_ok-from_parts.ensures.well_formed c.in_ok-from_parts.ensures.fits

@@ -10,6 +10,7 @@ use Rattle.xet_merkle.specs.LevelRules.{BreaksLevelRule}
 use Rattle.xet_merkle.specs.JsonRules.{count_sum}
 use Rattle.xet_merkle.specs.JsonRules.BreaksValueRule.{no_level, wrong_counts, sizes_pass, of_levels}
 use Rattle.xet_merkle.proofs.FlatLevelLaws.{IsFlat-from_sum}
+use Rattle.xet_merkle.proofs.StoredLevels.{stored_size}
 use Rattle.xet_merkle.proofs.merkle_hash_subtree.subtree.MerkleHashSubtree.from_parts.Goals as goal
 
 pub returns-then-is_empty-clause-rule : goal.returns-then-is_empty-clause-rule
@@ -69,3 +70,8 @@ invariant_of-result g c =
       size_is = size ∙ ap total_size c.deref-2.ensures.value;
       fits = subst (λ (n : ℕ). n < 2 ^ 64) (sym size) fits;
     }
+
+pub returns-clause-fits : goal.returns-clause-fits
+returns-clause-fits g c =
+    let stored = invariant_of-result g c in
+    subst (λ (n : ℕ). n < 2 ^ 64) (stored_size _ _ _ _ _ stored) stored.fits

@@ -5,8 +5,8 @@ use Rattle.xet_merkle.specs.OpenLevels.{StandsFor}
 use Rattle.xet_merkle.proofs.Joined.{operands_from, merged_canonical}
 use Rattle.xet_merkle.proofs.merkle_hash_subtree.subtree.MerkleHashSubtree.merge_into.Goals as goal
 
-pub close-requires : goal.close-requires
-close-requires g c =
+pub from_open_levels-requires : goal.from_open_levels-requires
+from_open_levels-requires g c =
     let front = c.args.self.now in
     let back = c.args.other.now in
     let no_end : front.at_end ≡ false = search rules in

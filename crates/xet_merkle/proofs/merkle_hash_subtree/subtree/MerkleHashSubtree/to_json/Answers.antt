@@ -6,8 +6,8 @@ use Rattle.xet_merkle.specs.Subtree.{Subtree, levels_size}
 use Rattle.xet_merkle.specs.WellFormed.{IsWellFormed}
 use Rattle.xet_merkle.specs.FlatLevels.{count_of, flat_nodes}
 use Rattle.xet_merkle.specs.SubtreeJson.{node_json, counts_json, subtree_object}
-use Rattle.xet_merkle.specs.JsonRules.{Reads, BreaksRule}
-use Rattle.xet_merkle.proofs.JsonBack.{AreHashes, object_says, object_kept}
+use Rattle.xet_merkle.specs.JsonRules.{Reads}
+use Rattle.xet_merkle.proofs.JsonBack.{AreHashes, Reads-object}
 use Rattle.xet_merkle.proofs.StoredLevels.{stored_size}
 use Rattle.xet_merkle.proofs.merkle_hash_subtree.subtree.MerkleHashSubtree.to_json.Given as given
 use Rattle.xet_merkle.proofs.merkle_hash_subtree.subtree.MerkleHashSubtree.to_json.Goals as goal
@@ -30,14 +30,7 @@ returns-clause-json g c =
 
 pub returns-clause-says : goal.returns-clause-says
 returns-clause-says g c =
-    subst (λ (value : Data). Reads value c.args.self.now) (sym (returns-clause-json g c))
-    (object_says c.hex_text_tells_hashes_apart.ensures c.hex_text_is_lowercase_digits.ensures.digits c.hex_text_is_lowercase_digits.ensures.lowercase
-    c.args.self.now (hashes_are g c))
-
-pub returns-clause-kept : goal.returns-clause-kept
-returns-clause-kept g c = λ rule broken.
     let size = stored_size _ _ _ _ _ c.self.invariant ∙ ap (λ (s : Subtree). levels_size s.levels) c.self.view_is in
-    let fits : levels_size c.args.self.now.levels < 2 ^ 64 = subst (λ (n : ℕ). n < 2 ^ 64) size c.self.invariant.fits in
-    object_kept c.hex_text_tells_hashes_apart.ensures c.hex_text_is_lowercase_digits.ensures.digits c.hex_text_is_lowercase_digits.ensures.lowercase
-    c.args.self.now rule (hashes_are g c) (subst IsWellFormed c.self.view_is c.self.invariant.well_formed) fits
-    (subst (λ (value : Data). BreaksRule value rule) (returns-clause-json g c) broken)
+    subst (λ (value : Data). Reads value c.args.self.now) (sym (returns-clause-json g c))
+    (Reads-object c.hex_text_tells_hashes_apart.ensures c.hex_text_is_lowercase_digits.ensures.digits c.hex_text_is_lowercase_digits.ensures.lowercase
+    c.args.self.now (hashes_are g c) (subst IsWellFormed c.self.view_is c.self.invariant.well_formed) (subst (λ (n : ℕ). n < 2 ^ 64) size c.self.invariant.fits))

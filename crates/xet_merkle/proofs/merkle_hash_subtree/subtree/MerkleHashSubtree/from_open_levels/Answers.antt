@@ -1,6 +1,6 @@
 use Rattle.std.proofs.Common.{◌≡◌, ◌++◌, reverse, rules}
 use Rattle.xet_merkle.proofs.Joined.{StandsFor-levels, StandsFor-stored, StandsFor-size}
-use Rattle.xet_merkle.proofs.merkle_hash_subtree.subtree.MerkleHashSubtree.close.Goals as goal
+use Rattle.xet_merkle.proofs.merkle_hash_subtree.subtree.MerkleHashSubtree.from_open_levels.Goals as goal
 
 pub invariant_of-result : goal.invariant_of-result
 invariant_of-result g c =
