@@ -1,3 +1,5 @@
+//! Keyed BLAKE3, the 256-bit hash with its forms, and a map for deduplication, after the module `merklehash` of
+//! the crate `xet-core-structures` 1.5.2.
 #![tactic(auto)]
 
 pub mod blake3;

@@ -4,11 +4,11 @@ use Rattle.std.proofs.Common.{◌≡◌, ℕ, ◌+◌, ◌<◌, Bool, true, fals
 use Rattle.std.proofs.lemmas.List.{map-append}
 use Rattle.xet_merkle.specs.Groups.{Node, Groups}
 use Rattle.xet_merkle.specs.StablePoints.{EndsStable, BeginsStable, NoStable, IsLastStable}
-use Rattle.xet_merkle.specs.Canonical.{Level, IsLow, IsHigh, IsSplit, IsCanonicalBy}
+use Rattle.xet_merkle.specs.Canonical.{Level, IsLow, IsHigh, IsSplit, IsCanonicalBy, no_level}
 use Rattle.xet_merkle.specs.Canonical.IsCanonicalBy.{whole, collapsed}
 use Rattle.xet_merkle.specs.Subtree.{left_at, right_at}
 use Rattle.xet_merkle.specs.StableScan.{IsFront}
-use Rattle.xet_merkle.specs.Joining.{no_level, IsHighBehind, IsLowBefore, IsJoinSplit, IsJoin}
+use Rattle.xet_merkle.specs.Joining.{IsHighBehind, IsLowBefore, IsJoinSplit, IsJoin}
 use Rattle.xet_merkle.specs.Joining.IsJoinSplit.{both, left_alone, right_alone}
 use Rattle.xet_merkle.specs.Joining.IsJoin.{all_in_sight, step}
 use Rattle.xet_merkle.proofs.GroupLaws.{Groups-unique}

@@ -5,12 +5,12 @@ use Rattle.std.proofs.lemmas.List.{length-map}
 use Rattle.xet_merkle.specs.Groups.{Node}
 use Rattle.xet_merkle.specs.Roots.{total_size, parent}
 use Rattle.xet_merkle.specs.Scan.{AreParents}
-use Rattle.xet_merkle.specs.Canonical.{Level, top_nodes, IsCanonicalBy}
+use Rattle.xet_merkle.specs.Canonical.{Level, top_nodes, IsCanonicalBy, no_level}
 use Rattle.xet_merkle.specs.Subtree.{Subtree, IsCanonical, levels_size}
 use Rattle.xet_merkle.specs.WellFormed.{HaveSides, IsWellFormed}
 use Rattle.xet_merkle.specs.FlatLevels.{count_of, levels_of, IsFlat}
 use Rattle.xet_merkle.specs.StoredLevels.{IsStored}
-use Rattle.xet_merkle.specs.Joining.{no_level, above, between, IsJoinSplit, IsJoin}
+use Rattle.xet_merkle.specs.Joining.{above, between, IsJoinSplit, IsJoin}
 use Rattle.xet_merkle.specs.Joining.IsJoinSplit.{both, left_alone, right_alone}
 use Rattle.xet_merkle.specs.Joining.IsJoin.{all_in_sight, step}
 use Rattle.xet_merkle.specs.OpenLevels.{IsOpen, HasCanonical, HasJoin, AreOperands, chunk_level, JoinsBelow, StandsBelow, StandsFor}

@@ -29,6 +29,10 @@ pub record Level : Type 0 where
   pub left : List Node
   pub right : List Node
 
+-- a level without nodes
+abbrev pub no_level : Level
+no_level = record { left = []; right = [] }
+
 -- the nodes of the last of some levels
 abbrev pub top_nodes : List Level → List Node
 top_nodes [] = []

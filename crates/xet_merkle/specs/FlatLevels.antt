@@ -4,17 +4,21 @@ use Rattle.std.specs.Prelude.{◌≡◌, ℕ, ◌-◌, List, [], ◌∷◌, ◌+
 use Rattle.xet_merkle.specs.Groups.{Node}
 use Rattle.xet_merkle.specs.Canonical.{Level}
 
+-- the left nodes of all levels by rising level
 abbrev pub left_nodes : List Level → List Node
 left_nodes [] = []
 left_nodes (level ∷ levels) = level.left ++ left_nodes levels
 
+-- the right nodes of all levels by falling level
 abbrev pub right_nodes : List Level → List Node
 right_nodes [] = []
 right_nodes (level ∷ levels) = right_nodes levels ++ level.right
 
+-- all nodes in the order of the list
 abbrev pub flat_nodes : List Level → List Node
 flat_nodes levels = left_nodes levels ++ right_nodes levels
 
+-- how many left and right nodes a level has
 abbrev pub count_of : Level → ℕ × ℕ
 count_of level = (length level.left, length level.right)
 

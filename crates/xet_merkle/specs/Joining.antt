@@ -3,11 +3,7 @@
 use Rattle.std.specs.Prelude.{◌≡◌, ℕ, ◌+◌, ◌⊎◌, Bool, true, false, List, [], ◌∷◌, ◌++◌, length, map}
 use Rattle.xet_merkle.specs.Groups.{Node, Cut, Groups}
 use Rattle.xet_merkle.specs.StablePoints.{NoStable, IsFirstStable, IsLastStable}
-use Rattle.xet_merkle.specs.Canonical.{Level, IsCanonicalBy}
-
--- a level without nodes
-abbrev pub no_level : Level
-no_level = record { left = []; right = [] }
+use Rattle.xet_merkle.specs.Canonical.{Level, no_level, IsCanonicalBy}
 
 -- the levels above the first; above the top stand no nodes
 abbrev pub above : List Level → List Level

@@ -9,7 +9,7 @@ use thiserror::Error;
 /// Why a call was refused. After a refusal every object that was lent to the call is unchanged.
 #[derive(Clone, Copy, Debug, PartialEq, Eq, Error)]
 pub enum CoreError {
-    /// A mark stands where ranges would be joined.
+    /// A range that another follows is marked at its end, or one that follows another at its start.
     #[error("invalid arguments")]
     InvalidArguments,
     /// The sizes of all nodes add up to more than `u64::MAX` bytes.

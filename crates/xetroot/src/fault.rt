@@ -11,9 +11,10 @@ use xet_merkle::CoreError;
 /// Why [`run`](crate::run::run) was refused.
 #[derive(Clone, Copy, Debug, PartialEq, Eq)]
 pub enum Fault {
-    /// The first faulty line, of this number from 1, is bad.
+    /// The first faulty line, of this number from 1, is bad: it is no pair, chunk or separator, or byte number
+    /// 2^40 + 1 of the input stands in it.
     BadLine(u64),
-    /// With the pair of the first faulty line, of this number from 1, the sizes pass `u64::MAX`.
+    /// The first faulty line, of this number from 1, isn't bad, and with its pair the sizes pass `u64::MAX`.
     Sizes(u64),
     /// An allocation was refused.
     Memory,

@@ -28,8 +28,9 @@ const OUTPUT_LEN: usize = 140;
 /// Reads pair lines to the end of `r`, and then writes the root and the file hash of all pairs, as
 /// `xorb <hex>` and `file <hex>`, to `w`, and flushes it.
 ///
-/// It keeps the subtree of the ranges that are ended, the pairs of the open one, and the open line, each in
-/// little memory. A fault is as [`Fault`] says. After
+/// It keeps the subtree of the ranges that are ended, which is small where stable points come up, the pairs
+/// of the open one, at most 4096, and of the open line no more than the longest pair line has. An input has
+/// at most 2^40 bytes. A fault is as [`Fault`] says. After
 /// `BadLine`, `Sizes`, `Memory` and `Read` nothing was written; after `Write` a beginning of the output
 /// was. How much of the input was read after a fault isn't said.
 pub fn run<R: Read, W: Write>(alloc: impl Allocator, r: &mut R, w: &mut W) -> Result<(), Fault>

@@ -1,5 +1,5 @@
 use Rattle.std.proofs.Common.{[], ◌∷◌, arith}
-use Rattle.xet_merkle.specs.Joining.{no_level}
+use Rattle.xet_merkle.specs.Canonical.{no_level}
 use Rattle.xet_merkle.specs.OpenLevels.{chunk_level}
 use Rattle.xet_merkle.proofs.Joined.{StandsBelow-chunks, chunks_are_operands, chunks_canonical}
 use Rattle.xet_merkle.proofs.merkle_hash_subtree.subtree.MerkleHashSubtree.from_chunks.Goals as goal
