@@ -7,9 +7,11 @@ use Rattle.xet_merkle.specs.Canonical.{Level}
 use Rattle.xet_merkle.specs.Subtree.{left_at, right_at}
 use Rattle.xet_merkle.specs.WellFormed.{IsLeftSide, IsRightSide}
 
+-- the first of some levels, or one without nodes
 abbrev pub first_of : List Level → Level
 first_of levels = record { left = left_at levels 0; right = right_at levels 0 }
 
+-- a level has what is asked for
 abbrev pub HasSide : Side → Level → Type 0
 HasSide NoLeft level = level.left ≡ []
 HasSide NoRight level = level.right ≡ []

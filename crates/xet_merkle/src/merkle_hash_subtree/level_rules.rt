@@ -23,7 +23,9 @@ fn top_len(levels: &Levels) -> usize
 // What each level below the top is asked for.
 #[derive(Clone, Copy)]
 enum Side {
+    // No left nodes.
     NoLeft,
+    // No right nodes.
     NoRight,
     // Nodes that may stay on the left where the start isn't marked.
     Left,
