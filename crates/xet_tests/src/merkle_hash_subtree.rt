@@ -2,6 +2,7 @@
 //! lists.
 
 mod boundaries;
+mod forged;
 mod json;
 mod json_rules;
 mod levels;

@@ -19,8 +19,8 @@ const ONE: &str =
 
 const NONE: &str = "{\"at_end\":true,\"at_start\":true,\"levels\":[[0,0]],\"nodes\":[]}";
 
-// What the JSON value of a text is read as.
-fn read(alloc: Global, text: &str) -> Result<Result<MerkleHashSubtree, CoreError>, Fail> {
+/// What the JSON value of a text is read as.
+pub fn read(alloc: Global, text: &str) -> Result<Result<MerkleHashSubtree, CoreError>, Fail> {
     Ok(MerkleHashSubtree::from_json(alloc, &Value::from_str(alloc, text)?))
 }
 
