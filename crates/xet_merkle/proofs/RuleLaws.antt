@@ -1,6 +1,6 @@
 -- The rules that levels keep, as the code tests them; they are those of well formed levels. Rests on StableLoops
 -- and SideLaws.
-use Rattle.std.proofs.Common.{◌≡◌, ℕ, ◌+◌, ◌<◌, ◌≤◌, ◌↔◌, Bool, true, false, Option, Some, None, IfSome, IfNone, is_some, not, List, [], ◌∷◌, ◌++◌, length, take, drop, get_or, refl, sym, ap, subst, ◌∙◌, arith, append-nil, length-append, length-take}
+use Rattle.std.proofs.Common.{◌≡◌, ℕ, ◌+◌, ◌<◌, ◌≤◌, ◌↔◌, Bool, true, false, Option, Some, None, IfSome, IfNone, is_some, not, List, [], ◌∷◌, ◌++◌, length, take, drop, get_or, refl, sym, ap, subst, ◌∙◌, arith, append-nil, length-take}
 use Rattle.std.proofs.lemmas.Bool.{false≢true}
 use Rattle.std.proofs.lemmas.List.{take-append-drop, drop_more}
 use Rattle.std.specs.List.{AllByRecursion as Each}
@@ -16,7 +16,7 @@ use Rattle.xet_merkle.specs.LevelRules.{below_top, top_of, Rule8, Rule9, Rule10,
 use Rattle.xet_merkle.specs.LevelRules.BreaksLevelRule.{at_8, at_9, at_10, at_11, at_12, at_13}
 use Rattle.xet_merkle.specs.LevelSides.{first_of}
 use Rattle.xet_merkle.proofs.CutPlaces.{not_among, back_of}
-use Rattle.xet_merkle.proofs.StableScan.{HeadIs, IsScanned, gap_parts, gap_from}
+use Rattle.xet_merkle.proofs.StableScan.{EndsStable-head, head_of_stable, HeadIs, IsScanned, gap_parts, gap_from}
 use Rattle.xet_merkle.proofs.StableSearch.{FirstCut, same_first_cut}
 use Rattle.xet_merkle.proofs.SideLaws.{EndsStable-cut}
 
@@ -28,27 +28,17 @@ no_tail head (node ∷ tail) none ends =
     let at = back_of head (node ∷ tail) ends.0 ends.1 (omega arith) ends.2 in
     absurd (not_among (node ∷ tail) at.0 ends.1 [] none at.2 ends.3)
 
-head_ends : (has_cut ends_stable : Bool) (head : List Node) → HeadIs has_cut ends_stable head → EndsStable head → ends_stable ≡ true
-head_ends true true head is ends = refl
-head_ends true false head is ends = absurd (is.1 ends)
-head_ends false true head is ends = elim is [ ]
-head_ends false false head is ends = absurd (let len = ap length (sym is ∙ ends.parts) in omega (arith, length-append ends.before (ends.first ∷ (ends.between ++ ends.last ∷ []))))
-
-ends_head : (has_cut : Bool) (head : List Node) → HeadIs has_cut true head → EndsStable head
-ends_head true head is = is
-ends_head false head is = elim is [ ]
-
 pub scanned_ends : (nodes : List Node) (has_cut ends_stable : Bool) (since : ℕ) → IsScanned nodes has_cut ends_stable since → EndsStable nodes ↔ ((ends_stable ≡ true) × (since ≡ 0))
 scanned_ends nodes has_cut ends_stable since h = (
   λ ends.
       let cut = subst EndsWithCut h.parts (EndsStable-cut nodes ends) in
       let none = no_tail h.head h.tail h.no_cut cut in
       let whole : nodes ≡ h.head = h.parts ∙ ap (λ (l : List Node). h.head ++ l) none ∙ append-nil h.head in
-      (head_ends has_cut ends_stable h.head h.head_is (subst EndsStable whole ends), let is = h.since_is in let len = ap length none in omega arith),
+      (EndsStable-head has_cut ends_stable h.head h.head_is (subst EndsStable whole ends), let is = h.since_is in let len = ap length none in omega arith),
   λ is.
       let none = none_of h.tail (let since_is = h.since_is in let zero = is.1 in omega arith) in
       let whole : nodes ≡ h.head = h.parts ∙ ap (λ (l : List Node). h.head ++ l) none ∙ append-nil h.head in
-      subst EndsStable (sym whole) (ends_head has_cut h.head (subst (λ (b : Bool). HeadIs has_cut b h.head) is.0 h.head_is)),
+      subst EndsStable (sym whole) (head_of_stable has_cut h.head (subst (λ (b : Bool). HeadIs has_cut b h.head) is.0 h.head_is)),
 ) where
   none_of : (l : List Node) → length l ≡ 0 → l ≡ []
   none_of [] e = refl

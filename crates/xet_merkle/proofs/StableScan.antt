@@ -233,12 +233,12 @@ beyond_head front left rest true ends_stable since h e none ends = elim (meets h
 beyond_head front left rest false true since h e none ends = absurd h.head_is
 beyond_head front left rest false false since h e none ends = let len = ap length h.head_is in omega arith
 
-EndsStable-head : (has_cut ends_stable : Bool) (head : List Node) → HeadIs has_cut ends_stable head → EndsStable head → ends_stable ≡ true
+pub EndsStable-head : (has_cut ends_stable : Bool) (head : List Node) → HeadIs has_cut ends_stable head → EndsStable head → ends_stable ≡ true
 EndsStable-head has_cut true head h ends = refl
 EndsStable-head true false head h ends = absurd (h.1 ends)
 EndsStable-head false false head h ends = absurd (let long = (stable_ends head ends).1 in let len = ap length h in omega arith)
 
-head_of_stable : (has_cut : Bool) (head : List Node) → HeadIs has_cut true head → EndsStable head
+pub head_of_stable : (has_cut : Bool) (head : List Node) → HeadIs has_cut true head → EndsStable head
 head_of_stable true head h = h
 head_of_stable false head h = absurd h
 

@@ -1,4 +1,4 @@
-//! Merging subtrees that were read back and came from no list. What the merged ones print as was told apart from
+//! Merging subtrees that were read back and came from no list. What the merged ones print as was computed without
 //! this code.
 
 use super::json::read;
