@@ -1,6 +1,6 @@
 use Rattle.std.proofs.Common.{◌≡◌, ℕ, ◌<◌, ◌^◌, List, map, sym, ap, subst, ◌∙◌}
 use Rattle.serde_json.specs.Data.{Data, array}
-use Rattle.serde_json.specs.View.{items_of}
+use Rattle.serde_json.specs.View.{view, items_of}
 use Rattle.xet_merkle.specs.Groups.{Node}
 use Rattle.xet_merkle.specs.Subtree.{Subtree, levels_size}
 use Rattle.xet_merkle.specs.WellFormed.{IsWellFormed}
@@ -26,7 +26,8 @@ returns-clause-json g c =
     let counts = c.in_ok-levels.ensures ∙ ap (λ (l : List (ℕ × ℕ)). array (items_of (map counts_json l)))
     (c.deref.ensures.value ∙ c.self.invariant.some_flat.flat.counts_are ∙ ap (λ (s : Subtree). map count_of s.levels) c.self.view_is) in
     let nodes = c.in_ok-nodes.ensures.json ∙ ap (λ (l : List Node). array (items_of (map node_json l))) (nodes_are g c) in
-    c.in_ok-object_of.ensures ∙ (λ i. subtree_object (start i) (end i) (counts i) (nodes i))
+    ◌∙◌ {b = subtree_object c.self.inside.at_start c.self.inside.at_end (view c.in_ok-levels.levels) (view c.in_ok-nodes.nodes)}
+        c.in_ok-object_of.ensures (λ i. subtree_object (start i) (end i) (counts i) (nodes i))
 
 pub returns-clause-says : goal.returns-clause-says
 returns-clause-says g c =
