@@ -1,5 +1,5 @@
-//! Each call of the map for deduplication, on a map of two pairs, with hashes, numbers and keys of a type
-//! that stands here.
+//! Each call of the map for deduplication, on an empty map or one of two pairs, with hashes, numbers and keys
+//! of a type that stands here.
 
 ghost use Rattle.std.specs.Prelude.{◌≡◌, Some, IfSome, OnOk, nat_eq};
 ghost use Rattle.std.specs.HashMap.{get};
@@ -62,6 +62,21 @@ fn hashes() -> [DataHash; 3] {
         DataHash::from(second),
         DataHash::from(lacking),
     ]
+}
+
+// Look-ups in a map without entries.
+fn finds_nothing<Key: U64HashExtractable + Hash + Eq + Debug>(
+    rt: &impl Abort,
+    map: &PassThroughHashMap<Key, u32>,
+    keys: &[Key],
+) {
+    assert_eq!(rt; map.len(), 0);
+    assert!(rt; map.is_empty());
+    assert_eq!(rt; map.iter().count(), 0);
+    for key in keys {
+        assert_eq!(rt; map.get(key), None);
+        assert!(rt; !map.contains_key(key));
+    }
 }
 
 // Look-ups and walks.
@@ -177,17 +192,36 @@ fn changes_at_hashes_numbers_and_other_keys(rt: HostRuntime) -> Result<(), Fail>
     changes(&rt, rt.alloc(), first, second, lacking)
 }
 
+// The two kinds of new maps.
+fn starts_empty<Key: U64HashExtractable + Hash + Eq + Copy + Debug>(
+    rt: &impl Abort,
+    alloc: Global,
+    keys: &[Key],
+) -> Result<(), Fail> {
+    finds_nothing(rt, &PassThroughHashMap::new(alloc), keys);
+    finds_nothing(rt, &PassThroughHashMap::with_capacity(alloc, 100)?, keys);
+    Ok(())
+}
+
+#[test]
+fn new_maps_have_no_entries(rt: HostRuntime) -> Result<(), Fail> {
+    starts_empty(&rt, rt.alloc(), &hashes())?;
+    starts_empty(&rt, rt.alloc(), &NUMBERS)?;
+    starts_empty(&rt, rt.alloc(), &NAMES)
+}
+
 #[test]
 fn the_last_value_of_a_key_wins(rt: HostRuntime) -> Result<(), Fail> {
-    let pairs = [(1u64, 10), (2, 20), (1, 30)];
-    for map in [
-        PassThroughHashMap::from_array(rt.alloc(), pairs)?,
-        PassThroughHashMap::from_pairs(rt.alloc(), pairs)?,
-    ] {
-        assert_eq!(rt; map.len(), 2);
-        assert_eq!(rt; map.get(&1), Some(&30));
-        assert_eq!(rt; map.get(&2), Some(&20));
-    }
+    let [first, second, lacking] = hashes();
+    let map = PassThroughHashMap::from_array(rt.alloc(), [(first, 30), (second, 20), (first, 10)])?;
+    reads(&rt, &map, first, second, lacking);
+    let map = PassThroughHashMap::from_pairs(rt.alloc(), [(first, 30), (second, 20), (first, 10)])?;
+    reads(&rt, &map, first, second, lacking);
+    let [first, second, lacking] = NUMBERS;
+    let map = PassThroughHashMap::from_array(rt.alloc(), [(first, 30), (second, 20), (first, 10)])?;
+    reads(&rt, &map, first, second, lacking);
+    let map = PassThroughHashMap::from_pairs(rt.alloc(), [(first, 30), (second, 20), (first, 10)])?;
+    reads(&rt, &map, first, second, lacking);
     Ok(())
 }
 
