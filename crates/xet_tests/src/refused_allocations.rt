@@ -261,7 +261,7 @@ fn put(map: &mut Numbers<'_>, number: u64, by_place: bool) -> Result<(), AllocEr
     Ok(())
 }
 
-// Puts the numbers up to 99 into a map, which has those before the refused one after a refusal.
+// Puts the numbers up to 99 into a map. After a refusal it should have the numbers before the refused one.
 fn filled(map: &mut Numbers<'_>, by_place: bool) -> Attempt {
     for number in 0..100 {
         if let Err(error) = put(map, number, by_place) {
@@ -280,7 +280,7 @@ fn entered(alloc: &RefusingAllocator<Global>) -> Result<Attempt, AllocError> {
 }
 
 // Whether a call is out of memory exactly where one of its requests is refused, which happens, and is right
-// each time. It answers an error where what it needs can't be made.
+// each time. The outer error is for what the call itself needs and can't be made.
 fn is_refused_with_each_request<F>(global: Global, call: F) -> bool
 where
     F: Fn(&RefusingAllocator<Global>) -> Result<Attempt, AllocError>,
