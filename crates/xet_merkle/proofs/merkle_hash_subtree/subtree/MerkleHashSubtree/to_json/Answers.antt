@@ -27,7 +27,7 @@ returns-clause-json g c =
     (c.deref.ensures.value ∙ c.self.invariant.some_flat.flat.counts_are ∙ ap (λ (s : Subtree). map count_of s.levels) c.self.view_is) in
     let nodes = c.in_ok-nodes.ensures.json ∙ ap (λ (l : List Node). array (items_of (map node_json l))) (nodes_are g c) in
     ◌∙◌ {b = subtree_object c.self.inside.at_start c.self.inside.at_end (view c.in_ok-levels.levels) (view c.in_ok-nodes.nodes)}
-        c.in_ok-object_of.ensures (λ i. subtree_object (start i) (end i) (counts i) (nodes i))
+    c.in_ok-object_of.ensures (λ i. subtree_object (start i) (end i) (counts i) (nodes i))
 
 pub returns-clause-says : goal.returns-clause-says
 returns-clause-says g c =
