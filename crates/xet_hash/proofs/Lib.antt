@@ -5,11 +5,8 @@ pub mod Blake3Finishing
 pub mod Blake3Merging
 pub mod Blake3Rows
 pub mod Blake3Waiting
-pub mod FiniteMapLemmas
 pub mod HashLaws
 pub mod HashLemmas
 pub mod HexDigitLemmas
 pub mod HexOrder
 pub mod HexTextLemmas
-pub mod PassthroughHasherLemmas
-pub mod WrittenValue

@@ -2,9 +2,10 @@ pub mod Blake3
 pub mod Blake3Hasher
 pub mod Blake3Rows
 pub mod Blake3Tree
-pub mod FiniteMap
 pub mod Hash
 pub mod HashForms
 pub mod HashedWrite
-pub mod MapLends
-pub mod PassthroughHasher
+pub use Rattle.passthrough_map.specs.Entry
+pub use Rattle.passthrough_map.specs.FiniteMap
+pub use Rattle.passthrough_map.specs.MapLends
+pub use Rattle.passthrough_map.specs.PassthroughHasher

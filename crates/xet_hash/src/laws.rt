@@ -1,17 +1,17 @@
-//! Laws of the definitions that the contracts of this crate speak of. Each function has an empty body,
-//! and its clause is the law.
+//! Laws of the definitions that the contracts of this crate speak of. Each function does nothing: its contract is
+//! the law.
 
-ghost use Rattle.std.specs.Prelude.{◌≡◌, ◌↔◌, ◌^◌, ◌<◌, ℕ, List, [], Some, IsTrue, fold, length, slice_index};
+ghost use Rattle.std.specs.Prelude.{◌≡◌, ◌↔◌, ℕ, List, Some, IsTrue, fold, length, slice_index};
 ghost use Rattle.std.specs.Cmp.{IsTotalOrder};
 ghost use Rattle.std.specs.Cmp.Lexicographic.{slice_cmp};
 ghost use Rattle.std.specs.Ordering.{nat_cmp, is_eq};
-ghost use Rattle.std.specs.Hash.{u64};
 ghost use Rattle.std.specs.Str.{str_to_ascii_lowercase};
 ghost use Rattle.xet_hash.specs.Hash.{bytes_of, hash_of, hex_text, IsHash, IsHashBytes, IsHexText};
 ghost use Rattle.xet_hash.specs.HashForms.{base64_text, hash_cmp, hash_writes};
-ghost use Rattle.xet_hash.specs.PassthroughHasher.{overwrite_low};
+ghost use Rattle.passthrough_map.specs.PassthroughHasher.{overwrite_low};
 
 use crate::data_hash::DataHash;
+use passthrough_map::laws::passthrough_hasher_hands_numbers_on;
 use std::hash::Hash;
 
 /// A hash is read back from its bytes, of which there are 32.
@@ -69,15 +69,13 @@ pub fn hash_comparisons_agree()
         → ⟦<DataHash as Hash>⟧.hash_input a ≡ ⟦<DataHash as Hash>⟧.hash_input b }
 {}
 
-/// What a [`U64DirectHasher`](crate::passthrough_hasher::U64DirectHasher) makes of what it is fed: of a
-/// `u64` that number, and of a hash its word 0, so that two hashes leave equal states exactly where they
-/// share word 0. Writing no bytes changes nothing.
-pub fn passthrough_hasher_hands_numbers_on()
-    ensures number { (state number : ℕ) → number < 2 ^ 64
-        → fold overwrite_low state (u64 number) ≡ number }
+/// What a [`U64DirectHasher`](crate::passthrough_hasher::U64DirectHasher) makes of a hash that it is fed: its
+/// word 0, so that two hashes leave equal states exactly where they share word 0.
+pub fn passthrough_hasher_hands_word_zero_on()
     ensures hash { (state : ℕ) (words : List ℕ) → IsHash words
         → fold overwrite_low state (hash_writes words) ≡ slice_index words 0 }
     ensures shared { (s t : ℕ) (a b : List ℕ) → IsHash a → IsHash b
         → fold overwrite_low s (hash_writes a) ≡ fold overwrite_low t (hash_writes b) ↔ slice_index a 0 ≡ slice_index b 0 }
-    ensures none { (state : ℕ) → state < 2 ^ 64 → overwrite_low state [] ≡ state }
-{}
+{
+    passthrough_hasher_hands_numbers_on();
+}

@@ -5,5 +5,5 @@
 pub mod blake3;
 pub mod data_hash;
 pub mod laws;
-pub mod passthrough_hasher;
-pub mod passthrough_hashmap;
+
+pub use passthrough_map::{passthrough_hasher, passthrough_hashmap};

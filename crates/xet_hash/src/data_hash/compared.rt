@@ -1,11 +1,12 @@
 // The order of hashes, and what a hash table reads of one.
-ghost use Rattle.std.specs.Prelude.{◌≡◌, Some, refl};
+ghost use Rattle.std.specs.Prelude.{◌≡◌, Some, refl, slice_index};
 ghost use Rattle.std.specs.Cmp.Lexicographic.{nat_list_cmp_total, texts_po, texts_ties};
 ghost use Rattle.std.specs.Cmp.Rules.{hashing};
 ghost use Rattle.std.proofs.Common.{rules};
 ghost use Rattle.xet_hash.specs.HashForms.{hash_cmp, hash_writes};
 
 use super::DataHash;
+use crate::passthrough_hasher::U64HashExtractable;
 use std::cmp::Ordering;
 use std::hash::{Hash, Hasher};
 
@@ -42,5 +43,16 @@ impl Hash for DataHash {
     /// Gives word 0 alone to `state`.
     fn hash<H: Hasher>(&self, state: &mut H) {
         state.write_u64(self.words[0]);
+    }
+}
+
+impl U64HashExtractable for DataHash {
+    ghost hash_value = { λ hash. slice_index hash 0 };
+
+    ghost equal_values = { Prim.search (hashing, rules) };
+
+    /// Word 0.
+    fn u64_hash_value(&self) -> u64 {
+        self.words[0]
     }
 }

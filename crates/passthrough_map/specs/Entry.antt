@@ -1,0 +1,54 @@
+-- The place of a key in a map, and what the map has once it was written there.
+pub use Rattle.passthrough_map.specs.declared.passthrough_hashmap.entry.Entry.TheVariants.{Occupied, Vacant}
+use Rattle.std.specs.Prelude.{◌≡◌, Bool, List, Option, None, IsSome, Result}
+use Rattle.std.specs.Borrow.{Fml, RattleType, MutBor, Lends, LendsSoOk}
+use Rattle.std.specs.Map.{set_value}
+use Rattle.std.specs.declared.alloc.Allocator as alloc
+use Rattle.std.specs.HashMap.Lent.{HashMembers}
+use Rattle.passthrough_map.specs.declared.passthrough_hashmap.entry.Entry.{Entry}
+use Rattle.passthrough_map.specs.FiniteMap.{IsPut, value_at}
+use Rattle.passthrough_map.specs.MapLends.{ExtractableMembers, map_row}
+
+module _ {K V A : Type 0} where
+  -- the map that the place is in, as it is lent
+  abbrev pub entry_map : Entry K V A → MutBor (List (K × V))
+  entry_map (Occupied place) = place.map
+  entry_map (Vacant place) = place.map
+
+  -- the key that was asked for
+  abbrev pub entry_key : Entry K V A → K
+  entry_key (Occupied place) = place.key
+  entry_key (Vacant place) = place.key
+
+module _ {K V A : Type 0} (eq : K → K → Bool) where
+  -- the value at the place
+  abbrev pub entry_value : Entry K V A → Option V
+  entry_value place = value_at eq (entry_map place).now (entry_key place)
+
+  -- an occupied place has a value, and a vacant one has none
+  abbrev pub IsLive : Entry K V A → Type 0
+  IsLive (Occupied place) = IsSome (entry_value (Occupied place))
+  IsLive (Vacant place) = entry_value (Vacant place) ≡ None
+
+module _ {K V A : Type 0} where
+  -- `new` is the place `old` in the same map, which has these entries now
+  pub record IsPlaceAfter (old new : Entry K V A) (entries : List (K × V)) : Type 0 where
+    pub same_map : (entry_map new).ghost_name ≡ (entry_map old).ghost_name
+    pub same_key : entry_key new ≡ entry_key old
+    pub after : (entry_map new).now ≡ entries
+
+module _ (K V A : RattleType) (extracted : ExtractableMembers K.Denot) (hashed : HashMembers K.Denot) (heap : alloc.Ghosts A.Denot) where
+  -- the map's type, as the logic has it
+  abbrev pub map_type : RattleType
+  map_type = map_row K V A extracted hashed heap
+
+  module _ (place : Entry K.Denot V.Denot A.Denot) where
+    -- once the borrow ends, the last value behind r was written at the place's key, which has a value
+    abbrev pub writes_there : MutBor V.Denot → Fml
+    writes_there r = Lends map_type V (entry_map place) r (set_value (hashed.eq (entry_key place)) (entry_map place).now)
+
+    -- once the borrow ends, the last value behind r was put at the place's key, and the map stays as it is at an error
+    abbrev pub puts_there : {E : Type 0} → Result (MutBor V.Denot) E → Fml
+    puts_there r =
+        LendsSoOk map_type V (entry_map place) r (λ left value. IsPut hashed.eq (entry_map place).now (entry_key place) value left)
+            (λ left. left ≡ (entry_map place).now)

@@ -1,0 +1,4 @@
+pub mod FiniteMap
+pub mod MapLends
+pub mod PassthroughHasher
+pub mod Entry

@@ -1,8 +1,0 @@
-use Rattle.std.proofs.Common.{sym}
-use Rattle.std.specs.Hash.{le_bytes}
-use Rattle.xet_hash.proofs.PassthroughHasherLemmas.{overwrite_low-all}
-use Rattle.xet_hash.proofs.passthrough_hasher.U64DirectHasherHasher.write_u64.Goals as goal
-
-pub returns-clause-written : goal.returns-clause-written
-unfolding le_bytes
-returns-clause-written g c = sym (overwrite_low-all c.args.self.now c.args.number c.ranges.number.fits)
