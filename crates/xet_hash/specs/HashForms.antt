@@ -1,4 +1,5 @@
--- A hash as base64 text, as JSON, as drawn from a seed, and what a hash table reads of it.
+-- A hash as base64 text, as drawn from a seed, the order of hashes, what a hash table reads of one, and the texts of
+-- an error.
 use Rattle.std.specs.Prelude.{ℕ, List, codes, slice_index}
 use Rattle.std.specs.Hash.{HashWrites, u64}
 use Rattle.std.specs.Ordering.{nat_cmp}

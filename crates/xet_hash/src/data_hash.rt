@@ -2,6 +2,7 @@
 //! after the module `merklehash::data_hash` of the crate `xet-core-structures` 1.5.2.
 
 ghost use Rattle.std.specs.Prelude.{◌≡◌, ◌≢◌, ◌+◌, ◌%◌, slice_index, ◌*◌, ◌↔◌, ◌<◌, ◌≤◌, ℕ, List, Some, codes, length, drop, IsOk, IfOk};
+ghost use Rattle.std.specs.Fmt.{WritesOnOk, WritesStyledOnOk};
 ghost use Rattle.std.specs.Int.{w64, from_le_bytes, from_be_bytes};
 ghost use Rattle.std.specs.Str.{IsAscii, str_to_ascii_lowercase};
 ghost use Rattle.hex.specs.Hex.{encode_lower};
@@ -62,7 +63,7 @@ impl Model for DataHash {
 impl Default for DataHash {
     ghost is_default = { λ hash. hash ≡ default_hash };
 
-    /// The hash of no data: all bits zero.
+    /// The hash with all bits zero, which stands for a list without chunks.
     fn default() -> DataHash {
         DataHash { words: [0; 4] }
     }
@@ -302,7 +303,10 @@ impl fmt::Debug for DataHash {
     ghost debug_output = { λ hash. Some (hex_text hash) };
 
     /// Writes the hex text, whatever width and flags are asked for.
-    fn fmt<W: fmt::Write>(&self, f: &mut fmt::Formatter<W>) -> fmt::Result {
+    fn fmt<W: fmt::Write>(&self, f: &mut fmt::Formatter<W>) -> fmt::Result
+        ensures writes { WritesOnOk W.write_str_gives f.old result (hex_text self.now) f.new }
+        ensures styled { WritesStyledOnOk W.write_str_gives f.old result (hex_text self.now) f.new }
+    {
         fmt::Display::fmt(self, f)
     }
 }

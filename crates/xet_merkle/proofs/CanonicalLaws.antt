@@ -1,5 +1,5 @@
--- The law of canonical subtrees: each list has exactly one under given marks, and the top of one with both
--- ends marked is the root of its list. Rests on Splits, GroupLaws and RootLaws.
+-- The law of canonical subtrees: each list has exactly one under given marks, and the top of one with both ends
+-- marked is the root of its list.
 use Rattle.std.proofs.Common.{◌≡◌, ℕ, zero, suc, ◌+◌, ◌<◌, ◌≤◌, Bool, true, List, [], ◌∷◌, ◌++◌, length, map, refl, sym, subst, inl, inr, arith, length-append}
 use Rattle.std.proofs.lemmas.Bool.{cases_lt}
 use Rattle.std.proofs.lemmas.List.{length-map}

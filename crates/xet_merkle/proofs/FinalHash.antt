@@ -1,4 +1,4 @@
--- The hash at the top of a canonical subtree with both ends marked. Rests on CanonicalLaws.
+-- The hash at the top of a canonical subtree with both ends marked.
 use Rattle.std.proofs.Common.{◌≡◌, ◌<◌, Bool, true, List, [], ◌∷◌, length, get_or, refl, subst, arith}
 use Rattle.xet_hash.specs.Hash.{default_hash}
 use Rattle.xet_merkle.specs.Groups.{Node}

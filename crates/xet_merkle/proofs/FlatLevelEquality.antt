@@ -1,4 +1,4 @@
--- Counts and nodes tell levels apart. Rests on FlatLevelLaws.
+-- Counts and nodes tell levels apart.
 use Rattle.std.proofs.Common.{◌≡◌, ℕ, Bool, ◌&&◌, nat_eq, List, map, sym, ap, ◌∙◌}
 use Rattle.std.specs.Bool.{Decides, one_answer}
 use Rattle.std.specs.Cmp.{unsigned_Decides}

@@ -1,5 +1,4 @@
 -- What joining keeps: the sides, the top and the sizes of the operands, whether or not they come from lists.
--- Rests on SideLaws and CanonicalLaws.
 use Rattle.std.proofs.Common.{◌≡◌, ℕ, ◌+◌, ◌<◌, ◌≤◌, ◌⊎◌, Bool, true, false, List, [], ◌∷◌, ◌++◌, length, map, refl, sym, ap, subst, ◌∙◌, inl, inr, arith, append_assoc, append-nil, length-append}
 use Rattle.std.proofs.lemmas.List.{length-map}
 use Rattle.xet_merkle.specs.Groups.{Node}

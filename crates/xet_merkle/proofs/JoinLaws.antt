@@ -1,5 +1,5 @@
--- Joining: where the operands are the canonical subtrees of two lists, what they are joined to is that of
--- the joined list. Rests on SideLaws and StableGroups.
+-- Joining: where the operands are the canonical subtrees of two lists, what they are joined to is that of the
+-- joined list.
 use Rattle.std.proofs.Common.{◌≡◌, ℕ, ◌+◌, ◌<◌, Bool, true, false, Option, Some, None, IfSome, IfNone, unwrap_or, List, [], ◌∷◌, ◌++◌, length, map, take, drop, refl, sym, ap, subst, ◌∙◌, inl, inr, arith, append_assoc, append-nil, length-append}
 use Rattle.std.proofs.lemmas.List.{map-append}
 use Rattle.xet_merkle.specs.Groups.{Node, Groups}

@@ -1,5 +1,4 @@
--- Joining level by level: what stands below, and what is stored of a join. Rests on JoinLaws, JoinKeeps and
--- Collapsing.
+-- Joining level by level: what stands below, and what is stored of a join.
 use Rattle.std.proofs.Common.{◌≡◌, ℕ, ◌+◌, ◌^◌, ◌<◌, ◌≤◌, Bool, true, false, List, [], ◌∷◌, ◌++◌, length, map, reverse, refl, sym, ap, subst, ◌∙◌, arith, append_assoc, append-nil}
 use Rattle.std.proofs.lemmas.List.{length-map}
 use Rattle.xet_merkle.specs.Groups.{Node}

@@ -1,4 +1,4 @@
--- Merging ranges one after another, and in any order. Rests on CanonicalLaws.
+-- Merging ranges one after another, and in any order.
 use Rattle.std.proofs.Common.{◌≡◌, Bool, false, List, [], ◌∷◌, ◌++◌, flat_map, refl, sym, subst, ◌∙◌, arith, append_assoc, append-nil}
 use Rattle.std.proofs.lemmas.List.Sums.{sum_by-cons}
 use Rattle.xet_merkle.specs.Groups.{Node}

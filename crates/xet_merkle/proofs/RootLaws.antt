@@ -1,5 +1,4 @@
 -- The law of roots: each list of nodes has exactly one root, and its groups are fewer than its nodes.
--- Rests on GroupLaws.
 use Rattle.std.proofs.Common.{◌≡◌, ℕ, zero, suc, ◌+◌, ◌*◌, ◌<◌, ◌≤◌, List, [], ◌∷◌, length, map, refl, ap, subst, arith, length-append}
 use Rattle.std.proofs.lemmas.List.{length-map}
 use Rattle.xet_hash.specs.Hash.{default_hash}

@@ -1,6 +1,5 @@
--- What stays on either side of a level below the top: a first stable point is known by the nodes before it
--- and the beginning of those behind it, a last one by the end of the nodes before it and those behind it.
--- Rests on StableScan and Splits.
+-- What stays on either side of a level below the top: a first stable point is known by the nodes before it and the
+-- beginning of those behind it, a last one by the end of the nodes before it and those behind it.
 use Rattle.std.proofs.Common.{◌≡◌, ◌<◌, Bool, true, false, List, [], ◌∷◌, ◌++◌, length, sym, ap, subst, ◌∙◌, inl, arith, append_assoc, length-append}
 use Rattle.xet_merkle.specs.Groups.{Node, Cut, EndsWithCut}
 use Rattle.xet_merkle.specs.StablePoints.{EndsStable, BeginsStable, NoStable, IsFirstStable, IsLastStable}

@@ -1,5 +1,4 @@
 -- Whether a place is stable can be decided; so a list has a first and a last stable place, or none.
--- Rests on CutPlaces and PlaceSearch.
 use Rattle.std.proofs.Common.{◌≡◌, ℕ, ◌≤◌, ◌⊎◌, List, [], ◌∷◌, ◌++◌, length, refl, sym, ap, subst, ◌∙◌, inl, inr, arith, length-append}
 use Rattle.std.proofs.lemmas.Bool.{cases_lt}
 use Rattle.xet_merkle.specs.Groups.{Node, Cut}

@@ -1,4 +1,4 @@
--- Levels, read one after another from the chunks up, and what is stored of them. Rests on FlatLevelLaws.
+-- Levels, read one after another from the chunks up, and what is stored of them.
 use Rattle.std.proofs.Common.{◌≡◌, ℕ, zero, suc, ◌<◌, ◌≤◌, Bool, List, [], ◌∷◌, length, refl, ap, ◌∙◌, arith}
 use Rattle.xet_merkle.specs.Groups.{Node}
 use Rattle.xet_merkle.specs.Roots.{total_size}

@@ -1,5 +1,5 @@
 -- The JSON form of a subtree, as data of the kit's `serde_json` (module `merklehash::merkle_hash_subtree` of
--- the crate `xet-core-structures`, whose derives write the same members). Members stand in the order of their
+-- the crate `xet-core-structures`, which writes the same members). Members stand in the order of their
 -- names.
 use Rattle.std.specs.Prelude.{ℕ, Bool, [], ◌∷◌, map, codes}
 use Rattle.serde_json.specs.Data.{Data, boolean, number, string, array, object, unsigned, no_members, member}

@@ -15,7 +15,8 @@ use arrayvec::ArrayVec;
 use std::alloc::Allocator;
 use xet_hash::data_hash::{HMACKey, MerkleHash, compute_internal_node_hash};
 
-/// One in so many hashes is a natural cut, so groups have about this many nodes.
+/// One in so many hashes is a natural cut. A group has 5.5 nodes in the mean, since none ends before its third
+/// node, and none has more than nine.
 pub const AGGREGATED_HASHES_MEAN_TREE_BRANCHING_FACTOR: u64 = 4;
 
 // The most nodes of a group.
@@ -116,7 +117,7 @@ fn parent(group: &[Node]) -> Node
 pub(crate) fn parents<A: Allocator>(alloc: A, nodes: &[Node]) -> Result<Vec<Node, A>, CoreError>
     requires { total_size nodes.now < 2 ^ 64 }
     ensures parents { IfOk result (λ made. AreParents parent nodes.now made.items) }
-    ensures err { IfErr result (λ e. e ≡ CoreError.OutOfMemory) }
+    ensures errors { IfErr result (λ e. e ≡ CoreError.OutOfMemory) }
 {
     let mut made = Vec::new(alloc);
     let mut rest = nodes;

@@ -18,7 +18,8 @@ pub enum CoreError {
     /// An allocation was refused.
     #[error("out of memory")]
     OutOfMemory,
-    /// A JSON value is no subtree's: the least rule, from 1 to 13, that it breaks.
+    /// A JSON value says no subtree. The number is the least rule, from 1 to 13, that it breaks, as
+    /// [`from_json`](crate::merkle_hash_subtree::MerkleHashSubtree::from_json) lists them.
     #[error("invalid JSON: rule {0}")]
     InvalidJson(u8),
 }

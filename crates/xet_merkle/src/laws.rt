@@ -83,12 +83,12 @@ pub fn closed_subtree_has_root()
 {}
 
 /// A canonical subtree keeps at most as many nodes as its list has, and a list whose canonical subtree has
-/// n levels, two or more, has more nodes than 3 to the power of n - 2.
+/// two levels and `below` more has more nodes than 3 to the power of `below`.
 pub fn canonical_subtree_bounds()
     ensures nodes { (make : List Node → Node) (at_start at_end : Bool) (nodes : List Node) (levels : List Level) (parents : ℕ) →
         IsCanonicalBy make at_start at_end nodes levels parents → node_count levels ≤ length nodes }
-    ensures levels { (make : List Node → Node) (at_start at_end : Bool) (nodes : List Node) (levels : List Level) (parents n : ℕ) →
-        IsCanonicalBy make at_start at_end nodes levels parents → length levels ≡ n + 2 → 3 ^ n < length nodes }
+    ensures levels { (make : List Node → Node) (at_start at_end : Bool) (nodes : List Node) (levels : List Level) (parents below : ℕ) →
+        IsCanonicalBy make at_start at_end nodes levels parents → length levels ≡ below + 2 → 3 ^ below < length nodes }
 {}
 
 /// Two subtrees are equal where, and only where, their marks and their levels are.

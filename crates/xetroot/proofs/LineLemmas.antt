@@ -1,4 +1,4 @@
--- Where the lines of a text fall. Rests on the definitions of Lines alone.
+-- Where the lines of a text fall.
 use Rattle.std.proofs.Common.{Option, Some, None, IfNone, ◌≡◌, ◌≢◌, ◌==◌, ℕ, ◌+◌, ◌<◌, ◌≤◌, false, List, [], ◌∷◌, ◌++◌, length, refl, sym, ap, subst, ◌∙◌, inl, inr, arith, length-append, codes, decimal}
 use Rattle.std.proofs.Common.{suc, get_or, take, drop, length-take}
 use Rattle.std.proofs.lemmas.List.{take-append-drop, drop_more, get_or-take}

@@ -1,5 +1,4 @@
 -- What a reading stands at after each piece of the input, and what its faults say of the whole input.
--- Rests on LineLemmas.
 use Rattle.std.proofs.Common.{◌≡◌, ℕ, ◌+◌, ◌<◌, ◌≤◌, ◌^◌, List, [], ◌∷◌, ◌++◌, length, refl, sym, ap, subst, ◌∙◌, inl, inr, arith, append_assoc, append-nil, length-append}
 use Rattle.std.proofs.Common.{get_or, take, drop}
 use Rattle.std.proofs.lemmas.List.{take-append-drop, drop_more}

@@ -2,6 +2,7 @@
 
 ghost use Rattle.std.specs.Prelude.{◌≡◌};
 ghost use Rattle.xetroot.specs.Status.{status_of};
+ghost use Rattle.xet_merkle.specs.declared.error.CoreError.TheVariants.{OutOfMemory};
 ghost use Rattle.xetroot.specs.declared.fault.Fault.TheVariants.{Memory};
 
 use std::alloc::{AllocError, AllocFailed};
@@ -59,10 +60,9 @@ impl<T: Drop> From<AllocFailed<T>> for Fault {
     }
 }
 
-// The marks of ranges are as they have to be, and the sizes of all pairs fit, so that nothing but memory can
-// be wanting where ranges are merged.
+// Nothing is said of the other errors, so where a contract speaks of the fault, nothing but memory can be wanting.
 impl From<CoreError> for Fault {
-    ghost from_gives = { λ _ fault. fault ≡ Memory };
+    ghost from_gives = { λ error fault. error ≡ OutOfMemory → fault ≡ Memory };
 
     fn from(_error: CoreError) -> Fault {
         Fault::Memory

@@ -23,7 +23,7 @@ const SEPARATOR: &[u8; 2] = b"--";
 // The hex digits of a pair line.
 const DIGITS_LEN: usize = 64;
 
-/// What a line says, without its newline. None where the line is bad.
+/// What a line without a chunk says; the line is handed in without its newline. None where it says nothing.
 pub fn parse(line: &[u8]) -> Option<Line>
     ensures says { IfSome result (Says line.now) }
     ensures no_separator { IfNone result (¬ (IsSeparator line.now)) }

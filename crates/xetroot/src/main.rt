@@ -1,4 +1,4 @@
-//! The program `xetroot`: the root and the file hash of the pairs on its standard input.
+//! The program `xetroot`: the root and the file hash of the pairs and chunks in the lines of its standard input.
 #![tactic(auto)]
 
 mod fault;

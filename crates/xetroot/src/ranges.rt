@@ -1,9 +1,9 @@
 //! The pairs of the input, range by range.
 
-ghost use Rattle.std.specs.Prelude.{◌≡◌, ◌+◌, ◌^◌, ◌<◌, ◌≤◌, ◌⊎◌, true, List, length, [], ◌∷◌, ◌++◌, replicate, IfOk, IfErr, OnOk};
+ghost use Rattle.std.specs.Prelude.{◌≡◌, ◌+◌, ◌^◌, ◌<◌, ◌≤◌, ◌⊎◌, true, false, List, length, [], ◌∷◌, ◌++◌, replicate, IfOk, IfErr, OnOk};
 ghost use Rattle.xet_merkle.specs.Groups.{Node};
 ghost use Rattle.xet_merkle.specs.Roots.{total_size, IsRoot, IsFileHash};
-ghost use Rattle.xet_merkle.specs.Subtree.{IsCanonical};
+ghost use Rattle.xet_merkle.specs.Subtree.{IsCanonical, levels_size};
 
 use crate::fault::Fault;
 use std::alloc::Allocator;
@@ -27,6 +27,9 @@ pub struct Ranges<A: Allocator + Clone> {
     range: Vec<Node, A>,
     // The sum of the sizes of all pairs.
     total: u64,
+    ghost start: { ended.at_start ≡ true },
+    ghost no_end: { ended.at_end ≡ false },
+    ghost sizes: { levels_size ended.levels + total_size range.items ≡ total },
 }
 
 impl<A: Allocator + Clone> Ranges<A> {
@@ -35,7 +38,7 @@ impl<A: Allocator + Clone> Ranges<A> {
     /// Ranges without a pair.
     pub fn new(alloc: A) -> Result<Self, Fault>
         ensures none { IfOk result (λ ranges. HoldPairs ranges []) }
-        ensures err { IfErr result (λ fault. fault ≡ Fault.Memory) }
+        ensures errors { IfErr result (λ fault. fault ≡ Fault.Memory) }
     {
         Ok(Ranges {
             ended: MerkleHashSubtree::from_chunks(alloc.clone()?, true, &[], false)?,
@@ -62,7 +65,7 @@ impl<A: Allocator + Clone> Ranges<A> {
     fn make_room(&mut self) -> Result<(), Fault>
         ensures same { OnOk result ((pairs : List Node) → HoldPairs self.old pairs → HoldPairs self.new pairs) }
         ensures room { OnOk result (length self.new.range.items < MAX_RANGE_LEN) }
-        ensures err { IfErr result (λ fault. fault ≡ Fault.Memory) }
+        ensures errors { IfErr result (λ fault. fault ≡ Fault.Memory) }
     {
         if self.range.len() < MAX_RANGE_LEN {
             return Ok(());
@@ -74,7 +77,7 @@ impl<A: Allocator + Clone> Ranges<A> {
     pub fn end_range(&mut self) -> Result<(), Fault>
         ensures same { OnOk result ((pairs : List Node) → HoldPairs self.old pairs → HoldPairs self.new pairs) }
         ensures none { OnOk result (self.new.range.items ≡ []) }
-        ensures err { IfErr result (λ fault. fault ≡ Fault.Memory) }
+        ensures errors { IfErr result (λ fault. fault ≡ Fault.Memory) }
     {
         let alloc = self.range.allocator().clone()?;
         let range = MerkleHashSubtree::from_chunks(alloc, false, &self.range, false)?;
@@ -88,7 +91,7 @@ impl<A: Allocator + Clone> Ranges<A> {
         requires { (pairs : List Node) × HoldPairs self pairs }
         ensures root { IfOk result (λ hashes. (pairs : List Node) → HoldPairs self pairs → IsRoot pairs hashes.0) }
         ensures file { IfOk result (λ hashes. (pairs : List Node) → HoldPairs self pairs → IsFileHash pairs (replicate 32 0) hashes.1) }
-        ensures err { IfErr result (λ fault. fault ≡ Fault.Memory) }
+        ensures errors { IfErr result (λ fault. fault ≡ Fault.Memory) }
     {
         let all = self.close()?;
         let root = all.final_hash().unwrap();
@@ -102,7 +105,7 @@ impl<A: Allocator + Clone> Ranges<A> {
     fn close(mut self) -> Result<MerkleHashSubtree<A>, Fault>
         ensures all { IfOk result (λ all. (pairs : List Node) → HoldPairs self pairs →
             IsCanonical all pairs × (all.at_start ≡ true) × (all.at_end ≡ true)) }
-        ensures err { IfErr result (λ fault. fault ≡ Fault.Memory) }
+        ensures errors { IfErr result (λ fault. fault ≡ Fault.Memory) }
     {
         self.end_range()?;
         let alloc = self.range.allocator().clone()?;

@@ -36,7 +36,7 @@ impl<A: Allocator + Clone> Reading<A> {
     /// A reading of nothing yet.
     pub fn new(alloc: A) -> Result<Self, Fault>
         ensures taken { IfOk result (λ reading. IsTaken reading []) }
-        ensures err { IfErr result (λ fault. fault ≡ Fault.Memory) }
+        ensures errors { IfErr result (λ fault. fault ≡ Fault.Memory) }
     {
         Ok(Reading {
             ranges: Ranges::new(alloc)?,

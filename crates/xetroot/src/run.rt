@@ -1,4 +1,4 @@
-//! The program's work: pairs in, two hashes out.
+//! The program's work: lines in, two hashes out.
 
 ghost use Rattle.std.specs.Prelude.{◌≡◌, ◌≢◌, List, ℕ, ◌++◌, ◌+◌, ◌<◌, ◌≤◌, length, take, replicate, IfSome, IfOk, IfErr, OnErr, OnOk, Err};
 ghost use Rattle.std.specs.Io.KnownBytes.{Appends, Consumes, IsAtEnd, Keeps};
@@ -25,7 +25,7 @@ const MAX_REPEATS: u32 = 16;
 // The bytes of the two lines of output.
 const OUTPUT_LEN: usize = 140;
 
-/// Reads pair lines to the end of `r`, and then writes the root and the file hash of all pairs, as
+/// Reads lines to the end of `r`, and then writes the root and the file hash of the pairs that they say, as
 /// `xorb <hex>` and `file <hex>`, to `w`, and flushes it.
 ///
 /// It keeps the subtree of the ranges that are ended, which is small where stable points come up, the pairs
@@ -110,7 +110,7 @@ fn push_bytes(text: &mut ArrayVec<u8, OUTPUT_LEN>, bytes: &[u8])
 // Writes some bytes and flushes.
 fn write_all<W: Write>(w: &mut W, bytes: &[u8]) -> Result<(), Fault>
     ensures ok { OnOk result (Appends (W.contents w.old) (W.contents w.new) bytes.now) }
-    ensures err { IfErr result (λ fault. fault ≡ Fault.Write) }
+    ensures errors { IfErr result (λ fault. fault ≡ Fault.Write) }
     ensures begun { IfErr result (λ _. (written rest : List ℕ) × (bytes.now ≡ written ++ rest)
         × Appends (W.contents w.old) (W.contents w.new) written) }
 {

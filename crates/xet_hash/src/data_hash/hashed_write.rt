@@ -1,12 +1,12 @@
 //! A writer that hashes what is written.
 
-ghost use Rattle.std.specs.Prelude.{◌≡◌, ◌+◌, ◌^◌, ◌≤◌, ℕ, List, [], ◌++◌, length, IsErrAnd};
+ghost use Rattle.std.specs.Prelude.{◌≡◌, ◌+◌, ◌^◌, ◌<◌, ◌≤◌, ℕ, List, [], ◌++◌, length, IfOk, OnOk, OnErr, IsErrAnd};
 ghost use Rattle.std.specs.Io.{WritesAtMost};
-ghost use Rattle.std.specs.Io.KnownBytes.{Keeps, WriteAppends};
+ghost use Rattle.std.specs.Io.KnownBytes.{Appends, Keeps, WriteAppends};
 ghost use Rattle.std.specs.IoError.{error_kind};
 ghost use Rattle.xet_hash.specs.Blake3.{keyed_hash};
 ghost use Rattle.xet_hash.specs.Hash.{data_key, hash_of};
-ghost use Rattle.xet_hash.specs.HashedWrite.{inner_writer, taken_bytes, HoldsWritten};
+ghost use Rattle.xet_hash.specs.HashedWrite.{inner_writer, taken_bytes, HoldsBeginning, HoldsWritten};
 
 use super::{DATA_KEY, DataHash};
 use crate::blake3::Hasher;
@@ -21,6 +21,7 @@ pub struct HashedWrite<W: Write> {
 
 impl<W: Write> HashedWrite<W> {
     /// Hashes what is written to `writer` from here on.
+    #[tactic(auto, unfolding(crate::specs::HashedWrite::inner_writer))]
     pub fn new(writer: W) -> HashedWrite<W>
         ensures message { HoldsWritten result [] }
         ensures writer { inner_writer result ≡ writer }
@@ -38,7 +39,27 @@ impl<W: Write> HashedWrite<W> {
         DataHash::from(self.hasher.finalize())
     }
 
+    // Writes a beginning of `slice`, one byte at least, and again where that is interrupted.
+    #[tactic(auto, unfolding(crate::specs::HashedWrite::inner_writer))]
+    fn write_some(&mut self, slice: &[u8]) -> io::Result<usize>
+        ensures some { IfOk result (λ n. 0 < n) }
+        ensures bound { WritesAtMost result slice.now }
+        ensures bytes { WriteAppends (W.contents (inner_writer self.old)) (W.contents (inner_writer self.new)) result slice.now }
+        ensures message { (m : List ℕ) → HoldsWritten self.old m → HoldsWritten self.new (m ++ taken_bytes result slice.now) }
+    {
+        'repeats: for _ in 0..u64::MAX {
+            match self.write(slice) {
+                Ok(0) => return Err(io::Error::from(ErrorKind::WriteZero)),
+                Ok(n) => return Ok(n),
+                Err(error) if error.kind() == ErrorKind::Interrupted => {}
+                Err(error) => return Err(error),
+            }
+        }
+        Err(io::Error::from(ErrorKind::Interrupted))
+    }
+
     /// The inner writer, as it stands.
+    #[tactic(auto, unfolding(crate::specs::HashedWrite::inner_writer))]
     pub fn into_inner(self) -> W
         ensures { result ≡ inner_writer self }
     {
@@ -53,6 +74,7 @@ impl<W: Write> Write for HashedWrite<W> {
     /// Hands `slice` to the inner writer in one call, whose answer is the answer. A message has less
     /// than 2^64 bytes: with no room for all of `slice` the error is [`ErrorKind::InvalidInput`], and
     /// the inner writer is not called.
+    #[tactic(auto, unfolding(crate::specs::HashedWrite::inner_writer))]
     fn write(&mut self, slice: &[u8]) -> io::Result<usize>
         ensures bound { WritesAtMost result slice.now }
         ensures bytes { WriteAppends (W.contents (inner_writer self.old)) (W.contents (inner_writer self.new)) result slice.now }
@@ -68,7 +90,25 @@ impl<W: Write> Write for HashedWrite<W> {
         Ok(taken)
     }
 
+    /// Hands all of `slice` to the inner writer, in as many calls of `write` as that takes.
+    ///
+    /// It fails where a call fails, other than by [`ErrorKind::Interrupted`], or takes nothing; a beginning of
+    /// `slice` was taken then, and is hashed.
+    fn write_all(&mut self, slice: &[u8]) -> io::Result<()>
+        ensures bytes { OnOk result (Appends (W.contents (inner_writer self.old)) (W.contents (inner_writer self.new)) slice.now) }
+        ensures message { (m : List ℕ) → HoldsWritten self.old m → OnOk result (HoldsWritten self.new (m ++ slice.now)) }
+        ensures begun { OnErr result (HoldsBeginning self.old self.new slice.now) }
+    {
+        let mut rest = slice;
+        'rest: while !rest.is_empty() {
+            let n = self.write_some(rest)?;
+            rest = &rest[n..];
+        }
+        Ok(())
+    }
+
     /// Flushes the inner writer.
+    #[tactic(auto, unfolding(crate::specs::HashedWrite::inner_writer))]
     fn flush(&mut self) -> io::Result<()>
         ensures bytes { Keeps (W.contents (inner_writer self.old)) (W.contents (inner_writer self.new)) }
         ensures message { (m : List ℕ) → HoldsWritten self.old m → HoldsWritten self.new m }

@@ -82,7 +82,7 @@ fn in_sight<A: Allocator>(
     y: &Levels,
 ) -> Result<Vec<Node, A>, CoreError>
     ensures seen { IfOk result (λ seen. seen.items ≡ between x.now carry.now y.now) }
-    ensures err { IfErr result (λ e. e ≡ CoreError.OutOfMemory) }
+    ensures errors { IfErr result (λ e. e ≡ CoreError.OutOfMemory) }
 {
     let mut seen = Vec::new(alloc);
     seen.extend_from_slice(x.inner())?;
@@ -108,7 +108,7 @@ fn join_level<A: Allocator + Clone>(
         JoinsBelow at_start at_end xs ys x.now carry.now y.now levels.old.counts.items levels.old.lefts.items levels.old.rights.items →
         JoinsBelow at_start at_end xs ys (above x.now) made.items (above y.now) levels.new.counts.items levels.new.lefts.items levels.new.rights.items) }
     ensures fits { IfOk result (λ made. levels_size (above x.now) + (total_size made.items + levels_size (above y.now)) < 2 ^ 64) }
-    ensures err { IfErr result (λ e. e ≡ CoreError.OutOfMemory) }
+    ensures errors { IfErr result (λ e. e ≡ CoreError.OutOfMemory) }
 {
     let seen = in_sight(alloc.clone()?, x, carry, y)?;
     let split = join_split(x, &seen, y, at_start, at_end);
@@ -127,7 +127,7 @@ pub(super) fn join<A: Allocator + Clone>(
     requires { levels_size x + levels_size y < 2 ^ 64 }
     ensures joined { IfOk result (λ levels.
         StandsFor at_start at_end x.entry y.entry levels.counts.items levels.lefts.items levels.rights.items) }
-    ensures err { IfErr result (λ e. e ≡ CoreError.OutOfMemory) }
+    ensures errors { IfErr result (λ e. e ≡ CoreError.OutOfMemory) }
 {
     let mut levels = OpenLevels::new(alloc.clone()?)?;
     let mut carry = Vec::new(alloc.clone()?);

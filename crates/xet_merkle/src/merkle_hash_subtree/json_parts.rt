@@ -137,7 +137,7 @@ pub(super) fn read_parts<A: Allocator + Clone>(
     value: &Value,
 ) -> Result<Parts<A>, CoreError>
     ensures parts { IfOk result (λ parts. ReadsParts (view value.now) parts.at_start parts.at_end parts.counts.items parts.nodes.items) }
-    ensures rule { IfErr result (λ e. (e ≡ OutOfMemory)
+    ensures errors { IfErr result (λ e. (e ≡ OutOfMemory)
         ⊎ ((rule : ℕ) × (e ≡ InvalidJson rule) × BreaksPartRule (view value.now) rule)) }
 {
     if !value.is_object() {

@@ -25,7 +25,7 @@ pub(super) struct OpenLevels<A: Allocator> {
 impl<A: Allocator + Clone> OpenLevels<A> {
     pub(super) fn new(alloc: A) -> Result<Self, CoreError>
         ensures none { IfOk result (λ levels. IsOpen levels.counts.items levels.lefts.items levels.rights.items []) }
-        ensures err { IfErr result (λ e. e ≡ CoreError.OutOfMemory) }
+        ensures errors { IfErr result (λ e. e ≡ CoreError.OutOfMemory) }
     {
         Ok(OpenLevels {
             counts: Vec::new(alloc.clone()?),
@@ -40,7 +40,7 @@ impl<A: Allocator + Clone> OpenLevels<A> {
             IsOpen self.old.counts.items self.old.lefts.items self.old.rights.items levels →
             IsOpen self.new.counts.items self.new.lefts.items self.new.rights.items
             (levels ++ record { left = left.now; right = right.now } ∷ [])) }
-        ensures err { IfErr result (λ e. e ≡ CoreError.OutOfMemory) }
+        ensures errors { IfErr result (λ e. e ≡ CoreError.OutOfMemory) }
     {
         self.counts.push((left.len(), right.len()))?;
         self.lefts.extend_from_slice(left)?;
@@ -65,7 +65,7 @@ impl<A: Allocator + Clone> OpenLevels<A> {
             (λ made. StandsBelow at_start at_end xs ys made.items self.new.counts.items self.new.lefts.items self.new.rights.items)) }
         ensures fits { IfOk result (λ next. IfSome next (λ made. total_size made.items < 2 ^ 64)) }
         ensures fewer { IfOk result (λ next. IfSome next (λ made. length made.items < length nodes.now)) }
-        ensures err { IfErr result (λ e. e ≡ CoreError.OutOfMemory) }
+        ensures errors { IfErr result (λ e. e ≡ CoreError.OutOfMemory) }
     {
         match find_split(nodes, at_start, at_end) {
             None => {
@@ -91,7 +91,7 @@ impl<A: Allocator + Clone> OpenLevels<A> {
         ensures stands { IfOk result (λ _. (xs ys : List Level) →
             StandsBelow at_start at_end xs ys nodes.now self.old.counts.items self.old.lefts.items self.old.rights.items →
             StandsFor at_start at_end xs ys self.new.counts.items self.new.lefts.items self.new.rights.items) }
-        ensures err { IfErr result (λ e. e ≡ CoreError.OutOfMemory) }
+        ensures errors { IfErr result (λ e. e ≡ CoreError.OutOfMemory) }
     {
         let mut next = self.collapse(alloc.clone()?, nodes, at_start, at_end)?;
         'collapsing: while let Some(nodes) = next {

@@ -26,7 +26,7 @@ use xet_hash::data_hash::MerkleHash;
 /// What is known of the tree over a list of chunks without the chunks that stand before and after it:
 /// at each level the nodes whose groups may still change, on either side. A list's start, or its end, is
 /// marked where no more chunks come before, or after, it.
-#[derive(Drop)]
+#[derive(Debug, Drop)]
 pub struct MerkleHashSubtree<A: Allocator = Global> {
     at_start: bool,
     at_end: bool,
@@ -90,7 +90,7 @@ impl<A: Allocator + Clone> MerkleHashSubtree<A> {
     /// A copy. It fails with [`CoreError::OutOfMemory`] where an allocation is refused.
     pub fn try_clone(&self) -> Result<Self, CoreError>
         ensures copy { IfOk result (λ copy. copy ≡ self.now) }
-        ensures err { IfErr result (λ e. e ≡ CoreError.OutOfMemory) }
+        ensures errors { IfErr result (λ e. e ≡ CoreError.OutOfMemory) }
     {
         self.copy(self.nodes.allocator().clone()?)
     }
@@ -98,7 +98,7 @@ impl<A: Allocator + Clone> MerkleHashSubtree<A> {
     // A copy in memory of `alloc`.
     fn copy(&self, alloc: A) -> Result<Self, CoreError>
         ensures copy { IfOk result (λ copy. copy ≡ self.now) }
-        ensures err { IfErr result (λ e. e ≡ CoreError.OutOfMemory) }
+        ensures errors { IfErr result (λ e. e ≡ CoreError.OutOfMemory) }
     {
         let mut nodes = Vec::new(alloc.clone()?);
         nodes.extend_from_slice(&self.nodes)?;
@@ -129,7 +129,7 @@ impl<A: Allocator + Clone> MerkleHashSubtree<A> {
         ensures start { IfOk result (λ subtree. subtree.at_start ≡ at_start) }
         ensures end { IfOk result (λ subtree. subtree.at_end ≡ at_end) }
         ensures size { IfOk result (λ subtree. levels_size subtree.levels ≡ size) }
-        ensures err { IfErr result (λ e. e ≡ CoreError.OutOfMemory) }
+        ensures errors { IfErr result (λ e. e ≡ CoreError.OutOfMemory) }
     {
         let OpenLevels {
             counts,
@@ -210,9 +210,10 @@ impl<A: Allocator> MerkleHashSubtree<A> {
         self.at_end
     }
 
-    /// The sum of the sizes of all nodes, in bytes.
+    /// The sum of the sizes of all nodes, in bytes, which is that of the list's chunks.
     pub fn total_size(&self) -> u64
-        ensures { result ≡ levels_size self.now.levels }
+        ensures nodes { result ≡ levels_size self.now.levels }
+        ensures chunks { (chunks : List Node) → IsCanonical self.now chunks → result ≡ total_size chunks }
     {
         self.total_size
     }

@@ -105,7 +105,7 @@ impl<A: Allocator + Clone> MerkleHashSubtree<A> {
     /// a rule. This call is this port's own; it stands for the `Deserialize` of the Rust crate.
     pub fn from_json(alloc: A, value: &Value) -> Result<Self, CoreError>
         ensures reads { IfOk result (Reads (view value.now)) }
-        ensures rule { IfErr result (λ e. (e ≡ CoreError.OutOfMemory)
+        ensures errors { IfErr result (λ e. (e ≡ CoreError.OutOfMemory)
             ⊎ ((rule : ℕ) × (e ≡ InvalidJson rule) × BreaksRule (view value.now) rule)) }
     {
         // A law of hex texts, for the clause `reads`.
@@ -120,7 +120,7 @@ impl<A: Allocator + Clone> MerkleHashSubtree<A> {
         ensures flat { IfOk result (λ subtree. IsFlat parts.counts.items parts.nodes.items subtree.levels) }
         ensures well_formed { IfOk result IsWellFormed }
         ensures fits { IfOk result (λ subtree. levels_size subtree.levels < 2 ^ 64) }
-        ensures rule { IfErr result (λ e. (rule : ℕ) × (e ≡ InvalidJson rule)
+        ensures errors { IfErr result (λ e. (rule : ℕ) × (e ≡ InvalidJson rule)
             × BreaksValueRule parts.at_start parts.at_end parts.counts.items parts.nodes.items rule) }
     {
         let Parts {

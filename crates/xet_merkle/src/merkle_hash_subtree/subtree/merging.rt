@@ -112,7 +112,7 @@ impl<A: Allocator + Clone> MerkleHashSubtree<A> {
         requires marks { NoMarkBetween (self ∷ others.now) }
         requires fits { ranges_size (self ∷ others.now) < 2 ^ 64 }
         ensures merges { IfOk result (λ merged. MergesTo (self ∷ others.now) (merged ∷ [])) }
-        ensures err { IfErr result (λ e. e ≡ CoreError.OutOfMemory) }
+        ensures errors { IfErr result (λ e. e ≡ CoreError.OutOfMemory) }
     {
         let mut merged = self;
         'merging: for range in others {

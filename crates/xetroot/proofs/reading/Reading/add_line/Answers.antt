@@ -19,7 +19,7 @@ returns-in-Some-Separator-clause-says g c =
 
 pub returns-in-Some-Separator-clause-fault : goal.returns-in-Some-Separator-clause-fault
 returns-in-Some-Separator-clause-fault g c =
-    IfErr-weaker c.end_range.result _ _ (λ fault is pairs line held open_line. subst (IsLineFault c.args.self.now.number pairs line) (sym is) tt) c.end_range.ensures.err
+    IfErr-weaker c.end_range.result _ _ (λ fault is pairs line held open_line. subst (IsLineFault c.args.self.now.number pairs line) (sym is) tt) c.end_range.ensures.errors
 
 pub returns-in-Some-Pair-clause-says : goal.returns-in-Some-Pair-clause-says
 returns-in-Some-Pair-clause-says g c =

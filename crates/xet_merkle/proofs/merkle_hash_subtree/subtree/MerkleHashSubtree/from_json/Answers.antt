@@ -6,16 +6,16 @@ use Rattle.xet_merkle.proofs.JsonLaws.{passed_on}
 use Rattle.xet_merkle.proofs.JsonBack.{Reads-parts}
 use Rattle.xet_merkle.proofs.merkle_hash_subtree.subtree.MerkleHashSubtree.from_json.Goals as goal
 
-pub returns-in_err-read_parts-clause-rule : goal.returns-in_err-read_parts-clause-rule
-returns-in_err-read_parts-clause-rule g c = passed_on _ c.from_residual.result c.in_err-read_parts.field-0.0 c.from_residual.ensures.1
-    (elim c.in_err-read_parts.ensures.rule [
+pub returns-in_err-read_parts-clause-errors : goal.returns-in_err-read_parts-clause-errors
+returns-in_err-read_parts-clause-errors g c = passed_on _ c.from_residual.result c.in_err-read_parts.field-0.0 c.from_residual.ensures.1
+    (elim c.in_err-read_parts.ensures.errors [
       | inl memory ↦ inl memory
       | inr broken ↦ inr (broken.0, broken.1, of_parts broken.2)
     ])
 
-pub returns-in_err-from_parts-clause-rule : goal.returns-in_err-from_parts-clause-rule
-returns-in_err-from_parts-clause-rule g c =
-    let broken = c.in_err-from_parts.ensures.rule in
+pub returns-in_err-from_parts-clause-errors : goal.returns-in_err-from_parts-clause-errors
+returns-in_err-from_parts-clause-errors g c =
+    let broken = c.in_err-from_parts.ensures.errors in
     passed_on _ c.from_residual-in_err-from_parts.result c.in_err-from_parts.field-0.0 c.from_residual-in_err-from_parts.ensures.1
     (inr (broken.0, broken.1, of_value c.in_ok-read_parts.ensures.parts broken.2))
 

@@ -13,17 +13,17 @@ use Rattle.xet_merkle.proofs.FlatLevelLaws.{IsFlat-from_sum}
 use Rattle.xet_merkle.proofs.StoredLevels.{stored_size}
 use Rattle.xet_merkle.proofs.merkle_hash_subtree.subtree.MerkleHashSubtree.from_parts.Goals as goal
 
-pub returns-then-is_empty-clause-rule : goal.returns-then-is_empty-clause-rule
-returns-then-is_empty-clause-rule g c = (5, refl, no_level (grind (arith, nat_tests, c.if-is_empty.ensures)))
+pub returns-then-is_empty-clause-errors : goal.returns-then-is_empty-clause-errors
+returns-then-is_empty-clause-errors g c = (5, refl, no_level (grind (arith, nat_tests, c.if-is_empty.ensures)))
 
-pub returns-then-not-add_up-clause-rule : goal.returns-then-not-add_up-clause-rule
-returns-then-not-add_up-clause-rule g c =
+pub returns-then-not-add_up-clause-errors : goal.returns-then-not-add_up-clause-errors
+returns-then-not-add_up-clause-errors g c =
     let some : 0 < length c.args.parts.counts.items = grind (arith, nat_tests, c.if-is_empty.ensures) in
     let len : c.len.result ≡ length c.args.parts.nodes.items = search rules in
     (6, refl, wrong_counts some (λ sum. false≢true (c.if-not-add_up.ensures.1 (ap count_sum c.deref.ensures.value ∙ sum ∙ sym len))))
 
-pub returns-in_default-clause-rule : goal.returns-in_default-clause-rule
-returns-in_default-clause-rule g c =
+pub returns-in_default-clause-errors : goal.returns-in_default-clause-errors
+returns-in_default-clause-errors g c =
     let some : 0 < length c.args.parts.counts.items = grind (arith, nat_tests, c.if-is_empty.ensures) in
     let len : c.len.result ≡ length c.args.parts.nodes.items = search rules in
     let sum = sym (ap count_sum c.deref.ensures.value) ∙ c.if-not-add_up.ensures.0 refl ∙ len in
@@ -43,8 +43,8 @@ returns-clause-flat g c =
     let sum = sym (ap count_sum c.deref.ensures.value) ∙ c.if-not-add_up.ensures.0 refl ∙ len in
     IsFlat-from_sum c.args.parts.counts.items c.args.parts.nodes.items sum
 
-pub returns-in-Some-broken_rule-clause-rule : goal.returns-in-Some-broken_rule-clause-rule
-returns-in-Some-broken_rule-clause-rule g c =
+pub returns-in-Some-broken_rule-clause-errors : goal.returns-in-Some-broken_rule-clause-errors
+returns-in-Some-broken_rule-clause-errors g c =
     let some : 0 < length c.args.parts.counts.items = grind (arith, nat_tests, c.if-is_empty.ensures) in
     let len : c.len.result ≡ length c.args.parts.nodes.items = search rules in
     let sum = sym (ap count_sum c.deref.ensures.value) ∙ c.if-not-add_up.ensures.0 refl ∙ len in
