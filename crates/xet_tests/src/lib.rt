@@ -7,9 +7,13 @@ mod aggregated_hashes;
 #[cfg(test)]
 mod blake3;
 #[cfg(test)]
+mod data_hash;
+#[cfg(test)]
 mod drawn;
 #[cfg(test)]
 mod error;
+#[cfg(test)]
+mod hashed_write;
 #[cfg(test)]
 mod merkle_hash_subtree;
 #[cfg(test)]
