@@ -9,8 +9,6 @@ mod blake3;
 #[cfg(test)]
 mod data_hash;
 #[cfg(test)]
-mod drawn;
-#[cfg(test)]
 mod error;
 #[cfg(test)]
 mod hashed_write;
@@ -22,3 +20,5 @@ mod passthrough_hasher;
 mod passthrough_hashmap;
 #[cfg(test)]
 mod refused_allocations;
+#[cfg(test)]
+mod support;

@@ -1,7 +1,7 @@
 //! Calls with an allocator that refuses a request and each later one: the first request, then the second, and
 //! so on, until the call succeeds.
 
-use crate::drawn::drawn_list;
+use crate::support::drawn_list;
 use rand_core::SeedableRng;
 use rand_xoshiro::Xoshiro256PlusPlus;
 use refusing_allocator::RefusingAllocator;

@@ -1,15 +1,15 @@
 //! Merging subtrees that were read back and came from no list. What the merged ones print as was computed without
 //! this code.
 
-use super::json::read;
+use crate::support::read_json;
 use std::test::Fail;
 
 #[test]
 fn subtrees_of_no_list_merge_from_their_nodes(rt: HostRuntime) -> Result<(), Fail> {
     let mut texts = TEXTS.lines();
     for number in 0..6 {
-        let mut subtree = read(rt.alloc(), texts.next().ok_or("no left subtree")?)??;
-        let right = read(rt.alloc(), texts.next().ok_or("no right subtree")?)??;
+        let mut subtree = read_json(rt.alloc(), texts.next().ok_or("no left subtree")?)??;
+        let right = read_json(rt.alloc(), texts.next().ok_or("no right subtree")?)??;
         subtree.merge_into(&right)?;
         let text = subtree.to_json(rt.alloc())?.to_string(rt.alloc())?;
         assert_eq!(rt; Some(text.as_str()), texts.next(), "{number}");

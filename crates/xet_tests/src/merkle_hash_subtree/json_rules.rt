@@ -1,7 +1,7 @@
 //! The JSON values of 300 drawn subtrees, changed at drawn places, beside the least rule that each of them breaks,
 //! which was computed without this code.
 
-use super::levels::{MARKS, list, with_cut};
+use crate::support::{MARKS, numbered_list, with_cut};
 use rand_core::{Rng, SeedableRng};
 use rand_xoshiro::Xoshiro256PlusPlus;
 use serde_json::Value;
@@ -154,7 +154,7 @@ impl Parts {
 fn drawn_texts(alloc: Global, number: u64) -> Result<(String, String), Fail> {
     let mut generator = Xoshiro256PlusPlus::seed_from_u64(number.saturating_add(2000));
     let (at_start, at_end) = MARKS[(generator.next_u64() % 4) as usize];
-    let chunks = list(alloc, number)?;
+    let chunks = numbered_list(alloc, number)?;
     let subtree = MerkleHashSubtree::from_chunks(alloc, at_start, chunks.as_slice(), at_end)?;
     let mut parts = Parts::of(alloc, &subtree)?;
     for _ in 0..generator.next_u64() % 3 {

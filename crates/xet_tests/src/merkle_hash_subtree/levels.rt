@@ -1,98 +1,15 @@
 //! The canonical subtrees of 300 drawn lists, beside values that were computed apart from this code, by the
 //! definition, from the whole list at every level.
 
-use rand_core::{Rng, SeedableRng};
-use rand_xoshiro::Xoshiro256PlusPlus;
-use std::alloc::{AllocError, Global};
-use std::fmt::Write;
+use crate::support::{MARKS, numbered_list, summary};
 use std::test::Fail;
-use xet_hash::data_hash::{DataHash, MerkleHash, compute_data_hash};
-use xet_merkle::aggregated_hashes::Node;
 use xet_merkle::merkle_hash_subtree::MerkleHashSubtree;
-
-// A list has fewer nodes than this. Lists take these bounds in turn.
-const LENGTHS: [u64; 5] = [10, 40, 100, 300, 1000];
-
-// The gaps from one natural cut to the next: a list draws each of them from a table. At `None` natural cuts
-// stand where the drawn hashes have them. Lists take these in turn.
-const GAPS: [Option<[u64; 8]>; 7] = [
-    None,
-    Some([3, 4, 5, 6, 7, 3, 5, 7]),
-    Some([3, 7, 3, 7, 3, 7, 3, 7]),
-    Some([2, 3, 7, 8, 2, 3, 7, 8]),
-    Some([3, 4, 5, 6, 8, 9, 10, 19]),
-    Some([1, 2, 3, 4, 5, 6, 7, 9]),
-    Some([1, 1, 2, 1, 1, 4, 1, 1]),
-];
-
-/// Whether a list's start and end are marked. Lists take these in turn.
-pub const MARKS: [(bool, bool); 4] = [(false, false), (true, false), (false, true), (true, true)];
-
-/// A hash with some of its bits changed so that it is a natural cut, or none, as told.
-pub fn with_cut(hash: MerkleHash, is_cut: bool) -> MerkleHash {
-    let [first, second, third, last] = hash.words();
-    let cut = last & !3;
-    let last = if is_cut { cut } else { last.max(cut | 1) };
-    MerkleHash::from([first, second, third, last])
-}
-
-/// The list of a number.
-pub fn list(alloc: Global, number: u64) -> Result<Vec<Node>, AllocError> {
-    let mut generator = Xoshiro256PlusPlus::seed_from_u64(number);
-    let gaps = GAPS[(number % 7) as usize];
-    let count = generator.next_u64() % LENGTHS[(number % 5) as usize];
-    let mut nodes = Vec::new(alloc);
-    let mut until_cut = 0u64;
-    for _ in 0..count {
-        let mut hash = DataHash::random_from_seed(generator.next_u64());
-        let size = generator.next_u64() >> (generator.next_u64() % 50 + 14);
-        if let Some(gaps) = gaps {
-            if until_cut == 0 {
-                until_cut = gaps[(generator.next_u64() % 8) as usize];
-            }
-            until_cut = until_cut.saturating_sub(1);
-            hash = with_cut(hash, until_cut == 0);
-        }
-        nodes.push((hash, size))?;
-    }
-    Ok(nodes)
-}
-
-// Adds the 32 bytes of each node's hash, and the 8 of its size from the lowest up.
-fn push_nodes(bytes: &mut Vec<u8>, nodes: &[Node]) -> Result<(), AllocError> {
-    for (hash, size) in nodes {
-        bytes.extend_from_slice(&hash.as_bytes())?;
-        bytes.extend_from_slice(&size.to_le_bytes())?;
-    }
-    Ok(())
-}
-
-/// How many left and right nodes each level has, and the first word of the data hash of all nodes: the left
-/// ones by rising level, then the right ones by falling level, and last the root, where there is one.
-pub fn summary(alloc: Global, subtree: &MerkleHashSubtree) -> Result<String, AllocError> {
-    let mut text = String::new(alloc);
-    let mut bytes = Vec::new(alloc);
-    for level in 0..subtree.num_levels() {
-        let (left, right) = (subtree.left(level), subtree.right(level));
-        write!(text, "{},{} ", left.len(), right.len())?;
-        push_nodes(&mut bytes, left)?;
-    }
-    for level in (0..subtree.num_levels()).rev() {
-        push_nodes(&mut bytes, subtree.right(level))?;
-    }
-    if let Some(root) = subtree.final_hash() {
-        bytes.extend_from_slice(&root.as_bytes())?;
-    }
-    let [word, _, _, _] = compute_data_hash(bytes.as_slice()).words();
-    write!(text, "{word:016x}")?;
-    Ok(text)
-}
 
 #[test]
 fn levels_are_those_of_whole_lists(rt: HostRuntime) -> Result<(), Fail> {
     for (number, expected) in SUMMARIES.lines().enumerate() {
         let (at_start, at_end) = MARKS[number % 4];
-        let chunks = list(rt.alloc(), number as u64)?;
+        let chunks = numbered_list(rt.alloc(), number as u64)?;
         let chunks = chunks.as_slice();
         let subtree = MerkleHashSubtree::from_chunks(rt.alloc(), at_start, chunks, at_end)?;
         let summary = summary(rt.alloc(), &subtree)?;

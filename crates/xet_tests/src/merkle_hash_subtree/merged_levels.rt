@@ -1,8 +1,7 @@
 //! The subtrees of 300 drawn lists, merged from drawn ranges two by two in drawn orders, beside values that
 //! were computed apart from this code, by the definition, from the whole list at every level.
 
-use super::levels::{MARKS, list, summary};
-use super::merging::{drawn_lengths, ranges};
+use crate::support::{MARKS, drawn_lengths, numbered_list, ranges, summary};
 use rand_core::{Rng, SeedableRng};
 use rand_xoshiro::Xoshiro256PlusPlus;
 use std::alloc::Global;
@@ -30,7 +29,7 @@ fn merge_at_drawn_places(
 
 // The outer marks and the summary of the subtree that the ranges of a number are merged to.
 fn merged_summary(alloc: Global, number: u64) -> Result<String, Fail> {
-    let chunks = list(alloc, number.saturating_add(300))?;
+    let chunks = numbered_list(alloc, number.saturating_add(300))?;
     let mut generator = Xoshiro256PlusPlus::seed_from_u64(number.saturating_add(1000));
     let marks = MARKS[(generator.next_u64() % 4) as usize];
     let lengths = drawn_lengths(&mut generator, alloc, chunks.len() as u64)?;

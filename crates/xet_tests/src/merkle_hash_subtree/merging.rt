@@ -1,9 +1,9 @@
 //! Merging the subtrees of adjacent ranges: worked examples, refusals, and the roots of lists that are split
 //! at many places.
 
-use super::levels::MARKS;
-use super::{EACH_FOURTH, has_counts, with_cuts};
-use crate::drawn::drawn_list;
+use crate::support::{
+    EACH_FOURTH, MARKS, drawn_lengths, drawn_list, has_counts, ranges, with_cuts,
+};
 use rand_core::{Rng, SeedableRng};
 use rand_xoshiro::Xoshiro256PlusPlus;
 use std::alloc::{AllocError, Global};
@@ -21,27 +21,6 @@ fn joined(
     let mut merged = left.try_clone()?;
     merged.merge_into(right)?;
     Ok(merged)
-}
-
-/// The subtrees of a list's ranges: as many nodes in turn as told, and last all that are left. The list's
-/// start and end are marked as told.
-pub fn ranges(
-    alloc: Global,
-    nodes: &[Node],
-    lengths: &[usize],
-    marks: (bool, bool),
-) -> Result<Vec<MerkleHashSubtree>, CoreError> {
-    let mut ranges = Vec::new(alloc);
-    let mut rest = nodes;
-    let (mut at_start, at_end) = marks;
-    for length in lengths {
-        let (range, after) = rest.split_at((*length).min(rest.len()));
-        ranges.push(MerkleHashSubtree::from_chunks(alloc, at_start, range, false)?)?;
-        rest = after;
-        at_start = false;
-    }
-    ranges.push(MerkleHashSubtree::from_chunks(alloc, at_start, rest, at_end)?)?;
-    Ok(ranges)
 }
 
 // Whether the merged ranges of a list have the root of the whole.
@@ -255,21 +234,6 @@ fn short_drawn_lists_merge_to_their_root_at_each_split(rt: HostRuntime) -> Resul
         }
     }
     Ok(())
-}
-
-/// The lengths of all ranges but the last, of from two to six.
-pub fn drawn_lengths(
-    generator: &mut Xoshiro256PlusPlus,
-    alloc: Global,
-    count: u64,
-) -> Result<Vec<usize>, AllocError> {
-    let ranges = generator.next_u64() % 5 + 2;
-    let most = count / ranges * 2;
-    let mut lengths = Vec::new(alloc);
-    for _ in 1..ranges {
-        lengths.push((generator.next_u64() % most.saturating_add(1)) as usize)?;
-    }
-    Ok(lengths)
 }
 
 #[test]
