@@ -161,6 +161,21 @@ pub fn ranges(
     Ok(ranges)
 }
 
+/// Merges the range at a place into the one before it.
+pub fn merge_into_previous(
+    ranges: &mut Vec<MerkleHashSubtree>,
+    place: usize,
+) -> Result<(), CoreError> {
+    if place < ranges.len() {
+        let (before, after) = ranges.split_at_mut(place);
+        if let ([.., left], [right, ..]) = (before, after) {
+            left.merge_into(right)?;
+        }
+        ranges.remove(place);
+    }
+    Ok(())
+}
+
 /// The lengths of all ranges but the last, of from two to six.
 pub fn drawn_lengths(
     generator: &mut Xoshiro256PlusPlus,

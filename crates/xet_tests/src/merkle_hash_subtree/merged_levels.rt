@@ -1,7 +1,7 @@
 //! The subtrees of 300 drawn lists, merged from drawn ranges two by two in drawn orders, beside values that
 //! were computed apart from this code, by the definition, from the whole list at every level.
 
-use crate::support::{MARKS, drawn_lengths, numbered_list, ranges, summary};
+use crate::support::{MARKS, drawn_lengths, merge_into_previous, numbered_list, ranges, summary};
 use rand_core::{Rng, SeedableRng};
 use rand_xoshiro::Xoshiro256PlusPlus;
 use std::alloc::Global;
@@ -16,13 +16,7 @@ fn merge_at_drawn_places(
 ) -> Result<(), CoreError> {
     for others in (1..ranges.len()).rev() {
         let place = (generator.next_u64() % others as u64).saturating_add(1) as usize;
-        if place < ranges.len() {
-            let (before, after) = ranges.split_at_mut(place);
-            if let ([.., left], [right, ..]) = (before, after) {
-                left.merge_into(right)?;
-            }
-            ranges.remove(place);
-        }
+        merge_into_previous(ranges, place)?;
     }
     Ok(())
 }

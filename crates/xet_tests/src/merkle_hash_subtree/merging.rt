@@ -2,7 +2,8 @@
 //! at many places.
 
 use crate::support::{
-    EACH_FOURTH, MARKS, drawn_lengths, drawn_list, has_counts, ranges, with_cuts,
+    EACH_FOURTH, MARKS, drawn_lengths, drawn_list, has_counts, merge_into_previous, ranges,
+    with_cuts,
 };
 use rand_core::{Rng, SeedableRng};
 use rand_xoshiro::Xoshiro256PlusPlus;
@@ -68,24 +69,24 @@ fn a_range_at_the_start_takes_in_a_merged_one(rt: HostRuntime) -> Result<(), Fai
 #[test]
 fn each_bracketing_gives_the_same_subtree(rt: HostRuntime) -> Result<(), Fail> {
     let nodes = with_cuts::<28>(&EACH_FOURTH);
-    let (first, rest) = nodes.split_at(4);
-    let (second, third) = rest.split_at(20);
-    let a = MerkleHashSubtree::from_chunks(rt.alloc(), true, first, false)?;
-    let b = MerkleHashSubtree::from_chunks(rt.alloc(), false, second, false)?;
-    let c = MerkleHashSubtree::from_chunks(rt.alloc(), false, third, false)?;
-    let d = MerkleHashSubtree::from_chunks(rt.alloc(), false, &[], true)?;
-    let (ab, bc, cd) = (joined(&a, &b)?, joined(&b, &c)?, joined(&c, &d)?);
     let whole = MerkleHashSubtree::from_chunks(rt.alloc(), true, &nodes, true)?;
     let root = "b1026a806e25e14a5a9d00c9400b8b5b92e81027e1c574046edb37f500fcdeae";
-    for merged in [
-        joined(&joined(&ab, &c)?, &d)?,
-        joined(&joined(&a, &bc)?, &d)?,
-        joined(&ab, &cd)?,
-        joined(&a, &joined(&bc, &d)?)?,
-        joined(&a, &joined(&b, &cd)?)?,
+    assert_eq!(rt; whole.final_hash(), Some(DataHash::from_hex(root)?));
+    // Four ranges a, b, c and d, and the places at which two are merged, one after another.
+    for (bracketing, places) in [
+        ("((a b) c) d", [1, 1, 1]),
+        ("(a (b c)) d", [2, 1, 1]),
+        ("(a b) (c d)", [1, 2, 1]),
+        ("a ((b c) d)", [2, 2, 1]),
+        ("a (b (c d))", [3, 2, 1]),
     ] {
-        assert!(rt; merged == whole);
-        assert_eq!(rt; merged.final_hash(), Some(DataHash::from_hex(root)?));
+        let mut ranges = ranges(rt.alloc(), &nodes, &[4, 20, 4], (true, true))?;
+        assert_eq!(rt; ranges.len(), 4);
+        for place in places {
+            merge_into_previous(&mut ranges, place)?;
+        }
+        assert_eq!(rt; ranges.len(), 1, "{bracketing}");
+        assert!(rt; ranges.first() == Some(&whole), "{bracketing}");
     }
     Ok(())
 }
