@@ -217,6 +217,7 @@ pub fn file_hash<A: Allocator>(alloc: A, chunks: &[Node]) -> Result<MerkleHash, 
 #[cfg(test)]
 mod tests {
     use super::*;
+    use std::test::Fail;
 
     // Twelve nodes of which each that has a 1 here is a natural cut.
     fn nodes(cuts: [u64; 12]) -> [Node; 12] {
@@ -242,11 +243,88 @@ mod tests {
         }
     }
 
+    // A node by its number: the default hash of size 0, or the hash of a seed, with a size of 100 for each number.
+    fn node(number: u64) -> Node {
+        let hash = if number == 0 {
+            MerkleHash::default()
+        } else {
+            MerkleHash::random_from_seed(number)
+        };
+        (hash, number.saturating_mul(100))
+    }
+
+    // The expected groups are their lengths, and the hash and the size of their parents.
     #[test]
-    fn lines_have_69_to_88_bytes(rt: HostRuntime) {
-        for (size, len) in [(0, 69), (100, 71), (u64::MAX, 88)] {
-            let text = group_text(&[(MerkleHash::default(), size)]);
-            assert_eq!(rt; text.len(), len, "{size}");
+    fn a_whole_list_is_cut_into_groups(rt: HostRuntime) -> Result<(), Fail> {
+        let same = [1, 1, 1, 1].map(node);
+        let turns = [0, 1, 0, 1].map(node);
+        let eight = [0, 1, 2, 3, 4, 5, 6, 7].map(node);
+        for (nodes, groups) in [
+            (
+                same.as_slice(),
+                [(
+                    4,
+                    "89f2ada89ff8c96763c6b25010e6dd76a4c05b1466207633ea559acf2093211b",
+                    400,
+                )]
+                .as_slice(),
+            ),
+            (
+                &turns,
+                &[
+                    (
+                        3,
+                        "f04f4d4245ec66bda7bd6f962f5344d27c7e73c5405e7c83bf61814037633e71",
+                        100,
+                    ),
+                    (
+                        1,
+                        "fe536ba64afae22e992334c62335987cb8ae79e55f32806d473d7619a83ce721",
+                        100,
+                    ),
+                ],
+            ),
+            (
+                &eight,
+                &[
+                    (
+                        5,
+                        "3cd44c6205e443aebc22763c52b77671e61eb963d6c8b00652756278cb34ec4d",
+                        1000,
+                    ),
+                    (
+                        3,
+                        "0ecb9135dfacb6d7c97c07fbb79dadc076c945dc4d55ef14a88030dbc384aa89",
+                        1800,
+                    ),
+                ],
+            ),
+        ] {
+            assert!(rt; total_size(nodes).is_some());
+            let made = parents(rt.alloc(), nodes)?;
+            assert_eq!(rt; made.len(), groups.len());
+            let mut rest = nodes;
+            for ((len, hash, size), parent) in groups.iter().zip(made.iter()) {
+                assert!(rt; !rest.is_empty());
+                assert_eq!(rt; first_group_len(rest), *len);
+                assert_eq!(rt; *parent, (MerkleHash::from_hex(hash)?, *size));
+                (_, rest) = rest.split_at(*len);
+            }
+            assert!(rt; rest.is_empty());
         }
+        Ok(())
+    }
+
+    #[test]
+    fn lines_have_69_to_88_bytes(rt: HostRuntime) -> Result<(), Fail> {
+        let text = "cfc5d07f6f03c29bbf424132963fe08d19a37d5757aaf520bf08119f05cd56d6";
+        let hash = MerkleHash::from_hex(text)?;
+        for (size, len) in [(1, 69), (100, 71), (u64::MAX, 88)] {
+            let line = format!(in rt.alloc(); "{text} : {size}\n")?;
+            let group = group_text(&[(hash, size)]);
+            assert_eq!(rt; group.as_slice(), line.as_bytes());
+            assert_eq!(rt; group.len(), len, "{size}");
+        }
+        Ok(())
     }
 }

@@ -146,20 +146,27 @@ fn reference(key: &[u8; 32], message: &[u8]) -> [u8; 32] {
     hash
 }
 
+const KEY: [u8; 32] = *b"whats the Elvish word for friend";
+
+// The bytes from 0 to 250, again and again.
+fn message<const N: usize>() -> [u8; N] {
+    let mut message = [0; N];
+    for (byte, number) in message.iter_mut().zip((0..251).cycle()) {
+        *byte = number;
+    }
+    message
+}
+
 #[test]
 fn agrees_with_a_plain_reference(rt: HostRuntime) -> Result<(), Fail> {
-    let key = *b"whats the Elvish word for friend";
-    let mut message = [0u8; 31744];
-    for i in 0..31744 {
-        message[i] = (i % 251) as u8;
-    }
+    let message = message::<31744>();
     for length in [
         0, 1, 63, 64, 65, 1023, 1024, 1025, 2048, 2049, 3072, 3073, 4096, 5120, 31744,
     ] {
         let message = &message[..length];
-        let hash = reference(&key, message);
-        assert_eq!(rt; keyed_hash(&key, message), hash, "{length}");
-        let mut hasher = Hasher::new_keyed(&key);
+        let hash = reference(&KEY, message);
+        assert_eq!(rt; keyed_hash(&KEY, message), hash, "{length}");
+        let mut hasher = Hasher::new_keyed(&KEY);
         for byte in message {
             if hasher.has_room(1) {
                 hasher.update(&[*byte]);
@@ -168,4 +175,20 @@ fn agrees_with_a_plain_reference(rt: HostRuntime) -> Result<(), Fail> {
         assert_eq!(rt; hasher.finalize(), hash, "{length}");
     }
     Ok(())
+}
+
+#[test]
+fn two_pieces_are_hashed_as_their_whole(rt: HostRuntime) {
+    let message = message::<2049>();
+    let hash = reference(&KEY, &message);
+    assert_eq!(rt; keyed_hash(&KEY, &message), hash);
+    for place in [1023, 1024, 1025] {
+        let (first, second) = message.split_at(place);
+        let mut hasher = Hasher::new_keyed(&KEY);
+        for piece in [first, second] {
+            assert!(rt; hasher.has_room(piece.len()));
+            hasher.update(piece);
+        }
+        assert_eq!(rt; hasher.finalize(), hash, "{place}");
+    }
 }

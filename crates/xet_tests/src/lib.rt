@@ -7,9 +7,11 @@ mod aggregated_hashes;
 #[cfg(test)]
 mod blake3;
 #[cfg(test)]
-mod drawn;
+mod data_hash;
 #[cfg(test)]
 mod error;
+#[cfg(test)]
+mod hashed_write;
 #[cfg(test)]
 mod merkle_hash_subtree;
 #[cfg(test)]
@@ -18,3 +20,5 @@ mod passthrough_hasher;
 mod passthrough_hashmap;
 #[cfg(test)]
 mod refused_allocations;
+#[cfg(test)]
+mod support;

@@ -9,44 +9,14 @@ mod levels;
 mod merged_levels;
 mod merging;
 
-use crate::drawn::drawn_list;
+use crate::support::{EACH_FOURTH, drawn_list, has_counts, with_cuts};
 use rand_core::SeedableRng;
 use rand_xoshiro::Xoshiro256PlusPlus;
 use std::test::Fail;
 use xet_hash::data_hash::MerkleHash;
 use xet_merkle::CoreError;
-use xet_merkle::aggregated_hashes::{Node, xorb_hash};
+use xet_merkle::aggregated_hashes::xorb_hash;
 use xet_merkle::merkle_hash_subtree::{MerkleHashSubtree, find_stable_end, find_stable_start};
-
-// Nodes of size 1 of which those at the given indices are natural cuts.
-fn with_cuts<const N: usize>(cuts: &[u64]) -> [Node; N] {
-    let mut nodes = [(MerkleHash::default(), 1); N];
-    let mut number = 0;
-    for node in nodes.iter_mut() {
-        let is_cut = cuts.contains(&number);
-        node.0 = MerkleHash::from([number, 0, 0, u64::from(!is_cut)]);
-        number = number.saturating_add(1);
-    }
-    nodes
-}
-
-const EACH_FOURTH: [u64; 7] = [3, 7, 11, 15, 19, 23, 27];
-
-// Whether each level of a subtree has so many left and right nodes.
-fn has_counts(subtree: &MerkleHashSubtree, counts: &[(usize, usize)]) -> bool {
-    let mut total = 0usize;
-    for (level, (left, right)) in counts.iter().enumerate() {
-        if subtree.left(level).len() != *left || subtree.right(level).len() != *right {
-            return false;
-        }
-        total = total.saturating_add(*left).saturating_add(*right);
-    }
-    subtree.num_levels() == counts.len()
-        && subtree.num_nodes() == total
-        && subtree.is_empty() == (total == 0)
-        && subtree.left(counts.len()).is_empty()
-        && subtree.right(usize::MAX).is_empty()
-}
 
 #[test]
 fn stable_points_need_gaps_from_three_to_seven(rt: HostRuntime) {

@@ -211,6 +211,16 @@ fn new_maps_have_no_entries(rt: HostRuntime) -> Result<(), Fail> {
 }
 
 #[test]
+fn a_map_of_pairs_has_each_of_them(rt: HostRuntime) -> Result<(), Fail> {
+    let map = PassThroughHashMap::from_pairs(rt.alloc(), [(12345u64, "first"), (67890, "second")])?;
+    assert_eq!(rt; map.len(), 2);
+    assert_eq!(rt; map.get(&12345), Some(&"first"));
+    assert_eq!(rt; map.get(&67890), Some(&"second"));
+    assert_eq!(rt; map.get(&1), None);
+    Ok(())
+}
+
+#[test]
 fn the_last_value_of_a_key_wins(rt: HostRuntime) -> Result<(), Fail> {
     let pairs = [(1u64, 10), (2, 20), (1, 30)];
     for map in [

@@ -1,16 +1,17 @@
 //! Calls with an allocator that refuses a request and each later one: the first request, then the second, and
 //! so on, until the call succeeds.
 
-use crate::drawn::drawn_list;
+use crate::support::drawn_list;
 use rand_core::SeedableRng;
 use rand_xoshiro::Xoshiro256PlusPlus;
 use refusing_allocator::RefusingAllocator;
 use serde_json::Value;
 use std::alloc::{AllocError, Global};
 use std::test::Fail;
+use xet_hash::data_hash::DataHash;
 use xet_hash::passthrough_hashmap::PassThroughHashMap;
 use xet_merkle::CoreError;
-use xet_merkle::aggregated_hashes::{Node, xorb_hash};
+use xet_merkle::aggregated_hashes::{Node, file_hash, xorb_hash};
 use xet_merkle::merkle_hash_subtree::MerkleHashSubtree;
 
 // At least as many requests as each call makes.
@@ -51,6 +52,19 @@ fn xorb_hash_is_refused_with_each_request(rt: HostRuntime) -> Result<(), Fail> {
     }
     assert!(rt; 0 < refusals);
     assert_eq!(rt; answer, xorb_hash(rt.alloc(), chunks.as_slice()));
+    Ok(())
+}
+
+#[test]
+fn the_hashes_of_one_pair_take_no_memory(rt: HostRuntime) -> Result<(), Fail> {
+    let root = "cfc5d07f6f03c29bbf424132963fe08d19a37d5757aaf520bf08119f05cd56d6";
+    let root = DataHash::from_hex(root)?;
+    let file = "8e16257caa3fe079d484d872a8975264b2ff683b0d6db9028cc7c0f968a45661";
+    let file = DataHash::from_hex(file)?;
+    let alloc = RefusingAllocator::new(rt.alloc(), 0);
+    let pair = [(root, u64::MAX)];
+    assert_eq!(rt; file_hash(&alloc, &pair), Ok(file));
+    assert_eq!(rt; xorb_hash(&alloc, &pair), Ok(root));
     Ok(())
 }
 

@@ -143,6 +143,10 @@ fn names_the_first_faulty_line(rt: HostRuntime) -> Result<(), Fail> {
             Fault::BadLine(1),
         ),
         (
+            " 18446744073709551615\nc3e67584b5c4fc2a89837ec39e40f2c8a6bb0b2987ac94cd4b31e5fbdd210a72 1",
+            Fault::Sizes(2),
+        ),
+        (
             " 18446744073709551615\n--\nc3e67584b5c4fc2a89837ec39e40f2c8a6bb0b2987ac94cd4b31e5fbdd210a72 1\n!",
             Fault::Sizes(3),
         ),
@@ -322,4 +326,158 @@ fn interrupted_calls_are_repeated_sixteen_times(rt: HostRuntime) -> Result<(), F
         assert_eq!(rt; inner.as_slice(), want.as_bytes());
     }
     Ok(())
+}
+
+// Kinds of errors that end a run at once.
+const LASTING: [io::ErrorKind; 4] = [
+    io::ErrorKind::Other,
+    io::ErrorKind::WouldBlock,
+    io::ErrorKind::TimedOut,
+    io::ErrorKind::UnexpectedEof,
+];
+
+// A reader that gives a text three bytes at a time. One of its calls fails, and each later one would go on.
+#[derive(Drop)]
+struct FailsOnce<'a> {
+    text: &'a [u8],
+    calls: usize,
+    failing_call: usize,
+    kind: io::ErrorKind,
+}
+
+impl Read for FailsOnce<'_> {
+    fn read(&mut self, buf: &mut [u8]) -> io::Result<usize> {
+        self.calls = self.calls.saturating_add(1);
+        if self.calls == self.failing_call {
+            return Err(io::Error::from(self.kind));
+        }
+        let (front, rest) = self.text.split_at(self.text.len().min(buf.len()).min(3));
+        buf[..front.len()].copy_from_slice(front);
+        self.text = rest;
+        Ok(front.len())
+    }
+}
+
+#[test]
+fn a_failed_read_is_the_last_call(rt: HostRuntime) {
+    for kind in LASTING {
+        // The text takes two calls, and its end the third.
+        for failing_call in 1..4 {
+            let mut reader = FailsOnce {
+                text: b"+abc",
+                calls: 0,
+                failing_call,
+                kind,
+            };
+            let mut output = Vec::new(rt.alloc());
+            let result = run(rt.alloc(), &mut reader, &mut output);
+            assert_eq!(rt; result, Err(Fault::Read), "{kind:?}, {failing_call}");
+            assert_eq!(rt; reader.calls, failing_call, "{kind:?}");
+            assert_eq!(rt; output.len(), 0, "{kind:?}, {failing_call}");
+        }
+    }
+}
+
+// A writer that keeps what it is given, 70 bytes at a time, and counts its calls. One of its writes answers otherwise,
+// and so do some of its flushes, from the first on; each later call would go on.
+#[derive(Drop)]
+struct Counting {
+    bytes: Vec<u8>,
+    writes: usize,
+    odd_write: usize,
+    // The kind of error of that write, or none where it takes nothing.
+    odd_answer: Option<io::ErrorKind>,
+    flushes: usize,
+    failing_flushes: usize,
+    kind: io::ErrorKind,
+}
+
+fn make_counting(bytes: Vec<u8>) -> Counting {
+    Counting {
+        bytes,
+        writes: 0,
+        odd_write: 0,
+        odd_answer: None,
+        flushes: 0,
+        failing_flushes: 0,
+        kind: io::ErrorKind::Interrupted,
+    }
+}
+
+impl Write for Counting {
+    fn write(&mut self, buf: &[u8]) -> io::Result<usize> {
+        self.writes = self.writes.saturating_add(1);
+        if self.writes == self.odd_write {
+            return match self.odd_answer {
+                Some(kind) => Err(io::Error::from(kind)),
+                None => Ok(0),
+            };
+        }
+        let len = buf.len().min(70);
+        self.bytes.extend_from_slice(&buf[..len])?;
+        Ok(len)
+    }
+
+    fn flush(&mut self) -> io::Result<()> {
+        self.flushes = self.flushes.saturating_add(1);
+        if self.flushes <= self.failing_flushes {
+            return Err(io::Error::from(self.kind));
+        }
+        Ok(())
+    }
+}
+
+#[test]
+fn a_write_that_fails_or_takes_nothing_is_the_last_call(rt: HostRuntime) -> Result<(), Fail> {
+    for odd_answer in [
+        None,
+        Some(io::ErrorKind::Other),
+        Some(io::ErrorKind::WouldBlock),
+        Some(io::ErrorKind::TimedOut),
+        Some(io::ErrorKind::WriteZero),
+    ] {
+        for (odd_write, kept) in [(1, 0), (2, 70)] {
+            let mut writer = make_counting(Vec::new(rt.alloc()));
+            writer.odd_write = odd_write;
+            writer.odd_answer = odd_answer;
+            let result = run(rt.alloc(), &mut b"+abc".as_slice(), &mut writer);
+            assert_eq!(rt; result, Err(Fault::Write), "{odd_answer:?}, {odd_write}");
+            assert_eq!(rt;
+                (writer.writes, writer.flushes),
+                (odd_write, 0),
+                "{odd_answer:?}"
+            );
+            let Counting { bytes, .. } = writer;
+            assert_eq!(rt;
+                bytes.as_slice(),
+                ABC.as_bytes().get(..kept).ok_or("short")?
+            );
+        }
+    }
+    Ok(())
+}
+
+#[test]
+fn the_flush_is_repeated_where_it_is_interrupted(rt: HostRuntime) {
+    for (kind, failing_flushes, flushes, result) in [
+        (io::ErrorKind::Interrupted, 0, 1, Ok(())),
+        (io::ErrorKind::Interrupted, 1, 2, Ok(())),
+        (io::ErrorKind::Interrupted, 16, 17, Ok(())),
+        (io::ErrorKind::Interrupted, 17, 17, Err(Fault::Write)),
+        (io::ErrorKind::Other, 1, 1, Err(Fault::Write)),
+        (io::ErrorKind::WouldBlock, 1, 1, Err(Fault::Write)),
+    ] {
+        let mut writer = make_counting(Vec::new(rt.alloc()));
+        writer.failing_flushes = failing_flushes;
+        writer.kind = kind;
+        let answer = run(rt.alloc(), &mut b"+abc".as_slice(), &mut writer);
+        assert_eq!(rt; answer, result, "{kind:?}, {failing_flushes}");
+        assert_eq!(rt;
+            (writer.writes, writer.flushes),
+            (2, flushes),
+            "{kind:?}, {failing_flushes}"
+        );
+        let Counting { bytes, .. } = writer;
+        assert_eq!(rt; bytes.as_slice(), ABC.as_bytes());
+    }
 }

@@ -49,7 +49,7 @@ fn reads_64_hex_digits(rt: HostRuntime) {
             false,
         ),
         (
-            "é834b04843aaf16f29903e2428a99be635099f9ea5056cc4e95e7ec8a41509f0",
+            "é834b04843aaf16f29903e2428a99be635099f9ea5056cc4e95e7ec8a41509f",
             false,
         ),
         (
@@ -79,7 +79,13 @@ fn prints_the_text_alone(rt: HostRuntime) -> Result<(), Fail> {
         format!(in alloc; "{hash:#.3}")?,
         format!(in alloc; "{hash:?}")?,
         format!(in alloc; "{hash:#?}")?,
+        format!(in alloc; "{hash:+?}")?,
         format!(in alloc; "{hash:080?}")?,
+        format!(in alloc; "{hash:<80?}")?,
+        format!(in alloc; "{hash:>80?}")?,
+        format!(in alloc; "{hash:*^#80?}")?,
+        format!(in alloc; "{hash:.3?}")?,
+        format!(in alloc; "{hash:1?}")?,
     ] {
         assert_eq!(rt; printed.as_str(), TEXT);
     }

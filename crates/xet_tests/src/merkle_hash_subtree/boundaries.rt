@@ -1,6 +1,6 @@
 //! The stable points of drawn lists, where other drawn nodes stand before or after the list.
 
-use crate::drawn::drawn_list;
+use crate::support::drawn_list;
 use rand_core::{Rng, SeedableRng};
 use rand_xoshiro::Xoshiro256PlusPlus;
 use std::alloc::{AllocError, Global};

@@ -1,11 +1,8 @@
 //! The JSON form of subtrees: its text, what is read back, and the least broken rule of what isn't a subtree's.
 
-use super::levels::MARKS;
-use super::{EACH_FOURTH, with_cuts};
-use crate::drawn::drawn_list;
+use crate::support::{EACH_FOURTH, MARKS, drawn_list, read_json, with_cuts};
 use rand_core::SeedableRng;
 use rand_xoshiro::Xoshiro256PlusPlus;
-use serde_json::Value;
 use std::alloc::Global;
 use std::fmt::Write;
 use std::test::Fail;
@@ -18,11 +15,6 @@ const ONE: &str =
     "{\"at_end\":false,\"at_start\":true,\"levels\":[[1,0]],\"nodes\":[{\"hash\":\"cfc5d07f6f03c29bbf424132963fe08d19a37d5757aaf520bf08119f05cd56d6\",\"size\":100}]}";
 
 const NONE: &str = "{\"at_end\":true,\"at_start\":true,\"levels\":[[0,0]],\"nodes\":[]}";
-
-/// What the JSON value of a text is read as.
-pub fn read(alloc: Global, text: &str) -> Result<Result<MerkleHashSubtree, CoreError>, Fail> {
-    Ok(MerkleHashSubtree::from_json(alloc, &Value::from_str(alloc, text)?))
-}
 
 #[test]
 fn subtrees_print_as_their_marks_counts_and_nodes(rt: HostRuntime) -> Result<(), Fail> {
@@ -53,7 +45,7 @@ fn the_text_of_a_subtree_is_read_back(rt: HostRuntime) -> Result<(), Fail> {
                 at_end,
             )?;
             let text = subtree.to_json(rt.alloc())?.to_string(rt.alloc())?;
-            assert!(rt; read(rt.alloc(), text.as_str())?? == subtree);
+            assert!(rt; read_json(rt.alloc(), text.as_str())?? == subtree);
         }
     }
     Ok(())
@@ -160,7 +152,7 @@ fn the_least_broken_rule_is_told(rt: HostRuntime) -> Result<(), Fail> {
             "{{\"at_start\":{start},\"at_end\":{end},\"levels\":{levels},\"nodes\":[{nodes}]}}"
         )?;
         assert!(rt;
-            read(rt.alloc(), text.as_str())? == Err(CoreError::InvalidJson(rule)),
+            read_json(rt.alloc(), text.as_str())? == Err(CoreError::InvalidJson(rule)),
             "{text}"
         );
     }
@@ -178,7 +170,7 @@ fn the_least_broken_rule_is_told(rt: HostRuntime) -> Result<(), Fail> {
         ),
     ] {
         assert!(rt;
-            read(rt.alloc(), text)? == Err(CoreError::InvalidJson(rule)),
+            read_json(rt.alloc(), text)? == Err(CoreError::InvalidJson(rule)),
             "{text}"
         );
     }
@@ -190,14 +182,14 @@ fn empty_sides_and_further_members_are_read(rt: HostRuntime) -> Result<(), Fail>
     let text = format!(in rt.alloc();
         "{{\"at_start\":true,\"at_end\":true,\"levels\":[[0,0],[0,0],[1,0]],\"nodes\":[{FIRST}],\"x\":1}}"
     )?;
-    let subtree = read(rt.alloc(), text.as_str())??;
+    let subtree = read_json(rt.alloc(), text.as_str())??;
     assert_eq!(rt; subtree.num_levels(), 3);
     assert!(rt; subtree.final_hash() == Some(DataHash::random_from_seed(1)));
     // The last of two equal members counts.
     let text = format!(in rt.alloc();
         "{{\"at_start\":0,\"at_end\":true,\"levels\":[[0,0]],\"nodes\":[],\"at_start\":true}}"
     )?;
-    assert!(rt; read(rt.alloc(), text.as_str())??.is_empty());
+    assert!(rt; read_json(rt.alloc(), text.as_str())??.is_empty());
     Ok(())
 }
 
@@ -228,7 +220,7 @@ fn sides_from_strangers_are_looked_at(rt: HostRuntime) -> Result<(), Fail> {
     let (first, last) = nodes.split_at(8);
     let (_, right) = last.split_at(12);
     let text = two_levels(rt.alloc(), first, right, whole.left(1))?;
-    assert!(rt; read(rt.alloc(), text.as_str())?? == whole);
+    assert!(rt; read_json(rt.alloc(), text.as_str())?? == whole);
     // A stable point among the left nodes.
     let mut longer = Vec::new(rt.alloc());
     longer.extend_from_slice(first)?;
@@ -236,10 +228,10 @@ fn sides_from_strangers_are_looked_at(rt: HostRuntime) -> Result<(), Fail> {
     let (twenty, _) = nodes.split_at(20);
     let open = MerkleHashSubtree::from_chunks(rt.alloc(), false, twenty, false)?;
     let text = two_levels(rt.alloc(), longer.as_slice(), &[], open.left(1))?;
-    assert!(rt; read(rt.alloc(), text.as_str())? == Err(CoreError::InvalidJson(12)));
+    assert!(rt; read_json(rt.alloc(), text.as_str())? == Err(CoreError::InvalidJson(12)));
     // Right nodes without a natural cut.
     let plain = with_cuts::<4>(&[]);
     let text = two_levels(rt.alloc(), first, &plain, whole.left(1))?;
-    assert!(rt; read(rt.alloc(), text.as_str())? == Err(CoreError::InvalidJson(13)));
+    assert!(rt; read_json(rt.alloc(), text.as_str())? == Err(CoreError::InvalidJson(13)));
     Ok(())
 }

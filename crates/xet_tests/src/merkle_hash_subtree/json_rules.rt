@@ -1,7 +1,7 @@
 //! The JSON values of 300 drawn subtrees, changed at drawn places, beside the least rule that each of them breaks,
 //! which was computed without this code.
 
-use super::levels::{MARKS, list, with_cut};
+use crate::support::{MARKS, numbered_list, with_cut};
 use rand_core::{Rng, SeedableRng};
 use rand_xoshiro::Xoshiro256PlusPlus;
 use serde_json::Value;
@@ -154,7 +154,7 @@ impl Parts {
 fn drawn_texts(alloc: Global, number: u64) -> Result<(String, String), Fail> {
     let mut generator = Xoshiro256PlusPlus::seed_from_u64(number.saturating_add(2000));
     let (at_start, at_end) = MARKS[(generator.next_u64() % 4) as usize];
-    let chunks = list(alloc, number)?;
+    let chunks = numbered_list(alloc, number)?;
     let subtree = MerkleHashSubtree::from_chunks(alloc, at_start, chunks.as_slice(), at_end)?;
     let mut parts = Parts::of(alloc, &subtree)?;
     for _ in 0..generator.next_u64() % 3 {
@@ -179,24 +179,26 @@ fn broken_rule(alloc: Global, text: &str, printed: &str) -> Result<Option<u8>, F
 
 #[test]
 fn changed_values_break_the_rules_that_they_should(rt: HostRuntime) -> Result<(), Fail> {
-    for (number, rule) in RULES.iter().enumerate() {
+    for (number, rule) in RULES.split_whitespace().enumerate() {
         let (text, printed) = drawn_texts(rt.alloc(), number as u64)?;
         let broken = broken_rule(rt.alloc(), text.as_str(), printed.as_str())?;
-        assert_eq!(rt; broken, Some(*rule), "{number}");
+        assert_eq!(rt; broken, Some(rule.parse()?), "{number}");
     }
+    assert_eq!(rt; RULES.split_whitespace().count(), 300);
     Ok(())
 }
 
 // The expected rules, from that of number 0 on; 0 where none is broken.
-const RULES: [u8; 300] = [
-    0, 6, 2, 2, 0, 5, 5, 3, 6, 4, 2, 4, 3, 3, 6, 0, 11, 6, 0, 0, 3, 2, 4, 3, 8, 0, 4, 0, 3, 8, 8,
-    0, 3, 6, 3, 0, 3, 4, 0, 2, 2, 5, 8, 4, 6, 0, 3, 6, 3, 2, 0, 0, 0, 0, 3, 0, 3, 0, 0, 2, 2, 0, 3,
-    0, 9, 0, 3, 0, 8, 9, 0, 0, 0, 0, 8, 11, 3, 5, 7, 3, 11, 0, 7, 2, 11, 7, 6, 3, 12, 6, 4, 4, 4,
-    0, 0, 0, 8, 4, 4, 3, 4, 2, 0, 6, 3, 3, 8, 4, 7, 2, 0, 6, 3, 2, 3, 3, 5, 6, 9, 3, 3, 3, 0, 11,
-    9, 0, 0, 0, 0, 4, 0, 9, 5, 4, 0, 0, 4, 6, 3, 4, 3, 3, 12, 4, 0, 10, 0, 3, 12, 12, 10, 3, 0, 3,
-    3, 4, 5, 8, 6, 3, 6, 0, 3, 6, 6, 0, 0, 3, 2, 0, 5, 0, 0, 3, 4, 7, 3, 0, 11, 0, 11, 8, 4, 6, 3,
-    10, 6, 7, 3, 0, 3, 3, 0, 4, 0, 0, 7, 3, 5, 13, 3, 3, 7, 4, 2, 0, 2, 3, 7, 0, 4, 6, 0, 8, 3, 2,
-    3, 0, 0, 6, 7, 3, 0, 4, 3, 9, 0, 3, 3, 3, 6, 0, 0, 5, 0, 4, 6, 4, 3, 4, 5, 3, 0, 2, 4, 4, 0, 6,
-    0, 0, 0, 6, 2, 6, 4, 2, 0, 0, 0, 6, 6, 4, 0, 8, 3, 3, 2, 6, 0, 7, 4, 0, 0, 0, 3, 6, 13, 13, 8,
-    13, 2, 9, 0, 2, 4, 2, 0, 0, 0, 7, 0, 3, 7, 0, 4, 0, 3, 0, 0, 13,
-];
+const RULES: &str = "0 6 2 2 0 5 5 3 6 4 2 4 3 3 6 0 11 6 0 0 3 2 4 3 8
+0 4 0 3 8 8 0 3 6 3 0 3 4 0 2 2 5 8 4 6 0 3 6 3 2
+0 0 0 0 3 0 3 0 0 2 2 0 3 0 9 0 3 0 8 9 0 0 0 0 8
+11 3 5 7 3 11 0 7 2 11 7 6 3 12 6 4 4 4 0 0 0 8 4 4 3
+4 2 0 6 3 3 8 4 7 2 0 6 3 2 3 3 5 6 9 3 3 3 0 11 9
+0 0 0 0 4 0 9 5 4 0 0 4 6 3 4 3 3 12 4 0 10 0 3 12 12
+10 3 0 3 3 4 5 8 6 3 6 0 3 6 6 0 0 3 2 0 5 0 0 3 4
+7 3 0 11 0 11 8 4 6 3 10 6 7 3 0 3 3 0 4 0 0 7 3 5 13
+3 3 7 4 2 0 2 3 7 0 4 6 0 8 3 2 3 0 0 6 7 3 0 4 3
+9 0 3 3 3 6 0 0 5 0 4 6 4 3 4 5 3 0 2 4 4 0 6 0 0
+0 6 2 6 4 2 0 0 0 6 6 4 0 8 3 3 2 6 0 7 4 0 0 0 3
+6 13 13 8 13 2 9 0 2 4 2 0 0 0 7 0 3 7 0 4 0 3 0 0 13
+";

@@ -1,9 +1,10 @@
 //! Merging the subtrees of adjacent ranges: worked examples, refusals, and the roots of lists that are split
 //! at many places.
 
-use super::levels::MARKS;
-use super::{EACH_FOURTH, has_counts, with_cuts};
-use crate::drawn::drawn_list;
+use crate::support::{
+    EACH_FOURTH, MARKS, drawn_lengths, drawn_list, has_counts, merge_into_previous, ranges,
+    with_cuts,
+};
 use rand_core::{Rng, SeedableRng};
 use rand_xoshiro::Xoshiro256PlusPlus;
 use std::alloc::{AllocError, Global};
@@ -21,27 +22,6 @@ fn joined(
     let mut merged = left.try_clone()?;
     merged.merge_into(right)?;
     Ok(merged)
-}
-
-/// The subtrees of a list's ranges: as many nodes in turn as told, and last all that are left. The list's
-/// start and end are marked as told.
-pub fn ranges(
-    alloc: Global,
-    nodes: &[Node],
-    lengths: &[usize],
-    marks: (bool, bool),
-) -> Result<Vec<MerkleHashSubtree>, CoreError> {
-    let mut ranges = Vec::new(alloc);
-    let mut rest = nodes;
-    let (mut at_start, at_end) = marks;
-    for length in lengths {
-        let (range, after) = rest.split_at((*length).min(rest.len()));
-        ranges.push(MerkleHashSubtree::from_chunks(alloc, at_start, range, false)?)?;
-        rest = after;
-        at_start = false;
-    }
-    ranges.push(MerkleHashSubtree::from_chunks(alloc, at_start, rest, at_end)?)?;
-    Ok(ranges)
 }
 
 // Whether the merged ranges of a list have the root of the whole.
@@ -89,24 +69,24 @@ fn a_range_at_the_start_takes_in_a_merged_one(rt: HostRuntime) -> Result<(), Fai
 #[test]
 fn each_bracketing_gives_the_same_subtree(rt: HostRuntime) -> Result<(), Fail> {
     let nodes = with_cuts::<28>(&EACH_FOURTH);
-    let (first, rest) = nodes.split_at(4);
-    let (second, third) = rest.split_at(20);
-    let a = MerkleHashSubtree::from_chunks(rt.alloc(), true, first, false)?;
-    let b = MerkleHashSubtree::from_chunks(rt.alloc(), false, second, false)?;
-    let c = MerkleHashSubtree::from_chunks(rt.alloc(), false, third, false)?;
-    let d = MerkleHashSubtree::from_chunks(rt.alloc(), false, &[], true)?;
-    let (ab, bc, cd) = (joined(&a, &b)?, joined(&b, &c)?, joined(&c, &d)?);
     let whole = MerkleHashSubtree::from_chunks(rt.alloc(), true, &nodes, true)?;
     let root = "b1026a806e25e14a5a9d00c9400b8b5b92e81027e1c574046edb37f500fcdeae";
-    for merged in [
-        joined(&joined(&ab, &c)?, &d)?,
-        joined(&joined(&a, &bc)?, &d)?,
-        joined(&ab, &cd)?,
-        joined(&a, &joined(&bc, &d)?)?,
-        joined(&a, &joined(&b, &cd)?)?,
+    assert_eq!(rt; whole.final_hash(), Some(DataHash::from_hex(root)?));
+    // Four ranges a, b, c and d, and the places at which two are merged, one after another.
+    for (bracketing, places) in [
+        ("((a b) c) d", [1, 1, 1]),
+        ("(a (b c)) d", [2, 1, 1]),
+        ("(a b) (c d)", [1, 2, 1]),
+        ("a ((b c) d)", [2, 2, 1]),
+        ("a (b (c d))", [3, 2, 1]),
     ] {
-        assert!(rt; merged == whole);
-        assert_eq!(rt; merged.final_hash(), Some(DataHash::from_hex(root)?));
+        let mut ranges = ranges(rt.alloc(), &nodes, &[4, 20, 4], (true, true))?;
+        assert_eq!(rt; ranges.len(), 4);
+        for place in places {
+            merge_into_previous(&mut ranges, place)?;
+        }
+        assert_eq!(rt; ranges.len(), 1, "{bracketing}");
+        assert!(rt; ranges.first() == Some(&whole), "{bracketing}");
     }
     Ok(())
 }
@@ -255,21 +235,6 @@ fn short_drawn_lists_merge_to_their_root_at_each_split(rt: HostRuntime) -> Resul
         }
     }
     Ok(())
-}
-
-/// The lengths of all ranges but the last, of from two to six.
-pub fn drawn_lengths(
-    generator: &mut Xoshiro256PlusPlus,
-    alloc: Global,
-    count: u64,
-) -> Result<Vec<usize>, AllocError> {
-    let ranges = generator.next_u64() % 5 + 2;
-    let most = count / ranges * 2;
-    let mut lengths = Vec::new(alloc);
-    for _ in 1..ranges {
-        lengths.push((generator.next_u64() % most.saturating_add(1)) as usize)?;
-    }
-    Ok(lengths)
 }
 
 #[test]

@@ -1,0 +1,123 @@
+//! The writer that hashes what it hands on: each call of it is one call of the inner writer, whose answer is the
+//! answer.
+
+use rand_core::{Rng, SeedableRng};
+use rand_xoshiro::Xoshiro256PlusPlus;
+use std::alloc::Global;
+use std::io::{self, ErrorKind, Write};
+use std::test::Fail;
+use xet_hash::data_hash::{DataHash, HashedWrite, compute_data_hash};
+
+// A writer that keeps what it is given and what it answers to each call. It takes at most so many bytes of a slice, or
+// fails each time.
+#[derive(Drop)]
+struct Recorder {
+    most: Result<usize, ErrorKind>,
+    given: Vec<u8>,
+    // How many bytes each call of `write` had, and its answer.
+    writes: Vec<(usize, Result<usize, ErrorKind>)>,
+    flushes: u32,
+}
+
+impl Recorder {
+    fn new(alloc: Global, most: Result<usize, ErrorKind>) -> Recorder {
+        Recorder {
+            most,
+            given: Vec::new(alloc),
+            writes: Vec::new(alloc),
+            flushes: 0,
+        }
+    }
+}
+
+impl Write for Recorder {
+    fn write(&mut self, slice: &[u8]) -> io::Result<usize> {
+        let answer = self.most.map(|most| most.min(slice.len()));
+        self.given.extend_from_slice(slice)?;
+        self.writes.push((slice.len(), answer))?;
+        Ok(answer?)
+    }
+
+    fn flush(&mut self) -> io::Result<()> {
+        self.flushes = self.flushes.saturating_add(1);
+        self.most?;
+        Ok(())
+    }
+}
+
+// What a recorder takes of a slice, or the kind of error that it fails with.
+const ANSWERS: [Result<usize, ErrorKind>; 8] = [
+    Ok(usize::MAX),
+    Ok(5000),
+    Ok(4096),
+    Ok(4),
+    Ok(0),
+    Err(ErrorKind::Interrupted),
+    Err(ErrorKind::StorageFull),
+    Err(ErrorKind::Other),
+];
+
+#[test]
+fn a_write_is_one_inner_write_and_has_its_answer(rt: HostRuntime) -> Result<(), Fail> {
+    let mut message = [0u8; 10_000];
+    Xoshiro256PlusPlus::seed_from_u64(14).fill_bytes(&mut message);
+    for length in [6, 10_000] {
+        let slice = &message[..length];
+        for most in ANSWERS {
+            let expected = most.map(|most| most.min(length));
+            let mut writer = HashedWrite::new(Recorder::new(rt.alloc(), most));
+            let answer = writer.write(slice).map_err(|error| error.kind());
+            assert_eq!(rt; answer, expected, "{length}, {most:?}");
+            let taken = slice.get(..expected.unwrap_or(0)).ok_or("too many")?;
+            assert_eq!(rt;
+                writer.hash(),
+                compute_data_hash(taken),
+                "{length}, {most:?}"
+            );
+            let Recorder { given, writes, .. } = writer.into_inner();
+            assert_eq!(rt; writes.as_slice(), [(length, expected)].as_slice());
+            assert!(rt; given.as_slice() == slice, "{length}, {most:?}");
+        }
+    }
+    Ok(())
+}
+
+#[test]
+fn a_flush_is_one_inner_flush_and_has_its_answer(rt: HostRuntime) {
+    for most in ANSWERS {
+        let mut writer = HashedWrite::new(Recorder::new(rt.alloc(), most));
+        let answer = writer.flush().map_err(|error| error.kind());
+        assert_eq!(rt; answer, most.map(|_| ()), "{most:?}");
+        let Recorder {
+            writes,
+            flushes,
+            ..
+        } = writer.into_inner();
+        assert_eq!(rt; flushes, 1, "{most:?}");
+        assert!(rt; writes.is_empty(), "{most:?}");
+    }
+}
+
+// The hash is a value from outside.
+#[test]
+fn drawn_bytes_are_hashed_and_handed_on(rt: HostRuntime) -> Result<(), Fail> {
+    let mut message = [0u8; 300];
+    Xoshiro256PlusPlus::seed_from_u64(13).fill_bytes(&mut message);
+    let hash = "bbd96a1fac984cb7e9dba7f6755195d59d9bb115e45cff0f96c3cd211560b0fc";
+    let hash = DataHash::from_hex(hash)?;
+    assert_eq!(rt; compute_data_hash(&message), hash);
+    for length in [1, 10, 64, 300] {
+        let mut writer = HashedWrite::new(Vec::new(rt.alloc()));
+        for piece in message.chunks(length) {
+            writer.write_all(piece)?;
+        }
+        writer.flush()?;
+        assert_eq!(rt; writer.hash(), hash, "{length}");
+        assert_eq!(rt;
+            writer.into_inner().as_slice(),
+            message.as_slice(),
+            "{length}"
+        );
+    }
+    Ok(())
+}

@@ -1,0 +1,197 @@
+//! What several files of tests share: drawn nodes and lists, lists whose natural cuts are told, ranges, and what is
+//! read of subtrees.
+
+use rand_core::{Rng, SeedableRng};
+use rand_xoshiro::Xoshiro256PlusPlus;
+use serde_json::Value;
+use std::alloc::{AllocError, Global};
+use std::fmt::Write;
+use std::test::Fail;
+use xet_hash::data_hash::{DataHash, MerkleHash, compute_data_hash};
+use xet_merkle::CoreError;
+use xet_merkle::aggregated_hashes::Node;
+use xet_merkle::merkle_hash_subtree::MerkleHashSubtree;
+
+/// Whether a list's start and end are marked.
+pub const MARKS: [(bool, bool); 4] = [(false, false), (true, false), (false, true), (true, true)];
+
+/// A drawn hash, with a size from 100 to 9999.
+pub fn drawn_node(generator: &mut Xoshiro256PlusPlus) -> Node {
+    let hash = DataHash::random_from_seed(generator.next_u64());
+    (hash, generator.next_u64() % 9900 + 100)
+}
+
+/// So many drawn nodes.
+pub fn drawn_list(
+    generator: &mut Xoshiro256PlusPlus,
+    alloc: Global,
+    count: u64,
+) -> Result<Vec<Node>, AllocError> {
+    let mut nodes = Vec::new(alloc);
+    for _ in 0..count {
+        nodes.push(drawn_node(generator))?;
+    }
+    Ok(nodes)
+}
+
+/// Nodes of size 1 of which those at the given indices are natural cuts.
+pub fn with_cuts<const N: usize>(cuts: &[u64]) -> [Node; N] {
+    let mut nodes = [(MerkleHash::default(), 1); N];
+    let mut number = 0;
+    for node in nodes.iter_mut() {
+        let is_cut = cuts.contains(&number);
+        node.0 = MerkleHash::from([number, 0, 0, u64::from(!is_cut)]);
+        number = number.saturating_add(1);
+    }
+    nodes
+}
+
+/// Natural cuts that stand at each fourth node.
+pub const EACH_FOURTH: [u64; 7] = [3, 7, 11, 15, 19, 23, 27];
+
+/// Whether each level of a subtree has so many left and right nodes.
+pub fn has_counts(subtree: &MerkleHashSubtree, counts: &[(usize, usize)]) -> bool {
+    let mut total = 0usize;
+    for (level, (left, right)) in counts.iter().enumerate() {
+        if subtree.left(level).len() != *left || subtree.right(level).len() != *right {
+            return false;
+        }
+        total = total.saturating_add(*left).saturating_add(*right);
+    }
+    subtree.num_levels() == counts.len()
+        && subtree.num_nodes() == total
+        && subtree.is_empty() == (total == 0)
+        && subtree.left(counts.len()).is_empty()
+        && subtree.right(usize::MAX).is_empty()
+}
+
+// A list has fewer nodes than this. Lists take these bounds in turn.
+const LENGTHS: [u64; 5] = [10, 40, 100, 300, 1000];
+
+// The gaps from one natural cut to the next: a list draws each of them from a table. At `None` natural cuts
+// stand where the drawn hashes have them. Lists take these in turn.
+const GAPS: [Option<[u64; 8]>; 7] = [
+    None,
+    Some([3, 4, 5, 6, 7, 3, 5, 7]),
+    Some([3, 7, 3, 7, 3, 7, 3, 7]),
+    Some([2, 3, 7, 8, 2, 3, 7, 8]),
+    Some([3, 4, 5, 6, 8, 9, 10, 19]),
+    Some([1, 2, 3, 4, 5, 6, 7, 9]),
+    Some([1, 1, 2, 1, 1, 4, 1, 1]),
+];
+
+/// A hash with some of its bits changed so that it is a natural cut, or none, as told.
+pub fn with_cut(hash: MerkleHash, is_cut: bool) -> MerkleHash {
+    let [first, second, third, last] = hash.words();
+    let cut = last & !3;
+    let last = if is_cut { cut } else { last.max(cut | 1) };
+    MerkleHash::from([first, second, third, last])
+}
+
+/// The list of a number, whose natural cuts stand in drawn gaps or at drawn places.
+pub fn numbered_list(alloc: Global, number: u64) -> Result<Vec<Node>, AllocError> {
+    let mut generator = Xoshiro256PlusPlus::seed_from_u64(number);
+    let gaps = GAPS[(number % 7) as usize];
+    let count = generator.next_u64() % LENGTHS[(number % 5) as usize];
+    let mut nodes = Vec::new(alloc);
+    let mut until_cut = 0u64;
+    for _ in 0..count {
+        let mut hash = DataHash::random_from_seed(generator.next_u64());
+        let size = generator.next_u64() >> (generator.next_u64() % 50 + 14);
+        if let Some(gaps) = gaps {
+            if until_cut == 0 {
+                until_cut = gaps[(generator.next_u64() % 8) as usize];
+            }
+            until_cut = until_cut.saturating_sub(1);
+            hash = with_cut(hash, until_cut == 0);
+        }
+        nodes.push((hash, size))?;
+    }
+    Ok(nodes)
+}
+
+// Adds the 32 bytes of each node's hash, and the 8 of its size from the lowest up.
+fn push_nodes(bytes: &mut Vec<u8>, nodes: &[Node]) -> Result<(), AllocError> {
+    for (hash, size) in nodes {
+        bytes.extend_from_slice(&hash.as_bytes())?;
+        bytes.extend_from_slice(&size.to_le_bytes())?;
+    }
+    Ok(())
+}
+
+/// How many left and right nodes each level has, and the first word of the data hash of all nodes: the left
+/// ones by rising level, then the right ones by falling level, and last the root, where there is one.
+pub fn summary(alloc: Global, subtree: &MerkleHashSubtree) -> Result<String, AllocError> {
+    let mut text = String::new(alloc);
+    let mut bytes = Vec::new(alloc);
+    for level in 0..subtree.num_levels() {
+        let (left, right) = (subtree.left(level), subtree.right(level));
+        write!(text, "{},{} ", left.len(), right.len())?;
+        push_nodes(&mut bytes, left)?;
+    }
+    for level in (0..subtree.num_levels()).rev() {
+        push_nodes(&mut bytes, subtree.right(level))?;
+    }
+    if let Some(root) = subtree.final_hash() {
+        bytes.extend_from_slice(&root.as_bytes())?;
+    }
+    let [word, _, _, _] = compute_data_hash(bytes.as_slice()).words();
+    write!(text, "{word:016x}")?;
+    Ok(text)
+}
+
+/// The subtrees of a list's ranges: as many nodes in turn as told, and last all that are left. The list's
+/// start and end are marked as told.
+pub fn ranges(
+    alloc: Global,
+    nodes: &[Node],
+    lengths: &[usize],
+    marks: (bool, bool),
+) -> Result<Vec<MerkleHashSubtree>, CoreError> {
+    let mut ranges = Vec::new(alloc);
+    let mut rest = nodes;
+    let (mut at_start, at_end) = marks;
+    for length in lengths {
+        let (range, after) = rest.split_at((*length).min(rest.len()));
+        ranges.push(MerkleHashSubtree::from_chunks(alloc, at_start, range, false)?)?;
+        rest = after;
+        at_start = false;
+    }
+    ranges.push(MerkleHashSubtree::from_chunks(alloc, at_start, rest, at_end)?)?;
+    Ok(ranges)
+}
+
+/// Merges the range at a place into the one before it.
+pub fn merge_into_previous(
+    ranges: &mut Vec<MerkleHashSubtree>,
+    place: usize,
+) -> Result<(), CoreError> {
+    if place < ranges.len() {
+        let (before, after) = ranges.split_at_mut(place);
+        if let ([.., left], [right, ..]) = (before, after) {
+            left.merge_into(right)?;
+        }
+        ranges.remove(place);
+    }
+    Ok(())
+}
+
+/// The lengths of all ranges but the last, of from two to six.
+pub fn drawn_lengths(
+    generator: &mut Xoshiro256PlusPlus,
+    alloc: Global,
+    count: u64,
+) -> Result<Vec<usize>, AllocError> {
+    let ranges = generator.next_u64() % 5 + 2;
+    let most = count / ranges * 2;
+    let mut lengths = Vec::new(alloc);
+    for _ in 1..ranges {
+        lengths.push((generator.next_u64() % most.saturating_add(1)) as usize)?;
+    }
+    Ok(lengths)
+}
+
+/// What the JSON value of a text is read as.
+pub fn read_json(alloc: Global, text: &str) -> Result<Result<MerkleHashSubtree, CoreError>, Fail> {
+    Ok(MerkleHashSubtree::from_json(alloc, &Value::from_str(alloc, text)?))
+}
