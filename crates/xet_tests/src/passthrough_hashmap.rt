@@ -1,8 +1,7 @@
 //! Each call of the map for deduplication, on an empty map or one of two pairs, with hashes, numbers and keys
 //! of a type that stands here.
 
-ghost use Rattle.std.specs.Prelude.{◌≡◌, Some, IfSome, OnOk, nat_eq};
-ghost use Rattle.std.specs.HashMap.{get};
+ghost use Rattle.std.specs.Prelude.{◌≡◌, Some, IfSome, OnErr, OnOk, nat_eq};
 ghost use Rattle.xet_hash.specs.FiniteMap.{value_at};
 
 use std::alloc::{AllocError, Global};
@@ -13,7 +12,7 @@ use std::process::Abort;
 use std::test::Fail;
 use xet_hash::data_hash::DataHash;
 use xet_hash::passthrough_hasher::U64HashExtractable;
-use xet_hash::passthrough_hashmap::PassThroughHashMap;
+use xet_hash::passthrough_hashmap::{Entry, PassThroughHashMap};
 
 // A key of another type.
 #[derive(Clone, Copy, Debug, PartialEq, Eq, Hash)]
@@ -129,10 +128,10 @@ fn changes<Key: U64HashExtractable + Hash + Eq + Copy + Debug>(
     }
     assert_eq!(rt; map.get(&first), Some(&"value3"));
     assert!(rt; map.get_mut(&second).is_none());
-    map.entry(second)?.or_insert("value4");
-    map.entry(second)?
+    map.entry(second).or_insert("value4")?;
+    map.entry(second)
         .and_modify(|value| *value = "value5")
-        .or_insert("value6");
+        .or_insert_with(|| "value6")?;
     assert_eq!(rt; map.get(&second), Some(&"value5"));
     assert_eq!(rt; map.remove(&lacking), None);
     assert_eq!(rt; map.len(), 2);
@@ -269,16 +268,61 @@ fn write_one_inside(map: &mut PassThroughHashMap<u64, u64>, key: u64) -> Result<
 }
 
 fn write_one_at_place(map: &mut PassThroughHashMap<u64, u64>, key: u64) -> Result<(), AllocError>
-    ensures { OnOk result (value_at nat_eq map.new key ≡ Some 1) }
+    ensures written { OnOk result (value_at nat_eq map.new key ≡ Some 1) }
+    ensures refused { OnErr result (map.new ≡ map.old) }
 {
-    write_one_at(map.as_map_mut(), key)
+    *map.entry(key).or_insert(0)? = 1;
+    Ok(())
 }
 
-fn write_one_at(inner: &mut HashMap<u64, u64>, key: u64) -> Result<(), AllocError>
-    ensures { OnOk result (get nat_eq inner.new key ≡ Some 1) }
-{
-    *inner.entry(key)?.or_insert(0) = 1;
+// The calls of an occupied place and of a vacant one.
+fn changes_at_places<Key: U64HashExtractable + Hash + Eq + Copy + Debug>(
+    rt: &impl Abort,
+    alloc: Global,
+    first: Key,
+    second: Key,
+) -> Result<(), Fail> {
+    let mut map = PassThroughHashMap::new(alloc);
+    assert_eq!(rt; map.entry(first).key(), &first);
+    match map.entry(first) {
+        Entry::Occupied(_) => Err("an empty map has a value")?,
+        Entry::Vacant(place) => {
+            assert_eq!(rt; place.key(), &first);
+            *place.insert(1u32)? += 1;
+        }
+    }
+    match map.entry(first) {
+        Entry::Occupied(mut place) => {
+            assert_eq!(rt; place.key(), &first);
+            assert_eq!(rt; place.get(), &2);
+            assert_eq!(rt; place.insert(3), 2);
+            *place.into_mut() = 4;
+        }
+        Entry::Vacant(_) => Err("the value is lacking")?,
+    }
+    if let Entry::Vacant(place) = map.entry(second) {
+        assert_eq!(rt; place.into_key(), second);
+    }
+    assert_eq!(rt; map.len(), 1);
+    if let Entry::Occupied(place) = map.entry(first) {
+        assert_eq!(rt; place.remove(), 4);
+    }
+    map.insert(second, 5)?;
+    if let Entry::Occupied(place) = map.entry(second) {
+        assert_eq!(rt; place.remove_entry(), (second, 5));
+    }
+    assert!(rt; map.is_empty());
     Ok(())
+}
+
+#[test]
+fn places_are_read_filled_and_emptied(rt: HostRuntime) -> Result<(), Fail> {
+    let [first, second, _] = hashes();
+    changes_at_places(&rt, rt.alloc(), first, second)?;
+    let [first, second, _] = NUMBERS;
+    changes_at_places(&rt, rt.alloc(), first, second)?;
+    let [first, second, _] = NAMES;
+    changes_at_places(&rt, rt.alloc(), first, second)
 }
 
 #[test]

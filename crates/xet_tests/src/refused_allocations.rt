@@ -268,7 +268,7 @@ fn copied(alloc: &RefusingAllocator<Global>) -> Result<Attempt, AllocError> {
 // Puts a number into a map, through its place or not.
 fn put(map: &mut Numbers<'_>, number: u64, by_place: bool) -> Result<(), AllocError> {
     if by_place {
-        map.entry(number)?.or_insert(number);
+        map.entry(number).or_insert(number)?;
     } else {
         map.insert(number, number)?;
     }

@@ -20,7 +20,7 @@ const MAX_RANGE_LEN: usize = 4096;
 /// It keeps the pairs of the open range, 40 bytes each and at most [`MAX_RANGE_LEN`], and of the ranges that
 /// are ended their subtree alone.
 #[derive(Drop)]
-pub struct Ranges<A: Allocator + Clone> {
+pub struct Ranges<A: Allocator> {
     // The ranges that are ended, marked at the start.
     ended: MerkleHashSubtree<A>,
     // The pairs of the open range.
@@ -30,6 +30,7 @@ pub struct Ranges<A: Allocator + Clone> {
     ghost start: { ended.at_start ≡ true },
     ghost no_end: { ended.at_end ≡ false },
     ghost sizes: { levels_size ended.levels + total_size range.items ≡ total },
+    ghost fits: { total < 2 ^ 64 },
 }
 
 impl<A: Allocator + Clone> Ranges<A> {
@@ -64,6 +65,7 @@ impl<A: Allocator + Clone> Ranges<A> {
     // Ends the open range where it is full.
     fn make_room(&mut self) -> Result<(), Fault>
         ensures same { OnOk result ((pairs : List Node) → HoldPairs self.old pairs → HoldPairs self.new pairs) }
+        ensures total { self.new.total ≡ self.old.total }
         ensures room { OnOk result (length self.new.range.items < MAX_RANGE_LEN) }
         ensures errors { IfErr result (λ fault. fault ≡ Fault.Memory) }
     {
@@ -76,6 +78,7 @@ impl<A: Allocator + Clone> Ranges<A> {
     /// Ends the open range, so that the next one has no pair yet.
     pub fn end_range(&mut self) -> Result<(), Fault>
         ensures same { OnOk result ((pairs : List Node) → HoldPairs self.old pairs → HoldPairs self.new pairs) }
+        ensures total { self.new.total ≡ self.old.total }
         ensures none { OnOk result (self.new.range.items ≡ []) }
         ensures errors { IfErr result (λ fault. fault ≡ Fault.Memory) }
     {

@@ -19,7 +19,7 @@ const BYTE_LIMIT: u64 = 1 << 40;
 ///
 /// It keeps the pairs as [`Ranges`] do, and of the text the open line alone, in fixed room.
 #[derive(Drop)]
-pub struct Reading<A: Allocator + Clone> {
+pub struct Reading<A: Allocator> {
     ranges: Ranges<A>,
     // The number of bytes taken.
     count: u64,
