@@ -76,7 +76,7 @@ module _ {K V : Type 0} {eq : K → K → Bool} (laws : IsEquivalence eq) where
       → cond b ((entry.0, value) ∷ entries) (entry ∷ set_value (eq key) entries value) ≡ map (with_value key value) (entry ∷ entries)
   set_value-head key value entry entries true same distinct others =
       sym (ap (λ first. first ∷ map (with_value key value) entries) (with_value-same key value entry same)
-          ∙ ap (λ rest. (entry.0, value) ∷ rest) (map-none key value entries (none_past_head laws key entry entries distinct same)))
+      ∙ ap (λ rest. (entry.0, value) ∷ rest) (map-none key value entries (none_past_head laws key entry entries distinct same)))
   set_value-head key value entry entries false other distinct others =
       ap (λ rest. entry ∷ rest) others
       ∙ sym (ap (λ first. first ∷ map (with_value key value) entries) (with_value-other key value entry other))
@@ -101,8 +101,8 @@ module _ {K V : Type 0} {eq : K → K → Bool} (laws : IsEquivalence eq) where
       ∙ ap (λ rest. (key, value) ∷ rest) (map-none key value old (none_passes_from_lookup (eq key) old none)) in
       let written : IsPermutation ((key, value) ∷ old) (set_value (eq key) mid value) =
       subst (λ l. IsPermutation l (set_value (eq key) mid value)) front
-          (subst (IsPermutation (map (with_value key value) ((key, first) ∷ old))) (sym (set_value-map key value mid distinct))
-              (IsPermutation-map (with_value key value) ((key, first) ∷ old) mid more)) in
+      (subst (IsPermutation (map (with_value key value) ((key, first) ∷ old))) (sym (set_value-map key value mid distinct))
+      (IsPermutation-map (with_value key value) ((key, first) ∷ old) mid more)) in
       record {
         sets = λ other. Sets-set_value mid key value there other
             ∙ ap (λ found. cond (eq key other) (Some value) found) (sets other)
@@ -135,7 +135,7 @@ module _ {K V A : Type 0} {eq : K → K → Bool} (laws : IsEquivalence eq) wher
       → IsPut eq (entry_map place).now (entry_key place) value (set_value (eq occupied.key) occupied.map.now value)
   IsPut-there place occupied is live value =
       subst (λ p. IsPut eq (entry_map p).now (entry_key p) value (set_value (eq occupied.key) occupied.map.now value)) (sym is)
-          (IsPut-written laws occupied.map.now occupied.key value (subst (IsLive eq) is live))
+      (IsPut-written laws occupied.map.now occupied.key value (subst (IsLive eq) is live))
 
   -- the key of a place that has no value
   pub vacant-key : (place : Entry K V A) (vacant : VacantEntry K V A) → place ≡ Vacant vacant → IsLive eq place
@@ -143,4 +143,4 @@ module _ {K V A : Type 0} {eq : K → K → Bool} (laws : IsEquivalence eq) wher
   vacant-key place vacant is live =
       let none = none_passes_from_lookup (eq vacant.key) vacant.map.now (subst (IsLive eq) is live) in
       subst (λ p. unwrap_or (key_at eq (entry_map p).now (entry_key p)) (entry_key p) ≡ vacant.key) (sym is)
-          (ap (λ found. unwrap_or found vacant.key) (lookup_key-none (eq vacant.key) vacant.map.now none))
+      (ap (λ found. unwrap_or found vacant.key) (lookup_key-none (eq vacant.key) vacant.map.now none))

@@ -51,4 +51,4 @@ module _ (K V A : RattleType) (extracted : ExtractableMembers K.Denot) (hashed :
     abbrev pub puts_there : {E : Type 0} → Result (MutBor V.Denot) E → Fml
     puts_there r =
         LendsSoOk map_type V (entry_map place) r (λ left value. IsPut hashed.eq (entry_map place).now (entry_key place) value left)
-            (λ left. left ≡ (entry_map place).now)
+        (λ left. left ≡ (entry_map place).now)

@@ -13,9 +13,8 @@ ghost use Rattle.passthrough_map.specs.MapLends.{lends_map, lends_value};
 
 mod entry;
 
-pub use entry::{Entry, OccupiedEntry, VacantEntry};
-
 use crate::passthrough_hasher::U64HashExtractable;
+pub use entry::{Entry, OccupiedEntry, VacantEntry};
 use std::alloc::{AllocError, AllocFailed, Allocator, Global};
 use std::collections::HashMap;
 use std::collections::hash_map::{IntoIter, Iter, Keys, Values};

@@ -186,12 +186,12 @@ impl<'a, Key: U64HashExtractable + Hash + Eq, Val, A: Allocator> VacantEntry<'a,
     }
 }
 
-impl<
+impl<'a, Key: U64HashExtractable + Hash + Eq + Copy, Val: Drop, A: Allocator + Clone> VacantEntry<
     'a,
-    Key: U64HashExtractable + Hash + Eq + Copy,
-    Val: Drop,
-    A: Allocator + Clone,
-> VacantEntry<'a, Key, Val, A> {
+    Key,
+    Val,
+    A,
+> {
     /// Puts `value` at the key, to be written for as long as the map is lent.
     ///
     /// It fails where there is no memory for one more entry. The map is then unchanged.

@@ -15,5 +15,5 @@ returns-in_err-merge_into-clause-errors g c =
     let size = c.in_ok-end.ensures.size in
     let fits : levels_size ranges.ended.levels + levels_size end.levels < 2 ^ 64 = let sizes = ranges.sizes in let total = ranges.fits in omega arith in
     refused_for_memory c.from_residual-in_err-merge_into.result c.in_err-merge_into.field-0.0 c.from_residual-in_err-merge_into.ensures.1
-        (merging_wants_memory c.in_err-merge_into.field-0.0 ranges.ended end ranges.no_end c.in_ok-end.ensures.start fits
-            (λ is. c.in_err-merge_into.ensures.arguments.0 (ap Err is)) (λ is. c.in_err-merge_into.ensures.overflow.0 (ap Err is)) c.in_err-merge_into.ensures.errors)
+    (merging_wants_memory c.in_err-merge_into.field-0.0 ranges.ended end ranges.no_end c.in_ok-end.ensures.start fits
+    (λ is. c.in_err-merge_into.ensures.arguments.0 (ap Err is)) (λ is. c.in_err-merge_into.ensures.overflow.0 (ap Err is)) c.in_err-merge_into.ensures.errors)

@@ -15,7 +15,7 @@ returns-in_err-range-clause-errors g c =
     let chunks = c.deref.result.now in
     let fits : total_size chunks < 2 ^ 64 = rw c.deref.ensures.value (let sizes = ranges.sizes in let total = ranges.fits in omega arith) in
     refused_for_memory c.from_residual-in_err-range.result c.in_err-range.field-0.0 c.from_residual-in_err-range.ensures.1
-        (chunks_want_memory c.in_err-range.field-0.0 chunks fits (λ is. c.in_err-range.ensures.overflow.0 (ap Err is)) c.in_err-range.ensures.errors)
+    (chunks_want_memory c.in_err-range.field-0.0 chunks fits (λ is. c.in_err-range.ensures.overflow.0 (ap Err is)) c.in_err-range.ensures.errors)
 
 pub returns-in_err-merge_into-clause-errors : goal.returns-in_err-merge_into-clause-errors
 returns-in_err-merge_into-clause-errors g c =
@@ -24,5 +24,5 @@ returns-in_err-merge_into-clause-errors g c =
     let size : levels_size range.levels ≡ total_size ranges.range.items = c.in_ok-range.ensures.size ∙ ap total_size c.deref.ensures.value in
     let fits : levels_size ranges.ended.levels + levels_size range.levels < 2 ^ 64 = let sizes = ranges.sizes in let total = ranges.fits in omega arith in
     refused_for_memory c.from_residual-in_err-merge_into.result c.in_err-merge_into.field-0.0 c.from_residual-in_err-merge_into.ensures.1
-        (merging_wants_memory c.in_err-merge_into.field-0.0 ranges.ended range ranges.no_end c.in_ok-range.ensures.start fits
-            (λ is. c.in_err-merge_into.ensures.arguments.0 (ap Err is)) (λ is. c.in_err-merge_into.ensures.overflow.0 (ap Err is)) c.in_err-merge_into.ensures.errors)
+    (merging_wants_memory c.in_err-merge_into.field-0.0 ranges.ended range ranges.no_end c.in_ok-range.ensures.start fits
+    (λ is. c.in_err-merge_into.ensures.arguments.0 (ap Err is)) (λ is. c.in_err-merge_into.ensures.overflow.0 (ap Err is)) c.in_err-merge_into.ensures.errors)
