@@ -32,6 +32,18 @@ fn merge_to_root(alloc: Global, nodes: &[Node], lengths: &[usize]) -> Result<boo
 }
 
 #[test]
+fn ranges_are_joined_to_the_root_of_the_whole(rt: HostRuntime) -> Result<(), Fail> {
+    let alloc = rt.alloc();
+    let all = with_cuts::<28>(&EACH_FOURTH);
+    let (first, second) = all.split_at(11);
+    let mut file = MerkleHashSubtree::from_chunks(alloc, true, first, false)?;
+    file.merge_into(&MerkleHashSubtree::from_chunks(alloc, false, second, false)?)?;
+    file.merge_into(&MerkleHashSubtree::from_chunks(alloc, false, &[], true)?)?;
+    assert_eq!(rt; file.final_hash(), Some(xorb_hash(alloc, &all)?));
+    Ok(())
+}
+
+#[test]
 fn an_open_range_takes_in_its_neighbours(rt: HostRuntime) -> Result<(), Fail> {
     let nodes = with_cuts::<28>(&EACH_FOURTH);
     let (nodes, _) = nodes.split_at(24);
