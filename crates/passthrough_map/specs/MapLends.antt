@@ -1,5 +1,5 @@
 -- What becomes of a map for deduplication once a reference into it has ended.
-use Rattle.std.specs.Prelude.{◌≡◌, Bool, Option, ℕ, List}
+use Rattle.std.specs.Prelude.{Bool, Option, ℕ, List}
 use Rattle.std.specs.Borrow.{Fml, RattleType, MutBor, Lends, LendsIf}
 use Rattle.std.specs.Map.{set_value}
 use Rattle.std.specs.Hash.BuildHasherDefault.{initial_hasher}

@@ -1,4 +1,4 @@
-use Rattle.std.proofs.Common.{◌≡◌, refl, sym, ap, subst, ◌∙◌}
+use Rattle.std.proofs.Common.{◌≡◌, refl, ap, ◌∙◌}
 use Rattle.std.specs.Prelude.{Some}
 use Rattle.passthrough_map.specs.Entry.{entry_value}
 use Rattle.passthrough_map.proofs.EntryLemmas.{IsPut-there, UnwrapsOrElse-there}

@@ -1,4 +1,4 @@
-use Rattle.std.proofs.Common.{◌≡◌, refl, sym, ap, subst, ◌∙◌}
+use Rattle.std.proofs.Common.{◌≡◌, refl, sym, ap, ◌∙◌}
 use Rattle.std.specs.Prelude.{is_some, Some}
 use Rattle.std.specs.Option.{option_copied_mut}
 use Rattle.std.specs.Map.Calls.{MayWrite, ModifiesValue}
