@@ -4,6 +4,7 @@ use Rattle.std.specs.Prelude.{◌≡◌, ℕ, ◌+◌, ◌≤◌, Bool, true, fa
 use Rattle.xet_hash.specs.Hash.{default_hash}
 use Rattle.xet_merkle.specs.Groups.{Node, Groups}
 use Rattle.xet_merkle.specs.StablePoints.{IsFirstStable, IsLastStable}
+use Rattle.xet_merkle.specs.Levels.{Level}
 
 -- the lower end of what is collapsed: the list's start where it is marked, else the first stable point
 abbrev pub IsLow : Bool → List Node → List Node → Type 0
@@ -23,30 +24,6 @@ pub record IsSplit (at_start at_end : Bool) (nodes left middle right : List Node
   pub several : 2 ≤ length nodes
   pub low : IsLow at_start left (middle ++ right)
   pub high : IsHigh at_end middle right
-
--- the nodes that a subtree keeps of a level, on either side
-pub record Level : Type 0 where
-  pub left : List Node
-  pub right : List Node
-
--- a level without nodes
-abbrev pub no_level : Level
-no_level = record { left = []; right = [] }
-
--- the nodes of the last of some levels
-abbrev pub top_nodes : List Level → List Node
-top_nodes [] = []
-top_nodes (level ∷ []) = level.left ++ level.right
-top_nodes (level ∷ next ∷ levels) = top_nodes (next ∷ levels)
-
--- the hash of the first of some nodes, or the default hash
-abbrev pub hash_of_first : List Node → List ℕ
-hash_of_first [] = default_hash
-hash_of_first (node ∷ nodes) = node.0
-
--- the hash at the top of some levels
-abbrev pub top_hash : List Level → List ℕ
-top_hash levels = hash_of_first (top_nodes levels)
 
 -- the canonical subtree of a list under marks, under what makes a parent of a group, and the number of
 -- parents that it needs. Without a split it has one level, with all nodes on the left. With one, the first

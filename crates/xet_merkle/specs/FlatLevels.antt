@@ -2,7 +2,7 @@
 -- falling level; beside it, for each level, how many nodes it has on either side.
 use Rattle.std.specs.Prelude.{◌≡◌, ℕ, ◌-◌, List, [], ◌∷◌, ◌++◌, length, map, take, drop}
 use Rattle.xet_merkle.specs.Groups.{Node}
-use Rattle.xet_merkle.specs.Canonical.{Level}
+use Rattle.xet_merkle.specs.Levels.{Level}
 
 -- the left nodes of all levels by rising level
 abbrev pub left_nodes : List Level → List Node

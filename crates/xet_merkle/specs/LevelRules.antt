@@ -2,20 +2,8 @@
 -- a well formed subtree.
 use Rattle.std.specs.Prelude.{◌≡◌, ℕ, ◌<◌, ◌≤◌, Bool, true, false, List, [], ◌∷◌, length}
 use Rattle.std.specs.List.{AllByRecursion as Each}
-use Rattle.xet_merkle.specs.Canonical.{Level, no_level, top_nodes}
+use Rattle.xet_merkle.specs.Levels.{Level, no_level, top_nodes, below_top, top_of}
 use Rattle.xet_merkle.specs.WellFormed.{IsLeftSide, IsRightSide}
-
--- all levels but the last
-abbrev pub below_top : List Level → List Level
-below_top [] = []
-below_top (top ∷ []) = []
-below_top (level ∷ next ∷ levels) = level ∷ below_top (next ∷ levels)
-
--- the last level
-abbrev pub top_of : List Level → Level
-top_of [] = no_level
-top_of (top ∷ []) = top
-top_of (level ∷ next ∷ levels) = top_of (next ∷ levels)
 
 -- the top has no right nodes, and under an end mark no level has any
 abbrev pub Rule8 : Bool → List Level → Type 0

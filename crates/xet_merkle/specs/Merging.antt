@@ -3,7 +3,8 @@
 use Rattle.std.specs.Prelude.{◌≡◌, ℕ, ◌+◌, Bool, true, false, List, [], ◌∷◌, ◌++◌, sum_by}
 use Rattle.std.specs.List.{AllZip}
 use Rattle.xet_merkle.specs.Groups.{Node}
-use Rattle.xet_merkle.specs.Subtree.{Subtree, IsCanonical, levels_size}
+use Rattle.xet_merkle.specs.Levels.{levels_size}
+use Rattle.xet_merkle.specs.Subtree.{Subtree, IsCanonical}
 
 -- two subtrees are merged to a third: no mark stands between them, and the third has their outer marks, the
 -- sum of their sizes, and is the canonical subtree of the joined list wherever they are those of two lists

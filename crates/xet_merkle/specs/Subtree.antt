@@ -5,7 +5,8 @@ use mathlib.Core.Bool.{beq}
 use Rattle.std.specs.Cmp.Lexicographic.{pointwise}
 use Rattle.xet_merkle.specs.Groups.{Node}
 use Rattle.xet_merkle.specs.Roots.{total_size, parent}
-use Rattle.xet_merkle.specs.Canonical.{Level, IsCanonicalBy}
+use Rattle.xet_merkle.specs.Levels.{Level}
+use Rattle.xet_merkle.specs.Canonical.{IsCanonicalBy}
 
 pub record Subtree : Type 0 where
   pub at_start : Bool
@@ -15,27 +16,6 @@ pub record Subtree : Type 0 where
 -- a subtree is the canonical subtree of a list under the subtree's marks
 abbrev pub IsCanonical : Subtree → List Node → Type 0
 IsCanonical subtree nodes = (parents : ℕ) × IsCanonicalBy parent subtree.at_start subtree.at_end nodes subtree.levels parents
-
--- the left and the right nodes of a level, and none where there is no such level
-abbrev pub left_at : List Level → ℕ → List Node
-left_at [] i = []
-left_at (level ∷ levels) zero = level.left
-left_at (level ∷ levels) (suc i) = left_at levels i
-
-abbrev pub right_at : List Level → ℕ → List Node
-right_at [] i = []
-right_at (level ∷ levels) zero = level.right
-right_at (level ∷ levels) (suc i) = right_at levels i
-
--- how many nodes some levels have
-abbrev pub node_count : List Level → ℕ
-node_count [] = 0
-node_count (level ∷ levels) = length level.left + length level.right + node_count levels
-
--- the sum of the sizes of all nodes of some levels
-abbrev pub levels_size : List Level → ℕ
-levels_size [] = 0
-levels_size (level ∷ levels) = total_size level.left + total_size level.right + levels_size levels
 
 -- whether two nodes, two levels and two subtrees are equal
 abbrev pub same_node : Node → Node → Bool

@@ -3,7 +3,7 @@
 use Rattle.std.specs.Prelude.{◌≡◌, ◌<◌, ◌≤◌, Bool, true, false, List, [], ◌∷◌, length}
 use Rattle.xet_merkle.specs.Groups.{Node, Cut}
 use Rattle.xet_merkle.specs.StablePoints.{EndsStable, BeginsStable, NoStable}
-use Rattle.xet_merkle.specs.Canonical.{Level, top_nodes}
+use Rattle.xet_merkle.specs.Levels.{Level, top_nodes}
 use Rattle.xet_merkle.specs.Subtree.{Subtree}
 
 -- what may stay on the left below the top: nothing where the start is marked, else nodes that end as those

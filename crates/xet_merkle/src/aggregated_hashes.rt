@@ -8,7 +8,7 @@ ghost use Rattle.std.specs.Prelude.{◌≡◌, ◌⊎◌, ◌+◌, ◌^◌, ◌<
 ghost use Rattle.arrayvec.specs.ArrayVec.{array_vec_len};
 ghost use Rattle.xet_merkle.specs.Groups.{Node, is_cut};
 ghost use Rattle.xet_merkle.specs.Roots.{total_size, node_line, group_text, parent, IsRoot, IsFileHash};
-ghost use Rattle.xet_merkle.specs.Scan.{IsFirstGroup, AreParents};
+ghost use Rattle.xet_merkle.specs.Steps.Scan.{IsFirstGroup, AreParents};
 
 use crate::error::CoreError;
 use arrayvec::ArrayVec;

@@ -5,9 +5,10 @@ ghost use Rattle.std.specs.Prelude.{◌≡◌, ℕ, ◌+◌, ◌^◌, ◌<◌, �
 ghost use Rattle.xet_merkle.specs.Groups.{Node, Cut, Groups};
 ghost use Rattle.xet_merkle.specs.Roots.{IsRoot, parent};
 ghost use Rattle.xet_merkle.specs.StablePoints.{EndsStable, IsStable, IsTriple, IsGroupBoundary};
-ghost use Rattle.xet_merkle.specs.Canonical.{Level, IsSplit, IsCanonicalBy, top_nodes, top_hash};
+ghost use Rattle.xet_merkle.specs.Levels.{Level, top_nodes, top_hash, node_count};
+ghost use Rattle.xet_merkle.specs.Canonical.{IsSplit, IsCanonicalBy};
 ghost use Rattle.serde_json.specs.Data.{Data};
-ghost use Rattle.xet_merkle.specs.Subtree.{Subtree, IsCanonical, node_count, same_subtree};
+ghost use Rattle.xet_merkle.specs.Subtree.{Subtree, IsCanonical, same_subtree};
 ghost use Rattle.xet_merkle.specs.JsonRules.{Reads};
 ghost use Rattle.xet_merkle.specs.Merging.{IsMerged};
 

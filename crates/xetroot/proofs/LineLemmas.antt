@@ -7,7 +7,7 @@ use Rattle.std.proofs.lemmas.Bool.Decides.{nat_tests}
 use Rattle.std.proofs.lemmas.Fmt.{length-decimal-le}
 use Rattle.xetroot.specs.Lines.{newline, NoNewline, onto_first, lines_of, content, IsChunkLine, SaysNothing}
 use Rattle.xet_merkle.specs.Groups.{Node}
-use Rattle.xetroot.specs.Open.{NoPlus}
+use Rattle.xetroot.specs.Steps.Open.{NoPlus}
 
 -- the first line of a text whose first bytes are known
 abbrev FirstLine : List ℕ → List ℕ → Type 0

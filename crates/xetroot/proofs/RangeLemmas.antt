@@ -4,14 +4,15 @@ use Rattle.std.specs.Prelude.{Result, Ok, Err, IfErr, IsErrAnd}
 use Rattle.std.proofs.lemmas.Bool.{false≢true}
 use Rattle.xet_merkle.specs.Groups.{Node}
 use Rattle.xet_merkle.specs.Roots.{total_size}
-use Rattle.xet_merkle.specs.Subtree.{Subtree, IsCanonical, levels_size}
+use Rattle.xet_merkle.specs.Levels.{levels_size}
+use Rattle.xet_merkle.specs.Subtree.{Subtree, IsCanonical}
 use Rattle.xet_merkle.specs.declared.error.CoreError.{CoreError}
 use Rattle.xet_merkle.specs.declared.error.CoreError.TheVariants.{InvalidArguments, SizeOverflow, OutOfMemory}
 use Rattle.xetroot.specs.declared.fault.Fault.{Fault}
 use Rattle.xetroot.specs.declared.fault.Fault.TheVariants.{Memory}
 use Rattle.xet_merkle.specs.Merging.{IsMerged}
 use Rattle.xetroot.specs.declared.ranges.Ranges.{Ranges}
-use Rattle.xetroot.specs.Ranges.{HoldPairs}
+use Rattle.xetroot.specs.Steps.Ranges.{HoldPairs}
 
 module _ {A : Type 0} (old new : Ranges A) (pairs : List Node) (h : HoldPairs old pairs) where
   pub HoldPairs-ended : (range : Subtree) → IsCanonical range old.range.items → IsMerged old.ended range new.ended → range.at_end ≡ false → new.range.items ≡ [] → new.total ≡ old.total →

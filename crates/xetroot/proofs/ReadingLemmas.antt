@@ -11,7 +11,7 @@ use Rattle.xetroot.specs.declared.fault.Fault.TheVariants.{BadLine, Sizes, Memor
 use Rattle.xetroot.specs.Lines.{newline, NoNewline, lines_of, content, IsSeparator, SaysPair, Say, AreGood, IsBad, byte_limit}
 use Rattle.xetroot.specs.Lines.Say.{no_line, separator, pair}
 use Rattle.xetroot.specs.Answer.{IsFaultOf}
-use Rattle.xetroot.specs.Taken.{StandsAt, AddsLine, IsLineFault}
+use Rattle.xetroot.specs.Steps.Taken.{StandsAt, AddsLine, IsLineFault}
 use Rattle.xetroot.proofs.LineLemmas.{lines_of-whole, lines_of-last, FirstLine-next, NoNewline-append}
 
 pub AddsLine-separator : (pairs : List Node) (line : List ℕ) → IsSeparator (content line) → AddsLine pairs pairs line

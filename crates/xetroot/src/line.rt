@@ -3,7 +3,7 @@
 ghost use Rattle.std.specs.Prelude.{◌≡◌, ◌^◌, ◌<◌, ℕ, decimal, IfSome, IfNone};
 ghost use Rattle.xet_merkle.specs.Groups.{Node};
 ghost use Rattle.xetroot.specs.Lines.{IsSeparator, IsPairLine};
-ghost use Rattle.xetroot.specs.LineSays.{Says};
+ghost use Rattle.xetroot.specs.Steps.LineSays.{Says};
 
 use std::str;
 use xet_hash::data_hash::DataHash;

@@ -3,7 +3,7 @@
 ghost use Rattle.std.specs.Prelude.{◌≡◌, ◌==◌, ◌++◌, ◌↔◌, ℕ, List, [], length, IfSome, IfNone, IsTrue, OnErr, OnOk};
 ghost use Rattle.xet_merkle.specs.Groups.{Node};
 ghost use Rattle.xetroot.specs.Lines.{IsSeparator, SaysPair};
-ghost use Rattle.xetroot.specs.LineSays.{Says};
+ghost use Rattle.xetroot.specs.Steps.LineSays.{Says};
 
 use crate::line::{self, Line};
 use arrayvec::ArrayVec;
@@ -29,7 +29,7 @@ pub enum OpenLine {
 pub struct Overlong;
 
 impl OpenLine {
-    ghost use Rattle.xetroot.specs.Open.{IsOpenLine, IsOverlong};
+    ghost use Rattle.xetroot.specs.Steps.Open.{IsOpenLine, IsOverlong};
 
     /// A line without a byte.
     pub fn new() -> Self

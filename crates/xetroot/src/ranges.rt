@@ -3,7 +3,8 @@
 ghost use Rattle.std.specs.Prelude.{◌≡◌, ◌+◌, ◌^◌, ◌<◌, ◌≤◌, ◌⊎◌, true, false, List, length, [], ◌∷◌, ◌++◌, replicate, IfOk, IfErr, OnOk};
 ghost use Rattle.xet_merkle.specs.Groups.{Node};
 ghost use Rattle.xet_merkle.specs.Roots.{total_size, IsRoot, IsFileHash};
-ghost use Rattle.xet_merkle.specs.Subtree.{IsCanonical, levels_size};
+ghost use Rattle.xet_merkle.specs.Levels.{levels_size};
+ghost use Rattle.xet_merkle.specs.Subtree.{IsCanonical};
 
 use crate::fault::Fault;
 use std::alloc::Allocator;
@@ -34,7 +35,7 @@ pub struct Ranges<A: Allocator> {
 }
 
 impl<A: Allocator + Clone> Ranges<A> {
-    ghost use Rattle.xetroot.specs.Ranges.{HoldPairs};
+    ghost use Rattle.xetroot.specs.Steps.Ranges.{HoldPairs};
 
     /// Ranges without a pair.
     pub fn new(alloc: A) -> Result<Self, Fault>

@@ -29,9 +29,9 @@ pub struct Reading<A: Allocator> {
 }
 
 impl<A: Allocator + Clone> Reading<A> {
-    ghost use Rattle.xetroot.specs.Open.{IsOpenLine};
-    ghost use Rattle.xetroot.specs.Ranges.{HoldPairs};
-    ghost use Rattle.xetroot.specs.Taken.{IsTaken, HoldGood, HoldMore, IsLineFault};
+    ghost use Rattle.xetroot.specs.Steps.Open.{IsOpenLine};
+    ghost use Rattle.xetroot.specs.Steps.Ranges.{HoldPairs};
+    ghost use Rattle.xetroot.specs.Steps.Taken.{IsTaken, HoldGood, HoldMore, IsLineFault};
 
     /// A reading of nothing yet.
     pub fn new(alloc: A) -> Result<Self, Fault>

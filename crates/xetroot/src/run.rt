@@ -5,8 +5,8 @@ ghost use Rattle.std.specs.Io.KnownBytes.{Appends, Consumes, IsAtEnd, Keeps};
 ghost use Rattle.xet_hash.specs.Hash.{hex_text};
 ghost use Rattle.xet_merkle.specs.Groups.{Node};
 ghost use Rattle.xetroot.specs.Answer.{IsAnswer, IsFaultOf, output_text};
-ghost use Rattle.xetroot.specs.Ranges.{HoldPairs};
-ghost use Rattle.xetroot.specs.Taken.{HoldGood};
+ghost use Rattle.xetroot.specs.Steps.Ranges.{HoldPairs};
+ghost use Rattle.xetroot.specs.Steps.Taken.{HoldGood};
 
 use crate::fault::Fault;
 use crate::ranges::Ranges;

@@ -3,10 +3,9 @@
 ghost use Rattle.std.specs.Prelude.{◌≡◌, ◌+◌, ◌^◌, ◌<◌, ◌≤◌, ◌⊎◌, List, length, take, drop, IfOk, IfErr};
 ghost use Rattle.xet_merkle.specs.Groups.{Node};
 ghost use Rattle.xet_merkle.specs.Roots.{total_size};
-ghost use Rattle.xet_merkle.specs.Canonical.{Level};
-ghost use Rattle.xet_merkle.specs.Subtree.{levels_size};
-ghost use Rattle.xet_merkle.specs.Joining.{above, between, IsHighBehind, IsLowBefore, IsJoinSplit};
-ghost use Rattle.xet_merkle.specs.OpenLevels.{JoinsBelow, StandsFor};
+ghost use Rattle.xet_merkle.specs.Levels.{Level, levels_size};
+ghost use Rattle.xet_merkle.specs.Steps.Joining.{above, between, IsHighBehind, IsLowBefore, IsJoinSplit};
+ghost use Rattle.xet_merkle.specs.Steps.OpenLevels.{JoinsBelow, StandsFor};
 
 use super::levels::Levels;
 use super::open_levels::OpenLevels;

@@ -2,11 +2,11 @@
 
 ghost use Rattle.std.specs.Prelude.{◌≡◌, ◌↔◌, ◌∷◌, ◌<◌, ◌≤◌, false, List, [], length, IfSome, IfNone, IsTrue};
 ghost use Rattle.std.specs.List.{AllByRecursion as Each};
-ghost use Rattle.xet_merkle.specs.Canonical.{Level, top_nodes};
+ghost use Rattle.xet_merkle.specs.Levels.{Level, top_nodes, below_top, top_of};
 ghost use Rattle.xet_merkle.specs.Subtree.{Subtree};
 ghost use Rattle.xet_merkle.specs.WellFormed.{IsLeftSide, IsRightSide, IsWellFormed};
-ghost use Rattle.xet_merkle.specs.LevelRules.{below_top, top_of, Rule8, Rule9, Rule10, Rule11, Rule12, Rule13, BreaksLevelRule};
-ghost use Rattle.xet_merkle.specs.LevelSides.{first_of, HasSide};
+ghost use Rattle.xet_merkle.specs.LevelRules.{Rule8, Rule9, Rule10, Rule11, Rule12, Rule13, BreaksLevelRule};
+ghost use Rattle.xet_merkle.specs.Steps.LevelSides.{first_of, HasSide};
 
 use super::levels::Levels;
 use super::sides::{is_left_side, is_right_side};

@@ -1,12 +1,10 @@
 //! Reading the levels of a subtree one after another, from the chunks up.
 
 ghost use Rattle.std.specs.Prelude.{◌≡◌, ◌<◌, ◌↔◌, List, [], ◌∷◌, length, IsTrue};
-ghost use Rattle.xet_merkle.specs.Canonical.{Level};
-ghost use Rattle.xet_merkle.specs.Subtree.{left_at, right_at};
+ghost use Rattle.xet_merkle.specs.Levels.{Level, left_at, right_at, top_of};
 ghost use Rattle.xet_merkle.specs.FlatLevels.{levels_of};
-ghost use Rattle.xet_merkle.specs.StoredLevels.{IsSomeFlat};
-ghost use Rattle.xet_merkle.specs.Joining.{above, inner_nodes};
-ghost use Rattle.xet_merkle.specs.LevelRules.{top_of};
+ghost use Rattle.xet_merkle.specs.Steps.StoredLevels.{IsSomeFlat};
+ghost use Rattle.xet_merkle.specs.Steps.Joining.{above, inner_nodes};
 
 use crate::aggregated_hashes::Node;
 use std::marker::Model;

@@ -3,8 +3,8 @@
 ghost use Rattle.std.specs.Prelude.{◌≡◌, ◌^◌, ◌<◌, List, [], ◌∷◌, ◌++◌, length, IfOk, IfErr, IfSome, MatchOption};
 ghost use Rattle.xet_merkle.specs.Groups.{Node};
 ghost use Rattle.xet_merkle.specs.Roots.{total_size};
-ghost use Rattle.xet_merkle.specs.Canonical.{Level};
-ghost use Rattle.xet_merkle.specs.OpenLevels.{IsOpen, StandsBelow, StandsFor};
+ghost use Rattle.xet_merkle.specs.Levels.{Level};
+ghost use Rattle.xet_merkle.specs.Steps.OpenLevels.{IsOpen, StandsBelow, StandsFor};
 
 use super::split::find_split;
 use crate::aggregated_hashes::{Node, parents};

@@ -4,8 +4,8 @@
 ghost use Rattle.std.specs.Prelude.{◌≡◌, ◌<◌, ◌≤◌, ◌↔◌, List, ◌++◌, true, false, length, take, drop, IfSome, IfNone, IsTrue};
 ghost use Rattle.xet_merkle.specs.Groups.{Node};
 ghost use Rattle.xet_merkle.specs.StablePoints.{EndsStable, NoStable, IsFirstStable, IsLastStable, IsGroupBoundary};
-ghost use Rattle.xet_merkle.specs.Scan.{is_stable_gap};
-ghost use Rattle.xet_merkle.specs.StableScan.{completes, next_scan, IsFront};
+ghost use Rattle.xet_merkle.specs.Steps.Scan.{is_stable_gap};
+ghost use Rattle.xet_merkle.specs.Steps.StableScan.{completes, next_scan, IsFront};
 
 use crate::aggregated_hashes::{Node, is_natural_cut};
 

@@ -4,13 +4,13 @@ ghost use Rattle.std.specs.Prelude.{◌≡◌, ◌^◌, ◌<◌, ◌≤◌, ◌�
 ghost use Rattle.std.specs.Cmp.Lexicographic.{pointwise};
 ghost use Rattle.xet_merkle.specs.Groups.{Node};
 ghost use Rattle.xet_merkle.specs.Roots.{total_size, IsRoot};
-ghost use Rattle.xet_merkle.specs.Canonical.{Level, top_hash, hash_of_first};
-ghost use Rattle.xet_merkle.specs.Subtree.{Subtree, IsCanonical, left_at, right_at, node_count, levels_size, same_level, same_subtree};
-ghost use Rattle.xet_merkle.specs.SubtreeEquality.{same_subtree-per, same_subtree-equiv};
+ghost use Rattle.xet_merkle.specs.Levels.{Level, top_hash, hash_of_first, left_at, right_at, node_count, levels_size};
+ghost use Rattle.xet_merkle.specs.Subtree.{Subtree, IsCanonical, same_level, same_subtree};
+ghost use Rattle.xet_merkle.specs.Steps.SubtreeEquality.{same_subtree-per, same_subtree-equiv};
 ghost use Rattle.xet_merkle.specs.WellFormed.{IsWellFormed};
 ghost use Rattle.xet_merkle.specs.FlatLevels.{levels_of, IsFlat};
-ghost use Rattle.xet_merkle.specs.StoredLevels.{IsStored};
-ghost use Rattle.xet_merkle.specs.OpenLevels.{AreOperands, HasJoin, StandsFor};
+ghost use Rattle.xet_merkle.specs.Steps.StoredLevels.{IsStored};
+ghost use Rattle.xet_merkle.specs.Steps.OpenLevels.{AreOperands, HasJoin, StandsFor};
 
 mod json;
 mod merging;

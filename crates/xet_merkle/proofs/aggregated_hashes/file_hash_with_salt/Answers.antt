@@ -2,7 +2,7 @@ use Rattle.std.proofs.Common.{◌<◌, length, List, ℕ, ap, ◌∙◌, arith}
 use Rattle.std.proofs.lemmas.Bool.Decides.{nat_tests}
 use Rattle.xet_hash.specs.Blake3.{keyed_hash}
 use Rattle.xet_hash.specs.Hash.{bytes_of, hash_of}
-use Rattle.xet_merkle.proofs.Scanning.{IsFileHash-some}
+use Rattle.xet_merkle.proofs.Roots.Making.{IsFileHash-some}
 use Rattle.xet_merkle.proofs.aggregated_hashes.file_hash_with_salt.Goals as goal
 
 pub returns-clause-file : goal.returns-clause-file

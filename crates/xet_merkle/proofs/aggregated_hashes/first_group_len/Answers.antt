@@ -1,6 +1,6 @@
 use Rattle.std.proofs.Common.{arith, sym, ◌∙◌, ap}
 use Rattle.xet_merkle.specs.Groups.{is_cut}
-use Rattle.xet_merkle.proofs.FirstGroup.{IsFirstGroup-at_cut, IsFirstGroup-at_end}
+use Rattle.xet_merkle.proofs.Groups.FirstGroup.{IsFirstGroup-at_cut, IsFirstGroup-at_end}
 use Rattle.xet_merkle.proofs.aggregated_hashes.first_group_len.Goals as goal
 
 pub returns-then-is_natural_cut-clause-first : goal.returns-then-is_natural_cut-clause-first

@@ -1,7 +1,7 @@
 use Rattle.std.proofs.Common.{◌≡◌, length, rules, tests, arith}
 use Rattle.std.proofs.lemmas.List.{nil_from_length}
 use Rattle.xet_merkle.specs.Roots.{parent}
-use Rattle.xet_merkle.proofs.Scanning.{MadeSoFar-more, MadeSoFar-all, total_size-drop-le}
+use Rattle.xet_merkle.proofs.Roots.Making.{MadeSoFar-more, MadeSoFar-all, total_size-drop-le}
 use Rattle.xet_merkle.proofs.aggregated_hashes.parents.Goals as goal
 
 pub groups-preserved : goal.groups-preserved

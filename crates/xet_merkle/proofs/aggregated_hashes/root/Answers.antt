@@ -1,7 +1,7 @@
 use Rattle.std.proofs.Common.{◌≡◌, length, sym, subst, arith}
 use Rattle.xet_merkle.specs.Groups.{Node}
 use Rattle.xet_merkle.specs.Roots.{IsRoot}
-use Rattle.xet_merkle.proofs.Scanning.{total_size-are_parents, AreParents-some, AreParents-fewer, IsRoot-from_parents, IsRoot-one}
+use Rattle.xet_merkle.proofs.Roots.Making.{total_size-are_parents, AreParents-some, AreParents-fewer, IsRoot-from_parents, IsRoot-one}
 use Rattle.xet_merkle.proofs.aggregated_hashes.root.Goals as goal
 
 pub levels-smaller : goal.levels-smaller

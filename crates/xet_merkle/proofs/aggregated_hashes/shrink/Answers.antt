@@ -2,7 +2,7 @@ use Rattle.std.proofs.Common.{◌≡◌, [], ◌∷◌, ◌++◌, ◌≤◌, ◌
 use Rattle.std.proofs.lemmas.List.{take_more_set, drop-set-lt, drop-drop, drop_all, take_rest}
 use Rattle.xet_merkle.specs.Groups.{Node}
 use Rattle.xet_merkle.specs.Roots.{parent}
-use Rattle.xet_merkle.proofs.Scanning.{MadeSoFar-more, MadeSoFar-all, total_size-drop-le}
+use Rattle.xet_merkle.proofs.Roots.Making.{MadeSoFar-more, MadeSoFar-all, total_size-drop-le}
 use Rattle.xet_merkle.proofs.aggregated_hashes.shrink.Goals as goal
 
 pub groups-preserved : goal.groups-preserved

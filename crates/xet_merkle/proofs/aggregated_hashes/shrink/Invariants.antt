@@ -1,6 +1,6 @@
 use Rattle.std.proofs.Common.{◌≤◌, ◌-◌, length, take, drop}
 use Rattle.xet_merkle.specs.Roots.{total_size, parent}
-use Rattle.xet_merkle.proofs.Scanning.{MadeSoFar}
+use Rattle.xet_merkle.proofs.Roots.Making.{MadeSoFar}
 use Rattle.xet_merkle.proofs.aggregated_hashes.shrink.Given as goal
 
 abbrev pub invariant-groups : goal.invariant-groups

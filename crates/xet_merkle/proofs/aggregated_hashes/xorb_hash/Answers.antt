@@ -1,5 +1,5 @@
 use Rattle.std.proofs.Common.{arith, rules}
-use Rattle.xet_merkle.proofs.Scanning.{total_size-are_parents, AreParents-some, IsRoot-from_parents, IsRoot-none, IsRoot-one}
+use Rattle.xet_merkle.proofs.Roots.Making.{total_size-are_parents, AreParents-some, IsRoot-from_parents, IsRoot-none, IsRoot-one}
 use Rattle.xet_merkle.proofs.aggregated_hashes.xorb_hash.Goals as goal
 
 pub root-requires-clause-fits : goal.root-requires-clause-fits

@@ -1,4 +1,4 @@
-use Rattle.xet_merkle.proofs.CanonicalBounds.{few_nodes, few_levels}
+use Rattle.xet_merkle.proofs.Canonical.Bounds.{few_nodes, few_levels}
 use Rattle.xet_merkle.proofs.laws.canonical_subtree_bounds.Goals as goal
 
 pub returns-clause-nodes : goal.returns-clause-nodes

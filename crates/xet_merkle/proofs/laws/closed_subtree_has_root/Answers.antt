@@ -1,5 +1,5 @@
 use Rattle.xet_merkle.specs.Roots.{parent}
-use Rattle.xet_merkle.proofs.CanonicalLaws.{closed_root}
+use Rattle.xet_merkle.proofs.Canonical.OneSubtree.{closed_root}
 use Rattle.xet_merkle.proofs.laws.closed_subtree_has_root.Goals as goal
 
 pub returns : goal.returns

@@ -1,4 +1,4 @@
-use Rattle.xet_merkle.proofs.MergeLaws.{neutral_behind, neutral_before}
+use Rattle.xet_merkle.proofs.Merging.Ranges.{neutral_behind, neutral_before}
 use Rattle.xet_merkle.proofs.laws.empty_range_is_neutral.Goals as goal
 
 pub returns-clause-behind : goal.returns-clause-behind

@@ -1,4 +1,4 @@
-use Rattle.xet_merkle.proofs.JsonBack.{one_subtree}
+use Rattle.xet_merkle.proofs.Json.OneMeaning.{one_subtree}
 use Rattle.xet_merkle.proofs.laws.json_says_one_subtree.Goals as goal
 
 pub returns : goal.returns

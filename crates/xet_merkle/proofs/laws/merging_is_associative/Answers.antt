@@ -1,4 +1,4 @@
-use Rattle.xet_merkle.proofs.MergeLaws.{associative}
+use Rattle.xet_merkle.proofs.Merging.Ranges.{associative}
 use Rattle.xet_merkle.proofs.laws.merging_is_associative.Goals as goal
 
 pub returns : goal.returns

@@ -1,4 +1,4 @@
-use Rattle.xet_merkle.proofs.CanonicalLaws.{canonical_exists, IsCanonicalBy-unique}
+use Rattle.xet_merkle.proofs.Canonical.OneSubtree.{canonical_exists, IsCanonicalBy-unique}
 use Rattle.xet_merkle.proofs.laws.one_canonical_subtree.Goals as goal
 
 pub returns-clause-exists : goal.returns-clause-exists

@@ -1,5 +1,5 @@
 use Rattle.xet_merkle.specs.Roots.{parent}
-use Rattle.xet_merkle.proofs.RootLaws.{root_exists, IsRootBy-unique}
+use Rattle.xet_merkle.proofs.Roots.OneRoot.{root_exists, IsRootBy-unique}
 use Rattle.xet_merkle.proofs.laws.one_root.Goals as goal
 
 pub returns-clause-exists : goal.returns-clause-exists

@@ -1,4 +1,4 @@
-use Rattle.xet_merkle.proofs.Splits.{same_split}
+use Rattle.xet_merkle.proofs.Canonical.Splits.{same_split}
 use Rattle.xet_merkle.proofs.laws.one_split.Goals as goal
 
 pub returns : goal.returns

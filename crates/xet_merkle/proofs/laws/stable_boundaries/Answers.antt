@@ -1,4 +1,4 @@
-use Rattle.xet_merkle.proofs.StableGroups.{boundary_inside, boundary_behind_cut}
+use Rattle.xet_merkle.proofs.StablePoints.Boundaries.{boundary_inside, boundary_behind_cut}
 use Rattle.xet_merkle.proofs.laws.stable_boundaries.Goals as goal
 
 pub returns-clause-inside : goal.returns-clause-inside

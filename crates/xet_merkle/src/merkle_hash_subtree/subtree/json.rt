@@ -6,7 +6,7 @@ ghost use Rattle.serde_json.specs.Data.{array};
 ghost use Rattle.serde_json.specs.View.{view, items_of};
 ghost use Rattle.xet_hash.specs.Hash.{IsHash};
 ghost use Rattle.xet_merkle.specs.Groups.{Node};
-ghost use Rattle.xet_merkle.specs.Subtree.{levels_size};
+ghost use Rattle.xet_merkle.specs.Levels.{levels_size};
 ghost use Rattle.xet_merkle.specs.WellFormed.{IsWellFormed};
 ghost use Rattle.xet_merkle.specs.FlatLevels.{IsFlat};
 ghost use Rattle.xet_merkle.specs.JsonRules.{count_sum, Reads, BreaksValueRule, BreaksRule};

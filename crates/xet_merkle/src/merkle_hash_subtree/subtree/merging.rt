@@ -2,9 +2,10 @@
 
 ghost use Rattle.std.specs.Prelude.{◌≡◌, ◌+◌, ◌^◌, ◌<◌, ◌≤◌, ◌⊎◌, ◌↔◌, List, [], ◌∷◌, flat_map, IfOk, IfErr, SomeIff, IsErrOf, IsTrue};
 ghost use Rattle.xet_merkle.specs.Groups.{Node};
-ghost use Rattle.xet_merkle.specs.Subtree.{Subtree, IsCanonical, levels_size};
+ghost use Rattle.xet_merkle.specs.Levels.{levels_size};
+ghost use Rattle.xet_merkle.specs.Subtree.{Subtree, IsCanonical};
 ghost use Rattle.xet_merkle.specs.Merging.{IsMerged, NoMarkBetween, start_mark, end_mark, ranges_size, AreCanonical};
-ghost use Rattle.xet_merkle.specs.RangeMerging.{MergesTo};
+ghost use Rattle.xet_merkle.specs.Steps.RangeMerging.{MergesTo};
 
 use super::MerkleHashSubtree;
 use crate::error::CoreError;

@@ -1,6 +1,6 @@
 use Rattle.std.proofs.Common.{ℕ, List, ◌-◌, ◌^◌}
 use Rattle.std.specs.Io.KnownBytes.{Consumes}
-use Rattle.xetroot.specs.Taken.{IsTaken}
+use Rattle.xetroot.specs.Steps.Taken.{IsTaken}
 use Rattle.xetroot.proofs.run.read_ranges.Given as goal
 
 abbrev pub invariant-pieces : goal.invariant-pieces

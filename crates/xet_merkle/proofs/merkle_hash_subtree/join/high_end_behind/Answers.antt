@@ -1,4 +1,4 @@
-use Rattle.xet_merkle.proofs.JoinLaws.{high_behind_found}
+use Rattle.xet_merkle.proofs.Merging.Join.{high_behind_found}
 use Rattle.xet_merkle.proofs.merkle_hash_subtree.join.high_end_behind.Goals as goal
 
 pub returns-else-at_end-clause-high : goal.returns-else-at_end-clause-high

@@ -1,9 +1,9 @@
 use Rattle.std.proofs.Common.{◌≡◌, ◌<◌, List, length, sym, ap, ◌∙◌, subst, arith, rules}
 use Rattle.std.proofs.lemmas.Bool.{false≢true}
 use Rattle.xet_merkle.specs.Groups.{Node}
-use Rattle.xet_merkle.specs.Joining.{between}
-use Rattle.xet_merkle.specs.OpenLevels.{StandsBelow}
-use Rattle.xet_merkle.proofs.Joined.{above-shorter, above-not_longer, StandsBelow-from_join}
+use Rattle.xet_merkle.specs.Steps.Joining.{between}
+use Rattle.xet_merkle.specs.Steps.OpenLevels.{StandsBelow}
+use Rattle.xet_merkle.proofs.Merging.LevelByLevel.{above-shorter, above-not_longer, StandsBelow-from_join}
 use Rattle.xet_merkle.proofs.merkle_hash_subtree.join.join.Goals.{then-has_above, else-has_above+then-has_above-2}
 use Rattle.xet_merkle.proofs.merkle_hash_subtree.join.join.Goals as goal
 

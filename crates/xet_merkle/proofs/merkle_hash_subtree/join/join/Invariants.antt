@@ -1,7 +1,7 @@
 use Rattle.std.proofs.Common.{◌+◌, ◌<◌, ◌^◌, length}
 use Rattle.xet_merkle.specs.Roots.{total_size}
-use Rattle.xet_merkle.specs.Subtree.{levels_size}
-use Rattle.xet_merkle.specs.OpenLevels.{JoinsBelow}
+use Rattle.xet_merkle.specs.Levels.{levels_size}
+use Rattle.xet_merkle.specs.Steps.OpenLevels.{JoinsBelow}
 use Rattle.xet_merkle.proofs.merkle_hash_subtree.join.join.Given as goal
 
 abbrev pub invariant-joining : goal.invariant-joining

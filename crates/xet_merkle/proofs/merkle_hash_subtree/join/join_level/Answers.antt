@@ -1,8 +1,8 @@
 use Rattle.std.proofs.Common.{◌∙◌, arith, subst, List}
 use Rattle.xet_merkle.specs.Groups.{Node}
-use Rattle.xet_merkle.specs.Joining.{IsJoinSplit}
-use Rattle.xet_merkle.proofs.Scanning.{total_size-are_parents}
-use Rattle.xet_merkle.proofs.Joined.{step_size, JoinsBelow-step}
+use Rattle.xet_merkle.specs.Steps.Joining.{IsJoinSplit}
+use Rattle.xet_merkle.proofs.Roots.Making.{total_size-are_parents}
+use Rattle.xet_merkle.proofs.Merging.LevelByLevel.{step_size, JoinsBelow-step}
 use Rattle.xet_merkle.proofs.merkle_hash_subtree.join.join_level.Goals as goal
 
 pub parents-requires : goal.parents-requires

@@ -1,7 +1,7 @@
 use Rattle.std.proofs.Common.{◌≡◌, ◌<◌, ◌++◌, length, refl, rules}
 use Rattle.std.proofs.lemmas.Bool.{false≢true}
-use Rattle.xet_merkle.specs.Joining.{IsHighBehind, IsLowBefore}
-use Rattle.xet_merkle.proofs.JoinLaws.{both_above, left_above, right_above}
+use Rattle.xet_merkle.specs.Steps.Joining.{IsHighBehind, IsLowBefore}
+use Rattle.xet_merkle.proofs.Merging.Join.{both_above, left_above, right_above}
 use Rattle.xet_merkle.proofs.merkle_hash_subtree.join.join_split.Goals as goal
 
 pub returns-then-not-has_above : goal.returns-then-not-has_above

@@ -1,5 +1,5 @@
 use Rattle.std.proofs.Common.{length, sym, ap, arith}
-use Rattle.xet_merkle.proofs.JsonLaws.{two_counts}
+use Rattle.xet_merkle.proofs.Json.Reading.{two_counts}
 use Rattle.xet_merkle.proofs.merkle_hash_subtree.json_parts.read_counts.Goals as goal
 
 pub returns-in_default-clause-none : goal.returns-in_default-clause-none

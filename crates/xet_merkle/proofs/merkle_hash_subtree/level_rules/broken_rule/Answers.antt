@@ -1,7 +1,7 @@
 use Rattle.std.proofs.Common.{refl}
 use Rattle.std.proofs.lemmas.Bool.{false≢true}
 use Rattle.xet_merkle.specs.LevelRules.BreaksLevelRule.{at_8, at_9, at_10, at_11, at_12, at_13}
-use Rattle.xet_merkle.proofs.RuleLaws.{well_formed_from_rules}
+use Rattle.xet_merkle.proofs.Json.LevelRules.{well_formed_from_rules}
 use Rattle.xet_merkle.proofs.merkle_hash_subtree.level_rules.broken_rule.Goals as goal
 
 pub returns-then-not-keep_rule_8-clause-broken : goal.returns-then-not-keep_rule_8-clause-broken

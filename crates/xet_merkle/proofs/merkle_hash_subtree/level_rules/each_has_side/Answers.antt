@@ -1,7 +1,7 @@
 use Rattle.std.proofs.Common.{◌<◌, length, rules}
 use Rattle.std.proofs.lemmas.Bool.{false≢true}
-use Rattle.xet_merkle.specs.LevelSides.{HasSide}
-use Rattle.xet_merkle.proofs.RuleLaws.{walk_ends, walk_stops}
+use Rattle.xet_merkle.specs.Steps.LevelSides.{HasSide}
+use Rattle.xet_merkle.proofs.Json.LevelRules.{walk_ends, walk_stops}
 use Rattle.xet_merkle.proofs.merkle_hash_subtree.level_rules.each_has_side.Goals as goal
 
 pub returns-then-not-has_side : goal.returns-then-not-has_side

@@ -1,7 +1,7 @@
 use Rattle.std.proofs.Common.{◌↔◌, length}
 use Rattle.std.specs.List.{AllByRecursion as Each}
-use Rattle.xet_merkle.specs.LevelRules.{below_top}
-use Rattle.xet_merkle.specs.LevelSides.{HasSide}
+use Rattle.xet_merkle.specs.Levels.{below_top}
+use Rattle.xet_merkle.specs.Steps.LevelSides.{HasSide}
 use Rattle.xet_merkle.proofs.merkle_hash_subtree.level_rules.each_has_side.Given as goal
 
 abbrev pub invariant-below_top : goal.invariant-below_top

@@ -1,5 +1,5 @@
 use Rattle.std.proofs.Common.{length, ap}
-use Rattle.xet_merkle.proofs.RuleLaws.{top_nodes-left}
+use Rattle.xet_merkle.proofs.Json.LevelRules.{top_nodes-left}
 use Rattle.xet_merkle.proofs.merkle_hash_subtree.level_rules.top_len.Goals as goal
 
 pub returns : goal.returns

@@ -3,8 +3,8 @@ use Rattle.std.proofs.lemmas.Bool.{false≢true}
 use Rattle.std.proofs.lemmas.List.{take_all, take_more}
 use Rattle.xet_merkle.specs.Groups.{is_cut}
 use Rattle.xet_merkle.specs.StablePoints.{NoCut}
-use Rattle.xet_merkle.proofs.CutPlaces.{NoCut-append}
-use Rattle.xet_merkle.proofs.RuleLaws.{begins_at_gap, begins_nowhere}
+use Rattle.xet_merkle.proofs.StablePoints.CutPlaces.{NoCut-append}
+use Rattle.xet_merkle.proofs.Json.LevelRules.{begins_at_gap, begins_nowhere}
 use Rattle.xet_merkle.proofs.merkle_hash_subtree.sides.begins_stable.Goals as goal
 
 pub returns-then-is_natural_cut : goal.returns-then-is_natural_cut

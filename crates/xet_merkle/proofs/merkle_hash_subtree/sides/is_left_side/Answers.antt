@@ -1,4 +1,4 @@
-use Rattle.xet_merkle.proofs.RuleLaws.{left_side_found}
+use Rattle.xet_merkle.proofs.Json.LevelRules.{left_side_found}
 use Rattle.xet_merkle.proofs.merkle_hash_subtree.sides.is_left_side.Goals as goal
 
 pub returns-then-ends_stable : goal.returns-then-ends_stable

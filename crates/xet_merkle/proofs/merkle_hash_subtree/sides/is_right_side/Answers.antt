@@ -1,4 +1,4 @@
-use Rattle.xet_merkle.proofs.RuleLaws.{right_side_found}
+use Rattle.xet_merkle.proofs.Json.LevelRules.{right_side_found}
 use Rattle.xet_merkle.proofs.merkle_hash_subtree.sides.is_right_side.Goals as goal
 
 pub returns-then-begins_stable : goal.returns-then-begins_stable

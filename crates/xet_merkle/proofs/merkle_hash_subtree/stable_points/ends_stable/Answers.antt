@@ -1,9 +1,9 @@
 use Rattle.std.proofs.Common.{List, [], subst, ap, ◌∙◌, arith}
 use Rattle.std.proofs.lemmas.List.{take_all}
 use Rattle.xet_merkle.specs.Groups.{Node, is_cut}
-use Rattle.xet_merkle.proofs.StableScan.{IsScanned, IsScanned-none}
-use Rattle.xet_merkle.proofs.StableLoops.{since_more, Scanned-more}
-use Rattle.xet_merkle.proofs.RuleLaws.{scanned_ends}
+use Rattle.xet_merkle.proofs.StablePoints.Scan.{IsScanned, IsScanned-none}
+use Rattle.xet_merkle.proofs.StablePoints.Loops.{since_more, Scanned-more}
+use Rattle.xet_merkle.proofs.Json.LevelRules.{scanned_ends}
 use Rattle.xet_merkle.proofs.merkle_hash_subtree.stable_points.ends_stable.Goals as goal
 
 pub scan-init : goal.scan-init

@@ -1,5 +1,5 @@
 use Rattle.std.proofs.Common.{◌≤◌, take}
-use Rattle.xet_merkle.proofs.StableScan.{IsScanned}
+use Rattle.xet_merkle.proofs.StablePoints.Scan.{IsScanned}
 use Rattle.xet_merkle.proofs.merkle_hash_subtree.stable_points.ends_stable.Given as goal
 
 abbrev pub invariant-scan : goal.invariant-scan

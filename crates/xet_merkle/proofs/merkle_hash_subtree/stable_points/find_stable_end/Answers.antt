@@ -1,7 +1,7 @@
 use Rattle.std.proofs.Common.{take, drop}
 use Rattle.std.proofs.lemmas.Option.{IfSome_then}
-use Rattle.xet_merkle.proofs.StableGroups.{boundary_around}
-use Rattle.xet_merkle.proofs.StableLoops.{last_behind_nothing, none_behind_nothing}
+use Rattle.xet_merkle.proofs.StablePoints.Boundaries.{boundary_around}
+use Rattle.xet_merkle.proofs.StablePoints.Loops.{last_behind_nothing, none_behind_nothing}
 use Rattle.xet_merkle.proofs.merkle_hash_subtree.stable_points.find_stable_end.Goals as goal
 
 pub returns-clause-last : goal.returns-clause-last

@@ -1,8 +1,8 @@
 use Rattle.std.proofs.Common.{◌-◌, take, drop, sym, ap, ◌∙◌, arith}
 use Rattle.xet_merkle.specs.Groups.{is_cut}
-use Rattle.xet_merkle.specs.StableScan.{completes}
-use Rattle.xet_merkle.proofs.StableGroups.{boundary_around}
-use Rattle.xet_merkle.proofs.StableLoops.{since_more, NoneSoFar-none, NoneSoFar-more, NoneSoFar-found, NoneSoFar-all}
+use Rattle.xet_merkle.specs.Steps.StableScan.{completes}
+use Rattle.xet_merkle.proofs.StablePoints.Boundaries.{boundary_around}
+use Rattle.xet_merkle.proofs.StablePoints.Loops.{since_more, NoneSoFar-none, NoneSoFar-more, NoneSoFar-found, NoneSoFar-all}
 use Rattle.xet_merkle.proofs.merkle_hash_subtree.stable_points.find_stable_start.Goals as goal
 
 pub scan-init : goal.scan-init

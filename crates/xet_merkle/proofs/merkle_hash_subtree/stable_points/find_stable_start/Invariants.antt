@@ -1,5 +1,5 @@
 use Rattle.std.proofs.Common.{◌≤◌}
-use Rattle.xet_merkle.proofs.StableLoops.{NoneSoFar}
+use Rattle.xet_merkle.proofs.StablePoints.Loops.{NoneSoFar}
 use Rattle.xet_merkle.proofs.merkle_hash_subtree.stable_points.find_stable_start.Given as goal
 
 abbrev pub invariant-scan : goal.invariant-scan

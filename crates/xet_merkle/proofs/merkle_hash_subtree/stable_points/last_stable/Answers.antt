@@ -1,8 +1,8 @@
 use Rattle.std.proofs.Common.{sym, ap, ◌∙◌, arith}
 use Rattle.std.proofs.lemmas.Option.{IfSome_then}
 use Rattle.xet_merkle.specs.Groups.{is_cut}
-use Rattle.xet_merkle.specs.StableScan.{completes}
-use Rattle.xet_merkle.proofs.StableLoops.{since_more, LastSoFar-none, LastSoFar-more, LastSoFar-found, LastSoFar-last, LastSoFar-no_place}
+use Rattle.xet_merkle.specs.Steps.StableScan.{completes}
+use Rattle.xet_merkle.proofs.StablePoints.Loops.{since_more, LastSoFar-none, LastSoFar-more, LastSoFar-found, LastSoFar-last, LastSoFar-no_place}
 use Rattle.xet_merkle.proofs.merkle_hash_subtree.stable_points.last_stable.Goals as goal
 use Rattle.xet_merkle.proofs.merkle_hash_subtree.stable_points.last_stable.Goals.{then-completes, else-completes}
 

@@ -1,7 +1,7 @@
 use Rattle.std.proofs.Common.{◌≤◌, List, IfSome}
 use Rattle.xet_merkle.specs.Groups.{Node}
-use Rattle.xet_merkle.specs.StableScan.{IsFront}
-use Rattle.xet_merkle.proofs.StableLoops.{LastSoFar}
+use Rattle.xet_merkle.specs.Steps.StableScan.{IsFront}
+use Rattle.xet_merkle.proofs.StablePoints.Loops.{LastSoFar}
 use Rattle.xet_merkle.proofs.merkle_hash_subtree.stable_points.last_stable.Given as goal
 
 abbrev pub invariant-scan : goal.invariant-scan

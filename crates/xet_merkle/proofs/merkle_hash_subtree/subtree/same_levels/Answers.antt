@@ -1,7 +1,7 @@
 use Rattle.std.proofs.Common.{Bool, ◌&&◌, ap, ◌∙◌}
 use Rattle.std.specs.Cmp.Lexicographic.{pointwise}
 use Rattle.xet_merkle.specs.Subtree.{same_node}
-use Rattle.xet_merkle.proofs.FlatLevelEquality.{same_flat}
+use Rattle.xet_merkle.proofs.Levels.FlatEquality.{same_flat}
 use Rattle.xet_merkle.proofs.merkle_hash_subtree.subtree.same_levels.Goals as goal
 
 pub returns-then-eq : goal.returns-then-eq

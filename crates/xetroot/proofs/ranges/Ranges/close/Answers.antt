@@ -1,5 +1,5 @@
 use Rattle.std.proofs.Common.{◌+◌, ◌^◌, ◌<◌, Err, ap, arith}
-use Rattle.xet_merkle.specs.Subtree.{levels_size}
+use Rattle.xet_merkle.specs.Levels.{levels_size}
 use Rattle.xetroot.proofs.RangeLemmas.{all_pairs, refused_for_memory, merging_wants_memory}
 use Rattle.xetroot.proofs.ranges.Ranges.close.Goals as goal
 

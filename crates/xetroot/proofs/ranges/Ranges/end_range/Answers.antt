@@ -1,6 +1,7 @@
 use Rattle.std.proofs.Common.{◌≡◌, ◌+◌, ◌^◌, ◌<◌, Err, ap, ◌∙◌, arith, refl, subst}
 use Rattle.xet_merkle.specs.Roots.{total_size}
-use Rattle.xet_merkle.specs.Subtree.{IsCanonical, levels_size}
+use Rattle.xet_merkle.specs.Levels.{levels_size}
+use Rattle.xet_merkle.specs.Subtree.{IsCanonical}
 use Rattle.xetroot.proofs.RangeLemmas.{HoldPairs-ended, refused_for_memory, chunks_want_memory, merging_wants_memory}
 use Rattle.xetroot.proofs.ranges.Ranges.end_range.Goals as goal
 

@@ -1,7 +1,7 @@
 use Rattle.std.proofs.Common.{refl, sym, subst, inl, inr}
 use Rattle.std.proofs.lemmas.Result.{on_ok_weaker, IfErr-weaker}
 use Rattle.xetroot.specs.Lines.{content}
-use Rattle.xetroot.specs.Taken.{IsLineFault}
+use Rattle.xetroot.specs.Steps.Taken.{IsLineFault}
 use Rattle.xetroot.proofs.ReadingLemmas.{AddsLine-separator, AddsLine-pair}
 use Rattle.xetroot.proofs.reading.Reading.add_line.Goals as goal
 

@@ -1,7 +1,7 @@
 use Rattle.std.proofs.Common.{◌≡◌, ◌+◌, [], ◌∷◌, ◌++◌, length, sym, subst, ◌∙◌, arith, length-append}
 use Rattle.std.proofs.lemmas.Result.{err_from_is_err_and}
 use Rattle.xetroot.specs.Lines.{newline}
-use Rattle.xetroot.specs.Open.{IsOpenLine}
+use Rattle.xetroot.specs.Steps.Open.{IsOpenLine}
 use Rattle.xetroot.proofs.LineLemmas.{content-whole}
 use Rattle.xetroot.proofs.ReadingLemmas.{StandsAt-end, IsFaultOf-ended}
 use Rattle.xetroot.proofs.reading.Reading.end_line.Goals as goal

@@ -1,6 +1,6 @@
 use Rattle.std.proofs.Common.{◌≡◌, ◌+◌, ◌++◌, ℕ, List, length, sym, ◌∙◌, refl, inl, inr, arith, length-append}
 use Rattle.xetroot.specs.declared.fault.Fault.TheVariants.{BadLine}
-use Rattle.xetroot.specs.Taken.{IsLineFault}
+use Rattle.xetroot.specs.Steps.Taken.{IsLineFault}
 use Rattle.xetroot.proofs.LineLemmas.{FirstLine-open, SaysNothing-long}
 use Rattle.xetroot.proofs.ReadingLemmas.{StandsAt-extend, IsFaultOf-open}
 use Rattle.xetroot.proofs.reading.Reading.extend_line.Goals as goal

@@ -1,7 +1,7 @@
 use Rattle.std.proofs.Common.{sym, ◌<◌, length, subst, arith, tests, rules}
 use Rattle.std.proofs.lemmas.Result.{err_from_is_err_and}
 use Rattle.std.proofs.lemmas.Bool.Decides.{nat_tests}
-use Rattle.xetroot.specs.Open.{IsOpenLine}
+use Rattle.xetroot.specs.Steps.Open.{IsOpenLine}
 use Rattle.xetroot.proofs.LineLemmas.{content-open}
 use Rattle.xetroot.proofs.ReadingLemmas.{AreGood-all, AreGood-last, IsFaultOf-last}
 use Rattle.xetroot.proofs.reading.Reading.finish.Goals as goal

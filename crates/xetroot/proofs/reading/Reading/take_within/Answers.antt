@@ -2,7 +2,7 @@ use Rattle.std.proofs.Common.{refl, append-nil, ◌≡◌, ◌+◌, ◌≤◌, �
 use Rattle.std.proofs.lemmas.Result.{err_from_is_err_and, on_ok_weaker, IfErr-weaker}
 use Rattle.xetroot.specs.Lines.{newline}
 use Rattle.xetroot.specs.Answer.{IsFaultOf}
-use Rattle.xetroot.specs.Taken.{IsTaken}
+use Rattle.xetroot.specs.Steps.Taken.{IsTaken}
 use Rattle.xetroot.proofs.ReadingLemmas.{regrouped, piece_more}
 use Rattle.xetroot.proofs.reading.Reading.take_within.Goals as goal
 

@@ -1,5 +1,5 @@
 use Rattle.std.proofs.Common.{◌≡◌, ◌≤◌, ◌+◌, ◌^◌, ◌++◌, ℕ, List, length}
-use Rattle.xetroot.specs.Taken.{IsTaken}
+use Rattle.xetroot.specs.Steps.Taken.{IsTaken}
 use Rattle.xetroot.proofs.reading.Reading.take_within.Given as goal
 
 abbrev pub invariant-lines : goal.invariant-lines

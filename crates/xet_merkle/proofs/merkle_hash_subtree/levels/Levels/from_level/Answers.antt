@@ -1,9 +1,8 @@
 use Rattle.std.proofs.Common.{◌≡◌, ◌+◌, ℕ, suc, List, length, ap, ◌∙◌, arith}
 use Rattle.std.proofs.lemmas.List.{length-map}
-use Rattle.xet_merkle.specs.Canonical.{Level}
-use Rattle.xet_merkle.specs.Subtree.{left_at, right_at}
+use Rattle.xet_merkle.specs.Levels.{Level, left_at, right_at}
 use Rattle.xet_merkle.specs.FlatLevels.{count_of, levels_of}
-use Rattle.xet_merkle.proofs.StoredLevels.{left_at-above, right_at-above, left_at-beyond, right_at-beyond}
+use Rattle.xet_merkle.proofs.Levels.Stored.{left_at-above, right_at-above, left_at-beyond, right_at-beyond}
 use Rattle.xet_merkle.proofs.merkle_hash_subtree.levels.Levels.from_level.Goals as goal
 
 pub below-preserved : goal.below-preserved

@@ -1,5 +1,5 @@
 use Rattle.std.proofs.Common.{◌≡◌, ℕ, ◌+◌}
-use Rattle.xet_merkle.specs.Subtree.{left_at, right_at}
+use Rattle.xet_merkle.specs.Levels.{left_at, right_at}
 use Rattle.xet_merkle.proofs.merkle_hash_subtree.levels.Levels.from_level.Given as goal
 
 abbrev pub invariant-below : goal.invariant-below

@@ -1,7 +1,7 @@
 use Rattle.std.proofs.Common.{◌∷◌, [], sym, ap, ◌∙◌}
 use Rattle.std.proofs.lemmas.Bool.{false≢true}
-use Rattle.xet_merkle.specs.Canonical.{Level}
-use Rattle.xet_merkle.proofs.RuleLaws.{top_alone}
+use Rattle.xet_merkle.specs.Levels.{Level}
+use Rattle.xet_merkle.proofs.Json.LevelRules.{top_alone}
 use Rattle.xet_merkle.proofs.merkle_hash_subtree.levels.Levels.top.Goals as goal
 
 pub returns : goal.returns

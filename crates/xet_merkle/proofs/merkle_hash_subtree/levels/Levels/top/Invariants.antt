@@ -1,5 +1,5 @@
 use Rattle.std.proofs.Common.{◌≡◌, length}
-use Rattle.xet_merkle.specs.LevelRules.{top_of}
+use Rattle.xet_merkle.specs.Levels.{top_of}
 use Rattle.xet_merkle.proofs.merkle_hash_subtree.levels.Levels.top.Given as goal
 
 abbrev pub invariant-below_top : goal.invariant-below_top

@@ -1,4 +1,4 @@
-use Rattle.xet_merkle.proofs.Collapsing.{StandsFor-whole, StandsBelow-more, parents_fit, parents_fewer}
+use Rattle.xet_merkle.proofs.Canonical.Collapsing.{StandsFor-whole, StandsBelow-more, parents_fit, parents_fewer}
 use Rattle.xet_merkle.proofs.merkle_hash_subtree.open_levels.OpenLevels.collapse.Goals as goal
 
 pub returns-in_ok-push-in-None-clause-stands : goal.returns-in_ok-push-in-None-clause-stands

@@ -1,7 +1,7 @@
 use Rattle.std.proofs.Common.{◌+◌, ◌<◌, ◌^◌, List, length, MatchOption, IfSome, option_map, unwrap_or}
 use Rattle.xet_merkle.specs.Roots.{total_size}
-use Rattle.xet_merkle.specs.Canonical.{Level}
-use Rattle.xet_merkle.specs.OpenLevels.{StandsBelow, StandsFor}
+use Rattle.xet_merkle.specs.Levels.{Level}
+use Rattle.xet_merkle.specs.Steps.OpenLevels.{StandsBelow, StandsFor}
 use Rattle.xet_merkle.proofs.merkle_hash_subtree.open_levels.OpenLevels.collapse_all.Given as goal
 
 abbrev pub invariant-collapsing : goal.invariant-collapsing

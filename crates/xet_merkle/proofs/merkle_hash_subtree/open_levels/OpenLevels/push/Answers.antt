@@ -1,7 +1,7 @@
 use Rattle.std.proofs.Common.{◌≡◌, ◌++◌, reverse, rules}
 use Rattle.std.proofs.lemmas.Iterator.Adapters.{YieldsList-from_rev_slice, items_from_extend}
 use Rattle.std.proofs.lemmas.Iterator.Consumers.{YieldsList-from_copied}
-use Rattle.xet_merkle.proofs.FlatLevelLaws.{IsOpen-push}
+use Rattle.xet_merkle.proofs.Levels.Flat.{IsOpen-push}
 use Rattle.xet_merkle.proofs.merkle_hash_subtree.open_levels.OpenLevels.push.Goals as goal
 
 pub returns-clause-pushed : goal.returns-clause-pushed

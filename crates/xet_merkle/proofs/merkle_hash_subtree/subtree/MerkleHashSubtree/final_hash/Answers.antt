@@ -1,11 +1,10 @@
 use Rattle.std.proofs.Common.{◌≡◌, List, [], ◌∷◌, true, ap, subst, ◌∙◌, rules, sym}
 use Rattle.std.proofs.lemmas.Bool.{false≢true}
 use Rattle.xet_merkle.specs.Roots.{IsRoot}
-use Rattle.xet_merkle.specs.Canonical.{Level, hash_of_first}
-use Rattle.xet_merkle.specs.LevelRules.{top_of}
+use Rattle.xet_merkle.specs.Levels.{Level, hash_of_first, top_of}
 use Rattle.xet_merkle.specs.Subtree.{Subtree}
-use Rattle.xet_merkle.proofs.RuleLaws.{top_nodes-left, sides_rule_8}
-use Rattle.xet_merkle.proofs.FinalHash.{top_is_root}
+use Rattle.xet_merkle.proofs.Json.LevelRules.{top_nodes-left, sides_rule_8}
+use Rattle.xet_merkle.proofs.Canonical.FinalHash.{top_is_root}
 use Rattle.xet_merkle.proofs.merkle_hash_subtree.subtree.MerkleHashSubtree.final_hash.Goals as goal
 use Rattle.xet_merkle.proofs.merkle_hash_subtree.subtree.MerkleHashSubtree.final_hash.Goals.{then-self, else-self}
 

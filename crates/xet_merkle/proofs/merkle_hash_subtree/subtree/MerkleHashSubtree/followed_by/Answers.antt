@@ -1,8 +1,8 @@
 use Rattle.std.proofs.Common.{◌≡◌, ◌+◌, ◌∷◌, [], List, drop, subst, sym, ap, ◌∙◌}
 use Rattle.std.proofs.lemmas.List.{drop_more, drop_all}
 use Rattle.xet_merkle.specs.Subtree.{Subtree}
-use Rattle.xet_merkle.specs.RangeMerging.{MergesTo}
-use Rattle.xet_merkle.proofs.MergeLaws.{MergesTo-step}
+use Rattle.xet_merkle.specs.Steps.RangeMerging.{MergesTo}
+use Rattle.xet_merkle.proofs.Merging.Ranges.{MergesTo-step}
 use Rattle.xet_merkle.proofs.merkle_hash_subtree.subtree.MerkleHashSubtree.followed_by.Goals as goal
 
 pub merging-preserved : goal.merging-preserved

@@ -1,7 +1,7 @@
 use Rattle.std.proofs.Common.{[], ◌∷◌, arith}
-use Rattle.xet_merkle.specs.Canonical.{no_level}
-use Rattle.xet_merkle.specs.OpenLevels.{chunk_level}
-use Rattle.xet_merkle.proofs.Joined.{StandsBelow-chunks, chunks_are_operands, chunks_canonical}
+use Rattle.xet_merkle.specs.Levels.{no_level}
+use Rattle.xet_merkle.specs.Steps.OpenLevels.{chunk_level}
+use Rattle.xet_merkle.proofs.Merging.LevelByLevel.{StandsBelow-chunks, chunks_are_operands, chunks_canonical}
 use Rattle.xet_merkle.proofs.merkle_hash_subtree.subtree.MerkleHashSubtree.from_chunks.Goals as goal
 
 pub from_open_levels-requires : goal.from_open_levels-requires

@@ -2,8 +2,8 @@ use Rattle.std.proofs.Common.{Bool, inl, inr, sym, subst}
 use Rattle.serde_json.specs.View.{view}
 use Rattle.xet_merkle.specs.JsonParts.{ReadsParts}
 use Rattle.xet_merkle.specs.JsonRules.BreaksRule.{of_parts, of_value}
-use Rattle.xet_merkle.proofs.JsonLaws.{passed_on}
-use Rattle.xet_merkle.proofs.JsonBack.{Reads-parts}
+use Rattle.xet_merkle.proofs.Json.Reading.{passed_on}
+use Rattle.xet_merkle.proofs.Json.OneMeaning.{Reads-parts}
 use Rattle.xet_merkle.proofs.merkle_hash_subtree.subtree.MerkleHashSubtree.from_json.Goals as goal
 
 pub returns-in_err-read_parts-clause-errors : goal.returns-in_err-read_parts-clause-errors

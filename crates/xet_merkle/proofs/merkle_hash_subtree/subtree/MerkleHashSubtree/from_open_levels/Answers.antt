@@ -1,5 +1,5 @@
 use Rattle.std.proofs.Common.{◌≡◌, ◌++◌, reverse, rules}
-use Rattle.xet_merkle.proofs.Joined.{StandsFor-levels, StandsFor-stored, StandsFor-size}
+use Rattle.xet_merkle.proofs.Merging.LevelByLevel.{StandsFor-levels, StandsFor-stored, StandsFor-size}
 use Rattle.xet_merkle.proofs.merkle_hash_subtree.subtree.MerkleHashSubtree.from_open_levels.Goals as goal
 
 pub invariant_of-result : goal.invariant_of-result

@@ -3,14 +3,14 @@ use Rattle.std.proofs.lemmas.Bool.{false≢true}
 use Rattle.std.proofs.lemmas.Bool.Decides.{nat_tests}
 use Rattle.xet_merkle.specs.Groups.{Node}
 use Rattle.xet_merkle.specs.Roots.{total_size}
-use Rattle.xet_merkle.specs.Canonical.{Level}
+use Rattle.xet_merkle.specs.Levels.{Level}
 use Rattle.xet_merkle.specs.WellFormed.{IsWellFormed}
 use Rattle.xet_merkle.specs.FlatLevels.{levels_of}
 use Rattle.xet_merkle.specs.LevelRules.{BreaksLevelRule}
 use Rattle.xet_merkle.specs.JsonRules.{count_sum}
 use Rattle.xet_merkle.specs.JsonRules.BreaksValueRule.{no_level, wrong_counts, sizes_pass, of_levels}
-use Rattle.xet_merkle.proofs.FlatLevelLaws.{IsFlat-from_sum}
-use Rattle.xet_merkle.proofs.StoredLevels.{stored_size}
+use Rattle.xet_merkle.proofs.Levels.Flat.{IsFlat-from_sum}
+use Rattle.xet_merkle.proofs.Levels.Stored.{stored_size}
 use Rattle.xet_merkle.proofs.merkle_hash_subtree.subtree.MerkleHashSubtree.from_parts.Goals as goal
 
 pub returns-then-is_empty-clause-errors : goal.returns-then-is_empty-clause-errors

@@ -1,9 +1,10 @@
 use Rattle.std.proofs.Common.{◌≡◌, length, ap, ◌∙◌, arith}
 use Rattle.std.proofs.lemmas.Bool.Decides.{nat_tests}
 use Rattle.xet_merkle.specs.Roots.{parent}
-use Rattle.xet_merkle.specs.Subtree.{Subtree, node_count}
-use Rattle.xet_merkle.proofs.CanonicalBounds.{nodes_of_none}
-use Rattle.xet_merkle.proofs.StoredLevels.{stored_nodes}
+use Rattle.xet_merkle.specs.Levels.{node_count}
+use Rattle.xet_merkle.specs.Subtree.{Subtree}
+use Rattle.xet_merkle.proofs.Canonical.Bounds.{nodes_of_none}
+use Rattle.xet_merkle.proofs.Levels.Stored.{stored_nodes}
 use Rattle.xet_merkle.proofs.merkle_hash_subtree.subtree.MerkleHashSubtree.is_empty.Goals as goal
 
 pub returns-clause-nodes : goal.returns-clause-nodes

@@ -1,8 +1,8 @@
 use Rattle.std.proofs.Common.{◌≡◌, ◌+◌, false, sym, ◌∙◌, subst, rules}
-use Rattle.xet_merkle.specs.Subtree.{levels_size}
+use Rattle.xet_merkle.specs.Levels.{levels_size}
 use Rattle.xet_merkle.specs.Merging.{IsMerged}
-use Rattle.xet_merkle.specs.OpenLevels.{StandsFor}
-use Rattle.xet_merkle.proofs.Joined.{operands_from, merged_canonical}
+use Rattle.xet_merkle.specs.Steps.OpenLevels.{StandsFor}
+use Rattle.xet_merkle.proofs.Merging.LevelByLevel.{operands_from, merged_canonical}
 use Rattle.xet_merkle.proofs.merkle_hash_subtree.subtree.MerkleHashSubtree.merge_into.Goals as goal
 
 pub from_open_levels-requires : goal.from_open_levels-requires

@@ -1,6 +1,7 @@
 use Rattle.std.proofs.Common.{◌≡◌, length, ap, ◌∙◌, rules}
-use Rattle.xet_merkle.specs.Subtree.{Subtree, node_count}
-use Rattle.xet_merkle.proofs.StoredLevels.{stored_nodes}
+use Rattle.xet_merkle.specs.Levels.{node_count}
+use Rattle.xet_merkle.specs.Subtree.{Subtree}
+use Rattle.xet_merkle.proofs.Levels.Stored.{stored_nodes}
 use Rattle.xet_merkle.proofs.merkle_hash_subtree.subtree.MerkleHashSubtree.num_nodes.Goals as goal
 
 pub returns : goal.returns

@@ -2,13 +2,14 @@ use Rattle.std.proofs.Common.{◌≡◌, ℕ, ◌<◌, ◌^◌, List, map, sym, 
 use Rattle.serde_json.specs.Data.{Data, array}
 use Rattle.serde_json.specs.View.{view, items_of}
 use Rattle.xet_merkle.specs.Groups.{Node}
-use Rattle.xet_merkle.specs.Subtree.{Subtree, levels_size}
+use Rattle.xet_merkle.specs.Levels.{levels_size}
+use Rattle.xet_merkle.specs.Subtree.{Subtree}
 use Rattle.xet_merkle.specs.WellFormed.{IsWellFormed}
 use Rattle.xet_merkle.specs.FlatLevels.{count_of, flat_nodes}
 use Rattle.xet_merkle.specs.SubtreeJson.{node_json, counts_json, subtree_object}
 use Rattle.xet_merkle.specs.JsonRules.{Reads}
-use Rattle.xet_merkle.proofs.JsonBack.{AreHashes, Reads-object}
-use Rattle.xet_merkle.proofs.StoredLevels.{stored_size}
+use Rattle.xet_merkle.proofs.Json.OneMeaning.{AreHashes, Reads-object}
+use Rattle.xet_merkle.proofs.Levels.Stored.{stored_size}
 use Rattle.xet_merkle.proofs.merkle_hash_subtree.subtree.MerkleHashSubtree.to_json.Given as given
 use Rattle.xet_merkle.proofs.merkle_hash_subtree.subtree.MerkleHashSubtree.to_json.Goals as goal
 

@@ -1,7 +1,8 @@
 use Rattle.std.proofs.Common.{ap, ◌∙◌}
-use Rattle.xet_merkle.specs.Subtree.{Subtree, levels_size}
-use Rattle.xet_merkle.proofs.Collapsing.{levels_size-canonical}
-use Rattle.xet_merkle.proofs.StoredLevels.{stored_size}
+use Rattle.xet_merkle.specs.Levels.{levels_size}
+use Rattle.xet_merkle.specs.Subtree.{Subtree}
+use Rattle.xet_merkle.proofs.Canonical.Collapsing.{levels_size-canonical}
+use Rattle.xet_merkle.proofs.Levels.Stored.{stored_size}
 use Rattle.xet_merkle.proofs.merkle_hash_subtree.subtree.MerkleHashSubtree.total_size.Goals as goal
 
 pub returns-clause-nodes : goal.returns-clause-nodes

@@ -1,0 +1,5 @@
+pub mod Splits
+pub mod OneSubtree
+pub mod Bounds
+pub mod Collapsing
+pub mod FinalHash

@@ -1,0 +1,2 @@
+pub mod OneCutting
+pub mod FirstGroup

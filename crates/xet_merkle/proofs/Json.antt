@@ -1,0 +1,3 @@
+pub mod LevelRules
+pub mod Reading
+pub mod OneMeaning

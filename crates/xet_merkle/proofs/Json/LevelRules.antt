@@ -1,0 +1,197 @@
+-- The rules that levels keep, as the code tests them; they are those of well formed levels.
+use Rattle.std.proofs.Common.{◌≡◌, ℕ, ◌+◌, ◌<◌, ◌≤◌, ◌↔◌, Bool, true, false, Option, Some, None, IfSome, IfNone, is_some, not, List, [], ◌∷◌, ◌++◌, length, take, drop, get_or, refl, sym, ap, subst, ◌∙◌, arith, append-nil, length-take}
+use Rattle.std.proofs.lemmas.Bool.{false≢true}
+use Rattle.std.proofs.lemmas.List.{take-append-drop, drop_more}
+use Rattle.std.specs.List.{AllByRecursion as Each}
+use Rattle.xet_merkle.specs.Groups.{Node, Cut, EndsWithCut}
+use Rattle.xet_merkle.specs.StablePoints.{NoCut, EndsStable, BeginsStable, NoStable, IsFirstStable, IsLastStable}
+use Rattle.xet_merkle.specs.Steps.Scan.{is_stable_gap}
+use Rattle.xet_merkle.specs.Steps.StableScan.{IsFront}
+use Rattle.xet_merkle.specs.Levels.{Level, top_nodes, left_at, below_top, top_of}
+use Rattle.xet_merkle.specs.Steps.Joining.{above}
+use Rattle.xet_merkle.specs.WellFormed.{IsLeftSide, IsRightSide, HaveSides, IsWellFormed}
+use Rattle.xet_merkle.specs.LevelRules.{Rule8, Rule9, Rule10, Rule11, Rule12, Rule13, BreaksLevelRule}
+use Rattle.xet_merkle.specs.LevelRules.BreaksLevelRule.{at_8, at_9, at_10, at_11, at_12, at_13}
+use Rattle.xet_merkle.specs.Steps.LevelSides.{first_of}
+use Rattle.xet_merkle.proofs.StablePoints.CutPlaces.{not_among, back_of}
+use Rattle.xet_merkle.proofs.StablePoints.Scan.{EndsStable-head, head_of_stable, HeadIs, IsScanned, gap_parts, gap_from}
+use Rattle.xet_merkle.proofs.StablePoints.Search.{FirstCut, same_first_cut}
+use Rattle.xet_merkle.proofs.Merging.Sides.{EndsStable-cut}
+
+-- ---- a stable end
+
+no_tail : (head tail : List Node) → NoCut tail → EndsWithCut (head ++ tail) → tail ≡ []
+no_tail head [] none ends = refl
+no_tail head (node ∷ tail) none ends =
+    let at = back_of head (node ∷ tail) ends.0 ends.1 (omega arith) ends.2 in
+    absurd (not_among (node ∷ tail) at.0 ends.1 [] none at.2 ends.3)
+
+pub scanned_ends : (nodes : List Node) (has_cut ends_stable : Bool) (since : ℕ) → IsScanned nodes has_cut ends_stable since → EndsStable nodes ↔ ((ends_stable ≡ true) × (since ≡ 0))
+scanned_ends nodes has_cut ends_stable since h = (
+  λ ends.
+      let cut = subst EndsWithCut h.parts (EndsStable-cut nodes ends) in
+      let none = no_tail h.head h.tail h.no_cut cut in
+      let whole : nodes ≡ h.head = h.parts ∙ ap (λ (l : List Node). h.head ++ l) none ∙ append-nil h.head in
+      (EndsStable-head has_cut ends_stable h.head h.head_is (subst EndsStable whole ends), let is = h.since_is in let len = ap length none in omega arith),
+  λ is.
+      let none = none_of h.tail (let since_is = h.since_is in let zero = is.1 in omega arith) in
+      let whole : nodes ≡ h.head = h.parts ∙ ap (λ (l : List Node). h.head ++ l) none ∙ append-nil h.head in
+      subst EndsStable (sym whole) (head_of_stable has_cut h.head (subst (λ (b : Bool). HeadIs has_cut b h.head) is.0 h.head_is)),
+) where
+  none_of : (l : List Node) → length l ≡ 0 → l ≡ []
+  none_of [] e = refl
+  none_of (x ∷ l) e = absurd (omega arith)
+
+-- ---- a stable beginning
+
+pub begins_at : (nodes between : List Node) (first : Node) (after : List Node) → nodes ≡ between ++ first ∷ after → Cut first → NoCut between →
+    BeginsStable nodes ↔ ((2 ≤ length between) × (length between ≤ 6))
+begins_at nodes between first after parts cut none = (
+  λ begins.
+      let found : FirstCut nodes = record { between = between; first = first; after = after; parts = parts; first_cut = cut; no_cut = none } in
+      let len = ap length (same_first_cut nodes found begins.between begins.first begins.after begins.parts begins.first_cut begins.no_cut).0 in
+      let two = begins.two in
+      let six = begins.six in
+      (omega arith, omega arith),
+  λ range. record { between = between; first = first; after = after; parts = parts; first_cut = cut; no_cut = none; two = range.0; six = range.1 },
+)
+
+pub begins_nowhere : (nodes : List Node) → NoCut nodes → BeginsStable nodes → ⊥
+begins_nowhere nodes none begins = not_among nodes begins.between begins.first begins.after none begins.parts begins.first_cut
+
+-- ---- the two sides
+
+pub left_side_found : (nodes : List Node) (found : Option ℕ) → IfSome found (λ p. IsFirstStable (take p nodes) (drop p nodes)) → IfNone found (NoStable nodes) →
+    EndsStable nodes → (b : Bool) → is_some found ≡ not b → (b ≡ true) ↔ IsLeftSide false nodes
+left_side_found nodes None first none ends true e = (λ _. (ends, none), λ _. refl)
+left_side_found nodes None first none ends false e = absurd (false≢true e)
+left_side_found nodes (Some p) first none ends true e = absurd (false≢true (sym e))
+left_side_found nodes (Some p) first none ends false e = (
+  λ clash. absurd (false≢true clash),
+  λ side. absurd (side.1 (take p nodes) (drop p nodes) (sym (take-append-drop p nodes)) first.stable),
+)
+
+pub right_side_found : (nodes : List Node) (found : Option ℕ) →
+    IfSome found (λ p. (front : List Node) → IsFront true front → IsLastStable (front ++ take p nodes) (drop p nodes)) →
+    IfNone found ((front : List Node) → IsFront true front → NoStable (front ++ nodes)) → BeginsStable nodes → (b : Bool) → is_some found ≡ not b → (b ≡ true) ↔ IsRightSide false nodes
+right_side_found nodes None last none begins true e = (λ _. (begins, λ cut is_cut. none (cut ∷ []) (cut, refl, is_cut)), λ _. refl)
+right_side_found nodes None last none begins false e = absurd (false≢true e)
+right_side_found nodes (Some p) last none begins true e = absurd (false≢true (sym e))
+right_side_found nodes (Some p) last none begins false e = (
+  λ clash. absurd (false≢true clash),
+  λ side.
+      let cut = begins.first in
+      let place = last (cut ∷ []) (cut, refl, begins.first_cut) in
+      absurd (side.1 cut begins.first_cut (cut ∷ take p nodes) (drop p nodes) (ap (λ (l : List Node). cut ∷ l) (sym (take-append-drop p nodes))) place.stable),
+)
+
+pub begins_at_gap : (nodes : List Node) (i : ℕ) (d : Node) → i < length nodes → Cut (get_or nodes i d) → NoCut (take i nodes) → BeginsStable nodes ↔ (is_stable_gap i ≡ true)
+begins_at_gap nodes i d within cut none =
+    let parts : nodes ≡ take i nodes ++ get_or nodes i d ∷ drop (i + 1) nodes =
+    sym (take-append-drop i nodes) ∙ ap (λ (l : List Node). take i nodes ++ l) (drop_more nodes i d within) in
+    let range = begins_at nodes (take i nodes) (get_or nodes i d) (drop (i + 1) nodes) parts cut none in
+    let len = length-take i nodes in (
+      λ begins. let at = range.0 begins in gap_from i (let two = at.0 in omega arith) (let six = at.1 in omega arith),
+      λ gap. let at = gap_parts i gap in range.1 (let two = at.0 in omega arith, let six = at.1 in omega arith),
+    )
+
+-- ---- levels
+
+pub Each-more : (Keeps : Level → Type 0) (levels : List Level) → 1 < length levels → Each Keeps (below_top levels) ↔ (Keeps (first_of levels) × Each Keeps (below_top (above levels)))
+Each-more Keeps [] more = absurd (omega arith)
+Each-more Keeps (top ∷ []) more = absurd (omega arith)
+Each-more Keeps (level ∷ next ∷ levels) more = (λ h. h, λ h. h)
+
+pub Each-top : (Keeps : Level → Type 0) (levels : List Level) → ¬ (1 < length levels) → Each Keeps (below_top levels)
+Each-top Keeps [] one = tt
+Each-top Keeps (top ∷ []) one = tt
+Each-top Keeps (level ∷ next ∷ levels) one = absurd (one (omega arith))
+
+pub top_of-more : (levels : List Level) → 1 < length levels → top_of levels ≡ top_of (above levels)
+top_of-more [] more = absurd (omega arith)
+top_of-more (top ∷ []) more = absurd (omega arith)
+top_of-more (level ∷ next ∷ levels) more = refl
+
+pub top_alone : (levels : List Level) → 0 < length levels → ¬ (1 < length levels) → levels ≡ top_of levels ∷ []
+top_alone [] some one = absurd (omega arith)
+top_alone (top ∷ []) some one = refl
+top_alone (level ∷ next ∷ levels) some one = absurd (one (omega arith))
+
+pub top_nodes-top : (levels : List Level) → top_nodes levels ≡ (top_of levels).left ++ (top_of levels).right
+top_nodes-top [] = refl
+top_nodes-top (top ∷ []) = refl
+top_nodes-top (level ∷ next ∷ levels) = top_nodes-top (next ∷ levels)
+
+-- a walk through the levels below the top that ends, and one that stops at a level
+module _ (Keeps : Level → Type 0) (levels rest : List Level) (so_far : Each Keeps (below_top levels) ↔ Each Keeps (below_top rest)) where
+  pub walk_ends : ¬ (1 < length rest) → (true ≡ true) ↔ Each Keeps (below_top levels)
+  walk_ends one = (λ _. so_far.1 (Each-top Keeps rest one), λ _. refl)
+
+  pub walk_stops : 1 < length rest → (Keeps (first_of rest) → ⊥) → (false ≡ true) ↔ Each Keeps (below_top levels)
+  walk_stops more broken = (λ clash. absurd (false≢true clash), λ h. absurd (broken ((Each-more Keeps rest more).0 (so_far.0 h)).0))
+
+pub top_nodes-left : (levels top : List Level) (left : List Node) → top ≡ top_of levels ∷ [] → left ≡ left_at top 0 → (top_of levels).right ≡ [] → left ≡ top_nodes levels
+top_nodes-left levels top left top_is left_is none =
+    left_is ∙ ap (λ (l : List Level). left_at l 0) top_is ∙ sym (append-nil (top_of levels).left)
+    ∙ ap (λ (l : List Node). (top_of levels).left ++ l) (sym none) ∙ sym (top_nodes-top levels)
+
+-- ---- the rules together
+
+left_rules : (at_start : Bool) (levels : List Level) → Rule9 at_start levels → Rule12 at_start levels → Each (λ level. IsLeftSide at_start level.left) (below_top levels)
+left_rules true levels rule_9 rule_12 = rule_9 refl
+left_rules false levels rule_9 rule_12 = rule_12 refl
+
+right_rules : (at_end : Bool) (levels : List Level) → Rule8 at_end levels → Rule13 at_end levels → Each (λ level. IsRightSide at_end level.right) (below_top levels)
+right_rules true levels rule_8 rule_13 = rule_8.1 refl
+right_rules false levels rule_8 rule_13 = rule_13 refl
+
+sides_from_rules : (at_start at_end : Bool) (levels : List Level) → 0 < length levels → (top_of levels).right ≡ [] →
+    Each (λ level. IsLeftSide at_start level.left) (below_top levels) → Each (λ level. IsRightSide at_end level.right) (below_top levels) → HaveSides at_start at_end levels
+sides_from_rules at_start at_end [] some none left right = absurd (omega arith)
+sides_from_rules at_start at_end (top ∷ []) some none left right = none
+sides_from_rules at_start at_end (level ∷ next ∷ levels) some none left right =
+    (left.0, right.0, sides_from_rules at_start at_end (next ∷ levels) (omega arith) none left.1 right.1)
+
+pub well_formed_from_rules : (at_start at_end : Bool) (levels : List Level) → 0 < length levels → Rule8 at_end levels → Rule9 at_start levels → Rule10 at_start at_end levels →
+    Rule11 levels → Rule12 at_start levels → Rule13 at_end levels → IsWellFormed (record { at_start = at_start; at_end = at_end; levels = levels })
+well_formed_from_rules at_start at_end levels some rule_8 rule_9 rule_10 rule_11 rule_12 rule_13 = record {
+  sides = sides_from_rules at_start at_end levels some rule_8.0 (left_rules at_start levels rule_9 rule_12) (right_rules at_end levels rule_8 rule_13);
+  one_at_top = rule_10;
+  some_at_top = rule_11;
+}
+
+-- ---- the rules of well formed levels
+
+pub sides_rule_8 : (at_start at_end : Bool) (levels : List Level) → HaveSides at_start at_end levels → Rule8 at_end levels
+sides_rule_8 at_start at_end [] h = elim h [ ]
+sides_rule_8 at_start at_end (top ∷ []) h = (h, λ _. tt)
+sides_rule_8 at_start true (level ∷ next ∷ levels) h =
+    let rest = sides_rule_8 at_start true (next ∷ levels) h.2 in
+    (rest.0, λ e. (h.1, rest.1 e))
+sides_rule_8 at_start false (level ∷ next ∷ levels) h =
+    let rest = sides_rule_8 at_start false (next ∷ levels) h.2 in
+    (rest.0, λ e. (cc, rest.1 e))
+
+sides_rule_9 : (at_end : Bool) (levels : List Level) → HaveSides true at_end levels → Each (λ level. level.left ≡ []) (below_top levels)
+sides_rule_9 at_end [] h = elim h [ ]
+sides_rule_9 at_end (top ∷ []) h = tt
+sides_rule_9 at_end (level ∷ next ∷ levels) h = (h.0, sides_rule_9 at_end (next ∷ levels) h.2)
+
+sides_rule_12 : (at_end : Bool) (levels : List Level) → HaveSides false at_end levels → Each (λ level. IsLeftSide false level.left) (below_top levels)
+sides_rule_12 at_end [] h = elim h [ ]
+sides_rule_12 at_end (top ∷ []) h = tt
+sides_rule_12 at_end (level ∷ next ∷ levels) h = (h.0, sides_rule_12 at_end (next ∷ levels) h.2)
+
+sides_rule_13 : (at_start : Bool) (levels : List Level) → HaveSides at_start false levels → Each (λ level. IsRightSide false level.right) (below_top levels)
+sides_rule_13 at_start [] h = elim h [ ]
+sides_rule_13 at_start (top ∷ []) h = tt
+sides_rule_13 at_start (level ∷ next ∷ levels) h = (h.1, sides_rule_13 at_start (next ∷ levels) h.2)
+
+pub levels_kept : (at_start at_end : Bool) (levels : List Level) (rule : ℕ) → IsWellFormed (record { at_start = at_start; at_end = at_end; levels = levels }) →
+    BreaksLevelRule at_start at_end levels rule → ⊥
+levels_kept at_start at_end levels rule h (at_8 broken) = broken (sides_rule_8 at_start at_end levels h.sides)
+levels_kept at_start at_end levels rule h (at_9 _ broken) = broken (λ start. sides_rule_9 at_end levels (subst (λ (s : Bool). HaveSides s at_end levels) start h.sides))
+levels_kept at_start at_end levels rule h (at_10 _ _ broken) = broken h.one_at_top
+levels_kept at_start at_end levels rule h (at_11 _ _ _ broken) = broken h.some_at_top
+levels_kept at_start at_end levels rule h (at_12 _ _ _ _ broken) = broken (λ start. sides_rule_12 at_end levels (subst (λ (s : Bool). HaveSides s at_end levels) start h.sides))
+levels_kept at_start at_end levels rule h (at_13 _ _ _ _ _ broken) = broken (λ end. sides_rule_13 at_start levels (subst (λ (e : Bool). HaveSides at_start e levels) end h.sides))

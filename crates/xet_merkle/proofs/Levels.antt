@@ -1,0 +1,3 @@
+pub mod Flat
+pub mod FlatEquality
+pub mod Stored

@@ -1,0 +1,5 @@
+pub mod Sides
+pub mod Join
+pub mod Kept
+pub mod LevelByLevel
+pub mod Ranges

@@ -1,0 +1,121 @@
+-- What stays on either side of a level below the top: a first stable point is known by the nodes before it and the
+-- beginning of those behind it, a last one by the end of the nodes before it and those behind it.
+use Rattle.std.proofs.Common.{◌≡◌, ◌<◌, Bool, true, false, List, [], ◌∷◌, ◌++◌, length, sym, ap, subst, ◌∙◌, inl, arith, append_assoc, length-append}
+use Rattle.xet_merkle.specs.Groups.{Node, Cut, EndsWithCut}
+use Rattle.xet_merkle.specs.StablePoints.{EndsStable, BeginsStable, NoStable, IsFirstStable, IsLastStable}
+use Rattle.xet_merkle.specs.Canonical.{IsLow, IsHigh}
+use Rattle.xet_merkle.specs.WellFormed.{IsLeftSide, IsRightSide}
+use Rattle.xet_merkle.proofs.Lists.Places.{meets}
+use Rattle.xet_merkle.proofs.Lists.Places.Meets.{same, earlier, later}
+use Rattle.xet_merkle.proofs.StablePoints.Scan.{BeginsStable-append, IsFirstStable-append}
+use Rattle.xet_merkle.proofs.Canonical.Splits.{BeginsStable-some}
+use Rattle.xet_merkle.proofs.StablePoints.CutPlaces.{not_among, back_of, EndsStable-append, swap_front, EndsWithCut-one, EndsBehind-ends}
+
+-- ---- beginnings and ends
+
+pub EndsStable-cut : (nodes : List Node) → EndsStable nodes → EndsWithCut nodes
+EndsStable-cut nodes h = (EndsBehind-ends nodes (inl h)).0
+
+EndsWithCut-back : (front back : List Node) → 0 < length back → EndsWithCut (front ++ back) → EndsWithCut back
+EndsWithCut-back front back some h =
+    let at = back_of front back h.0 h.1 some h.2 in
+    (at.0, h.1, at.2, h.3)
+
+-- a natural cut at the end of the front part is at or behind the first one
+begins_in_front : (front back : List Node) → EndsWithCut front → BeginsStable (front ++ back) → BeginsStable front
+begins_in_front front back ends h = elim (meets front back h.between (h.first ∷ h.after) h.parts) [
+  | same p q ↦ absurd (not_among h.between ends.0 ends.1 [] h.no_cut (sym p ∙ ends.2) ends.3)
+  | earlier x gap p q ↦
+      let at : h.between ≡ ends.0 ++ ends.1 ∷ (x ∷ gap) =
+      p ∙ ap (λ (l : List Node). l ++ x ∷ gap) ends.2 ∙ append_assoc ends.0 (ends.1 ∷ []) (x ∷ gap) in
+      absurd (not_among h.between ends.0 ends.1 (x ∷ gap) h.no_cut at ends.3)
+  | later x gap p q ↦
+      let at : h.first ≡ x = cc in record {
+        between = h.between;
+        first = h.first;
+        after = gap;
+        parts = subst (λ (y : Node). front ≡ h.between ++ y ∷ gap) (sym at) p;
+        first_cut = h.first_cut;
+        no_cut = h.no_cut;
+        two = h.two;
+        six = h.six;
+      }
+]
+
+-- ---- the first stable point
+
+pub first_leaves_none : (left rest : List Node) → IsFirstStable left rest → NoStable left
+first_leaves_none left rest h = λ l r e stable.
+    let whole : left ++ rest ≡ l ++ (r ++ rest) = ap (λ (p : List Node). p ++ rest) e ∙ append_assoc l r rest in
+    let before = h.first l (r ++ rest) whole (record { ends = stable.ends; begins = BeginsStable-append r rest stable.begins }) in
+    let some = BeginsStable-some r stable.begins in
+    let len = ap length e in
+    omega (arith, length-append l r)
+
+pub first_from_sides : (left rest : List Node) → EndsStable left → NoStable left → BeginsStable rest → IsFirstStable left rest
+first_from_sides left rest ends none begins = record {
+  stable = record { ends = ends; begins = begins };
+  first = λ l r e stable. elim (meets left rest l r e) [
+    | same p q ↦ let len = ap length p in omega arith
+    | earlier x gap p q ↦ let len = ap length p in omega (arith, length-append left (x ∷ gap))
+    | later x gap p q ↦
+        let last = EndsWithCut-back l (x ∷ gap) (omega arith) (subst EndsWithCut p (EndsStable-cut left ends)) in
+        let here = begins_in_front (x ∷ gap) rest last (subst BeginsStable q stable.begins) in
+        absurd (none l (x ∷ gap) p (record { ends = stable.ends; begins = here }))
+  ];
+}
+
+-- ---- the last stable point
+
+stable_behind_one : (cut : Node) (right l r : List Node) → cut ∷ right ≡ l ++ r → EndsStable l →
+    (more : List Node) × (l ≡ cut ∷ more) × (right ≡ more ++ r) × (0 < length more)
+stable_behind_one cut right [] r e h = let some = (EndsBehind-ends [] (inl h)).1 in absurd (omega arith)
+stable_behind_one cut right (x ∷ more) r e h =
+    let some = (EndsBehind-ends (x ∷ more) (inl h)).1 in
+    let at : x ≡ cut = cc in
+    let rest : right ≡ more ++ r = cc in
+    (more, ap (λ (y : Node). y ∷ more) at, rest, omega arith)
+
+pub last_leaves_none : (middle right : List Node) → IsLastStable middle right → (cut : Node) → Cut cut → NoStable (cut ∷ right)
+last_leaves_none middle right h cut is_cut = λ l r e stable.
+    let at = stable_behind_one cut right l r e stable.ends in
+    let more = at.0 in
+    let ends = swap_front (cut ∷ []) middle more (EndsWithCut-one cut is_cut) (EndsStable-cut middle h.stable.ends) at.3 (subst EndsStable at.1 stable.ends) in
+    let whole : middle ++ right ≡ (middle ++ more) ++ r = ap (λ (l : List Node). middle ++ l) at.2 ∙ sym (append_assoc middle more r) in
+    let before = h.last (middle ++ more) r whole (record { ends = ends; begins = stable.begins }) in
+    let some = at.3 in
+    omega (arith, length-append middle more)
+
+pub last_from_sides : (middle right : List Node) → EndsStable middle → BeginsStable right → ((cut : Node) → Cut cut → NoStable (cut ∷ right)) → IsLastStable middle right
+last_from_sides middle right ends begins none = record {
+  stable = record { ends = ends; begins = begins };
+  last = λ l r e stable. elim (meets middle right l r e) [
+    | same p q ↦ let len = ap length p in omega arith
+    | later x gap p q ↦ let len = ap length p in omega (arith, length-append l (x ∷ gap))
+    | earlier x gap p q ↦
+        let last = EndsStable-cut middle ends in
+        let cut = last.1 in
+        let swapped = swap_front middle (cut ∷ []) (x ∷ gap) last (EndsWithCut-one cut last.3) (omega arith) (subst EndsStable p stable.ends) in
+        absurd (none cut last.3 (cut ∷ (x ∷ gap)) r (ap (λ (l : List Node). cut ∷ l) q) (record { ends = swapped; begins = stable.begins }))
+  ];
+}
+
+-- ---- the ends of a split
+
+pub low_side : (at_start : Bool) (left rest : List Node) → IsLow at_start left rest → IsLeftSide at_start left
+low_side true left rest h = h
+low_side false left rest h = (h.stable.ends, first_leaves_none left rest h)
+
+pub high_side : (at_end : Bool) (middle right : List Node) → IsHigh at_end middle right → IsRightSide at_end right
+high_side true middle right h = h
+high_side false middle right h = (h.stable.begins, last_leaves_none middle right h)
+
+-- more nodes behind, and before
+pub low_before_more : (at_start : Bool) (left rest more : List Node) → IsLow at_start left rest → IsLow at_start left (rest ++ more)
+low_before_more true left rest more h = h
+low_before_more false left rest more h = IsFirstStable-append left rest more h
+
+pub high_behind_more : (at_end : Bool) (more middle right : List Node) → IsHigh at_end middle right → IsHigh at_end (more ++ middle) right
+high_behind_more true more middle right h = h
+high_behind_more false more middle right h =
+    last_from_sides (more ++ middle) right (EndsStable-append more middle h.stable.ends) h.stable.begins (last_leaves_none middle right h)

@@ -1,0 +1,2 @@
+pub mod OneRoot
+pub mod Making

@@ -1,0 +1,74 @@
+-- Making the parents of a list group by group, and a root level by level.
+use Rattle.std.proofs.Common.{◌≡◌, ℕ, ◌+◌, ◌<◌, ◌≤◌, List, [], ◌∷◌, ◌++◌, length, get_or, map, take, drop, refl, sym, ap, subst, ◌∙◌, arith, append_assoc, append-nil}
+use Rattle.std.proofs.lemmas.List.{take-append-drop, length-map}
+use Rattle.std.proofs.lemmas.List.Sums.{sum_by-append, sum_by-cons, sum_by-take-drop}
+use Rattle.xet_hash.specs.Blake3.{keyed_hash}
+use Rattle.xet_hash.specs.Hash.{default_hash, bytes_of, hash_of}
+use Rattle.xet_merkle.specs.Groups.{Node, Groups}
+use Rattle.xet_merkle.specs.Roots.{total_size, parent, IsRoot, IsFileHash}
+use Rattle.xet_merkle.specs.Roots.IsRootBy.{no_node, one_node, of_parents}
+use Rattle.xet_merkle.specs.Steps.Scan.{IsFirstGroup, AreParents}
+use Rattle.xet_merkle.proofs.Groups.OneCutting.{joined_nodes, Groups-push}
+use Rattle.xet_merkle.proofs.Roots.OneRoot.{Groups-few, Groups-some}
+
+-- some parents are made and a rest is left: whatever groups the rest has, theirs complete the parents
+abbrev pub MadeSoFar : (List Node → Node) → List Node → List Node → List Node → Type 0
+MadeSoFar make nodes made rest = (groups : List (List Node)) → Groups rest groups → AreParents make nodes (made ++ map make groups)
+
+module _ (make : List Node → Node) (nodes : List Node) where
+  pub MadeSoFar-more : (made rest : List Node) (n : ℕ) → IsFirstGroup (take n rest) (drop n rest) → MadeSoFar make nodes made rest →
+      MadeSoFar make nodes (made ++ make (take n rest) ∷ []) (drop n rest)
+  MadeSoFar-more made rest n first so_far = λ groups cutting.
+      let group = take n rest in
+      let longer : Groups rest (group ∷ groups) = subst (λ (l : List Node). Groups l (group ∷ groups)) (take-append-drop n rest) (Groups-push group (drop n rest) groups first cutting) in
+      subst (AreParents make nodes) (sym (append_assoc made (make group ∷ []) (map make groups))) (so_far (group ∷ groups) longer)
+
+  pub MadeSoFar-all : (made rest : List Node) → rest ≡ [] → MadeSoFar make nodes made rest → AreParents make nodes made
+  MadeSoFar-all made rest none so_far =
+      subst (AreParents make nodes) (append-nil made)
+      (so_far [] (subst (λ (l : List Node). Groups l []) (sym none) (record { joined = refl; are_groups = tt })))
+
+-- the sizes of what follows the first nodes
+pub total_size-drop-le : (n : ℕ) (nodes : List Node) → total_size (drop n nodes) ≤ total_size nodes
+total_size-drop-le n nodes = omega (arith, sum_by-take-drop (λ (node : Node). node.1) nodes n)
+
+total_size-parents : (groups : List (List Node)) → total_size (map parent groups) ≡ total_size (joined_nodes groups)
+unfolding parent
+total_size-parents [] = refl
+total_size-parents (group ∷ groups) =
+    sum_by-cons (λ (node : Node). node.1) (parent group) (map parent groups)
+    ∙ ap (λ (n : ℕ). total_size group + n) (total_size-parents groups)
+    ∙ sym (sum_by-append (λ (node : Node). node.1) group (joined_nodes groups))
+
+-- parents have the sizes of their nodes, are fewer than several nodes, and have their root
+pub total_size-are_parents : (nodes parents : List Node) → AreParents parent nodes parents → total_size parents ≡ total_size nodes
+total_size-are_parents nodes parents made = ap total_size made.2 ∙ total_size-parents made.0 ∙ ap total_size made.1.joined
+
+pub AreParents-some : (nodes parents : List Node) → AreParents parent nodes parents → 0 < length nodes → 0 < length parents
+AreParents-some nodes parents made some =
+    let len = ap length made.2 in
+    let groups = Groups-some nodes made.0 made.1 some in
+    omega (arith, length-map made.0 parent)
+
+pub AreParents-fewer : (nodes parents : List Node) → AreParents parent nodes parents → 2 ≤ length nodes → length parents < length nodes
+AreParents-fewer nodes parents made two =
+    let len = ap length made.2 in
+    let groups = Groups-few nodes made.0 made.1 in
+    omega (arith, length-map made.0 parent)
+
+pub IsRoot-from_parents : (nodes parents : List Node) (hash : List ℕ) → AreParents parent nodes parents → 2 ≤ length nodes → IsRoot parents hash → IsRoot nodes hash
+IsRoot-from_parents nodes parents hash made two root = of_parents two made.1 (subst (λ (l : List Node). IsRoot l hash) made.2 root)
+
+pub IsRoot-none : (nodes : List Node) (hash : List ℕ) → length nodes < 1 → hash ≡ default_hash → IsRoot nodes hash
+IsRoot-none [] hash few e = subst (λ (h : List ℕ). IsRoot [] h) (sym e) no_node
+IsRoot-none (node ∷ nodes) hash few e = absurd (omega arith)
+
+pub IsRoot-one : (nodes : List Node) (d : Node) → length nodes ≡ 1 → IsRoot nodes (get_or nodes 0 d).0
+IsRoot-one [] d e = absurd (omega arith)
+IsRoot-one (node ∷ []) d e = one_node
+IsRoot-one (node ∷ next ∷ nodes) d e = absurd (omega arith)
+
+pub IsFileHash-some : (nodes : List Node) (salt root hash : List ℕ) → 0 < length nodes → IsRoot nodes root →
+    hash ≡ hash_of (keyed_hash salt (bytes_of root)) → IsFileHash nodes salt hash
+IsFileHash-some [] salt root hash some is_root e = absurd (omega arith)
+IsFileHash-some (node ∷ nodes) salt root hash some is_root e = (root, is_root, e)

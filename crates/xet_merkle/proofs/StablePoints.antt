@@ -1,0 +1,6 @@
+pub mod CutPlaces
+pub mod Boundaries
+pub mod Search
+pub mod Scan
+pub mod Loops
+pub mod Triples

@@ -1,0 +1,60 @@
+-- Joining two subtrees from what they keep of each level, from the chunks up. Private contracts and proofs
+-- speak of it; what a reader has to believe stands in Canonical and Subtree.
+use Rattle.std.specs.Prelude.{◌≡◌, ℕ, ◌+◌, ◌⊎◌, Bool, true, false, List, [], ◌∷◌, ◌++◌, length, map}
+use Rattle.xet_merkle.specs.Groups.{Node, Cut, Groups}
+use Rattle.xet_merkle.specs.StablePoints.{NoStable, IsFirstStable, IsLastStable}
+use Rattle.xet_merkle.specs.Levels.{Level, no_level}
+use Rattle.xet_merkle.specs.Canonical.{IsCanonicalBy}
+
+-- the levels above the first; above the top stand no nodes
+abbrev pub above : List Level → List Level
+above [] = []
+above (top ∷ []) = no_level ∷ []
+above (level ∷ next ∷ levels) = next ∷ levels
+
+-- what a left operand has of its first level towards the right one: all nodes of the top
+abbrev pub inner_nodes : List Level → List Node
+inner_nodes [] = []
+inner_nodes (top ∷ []) = top.left
+inner_nodes (level ∷ next ∷ levels) = level.right
+
+-- the nodes in sight between two operands: some are carried between them
+abbrev pub between : List Level → List Node → List Level → List Node
+between xs carry [] = inner_nodes xs ++ carry
+between xs carry (y ∷ ys) = inner_nodes xs ++ (carry ++ y.left)
+
+-- behind nodes that are collapsed: how many more are, and what stays on the right
+abbrev pub IsHighBehind : Bool → List Node → List Node → Type 0
+IsHighBehind true middle right = right ≡ []
+IsHighBehind false middle right =
+    ((cut : Node) → Cut cut → IsLastStable (cut ∷ middle) right)
+    ⊎ ((middle ≡ []) × ((cut : Node) → Cut cut → NoStable (cut ∷ right)))
+
+-- before nodes that are collapsed: what stays on the left, and how many more are collapsed
+abbrev pub IsLowBefore : Bool → List Node → List Node → Type 0
+IsLowBefore true left middle = left ≡ []
+IsLowBefore false left middle = IsFirstStable left middle ⊎ ((middle ≡ []) × NoStable left)
+
+-- of the nodes in sight between two operands, what is collapsed; and what stays on either side. An operand
+-- that has levels above keeps its outer side.
+pub data IsJoinSplit (at_start at_end : Bool) : List Level → List Level → List Node → List Node → List Node → List Node → Type 0 where
+  both : {x next_x y next_y : Level} {xs ys : List Level} {seen left middle right : List Node} →
+      left ≡ x.left → seen ≡ middle → right ≡ y.right →
+      IsJoinSplit at_start at_end (x ∷ next_x ∷ xs) (y ∷ next_y ∷ ys) seen left middle right
+  left_alone : {x next_x y : Level} {xs : List Level} {seen left middle right : List Node} →
+      left ≡ x.left → seen ≡ middle ++ right → IsHighBehind at_end middle right →
+      IsJoinSplit at_start at_end (x ∷ next_x ∷ xs) (y ∷ []) seen left middle right
+  right_alone : {x y next_y : Level} {ys : List Level} {seen left middle right : List Node} →
+      seen ≡ left ++ middle → IsLowBefore at_start left middle → right ≡ y.right →
+      IsJoinSplit at_start at_end (x ∷ []) (y ∷ next_y ∷ ys) seen left middle right
+
+-- the levels that two operands, and nodes carried between them, are joined to, and how many parents are
+-- made. Where neither operand has levels above, all nodes are in sight.
+pub data IsJoin (make : List Node → Node) (at_start at_end : Bool) : List Level → List Node → List Level → List Level → ℕ → Type 0 where
+  all_in_sight : {x y : Level} {carry : List Node} {levels : List Level} {parents : ℕ} →
+      IsCanonicalBy make at_start at_end (between (x ∷ []) carry (y ∷ [])) levels parents →
+      IsJoin make at_start at_end (x ∷ []) carry (y ∷ []) levels parents
+  step : {xs ys levels : List Level} {carry left middle right : List Node} {groups : List (List Node)} {parents : ℕ} →
+      IsJoinSplit at_start at_end xs ys (between xs carry ys) left middle right → Groups middle groups →
+      IsJoin make at_start at_end (above xs) (map make groups) (above ys) levels parents →
+      IsJoin make at_start at_end xs carry ys (record { left = left; right = right } ∷ levels) (length groups + parents)

@@ -1,0 +1,4 @@
+pub mod LineSays
+pub mod Open
+pub mod Ranges
+pub mod Taken
