@@ -1,3 +1,4 @@
 pub mod Flat
 pub mod FlatEquality
 pub mod Stored
+pub mod Sides

@@ -9,6 +9,13 @@ abbrev pub NoCut : List Node → Type 0
 NoCut [] = Unit {0}
 NoCut (node ∷ nodes) = NotCut node × NoCut nodes
 
+-- the nodes between two natural cuts of a stable point: 2 to 6, none of them a natural cut, so that the second
+-- one stands 3 to 7 nodes after the first
+pub record IsStableGap (between : List Node) : Type 0 where
+  pub no_cut : NoCut between
+  pub two : 2 ≤ length between
+  pub six : length between ≤ 6
+
 -- a list that ends with a natural cut, 3 to 7 nodes after the natural cut before it
 pub record EndsStable (nodes : List Node) : Type 0 where
   pub before : List Node
@@ -18,9 +25,7 @@ pub record EndsStable (nodes : List Node) : Type 0 where
   pub parts : nodes ≡ before ++ first ∷ (between ++ last ∷ [])
   pub first_cut : Cut first
   pub last_cut : Cut last
-  pub no_cut : NoCut between
-  pub two : 2 ≤ length between
-  pub six : length between ≤ 6
+  pub gap : IsStableGap between
 
 -- a list whose first natural cut stands at index 2 to 6
 pub record BeginsStable (nodes : List Node) : Type 0 where
@@ -29,9 +34,7 @@ pub record BeginsStable (nodes : List Node) : Type 0 where
   pub after : List Node
   pub parts : nodes ≡ between ++ first ∷ after
   pub first_cut : Cut first
-  pub no_cut : NoCut between
-  pub two : 2 ≤ length between
-  pub six : length between ≤ 6
+  pub gap : IsStableGap between
 
 -- a stable point: the place after the second of three natural cuts with no natural cut between them,
 -- each 3 to 7 nodes after the one before it

@@ -1,32 +1,53 @@
--- What every subtree keeps, whether it comes from a list of chunks or from elsewhere (module
--- `merklehash::merkle_hash_subtree` of the crate `xet-core-structures`). So it can be read and merged.
+-- What every subtree keeps, whether it comes from a list of chunks or from elsewhere, so that it can be read and
+-- merged: the rules 5 and 8 to 13 of its JSON form (module `merklehash::merkle_hash_subtree` of the crate
+-- `xet-core-structures`).
 use Rattle.std.specs.Prelude.{◌≡◌, ◌<◌, ◌≤◌, Bool, true, false, List, [], ◌∷◌, length}
+use Rattle.std.specs.List.{AllByRecursion as Each}
 use Rattle.xet_merkle.specs.Groups.{Node, Cut}
 use Rattle.xet_merkle.specs.StablePoints.{EndsStable, BeginsStable, NoStable}
-use Rattle.xet_merkle.specs.Levels.{Level, top_nodes}
+use Rattle.xet_merkle.specs.Levels.{Level, top_nodes, top_of, below_top}
 use Rattle.xet_merkle.specs.Subtree.{Subtree}
 
--- what may stay on the left below the top: nothing where the start is marked, else nodes that end as those
--- before a first stable point do
-abbrev pub IsLeftSide : Bool → List Node → Type 0
-IsLeftSide true left = left ≡ []
-IsLeftSide false left = EndsStable left × NoStable left
+-- what may stay on the left below the top where the start isn't marked: nodes that end as those before a first
+-- stable point do
+abbrev pub IsLeftSide : List Node → Type 0
+IsLeftSide left = EndsStable left × NoStable left
 
--- what may stay on the right below the top: nothing where the end is marked, else nodes that begin as those
--- behind a last stable point do
-abbrev pub IsRightSide : Bool → List Node → Type 0
-IsRightSide true right = right ≡ []
-IsRightSide false right = BeginsStable right × ((cut : Node) → Cut cut → NoStable (cut ∷ right))
+-- what may stay on the right below the top where the end isn't marked: nodes that begin as those behind a last
+-- stable point do
+abbrev pub IsRightSide : List Node → Type 0
+IsRightSide right = BeginsStable right × ((cut : Node) → Cut cut → NoStable (cut ∷ right))
 
--- there is a level, the top has no right nodes, and all levels below it have sides
-abbrev pub HaveSides : Bool → Bool → List Level → Type 0
-HaveSides at_start at_end [] = ⊥
-HaveSides at_start at_end (top ∷ []) = top.right ≡ []
-HaveSides at_start at_end (level ∷ next ∷ levels) =
-    IsLeftSide at_start level.left × IsRightSide at_end level.right × HaveSides at_start at_end (next ∷ levels)
+-- the top has no right nodes, and under an end mark no level has any
+abbrev pub Rule8 : Bool → List Level → Type 0
+Rule8 at_end levels = ((top_of levels).right ≡ []) × (at_end ≡ true → Each (λ level. level.right ≡ []) (below_top levels))
 
--- with both ends marked the top has at most one node; it has one where there are other levels
+-- under a start mark no level below the top has left nodes
+abbrev pub Rule9 : Bool → List Level → Type 0
+Rule9 at_start levels = at_start ≡ true → Each (λ level. level.left ≡ []) (below_top levels)
+
+-- under both marks the top has at most one node
+abbrev pub Rule10 : Bool → Bool → List Level → Type 0
+Rule10 at_start at_end levels = at_start ≡ true → at_end ≡ true → length (top_nodes levels) ≤ 1
+
+-- where there are other levels, the top has a node
+abbrev pub Rule11 : List Level → Type 0
+Rule11 levels = 1 < length levels → 0 < length (top_nodes levels)
+
+-- without a start mark each level below the top has a left side
+abbrev pub Rule12 : Bool → List Level → Type 0
+Rule12 at_start levels = at_start ≡ false → Each (λ level. IsLeftSide level.left) (below_top levels)
+
+-- without an end mark each level below the top has a right side
+abbrev pub Rule13 : Bool → List Level → Type 0
+Rule13 at_end levels = at_end ≡ false → Each (λ level. IsRightSide level.right) (below_top levels)
+
+-- a subtree that keeps them all; rule 5 is that there is a level
 pub record IsWellFormed (subtree : Subtree) : Type 0 where
-  pub sides : HaveSides subtree.at_start subtree.at_end subtree.levels
-  pub one_at_top : subtree.at_start ≡ true → subtree.at_end ≡ true → length (top_nodes subtree.levels) ≤ 1
-  pub some_at_top : 1 < length subtree.levels → 0 < length (top_nodes subtree.levels)
+  pub some_level : 0 < length subtree.levels
+  pub rule_8 : Rule8 subtree.at_end subtree.levels
+  pub rule_9 : Rule9 subtree.at_start subtree.levels
+  pub rule_10 : Rule10 subtree.at_start subtree.at_end subtree.levels
+  pub rule_11 : Rule11 subtree.levels
+  pub rule_12 : Rule12 subtree.at_start subtree.levels
+  pub rule_13 : Rule13 subtree.at_end subtree.levels

@@ -9,8 +9,8 @@ use Rattle.xet_merkle.specs.Steps.Scan.{is_stable_gap}
 use Rattle.xet_merkle.specs.Steps.StableScan.{IsFront}
 use Rattle.xet_merkle.specs.Levels.{Level, top_nodes, left_at, below_top, top_of}
 use Rattle.xet_merkle.specs.Steps.Joining.{above}
-use Rattle.xet_merkle.specs.WellFormed.{IsLeftSide, IsRightSide, HaveSides, IsWellFormed}
-use Rattle.xet_merkle.specs.LevelRules.{Rule8, Rule9, Rule10, Rule11, Rule12, Rule13, BreaksLevelRule}
+use Rattle.xet_merkle.specs.WellFormed.{IsLeftSide, IsRightSide, Rule8, Rule9, Rule10, Rule11, Rule12, Rule13, IsWellFormed}
+use Rattle.xet_merkle.specs.LevelRules.{KeepsBelow, BreaksLevelRule}
 use Rattle.xet_merkle.specs.LevelRules.BreaksLevelRule.{at_8, at_9, at_10, at_11, at_12, at_13}
 use Rattle.xet_merkle.specs.Steps.LevelSides.{first_of}
 use Rattle.xet_merkle.proofs.StablePoints.CutPlaces.{not_among, back_of}
@@ -49,11 +49,11 @@ pub begins_at : (nodes between : List Node) (first : Node) (after : List Node) �
 begins_at nodes between first after parts cut none = (
   λ begins.
       let found : FirstCut nodes = record { between = between; first = first; after = after; parts = parts; first_cut = cut; no_cut = none } in
-      let len = ap length (same_first_cut nodes found begins.between begins.first begins.after begins.parts begins.first_cut begins.no_cut).0 in
-      let two = begins.two in
-      let six = begins.six in
+      let len = ap length (same_first_cut nodes found begins.between begins.first begins.after begins.parts begins.first_cut begins.gap.no_cut).0 in
+      let two = begins.gap.two in
+      let six = begins.gap.six in
       (omega arith, omega arith),
-  λ range. record { between = between; first = first; after = after; parts = parts; first_cut = cut; no_cut = none; two = range.0; six = range.1 },
+  λ range. record { between = between; first = first; after = after; parts = parts; first_cut = cut; gap = record { no_cut = none; two = range.0; six = range.1 } },
 )
 
 pub begins_nowhere : (nodes : List Node) → NoCut nodes → BeginsStable nodes → ⊥
@@ -62,7 +62,7 @@ begins_nowhere nodes none begins = not_among nodes begins.between begins.first b
 -- ---- the two sides
 
 pub left_side_found : (nodes : List Node) (found : Option ℕ) → IfSome found (λ p. IsFirstStable (take p nodes) (drop p nodes)) → IfNone found (NoStable nodes) →
-    EndsStable nodes → (b : Bool) → is_some found ≡ not b → (b ≡ true) ↔ IsLeftSide false nodes
+    EndsStable nodes → (b : Bool) → is_some found ≡ not b → (b ≡ true) ↔ IsLeftSide nodes
 left_side_found nodes None first none ends true e = (λ _. (ends, none), λ _. refl)
 left_side_found nodes None first none ends false e = absurd (false≢true e)
 left_side_found nodes (Some p) first none ends true e = absurd (false≢true (sym e))
@@ -73,7 +73,7 @@ left_side_found nodes (Some p) first none ends false e = (
 
 pub right_side_found : (nodes : List Node) (found : Option ℕ) →
     IfSome found (λ p. (front : List Node) → IsFront true front → IsLastStable (front ++ take p nodes) (drop p nodes)) →
-    IfNone found ((front : List Node) → IsFront true front → NoStable (front ++ nodes)) → BeginsStable nodes → (b : Bool) → is_some found ≡ not b → (b ≡ true) ↔ IsRightSide false nodes
+    IfNone found ((front : List Node) → IsFront true front → NoStable (front ++ nodes)) → BeginsStable nodes → (b : Bool) → is_some found ≡ not b → (b ≡ true) ↔ IsRightSide nodes
 right_side_found nodes None last none begins true e = (λ _. (begins, λ cut is_cut. none (cut ∷ []) (cut, refl, is_cut)), λ _. refl)
 right_side_found nodes None last none begins false e = absurd (false≢true e)
 right_side_found nodes (Some p) last none begins true e = absurd (false≢true (sym e))
@@ -137,61 +137,57 @@ top_nodes-left levels top left top_is left_is none =
 
 -- ---- the rules together
 
-left_rules : (at_start : Bool) (levels : List Level) → Rule9 at_start levels → Rule12 at_start levels → Each (λ level. IsLeftSide at_start level.left) (below_top levels)
-left_rules true levels rule_9 rule_12 = rule_9 refl
-left_rules false levels rule_9 rule_12 = rule_12 refl
+module _ (at_start at_end : Bool) (levels : List Level) where
+  pub below_9 : Rule8 at_end levels → KeepsBelow at_start at_end levels 9
+  below_9 rule_8 = record {
+    rule_8 = λ _. rule_8;
+    rule_9 = λ less. absurd (omega arith);
+    rule_10 = λ less. absurd (omega arith);
+    rule_11 = λ less. absurd (omega arith);
+    rule_12 = λ less. absurd (omega arith);
+  }
 
-right_rules : (at_end : Bool) (levels : List Level) → Rule8 at_end levels → Rule13 at_end levels → Each (λ level. IsRightSide at_end level.right) (below_top levels)
-right_rules true levels rule_8 rule_13 = rule_8.1 refl
-right_rules false levels rule_8 rule_13 = rule_13 refl
+  pub below_10 : Rule8 at_end levels → Rule9 at_start levels → KeepsBelow at_start at_end levels 10
+  below_10 rule_8 rule_9 = record {
+    rule_8 = λ _. rule_8;
+    rule_9 = λ _. rule_9;
+    rule_10 = λ less. absurd (omega arith);
+    rule_11 = λ less. absurd (omega arith);
+    rule_12 = λ less. absurd (omega arith);
+  }
 
-sides_from_rules : (at_start at_end : Bool) (levels : List Level) → 0 < length levels → (top_of levels).right ≡ [] →
-    Each (λ level. IsLeftSide at_start level.left) (below_top levels) → Each (λ level. IsRightSide at_end level.right) (below_top levels) → HaveSides at_start at_end levels
-sides_from_rules at_start at_end [] some none left right = absurd (omega arith)
-sides_from_rules at_start at_end (top ∷ []) some none left right = none
-sides_from_rules at_start at_end (level ∷ next ∷ levels) some none left right =
-    (left.0, right.0, sides_from_rules at_start at_end (next ∷ levels) (omega arith) none left.1 right.1)
+  pub below_11 : Rule8 at_end levels → Rule9 at_start levels → Rule10 at_start at_end levels → KeepsBelow at_start at_end levels 11
+  below_11 rule_8 rule_9 rule_10 = record {
+    rule_8 = λ _. rule_8;
+    rule_9 = λ _. rule_9;
+    rule_10 = λ _. rule_10;
+    rule_11 = λ less. absurd (omega arith);
+    rule_12 = λ less. absurd (omega arith);
+  }
 
-pub well_formed_from_rules : (at_start at_end : Bool) (levels : List Level) → 0 < length levels → Rule8 at_end levels → Rule9 at_start levels → Rule10 at_start at_end levels →
-    Rule11 levels → Rule12 at_start levels → Rule13 at_end levels → IsWellFormed (record { at_start = at_start; at_end = at_end; levels = levels })
-well_formed_from_rules at_start at_end levels some rule_8 rule_9 rule_10 rule_11 rule_12 rule_13 = record {
-  sides = sides_from_rules at_start at_end levels some rule_8.0 (left_rules at_start levels rule_9 rule_12) (right_rules at_end levels rule_8 rule_13);
-  one_at_top = rule_10;
-  some_at_top = rule_11;
-}
+  pub below_12 : Rule8 at_end levels → Rule9 at_start levels → Rule10 at_start at_end levels → Rule11 levels → KeepsBelow at_start at_end levels 12
+  below_12 rule_8 rule_9 rule_10 rule_11 = record {
+    rule_8 = λ _. rule_8;
+    rule_9 = λ _. rule_9;
+    rule_10 = λ _. rule_10;
+    rule_11 = λ _. rule_11;
+    rule_12 = λ less. absurd (omega arith);
+  }
 
--- ---- the rules of well formed levels
+  pub below_13 : Rule8 at_end levels → Rule9 at_start levels → Rule10 at_start at_end levels → Rule11 levels → Rule12 at_start levels → KeepsBelow at_start at_end levels 13
+  below_13 rule_8 rule_9 rule_10 rule_11 rule_12 = record {
+    rule_8 = λ _. rule_8;
+    rule_9 = λ _. rule_9;
+    rule_10 = λ _. rule_10;
+    rule_11 = λ _. rule_11;
+    rule_12 = λ _. rule_12;
+  }
 
-pub sides_rule_8 : (at_start at_end : Bool) (levels : List Level) → HaveSides at_start at_end levels → Rule8 at_end levels
-sides_rule_8 at_start at_end [] h = elim h [ ]
-sides_rule_8 at_start at_end (top ∷ []) h = (h, λ _. tt)
-sides_rule_8 at_start true (level ∷ next ∷ levels) h =
-    let rest = sides_rule_8 at_start true (next ∷ levels) h.2 in
-    (rest.0, λ e. (h.1, rest.1 e))
-sides_rule_8 at_start false (level ∷ next ∷ levels) h =
-    let rest = sides_rule_8 at_start false (next ∷ levels) h.2 in
-    (rest.0, λ e. (cc, rest.1 e))
-
-sides_rule_9 : (at_end : Bool) (levels : List Level) → HaveSides true at_end levels → Each (λ level. level.left ≡ []) (below_top levels)
-sides_rule_9 at_end [] h = elim h [ ]
-sides_rule_9 at_end (top ∷ []) h = tt
-sides_rule_9 at_end (level ∷ next ∷ levels) h = (h.0, sides_rule_9 at_end (next ∷ levels) h.2)
-
-sides_rule_12 : (at_end : Bool) (levels : List Level) → HaveSides false at_end levels → Each (λ level. IsLeftSide false level.left) (below_top levels)
-sides_rule_12 at_end [] h = elim h [ ]
-sides_rule_12 at_end (top ∷ []) h = tt
-sides_rule_12 at_end (level ∷ next ∷ levels) h = (h.0, sides_rule_12 at_end (next ∷ levels) h.2)
-
-sides_rule_13 : (at_start : Bool) (levels : List Level) → HaveSides at_start false levels → Each (λ level. IsRightSide false level.right) (below_top levels)
-sides_rule_13 at_start [] h = elim h [ ]
-sides_rule_13 at_start (top ∷ []) h = tt
-sides_rule_13 at_start (level ∷ next ∷ levels) h = (h.1, sides_rule_13 at_start (next ∷ levels) h.2)
-
-pub levels_kept : (at_start at_end : Bool) (levels : List Level) (rule : ℕ) → IsWellFormed (record { at_start = at_start; at_end = at_end; levels = levels }) →
-    BreaksLevelRule at_start at_end levels rule → ⊥
-levels_kept at_start at_end levels rule h (at_8 broken) = broken (sides_rule_8 at_start at_end levels h.sides)
-levels_kept at_start at_end levels rule h (at_9 _ broken) = broken (λ start. sides_rule_9 at_end levels (subst (λ (s : Bool). HaveSides s at_end levels) start h.sides))
-levels_kept at_start at_end levels rule h (at_10 _ _ broken) = broken h.one_at_top
-levels_kept at_start at_end levels rule h (at_11 _ _ _ broken) = broken h.some_at_top
-levels_kept at_start at_end levels rule h (at_12 _ _ _ _ broken) = broken (λ start. sides_rule_12 at_end levels (subst (λ (s : Bool). HaveSides s at_end levels) start h.sides))
-levels_kept at_start at_end levels rule h (at_13 _ _ _ _ _ broken) = broken (λ end. sides_rule_13 at_start levels (subst (λ (e : Bool). HaveSides at_start e levels) end h.sides))
+  -- a well formed subtree breaks none of them
+  pub levels_kept : (rule : ℕ) → IsWellFormed (record { at_start = at_start; at_end = at_end; levels = levels }) → BreaksLevelRule at_start at_end levels rule → ⊥
+  levels_kept rule h (at_8 broken) = broken h.rule_8
+  levels_kept rule h (at_9 _ broken) = broken h.rule_9
+  levels_kept rule h (at_10 _ broken) = broken h.rule_10
+  levels_kept rule h (at_11 _ broken) = broken h.rule_11
+  levels_kept rule h (at_12 _ broken) = broken h.rule_12
+  levels_kept rule h (at_13 _ broken) = broken h.rule_13

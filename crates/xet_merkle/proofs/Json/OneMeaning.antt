@@ -22,7 +22,6 @@ use Rattle.xet_merkle.specs.JsonRules.{Reads, count_sum, BreaksValueRule, Breaks
 use Rattle.xet_merkle.specs.JsonRules.BreaksValueRule.{no_level, wrong_counts, sizes_pass, of_levels}
 use Rattle.xet_merkle.specs.JsonRules.BreaksRule.{of_parts, of_value}
 use Rattle.xet_merkle.proofs.Levels.Flat.{levels_of-flat, levels_of-IsFlat, node_count-flat, levels_size-flat}
-use Rattle.xet_merkle.proofs.Merging.Kept.{HaveSides-some}
 use Rattle.xet_merkle.proofs.Json.LevelRules.{levels_kept}
 use Rattle.xet_merkle.proofs.Json.Reading.{items_of-injective}
 
@@ -41,7 +40,7 @@ count_sum-levels (level ∷ levels) =
 value_kept : (subtree : Subtree) (rule : ℕ) → IsWellFormed subtree → levels_size subtree.levels < 2 ^ 64 →
     BreaksValueRule subtree.at_start subtree.at_end (map count_of subtree.levels) (flat_nodes subtree.levels) rule → ⊥
 value_kept subtree rule h fits (no_level none) =
-    let some = HaveSides-some subtree.at_start subtree.at_end subtree.levels h.sides in omega (arith, length-map subtree.levels count_of)
+    let some = h.some_level in omega (arith, length-map subtree.levels count_of)
 value_kept subtree rule h fits (wrong_counts some wrong) = wrong (count_sum-levels subtree.levels ∙ sym (node_count-flat subtree.levels))
 value_kept subtree rule h fits (sizes_pass some sum past) = let size = levels_size-flat subtree.levels in omega arith
 value_kept subtree rule h fits (of_levels some sum small broken) =

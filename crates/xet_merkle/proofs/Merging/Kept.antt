@@ -7,8 +7,7 @@ use Rattle.xet_merkle.specs.StablePoints.{EndsStable, BeginsStable}
 use Rattle.xet_merkle.specs.Levels.{Level, top_nodes, levels_size}
 use Rattle.xet_merkle.specs.Canonical.{IsCanonicalBy}
 use Rattle.xet_merkle.specs.Canonical.IsCanonicalBy.{whole, collapsed}
-use Rattle.xet_merkle.specs.WellFormed.{IsLeftSide, IsRightSide, HaveSides}
-use Rattle.xet_merkle.specs.Steps.Joining.{IsHighBehind, IsLowBefore, IsJoin}
+use Rattle.xet_merkle.specs.Steps.Joining.{IsLeftUnder, IsRightUnder, HaveSides, IsHighBehind, IsLowBefore, IsJoin}
 use Rattle.xet_merkle.specs.Steps.Joining.IsJoinSplit.{both, left_alone, right_alone}
 use Rattle.xet_merkle.specs.Steps.Joining.IsJoin.{all_in_sight, step}
 use Rattle.xet_merkle.proofs.Roots.OneRoot.{Groups-some}
@@ -23,22 +22,18 @@ use Rattle.xet_merkle.proofs.Merging.Sides.{first_leaves_none, last_leaves_none,
 
 -- ---- sides
 
-pub HaveSides-some : (at_start at_end : Bool) (levels : List Level) → HaveSides at_start at_end levels → 0 < length levels
-HaveSides-some at_start at_end [] h = elim h [ ]
-HaveSides-some at_start at_end (level ∷ levels) h = omega arith
-
-sides_below : (at_start at_end : Bool) (level : Level) (levels : List Level) → IsLeftSide at_start level.left → IsRightSide at_end level.right →
+sides_below : (at_start at_end : Bool) (level : Level) (levels : List Level) → IsLeftUnder at_start level.left → IsRightUnder at_end level.right →
     HaveSides at_start at_end levels → HaveSides at_start at_end (level ∷ levels)
 sides_below at_start at_end level [] left right h = elim h [ ]
 sides_below at_start at_end level (next ∷ levels) left right h = (left, right, h)
 
-left_side : (at_start : Bool) (left middle back : List Node) (front : List Node) → front ++ back ≡ left ++ middle → EndsStable back → IsLowBefore at_start left middle → IsLeftSide at_start left
+left_side : (at_start : Bool) (left middle back : List Node) (front : List Node) → front ++ back ≡ left ++ middle → EndsStable back → IsLowBefore at_start left middle → IsLeftUnder at_start left
 left_side true left middle back front seen ends low = low
 left_side false left middle back front seen ends (inl first) = (first.stable.ends, first_leaves_none left middle first)
 left_side false left [] back front seen ends (inr none) = (subst EndsStable (seen ∙ append-nil left) (EndsStable-append front back ends), none.1)
 left_side false left (x ∷ middle) back front seen ends (inr none) = absurd (let len = ap length none.0 in omega arith)
 
-right_side : (at_end : Bool) (middle right front back : List Node) → front ++ back ≡ middle ++ right → IsRightSide false front → IsHighBehind at_end middle right → IsRightSide at_end right
+right_side : (at_end : Bool) (middle right front back : List Node) → front ++ back ≡ middle ++ right → IsRightUnder false front → IsHighBehind at_end middle right → IsRightUnder at_end right
 right_side true middle right front back seen side high = high
 right_side false middle right front back seen side (inl last) =
     let here = last side.0.first side.0.first_cut in
@@ -57,15 +52,15 @@ module _ (make : List Node → Node) (at_start at_end : Bool) where
       HaveSides at_start false xs → HaveSides false at_end ys → HaveSides at_start at_end levels
   joined_sides (all_in_sight canonical) hx hy = canonical_sides canonical
   joined_sides (step {levels = levels} {left = left} {right = right} (both {next_x = next_x} {next_y = next_y} {xs = xs} {ys = ys} left_is seen right_is) cutting rest) hx hy =
-      sides_below at_start at_end (record { left = left; right = right }) levels (subst (IsLeftSide at_start) (sym left_is) hx.0)
-      (subst (IsRightSide at_end) (sym right_is) hy.1) (joined_sides rest hx.2 hy.2)
+      sides_below at_start at_end (record { left = left; right = right }) levels (subst (IsLeftUnder at_start) (sym left_is) hx.0)
+      (subst (IsRightUnder at_end) (sym right_is) hy.1) (joined_sides rest hx.2 hy.2)
   joined_sides (step {levels = levels} {carry = carry} {left = left} {middle = middle} {right = right} (left_alone {x = x} {y = y} left_is seen high) cutting rest) hx hy =
-      sides_below at_start at_end (record { left = left; right = right }) levels (subst (IsLeftSide at_start) (sym left_is) hx.0)
+      sides_below at_start at_end (record { left = left; right = right }) levels (subst (IsLeftUnder at_start) (sym left_is) hx.0)
       (right_side at_end middle right x.right (carry ++ y.left) seen hx.1 high) (joined_sides rest hx.2 refl)
   joined_sides (step {levels = levels} {carry = carry} {left = left} {middle = middle} {right = right} (right_alone {x = x} {y = y} seen low right_is) cutting rest) hx hy =
       sides_below at_start at_end (record { left = left; right = right }) levels
       (left_side at_start left middle y.left (x.left ++ carry) (append_assoc x.left carry y.left ∙ seen) hy.0.0 low)
-      (subst (IsRightSide at_end) (sym right_is) hy.1) (joined_sides rest refl hy.2)
+      (subst (IsRightUnder at_end) (sym right_is) hy.1) (joined_sides rest refl hy.2)
 
   pub joined_some : {xs ys levels : List Level} {carry : List Node} {made : ℕ} → IsJoin make at_start at_end xs carry ys levels made → 0 < length levels
   joined_some (all_in_sight canonical) = levels_some make at_start at_end canonical

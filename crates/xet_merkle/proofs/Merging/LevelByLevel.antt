@@ -7,14 +7,15 @@ use Rattle.xet_merkle.specs.Steps.Scan.{AreParents}
 use Rattle.xet_merkle.specs.Levels.{Level, top_nodes, no_level, levels_size}
 use Rattle.xet_merkle.specs.Canonical.{IsCanonicalBy}
 use Rattle.xet_merkle.specs.Subtree.{Subtree, IsCanonical}
-use Rattle.xet_merkle.specs.WellFormed.{HaveSides, IsWellFormed}
+use Rattle.xet_merkle.specs.WellFormed.{IsWellFormed}
 use Rattle.xet_merkle.specs.FlatLevels.{count_of, levels_of, IsFlat}
 use Rattle.xet_merkle.specs.Steps.StoredLevels.{IsStored}
-use Rattle.xet_merkle.specs.Steps.Joining.{above, between, IsJoinSplit, IsJoin}
+use Rattle.xet_merkle.specs.Steps.Joining.{HaveSides, above, between, IsJoinSplit, IsJoin}
 use Rattle.xet_merkle.specs.Steps.Joining.IsJoinSplit.{both, left_alone, right_alone}
 use Rattle.xet_merkle.specs.Steps.Joining.IsJoin.{all_in_sight, step}
 use Rattle.xet_merkle.specs.Steps.OpenLevels.{IsOpen, HasCanonical, HasJoin, AreOperands, chunk_level, JoinsBelow, StandsBelow, StandsFor}
 use Rattle.xet_merkle.proofs.Levels.Flat.{total_size-append, levels_size-flat, IsFlat-from_open, levels_of-IsOpen}
+use Rattle.xet_merkle.proofs.Levels.Sides.{well_formed_sides, well_formed_from_sides}
 use Rattle.xet_merkle.proofs.Merging.Join.{join}
 use Rattle.xet_merkle.proofs.Merging.Kept.{joined_sides, joined_some, joined_top, joined_one, joined_size}
 
@@ -112,11 +113,8 @@ module _ (at_start at_end : Bool) where
           let some = joined_some parent at_start at_end joined.1 in
           let len = ap length flat.counts_are in record {
             some_flat = record { flat = flat; some = omega (arith, length-map levels count_of) };
-            well_formed = record {
-              sides = joined_sides parent at_start at_end joined.1 operands.sides_x operands.sides_y;
-              one_at_top = one_at_top levels joined.0 joined.1;
-              some_at_top = joined_top parent at_start at_end joined.1 operands.sides_x operands.sides_y operands.top_x operands.top_y;
-            };
+            well_formed = well_formed_from_sides at_start at_end levels (joined_sides parent at_start at_end joined.1 operands.sides_x operands.sides_y)
+                (one_at_top levels joined.0 joined.1) (joined_top parent at_start at_end joined.1 operands.sides_x operands.sides_y operands.top_x operands.top_y);
             size_is = sym (StandsFor-size size operands e) ∙ sym (levels_size-flat levels) ∙ ap total_size (sym flat.nodes_are);
             fits = fits;
           }
@@ -160,10 +158,10 @@ module _ (front back : Subtree) where
   pub operands_from : IsWellFormed front → IsWellFormed back → front.at_end ≡ false → back.at_start ≡ false →
       AreOperands front.at_start back.at_end front.levels back.levels
   operands_from x y no_end no_start = record {
-    sides_x = subst (λ (e : Bool). HaveSides front.at_start e front.levels) no_end x.sides;
-    sides_y = subst (λ (s : Bool). HaveSides s back.at_end back.levels) no_start y.sides;
-    top_x = x.some_at_top;
-    top_y = y.some_at_top;
+    sides_x = subst (λ (e : Bool). HaveSides front.at_start e front.levels) no_end (well_formed_sides front.at_start front.at_end front.levels x);
+    sides_y = subst (λ (s : Bool). HaveSides s back.at_end back.levels) no_start (well_formed_sides back.at_start back.at_end back.levels y);
+    top_x = x.rule_11;
+    top_y = y.rule_11;
   }
 
   pub merged_canonical : (merged : Subtree) → front.at_end ≡ false → back.at_start ≡ false → merged.at_start ≡ front.at_start → merged.at_end ≡ back.at_end →

@@ -56,6 +56,12 @@ merged_list merged [] nodes all e = elim all [ ]
 merged_list merged (list ∷ []) nodes all e = subst (IsCanonical merged) (sym (append-nil list) ∙ e) all.0
 merged_list merged (list ∷ next ∷ lists) nodes all e = elim all.1 [ ]
 
+pub MergesTo-one : (ranges : List Subtree) (merged : Subtree) → MergesTo ranges (merged ∷ []) → (lists : List (List Node)) → AreCanonical ranges lists →
+    IsCanonical merged (joined_lists lists)
+MergesTo-one ranges merged h lists all =
+    let joined = h.canonical lists all in
+    merged_list merged joined.0 (joined_lists lists) joined.1 joined.2
+
 -- ---- in any order
 
 same_canonical : (a b : Subtree) (nodes : List Node) → a.at_start ≡ b.at_start → a.at_end ≡ b.at_end → IsCanonical a nodes → IsCanonical b nodes → a ≡ b

@@ -4,10 +4,10 @@ use Rattle.std.proofs.Common.{◌≡◌, ◌<◌, Bool, true, false, List, [], �
 use Rattle.xet_merkle.specs.Groups.{Node, Cut, EndsWithCut}
 use Rattle.xet_merkle.specs.StablePoints.{EndsStable, BeginsStable, NoStable, IsFirstStable, IsLastStable}
 use Rattle.xet_merkle.specs.Canonical.{IsLow, IsHigh}
-use Rattle.xet_merkle.specs.WellFormed.{IsLeftSide, IsRightSide}
+use Rattle.xet_merkle.specs.Steps.Joining.{IsLeftUnder, IsRightUnder}
 use Rattle.xet_merkle.proofs.Lists.Places.{meets}
 use Rattle.xet_merkle.proofs.Lists.Places.Meets.{same, earlier, later}
-use Rattle.xet_merkle.proofs.StablePoints.Scan.{BeginsStable-append, IsFirstStable-append}
+use Rattle.xet_merkle.proofs.StablePoints.Scan.{begins_in_front, BeginsStable-append, IsFirstStable-append}
 use Rattle.xet_merkle.proofs.Canonical.Splits.{BeginsStable-some}
 use Rattle.xet_merkle.proofs.StablePoints.CutPlaces.{not_among, back_of, EndsStable-append, swap_front, EndsWithCut-one, EndsBehind-ends}
 
@@ -20,27 +20,6 @@ EndsWithCut-back : (front back : List Node) → 0 < length back → EndsWithCut 
 EndsWithCut-back front back some h =
     let at = back_of front back h.0 h.1 some h.2 in
     (at.0, h.1, at.2, h.3)
-
--- a natural cut at the end of the front part is at or behind the first one
-begins_in_front : (front back : List Node) → EndsWithCut front → BeginsStable (front ++ back) → BeginsStable front
-begins_in_front front back ends h = elim (meets front back h.between (h.first ∷ h.after) h.parts) [
-  | same p q ↦ absurd (not_among h.between ends.0 ends.1 [] h.no_cut (sym p ∙ ends.2) ends.3)
-  | earlier x gap p q ↦
-      let at : h.between ≡ ends.0 ++ ends.1 ∷ (x ∷ gap) =
-      p ∙ ap (λ (l : List Node). l ++ x ∷ gap) ends.2 ∙ append_assoc ends.0 (ends.1 ∷ []) (x ∷ gap) in
-      absurd (not_among h.between ends.0 ends.1 (x ∷ gap) h.no_cut at ends.3)
-  | later x gap p q ↦
-      let at : h.first ≡ x = cc in record {
-        between = h.between;
-        first = h.first;
-        after = gap;
-        parts = subst (λ (y : Node). front ≡ h.between ++ y ∷ gap) (sym at) p;
-        first_cut = h.first_cut;
-        no_cut = h.no_cut;
-        two = h.two;
-        six = h.six;
-      }
-]
 
 -- ---- the first stable point
 
@@ -60,7 +39,7 @@ first_from_sides left rest ends none begins = record {
     | earlier x gap p q ↦ let len = ap length p in omega (arith, length-append left (x ∷ gap))
     | later x gap p q ↦
         let last = EndsWithCut-back l (x ∷ gap) (omega arith) (subst EndsWithCut p (EndsStable-cut left ends)) in
-        let here = begins_in_front (x ∷ gap) rest last (subst BeginsStable q stable.begins) in
+        let here = begins_in_front (x ∷ gap) rest last.0 last.1 [] last.2 last.3 (subst BeginsStable q stable.begins) in
         absurd (none l (x ∷ gap) p (record { ends = stable.ends; begins = here }))
   ];
 }
@@ -102,11 +81,11 @@ last_from_sides middle right ends begins none = record {
 
 -- ---- the ends of a split
 
-pub low_side : (at_start : Bool) (left rest : List Node) → IsLow at_start left rest → IsLeftSide at_start left
+pub low_side : (at_start : Bool) (left rest : List Node) → IsLow at_start left rest → IsLeftUnder at_start left
 low_side true left rest h = h
 low_side false left rest h = (h.stable.ends, first_leaves_none left rest h)
 
-pub high_side : (at_end : Bool) (middle right : List Node) → IsHigh at_end middle right → IsRightSide at_end right
+pub high_side : (at_end : Bool) (middle right : List Node) → IsHigh at_end middle right → IsRightUnder at_end right
 high_side true middle right h = h
 high_side false middle right h = (h.stable.begins, last_leaves_none middle right h)
 

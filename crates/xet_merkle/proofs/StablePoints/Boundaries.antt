@@ -25,8 +25,8 @@ full_is_no_beginning group rest full some h =
       | inl cut ↦
           let whole : h.between ≡ cut.0 ++ cut.1 ∷ ends.0 =
           ends.1 ∙ ap (λ (l : List Node). l ++ ends.0) cut.2 ∙ append_assoc cut.0 (cut.1 ∷ []) ends.0 in
-          not_among h.between cut.0 cut.1 ends.0 h.no_cut whole cut.3
-      | inr nine ↦ let len = ap length ends.1 in let six = h.six in omega (arith, length-append group ends.0)
+          not_among h.between cut.0 cut.1 ends.0 h.gap.no_cut whole cut.3
+      | inr nine ↦ let len = ap length ends.1 in let six = h.gap.six in omega (arith, length-append group ends.0)
     ]
 
 cut_is_last : (before : List Node) (first : Node) (gap : List Node) → IsGroup (before ++ first ∷ gap) → Cut first → 2 ≤ length before → gap ≡ []
@@ -35,12 +35,12 @@ cut_is_last before first (x ∷ gap) is_group cut two =
     absurd (not_both first (is_group.no_cut_inside before first (x ∷ gap) refl two (omega arith)) cut)
 
 -- in a group of nine, a natural cut that leaves at most six nodes after it is the last node
-gap_in_nine : (group rest : List Node) (h : FirstInFront group rest) → IsGroup group → length group ≡ 9 → h.gap ≡ []
+gap_in_nine : (group rest : List Node) (h : FirstInFront group rest) → IsGroup group → length group ≡ 9 → h.start ≡ []
 gap_in_nine group rest h is_group nine =
     let len = ap length h.front_parts in
-    let six = h.six in
-    cut_is_last h.before h.first h.gap (subst IsGroup h.front_parts is_group) h.first_cut
-    (omega (arith, length-append h.before (h.first ∷ h.gap)))
+    let six = h.gap.six in
+    cut_is_last h.before h.first h.start (subst IsGroup h.front_parts is_group) h.first_cut
+    (omega (arith, length-append h.before (h.first ∷ h.start), length-append h.start h.between))
 
 -- what follows a full group ends stable behind a natural cut where the whole does
 behind_group : (group rest : List Node) → IsGroup group → IsFull group → 0 < length rest → EndsBehind (group ++ rest) → EndsBehind rest

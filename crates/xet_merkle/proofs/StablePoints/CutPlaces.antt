@@ -2,7 +2,7 @@
 use Rattle.std.proofs.Common.{◌≡◌, ◌+◌, ◌<◌, ◌≤◌, ◌⊎◌, List, [], ◌∷◌, ◌++◌, length, refl, sym, ap, subst, ◌∙◌, inl, inr, arith, append_assoc, append-nil, length-append}
 use Rattle.std.proofs.lemmas.Bool.{false≢true}
 use Rattle.xet_merkle.specs.Groups.{Node, Cut, NotCut, EndsWithCut}
-use Rattle.xet_merkle.specs.StablePoints.{NoCut, EndsStable}
+use Rattle.xet_merkle.specs.StablePoints.{IsStableGap, NoCut, EndsStable}
 use Rattle.xet_merkle.proofs.Lists.Places.{meets}
 use Rattle.xet_merkle.proofs.Lists.Places.Meets.{same, earlier, later}
 
@@ -47,9 +47,7 @@ pub record EndsFirst (nodes : List Node) : Type 0 where
   pub last : Node
   pub parts : nodes ≡ between ++ last ∷ []
   pub last_cut : Cut last
-  pub no_cut : NoCut between
-  pub two : 2 ≤ length between
-  pub six : length between ≤ 6
+  pub gap : IsStableGap between
 
 -- a list that ends stable where a natural cut stands in front of it
 abbrev pub EndsBehind : List Node → Type 0
@@ -59,17 +57,14 @@ EndsBehind nodes = EndsStable nodes ⊎ EndsFirst nodes
 pub record FirstInFront (front back : List Node) : Type 0 where
   pub before : List Node
   pub first : Node
-  pub gap : List Node
+  pub start : List Node
   pub between : List Node
   pub last : Node
-  pub front_parts : front ≡ before ++ first ∷ gap
+  pub front_parts : front ≡ before ++ first ∷ start
   pub back_parts : back ≡ between ++ last ∷ []
   pub first_cut : Cut first
   pub last_cut : Cut last
-  pub no_cut_gap : NoCut gap
-  pub no_cut : NoCut between
-  pub two : 2 ≤ length gap + length between
-  pub six : length gap + length between ≤ 6
+  pub gap : IsStableGap (start ++ between)
 
 -- where a stable end of two parts has its first natural cut
 pub cut_place : (front back : List Node) → 0 < length back → EndsStable (front ++ back) → EndsStable back ⊎ FirstInFront front back
@@ -85,9 +80,7 @@ cut_place front back some h =
         parts = q;
         first_cut = h.first_cut;
         last_cut = h.last_cut;
-        no_cut = h.no_cut;
-        two = h.two;
-        six = h.six;
+        gap = h.gap;
       })
       | earlier x gap p q ↦ inl (record {
         before = x ∷ gap;
@@ -97,32 +90,24 @@ cut_place front back some h =
         parts = q;
         first_cut = h.first_cut;
         last_cut = h.last_cut;
-        no_cut = h.no_cut;
-        two = h.two;
-        six = h.six;
+        gap = h.gap;
       })
       | later x gap p q ↦
           let at : h.first ≡ x = cc in
           let rest : gap ++ back ≡ between ++ last ∷ [] = cc in
           let ends = back_of gap back between last some rest in
           let len = ap length ends.1 in
-          let none = subst NoCut ends.1 h.no_cut in
-          let two = h.two in
-          let six = h.six in
           inr (record {
             before = h.before;
             first = h.first;
-            gap = gap;
+            start = gap;
             between = ends.0;
             last = last;
             front_parts = subst (λ (y : Node). front ≡ h.before ++ y ∷ gap) (sym at) p;
             back_parts = ends.2;
             first_cut = h.first_cut;
             last_cut = h.last_cut;
-            no_cut_gap = NoCut-front gap ends.0 none;
-            no_cut = NoCut-back gap ends.0 none;
-            two = omega (arith, length-append gap ends.0);
-            six = omega (arith, length-append gap ends.0);
+            gap = subst IsStableGap ends.1 h.gap;
           })
     ]
 
@@ -136,40 +121,36 @@ EndsStable-append front back h = record {
   parts = ap (λ (l : List Node). front ++ l) h.parts ∙ sym (append_assoc front h.before (h.first ∷ (h.between ++ h.last ∷ [])));
   first_cut = h.first_cut;
   last_cut = h.last_cut;
-  no_cut = h.no_cut;
-  two = h.two;
-  six = h.six;
+  gap = h.gap;
 }
 
 -- where the first natural cut of a stable end is the last node of the front part, the back part has the other
-pub EndsFirst-from_front : (front back : List Node) (h : FirstInFront front back) → h.gap ≡ [] → EndsFirst back
+pub EndsFirst-from_front : (front back : List Node) (h : FirstInFront front back) → h.start ≡ [] → EndsFirst back
 EndsFirst-from_front front back h none = record {
   between = h.between;
   last = h.last;
   parts = h.back_parts;
   last_cut = h.last_cut;
-  no_cut = h.no_cut;
-  two = let two = h.two in let len = ap length none in omega arith;
-  six = let six = h.six in omega arith;
+  gap = subst (λ (start : List Node). IsStableGap (start ++ h.between)) none h.gap;
 }
 
-gap_is_none : (front back : List Node) (h : FirstInFront front back) → EndsWithCut front → h.gap ≡ []
-gap_is_none front back h ends =
+start_is_none : (front back : List Node) (h : FirstInFront front back) → EndsWithCut front → h.start ≡ []
+start_is_none front back h ends =
     let others = ends.0 in
     let cut = ends.1 in
-    elim (meets others (cut ∷ []) h.before (h.first ∷ h.gap) (sym ends.2 ∙ h.front_parts)) [
-      | same p q ↦ let none : [] ≡ h.gap = cc in sym none
-      | earlier x gap p q ↦ absurd (let len = ap length q in omega (arith, length-append gap (h.first ∷ h.gap)))
+    elim (meets others (cut ∷ []) h.before (h.first ∷ h.start) (sym ends.2 ∙ h.front_parts)) [
+      | same p q ↦ let none : [] ≡ h.start = cc in sym none
+      | earlier x gap p q ↦ absurd (let len = ap length q in omega (arith, length-append gap (h.first ∷ h.start)))
       | later x gap p q ↦
-          let rest : h.gap ≡ gap ++ cut ∷ [] = cc in
-          absurd (not_among h.gap gap cut [] h.no_cut_gap rest ends.3)
+          let rest : h.start ≡ gap ++ cut ∷ [] = cc in
+          absurd (not_among h.start gap cut [] (NoCut-front h.start h.between h.gap.no_cut) rest ends.3)
     ]
 
 -- behind a natural cut, and before one
 pub after_cut : (front back : List Node) → EndsWithCut front → 0 < length back → EndsStable (front ++ back) → EndsBehind back
 after_cut front back ends some h = elim (cut_place front back some h) [
   | inl stable ↦ inl stable
-  | inr place ↦ inr (EndsFirst-from_front front back place (gap_is_none front back place ends))
+  | inr place ↦ inr (EndsFirst-from_front front back place (start_is_none front back place ends))
 ]
 
 pub before_cut : (front back : List Node) → EndsWithCut front → EndsBehind back → EndsStable (front ++ back)
@@ -185,9 +166,7 @@ before_cut front back ends (inr h) = record {
       ∙ ap (λ (l : List Node). ends.0 ++ ends.1 ∷ l) h.parts;
   first_cut = ends.3;
   last_cut = h.last_cut;
-  no_cut = h.no_cut;
-  two = h.two;
-  six = h.six;
+  gap = h.gap;
 }
 
 -- any natural cut in front does for any other
@@ -199,7 +178,7 @@ EndsWithCut-one cut is_cut = ([], cut, refl, is_cut)
 
 -- the same with one natural cut in front
 pub behind_one : (cut : Node) (back : List Node) → Cut cut → EndsStable (cut ∷ back) → EndsBehind back
-behind_one cut [] is_cut h = absurd (let len = ap length h.parts in let two = h.two in omega (arith, length-append h.before (h.first ∷ (h.between ++ h.last ∷ [])), length-append h.between (h.last ∷ [])))
+behind_one cut [] is_cut h = absurd (let len = ap length h.parts in let two = h.gap.two in omega (arith, length-append h.before (h.first ∷ (h.between ++ h.last ∷ [])), length-append h.between (h.last ∷ [])))
 behind_one cut (node ∷ back) is_cut h = after_cut (cut ∷ []) (node ∷ back) (EndsWithCut-one cut is_cut) (omega arith) h
 
 pub EndsStable-one : (cut : Node) (back : List Node) → Cut cut → EndsBehind back → EndsStable (cut ∷ back)
@@ -208,12 +187,12 @@ EndsStable-one cut back is_cut h = before_cut (cut ∷ []) back (EndsWithCut-one
 -- a stable end has a natural cut at its end, and three nodes or more
 pub EndsBehind-ends : (nodes : List Node) → EndsBehind nodes → EndsWithCut nodes × (3 ≤ length nodes)
 EndsBehind-ends nodes (inl h) =
-    let two = h.two in
+    let two = h.gap.two in
     let len = ap length h.parts in (
       (h.before ++ h.first ∷ h.between, h.last, h.parts ∙ sym (append_assoc h.before (h.first ∷ h.between) (h.last ∷ [])), h.last_cut),
       omega (arith, length-append h.before (h.first ∷ (h.between ++ h.last ∷ [])), length-append h.between (h.last ∷ [])),
     )
 EndsBehind-ends nodes (inr h) =
-    let two = h.two in
+    let two = h.gap.two in
     let len = ap length h.parts in
     ((h.between, h.last, h.parts, h.last_cut), omega (arith, length-append h.between (h.last ∷ [])))

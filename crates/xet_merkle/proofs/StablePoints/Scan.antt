@@ -4,7 +4,7 @@ use Rattle.std.proofs.Common.{◌≡◌, ℕ, ◌+◌, ◌≤◌, ◌⊎◌, ◌
 use Rattle.std.proofs.lemmas.Bool.{cases_Bool, false≢true, leb-true, leb-false, and_parts, and_cases, and_from, le-leb}
 use Rattle.std.proofs.lemmas.List.{same_from_push}
 use Rattle.xet_merkle.specs.Groups.{Node, is_cut, Cut, NotCut, EndsWithCut}
-use Rattle.xet_merkle.specs.StablePoints.{NoCut, EndsStable, BeginsStable, IsStable, NoStable, IsFirstStable, IsLastStable}
+use Rattle.xet_merkle.specs.StablePoints.{IsStableGap, NoCut, EndsStable, BeginsStable, IsStable, NoStable, IsFirstStable, IsLastStable}
 use Rattle.xet_merkle.proofs.Lists.Places.{meets}
 use Rattle.xet_merkle.proofs.Lists.Places.Meets.{same, earlier, later}
 use Rattle.xet_merkle.proofs.StablePoints.CutPlaces.{NoCut-append, NoCut-front, not_among, back_of, EndsFirst, after_cut, before_cut, EndsBehind-ends}
@@ -78,9 +78,7 @@ head_behind_cut head tail node ends none cut = elim (cases_Bool (is_stable_gap (
         last = node;
         parts = refl;
         last_cut = cut;
-        no_cut = none;
-        two = range.0;
-        six = range.1;
+        gap = record { no_cut = none; two = range.0; six = range.1 };
       } in
       subst (λ (b : Bool). HeadIs true b (head ++ (tail ++ node ∷ []))) (sym is_gap) (before_cut head (tail ++ node ∷ []) ends (inr first))
   | inr not_gap ↦
@@ -90,8 +88,8 @@ head_behind_cut head tail node ends none cut = elim (cases_Bool (is_stable_gap (
         | inr first ↦
             let at = same_from_push tail first.between node first.last first.parts in
             let len = ap length at.0 in
-            let two = first.two in
-            let six = first.six in
+            let two = first.gap.two in
+            let six = first.gap.six in
             no_gap (length tail) not_gap (omega arith) (omega arith)
       ] in
       let pair : HeadIs true false (head ++ (tail ++ node ∷ [])) =
@@ -138,9 +136,7 @@ record NewPlace (front : List Node) (node : Node) (left : List Node) : Type 0 wh
   rest : List Node
   parts : front ≡ left ++ rest
   ends : EndsStable left
-  no_cut : NoCut rest
-  two : 2 ≤ length rest
-  six : length rest ≤ 6
+  gap : IsStableGap rest
   cut : Cut node
 
 pub BeginsStable-append : (front back : List Node) → BeginsStable front → BeginsStable (front ++ back)
@@ -150,9 +146,7 @@ BeginsStable-append front back h = record {
   after = h.after ++ back;
   parts = ap (λ (l : List Node). l ++ back) h.parts ∙ append_assoc h.between (h.first ∷ h.after) back;
   first_cut = h.first_cut;
-  no_cut = h.no_cut;
-  two = h.two;
-  six = h.six;
+  gap = h.gap;
 }
 
 place_of_rest : (front : List Node) (node : Node) (left rest : List Node) → front ≡ left ++ rest → EndsStable left → BeginsStable (rest ++ node ∷ []) →
@@ -164,9 +158,7 @@ place_of_rest front node left rest e ends h = elim (meets rest (node ∷ []) h.b
         rest = rest;
         parts = e;
         ends = ends;
-        no_cut = subst NoCut (sym p) h.no_cut;
-        two = let two = h.two in let len = ap length p in omega arith;
-        six = let six = h.six in let len = ap length p in omega arith;
+        gap = subst IsStableGap (sym p) h.gap;
         cut = subst Cut at h.first_cut;
       })
   | earlier x gap p q ↦ absurd (let len = ap length q in omega (arith, length-append gap (h.first ∷ h.after)))
@@ -178,16 +170,14 @@ place_of_rest front node left rest e ends h = elim (meets rest (node ∷ []) h.b
         after = gap;
         parts = p ∙ ap (λ (y : Node). h.between ++ y ∷ gap) at;
         first_cut = h.first_cut;
-        no_cut = h.no_cut;
-        two = h.two;
-        six = h.six;
+        gap = h.gap;
       } in
       inl (record { rest = rest; parts = e; stable = record { ends = ends; begins = begins } })
 ]
 
 pub BeginsStable-long : (nodes : List Node) → BeginsStable nodes → 3 ≤ length nodes
 BeginsStable-long nodes h =
-    let two = h.two in
+    let two = h.gap.two in
     let len = ap length h.parts in
     omega (arith, length-append h.between (h.first ∷ h.after))
 
@@ -257,14 +247,14 @@ module _ (front : List Node) (has_cut ends_stable : Bool) (since : ℕ) (node : 
   new_place : (left : List Node) → NewPlace front node left → (completing ≡ true) × (length left ≡ length h.head)
   new_place left new =
       let within = within_head front left new.rest has_cut ends_stable since h new.parts new.ends in
-      let beyond = beyond_head front left new.rest has_cut ends_stable since h new.parts new.no_cut new.ends in
+      let beyond = beyond_head front left new.rest has_cut ends_stable since h new.parts new.gap.no_cut new.ends in
       let len : length h.head ≡ length left = omega arith in
       let at = same_place h.head h.tail left new.rest (sym h.parts ∙ new.parts) len in
       let stable = EndsStable-head has_cut ends_stable h.head h.head_is (subst EndsStable (sym at.0) new.ends) in
       let since_is = h.since_is in
       let len_tail = ap length at.1 in
-      let two = new.two in
-      let six = new.six in
+      let two = new.gap.two in
+      let six = new.gap.six in
       let is_gap = gap_from since (omega arith) (omega arith) in
       (and_from (is_cut node) (ends_stable && is_stable_gap since) new.cut (and_from ends_stable (is_stable_gap since) stable is_gap), sym len)
 
@@ -297,9 +287,7 @@ module _ (front : List Node) (has_cut ends_stable : Bool) (since : ℕ) (node : 
           after = [];
           parts = refl;
           first_cut = parts.0;
-          no_cut = h.no_cut;
-          two = omega arith;
-          six = omega arith;
+          gap = record { no_cut = h.no_cut; two = omega arith; six = omega arith };
         };
       }
 
@@ -327,13 +315,13 @@ module _ (front : List Node) (has_cut ends_stable : Bool) (since : ℕ) (node : 
 -- ---- more nodes behind the first stable place
 
 -- a list with a natural cut has its first one, whatever nodes stand behind it
-begins_in_front : (front back before : List Node) (cut : Node) (after : List Node) → front ≡ before ++ cut ∷ after → Cut cut → BeginsStable (front ++ back) → BeginsStable front
+pub begins_in_front : (front back before : List Node) (cut : Node) (after : List Node) → front ≡ before ++ cut ∷ after → Cut cut → BeginsStable (front ++ back) → BeginsStable front
 begins_in_front front back before cut after e is_cut h = elim (meets front back h.between (h.first ∷ h.after) h.parts) [
-  | same p q ↦ absurd (not_among h.between before cut after h.no_cut (sym p ∙ e) is_cut)
+  | same p q ↦ absurd (not_among h.between before cut after h.gap.no_cut (sym p ∙ e) is_cut)
   | earlier x gap p q ↦
       let inner : h.between ≡ before ++ cut ∷ (after ++ x ∷ gap) =
       p ∙ ap (λ (l : List Node). l ++ x ∷ gap) e ∙ append_assoc before (cut ∷ after) (x ∷ gap) in
-      absurd (not_among h.between before cut (after ++ x ∷ gap) h.no_cut inner is_cut)
+      absurd (not_among h.between before cut (after ++ x ∷ gap) h.gap.no_cut inner is_cut)
   | later x gap p q ↦
       let at : x ≡ h.first = cc in
       record {
@@ -342,9 +330,7 @@ begins_in_front front back before cut after e is_cut h = elim (meets front back 
         after = gap;
         parts = p ∙ ap (λ (y : Node). h.between ++ y ∷ gap) at;
         first_cut = h.first_cut;
-        no_cut = h.no_cut;
-        two = h.two;
-        six = h.six;
+        gap = h.gap;
       }
 ]
 

@@ -2,7 +2,7 @@
 use Rattle.std.proofs.Common.{◌≡◌, ℕ, ◌≤◌, ◌⊎◌, List, [], ◌∷◌, ◌++◌, length, refl, sym, ap, subst, ◌∙◌, inl, inr, arith, length-append}
 use Rattle.std.proofs.lemmas.Bool.{cases_lt}
 use Rattle.xet_merkle.specs.Groups.{Node, Cut}
-use Rattle.xet_merkle.specs.StablePoints.{NoCut, EndsStable, BeginsStable, IsStable, NoStable, IsFirstStable, IsLastStable}
+use Rattle.xet_merkle.specs.StablePoints.{NoCut, IsStableGap, EndsStable, BeginsStable, IsStable, NoStable, IsFirstStable, IsLastStable}
 use Rattle.xet_merkle.proofs.Lists.Places.{meets}
 use Rattle.xet_merkle.proofs.Lists.Places.Meets.{same, earlier, later}
 use Rattle.xet_merkle.proofs.Groups.OneCutting.{is_or_not_cut}
@@ -67,15 +67,13 @@ BeginsStable-decided nodes = elim (first_cut nodes) [
       after = found.after;
       parts = found.parts;
       first_cut = found.first_cut;
-      no_cut = found.no_cut;
-      two = range.0;
-      six = range.1;
+      gap = record { no_cut = found.no_cut; two = range.0; six = range.1 };
     })
     | inr not_range ↦ inr (λ h.
-        let at = same_first_cut nodes found h.between h.first h.after h.parts h.first_cut h.no_cut in
+        let at = same_first_cut nodes found h.between h.first h.after h.parts h.first_cut h.gap.no_cut in
         let len = ap length at.0 in
-        let two = h.two in
-        let six = h.six in
+        let two = h.gap.two in
+        let six = h.gap.six in
         not_range (omega arith) (omega arith))
   ]
 ]
@@ -91,21 +89,19 @@ EndsFirst-at nodes between first (x ∷ after) e cut none =
       first_cut = cut;
       no_cut = none;
     } in
-    inr (λ h. let at = same_first_cut nodes found h.between h.last [] h.parts h.last_cut h.no_cut in let len = ap length at.1 in omega arith)
+    inr (λ h. let at = same_first_cut nodes found h.between h.last [] h.parts h.last_cut h.gap.no_cut in let len = ap length at.1 in omega arith)
 EndsFirst-at nodes between first [] e cut none = elim (in_range_or_not (length between)) [
   | inl range ↦ inl (record {
     between = between;
     last = first;
     parts = e;
     last_cut = cut;
-    no_cut = none;
-    two = range.0;
-    six = range.1;
+    gap = record { no_cut = none; two = range.0; six = range.1 };
   })
   | inr not_range ↦ inr (λ h.
       let len = ap length (sym e ∙ h.parts) in
-      let two = h.two in
-      let six = h.six in
+      let two = h.gap.two in
+      let six = h.gap.six in
       not_range (omega (arith, length-append between (first ∷ []), length-append h.between (h.last ∷ [])))
       (omega (arith, length-append between (first ∷ []), length-append h.between (h.last ∷ []))))
 ]
@@ -118,16 +114,16 @@ EndsFirst-decided nodes = elim (first_cut nodes) [
 
 -- a stable end has its first natural cut at the first node, or behind it
 stable_end_at : (node : Node) (nodes before : List Node) (first : Node) (between : List Node) (last : Node) →
-    node ∷ nodes ≡ before ++ first ∷ (between ++ last ∷ []) → Cut first → Cut last → NoCut between → 2 ≤ length between → length between ≤ 6 →
+    node ∷ nodes ≡ before ++ first ∷ (between ++ last ∷ []) → Cut first → Cut last → IsStableGap between →
     EndsStable nodes ⊎ (Cut node × EndsFirst nodes)
-stable_end_at node nodes [] first between last e cut last_cut none two six =
+stable_end_at node nodes [] first between last e cut last_cut gap =
     let head : first ≡ node = cc in
     let tail : nodes ≡ between ++ last ∷ [] = cc in
     inr (
       subst Cut head cut,
-      record { between = between; last = last; parts = tail; last_cut = last_cut; no_cut = none; two = two; six = six },
+      record { between = between; last = last; parts = tail; last_cut = last_cut; gap = gap },
     )
-stable_end_at node nodes (x ∷ before) first between last e cut last_cut none two six =
+stable_end_at node nodes (x ∷ before) first between last e cut last_cut gap =
     let tail : nodes ≡ before ++ first ∷ (between ++ last ∷ []) = cc in
     inl (record {
       before = before;
@@ -137,13 +133,11 @@ stable_end_at node nodes (x ∷ before) first between last e cut last_cut none t
       parts = tail;
       first_cut = cut;
       last_cut = last_cut;
-      no_cut = none;
-      two = two;
-      six = six;
+      gap = gap;
     })
 
 EndsStable-tail : (node : Node) (nodes : List Node) → EndsStable (node ∷ nodes) → EndsStable nodes ⊎ (Cut node × EndsFirst nodes)
-EndsStable-tail node nodes h = stable_end_at node nodes h.before h.first h.between h.last h.parts h.first_cut h.last_cut h.no_cut h.two h.six
+EndsStable-tail node nodes h = stable_end_at node nodes h.before h.first h.between h.last h.parts h.first_cut h.last_cut h.gap
 
 EndsStable-none : EndsStable [] → ⊥
 EndsStable-none h = let len = ap length h.parts in omega (arith, length-append h.before (h.first ∷ (h.between ++ h.last ∷ [])))

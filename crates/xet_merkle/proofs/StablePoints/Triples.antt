@@ -114,7 +114,7 @@ TripleAt-from_stable left right h =
       b_at,
       c_at,
       subst (λ (l : List Node). IsTriple l (length e.before) b_at c_at) (sym whole)
-          (triple_at e.before e.first e.between e.last b.between b.first b.after e.first_cut e.last_cut b.first_cut e.no_cut b.no_cut e.two e.six b.two b.six),
+          (triple_at e.before e.first e.between e.last b.between b.first b.after e.first_cut e.last_cut b.first_cut e.gap.no_cut b.gap.no_cut e.gap.two e.gap.six b.gap.two b.gap.six),
       omega (arith, length-append e.before (e.first ∷ (e.between ++ e.last ∷ [])), length-append e.between (e.last ∷ [])),
     )
 
@@ -181,9 +181,7 @@ StableAt-from_third before first one second rest a b c a_is b_is cut_first cut_s
       parts = append_assoc before (first ∷ one) (second ∷ []);
       first_cut = cut_first;
       last_cut = cut_second;
-      no_cut = no_one;
-      two = omega arith;
-      six = omega arith;
+      gap = record { no_cut = no_one; two = omega arith; six = omega arith };
     } in
     let begins : BeginsStable rest = record {
       between = third.between;
@@ -191,9 +189,7 @@ StableAt-from_third before first one second rest a b c a_is b_is cut_first cut_s
       after = third.after;
       parts = third.parts;
       first_cut = third.cut;
-      no_cut = third.no_cut;
-      two = omega arith;
-      six = omega arith;
+      gap = record { no_cut = third.no_cut; two = omega arith; six = omega arith };
     } in (
       front ++ second ∷ [],
       rest,

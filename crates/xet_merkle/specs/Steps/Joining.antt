@@ -5,6 +5,23 @@ use Rattle.xet_merkle.specs.Groups.{Node, Cut, Groups}
 use Rattle.xet_merkle.specs.StablePoints.{NoStable, IsFirstStable, IsLastStable}
 use Rattle.xet_merkle.specs.Levels.{Level, no_level}
 use Rattle.xet_merkle.specs.Canonical.{IsCanonicalBy}
+use Rattle.xet_merkle.specs.WellFormed.{IsLeftSide, IsRightSide}
+
+-- what may stay on the left, and on the right, below the top under a mark: nothing where there is one
+abbrev pub IsLeftUnder : Bool → List Node → Type 0
+IsLeftUnder true left = left ≡ []
+IsLeftUnder false left = IsLeftSide left
+
+abbrev pub IsRightUnder : Bool → List Node → Type 0
+IsRightUnder true right = right ≡ []
+IsRightUnder false right = IsRightSide right
+
+-- there is a level, the top has no right nodes, and all levels below it have sides
+abbrev pub HaveSides : Bool → Bool → List Level → Type 0
+HaveSides at_start at_end [] = ⊥
+HaveSides at_start at_end (top ∷ []) = top.right ≡ []
+HaveSides at_start at_end (level ∷ next ∷ levels) =
+    IsLeftUnder at_start level.left × IsRightUnder at_end level.right × HaveSides at_start at_end (next ∷ levels)
 
 -- the levels above the first; above the top stand no nodes
 abbrev pub above : List Level → List Level

@@ -14,5 +14,5 @@ first_of levels = record { left = left_at levels 0; right = right_at levels 0 }
 abbrev pub HasSide : Side → Level → Type 0
 HasSide NoLeft level = level.left ≡ []
 HasSide NoRight level = level.right ≡ []
-HasSide Left level = IsLeftSide false level.left
-HasSide Right level = IsRightSide false level.right
+HasSide Left level = IsLeftSide level.left
+HasSide Right level = IsRightSide level.right

@@ -6,8 +6,7 @@ use Rattle.xet_merkle.specs.Roots.{parent}
 use Rattle.xet_merkle.specs.Levels.{Level, top_nodes}
 use Rattle.xet_merkle.specs.Canonical.{IsCanonicalBy}
 use Rattle.xet_merkle.specs.FlatLevels.{left_nodes, right_nodes, count_of}
-use Rattle.xet_merkle.specs.WellFormed.{HaveSides}
-use Rattle.xet_merkle.specs.Steps.Joining.{IsJoin}
+use Rattle.xet_merkle.specs.Steps.Joining.{HaveSides, IsJoin}
 
 -- levels to which more are added at the top, in parts: their counts, their left nodes, and their right
 -- nodes from the last to the first

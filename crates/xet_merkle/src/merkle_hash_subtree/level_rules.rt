@@ -4,8 +4,8 @@ ghost use Rattle.std.specs.Prelude.{◌≡◌, ◌↔◌, ◌∷◌, ◌<◌, �
 ghost use Rattle.std.specs.List.{AllByRecursion as Each};
 ghost use Rattle.xet_merkle.specs.Levels.{Level, top_nodes, below_top, top_of};
 ghost use Rattle.xet_merkle.specs.Subtree.{Subtree};
-ghost use Rattle.xet_merkle.specs.WellFormed.{IsLeftSide, IsRightSide, IsWellFormed};
-ghost use Rattle.xet_merkle.specs.LevelRules.{Rule8, Rule9, Rule10, Rule11, Rule12, Rule13, BreaksLevelRule};
+ghost use Rattle.xet_merkle.specs.WellFormed.{IsLeftSide, IsRightSide, Rule8, Rule9, Rule10, Rule11, Rule12, Rule13, IsWellFormed};
+ghost use Rattle.xet_merkle.specs.LevelRules.{BreaksLevelRule};
 ghost use Rattle.xet_merkle.specs.Steps.LevelSides.{first_of, HasSide};
 
 use super::levels::Levels;

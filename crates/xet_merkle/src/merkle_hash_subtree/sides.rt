@@ -9,14 +9,14 @@ use crate::aggregated_hashes::{Node, is_natural_cut};
 
 // Whether nodes may stay on the left where the start isn't marked.
 pub(super) fn is_left_side(nodes: &[Node]) -> bool
-    ensures { IsTrue result ↔ IsLeftSide false nodes.now }
+    ensures { IsTrue result ↔ IsLeftSide nodes.now }
 {
     ends_stable(nodes) && find_stable_start(nodes).is_none()
 }
 
 // Whether nodes may stay on the right where the end isn't marked.
 pub(super) fn is_right_side(nodes: &[Node]) -> bool
-    ensures { IsTrue result ↔ IsRightSide false nodes.now }
+    ensures { IsTrue result ↔ IsRightSide nodes.now }
 {
     begins_stable(nodes) && last_stable(nodes, true).is_none()
 }

@@ -3,7 +3,7 @@ use Rattle.std.proofs.lemmas.Bool.{false≢true}
 use Rattle.xet_merkle.specs.Roots.{IsRoot}
 use Rattle.xet_merkle.specs.Levels.{Level, hash_of_first, top_of}
 use Rattle.xet_merkle.specs.Subtree.{Subtree}
-use Rattle.xet_merkle.proofs.Json.LevelRules.{top_nodes-left, sides_rule_8}
+use Rattle.xet_merkle.proofs.Json.LevelRules.{top_nodes-left}
 use Rattle.xet_merkle.proofs.Canonical.FinalHash.{top_is_root}
 use Rattle.xet_merkle.proofs.merkle_hash_subtree.subtree.MerkleHashSubtree.final_hash.Goals as goal
 use Rattle.xet_merkle.proofs.merkle_hash_subtree.subtree.MerkleHashSubtree.final_hash.Goals.{then-self, else-self}
@@ -11,7 +11,7 @@ use Rattle.xet_merkle.proofs.merkle_hash_subtree.subtree.MerkleHashSubtree.final
 pub returns-clause-hash : goal.returns-clause-hash
 returns-clause-hash g c =
     let levels = c.args.self.now.levels in
-    let no_right = (sides_rule_8 _ _ levels c.levels.ensures.well_formed.sides).0 in
+    let no_right = c.levels.ensures.well_formed.rule_8.0 in
     let top = c.top.ensures ∙ ap (λ (l : List Level). top_of l ∷ []) c.levels.ensures.levels in
     c.first_hash.ensures ∙ ap hash_of_first (top_nodes-left levels c.top.result c.left.result.now top c.left.ensures no_right)
 
