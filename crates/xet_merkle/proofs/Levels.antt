@@ -1,4 +1,3 @@
 pub mod Flat
-pub mod FlatEquality
-pub mod Stored
+pub mod Reading
 pub mod Sides

@@ -12,7 +12,7 @@ ghost use Rattle.xet_merkle.specs.Steps.Scan.{IsFirstGroup, AreParents};
 
 use crate::error::CoreError;
 use arrayvec::ArrayVec;
-use std::alloc::Allocator;
+use std::alloc::{AllocError, Allocator};
 use xet_hash::data_hash::{HMACKey, MerkleHash, compute_internal_node_hash};
 
 /// One in so many hashes is a natural cut. A group has 5.5 nodes in the mean, since none ends before its third
@@ -114,10 +114,9 @@ fn parent(group: &[Node]) -> Node
 }
 
 // The parents of the groups of some nodes, in a new list.
-pub(crate) fn parents<A: Allocator>(alloc: A, nodes: &[Node]) -> Result<Vec<Node, A>, CoreError>
+pub(crate) fn parents<A: Allocator>(alloc: A, nodes: &[Node]) -> Result<Vec<Node, A>, AllocError>
     requires { total_size nodes.now < 2 ^ 64 }
-    ensures parents { IfOk result (λ made. AreParents parent nodes.now made.items) }
-    ensures errors { IfErr result (λ e. e ≡ CoreError.OutOfMemory) }
+    ensures { IfOk result (λ made. AreParents parent nodes.now made.items) }
 {
     let mut made = Vec::new(alloc);
     let mut rest = nodes;

@@ -1,11 +1,11 @@
 //! Canonical subtrees of lists of chunks, after the module `merkle_hash_subtree` of the crate
 //! `xet-core-structures`.
 
+mod collapse;
 mod join;
 mod json_parts;
 mod level_rules;
 mod levels;
-mod open_levels;
 mod sides;
 mod split;
 mod stable_points;

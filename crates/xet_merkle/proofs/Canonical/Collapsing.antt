@@ -7,7 +7,7 @@ use Rattle.xet_merkle.specs.Steps.Scan.{AreParents}
 use Rattle.xet_merkle.specs.Levels.{Level, levels_size}
 use Rattle.xet_merkle.specs.Canonical.{IsSplit, IsCanonicalBy}
 use Rattle.xet_merkle.specs.Canonical.IsCanonicalBy.{whole, collapsed}
-use Rattle.xet_merkle.specs.Steps.OpenLevels.{IsOpen, HasJoin, StandsBelow, StandsFor}
+use Rattle.xet_merkle.specs.Steps.Building.{HasCanonical, StandBelow}
 use Rattle.xet_merkle.proofs.Roots.Making.{total_size-are_parents}
 use Rattle.xet_merkle.proofs.Canonical.OneSubtree.{groups_fewer}
 use Rattle.xet_merkle.proofs.Levels.Flat.{total_size-append}
@@ -31,6 +31,9 @@ levels_size-canonical {at_start} {at_end} (collapsed {nodes} {left} {middle} {ri
     omega arith
 
 module _ (at_start at_end : Bool) where
+  pub middle_fits : (nodes left middle right : List Node) → IsSplit at_start at_end nodes left middle right → total_size nodes < 2 ^ 64 → total_size middle < 2 ^ 64
+  middle_fits nodes left middle right split fits = let size = split_size at_start at_end nodes left middle right split in omega arith
+
   pub parents_fit : (nodes left middle right parents : List Node) → IsSplit at_start at_end nodes left middle right → AreParents parent middle parents →
       total_size nodes < 2 ^ 64 → total_size parents < 2 ^ 64
   parents_fit nodes left middle right parents split made fits =
@@ -45,32 +48,22 @@ module _ (at_start at_end : Bool) where
       let len = ap length made.2 in
       omega (arith, length-map made.0 parent)
 
-  module _ (xs ys : List Level) where
+  module _ (all : List Node) where
     -- ---- levels
 
     -- no split: the nodes are the top
-    pub StandsFor-whole : (nodes : List Node) (counts : List (ℕ × ℕ)) (lefts rights : List Node) (h : StandsBelow at_start at_end xs ys nodes counts lefts rights) →
-        ((left middle right : List Node) → IsSplit at_start at_end nodes left middle right → ⊥) →
-        (counts' : List (ℕ × ℕ)) (lefts' rights' : List Node) → IsOpen counts' lefts' rights' (h.levels ++ record { left = nodes; right = [] } ∷ []) →
-        StandsFor at_start at_end xs ys counts' lefts' rights'
-    StandsFor-whole nodes counts lefts rights h none counts' lefts' rights' pushed = record {
-      levels = h.levels ++ record { left = nodes; right = [] } ∷ [];
-      open_levels = pushed;
-      joined = h.completed (record { left = nodes; right = [] } ∷ []) (0, whole none);
-    }
+    pub stand_whole : (levels : List Level) (nodes : List Node) → StandBelow at_start at_end all levels nodes →
+        ((left middle right : List Node) → IsSplit at_start at_end nodes left middle right → ⊥) → HasCanonical at_start at_end all (levels ++ record { left = nodes; right = [] } ∷ [])
+    stand_whole levels nodes h none = h (record { left = nodes; right = [] } ∷ []) (0, whole none)
 
     -- a split: the canonical subtree of the parents goes on top
-    pub StandsBelow-more : (nodes left middle right parents : List Node) (counts : List (ℕ × ℕ)) (lefts rights : List Node)
-        (h : StandsBelow at_start at_end xs ys nodes counts lefts rights) → IsSplit at_start at_end nodes left middle right → AreParents parent middle parents →
-        (counts' : List (ℕ × ℕ)) (lefts' rights' : List Node) → IsOpen counts' lefts' rights' (h.levels ++ record { left = left; right = right } ∷ []) →
-        StandsBelow at_start at_end xs ys parents counts' lefts' rights'
-    StandsBelow-more nodes left middle right parents counts lefts rights h split made counts' lefts' rights' pushed =
-        let level : Level = record { left = left; right = right } in record {
-          levels = h.levels ++ level ∷ [];
-          open_levels = pushed;
-          completed = λ top canonical.
-              let above : IsCanonicalBy parent at_start at_end (map parent made.0) top canonical.0 =
-              subst (λ (l : List Node). IsCanonicalBy parent at_start at_end l top canonical.0) made.2 canonical.1 in
-              subst (HasJoin at_start at_end xs [] ys) (sym (append_assoc h.levels (level ∷ []) top))
-              (h.completed (level ∷ top) (length made.0 + canonical.0, collapsed split made.1 above));
-        }
+    pub stand_more : (levels : List Level) (nodes left middle right parents : List Node) → StandBelow at_start at_end all levels nodes →
+        IsSplit at_start at_end nodes left middle right → AreParents parent middle parents →
+        StandBelow at_start at_end all (levels ++ record { left = left; right = right } ∷ []) parents
+    stand_more levels nodes left middle right parents h split made =
+        let level : Level = record { left = left; right = right } in
+        λ top canonical.
+            let above : IsCanonicalBy parent at_start at_end (map parent made.0) top canonical.0 =
+            subst (λ (l : List Node). IsCanonicalBy parent at_start at_end l top canonical.0) made.2 canonical.1 in
+            subst (HasCanonical at_start at_end all) (sym (append_assoc levels (level ∷ []) top))
+            (h (level ∷ top) (length made.0 + canonical.0, collapsed split made.1 above))

@@ -1,5 +1,5 @@
 -- The rules that levels keep, as the code tests them; they are those of well formed levels.
-use Rattle.std.proofs.Common.{◌≡◌, ℕ, ◌+◌, ◌<◌, ◌≤◌, ◌↔◌, Bool, true, false, Option, Some, None, IfSome, IfNone, is_some, not, List, [], ◌∷◌, ◌++◌, length, take, drop, get_or, refl, sym, ap, subst, ◌∙◌, arith, append-nil, length-take}
+use Rattle.std.proofs.Common.{◌≡◌, ℕ, zero, suc, ◌+◌, ◌<◌, ◌≤◌, ◌↔◌, Bool, true, false, Option, Some, None, IfSome, IfNone, is_some, not, List, [], ◌∷◌, ◌++◌, length, take, drop, get_or, refl, sym, ap, subst, ◌∙◌, arith, append-nil, length-take}
 use Rattle.std.proofs.lemmas.Bool.{false≢true}
 use Rattle.std.proofs.lemmas.List.{take-append-drop, drop_more}
 use Rattle.std.specs.List.{AllByRecursion as Each}
@@ -7,12 +7,10 @@ use Rattle.xet_merkle.specs.Groups.{Node, Cut, EndsWithCut}
 use Rattle.xet_merkle.specs.StablePoints.{NoCut, EndsStable, BeginsStable, NoStable, IsFirstStable, IsLastStable}
 use Rattle.xet_merkle.specs.Steps.Scan.{is_stable_gap}
 use Rattle.xet_merkle.specs.Steps.StableScan.{IsFront}
-use Rattle.xet_merkle.specs.Levels.{Level, top_nodes, left_at, below_top, top_of}
-use Rattle.xet_merkle.specs.Steps.Joining.{above}
+use Rattle.xet_merkle.specs.Levels.{Level}
 use Rattle.xet_merkle.specs.WellFormed.{IsLeftSide, IsRightSide, Rule8, Rule9, Rule10, Rule11, Rule12, Rule13, IsWellFormed}
 use Rattle.xet_merkle.specs.LevelRules.{KeepsBelow, BreaksLevelRule}
 use Rattle.xet_merkle.specs.LevelRules.BreaksLevelRule.{at_8, at_9, at_10, at_11, at_12, at_13}
-use Rattle.xet_merkle.specs.Steps.LevelSides.{first_of}
 use Rattle.xet_merkle.proofs.StablePoints.CutPlaces.{not_among, back_of}
 use Rattle.xet_merkle.proofs.StablePoints.Scan.{EndsStable-head, head_of_stable, HeadIs, IsScanned, gap_parts, gap_from}
 use Rattle.xet_merkle.proofs.StablePoints.Search.{FirstCut, same_first_cut}
@@ -97,43 +95,22 @@ begins_at_gap nodes i d within cut none =
 
 -- ---- levels
 
-pub Each-more : (Keeps : Level → Type 0) (levels : List Level) → 1 < length levels → Each Keeps (below_top levels) ↔ (Keeps (first_of levels) × Each Keeps (below_top (above levels)))
-Each-more Keeps [] more = absurd (omega arith)
-Each-more Keeps (top ∷ []) more = absurd (omega arith)
-Each-more Keeps (level ∷ next ∷ levels) more = (λ h. h, λ h. h)
+-- a walk through levels that stops at one, and one that ends
+pub each_stops : (Keeps : Level → Type 0) (levels : List Level) (i : ℕ) (d : Level) → i < length levels → (Keeps (get_or levels i d) → ⊥) → Each Keeps levels → ⊥
+each_stops Keeps [] i d within broken = absurd (omega arith)
+each_stops Keeps (level ∷ levels) zero d within broken = λ all. broken all.0
+each_stops Keeps (level ∷ levels) (suc i) d within broken = λ all. each_stops Keeps levels i d (omega arith) broken all.1
 
-pub Each-top : (Keeps : Level → Type 0) (levels : List Level) → ¬ (1 < length levels) → Each Keeps (below_top levels)
-Each-top Keeps [] one = tt
-Each-top Keeps (top ∷ []) one = tt
-Each-top Keeps (level ∷ next ∷ levels) one = absurd (one (omega arith))
+each_after : (Keeps : Level → Type 0) (levels : List Level) (i : ℕ) (d : Level) → i < length levels → Each Keeps (take i levels) → Keeps (get_or levels i d) →
+    Each Keeps (take (suc i) levels)
+each_after Keeps [] i d within so_far here = absurd (omega arith)
+each_after Keeps (level ∷ levels) zero d within so_far here = (here, tt)
+each_after Keeps (level ∷ levels) (suc i) d within so_far here = (so_far.0, each_after Keeps levels i d (omega arith) so_far.1 here)
 
-pub top_of-more : (levels : List Level) → 1 < length levels → top_of levels ≡ top_of (above levels)
-top_of-more [] more = absurd (omega arith)
-top_of-more (top ∷ []) more = absurd (omega arith)
-top_of-more (level ∷ next ∷ levels) more = refl
-
-pub top_alone : (levels : List Level) → 0 < length levels → ¬ (1 < length levels) → levels ≡ top_of levels ∷ []
-top_alone [] some one = absurd (omega arith)
-top_alone (top ∷ []) some one = refl
-top_alone (level ∷ next ∷ levels) some one = absurd (one (omega arith))
-
-pub top_nodes-top : (levels : List Level) → top_nodes levels ≡ (top_of levels).left ++ (top_of levels).right
-top_nodes-top [] = refl
-top_nodes-top (top ∷ []) = refl
-top_nodes-top (level ∷ next ∷ levels) = top_nodes-top (next ∷ levels)
-
--- a walk through the levels below the top that ends, and one that stops at a level
-module _ (Keeps : Level → Type 0) (levels rest : List Level) (so_far : Each Keeps (below_top levels) ↔ Each Keeps (below_top rest)) where
-  pub walk_ends : ¬ (1 < length rest) → (true ≡ true) ↔ Each Keeps (below_top levels)
-  walk_ends one = (λ _. so_far.1 (Each-top Keeps rest one), λ _. refl)
-
-  pub walk_stops : 1 < length rest → (Keeps (first_of rest) → ⊥) → (false ≡ true) ↔ Each Keeps (below_top levels)
-  walk_stops more broken = (λ clash. absurd (false≢true clash), λ h. absurd (broken ((Each-more Keeps rest more).0 (so_far.0 h)).0))
-
-pub top_nodes-left : (levels top : List Level) (left : List Node) → top ≡ top_of levels ∷ [] → left ≡ left_at top 0 → (top_of levels).right ≡ [] → left ≡ top_nodes levels
-top_nodes-left levels top left top_is left_is none =
-    left_is ∙ ap (λ (l : List Level). left_at l 0) top_is ∙ sym (append-nil (top_of levels).left)
-    ∙ ap (λ (l : List Node). (top_of levels).left ++ l) (sym none) ∙ sym (top_nodes-top levels)
+pub each_next : (Keeps : Level → Type 0) (levels : List Level) (i : ℕ) (d : Level) → i < length levels → Each Keeps (take i levels) → Keeps (get_or levels i d) →
+    Each Keeps (take (i + 1) levels)
+each_next Keeps levels i d within so_far here =
+    subst (λ (n : ℕ). Each Keeps (take n levels)) (let same : suc i ≡ i + 1 = omega arith in same) (each_after Keeps levels i d within so_far here)
 
 -- ---- the rules together
 

@@ -1,6 +1,6 @@
 -- A JSON value says at most one subtree, and parts that a well formed subtree has break no rule; so its object
 -- says it.
-use Rattle.std.proofs.Common.{◌≡◌, ℕ, ◌+◌, ◌<◌, ◌^◌, Bool, List, [], ◌∷◌, map, Some, None, codes, refl, sym, ap, subst, ◌∙◌, arith}
+use Rattle.std.proofs.Common.{◌≡◌, ℕ, ◌+◌, ◌<◌, ◌^◌, Bool, List, [], ◌∷◌, ◌++◌, map, Some, None, codes, refl, sym, ap, subst, ◌∙◌, arith}
 use Rattle.std.specs.List.{AllZip, AllByRecursion}
 use Rattle.std.specs.Str.{str_to_ascii_lowercase}
 use Rattle.std.proofs.lemmas.List.{length-map}
@@ -28,6 +28,10 @@ use Rattle.xet_merkle.proofs.Json.Reading.{items_of-injective}
 -- the words of each node are those of a hash
 abbrev pub AreHashes : List Node → Type 0
 AreHashes = AllByRecursion (λ node. IsHash node.0)
+
+pub AreHashes-append : (front back : List Node) → AreHashes front → AreHashes back → AreHashes (front ++ back)
+AreHashes-append [] back h k = k
+AreHashes-append (node ∷ front) back h k = (h.0, AreHashes-append front back h.1 k)
 
 -- ---- the rules of a value
 

@@ -7,7 +7,6 @@ use Rattle.xet_merkle.specs.Roots.{total_size}
 use Rattle.xet_merkle.specs.Levels.{Level, node_count, levels_size}
 use Rattle.xet_merkle.specs.JsonRules.{count_sum}
 use Rattle.xet_merkle.specs.FlatLevels.{left_nodes, right_nodes, flat_nodes, count_of, levels_of, IsFlat}
-use Rattle.xet_merkle.specs.Steps.OpenLevels.{IsOpen}
 
 -- the first level's sides stand on the outside
 pub flat-more : (level : Level) (levels : List Level) → flat_nodes (level ∷ levels) ≡ level.left ++ (flat_nodes levels ++ level.right)
@@ -53,6 +52,20 @@ drop_twice zero n nodes = ap (λ (k : ℕ). drop k nodes) (let same : n ≡ 0 + 
 drop_twice (suc m) n [] = drop_all n [] (omega arith) ∙ sym (drop_all (suc m + n) [] (omega arith))
 drop_twice (suc m) n (node ∷ nodes) =
     drop_twice m n nodes ∙ ap (λ (k : ℕ). drop k (node ∷ nodes)) (let same : suc (m + n) ≡ suc m + n = omega arith in same)
+
+-- the first level that counts cut out, and the nodes of those above it
+pub levels_of-more : (count : ℕ × ℕ) (counts : List (ℕ × ℕ)) (nodes : List Node) → count_sum (count ∷ counts) ≡ length nodes →
+    levels_of (count ∷ counts) nodes
+    ≡ record { left = take count.0 nodes; right = drop (length (drop count.0 nodes) - count.1) (drop count.0 nodes) }
+    ∷ levels_of counts (take (length (drop count.0 nodes) - count.1) (drop count.0 nodes))
+levels_of-more count counts nodes sum =
+    let all = sum_by-cons (λ (c : ℕ × ℕ). c.0 + c.1) count counts in
+    let n = length nodes - count.1 - count.0 in
+    let len = length-drop count.0 nodes in
+    let same : length (drop count.0 nodes) - count.1 ≡ n = omega arith in
+    let right : drop (length nodes - count.1) nodes ≡ drop (length (drop count.0 nodes) - count.1) (drop count.0 nodes) =
+    ap (λ (k : ℕ). drop k nodes) (let whole : length nodes - count.1 ≡ count.0 + n = omega arith in whole) ∙ sym (drop_twice count.0 n nodes) ∙ ap (λ (k : ℕ). drop k (drop count.0 nodes)) (sym same) in
+    λ i. record { left = take count.0 nodes; right = right i } ∷ levels_of counts (take (sym same i) (drop count.0 nodes))
 
 -- counts that add up to a number of nodes cut levels out of them
 pub IsFlat-from_sum : (counts : List (ℕ × ℕ)) (nodes : List Node) → count_sum counts ≡ length nodes → IsFlat counts nodes (levels_of counts nodes)
@@ -104,34 +117,12 @@ levels_size-flat (level ∷ levels) =
 
 -- ---- adding a level at the top
 
-left_nodes-push : (levels : List Level) (level : Level) → left_nodes (levels ++ level ∷ []) ≡ left_nodes levels ++ level.left
+pub left_nodes-push : (levels : List Level) (level : Level) → left_nodes (levels ++ level ∷ []) ≡ left_nodes levels ++ level.left
 left_nodes-push [] level = append-nil level.left
 left_nodes-push (first ∷ levels) level = ap (λ (l : List Node). first.left ++ l) (left_nodes-push levels level) ∙ sym (append_assoc first.left (left_nodes levels) level.left)
 
-right_nodes-push : (levels : List Level) (level : Level) → right_nodes (levels ++ level ∷ []) ≡ level.right ++ right_nodes levels
-right_nodes-push [] level = sym (append-nil level.right)
-right_nodes-push (first ∷ levels) level =
-    ap (λ (l : List Node). l ++ first.right) (right_nodes-push levels level) ∙ append_assoc level.right (right_nodes levels) first.right
-
-pub IsOpen-push : (counts : List (ℕ × ℕ)) (lefts rights : List Node) (levels : List Level) (level : Level) → IsOpen counts lefts rights levels →
-    IsOpen (counts ++ count_of level ∷ []) (lefts ++ level.left) (rights ++ reverse level.right) (levels ++ level ∷ [])
-IsOpen-push counts lefts rights levels level h = record {
-  counts_are = ap (λ (l : List (ℕ × ℕ)). l ++ count_of level ∷ []) h.counts_are ∙ sym (map_push count_of levels level);
-  lefts_are = ap (λ (l : List Node). l ++ level.left) h.lefts_are ∙ sym (left_nodes-push levels level);
-  rights_are =
-      reverse-append rights (reverse level.right)
-      ∙ ap (λ (l : List Node). l ++ reverse rights) (reverse-reverse level.right)
-      ∙ ap (λ (l : List Node). level.right ++ l) h.rights_are
-      ∙ sym (right_nodes-push levels level);
-}
-
-pub IsFlat-from_open : (counts : List (ℕ × ℕ)) (lefts rights : List Node) (levels : List Level) → IsOpen counts lefts rights levels →
-    IsFlat counts (lefts ++ reverse rights) levels
-IsFlat-from_open counts lefts rights levels h = record {
-  counts_are = h.counts_are;
-  nodes_are = rw (h.lefts_are, h.rights_are);
-}
-
-pub levels_of-IsOpen : (counts : List (ℕ × ℕ)) (lefts rights : List Node) (levels : List Level) → IsOpen counts lefts rights levels →
-    levels_of counts (lefts ++ reverse rights) ≡ levels
-levels_of-IsOpen counts lefts rights levels h = levels_of-IsFlat counts (lefts ++ reverse rights) levels (IsFlat-from_open counts lefts rights levels h)
+-- the right nodes of levels above others
+pub right_nodes-append : (below above : List Level) → right_nodes (below ++ above) ≡ right_nodes above ++ right_nodes below
+right_nodes-append [] above = sym (append-nil (right_nodes above))
+right_nodes-append (level ∷ below) above =
+    ap (λ (l : List Node). l ++ level.right) (right_nodes-append below above) ∙ append_assoc (right_nodes above) (right_nodes below) level.right

@@ -7,6 +7,7 @@ use Rattle.xet_merkle.specs.StablePoints.{EndsStable, BeginsStable}
 use Rattle.xet_merkle.specs.Levels.{Level, top_nodes, levels_size}
 use Rattle.xet_merkle.specs.Canonical.{IsCanonicalBy}
 use Rattle.xet_merkle.specs.Canonical.IsCanonicalBy.{whole, collapsed}
+use Rattle.xet_merkle.specs.WellFormed.{IsWellFormed}
 use Rattle.xet_merkle.specs.Steps.Joining.{IsLeftUnder, IsRightUnder, HaveSides, IsHighBehind, IsLowBefore, IsJoin}
 use Rattle.xet_merkle.specs.Steps.Joining.IsJoinSplit.{both, left_alone, right_alone}
 use Rattle.xet_merkle.specs.Steps.Joining.IsJoin.{all_in_sight, step}
@@ -15,6 +16,7 @@ use Rattle.xet_merkle.proofs.Roots.Making.{total_size-are_parents}
 use Rattle.xet_merkle.proofs.StablePoints.CutPlaces.{EndsStable-append}
 use Rattle.xet_merkle.proofs.Canonical.Splits.{middle_some}
 use Rattle.xet_merkle.proofs.Levels.Flat.{total_size-append}
+use Rattle.xet_merkle.proofs.Levels.Sides.{well_formed_from_sides}
 use Rattle.xet_merkle.proofs.Canonical.Collapsing.{levels_size-canonical}
 use Rattle.xet_merkle.proofs.Canonical.OneSubtree.{top_nodes-more, levels_some, closed_root}
 use Rattle.xet_merkle.proofs.StablePoints.Scan.{BeginsStable-append}
@@ -104,7 +106,7 @@ module _ (make : List Node → Node) (at_start at_end : Bool) where
       HasTop-more (record { left = left; right = right }) levels (joined_some rest)
       (joined_has_top rest refl hy.2 (λ more. absurd (omega arith)) (λ _. here) (inr here))
 
-  canonical_top_below : {nodes : List Node} {levels : List Level} {made : ℕ} → IsCanonicalBy make at_start at_end nodes levels made → 1 < length levels → HasTop levels
+  pub canonical_top_below : {nodes : List Node} {levels : List Level} {made : ℕ} → IsCanonicalBy make at_start at_end nodes levels made → 1 < length levels → HasTop levels
   canonical_top_below (whole none) more = absurd (omega arith)
   canonical_top_below (collapsed {nodes} split cutting canonical) more =
       canonical_top (collapsed split cutting canonical) (let several = split.several in omega arith)
@@ -119,6 +121,13 @@ module _ (make : List Node → Node) (at_start at_end : Bool) where
       joined_has_top (step (left_alone left_is seen high) cutting rest) hx hy top_x top_y (inl (top_x (omega arith)))
   joined_top (step (right_alone seen low right_is) cutting rest) hx hy top_x top_y more =
       joined_has_top (step (right_alone seen low right_is) cutting rest) hx hy top_x top_y (inr (top_y (omega arith)))
+
+-- a canonical subtree is well formed
+pub canonical_well_formed : (at_start at_end : Bool) {nodes : List Node} {levels : List Level} {made : ℕ} → IsCanonicalBy parent at_start at_end nodes levels made →
+    IsWellFormed (record { at_start = at_start; at_end = at_end; levels = levels })
+canonical_well_formed at_start at_end {nodes} {levels} {made} h = well_formed_from_sides at_start at_end levels (canonical_sides parent at_start at_end h)
+    (λ start end. (closed_root parent (subst (λ (e : Bool). IsCanonicalBy parent true e nodes levels made) end (subst (λ (s : Bool). IsCanonicalBy parent s at_end nodes levels made) start h))).0)
+    (canonical_top_below parent at_start at_end h)
 
 -- with both ends marked
 pub joined_one : (make : List Node → Node) {xs ys levels : List Level} {carry : List Node} {made : ℕ} → IsJoin make true true xs carry ys levels made →

@@ -10,7 +10,7 @@ use Rattle.xet_merkle.specs.Merging.{IsMerged, NoMarkBetween, end_mark, ranges_s
 use Rattle.xet_merkle.specs.Steps.RangeMerging.{MergesTo}
 use Rattle.xet_merkle.proofs.Canonical.OneSubtree.{IsCanonicalBy-unique}
 
-abbrev joined_lists : List (List Node) → List Node
+abbrev pub joined_lists : List (List Node) → List Node
 joined_lists lists = flat_map (λ (list : List Node). list) lists
 
 -- ---- the first two ranges of several, merged
@@ -51,7 +51,7 @@ module _ (front back merged : Subtree) (h : IsMerged front back merged) where
 
 -- ---- all ranges, merged
 
-merged_list : (merged : Subtree) (joined : List (List Node)) (nodes : List Node) → AreCanonical (merged ∷ []) joined → joined_lists joined ≡ nodes → IsCanonical merged nodes
+pub merged_list : (merged : Subtree) (joined : List (List Node)) (nodes : List Node) → AreCanonical (merged ∷ []) joined → joined_lists joined ≡ nodes → IsCanonical merged nodes
 merged_list merged [] nodes all e = elim all [ ]
 merged_list merged (list ∷ []) nodes all e = subst (IsCanonical merged) (sym (append-nil list) ∙ e) all.0
 merged_list merged (list ∷ next ∷ lists) nodes all e = elim all.1 [ ]

@@ -23,6 +23,11 @@ HaveSides at_start at_end (top ∷ []) = top.right ≡ []
 HaveSides at_start at_end (level ∷ next ∷ levels) =
     IsLeftUnder at_start level.left × IsRightUnder at_end level.right × HaveSides at_start at_end (next ∷ levels)
 
+-- levels as an operand: one without nodes where there are none
+abbrev pub operand : List Level → List Level
+operand [] = no_level ∷ []
+operand (level ∷ levels) = level ∷ levels
+
 -- the levels above the first; above the top stand no nodes
 abbrev pub above : List Level → List Level
 above [] = []

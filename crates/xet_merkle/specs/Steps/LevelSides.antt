@@ -1,14 +1,10 @@
 -- What the sides of a level below the top are asked for, where the rules of levels are tested. Private contracts
 -- speak of it.
-use Rattle.std.specs.Prelude.{◌≡◌, false, List, []}
+use Rattle.std.specs.Prelude.{◌≡◌, []}
 use Rattle.xet_merkle.specs.declared.merkle_hash_subtree.level_rules.Side.{Side}
 use Rattle.xet_merkle.specs.declared.merkle_hash_subtree.level_rules.Side.TheVariants.{NoLeft, NoRight, Left, Right}
-use Rattle.xet_merkle.specs.Levels.{Level, left_at, right_at}
+use Rattle.xet_merkle.specs.Levels.{Level}
 use Rattle.xet_merkle.specs.WellFormed.{IsLeftSide, IsRightSide}
-
--- the first of some levels, or one without nodes
-abbrev pub first_of : List Level → Level
-first_of levels = record { left = left_at levels 0; right = right_at levels 0 }
 
 -- a level has what is asked for
 abbrev pub HasSide : Side → Level → Type 0

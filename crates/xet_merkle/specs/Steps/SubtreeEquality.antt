@@ -28,6 +28,12 @@ same_level-decides a b =
     (pointwise_decides same_node-decides a.left b.left) (pointwise_decides same_node-decides a.right b.right)
     (λ p q i. record { left = p i; right = q i }) (ap (λ (level : Level). level.left)) (ap (λ (level : Level). level.right))
 
+pub same_level-equiv : IsEquivalence same_level
+same_level-equiv = decided same_level same_level-decides
+
+pub same_level-per : IsPartialEquivalence same_level
+same_level-per = partial_equiv_from_equiv same_level-equiv
+
 pub same_subtree-decides : (a b : Subtree) → Decides (same_subtree a b) (a ≡ b)
 same_subtree-decides a b =
     let rest = both_decide (beq a.at_end b.at_end) (pointwise same_level a.levels b.levels) (a.at_end ≡ b.at_end) (a.levels ≡ b.levels)

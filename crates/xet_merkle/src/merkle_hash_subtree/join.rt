@@ -1,19 +1,16 @@
 //! Joining two subtrees of adjacent ranges from what they keep of each level, from the chunks up.
 
-ghost use Rattle.std.specs.Prelude.{◌≡◌, ◌+◌, ◌^◌, ◌<◌, ◌≤◌, ◌⊎◌, List, length, take, drop, IfOk, IfErr};
-ghost use Rattle.xet_merkle.specs.Groups.{Node};
-ghost use Rattle.xet_merkle.specs.Roots.{total_size};
-ghost use Rattle.xet_merkle.specs.Levels.{Level, levels_size};
-ghost use Rattle.xet_merkle.specs.Steps.Joining.{above, between, IsHighBehind, IsLowBefore, IsJoinSplit};
-ghost use Rattle.xet_merkle.specs.Steps.OpenLevels.{JoinsBelow, StandsFor};
+ghost use Rattle.std.specs.Prelude.{◌≡◌, ◌+◌, ◌^◌, ◌<◌, ◌≤◌, ◌⊎◌, List, [], length, take, drop, IfOk};
+ghost use Rattle.xet_merkle.specs.Levels.{levels_size};
+ghost use Rattle.xet_merkle.specs.Steps.Joining.{operand, between, IsHighBehind, IsLowBefore, IsJoinSplit};
+ghost use Rattle.xet_merkle.specs.Steps.Building.{HasJoin};
 
-use super::levels::Levels;
-use super::open_levels::OpenLevels;
+use super::collapse::{collapse, collapse_middle};
+use super::levels::{LevelNodes, above, inner, left_at, right_at};
 use super::split::Split;
 use super::stable_points::{find_stable_start, last_stable};
-use crate::aggregated_hashes::{Node, parents};
-use crate::error::CoreError;
-use std::alloc::Allocator;
+use crate::aggregated_hashes::Node;
+use std::alloc::{AllocError, Allocator};
 
 // How many nodes are collapsed of those behind collapsed ones, the last of which is a natural cut.
 fn high_end_behind(nodes: &[Node], at_end: bool) -> usize
@@ -40,35 +37,35 @@ fn low_end_before(nodes: &[Node], at_start: bool) -> usize
 }
 
 // Of the nodes in sight between two operands, of which one has levels above, what is collapsed.
-fn join_split<'a>(
-    x: &Levels<'a>,
+fn join_split<'a, A: Allocator>(
+    front: &'a [LevelNodes<A>],
     seen: &'a [Node],
-    y: &Levels<'a>,
+    back: &'a [LevelNodes<A>],
     at_start: bool,
     at_end: bool,
 ) -> Split<'a>
-    requires { (1 < length x.now) ⊎ (1 < length y.now) }
-    ensures { IsJoinSplit at_start at_end x.now y.now seen.now result.left.now result.middle.now result.right.now }
+    requires { (1 < length front.now) ⊎ (1 < length back.now) }
+    ensures { IsJoinSplit at_start at_end (operand front.now) (operand back.now) seen.now result.left.now result.middle.now result.right.now }
 {
-    if !x.has_above() {
+    if front.len() <= 1 {
         let (left, middle) = seen.split_at(low_end_before(seen, at_start));
         Split {
             left,
             middle,
-            right: y.right(),
+            right: right_at(back, 0),
         }
-    } else if !y.has_above() {
+    } else if back.len() <= 1 {
         let (middle, right) = seen.split_at(high_end_behind(seen, at_end));
         Split {
-            left: x.left(),
+            left: left_at(front, 0),
             middle,
             right,
         }
     } else {
         Split {
-            left: x.left(),
+            left: left_at(front, 0),
             middle: seen,
-            right: y.right(),
+            right: right_at(back, 0),
         }
     }
 }
@@ -76,76 +73,43 @@ fn join_split<'a>(
 // The nodes in sight between two operands.
 fn in_sight<A: Allocator>(
     alloc: A,
-    x: &Levels,
+    front: &[LevelNodes<A>],
     carry: &[Node],
-    y: &Levels,
-) -> Result<Vec<Node, A>, CoreError>
-    ensures seen { IfOk result (λ seen. seen.items ≡ between x.now carry.now y.now) }
-    ensures errors { IfErr result (λ e. e ≡ CoreError.OutOfMemory) }
+    back: &[LevelNodes<A>],
+) -> Result<Vec<Node, A>, AllocError>
+    ensures { IfOk result (λ seen. seen.items ≡ between (operand front.now) carry.now (operand back.now)) }
 {
     let mut seen = Vec::new(alloc);
-    seen.extend_from_slice(x.inner())?;
+    seen.extend_from_slice(inner(front))?;
     seen.extend_from_slice(carry)?;
-    seen.extend_from_slice(y.left())?;
+    seen.extend_from_slice(left_at(back, 0))?;
     Ok(seen)
-}
-
-// Adds the level of two operands at the top, and answers the parents of what is collapsed. After a
-// refusal the levels are spent.
-fn join_level<A: Allocator + Clone>(
-    levels: &mut OpenLevels<A>,
-    alloc: A,
-    x: &Levels,
-    carry: &[Node],
-    y: &Levels,
-    at_start: bool,
-    at_end: bool,
-) -> Result<Vec<Node, A>, CoreError>
-    requires above { (1 < length x.now) ⊎ (1 < length y.now) }
-    requires fits { levels_size x.now + (total_size carry.now + levels_size y.now) < 2 ^ 64 }
-    ensures joined { IfOk result (λ made. (xs ys : List Level) →
-        JoinsBelow at_start at_end xs ys x.now carry.now y.now levels.old.counts.items levels.old.lefts.items levels.old.rights.items →
-        JoinsBelow at_start at_end xs ys (above x.now) made.items (above y.now) levels.new.counts.items levels.new.lefts.items levels.new.rights.items) }
-    ensures fits { IfOk result (λ made. levels_size (above x.now) + (total_size made.items + levels_size (above y.now)) < 2 ^ 64) }
-    ensures errors { IfErr result (λ e. e ≡ CoreError.OutOfMemory) }
-{
-    let seen = in_sight(alloc.clone()?, x, carry, y)?;
-    let split = join_split(x, &seen, y, at_start, at_end);
-    levels.push(split.left, split.right)?;
-    Ok(parents(alloc, split.middle)?)
 }
 
 // The levels that two operands are joined to.
 pub(super) fn join<A: Allocator + Clone>(
     alloc: A,
-    x: Levels,
-    y: Levels,
+    front: &[LevelNodes<A>],
+    back: &[LevelNodes<A>],
     at_start: bool,
     at_end: bool,
-) -> Result<OpenLevels<A>, CoreError>
-    requires { levels_size x + levels_size y < 2 ^ 64 }
-    ensures joined { IfOk result (λ levels.
-        StandsFor at_start at_end x.entry y.entry levels.counts.items levels.lefts.items levels.rights.items) }
-    ensures errors { IfErr result (λ e. e ≡ CoreError.OutOfMemory) }
+) -> Result<Vec<LevelNodes<A>, A>, AllocError>
+    requires some_front { 0 < length front.now }
+    requires some_back { 0 < length back.now }
+    requires fits { levels_size front.now + levels_size back.now < 2 ^ 64 }
+    ensures { IfOk result (λ levels. HasJoin at_start at_end front.now [] back.now levels.items) }
 {
-    let mut levels = OpenLevels::new(alloc.clone()?)?;
+    let mut levels = Vec::new(alloc.clone()?);
     let mut carry = Vec::new(alloc.clone()?);
-    let mut x = x;
-    let mut y = y;
-    'joining: while x.has_above() || y.has_above() {
-        carry = join_level(
-            &mut levels,
-            alloc.clone()?,
-            &x,
-            &carry,
-            &y,
-            at_start,
-            at_end,
-        )?;
-        x = x.above();
-        y = y.above();
+    let mut front = front;
+    let mut back = back;
+    'joining: while front.len() > 1 || back.len() > 1 {
+        let seen = in_sight(alloc.clone()?, front, &carry, back)?;
+        let split = join_split(front, &seen, back, at_start, at_end);
+        (levels, carry) = collapse_middle(alloc.clone()?, levels, split)?;
+        front = above(front);
+        back = above(back);
     }
-    let nodes = in_sight(alloc.clone()?, &x, &carry, &y)?;
-    levels.collapse_all(alloc, &nodes, at_start, at_end)?;
-    Ok(levels)
+    let nodes = in_sight(alloc.clone()?, front, &carry, back)?;
+    Ok(collapse(alloc, levels, nodes, at_start, at_end)?)
 }

@@ -6,19 +6,11 @@ ghost use Rattle.xet_merkle.specs.Levels.{Level, top_nodes, below_top, top_of};
 ghost use Rattle.xet_merkle.specs.Subtree.{Subtree};
 ghost use Rattle.xet_merkle.specs.WellFormed.{IsLeftSide, IsRightSide, Rule8, Rule9, Rule10, Rule11, Rule12, Rule13, IsWellFormed};
 ghost use Rattle.xet_merkle.specs.LevelRules.{BreaksLevelRule};
-ghost use Rattle.xet_merkle.specs.Steps.LevelSides.{first_of, HasSide};
+ghost use Rattle.xet_merkle.specs.Steps.LevelSides.{HasSide};
 
-use super::levels::Levels;
+use super::levels::{LevelNodes, below_top, top};
 use super::sides::{is_left_side, is_right_side};
-
-// How many nodes the top has, where it has no right ones.
-fn top_len(levels: &Levels) -> usize
-    requires some { 0 < length levels.now }
-    requires no_right { (top_of levels.now).right ≡ [] }
-    ensures { result ≡ length (top_nodes levels.now) }
-{
-    levels.top().left().len()
-}
+use std::alloc::Allocator;
 
 // What each level below the top is asked for.
 #[derive(Clone, Copy)]
@@ -33,47 +25,54 @@ enum Side {
     Right,
 }
 
-// Whether the first of some levels has what is asked for.
-fn has_side(levels: &Levels, side: Side) -> bool
-    ensures { IsTrue result ↔ HasSide side (first_of levels.now) }
+// Whether a level has what is asked for.
+fn has_side<A: Allocator>(level: &LevelNodes<A>, side: Side) -> bool
+    ensures { IsTrue result ↔ HasSide side level.now }
 {
     match side {
-        Side::NoLeft => levels.left().is_empty(),
-        Side::NoRight => levels.right().is_empty(),
-        Side::Left => is_left_side(levels.left()),
-        Side::Right => is_right_side(levels.right()),
+        Side::NoLeft => level.left().is_empty(),
+        Side::NoRight => level.right().is_empty(),
+        Side::Left => is_left_side(level.left()),
+        Side::Right => is_right_side(level.right()),
     }
 }
 
-// Whether each level below the top has what is asked for.
-fn each_has_side(levels: &Levels, side: Side) -> bool
-    ensures { IsTrue result ↔ Each (HasSide side) (below_top levels.now) }
+// Whether each of some levels has what is asked for.
+fn each_has_side<A: Allocator>(levels: &[LevelNodes<A>], side: Side) -> bool
+    ensures { IsTrue result ↔ Each (HasSide side) levels.now }
 {
-    let mut rest = levels.again();
-    'below_top: while rest.has_above() {
-        if !has_side(&rest, side) {
+    'levels: for level in levels {
+        if !has_side(level, side) {
             return false;
         }
-        rest = rest.above();
     }
     true
 }
 
+// How many nodes the top has, where it has no right ones.
+fn top_len<A: Allocator>(levels: &[LevelNodes<A>]) -> usize
+    requires some { 0 < length levels.now }
+    requires no_right { (top_of levels.now).right ≡ [] }
+    ensures { result ≡ length (top_nodes levels.now) }
+{
+    top(levels).left().len()
+}
+
 // Whether marks and levels keep the rule of that number.
-fn keep_rule_8(levels: &Levels, at_end: bool) -> bool
+fn keep_rule_8<A: Allocator>(levels: &[LevelNodes<A>], at_end: bool) -> bool
     requires { 0 < length levels.now }
     ensures { IsTrue result ↔ Rule8 at_end levels.now }
 {
-    levels.top().right().is_empty() && (!at_end || each_has_side(levels, Side::NoRight))
+    top(levels).right().is_empty() && (!at_end || each_has_side(below_top(levels), Side::NoRight))
 }
 
-fn keep_rule_9(levels: &Levels, at_start: bool) -> bool
+fn keep_rule_9<A: Allocator>(levels: &[LevelNodes<A>], at_start: bool) -> bool
     ensures { IsTrue result ↔ Rule9 at_start levels.now }
 {
-    !at_start || each_has_side(levels, Side::NoLeft)
+    !at_start || each_has_side(below_top(levels), Side::NoLeft)
 }
 
-fn keep_rule_10(levels: &Levels, at_start: bool, at_end: bool) -> bool
+fn keep_rule_10<A: Allocator>(levels: &[LevelNodes<A>], at_start: bool, at_end: bool) -> bool
     requires some { 0 < length levels.now }
     requires rule_8 { Rule8 at_end levels.now }
     ensures { IsTrue result ↔ Rule10 at_start at_end levels.now }
@@ -81,28 +80,28 @@ fn keep_rule_10(levels: &Levels, at_start: bool, at_end: bool) -> bool
     !at_start || !at_end || top_len(levels) <= 1
 }
 
-fn keep_rule_11(levels: &Levels, at_end: bool) -> bool
+fn keep_rule_11<A: Allocator>(levels: &[LevelNodes<A>], at_end: bool) -> bool
     requires some { 0 < length levels.now }
     requires rule_8 { Rule8 at_end levels.now }
     ensures { IsTrue result ↔ Rule11 levels.now }
 {
-    !levels.has_above() || 0 < top_len(levels)
+    levels.len() <= 1 || 0 < top_len(levels)
 }
 
-fn keep_rule_12(levels: &Levels, at_start: bool) -> bool
+fn keep_rule_12<A: Allocator>(levels: &[LevelNodes<A>], at_start: bool) -> bool
     ensures { IsTrue result ↔ Rule12 at_start levels.now }
 {
-    at_start || each_has_side(levels, Side::Left)
+    at_start || each_has_side(below_top(levels), Side::Left)
 }
 
-fn keep_rule_13(levels: &Levels, at_end: bool) -> bool
+fn keep_rule_13<A: Allocator>(levels: &[LevelNodes<A>], at_end: bool) -> bool
     ensures { IsTrue result ↔ Rule13 at_end levels.now }
 {
-    at_end || each_has_side(levels, Side::Right)
+    at_end || each_has_side(below_top(levels), Side::Right)
 }
 
 // The least of the rules 8 to 13 that marks and levels break.
-pub(super) fn broken_rule(levels: &Levels, at_start: bool, at_end: bool) -> Option<u8>
+pub(super) fn broken_rule<A: Allocator>(levels: &[LevelNodes<A>], at_start: bool, at_end: bool) -> Option<u8>
     requires { 0 < length levels.now }
     ensures kept { IfNone result (IsWellFormed (record { at_start = at_start; at_end = at_end; levels = levels.now })) }
     ensures broken { IfSome result (BreaksLevelRule at_start at_end levels.now) }

@@ -1,121 +1,167 @@
-//! Reading the levels of a subtree one after another, from the chunks up.
+//! What is kept of the levels of a subtree, from the chunks up.
 
-ghost use Rattle.std.specs.Prelude.{◌≡◌, ◌<◌, ◌↔◌, List, [], ◌∷◌, length, IsTrue};
-ghost use Rattle.xet_merkle.specs.Levels.{Level, left_at, right_at, top_of};
-ghost use Rattle.xet_merkle.specs.FlatLevels.{levels_of};
-ghost use Rattle.xet_merkle.specs.Steps.StoredLevels.{IsSomeFlat};
-ghost use Rattle.xet_merkle.specs.Steps.Joining.{above, inner_nodes};
+ghost use Rattle.std.specs.Prelude.{◌≡◌, ◌^◌, ◌<◌, ◌-◌, List, ◌∷◌, ◌++◌, [], length, IfOk, SomeIff};
+ghost use Rattle.xet_merkle.specs.Levels.{Level, left_at, right_at, top_of, below_top, node_count};
+ghost use Rattle.xet_merkle.specs.Subtree.{same_level};
+ghost use Rattle.xet_merkle.specs.Steps.SubtreeEquality.{same_level-per, same_level-equiv};
+ghost use Rattle.xet_merkle.specs.Steps.Joining.{operand, above, inner_nodes};
 
 use crate::aggregated_hashes::Node;
+use std::alloc::{AllocError, Allocator};
 use std::marker::Model;
 
-// A level of a subtree, and all levels above it.
-#[derive(Drop)]
-pub(super) struct Levels<'a> {
-    // How many left and right nodes each level has.
-    counts: &'a [(usize, usize)],
-    // The left nodes by rising level, then the right nodes by falling level.
-    nodes: &'a [Node],
+// The nodes that are kept of a level, on either side.
+#[derive(Debug, Drop)]
+pub(super) struct LevelNodes<A: Allocator> {
+    pub(super) left: Vec<Node, A>,
+    pub(super) right: Vec<Node, A>,
 }
 
-impl<'a> Model for Levels<'a> {
-    ghost Value = { List Level };
+impl<A: Allocator> Model for LevelNodes<A> {
+    ghost Value = { Level };
 
-    ghost view = { λ levels. levels_of levels.counts.now levels.nodes.now };
-
-    ghost invariant = { λ levels. IsSomeFlat levels.counts.now levels.nodes.now };
+    ghost view = { λ nodes. record { left = nodes.left.items; right = nodes.right.items } };
 }
 
-impl<'a> Levels<'a> {
-    pub(super) fn new(counts: &'a [(usize, usize)], nodes: &'a [Node]) -> Self
-        requires { IsSomeFlat counts.now nodes.now }
-        ensures { result ≡ levels_of counts.now nodes.now }
+impl<A: Allocator> LevelNodes<A> {
+    pub(super) fn new(left: Vec<Node, A>, right: Vec<Node, A>) -> Self
+        ensures { result ≡ record { left = left.items; right = right.items } }
     {
-        Levels { counts, nodes }
+        LevelNodes { left, right }
     }
 
-    // The same levels, to be read once more.
-    pub(super) fn again(&self) -> Self
-        ensures { result ≡ self.now }
+    pub(super) fn left(&self) -> &[Node]
+        ensures { result.now ≡ self.now.left }
     {
-        Levels {
-            counts: self.counts,
-            nodes: self.nodes,
-        }
+        &self.left
     }
 
-    // Whether there are levels above the first.
-    pub(super) fn has_above(&self) -> bool
-        ensures above { IsTrue result ↔ (1 < length self.now) }
-        ensures some { 0 < length self.now }
+    pub(super) fn right(&self) -> &[Node]
+        ensures { result.now ≡ self.now.right }
     {
-        self.counts.len() > 1
+        &self.right
     }
+}
 
-    // The left nodes of the first level.
-    pub(super) fn left(&self) -> &'a [Node]
-        ensures { result.now ≡ left_at self.now 0 }
+impl<A: Allocator + Clone> LevelNodes<A> {
+    // A level of these nodes, copied into memory of `alloc`.
+    pub(super) fn copied(alloc: A, left: &[Node], right: &[Node]) -> Result<Self, AllocError>
+        ensures { IfOk result (λ level. level ≡ record { left = left.now; right = right.now }) }
     {
-        &self.nodes[..self.counts[0].0]
+        let left = left.to_vec(alloc.clone()?)?;
+        let right = right.to_vec(alloc)?;
+        Ok(LevelNodes::new(left, right))
     }
+}
 
-    // The right nodes of the first level.
-    pub(super) fn right(&self) -> &'a [Node]
-        ensures { result.now ≡ right_at self.now 0 }
-    {
-        &self.nodes[self.nodes.len() - self.counts[0].1..]
+impl<A: Allocator> PartialEq for LevelNodes<A> {
+    ghost eq = { same_level };
+
+    ghost laws = { same_level-per };
+
+    fn eq(&self, other: &Self) -> bool {
+        self.left == other.left && self.right == other.right
     }
+}
 
-    // The nodes of the first level towards a right operand: all of the top, else the right ones.
-    pub(super) fn inner(&self) -> &'a [Node]
-        ensures { result.now ≡ inner_nodes self.now }
-    {
-        if self.has_above() {
-            self.right()
-        } else {
-            self.left()
-        }
+impl<A: Allocator> Eq for LevelNodes<A> {
+    ghost laws = { same_level-equiv };
+}
+
+// Levels with one more at the top.
+pub(super) fn pushed<A: Allocator>(
+    levels: Vec<LevelNodes<A>, A>,
+    level: LevelNodes<A>,
+) -> Result<Vec<LevelNodes<A>, A>, AllocError>
+    ensures { IfOk result (λ more. more.items ≡ levels.items ++ level ∷ []) }
+{
+    let mut levels = levels;
+    levels.push(level)?;
+    Ok(levels)
+}
+
+// A copy of levels.
+pub(super) fn copy_levels<A: Allocator + Clone>(
+    alloc: A,
+    levels: &[LevelNodes<A>],
+) -> Result<Vec<LevelNodes<A>, A>, AllocError>
+    ensures { IfOk result (λ copy. copy.items ≡ levels.now) }
+{
+    let mut copy = Vec::with_capacity(alloc.clone()?, levels.len())?;
+    'levels: for level in levels {
+        copy.push(LevelNodes::copied(alloc.clone()?, level.left(), level.right())?)?;
     }
+    Ok(copy)
+}
 
-    // The levels above the first, and one without nodes above the top.
-    pub(super) fn above(&self) -> Self
-        ensures { result ≡ above self.now }
-    {
-        match self.counts {
-            [(left, right), above @ ..] if !above.is_empty() => {
-                let nodes = &self.nodes[*left..self.nodes.len() - *right];
-                Levels {
-                    counts: above,
-                    nodes,
-                }
-            }
-            _ => Levels {
-                counts: &[(0, 0)],
-                nodes: &[],
-            },
-        }
+// How many nodes levels have, where it is at most `usize::MAX`.
+pub(super) fn count_nodes<A: Allocator>(levels: &[LevelNodes<A>]) -> Option<usize>
+    ensures { SomeIff result (node_count levels.now < 2 ^ 64) (node_count levels.now) }
+{
+    let mut count = 0usize;
+    'levels: for level in levels {
+        count = count
+            .checked_add(level.left().len())?
+            .checked_add(level.right().len())?;
     }
+    Some(count)
+}
 
-    // The level of a number and the levels above it, and one without nodes above the top.
-    pub(super) fn from_level(&self, level: usize) -> Self
-        ensures left { left_at result 0 ≡ left_at self.now level }
-        ensures right { right_at result 0 ≡ right_at self.now level }
-    {
-        let mut rest = self.again();
-        'below: for _ in 0..level.min(self.counts.len()) {
-            rest = rest.above();
-        }
-        rest
+// The left nodes of the level of a number, and none where there is no such level.
+pub(super) fn left_at<A: Allocator>(levels: &[LevelNodes<A>], level: usize) -> &[Node]
+    ensures { result.now ≡ left_at levels.now level }
+{
+    match levels.get(level) {
+        Some(level) => level.left(),
+        None => &[],
     }
+}
 
-    // The top alone.
-    pub(super) fn top(&self) -> Self
-        ensures { result ≡ top_of self.now ∷ [] }
-    {
-        let mut rest = self.again();
-        'below_top: while rest.has_above() {
-            rest = rest.above();
-        }
-        rest
+// The right nodes of the level of a number, and none where there is no such level.
+pub(super) fn right_at<A: Allocator>(levels: &[LevelNodes<A>], level: usize) -> &[Node]
+    ensures { result.now ≡ right_at levels.now level }
+{
+    match levels.get(level) {
+        Some(level) => level.right(),
+        None => &[],
+    }
+}
+
+// The last level.
+pub(super) fn top<A: Allocator>(levels: &[LevelNodes<A>]) -> &LevelNodes<A>
+    requires { 0 < length levels.now }
+    ensures { result.now ≡ top_of levels.now }
+{
+    levels.last().unwrap()
+}
+
+// All levels but the last.
+pub(super) fn below_top<A: Allocator>(levels: &[LevelNodes<A>]) -> &[LevelNodes<A>]
+    ensures { result.now ≡ below_top levels.now }
+{
+    match levels {
+        [below @ .., _] => below,
+        [] => levels,
+    }
+}
+
+// The nodes of an operand's first level towards one on its right: all of the top, else the right ones.
+pub(super) fn inner<A: Allocator>(levels: &[LevelNodes<A>]) -> &[Node]
+    ensures { result.now ≡ inner_nodes (operand levels.now) }
+{
+    match levels {
+        [top] => top.left(),
+        _ => right_at(levels, 0),
+    }
+}
+
+// An operand's levels above the first, and none above the top.
+pub(super) fn above<A: Allocator>(levels: &[LevelNodes<A>]) -> &[LevelNodes<A>]
+    ensures above { operand result.now ≡ above (operand levels.now) }
+    ensures len { length result.now ≡ length levels.now - 1 }
+{
+    match levels {
+        [_, above @ ..] => above,
+        [] => levels,
     }
 }

@@ -1,25 +1,22 @@
 //! The canonical subtree of a list of chunks.
 
 ghost use Rattle.std.specs.Prelude.{◌≡◌, ◌^◌, ◌<◌, ◌≤◌, ◌↔◌, ◌⊎◌, ◌+◌, List, [], drop, length, IfOk, IfErr, IsErrOf, IfSome, IsSome, IsTrue};
-ghost use Rattle.std.specs.Cmp.Lexicographic.{pointwise};
 ghost use Rattle.xet_merkle.specs.Groups.{Node};
 ghost use Rattle.xet_merkle.specs.Roots.{total_size, IsRoot};
-ghost use Rattle.xet_merkle.specs.Levels.{Level, top_hash, hash_of_first, left_at, right_at, node_count, levels_size};
-ghost use Rattle.xet_merkle.specs.Subtree.{Subtree, IsCanonical, same_level, same_subtree};
+ghost use Rattle.xet_merkle.specs.Levels.{top_hash, hash_of_first, left_at, right_at, node_count, levels_size};
+ghost use Rattle.xet_merkle.specs.Subtree.{Subtree, IsCanonical, same_subtree};
 ghost use Rattle.xet_merkle.specs.Steps.SubtreeEquality.{same_subtree-per, same_subtree-equiv};
 ghost use Rattle.xet_merkle.specs.WellFormed.{IsWellFormed};
-ghost use Rattle.xet_merkle.specs.FlatLevels.{levels_of, IsFlat};
-ghost use Rattle.xet_merkle.specs.Steps.StoredLevels.{IsStored};
-ghost use Rattle.xet_merkle.specs.Steps.OpenLevels.{AreOperands, HasJoin, StandsFor};
+ghost use Rattle.xet_merkle.specs.Steps.Building.{IsStored};
 
 mod json;
 mod merging;
 
-use super::levels::Levels;
-use super::open_levels::OpenLevels;
+use super::collapse::collapse_chunks;
+use super::levels::{LevelNodes, copy_levels, count_nodes, left_at, right_at, top};
 use crate::aggregated_hashes::{Node, total_size};
 use crate::error::CoreError;
-use std::alloc::{Allocator, Global};
+use std::alloc::{AllocError, Allocator, Global};
 use std::marker::Model;
 use xet_hash::data_hash::MerkleHash;
 
@@ -30,10 +27,8 @@ use xet_hash::data_hash::MerkleHash;
 pub struct MerkleHashSubtree<A: Allocator = Global> {
     at_start: bool,
     at_end: bool,
-    // The left nodes of all levels by rising level, then the right nodes by falling level.
-    nodes: Vec<Node, A>,
-    // How many left and right nodes each level has.
-    counts: Vec<(usize, usize), A>,
+    // From the chunks up, one at least.
+    levels: Vec<LevelNodes<A>, A>,
     // The sum of the sizes of all nodes.
     total_size: u64,
 }
@@ -44,10 +39,10 @@ impl<A: Allocator> Model for MerkleHashSubtree<A> {
     ghost view = { λ stored. record {
       at_start = stored.at_start;
       at_end = stored.at_end;
-      levels = levels_of stored.counts.items stored.nodes.items;
+      levels = stored.levels.items;
     } };
 
-    ghost invariant = { λ stored. IsStored stored.at_start stored.at_end stored.counts.items stored.nodes.items stored.total_size };
+    ghost invariant = { λ stored. IsStored stored.at_start stored.at_end stored.levels.items stored.total_size };
 }
 
 // The hash of the first of some nodes, or the default hash.
@@ -82,9 +77,8 @@ impl<A: Allocator + Clone> MerkleHashSubtree<A> {
         let Some(size) = total_size(chunks) else {
             return Err(CoreError::SizeOverflow);
         };
-        let mut levels = OpenLevels::new(alloc.clone()?)?;
-        levels.collapse_all(alloc, chunks, at_start, at_end)?;
-        Ok(Self::from_open_levels(levels, at_start, at_end, size)?)
+        let levels = collapse_chunks(alloc, chunks, at_start, at_end)?;
+        Ok(Self::from_levels(levels, at_start, at_end, size)?)
     }
 
     /// A copy. It fails with [`CoreError::OutOfMemory`] where an allocation is refused.
@@ -92,77 +86,58 @@ impl<A: Allocator + Clone> MerkleHashSubtree<A> {
         ensures copy { IfOk result (λ copy. copy ≡ self.now) }
         ensures errors { IfErr result (λ e. e ≡ CoreError.OutOfMemory) }
     {
-        self.copy(self.nodes.allocator().clone()?)
+        Ok(self.copy(self.levels.allocator().clone()?)?)
     }
 
     // A copy in memory of `alloc`.
-    fn copy(&self, alloc: A) -> Result<Self, CoreError>
-        ensures copy { IfOk result (λ copy. copy ≡ self.now) }
-        ensures errors { IfErr result (λ e. e ≡ CoreError.OutOfMemory) }
+    fn copy(&self, alloc: A) -> Result<Self, AllocError>
+        ensures { IfOk result (λ copy. copy ≡ self.now) }
     {
-        let mut nodes = Vec::new(alloc.clone()?);
-        nodes.extend_from_slice(&self.nodes)?;
-        let mut counts = Vec::new(alloc);
-        counts.extend_from_slice(&self.counts)?;
         Ok(MerkleHashSubtree {
             at_start: self.at_start,
             at_end: self.at_end,
-            nodes,
-            counts,
+            levels: copy_levels(alloc, &self.levels)?,
             total_size: self.total_size,
-        })
-    }
-
-    // The subtree of levels that are complete: those that two operands are joined to.
-    fn from_open_levels(
-        levels: OpenLevels<A>,
-        at_start: bool,
-        at_end: bool,
-        size: u64,
-    ) -> Result<Self, CoreError>
-        requires { (xs ys : List Level) × AreOperands at_start at_end xs ys ×
-            StandsFor at_start at_end xs ys levels.counts.items levels.lefts.items levels.rights.items ×
-            (size ≡ levels_size xs + levels_size ys) }
-        ensures joined { IfOk result (λ subtree. (xs ys : List Level) →
-            StandsFor at_start at_end xs ys levels.counts.items levels.lefts.items levels.rights.items →
-            HasJoin at_start at_end xs [] ys subtree.levels) }
-        ensures start { IfOk result (λ subtree. subtree.at_start ≡ at_start) }
-        ensures end { IfOk result (λ subtree. subtree.at_end ≡ at_end) }
-        ensures size { IfOk result (λ subtree. levels_size subtree.levels ≡ size) }
-        ensures errors { IfErr result (λ e. e ≡ CoreError.OutOfMemory) }
-    {
-        let OpenLevels {
-            counts,
-            lefts,
-            mut rights,
-        } = levels;
-        let mut nodes = lefts;
-        rights.reverse();
-        nodes.extend_from_slice(&rights)?;
-        Ok(MerkleHashSubtree {
-            at_start,
-            at_end,
-            nodes,
-            counts,
-            total_size: size,
         })
     }
 }
 
 impl<A: Allocator> MerkleHashSubtree<A> {
-    // The levels, to be read one after another.
-    fn levels(&self) -> Levels
-        ensures levels { result ≡ self.now.levels }
+    // The subtree of levels that are complete. So many nodes as pass `usize::MAX` are in no memory.
+    fn from_levels(
+        levels: Vec<LevelNodes<A>, A>,
+        at_start: bool,
+        at_end: bool,
+        size: u64,
+    ) -> Result<Self, AllocError>
+        requires well_formed { IsWellFormed (record { at_start = at_start; at_end = at_end; levels = levels.items }) }
+        requires size { levels_size levels.items ≡ size }
+        ensures { IfOk result (λ subtree. subtree ≡ record { at_start = at_start; at_end = at_end; levels = levels.items }) }
+    {
+        if count_nodes(&levels).is_none() {
+            return Err(AllocError);
+        }
+        Ok(MerkleHashSubtree {
+            at_start,
+            at_end,
+            levels,
+            total_size: size,
+        })
+    }
+
+    // The levels from the chunks up.
+    fn levels(&self) -> &[LevelNodes<A>]
+        ensures levels { result.now ≡ self.now.levels }
         ensures well_formed { IsWellFormed self.now }
     {
-        Levels::new(&self.counts, &self.nodes)
+        &self.levels
     }
 
     /// How many nodes are kept.
     pub fn num_nodes(&self) -> usize
         ensures { result ≡ node_count self.now.levels }
     {
-        self.nodes.len()
+        count_nodes(&self.levels).unwrap()
     }
 
     /// How many levels there are, at least one.
@@ -171,7 +146,7 @@ impl<A: Allocator> MerkleHashSubtree<A> {
         ensures some { 0 < result }
         ensures well_formed { IsWellFormed self.now }
     {
-        self.counts.len()
+        self.levels.len()
     }
 
     /// Whether no node is kept, as of the empty list and of no other.
@@ -179,21 +154,21 @@ impl<A: Allocator> MerkleHashSubtree<A> {
         ensures nodes { IsTrue result ↔ (node_count self.now.levels ≡ 0) }
         ensures chunks { (chunks : List Node) → IsCanonical self.now chunks → IsTrue result ↔ (length chunks ≡ 0) }
     {
-        self.nodes.is_empty()
+        self.num_nodes() == 0
     }
 
     /// The left nodes of a level, counted from the chunks up, and none where there is no such level.
     pub fn left(&self, level: usize) -> &[Node]
         ensures { result.now ≡ left_at self.now.levels level }
     {
-        self.levels().from_level(level).left()
+        left_at(&self.levels, level)
     }
 
     /// The right nodes of a level, counted from the chunks up, and none where there is no such level.
     pub fn right(&self, level: usize) -> &[Node]
         ensures { result.now ≡ right_at self.now.levels level }
     {
-        self.levels().from_level(level).right()
+        right_at(&self.levels, level)
     }
 
     /// Whether the list's start is marked.
@@ -228,22 +203,8 @@ impl<A: Allocator> MerkleHashSubtree<A> {
         if !(self.at_start && self.at_end) {
             return None;
         }
-        Some(first_hash(self.levels().top().left()))
+        Some(first_hash(top(self.levels()).left()))
     }
-}
-
-// Whether counts and nodes are those of the same levels.
-fn same_levels(
-    counts: &[(usize, usize)],
-    nodes: &[Node],
-    other_counts: &[(usize, usize)],
-    other_nodes: &[Node],
-) -> bool
-    requires flat { IsFlat counts.now nodes.now (levels_of counts.now nodes.now) }
-    requires other_flat { IsFlat other_counts.now other_nodes.now (levels_of other_counts.now other_nodes.now) }
-    ensures { result ≡ pointwise same_level (levels_of counts.now nodes.now) (levels_of other_counts.now other_nodes.now) }
-{
-    counts == other_counts && nodes == other_nodes
 }
 
 impl<A: Allocator> PartialEq for MerkleHashSubtree<A> {
@@ -254,7 +215,7 @@ impl<A: Allocator> PartialEq for MerkleHashSubtree<A> {
     fn eq(&self, other: &Self) -> bool {
         self.at_start == other.at_start
             && self.at_end == other.at_end
-            && same_levels(&self.counts, &self.nodes, &other.counts, &other.nodes)
+            && self.levels == other.levels
     }
 }
 

@@ -13,7 +13,7 @@ groups-preserved g c =
       rw c.split_at.ensures.back (let fits = c.groups.invariant.1 in omega (arith, total_size-drop-le n rest)),
     )
 
-pub returns-clause-parents : goal.returns-clause-parents
-returns-clause-parents g c =
+pub returns : goal.returns
+returns g c =
     let none : length c.groups.rest.now ≡ 0 = search (rules, tests) in
     MadeSoFar-all parent c.args.nodes.now c.groups.made.items c.groups.rest.now (nil_from_length c.groups.rest.now none) c.groups.invariant.0

@@ -1,6 +1,6 @@
 //! The JSON form of a subtree.
 
-ghost use Rattle.std.specs.Prelude.{◌≡◌, ℕ, ◌^◌, ◌<◌, ◌⊎◌, ◌↔◌, map, IfOk, IfErr, SomeIff, IsTrue};
+ghost use Rattle.std.specs.Prelude.{◌≡◌, ℕ, ◌^◌, ◌<◌, ◌⊎◌, ◌↔◌, ◌++◌, map, length, IfOk, IfErr, SomeIff, IsTrue};
 ghost use Rattle.std.specs.List.{AllByRecursion};
 ghost use Rattle.serde_json.specs.Data.{array};
 ghost use Rattle.serde_json.specs.View.{view, items_of};
@@ -8,7 +8,7 @@ ghost use Rattle.xet_hash.specs.Hash.{IsHash};
 ghost use Rattle.xet_merkle.specs.Groups.{Node};
 ghost use Rattle.xet_merkle.specs.Levels.{levels_size};
 ghost use Rattle.xet_merkle.specs.WellFormed.{IsWellFormed};
-ghost use Rattle.xet_merkle.specs.FlatLevels.{IsFlat};
+ghost use Rattle.xet_merkle.specs.FlatLevels.{IsFlat, count_of, flat_nodes, levels_of};
 ghost use Rattle.xet_merkle.specs.JsonRules.{count_sum, Reads, BreaksValueRule, BreaksRule};
 ghost use Rattle.xet_merkle.specs.declared.error.CoreError.TheVariants.{InvalidJson};
 ghost use Rattle.xet_merkle.specs.SubtreeJson.{node_json, counts_json, subtree_object, subtree_json};
@@ -18,30 +18,60 @@ use crate::aggregated_hashes::{Node, total_size};
 use crate::error::CoreError;
 use crate::merkle_hash_subtree::json_parts::{Parts, read_parts};
 use crate::merkle_hash_subtree::level_rules::broken_rule;
-use crate::merkle_hash_subtree::levels::Levels;
+use crate::merkle_hash_subtree::levels::LevelNodes;
 use serde_json::{Value, json};
 use std::alloc::{AllocError, Allocator, Global};
 use xet_hash::laws::{hex_text_is_lowercase_digits, hex_text_tells_hashes_apart};
 
-// The counts of all levels.
-fn counts_to_json(alloc: Global, counts: &[(usize, usize)]) -> Result<Value, AllocError>
-    ensures { IfOk result (λ value. view value ≡ array (items_of (map counts_json counts.now))) }
+// How many left and right nodes a level has.
+fn count_to_json<A: Allocator>(alloc: Global, level: &LevelNodes<A>) -> Result<Value, AllocError>
+    ensures { IfOk result (λ value. view value ≡ counts_json (count_of level.now)) }
+{
+    json!(in alloc; [level.left().len(), level.right().len()])
+}
+
+// The numbers of left and right nodes of all levels.
+fn counts_to_json<A: Allocator>(
+    alloc: Global,
+    levels: &[LevelNodes<A>],
+) -> Result<Value, AllocError>
+    ensures { IfOk result (λ value. view value ≡ array (items_of (map counts_json (map count_of levels.now)))) }
 {
     let mut values = Vec::new(alloc);
-    'counts: for (left, right) in counts {
-        values.push(json!(in alloc; [*left, *right])?)?;
+    'counts: for level in levels {
+        values.push(count_to_json(alloc, level)?)?;
     }
     Ok(Value::Array(values))
 }
 
-// The nodes, each with the hex text of its hash and its size.
-fn nodes_to_json(alloc: Global, nodes: &[Node]) -> Result<Value, AllocError>
-    ensures json { IfOk result (λ value. view value ≡ array (items_of (map node_json nodes.now))) }
+// Values with those of some nodes behind them, each with the hex text of its hash and its size.
+fn with_nodes(alloc: Global, values: Vec<Value>, nodes: &[Node]) -> Result<Vec<Value>, AllocError>
+    ensures json { IfOk result (λ all. map view all.items ≡ map view values.items ++ map node_json nodes.now) }
     ensures hashes { IfOk result (λ _. AllByRecursion (λ node. IsHash node.0) nodes.now) }
 {
-    let mut values = Vec::new(alloc);
+    let mut values = values;
     'nodes: for (hash, size) in nodes {
         values.push(json!(in alloc; {"hash": hash.to_json(alloc)?, "size": *size})?)?;
+    }
+    Ok(values)
+}
+
+// The nodes of all levels: the left ones by rising level, then the right ones by falling level.
+fn nodes_to_json<A: Allocator>(
+    alloc: Global,
+    levels: &[LevelNodes<A>],
+) -> Result<Value, AllocError>
+    ensures json { IfOk result (λ value. view value ≡ array (items_of (map node_json (flat_nodes levels.now)))) }
+    ensures hashes { IfOk result (λ _. AllByRecursion (λ node. IsHash node.0) (flat_nodes levels.now)) }
+{
+    let mut values = Vec::new(alloc);
+    'lefts: for level in levels {
+        values = with_nodes(alloc, values, level.left())?;
+    }
+    let mut rest = levels;
+    'rights: while let [below @ .., level] = rest {
+        values = with_nodes(alloc, values, level.right())?;
+        rest = below;
     }
     Ok(Value::Array(values))
 }
@@ -77,6 +107,26 @@ fn add_up(counts: &[(usize, usize)], len: usize) -> bool
     count_sum(counts) == Some(len)
 }
 
+// The levels that counts cut out of a list of nodes.
+fn cut_levels<A: Allocator + Clone>(
+    alloc: A,
+    counts: &[(usize, usize)],
+    nodes: &[Node],
+) -> Result<Vec<LevelNodes<A>, A>, AllocError>
+    requires { count_sum counts.now ≡ length nodes.now }
+    ensures { IfOk result (λ levels. levels.items ≡ levels_of counts.now nodes.now) }
+{
+    let mut levels = Vec::with_capacity(alloc.clone()?, counts.len())?;
+    let mut rest = nodes;
+    'levels: for count in counts {
+        let (left, behind) = rest.split_at(count.0);
+        let (inner, right) = behind.split_at(behind.len() - count.1);
+        levels.push(LevelNodes::copied(alloc.clone()?, left, right)?)?;
+        rest = inner;
+    }
+    Ok(levels)
+}
+
 impl<A: Allocator + Clone> MerkleHashSubtree<A> {
     /// The subtree that a JSON value says, in the form that [`Self::to_json`] gives. Hex digits of either case are
     /// read, and members other than the four are ignored; a number with a fraction or an exponent is no whole
@@ -110,18 +160,19 @@ impl<A: Allocator + Clone> MerkleHashSubtree<A> {
     {
         // A law of hex texts, for the clause `reads`.
         hex_text_tells_hashes_apart();
-        Ok(Self::from_parts(read_parts(alloc, value)?)?)
+        let parts = read_parts(alloc.clone()?, value)?;
+        Ok(Self::from_parts(alloc, parts)?)
     }
 
     // The subtree of parts that keep the rules 5 to 13.
-    fn from_parts(parts: Parts<A>) -> Result<Self, CoreError>
+    fn from_parts(alloc: A, parts: Parts<A>) -> Result<Self, CoreError>
         ensures start { IfOk result (λ subtree. subtree.at_start ≡ parts.at_start) }
         ensures end { IfOk result (λ subtree. subtree.at_end ≡ parts.at_end) }
         ensures flat { IfOk result (λ subtree. IsFlat parts.counts.items parts.nodes.items subtree.levels) }
         ensures well_formed { IfOk result IsWellFormed }
         ensures fits { IfOk result (λ subtree. levels_size subtree.levels < 2 ^ 64) }
-        ensures errors { IfErr result (λ e. (rule : ℕ) × (e ≡ InvalidJson rule)
-            × BreaksValueRule parts.at_start parts.at_end parts.counts.items parts.nodes.items rule) }
+        ensures errors { IfErr result (λ e. (e ≡ CoreError.OutOfMemory) ⊎ ((rule : ℕ) × (e ≡ InvalidJson rule)
+            × BreaksValueRule parts.at_start parts.at_end parts.counts.items parts.nodes.items rule)) }
     {
         let Parts {
             at_start,
@@ -138,16 +189,11 @@ impl<A: Allocator + Clone> MerkleHashSubtree<A> {
         let Some(total_size) = total_size(&nodes) else {
             return Err(CoreError::InvalidJson(7));
         };
-        if let Some(rule) = broken_rule(&Levels::new(&counts, &nodes), at_start, at_end) {
+        let levels = cut_levels(alloc, &counts, &nodes)?;
+        if let Some(rule) = broken_rule(&levels, at_start, at_end) {
             return Err(CoreError::InvalidJson(rule));
         }
-        Ok(MerkleHashSubtree {
-            at_start,
-            at_end,
-            nodes,
-            counts,
-            total_size,
-        })
+        Ok(Self::from_levels(levels, at_start, at_end, total_size)?)
     }
 }
 
@@ -163,8 +209,8 @@ impl<A: Allocator> MerkleHashSubtree<A> {
         ensures says { IfOk result (λ value. Reads (view value) self.now) }
         ensures errors { IfErr result (λ e. e ≡ CoreError.OutOfMemory) }
     {
-        let levels = counts_to_json(alloc, &self.counts)?;
-        let nodes = nodes_to_json(alloc, &self.nodes)?;
+        let levels = counts_to_json(alloc, self.levels())?;
+        let nodes = nodes_to_json(alloc, self.levels())?;
         // Laws of hex texts, for the clause `says`.
         hex_text_is_lowercase_digits();
         hex_text_tells_hashes_apart();

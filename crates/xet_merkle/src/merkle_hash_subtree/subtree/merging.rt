@@ -62,15 +62,10 @@ impl<A: Allocator + Clone> MerkleHashSubtree<A> {
         let Some(size) = self.total_size().checked_add(other.total_size()) else {
             return Err(CoreError::SizeOverflow);
         };
-        let alloc = self.nodes.allocator().clone()?;
-        let levels = join(
-            alloc,
-            self.levels(),
-            other.levels(),
-            self.at_start(),
-            other.at_end(),
-        )?;
-        *self = Self::from_open_levels(levels, self.at_start(), other.at_end(), size)?;
+        let (at_start, at_end) = (self.at_start(), other.at_end());
+        let alloc = self.levels.allocator().clone()?;
+        let levels = join(alloc, self.levels(), other.levels(), at_start, at_end)?;
+        *self = Self::from_levels(levels, at_start, at_end, size)?;
         Ok(())
     }
 
@@ -103,7 +98,7 @@ impl<A: Allocator + Clone> MerkleHashSubtree<A> {
         }
         match ranges {
             [] => Self::from_chunks(alloc, true, &[], true),
-            [range] => range.copy(alloc),
+            [range] => Ok(range.copy(alloc)?),
             [first, others @ ..] => Ok(first.copy(alloc)?.followed_by(others)?),
         }
     }

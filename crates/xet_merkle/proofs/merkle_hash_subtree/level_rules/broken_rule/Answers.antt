@@ -5,25 +5,25 @@ use Rattle.xet_merkle.proofs.Json.LevelRules.{below_9, below_10, below_11, below
 use Rattle.xet_merkle.proofs.merkle_hash_subtree.level_rules.broken_rule.Goals as goal
 
 pub returns-then-not-keep_rule_8-clause-broken : goal.returns-then-not-keep_rule_8-clause-broken
-returns-then-not-keep_rule_8-clause-broken c = at_8 (λ h. false≢true (c.if-not-keep_rule_8.ensures.1 h))
+returns-then-not-keep_rule_8-clause-broken g c = at_8 (λ h. false≢true (c.if-not-keep_rule_8.ensures.1 h))
 
 pub returns-then-not-keep_rule_9-clause-broken : goal.returns-then-not-keep_rule_9-clause-broken
-returns-then-not-keep_rule_9-clause-broken c = at_9 (below_9 _ _ _ (c.if-not-keep_rule_8.ensures.0 refl)) (λ h. false≢true (c.if-not-keep_rule_9.ensures.1 h))
+returns-then-not-keep_rule_9-clause-broken g c = at_9 (below_9 _ _ _ (c.if-not-keep_rule_8.ensures.0 refl)) (λ h. false≢true (c.if-not-keep_rule_9.ensures.1 h))
 
 pub returns-then-not-keep_rule_10-clause-broken : goal.returns-then-not-keep_rule_10-clause-broken
-returns-then-not-keep_rule_10-clause-broken c = at_10 (below_10 _ _ _ (c.if-not-keep_rule_8.ensures.0 refl) (c.if-not-keep_rule_9.ensures.0 refl)) (λ h. false≢true (c.if-not-keep_rule_10.ensures.1 h))
+returns-then-not-keep_rule_10-clause-broken g c = at_10 (below_10 _ _ _ (c.if-not-keep_rule_8.ensures.0 refl) (c.if-not-keep_rule_9.ensures.0 refl)) (λ h. false≢true (c.if-not-keep_rule_10.ensures.1 h))
 
 pub returns-then-not-keep_rule_11-clause-broken : goal.returns-then-not-keep_rule_11-clause-broken
-returns-then-not-keep_rule_11-clause-broken c = at_11 (below_11 _ _ _ (c.if-not-keep_rule_8.ensures.0 refl) (c.if-not-keep_rule_9.ensures.0 refl) (c.if-not-keep_rule_10.ensures.0 refl)) (λ h. false≢true (c.if-not-keep_rule_11.ensures.1 h))
+returns-then-not-keep_rule_11-clause-broken g c = at_11 (below_11 _ _ _ (c.if-not-keep_rule_8.ensures.0 refl) (c.if-not-keep_rule_9.ensures.0 refl) (c.if-not-keep_rule_10.ensures.0 refl)) (λ h. false≢true (c.if-not-keep_rule_11.ensures.1 h))
 
 pub returns-then-not-keep_rule_12-clause-broken : goal.returns-then-not-keep_rule_12-clause-broken
-returns-then-not-keep_rule_12-clause-broken c = at_12 (below_12 _ _ _ (c.if-not-keep_rule_8.ensures.0 refl) (c.if-not-keep_rule_9.ensures.0 refl) (c.if-not-keep_rule_10.ensures.0 refl) (c.if-not-keep_rule_11.ensures.0 refl)) (λ h. false≢true (c.if-not-keep_rule_12.ensures.1 h))
+returns-then-not-keep_rule_12-clause-broken g c = at_12 (below_12 _ _ _ (c.if-not-keep_rule_8.ensures.0 refl) (c.if-not-keep_rule_9.ensures.0 refl) (c.if-not-keep_rule_10.ensures.0 refl) (c.if-not-keep_rule_11.ensures.0 refl)) (λ h. false≢true (c.if-not-keep_rule_12.ensures.1 h))
 
 pub returns-then-not-keep_rule_13-clause-broken : goal.returns-then-not-keep_rule_13-clause-broken
-returns-then-not-keep_rule_13-clause-broken c = at_13 (below_13 _ _ _ (c.if-not-keep_rule_8.ensures.0 refl) (c.if-not-keep_rule_9.ensures.0 refl) (c.if-not-keep_rule_10.ensures.0 refl) (c.if-not-keep_rule_11.ensures.0 refl) (c.if-not-keep_rule_12.ensures.0 refl)) (λ h. false≢true (c.if-not-keep_rule_13.ensures.1 h))
+returns-then-not-keep_rule_13-clause-broken g c = at_13 (below_13 _ _ _ (c.if-not-keep_rule_8.ensures.0 refl) (c.if-not-keep_rule_9.ensures.0 refl) (c.if-not-keep_rule_10.ensures.0 refl) (c.if-not-keep_rule_11.ensures.0 refl) (c.if-not-keep_rule_12.ensures.0 refl)) (λ h. false≢true (c.if-not-keep_rule_13.ensures.1 h))
 
 pub returns-else-not-keep_rule_13-clause-kept : goal.returns-else-not-keep_rule_13-clause-kept
-returns-else-not-keep_rule_13-clause-kept c =
+returns-else-not-keep_rule_13-clause-kept g c =
     record {
       some_level = c.requires;
       rule_8 = c.if-not-keep_rule_8.ensures.0 refl;

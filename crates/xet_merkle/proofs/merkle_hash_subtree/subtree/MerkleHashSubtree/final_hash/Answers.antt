@@ -1,19 +1,18 @@
-use Rattle.std.proofs.Common.{◌≡◌, List, [], ◌∷◌, true, ap, subst, ◌∙◌, rules, sym}
+use Rattle.std.proofs.Common.{◌≡◌, List, [], true, sym, ap, subst, ◌∙◌, rules}
 use Rattle.std.proofs.lemmas.Bool.{false≢true}
 use Rattle.xet_merkle.specs.Roots.{IsRoot}
 use Rattle.xet_merkle.specs.Levels.{Level, hash_of_first, top_of}
 use Rattle.xet_merkle.specs.Subtree.{Subtree}
-use Rattle.xet_merkle.proofs.Json.LevelRules.{top_nodes-left}
+use Rattle.xet_merkle.proofs.Levels.Reading.{top_nodes-left}
 use Rattle.xet_merkle.proofs.Canonical.FinalHash.{top_is_root}
 use Rattle.xet_merkle.proofs.merkle_hash_subtree.subtree.MerkleHashSubtree.final_hash.Goals as goal
 use Rattle.xet_merkle.proofs.merkle_hash_subtree.subtree.MerkleHashSubtree.final_hash.Goals.{then-self, else-self}
 
 pub returns-clause-hash : goal.returns-clause-hash
 returns-clause-hash g c =
-    let levels = c.args.self.now.levels in
-    let no_right = c.levels.ensures.well_formed.rule_8.0 in
-    let top = c.top.ensures ∙ ap (λ (l : List Level). top_of l ∷ []) c.levels.ensures.levels in
-    c.first_hash.ensures ∙ ap hash_of_first (top_nodes-left levels c.top.result c.left.result.now top c.left.ensures no_right)
+    let top = c.top.ensures ∙ ap top_of c.levels.ensures.levels in
+    c.first_hash.ensures
+    ∙ ap hash_of_first (c.left.ensures ∙ ap (λ (level : Level). level.left) top ∙ top_nodes-left c.args.self.now.levels c.levels.ensures.well_formed.rule_8.0)
 
 pub returns-clause-root : goal.returns-clause-root
 returns-clause-root g c = λ chunks h.

@@ -1,22 +1,15 @@
-use Rattle.std.proofs.Common.{[], ◌∷◌, arith}
-use Rattle.xet_merkle.specs.Levels.{no_level}
-use Rattle.xet_merkle.specs.Steps.OpenLevels.{chunk_level}
-use Rattle.xet_merkle.proofs.Merging.LevelByLevel.{StandsBelow-chunks, chunks_are_operands, chunks_canonical}
+use Rattle.std.proofs.Common.{sym, ap, ◌∙◌, rules}
+use Rattle.xet_merkle.specs.Levels.{levels_size}
+use Rattle.xet_merkle.specs.Subtree.{Subtree}
+use Rattle.xet_merkle.proofs.Canonical.Collapsing.{levels_size-canonical}
+use Rattle.xet_merkle.proofs.Merging.Kept.{canonical_well_formed}
 use Rattle.xet_merkle.proofs.merkle_hash_subtree.subtree.MerkleHashSubtree.from_chunks.Goals as goal
 
-pub from_open_levels-requires : goal.from_open_levels-requires
-from_open_levels-requires g c =
-    let stands = c.in_ok-collapse_all.ensures.stands (chunk_level c.args.chunks.now) (no_level ∷ [])
-    (StandsBelow-chunks c.args.at_start c.args.at_end c.args.chunks.now _ _ _ c.in_ok-levels.ensures.none) in
-    let size = c.in-Some.ensures.total in
-    (chunk_level c.args.chunks.now, no_level ∷ [], chunks_are_operands c.args.at_start c.args.at_end c.args.chunks.now, stands, omega arith)
+pub from_levels-requires-clause-well_formed : goal.from_levels-requires-clause-well_formed
+from_levels-requires-clause-well_formed g c = canonical_well_formed c.args.at_start c.args.at_end c.in_ok-levels.ensures.1
 
-pub returns-clause-canonical : goal.returns-clause-canonical
-returns-clause-canonical g c =
-    let stands = c.in_ok-collapse_all.ensures.stands (chunk_level c.args.chunks.now) (no_level ∷ [])
-    (StandsBelow-chunks c.args.at_start c.args.at_end c.args.chunks.now _ _ _ c.in_ok-levels.ensures.none) in
-    chunks_canonical c.args.at_start c.args.at_end c.in_ok-from_open_levels.field-0 c.args.chunks.now c.in_ok-from_open_levels.ensures.start c.in_ok-from_open_levels.ensures.end
-    (c.in_ok-from_open_levels.ensures.joined (chunk_level c.args.chunks.now) (no_level ∷ []) stands)
+pub from_levels-requires-clause-size : goal.from_levels-requires-clause-size
+from_levels-requires-clause-size g c = levels_size-canonical c.in_ok-levels.ensures.1 ∙ sym c.in-Some.ensures.total.1
 
 pub returns-clause-size : goal.returns-clause-size
-returns-clause-size g c = let size = c.in_ok-from_open_levels.ensures.size in let total = c.in-Some.ensures.total in omega arith
+returns-clause-size g c = ap (λ (s : Subtree). levels_size s.levels) c.in_ok-from_levels.ensures ∙ levels_size-canonical c.in_ok-levels.ensures.1

@@ -6,24 +6,25 @@ use Rattle.xet_merkle.proofs.Json.Reading.{passed_on}
 use Rattle.xet_merkle.proofs.Json.OneMeaning.{Reads-parts}
 use Rattle.xet_merkle.proofs.merkle_hash_subtree.subtree.MerkleHashSubtree.from_json.Goals as goal
 
-pub returns-in_err-read_parts-clause-errors : goal.returns-in_err-read_parts-clause-errors
-returns-in_err-read_parts-clause-errors g c = passed_on _ c.from_residual.result c.in_err-read_parts.field-0.0 c.from_residual.ensures.1
-    (elim c.in_err-read_parts.ensures.errors [
+pub returns-in_err-parts-clause-errors : goal.returns-in_err-parts-clause-errors
+returns-in_err-parts-clause-errors g c = passed_on _ c.from_residual-in_err-parts.result c.in_err-parts.field-0.0 c.from_residual-in_err-parts.ensures.1
+    (elim c.in_err-parts.ensures.errors [
       | inl memory ↦ inl memory
       | inr broken ↦ inr (broken.0, broken.1, of_parts broken.2)
     ])
 
 pub returns-in_err-from_parts-clause-errors : goal.returns-in_err-from_parts-clause-errors
-returns-in_err-from_parts-clause-errors g c =
-    let broken = c.in_err-from_parts.ensures.errors in
-    passed_on _ c.from_residual-in_err-from_parts.result c.in_err-from_parts.field-0.0 c.from_residual-in_err-from_parts.ensures.1
-    (inr (broken.0, broken.1, of_value c.in_ok-read_parts.ensures.parts broken.2))
+returns-in_err-from_parts-clause-errors g c = passed_on _ c.from_residual-in_err-from_parts.result c.in_err-from_parts.field-0.0 c.from_residual-in_err-from_parts.ensures.1
+    (elim c.in_err-from_parts.ensures.errors [
+      | inl memory ↦ inl memory
+      | inr broken ↦ inr (broken.0, broken.1, of_value c.in_ok-parts.ensures.parts broken.2)
+    ])
 
 pub returns-clause-reads : goal.returns-clause-reads
 returns-clause-reads g c =
     let json = view c.args.value.now in
-    let said = c.in_ok-read_parts.field-0 in
+    let said = c.in_ok-parts.parts in
     let subtree = c.in_ok-from_parts.field-0 in
-    let from_start = subst (λ (b : Bool). ReadsParts json b said.at_end said.counts.items said.nodes.items) (sym c.in_ok-from_parts.ensures.start) c.in_ok-read_parts.ensures.parts in
+    let from_start = subst (λ (b : Bool). ReadsParts json b said.at_end said.counts.items said.nodes.items) (sym c.in_ok-from_parts.ensures.start) c.in_ok-parts.ensures.parts in
     let parts = subst (λ (b : Bool). ReadsParts json subtree.at_start b said.counts.items said.nodes.items) (sym c.in_ok-from_parts.ensures.end) from_start in
     Reads-parts c.hex_text_tells_hashes_apart.ensures json subtree _ _ parts c.in_ok-from_parts.ensures.flat c.in_ok-from_parts.ensures.well_formed c.in_ok-from_parts.ensures.fits

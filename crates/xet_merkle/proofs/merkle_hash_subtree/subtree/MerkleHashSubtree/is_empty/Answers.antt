@@ -1,17 +1,12 @@
-use Rattle.std.proofs.Common.{◌≡◌, length, ap, ◌∙◌, arith}
+use Rattle.std.proofs.Common.{◌≡◌, ◌↔◌, IsTrue, length, arith}
 use Rattle.std.proofs.lemmas.Bool.Decides.{nat_tests}
 use Rattle.xet_merkle.specs.Roots.{parent}
 use Rattle.xet_merkle.specs.Levels.{node_count}
-use Rattle.xet_merkle.specs.Subtree.{Subtree}
 use Rattle.xet_merkle.proofs.Canonical.Bounds.{nodes_of_none}
-use Rattle.xet_merkle.proofs.Levels.Stored.{stored_nodes}
 use Rattle.xet_merkle.proofs.merkle_hash_subtree.subtree.MerkleHashSubtree.is_empty.Goals as goal
 
 pub returns-clause-nodes : goal.returns-clause-nodes
-returns-clause-nodes g c =
-    let count : length c.self.inside.nodes.items ≡ node_count c.args.self.now.levels =
-    stored_nodes _ _ _ _ _ c.self.invariant ∙ ap (λ (s : Subtree). node_count s.levels) c.self.view_is in
-    grind (arith, nat_tests, c.is_empty.ensures)
+returns-clause-nodes g c = grind (arith, nat_tests, c.num_nodes.ensures)
 
 pub returns-clause-chunks : goal.returns-clause-chunks
 returns-clause-chunks g c = λ chunks canonical.

@@ -1,0 +1,46 @@
+use Rattle.std.proofs.Common.{◌≡◌, ℕ, ◌+◌, ◌<◌, ◌≤◌, ◌^◌, Option, None, List, length, get_or, take, sym, ap, subst, ◌∙◌, arith, rules}
+use Rattle.std.specs.Prelude.{SomeIff}
+use Rattle.xet_merkle.specs.Levels.{Level, node_count}
+use Rattle.xet_merkle.proofs.Levels.Reading.{node_count-next, node_count-take}
+use Rattle.xet_merkle.proofs.merkle_hash_subtree.levels.count_nodes.Goals as goal
+
+refused : (levels : List Level) (result : Option ℕ) → result ≡ None → 2 ^ 64 ≤ node_count levels → SomeIff result (node_count levels < 2 ^ 64) (node_count levels)
+refused levels result none past = subst (λ (r : Option ℕ). SomeIff r (node_count levels < 2 ^ 64) (node_count levels)) (sym none) (λ few. omega arith)
+
+pub returns-in_err-checked_add : goal.returns-in_err-checked_add
+returns-in_err-checked_add g c =
+    let levels = c.args.levels.now in
+    let i = c.levels.level-index in
+    let level = c.level-item.result in
+    let next = node_count-next levels i level c.levels-test.true in
+    let most = node_count-take levels (i + 1) in
+    let left = ap (λ (l : Level). length l.left) c.level-item.is in
+    let past : 2 ^ 64 ≤ c.levels.count + length level.left = search rules in
+    let so_far = c.levels.invariant.0 in
+    refused levels c.from_residual.result (search rules) (omega arith)
+
+pub returns-in_err-count : goal.returns-in_err-count
+returns-in_err-count g c =
+    let levels = c.args.levels.now in
+    let i = c.levels.level-index in
+    let level = c.level-item.result in
+    let next = node_count-next levels i level c.levels-test.true in
+    let most = node_count-take levels (i + 1) in
+    let left = ap (λ (l : Level). length l.left) c.level-item.is in
+    let right = ap (λ (l : Level). length l.right) c.level-item.is in
+    let past : 2 ^ 64 ≤ (c.levels.count + length level.left) + length level.right = search rules in
+    let so_far = c.levels.invariant.0 in
+    refused levels c.from_residual-in_err-count.result (search rules) (omega arith)
+
+pub levels-preserved : goal.levels-preserved
+levels-preserved g c =
+    let levels = c.args.levels.now in
+    let i = c.levels.level-index in
+    let level = c.level-item.result in
+    let next = node_count-next levels i level c.levels-test.true in
+    let left = ap (λ (l : Level). length l.left) c.level-item.is in
+    let right = ap (λ (l : Level). length l.right) c.level-item.is in
+    let count : c.in_ok-count.count ≡ (c.levels.count + length level.left) + length level.right = search rules in
+    let few : c.in_ok-count.count < 2 ^ 64 = search rules in
+    let so_far = c.levels.invariant.0 in
+    (omega arith, few)
