@@ -1,7 +1,6 @@
 -- The canonical subtree of a list of nodes (module `merklehash::merkle_hash_subtree` of the crate
 -- `xet-core-structures`).
 use Rattle.std.specs.Prelude.{◌≡◌, ℕ, ◌+◌, ◌≤◌, Bool, true, false, List, [], ◌∷◌, ◌++◌, length, map}
-use Rattle.xet_hash.specs.Hash.{default_hash}
 use Rattle.xet_merkle.specs.Groups.{Node, Groups}
 use Rattle.xet_merkle.specs.StablePoints.{IsFirstStable, IsLastStable}
 use Rattle.xet_merkle.specs.Levels.{Level}

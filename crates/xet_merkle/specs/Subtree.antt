@@ -1,10 +1,10 @@
 -- A subtree as contracts see it (module `merklehash::merkle_hash_subtree` of the crate
 -- `xet-core-structures`): its marks, and what it keeps of each level, from the chunks up.
-use Rattle.std.specs.Prelude.{ℕ, ◌+◌, zero, suc, Bool, ◌&&◌, nat_eq, List, [], ◌∷◌, length}
+use Rattle.std.specs.Prelude.{ℕ, Bool, ◌&&◌, nat_eq, List}
 use mathlib.Core.Bool.{beq}
 use Rattle.std.specs.Cmp.Lexicographic.{pointwise}
 use Rattle.xet_merkle.specs.Groups.{Node}
-use Rattle.xet_merkle.specs.Roots.{total_size, parent}
+use Rattle.xet_merkle.specs.Roots.{parent}
 use Rattle.xet_merkle.specs.Levels.{Level}
 use Rattle.xet_merkle.specs.Canonical.{IsCanonicalBy}
 

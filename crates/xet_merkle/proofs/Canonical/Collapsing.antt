@@ -63,7 +63,7 @@ module _ (at_start at_end : Bool) where
     stand_more levels nodes left middle right parents h split made =
         let level : Level = record { left = left; right = right } in
         λ top canonical.
-            let above : IsCanonicalBy parent at_start at_end (map parent made.0) top canonical.0 =
-            subst (λ (l : List Node). IsCanonicalBy parent at_start at_end l top canonical.0) made.2 canonical.1 in
-            subst (HasCanonical at_start at_end all) (sym (append_assoc levels (level ∷ []) top))
-            (h (level ∷ top) (length made.0 + canonical.0, collapsed split made.1 above))
+        let above : IsCanonicalBy parent at_start at_end (map parent made.0) top canonical.0 =
+        subst (λ (l : List Node). IsCanonicalBy parent at_start at_end l top canonical.0) made.2 canonical.1 in
+        subst (HasCanonical at_start at_end all) (sym (append_assoc levels (level ∷ []) top))
+        (h (level ∷ top) (length made.0 + canonical.0, collapsed split made.1 above))

@@ -8,7 +8,7 @@ use Rattle.xet_merkle.specs.StablePoints.{NoCut, EndsStable, BeginsStable, NoSta
 use Rattle.xet_merkle.specs.Steps.Scan.{is_stable_gap}
 use Rattle.xet_merkle.specs.Steps.StableScan.{IsFront}
 use Rattle.xet_merkle.specs.Levels.{Level}
-use Rattle.xet_merkle.specs.WellFormed.{IsLeftSide, IsRightSide, Rule8, Rule9, Rule10, Rule11, Rule12, Rule13, IsWellFormed}
+use Rattle.xet_merkle.specs.WellFormed.{IsLeftSide, IsRightSide, Rule8, Rule9, Rule10, Rule11, Rule12, IsWellFormed}
 use Rattle.xet_merkle.specs.LevelRules.{KeepsBelow, BreaksLevelRule}
 use Rattle.xet_merkle.specs.LevelRules.BreaksLevelRule.{at_8, at_9, at_10, at_11, at_12, at_13}
 use Rattle.xet_merkle.proofs.StablePoints.CutPlaces.{not_among, back_of}

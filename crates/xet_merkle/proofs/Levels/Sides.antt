@@ -1,8 +1,8 @@
 -- The rules of well formed levels, told level by level as sides.
-use Rattle.std.proofs.Common.{◌≡◌, ◌<◌, ◌≤◌, Bool, true, false, List, [], ◌∷◌, length, refl, subst, arith}
+use Rattle.std.proofs.Common.{◌≡◌, ◌<◌, Bool, true, false, List, [], ◌∷◌, length, refl, subst, arith}
 use Rattle.std.specs.List.{AllByRecursion as Each}
-use Rattle.xet_merkle.specs.Levels.{Level, top_nodes, below_top, top_of}
-use Rattle.xet_merkle.specs.WellFormed.{IsLeftSide, IsRightSide, Rule8, Rule9, Rule10, Rule11, Rule12, Rule13, IsWellFormed}
+use Rattle.xet_merkle.specs.Levels.{Level, below_top, top_of}
+use Rattle.xet_merkle.specs.WellFormed.{Rule8, Rule9, Rule10, Rule11, Rule12, Rule13, IsWellFormed}
 use Rattle.xet_merkle.specs.Steps.Joining.{IsLeftUnder, IsRightUnder, HaveSides}
 
 -- ---- from rules to sides

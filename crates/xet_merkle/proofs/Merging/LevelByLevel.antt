@@ -1,11 +1,9 @@
 -- Joining level by level: what stands below what is left of the operands, and what the whole is.
-use Rattle.std.proofs.Common.{◌≡◌, ℕ, ◌+◌, ◌^◌, ◌<◌, ◌≤◌, Bool, true, false, List, [], ◌∷◌, ◌++◌, length, map, reverse, refl, sym, ap, subst, ◌∙◌, arith, append_assoc, append-nil}
-use Rattle.std.proofs.lemmas.List.{length-map}
+use Rattle.std.proofs.Common.{◌≡◌, ◌+◌, ◌<◌, ◌≤◌, Bool, true, false, List, [], ◌∷◌, ◌++◌, length, map, refl, sym, ap, subst, arith, append_assoc}
 use Rattle.xet_merkle.specs.Groups.{Node}
 use Rattle.xet_merkle.specs.Roots.{total_size, parent}
 use Rattle.xet_merkle.specs.Steps.Scan.{AreParents}
 use Rattle.xet_merkle.specs.Levels.{Level, top_nodes, levels_size}
-use Rattle.xet_merkle.specs.Canonical.{IsCanonicalBy}
 use Rattle.xet_merkle.specs.Subtree.{Subtree}
 use Rattle.xet_merkle.specs.Merging.{IsMerged}
 use Rattle.xet_merkle.specs.WellFormed.{IsWellFormed}
@@ -16,7 +14,7 @@ use Rattle.xet_merkle.specs.Steps.Building.{HasCanonical, HasJoin, AreOperands, 
 use Rattle.xet_merkle.proofs.Levels.Flat.{total_size-append}
 use Rattle.xet_merkle.proofs.Levels.Sides.{well_formed_sides, well_formed_from_sides}
 use Rattle.xet_merkle.proofs.Merging.Join.{join}
-use Rattle.xet_merkle.proofs.Merging.Kept.{joined_sides, joined_some, joined_top, joined_one, joined_size}
+use Rattle.xet_merkle.proofs.Merging.Kept.{joined_sides, joined_top, joined_one, joined_size}
 
 -- ---- lengths and sizes
 
@@ -60,10 +58,10 @@ module _ (at_start at_end : Bool) where
     join_step levels rest_x rest_y carry left middle right parents h split made =
         let level : Level = record { left = left; right = right } in
         λ top joined.
-            let rest : IsJoin parent at_start at_end (above rest_x) (map parent made.0) (above rest_y) top joined.0 =
-            subst (λ (l : List Node). IsJoin parent at_start at_end (above rest_x) l (above rest_y) top joined.0) made.2 joined.1 in
-            subst (HasJoin at_start at_end xs [] ys) (sym (append_assoc levels (level ∷ []) top))
-            (h (level ∷ top) (length made.0 + joined.0, step split made.1 rest))
+        let rest : IsJoin parent at_start at_end (above rest_x) (map parent made.0) (above rest_y) top joined.0 =
+        subst (λ (l : List Node). IsJoin parent at_start at_end (above rest_x) l (above rest_y) top joined.0) made.2 joined.1 in
+        subst (HasJoin at_start at_end xs [] ys) (sym (append_assoc levels (level ∷ []) top))
+        (h (level ∷ top) (length made.0 + joined.0, step split made.1 rest))
 
     -- where neither operand has levels above, all nodes are in sight
     pub join_top : (levels rest_x rest_y : List Level) (carry : List Node) → 0 < length rest_x → 0 < length rest_y → ¬ (1 < length rest_x) → ¬ (1 < length rest_y) →

@@ -9,7 +9,7 @@ use Rattle.xet_merkle.proofs.Lists.Places.{meets}
 use Rattle.xet_merkle.proofs.Lists.Places.Meets.{same, earlier, later}
 use Rattle.xet_merkle.proofs.StablePoints.Scan.{begins_in_front, BeginsStable-append, IsFirstStable-append}
 use Rattle.xet_merkle.proofs.Canonical.Splits.{BeginsStable-some}
-use Rattle.xet_merkle.proofs.StablePoints.CutPlaces.{not_among, back_of, EndsStable-append, swap_front, EndsWithCut-one, EndsBehind-ends}
+use Rattle.xet_merkle.proofs.StablePoints.CutPlaces.{back_of, EndsStable-append, swap_front, EndsWithCut-one, EndsBehind-ends}
 
 -- ---- beginnings and ends
 

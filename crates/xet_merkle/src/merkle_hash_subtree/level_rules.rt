@@ -101,7 +101,11 @@ fn keep_rule_13<A: Allocator>(levels: &[LevelNodes<A>], at_end: bool) -> bool
 }
 
 // The least of the rules 8 to 13 that marks and levels break.
-pub(super) fn broken_rule<A: Allocator>(levels: &[LevelNodes<A>], at_start: bool, at_end: bool) -> Option<u8>
+pub(super) fn broken_rule<A: Allocator>(
+    levels: &[LevelNodes<A>],
+    at_start: bool,
+    at_end: bool,
+) -> Option<u8>
     requires { 0 < length levels.now }
     ensures kept { IfNone result (IsWellFormed (record { at_start = at_start; at_end = at_end; levels = levels.now })) }
     ensures broken { IfSome result (BreaksLevelRule at_start at_end levels.now) }

@@ -100,9 +100,7 @@ impl<A: Allocator + Clone> MerkleHashSubtree<A> {
             total_size: self.total_size,
         })
     }
-}
 
-impl<A: Allocator> MerkleHashSubtree<A> {
     // The subtree of levels that are complete. So many nodes as pass `usize::MAX` are in no memory.
     fn from_levels(
         levels: Vec<LevelNodes<A>, A>,
@@ -124,7 +122,9 @@ impl<A: Allocator> MerkleHashSubtree<A> {
             total_size: size,
         })
     }
+}
 
+impl<A: Allocator> MerkleHashSubtree<A> {
     // The levels from the chunks up.
     fn levels(&self) -> &[LevelNodes<A>]
         ensures levels { result.now ≡ self.now.levels }

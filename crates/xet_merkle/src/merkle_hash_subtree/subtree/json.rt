@@ -57,10 +57,7 @@ fn with_nodes(alloc: Global, values: Vec<Value>, nodes: &[Node]) -> Result<Vec<V
 }
 
 // The nodes of all levels: the left ones by rising level, then the right ones by falling level.
-fn nodes_to_json<A: Allocator>(
-    alloc: Global,
-    levels: &[LevelNodes<A>],
-) -> Result<Value, AllocError>
+fn nodes_to_json<A: Allocator>(alloc: Global, levels: &[LevelNodes<A>]) -> Result<Value, AllocError>
     ensures json { IfOk result (λ value. view value ≡ array (items_of (map node_json (flat_nodes levels.now)))) }
     ensures hashes { IfOk result (λ _. AllByRecursion (λ node. IsHash node.0) (flat_nodes levels.now)) }
 {

@@ -1,6 +1,5 @@
-use Rattle.std.proofs.Common.{◌≡◌, ◌<◌, ◌^◌, List, [], ◌∷◌, ◌++◌, refl, sym, ap, subst, ◌∙◌, arith, append_assoc, append-nil}
+use Rattle.std.proofs.Common.{◌≡◌, List, [], ◌∷◌, ◌++◌, sym, ap, subst, ◌∙◌, append_assoc, append-nil}
 use Rattle.xet_merkle.specs.Groups.{Node}
-use Rattle.xet_merkle.specs.Roots.{total_size}
 use Rattle.xet_merkle.specs.Levels.{Level}
 use Rattle.xet_merkle.specs.Canonical.{IsSplit}
 use Rattle.xet_merkle.proofs.Canonical.Collapsing.{middle_fits, parents_fit, parents_fewer, stand_whole, stand_more}
@@ -46,7 +45,9 @@ returns g c =
     let top : Level = record { left = nodes; right = [] } in
     let new : c.new-2.result ≡ top = c.new-2.ensures ∙ ap (λ (l : List Node). record { left = nodes; right = l }) c.new.ensures.items in
     let none : (left middle right : List Node) → ¬ (IsSplit c.args.at_start c.args.at_end nodes left middle right) =
-    subst (λ (l : List Node). (left middle right : List Node) → ¬ (IsSplit c.args.at_start c.args.at_end l left middle right)) c.deref.ensures.value c.in_default.ensures.none in
-    (below ++ top ∷ [], stand_whole c.args.at_start c.args.at_end c.args.nodes.items below nodes c.collapsing.invariant.stand none,
+    subst (λ (l : List Node). (left middle right : List Node) → ¬ (IsSplit c.args.at_start c.args.at_end l left middle right)) c.deref.ensures.value c.in_default.ensures.none in (
+      below ++ top ∷ [],
+      stand_whole c.args.at_start c.args.at_end c.args.nodes.items below nodes c.collapsing.invariant.stand none,
       c.in_ok-pushed.ensures ∙ ap (λ (level : Level). c.collapsing.levels.items ++ level ∷ []) new
-      ∙ ap (λ (l : List Level). l ++ top ∷ []) c.collapsing.invariant.added ∙ append_assoc c.args.levels.items below (top ∷ []))
+          ∙ ap (λ (l : List Level). l ++ top ∷ []) c.collapsing.invariant.added ∙ append_assoc c.args.levels.items below (top ∷ []),
+    )

@@ -1,6 +1,4 @@
-use Rattle.std.proofs.Common.{◌≡◌, ◌<◌, ◌^◌, List, [], ◌∷◌, ◌++◌, refl, sym, ap, subst, ◌∙◌}
-use Rattle.xet_merkle.specs.Groups.{Node}
-use Rattle.xet_merkle.specs.Roots.{total_size}
+use Rattle.std.proofs.Common.{◌≡◌, List, [], ◌∷◌, ◌++◌, sym, ap, subst, ◌∙◌}
 use Rattle.xet_merkle.specs.Levels.{Level}
 use Rattle.xet_merkle.specs.Steps.Building.{HasCanonical}
 use Rattle.xet_merkle.proofs.Canonical.Collapsing.{middle_fits, parents_fit, stand_whole, stand_more}

@@ -1,8 +1,8 @@
-use Rattle.std.proofs.Common.{◌≡◌, ◌+◌, ◌-◌, ◌<◌, ◌≤◌, ◌^◌, List, [], ◌++◌, length, refl, sym, ap, subst, ◌∙◌, arith, rules}
+use Rattle.std.proofs.Common.{◌+◌, ◌<◌, ◌≤◌, ◌^◌, List, [], length, sym, ap, subst, ◌∙◌, arith, rules}
 use Rattle.xet_merkle.specs.Groups.{Node}
 use Rattle.xet_merkle.specs.Roots.{total_size}
-use Rattle.xet_merkle.specs.Levels.{Level, levels_size}
-use Rattle.xet_merkle.specs.Steps.Joining.{operand, above, between, IsJoinSplit}
+use Rattle.xet_merkle.specs.Levels.{levels_size}
+use Rattle.xet_merkle.specs.Steps.Joining.{operand, between, IsJoinSplit}
 use Rattle.xet_merkle.specs.Steps.Building.{HasCanonical, HasJoin, JoinBelow}
 use Rattle.xet_merkle.proofs.Levels.Reading.{operand-some, operand-length, operand-more}
 use Rattle.xet_merkle.proofs.Roots.Making.{total_size-are_parents}

@@ -10,7 +10,7 @@ returns-then-front-le1 g c =
     let back = c.args.back.now in
     let few : length front ≤ 1 = search rules in
     let none : ¬ (1 < length (operand front)) = λ more. let long = operand-more front more in omega arith in
-    let more : 1 < length back = elim c.requires [ | inl long ↦ absurd (omega arith) | inr long ↦ long ] in
+    let more : 1 < length back = elim c.requires [ inl long ↦ absurd (omega arith) | inr long ↦ long ] in
     let parts : c.args.seen.now ≡ c.split_at.result.0.now ++ c.split_at.result.1.now = search rules in
     let low : IsLowBefore c.args.at_start c.split_at.result.0.now c.split_at.result.1.now = search rules in
     right_above c.args.at_start c.args.at_end c.args.seen.now c.split_at.result.0.now c.split_at.result.1.now c.right_at.result.now (operand front) (operand back)

@@ -1,4 +1,4 @@
-use Rattle.std.proofs.Common.{◌≡◌, ℕ, ◌+◌, ◌<◌, ◌≤◌, ◌^◌, Option, None, List, length, get_or, take, sym, ap, subst, ◌∙◌, arith, rules}
+use Rattle.std.proofs.Common.{◌≡◌, ℕ, ◌+◌, ◌<◌, ◌≤◌, ◌^◌, Option, None, List, length, sym, ap, subst, arith, rules}
 use Rattle.std.specs.Prelude.{SomeIff}
 use Rattle.xet_merkle.specs.Levels.{Level, node_count}
 use Rattle.xet_merkle.proofs.Levels.Reading.{node_count-next, node_count-take}

@@ -1,6 +1,5 @@
-use Rattle.std.proofs.Common.{◌≡◌, ◌+◌, false, [], sym, ap, subst, ◌∙◌, rules}
+use Rattle.std.proofs.Common.{◌≡◌, ◌+◌, false, [], sym, subst, ◌∙◌, rules}
 use Rattle.xet_merkle.specs.Levels.{levels_size}
-use Rattle.xet_merkle.specs.Subtree.{Subtree}
 use Rattle.xet_merkle.specs.Merging.{IsMerged}
 use Rattle.xet_merkle.specs.Steps.Building.{HasJoin}
 use Rattle.xet_merkle.proofs.Merging.LevelByLevel.{merged_size, merged_well_formed, merged}

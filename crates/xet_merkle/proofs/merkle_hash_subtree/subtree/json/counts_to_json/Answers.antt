@@ -1,4 +1,4 @@
-use Rattle.std.proofs.Common.{List, map, take, ap, ◌∙◌, sym}
+use Rattle.std.proofs.Common.{List, map, ap, ◌∙◌, sym}
 use Rattle.std.proofs.lemmas.List.{take_all}
 use Rattle.std.proofs.lemmas.Simd.{map-map}
 use Rattle.serde_json.specs.Data.{array, Data}
