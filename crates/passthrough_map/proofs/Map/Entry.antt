@@ -34,7 +34,7 @@ cond-twice true first second third = refl
 cond-twice false first second third = refl
 
 module _ {K V : Type 0} {eq : K → K → Bool} (laws : IsEquivalence eq) where
-  Sets-set_value : (old : List (K × V)) (key : K) (value : V) → IsSome (value_at eq old key)
+  pub Sets-set_value : (old : List (K × V)) (key : K) (value : V) → IsSome (value_at eq old key)
       → Sets eq old key (Some value) (set_value (eq key) old value)
   Sets-set_value old key value there other = lookup-set_value laws (eq key) (laws.congr key) other value old there
 
