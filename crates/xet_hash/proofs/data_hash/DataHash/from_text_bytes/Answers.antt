@@ -1,5 +1,4 @@
-use Rattle.std.proofs.Common.{◌≡◌, ◌∷◌, [], ap, sym, subst, ◌∙◌}
-use Rattle.hex.specs.Hex.{encode_lower}
+use Rattle.std.proofs.Common.{ap, ◌∙◌}
 use Rattle.xet_hash.specs.Hash.{hex_text}
 use Rattle.xet_hash.proofs.Hash.HexText.{be_words, hex_text-be_words}
 use Rattle.xet_hash.proofs.Hash.Lemmas.{be_word, same_four}

@@ -1,4 +1,4 @@
-use Rattle.std.proofs.Common.{◌≡◌, ℕ, List, arith, length, append-nil}
+use Rattle.std.proofs.Common.{arith, append-nil}
 use Rattle.std.proofs.lemmas.Result.{err_from_is_err_and}
 use Rattle.xet_hash.specs.Hash.{data_key}
 use Rattle.xet_hash.specs.HashedWrite.{HoldsWritten}
