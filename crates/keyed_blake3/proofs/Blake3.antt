@@ -1,4 +1,4 @@
--- Keyed BLAKE3 by lists of numbers, and by what the code does.
+-- What the proofs of keyed BLAKE3 share: each file is on one step from the blocks of a message to its root.
 pub mod Absorbing
 pub mod Blocks
 pub mod Finishing
