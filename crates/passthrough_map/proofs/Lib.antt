@@ -1,3 +1,2 @@
-pub mod EntryLemmas
-pub mod FiniteMapLemmas
-pub mod PassthroughHasherLemmas
+pub mod Hasher
+pub mod Map

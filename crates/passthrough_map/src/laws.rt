@@ -1,8 +1,10 @@
 //! Laws of the definitions that the contracts of this crate speak of. Each function has an empty body,
 //! and its clause is the law.
 
-ghost use Rattle.std.specs.Prelude.{◌≡◌, ◌^◌, ◌<◌, ℕ, [], fold};
+ghost use Rattle.std.specs.Prelude.{◌≡◌, ◌^◌, ◌<◌, ℕ, List, [], Some, IsSome, fold};
 ghost use Rattle.std.specs.Hash.{u64};
+ghost use Rattle.std.specs.Map.{set_value};
+ghost use Rattle.passthrough_map.specs.FiniteMap.{value_at, Sets};
 ghost use Rattle.passthrough_map.specs.PassthroughHasher.{overwrite_low};
 
 /// What a [`U64DirectHasher`](crate::passthrough_hasher::U64DirectHasher) makes of a `u64` that it is fed: that
@@ -11,4 +13,16 @@ pub fn passthrough_hasher_hands_numbers_on()
     ensures number { (state number : ℕ) → number < 2 ^ 64
         → fold overwrite_low state (u64 number) ≡ number }
     ensures none { (state : ℕ) → state < 2 ^ 64 → overwrite_low state [] ≡ state }
+{}
+
+/// What is written through a reference that
+/// [`get_mut`](crate::passthrough_hashmap::PassThroughHashMap::get_mut) gives is found at that key, and every
+/// other key has what it had.
+pub fn written_value_is_found<Key: Eq, Val>()
+    ensures found { (entries : List (Key × Val)) (key : Key) (value : Val)
+        → IsSome (value_at Key.eq entries key)
+        → value_at Key.eq (set_value (Key.eq key) entries value) key ≡ Some value }
+    ensures sets { (entries : List (Key × Val)) (key : Key) (value : Val)
+        → IsSome (value_at Key.eq entries key)
+        → Sets Key.eq entries key (Some value) (set_value (Key.eq key) entries value) }
 {}

@@ -1,12 +1,1 @@
-pub mod Base64Lemmas
-pub mod Blake3Absorbing
-pub mod Blake3Blocks
-pub mod Blake3Finishing
-pub mod Blake3Merging
-pub mod Blake3Rows
-pub mod Blake3Waiting
-pub mod HashLaws
-pub mod HashLemmas
-pub mod HexDigitLemmas
-pub mod HexOrder
-pub mod HexTextLemmas
+pub mod Hash

@@ -1,7 +1,7 @@
 -- What a writer that hashes has taken, and the writer behind it.
 use Rattle.std.specs.Prelude.{◌≡◌, ℕ, List, [], ◌++◌, take, Result, Ok, Err}
 use Rattle.xet_hash.specs.Hash.{data_key}
-use Rattle.xet_hash.specs.Blake3Hasher.{Holds}
+use Rattle.keyed_blake3.specs.Blake3Hasher.{Holds}
 use Rattle.xet_hash.specs.declared.data_hash.hashed_write.HashedWrite.{HashedWrite}
 
 -- the writer that gets the bytes

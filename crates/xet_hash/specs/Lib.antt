@@ -1,10 +1,8 @@
-pub mod Blake3
-pub mod Blake3Hasher
-pub mod Blake3Rows
-pub mod Blake3Tree
 pub mod Hash
 pub mod HashForms
 pub mod HashedWrite
+pub use Rattle.keyed_blake3.specs.Blake3
+pub use Rattle.keyed_blake3.specs.Blake3Hasher
 pub use Rattle.passthrough_map.specs.Entry
 pub use Rattle.passthrough_map.specs.FiniteMap
 pub use Rattle.passthrough_map.specs.MapLends

@@ -1,17 +1,16 @@
 //! The 256-bit Merkle hash of a chunk, a xorb or a file, and its forms as words, bytes and hex text,
 //! after the module `merklehash::data_hash` of the crate `xet-core-structures` 1.5.2.
 
-ghost use Rattle.std.specs.Prelude.{◌≡◌, ◌≢◌, ◌+◌, ◌%◌, slice_index, ◌*◌, ◌↔◌, ◌<◌, ◌≤◌, ℕ, List, Some, codes, length, drop, IsOk, IfOk};
+ghost use Rattle.std.specs.Prelude.{◌≡◌, ◌≢◌, ◌+◌, ◌%◌, slice_index, ◌*◌, ◌↔◌, ◌<◌, ◌≤◌, ℕ, List, Some, codes, length, drop, take, IsOk, IfOk};
 ghost use Rattle.std.specs.Fmt.{WritesOnOk, WritesStyledOnOk};
-ghost use Rattle.std.specs.Int.{w64, from_le_bytes, from_be_bytes};
 ghost use Rattle.std.specs.Str.{IsAscii, str_to_ascii_lowercase};
 ghost use Rattle.hex.specs.Hex.{encode_lower};
-ghost use Rattle.xet_hash.specs.Blake3.{keyed_hash};
+ghost use Rattle.keyed_blake3.specs.Blake3.{keyed_hash};
 ghost use Rattle.xet_hash.specs.HashForms.{random_hash};
 ghost use Rattle.xet_hash.specs.Hash.{default_hash, bytes_of, hash_of, hex_text, data_key, internal_key, marker_hash, IsHash, IsHexText};
 
-use crate::blake3;
 use hex::FromHex;
+use keyed_blake3::keyed_hash;
 use rand_core::{Rng, SeedableRng};
 use rand_xoshiro::Xoshiro256PlusPlus;
 use std::marker::Model;
@@ -134,7 +133,7 @@ impl DataHash {
     pub fn hmac(&self, key: HMACKey) -> DataHash
         ensures { result ≡ hash_of (keyed_hash (bytes_of key) (bytes_of self.now)) }
     {
-        DataHash::from(blake3::keyed_hash(&key.as_bytes(), &self.as_bytes()))
+        DataHash::from(keyed_hash(&key.as_bytes(), &self.as_bytes()))
     }
 
     /// The hash with all bits one.
@@ -177,10 +176,10 @@ impl DataHash {
     {
         DataHash {
             words: [
-                big_endian_word(bytes, 0),
-                big_endian_word(bytes, 1),
-                big_endian_word(bytes, 2),
-                big_endian_word(bytes, 3),
+                u64::from_be_bytes(word_bytes(bytes, 0)),
+                u64::from_be_bytes(word_bytes(bytes, 1)),
+                u64::from_be_bytes(word_bytes(bytes, 2)),
+                u64::from_be_bytes(word_bytes(bytes, 3)),
             ],
         }
     }
@@ -201,10 +200,10 @@ impl From<&[u8; 32]> for DataHash {
     fn from(bytes: &[u8; 32]) -> DataHash {
         DataHash {
             words: [
-                little_endian_word(bytes, 0),
-                little_endian_word(bytes, 1),
-                little_endian_word(bytes, 2),
-                little_endian_word(bytes, 3),
+                u64::from_le_bytes(word_bytes(bytes, 0)),
+                u64::from_le_bytes(word_bytes(bytes, 1)),
+                u64::from_le_bytes(word_bytes(bytes, 2)),
+                u64::from_le_bytes(word_bytes(bytes, 3)),
             ],
         }
     }
@@ -243,34 +242,24 @@ impl Rem<u64> for DataHash {
 pub fn compute_data_hash(bytes: &[u8]) -> DataHash
     ensures { result ≡ hash_of (keyed_hash data_key bytes.now) }
 {
-    DataHash::from(blake3::keyed_hash(&DATA_KEY, bytes))
+    DataHash::from(keyed_hash(&DATA_KEY, bytes))
 }
 
 /// The hash of an inner node of a tree, whose text `bytes` is.
 pub fn compute_internal_node_hash(bytes: &[u8]) -> DataHash
     ensures { result ≡ hash_of (keyed_hash internal_key bytes.now) }
 {
-    DataHash::from(blake3::keyed_hash(&INTERNAL_KEY, bytes))
+    DataHash::from(keyed_hash(&INTERNAL_KEY, bytes))
 }
 
-// Word number `k` of 32 bytes.
-fn little_endian_word(bytes: &[u8; 32], k: usize) -> u64
+// The eight bytes of word number `k` of 32 bytes.
+fn word_bytes(bytes: &[u8; 32], k: usize) -> [u8; 8]
     requires { k < 4 }
-    ensures { result ≡ from_le_bytes w64 (drop (8 * k) bytes.now) }
+    ensures { result ≡ take 8 (drop (8 * k) bytes.now) }
 {
     let mut word = [0; 8];
     word.copy_from_slice(&bytes[8 * k..8 * k + 8]);
-    u64::from_le_bytes(word)
-}
-
-// Word number `k` of 32 bytes in the order of the hex text.
-fn big_endian_word(bytes: &[u8; 32], k: usize) -> u64
-    requires { k < 4 }
-    ensures { result ≡ from_be_bytes w64 (drop (8 * k) bytes.now) }
-{
-    let mut word = [0; 8];
-    word.copy_from_slice(&bytes[8 * k..8 * k + 8]);
-    u64::from_be_bytes(word)
+    word
 }
 
 /// The error of [`DataHash::from_hex`]: the text is not 64 hex digits.

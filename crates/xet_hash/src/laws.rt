@@ -12,6 +12,7 @@ ghost use Rattle.passthrough_map.specs.PassthroughHasher.{overwrite_low};
 
 use crate::data_hash::DataHash;
 use passthrough_map::laws::passthrough_hasher_hands_numbers_on;
+pub use passthrough_map::laws::written_value_is_found;
 use std::hash::Hash;
 
 /// A hash is read back from its bytes, of which there are 32.

@@ -11,6 +11,7 @@ use std::hash::Hash;
 use std::process::Abort;
 use std::test::Fail;
 use xet_hash::data_hash::DataHash;
+use xet_hash::laws::written_value_is_found;
 use xet_hash::passthrough_hasher::U64HashExtractable;
 use xet_hash::passthrough_hashmap::{Entry, PassThroughHashMap};
 
@@ -255,6 +256,7 @@ fn a_copy_has_the_same_entries(rt: HostRuntime) -> Result<(), Fail> {
 fn write_one(map: &mut PassThroughHashMap<u64, u64>, key: u64)
     ensures { IfSome (value_at nat_eq map.old key) (λ _. value_at nat_eq map.new key ≡ Some 1) }
 {
+    written_value_is_found::<u64, u64>();
     if let Some(value) = map.get_mut(&key) {
         *value = 1;
     }

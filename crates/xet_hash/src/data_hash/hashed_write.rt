@@ -4,12 +4,12 @@ ghost use Rattle.std.specs.Prelude.{◌≡◌, ◌+◌, ◌^◌, ◌<◌, ◌≤
 ghost use Rattle.std.specs.Io.{WritesAtMost};
 ghost use Rattle.std.specs.Io.KnownBytes.{Appends, Keeps, WriteAppends};
 ghost use Rattle.std.specs.IoError.{error_kind};
-ghost use Rattle.xet_hash.specs.Blake3.{keyed_hash};
+ghost use Rattle.keyed_blake3.specs.Blake3.{keyed_hash};
 ghost use Rattle.xet_hash.specs.Hash.{data_key, hash_of};
 ghost use Rattle.xet_hash.specs.HashedWrite.{inner_writer, taken_bytes, HoldsBeginning, HoldsWritten};
 
 use super::{DATA_KEY, DataHash};
-use crate::blake3::Hasher;
+use keyed_blake3::Hasher;
 use std::io::{self, ErrorKind, Write};
 
 /// A writer that hands what it is given to an inner writer, and hashes what that one takes.

@@ -1,4 +1,4 @@
-use Rattle.passthrough_map.proofs.PassthroughHasherLemmas.{fed-number, overwrite_low-none}
+use Rattle.passthrough_map.proofs.Hasher.Overwriting.{fed-number, overwrite_low-none}
 use Rattle.passthrough_map.proofs.laws.passthrough_hasher_hands_numbers_on.Goals as goal
 
 pub returns-clause-number : goal.returns-clause-number

@@ -62,7 +62,10 @@ impl<'a, Key: U64HashExtractable + Hash + Eq + Copy, Val: Drop, A: Allocator + C
         ensures value { IfOk result (λ value. value.now ≡ unwrap_or (entry_value Key.eq self.entry) default) }
         ensures absent { OnErr result (entry_value Key.eq self.entry ≡ None) }
     {
-        self.or_insert_with(|| default)
+        match self {
+            Entry::Occupied(occupied) => Ok(occupied.into_mut()),
+            Entry::Vacant(vacant) => vacant.insert(default),
+        }
     }
 
     /// The value, to be written for as long as the map is lent; it is what `default` gives where there was none.

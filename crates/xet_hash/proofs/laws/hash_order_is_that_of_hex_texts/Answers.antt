@@ -1,5 +1,5 @@
 use Rattle.std.proofs.Common.{sym}
-use Rattle.xet_hash.proofs.HexOrder.{hex_text-cmp}
+use Rattle.xet_hash.proofs.Hash.HexOrder.{hex_text-cmp}
 use Rattle.xet_hash.proofs.laws.hash_order_is_that_of_hex_texts.Goals as goal
 
 pub returns : goal.returns

@@ -1,4 +1,4 @@
-use Rattle.xet_hash.proofs.Base64Lemmas.{base64_text-injective, length-base64_text}
+use Rattle.xet_hash.proofs.Hash.Base64.{base64_text-injective, length-base64_text}
 use Rattle.xet_hash.proofs.laws.hash_reads_back_from_base64_text.Goals as goal
 
 pub returns-clause-characters : goal.returns-clause-characters

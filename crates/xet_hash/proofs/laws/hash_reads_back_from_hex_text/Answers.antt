@@ -1,5 +1,5 @@
 use Rattle.std.proofs.Common.{◌∙◌}
-use Rattle.xet_hash.proofs.HashLaws.{IsHexText-hex_text, hex_text-injective}
+use Rattle.xet_hash.proofs.Hash.Laws.{IsHexText-hex_text, hex_text-injective}
 use Rattle.xet_hash.proofs.laws.hash_reads_back_from_hex_text.Goals as goal
 
 pub returns : goal.returns

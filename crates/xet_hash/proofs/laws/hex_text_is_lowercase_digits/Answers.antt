@@ -1,4 +1,4 @@
-use Rattle.xet_hash.proofs.HashLaws.{IsHexText-hex_text}
+use Rattle.xet_hash.proofs.Hash.Laws.{IsHexText-hex_text}
 use Rattle.xet_hash.proofs.laws.hex_text_is_lowercase_digits.Goals as goal
 
 pub returns-clause-digits : goal.returns-clause-digits

@@ -1,9 +1,7 @@
-use Rattle.std.proofs.Common.{◌≡◌, ap, sym, ◌∙◌}
-use Rattle.std.specs.Prelude.{Option, Some, None, IfSome, IsSome, is_some, nat_eq, cond}
-use Rattle.std.specs.Cmp.{nat_eq_equiv}
+use Rattle.std.proofs.Common.{ap, sym, ◌∙◌}
+use Rattle.std.specs.Prelude.{Option, Some, None, IfSome, IsSome, is_some, nat_eq}
 use Rattle.std.specs.Option.{option_copied_mut}
-use Rattle.std.proofs.lemmas.Map.{lookup-set_value}
-use Rattle.passthrough_map.specs.FiniteMap.{value_at}
+use Rattle.xet_hash.specs.FiniteMap.{value_at}
 use Rattle.xet_tests.proofs.passthrough_hashmap.write_one.Goals as goal
 
 -- a fact that doesn't speak of the value
@@ -15,6 +13,4 @@ pub returns-in-Some : goal.returns-in-Some
 returns-in-Some c =
     let key = c.args.key in
     let there : IsSome (value_at nat_eq c.args.map.now key) = ap is_some (sym c.get_mut.ensures.value ∙ ap option_copied_mut c.in-Some.is) in
-    IfSome-always (value_at nat_eq c.args.map.now key)
-    (lookup-set_value nat_eq_equiv (nat_eq key) (nat_eq_equiv.congr key) key 1 c.args.map.now there
-    ∙ ap (λ b. cond b (Some 1) (value_at nat_eq c.args.map.now key)) (nat_eq_equiv.refl key))
+    IfSome-always (value_at nat_eq c.args.map.now key) (c.written_value_is_found.ensures.found c.args.map.now key 1 there)

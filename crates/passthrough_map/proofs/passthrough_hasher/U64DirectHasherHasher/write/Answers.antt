@@ -1,7 +1,7 @@
 use Rattle.std.proofs.Common.{ap, ◌∙◌, ◌≡◌, ◌++◌, length, take, drop, refl}
 use Rattle.std.specs.Int.{w64, from_le_bytes, to_le_bytes}
 use Rattle.passthrough_map.specs.PassthroughHasher.{overwrite_low}
-use Rattle.passthrough_map.proofs.PassthroughHasherLemmas.{front_replaced}
+use Rattle.passthrough_map.proofs.Hasher.Overwriting.{front_replaced}
 use Rattle.passthrough_map.proofs.passthrough_hasher.U64DirectHasherHasher.write.Goals as goal
 
 pub returns : goal.returns

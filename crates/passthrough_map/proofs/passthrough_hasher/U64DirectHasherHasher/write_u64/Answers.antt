@@ -1,6 +1,6 @@
 use Rattle.std.proofs.Common.{sym}
 use Rattle.std.specs.Hash.{le_bytes}
-use Rattle.passthrough_map.proofs.PassthroughHasherLemmas.{overwrite_low-all}
+use Rattle.passthrough_map.proofs.Hasher.Overwriting.{overwrite_low-all}
 use Rattle.passthrough_map.proofs.passthrough_hasher.U64DirectHasherHasher.write_u64.Goals as goal
 
 pub returns-clause-written : goal.returns-clause-written

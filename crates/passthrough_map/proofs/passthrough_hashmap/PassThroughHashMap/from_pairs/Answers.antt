@@ -1,4 +1,4 @@
-use Rattle.passthrough_map.proofs.FiniteMapLemmas.{IsMapOf-inserted}
+use Rattle.passthrough_map.proofs.Map.FiniteMap.{IsMapOf-inserted}
 use Rattle.passthrough_map.proofs.passthrough_hashmap.PassThroughHashMap.from_pairs.Goals as goal
 
 pub returns : goal.returns

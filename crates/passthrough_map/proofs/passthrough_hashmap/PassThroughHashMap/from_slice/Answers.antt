@@ -1,5 +1,5 @@
 use Rattle.std.proofs.Common.{sym}
-use Rattle.passthrough_map.proofs.FiniteMapLemmas.{IsMapOf-end, IsMapOf-next}
+use Rattle.passthrough_map.proofs.Map.FiniteMap.{IsMapOf-end, IsMapOf-next}
 use Rattle.passthrough_map.proofs.passthrough_hashmap.PassThroughHashMap.from_slice.Goals as goal
 
 pub loop-key-preserved : goal.loop-key-preserved

@@ -1,4 +1,4 @@
-use Rattle.xet_hash.proofs.HashLemmas.{bytes_of-four}
+use Rattle.xet_hash.proofs.Hash.Lemmas.{bytes_of-four}
 use Rattle.xet_hash.proofs.data_hash.DataHash.as_bytes.Goals as goal
 
 pub returns : goal.returns

@@ -1,8 +1,8 @@
 use Rattle.std.proofs.Common.{◌≡◌, length, refl, sym, ap, ◌∙◌}
 use Rattle.std.proofs.lemmas.Result.{err_from_is_err_and}
 use Rattle.xet_hash.specs.HashForms.{base64_text}
-use Rattle.xet_hash.proofs.Base64Lemmas.{IsHashBytes-from_bytes, base64_text-hash_of, decoded_is_hash, strict, undecoded_is_no_hash}
-use Rattle.xet_hash.proofs.HashLaws.{IsHash-hash_of, IsHashBytes-bytes_of}
+use Rattle.xet_hash.proofs.Hash.Base64.{IsHashBytes-from_bytes, base64_text-hash_of, decoded_is_hash, strict, undecoded_is_no_hash}
+use Rattle.xet_hash.proofs.Hash.Laws.{IsHash-hash_of, IsHashBytes-bytes_of}
 use Rattle.xet_hash.proofs.data_hash.DataHash.from_base64.Goals as goal
 
 pub returns-in_err-from_slice-in-Ok-clause-refused : goal.returns-in_err-from_slice-in-Ok-clause-refused

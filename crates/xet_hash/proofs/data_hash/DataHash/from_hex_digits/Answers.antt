@@ -1,5 +1,5 @@
 use Rattle.std.proofs.Common.{refl, sym, ◌∙◌}
-use Rattle.xet_hash.proofs.HexDigitLemmas.{IsHexText-decoded, IsHexText-refused}
+use Rattle.xet_hash.proofs.Hash.HexDigits.{IsHexText-decoded, IsHexText-refused}
 use Rattle.xet_hash.proofs.data_hash.DataHash.from_hex_digits.Goals as goal
 
 pub returns-in-Ok-clause-accepted : goal.returns-in-Ok-clause-accepted

@@ -1,6 +1,6 @@
 use Rattle.std.proofs.Common.{Result, Ok, Err, arith}
 use Rattle.std.specs.Prelude.{IsOk, OnOk}
-use Rattle.xet_hash.proofs.HexTextLemmas.{IsAscii-encode_lower}
+use Rattle.xet_hash.proofs.Hash.HexText.{IsAscii-encode_lower}
 use Rattle.xet_hash.proofs.data_hash.DataHash.hex_digits.Goals as goal
 
 -- what holds at an `Ok`

@@ -1,6 +1,6 @@
 use Rattle.std.proofs.Common.{sym, ap, ◌∙◌}
 use Rattle.hex.specs.Hex.{encode_lower}
-use Rattle.xet_hash.proofs.HexTextLemmas.{encode_lower-text_bytes, text_bytes-four}
+use Rattle.xet_hash.proofs.Hash.HexText.{encode_lower-text_bytes, text_bytes-four}
 use Rattle.xet_hash.proofs.data_hash.DataHash.text_bytes.Goals as goal
 
 pub returns-clause-text : goal.returns-clause-text

@@ -1,5 +1,5 @@
 use Rattle.std.proofs.Common.{sym, ◌∙◌}
-use Rattle.passthrough_map.proofs.EntryLemmas.{vacant-key}
+use Rattle.passthrough_map.proofs.Map.Entry.{vacant-key}
 use Rattle.passthrough_map.proofs.passthrough_hashmap.entry.Entry.key.Goals as goal
 
 pub returns-in-Vacant : goal.returns-in-Vacant

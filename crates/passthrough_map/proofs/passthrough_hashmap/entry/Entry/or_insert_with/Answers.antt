@@ -1,7 +1,7 @@
 use Rattle.std.proofs.Common.{◌≡◌, refl, ap, ◌∙◌}
 use Rattle.std.specs.Prelude.{Some}
 use Rattle.passthrough_map.specs.Entry.{entry_value}
-use Rattle.passthrough_map.proofs.EntryLemmas.{IsPut-there, UnwrapsOrElse-there}
+use Rattle.passthrough_map.proofs.Map.Entry.{IsPut-there, UnwrapsOrElse-there}
 use Rattle.passthrough_map.proofs.passthrough_hashmap.entry.Entry.or_insert_with.Goals as goal
 
 pub returns-in-Occupied : goal.returns-in-Occupied

@@ -1,6 +1,6 @@
 use Rattle.std.proofs.Common.{ap}
 use Rattle.std.specs.Prelude.{is_some}
-use Rattle.passthrough_map.proofs.EntryLemmas.{value_at-written}
+use Rattle.passthrough_map.proofs.Map.Entry.{value_at-written}
 use Rattle.passthrough_map.proofs.passthrough_hashmap.entry.OccupiedEntry.insert.Goals as goal
 
 pub returns-clause-live : goal.returns-clause-live

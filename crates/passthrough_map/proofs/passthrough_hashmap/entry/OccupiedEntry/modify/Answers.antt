@@ -3,7 +3,7 @@ use Rattle.std.specs.Prelude.{is_some, Some}
 use Rattle.std.specs.Option.{option_copied_mut}
 use Rattle.std.specs.Map.Calls.{MayWrite, ModifiesValue}
 use Rattle.passthrough_map.specs.FiniteMap.{value_at}
-use Rattle.passthrough_map.proofs.EntryLemmas.{at_both, value_at-written, set_value_twice}
+use Rattle.passthrough_map.proofs.Map.Entry.{at_both, value_at-written, set_value_twice}
 use Rattle.passthrough_map.proofs.passthrough_hashmap.entry.OccupiedEntry.modify.Goals as goal
 
 pub returns-clause-live : goal.returns-clause-live

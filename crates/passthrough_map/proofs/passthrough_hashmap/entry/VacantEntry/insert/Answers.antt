@@ -1,5 +1,5 @@
 use Rattle.std.proofs.Common.{rules, refl}
-use Rattle.passthrough_map.proofs.EntryLemmas.{IsPut-filled}
+use Rattle.passthrough_map.proofs.Map.Entry.{IsPut-filled}
 use Rattle.passthrough_map.proofs.passthrough_hashmap.entry.VacantEntry.insert.Goals as goal
 
 pub returns : goal.returns

@@ -1,15 +1,8 @@
-use Rattle.std.proofs.Common.{◌≡◌, ℕ, List, arith, length, append-nil}
+use Rattle.std.proofs.Common.{arith, append-nil}
 use Rattle.std.proofs.lemmas.Result.{err_from_is_err_and}
 use Rattle.xet_hash.specs.Hash.{data_key}
 use Rattle.xet_hash.specs.HashedWrite.{HoldsWritten}
-use Rattle.xet_hash.specs.Blake3Hasher.{Holds, count_of}
-use Rattle.xet_hash.specs.declared.blake3.Hasher.{Hasher}
 use Rattle.xet_hash.proofs.data_hash.hashed_write.HashedWriteWrite.write.Goals as goal
-
--- a hasher counts the bytes of its message
-count_of-message : (key m : List ℕ) (s : Hasher) → Holds key s m → count_of s ≡ length m
-unfolding Holds count_of
-count_of-message key m s holds = holds.0
 
 pub returns-in_err-taken-clause-message : goal.returns-in_err-taken-clause-message
 unfolding HoldsWritten
@@ -20,8 +13,8 @@ returns-in_err-taken-clause-message g c = λ m holds.
 pub returns-in_err-taken-clause-full : goal.returns-in_err-taken-clause-full
 unfolding HoldsWritten
 returns-in_err-taken-clause-full g c = λ m holds full.
-    let count = count_of-message data_key m c.args.self.now.hasher holds in
-    absurd (omega (arith, c.if-not-has_room.ensures))
+    let room = (c.has_room.ensures.message data_key m holds).0 c.if-not-has_room.false in
+    absurd (omega (arith, room))
 
 pub returns-clause-message : goal.returns-clause-message
 unfolding HoldsWritten
@@ -30,5 +23,5 @@ returns-clause-message g c = λ m holds. c.update.ensures.message data_key m hol
 pub returns-clause-full : goal.returns-clause-full
 unfolding HoldsWritten
 returns-clause-full g c = λ m holds full.
-    let count = count_of-message data_key m c.args.self.now.hasher holds in
-    absurd (omega (arith, c.if-not-has_room.ensures))
+    let room = (c.has_room.ensures.message data_key m holds).0 c.if-not-has_room.false in
+    absurd (omega (arith, room))

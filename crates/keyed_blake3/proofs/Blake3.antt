@@ -1,0 +1,7 @@
+-- What the proofs of keyed BLAKE3 share: each file is on one step from the blocks of a message to its root.
+pub mod Absorbing
+pub mod Blocks
+pub mod Finishing
+pub mod Merging
+pub mod Rows
+pub mod Waiting

@@ -1,0 +1,3 @@
+-- What the contracts of private functions alone speak of.
+pub mod Rows
+pub mod Tree

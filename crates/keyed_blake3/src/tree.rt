@@ -1,0 +1,116 @@
+// The tree of chaining values above the chunks, as it grows (BLAKE3 specification, 2.5 and 5.1.2).
+
+ghost use Rattle.std.specs.Prelude.{◌≡◌, ◌==◌, ℕ, ◌+◌, ◌*◌, ◌^◌, ◌≤◌, ◌<◌, if◌then◌else◌, List, drop, length, take};
+ghost use Rattle.std.specs.Int.{to_le_bytes, w32};
+ghost use Rattle.std.specs.List.{flat_map};
+ghost use Rattle.keyed_blake3.specs.Blake3.{parent_value, root_flag};
+ghost use Rattle.keyed_blake3.specs.Steps.Tree.{IsAbsorbed, IsWaiting, subtree_at};
+
+use crate::chunk::{
+    BLOCK_LEN, BLOCKS_PER_CHUNK, CHUNK_END, KEYED_HASH, compress_block, start_flag,
+};
+use crate::compression::compress;
+
+// The most chaining values that may wait: a message has at most 2^54 chunks.
+pub(crate) const MAX_DEPTH: usize = 54;
+
+// The domain flags (table 3) of a parent and of the root.
+const PARENT: u32 = 4;
+
+pub(crate) const ROOT: u32 = 8;
+
+// ROOT where no chaining value waits.
+#[inline(always)]
+pub(crate) fn root_flag(waiting: usize) -> u32
+    ensures { result ≡ (if waiting == 0 then root_flag else 0) }
+{
+    if waiting == 0 { ROOT } else { 0 }
+}
+
+// The chaining value of two subtrees' parent (2.5).
+pub(crate) fn parent_value(
+    key: &[u32; 8],
+    left: &[u32; 8],
+    right: &[u32; 8],
+    flags: u32,
+) -> [u32; 8]
+    requires { flags ≤ 8 }
+    ensures { result ≡ parent_value key.now left.now right.now flags }
+{
+    let mut message = [0u32; 16];
+    message[..8].copy_from_slice(left);
+    message[8..].copy_from_slice(right);
+    let flags = KEYED_HASH + PARENT + flags;
+    compress(key, &message, 0, BLOCK_LEN as u32, flags)
+}
+
+// The bytes of eight words, little-endian.
+pub(crate) fn output(value: &[u32; 8]) -> [u8; 32]
+    ensures { result ≡ flat_map (to_le_bytes w32) value.now }
+{
+    let mut bytes = [0u8; 32];
+    'words: for i in 0..8 {
+        bytes[4 * i..4 * i + 4].copy_from_slice(&value[i].to_le_bytes());
+    }
+    bytes
+}
+
+// Adds the chaining value of chunk number `chunk` to those that wait, joined with each subtree of its size
+// on its left: as a 1 is added to a binary number, with a carry for each join.
+fn add_chunk_chaining_value(
+    cv_stack: &mut [[u32; 8]; MAX_DEPTH],
+    key: &[u32; 8],
+    chunk: u64,
+    value: [u32; 8],
+)
+    requires { chunk + 1 < 2 ^ 54 }
+    ensures { (m : List ℕ) → IsWaiting key.now cv_stack.old chunk m → value ≡ subtree_at key.now 0 chunk m
+        → 1024 * (chunk + 1) ≤ length m → IsWaiting key.now cv_stack.new (chunk + 1) m }
+{
+    let mut value = value;
+    let mut rest = chunk;
+    let mut used = chunk.count_ones() as usize;
+    'joins: while rest % 2 == 1 {
+        used -= 1;
+        value = parent_value(key, &cv_stack[used], &value, 0);
+        rest /= 2;
+    }
+    cv_stack[used] = value;
+}
+
+// What a message's blocks before its last one have made: the chaining value of the open chunk, and those of
+// the subtrees on its left, which wait for what is on their right.
+#[derive(Drop)]
+pub(crate) struct Tree {
+    pub(crate) key: [u32; 8],
+    pub(crate) chaining_value: [u32; 8],
+    pub(crate) cv_stack: [[u32; 8]; MAX_DEPTH],
+}
+
+impl Tree {
+    // Takes in block number `number`, which is not the message's last.
+    pub(crate) fn absorb(&mut self, number: u64, block: &[u8])
+        requires number { number + 1 < 2 ^ 58 }
+        requires block { length block.now ≡ 64 }
+        ensures { (key m : List ℕ) → IsAbsorbed key self.old number m → 64 * number + 64 ≤ length m
+            → block.now ≡ take 64 (drop (64 * number) m) → IsAbsorbed key self.new (number + 1) m }
+    {
+        let chunk = number / BLOCKS_PER_CHUNK;
+        let place = number % BLOCKS_PER_CHUNK;
+        if place == BLOCKS_PER_CHUNK - 1 {
+            let flags = KEYED_HASH + CHUNK_END;
+            let value = compress_block(&self.chaining_value, block, chunk, BLOCK_LEN as u32, flags);
+            add_chunk_chaining_value(&mut self.cv_stack, &self.key, chunk, value);
+            self.chaining_value = self.key;
+        } else {
+            let flags = KEYED_HASH + start_flag(place);
+            self.chaining_value = compress_block(
+                &self.chaining_value,
+                block,
+                chunk,
+                BLOCK_LEN as u32,
+                flags,
+            );
+        }
+    }
+}

@@ -1,0 +1,2 @@
+-- The hasher that hands numbers on.
+pub mod Overwriting
