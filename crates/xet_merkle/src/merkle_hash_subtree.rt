@@ -84,8 +84,8 @@
 //!
 //! The nodes 0 to 27 have size 1 and the words (i, 0, 0, w), where w is 0 for i = 3, 7, 11, .., 27 and else 1. So
 //! each fourth one is a natural cut. The stable points are 8, 12, 16, 20 and 24, and the groups are 0 to 3, 4 to 7
-//! and so on, with the parents G0 to G6. Of these G3, G4 and G6 are natural cuts. Of four ranges b is merged with
-//! c first, then a with both, and then d with all:
+//! and so on, with the parents G0 to G6. Of these G3, G4 and G6 are natural cuts. Four ranges a, b, c and d are
+//! merged as (a (b c)) d:
 //!
 //! ```text
 //!     subtree        marks    level   left        right       parents made
@@ -119,9 +119,9 @@
 //! # Names
 //!
 //! The calls have the names of the Rust crate, and `left` and `right` are its private `left_at` and `right_at`.
-//! Its `Clone`, `Serialize` and `Deserialize` are `try_clone`, `to_json` and `from_json` here, and what its
-//! `verify_invariants` tests is the invariant of the type, `IsWellFormed` of `specs/WellFormed.antt`. Its
-//! `debug_chunks` isn't there; `at_start`, `at_end`, `total_size` and equality are this port's own.
+//! Its `Clone`, `Serialize` and `Deserialize` are `try_clone`, `to_json` and `from_json` here, and the invariant
+//! of the type (`IsWellFormed` of `specs/WellFormed.antt`) stands in the place of its `verify_invariants`. There
+//! is no `debug_chunks`; `at_start`, `at_end`, `total_size` and equality are this port's own.
 
 mod join;
 mod json_parts;
