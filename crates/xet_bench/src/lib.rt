@@ -109,6 +109,30 @@ pub extern "C" fn xet_bench_ranges(
     }
 }
 
+/// Makes the subtree of a list of nodes, given as to `xet_bench_xorb_hash`, with neither end marked. Where `steps` is
+/// at least 1, it makes its JSON value, and where it is at least 2, it reads that back. False where a call was
+/// refused, or where not as many nodes were read.
+#[unsafe(no_mangle)]
+pub extern "C" fn xet_bench_json(alloc: Global, nodes: &[u64], steps: usize) -> bool {
+    let Ok(nodes) = nodes_of(alloc, nodes) else {
+        return false;
+    };
+    is_read_back(alloc, nodes.as_slice(), steps).unwrap_or(false)
+}
+
+fn is_read_back(alloc: Global, nodes: &[Node], steps: usize) -> Result<bool, CoreError> {
+    let subtree = MerkleHashSubtree::from_chunks(alloc, false, nodes, false)?;
+    if steps < 1 {
+        return Ok(true);
+    }
+    let value = subtree.to_json(alloc)?;
+    if steps < 2 {
+        return Ok(true);
+    }
+    let read = MerkleHashSubtree::from_json(alloc, &value)?;
+    Ok(read.num_nodes() == subtree.num_nodes())
+}
+
 fn ranges_of(alloc: Global, nodes: &[Node]) -> Result<Vec<MerkleHashSubtree>, CoreError> {
     let mut ranges = Vec::new(alloc);
     let mut rest = nodes;
