@@ -6,6 +6,7 @@ pub mod Canonical
 pub mod Subtree
 pub mod WellFormed
 pub mod Merging
+pub mod PlainRange
 pub mod FlatLevels
 pub mod SubtreeJson
 pub mod JsonParts

@@ -3,8 +3,10 @@
 #![tactic(auto)]
 
 pub mod aggregated_hashes;
+pub mod chunk_range;
 pub mod error;
 pub mod laws;
 pub mod merkle_hash_subtree;
+pub mod plain_range;
 
 pub use error::CoreError;

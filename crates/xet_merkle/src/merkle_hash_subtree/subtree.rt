@@ -9,6 +9,7 @@ ghost use Rattle.xet_merkle.specs.Steps.SubtreeEquality.{same_subtree-per, same_
 ghost use Rattle.xet_merkle.specs.WellFormed.{IsWellFormed};
 ghost use Rattle.xet_merkle.specs.Steps.Building.{IsStored};
 
+mod chunk_range;
 mod json;
 mod merging;
 

@@ -1,0 +1,53 @@
+//! The subtree as a range of chunks.
+
+ghost use Rattle.std.specs.Prelude.{◌≡◌};
+ghost use Rattle.xet_merkle.specs.Levels.{levels_size};
+ghost use Rattle.xet_merkle.specs.Subtree.{IsCanonical};
+
+use super::MerkleHashSubtree;
+use crate::aggregated_hashes::Node;
+use crate::chunk_range::ChunkRange;
+use crate::error::CoreError;
+use std::alloc::Allocator;
+use xet_hash::data_hash::MerkleHash;
+
+impl<A: Allocator + Clone> ChunkRange for MerkleHashSubtree<A> {
+    type Alloc = A;
+
+    ghost stands = { IsCanonical };
+
+    ghost start = { λ subtree. subtree.at_start };
+
+    ghost end = { λ subtree. subtree.at_end };
+
+    ghost total = { λ subtree. levels_size subtree.levels };
+
+    fn from_chunks(
+        alloc: A,
+        at_start: bool,
+        chunks: &[Node],
+        at_end: bool,
+    ) -> Result<Self, CoreError> {
+        MerkleHashSubtree::from_chunks(alloc, at_start, chunks, at_end)
+    }
+
+    fn at_start(&self) -> bool {
+        MerkleHashSubtree::at_start(self)
+    }
+
+    fn at_end(&self) -> bool {
+        MerkleHashSubtree::at_end(self)
+    }
+
+    fn total_size(&self) -> u64 {
+        MerkleHashSubtree::total_size(self)
+    }
+
+    fn join(&mut self, right: &Self) -> Result<(), CoreError> {
+        self.merge_into(right)
+    }
+
+    fn root(&self) -> Result<Option<MerkleHash>, CoreError> {
+        Ok(self.final_hash())
+    }
+}
