@@ -3,3 +3,4 @@ pub mod Join
 pub mod Kept
 pub mod LevelByLevel
 pub mod Ranges
+pub mod Bracketing

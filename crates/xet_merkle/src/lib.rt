@@ -6,6 +6,7 @@ pub mod aggregated_hashes;
 pub mod chunk_range;
 pub mod error;
 pub mod laws;
+pub mod merge_tree;
 pub mod merkle_hash_subtree;
 pub mod plain_range;
 

@@ -1,0 +1,259 @@
+-- The leaves of a bracketing, passed one after another, and joined from the last to the first.
+use Rattle.std.proofs.Common.{◌≡◌, ℕ, zero, suc, ◌+◌, ◌-◌, ◌^◌, ◌<◌, ◌≤◌, ◌↔◌, ◌⊎◌, inl, inr, Bool, true, false, ◌&&◌, IsTrue, Option, Some, None, List, [], ◌∷◌, ◌++◌, length, flat_map, refl, sym, ap, subst, ◌∙◌, arith, append_assoc, append-nil, length-append}
+use Rattle.std.specs.Prelude.{SomeIff, IfSome, IsErrOf, Result, Err, sum_by, map, Box}
+use Rattle.std.specs.declared.alloc.Global.{Global}
+use Rattle.std.proofs.lemmas.Bool.{cases_lt, false≢true}
+use Rattle.std.proofs.lemmas.List.{map-append}
+use Rattle.xet_merkle.specs.declared.error.CoreError.{CoreError}
+use Rattle.xet_merkle.specs.declared.error.CoreError.TheVariants.{InvalidArguments, SizeOverflow, OutOfMemory}
+use Rattle.std.specs.List.{AllZip}
+use Rattle.std.proofs.lemmas.List.Sums.{sum_by-append, sum_by-cons}
+use Rattle.xet_merkle.specs.Groups.{Node}
+use Rattle.xet_merkle.specs.declared.merge_tree.MergeTree.{MergeTree}
+use Rattle.xet_merkle.specs.declared.merge_tree.MergeTree.TheVariants.{Leaf, Join'}
+use Rattle.xet_merkle.specs.declared.merge_tree.Passed.{Passed}
+use Rattle.xet_merkle.specs.MergeTree.{leaves, first_leaf, last_leaf, AreApart, total_of}
+use Rattle.xet_merkle.specs.Steps.Bracketing.{entries, entries_after, start_of_first, end_of_last, IsPassed, depth, AreBegun, JoinsTo, IsBegun, Follow, Follows, refusal, lefts}
+
+not_less : (m n : ℕ) → (m < n → ⊥) → n ≤ m
+not_less m n none = elim (cases_lt m n) [ inl less ↦ absurd (none less) | inr more ↦ more ]
+
+-- ---- what is known of the leaves
+
+module _ {R : Type 0} (start end : R → Bool) (total : R → ℕ) where
+  pub end_of_last-push : (ranges : List R) (range : R) → end_of_last end (ranges ++ range ∷ []) ≡ Some (end range)
+  end_of_last-push [] range = refl
+  end_of_last-push (first ∷ []) range = refl
+  end_of_last-push (first ∷ next ∷ ranges) range = end_of_last-push (next ∷ ranges) range
+
+  apart_push : (ranges : List R) (range : R) → AreApart start end ranges → Follows (end_of_last end ranges) (start range) → AreApart start end (ranges ++ range ∷ [])
+  apart_push [] range apart follows = tt
+  apart_push (first ∷ []) range apart follows = (follows.0, follows.1, tt)
+  apart_push (first ∷ next ∷ ranges) range apart follows = (apart.0, apart.1, apart_push (next ∷ ranges) range apart.2 follows)
+
+  apart_front : (ranges : List R) (range : R) → AreApart start end (ranges ++ range ∷ []) → AreApart start end ranges × Follows (end_of_last end ranges) (start range)
+  apart_front [] range apart = (tt, tt)
+  apart_front (first ∷ []) range apart = (tt, (apart.0, apart.1))
+  apart_front (first ∷ next ∷ ranges) range apart =
+      let rest = apart_front (next ∷ ranges) range apart.2 in
+      ((apart.0, apart.1, rest.0), rest.1)
+
+  pub IsPassed-none : IsPassed start end total (record { last_end = None; are_apart = true; total = Some 0 }) []
+  IsPassed-none = record { last = refl; apart = (λ _. tt, λ _. refl); sum = (omega arith, refl) }
+
+  pub IsPassed-push : (passed : Passed) (ranges : List R) (range : R) → IsPassed start end total passed ranges → (are_apart : Bool) →
+      IsTrue are_apart ↔ (IsTrue passed.are_apart × Follows passed.last_end (start range)) → (sum : Option ℕ) →
+      ((n : ℕ) → SomeIff passed.total (n < 2 ^ 64) n → SomeIff sum (n + total range < 2 ^ 64) (n + total range)) →
+      IsPassed start end total (record { last_end = Some (end range); are_apart = are_apart; total = sum }) (ranges ++ range ∷ [])
+  IsPassed-push passed ranges range h are_apart apart sum adds = record {
+    last = sym (end_of_last-push ranges range);
+    apart = (
+      λ is. let both = apart.0 is in apart_push ranges range (h.apart.0 both.0) (subst (λ (e : Option Bool). Follows e (start range)) h.last both.1),
+      λ all. let parts = apart_front ranges range all in apart.1 (h.apart.1 parts.0, subst (λ (e : Option Bool). Follows e (start range)) (sym h.last) parts.1),
+    );
+    sum =
+        let whole : total_of total (ranges ++ range ∷ []) ≡ total_of total ranges + total range =
+        sum_by-append total ranges (range ∷ []) ∙ (let one = sum_by-cons total range [] in omega arith) in
+        subst (λ (n : ℕ). SomeIff sum (n < 2 ^ 64) n) (sym whole) (adds (total_of total ranges) h.sum);
+  }
+
+  pub apart_allowed : (passed : Passed) (ranges : List R) → IsPassed start end total passed ranges → refusal passed.are_apart passed.total ≡ None →
+      AreApart start end ranges × (total_of total ranges < 2 ^ 64)
+  apart_allowed passed ranges h none = allowed passed.are_apart passed.total none h.apart h.sum where
+    allowed : (are_apart : Bool) (sum : Option ℕ) → refusal are_apart sum ≡ None → IsTrue are_apart ↔ AreApart start end ranges →
+        SomeIff sum (total_of total ranges < 2 ^ 64) (total_of total ranges) → AreApart start end ranges × (total_of total ranges < 2 ^ 64)
+    allowed false sum e apart fits = let clash : ⊥ = cc in absurd clash
+    allowed true None e apart fits = let clash : ⊥ = cc in absurd clash
+    allowed true (Some n) e apart fits = (apart.0 refl, fits.0)
+
+  pub refused : {T : Type 0} (passed : Passed) (ranges : List R) (error : CoreError) → IsPassed start end total passed ranges → refusal passed.are_apart passed.total ≡ Some error →
+      (IsErrOf {T = T} (Err error) InvalidArguments ↔ (AreApart start end ranges → ⊥))
+      × (IsErrOf {T = T} (Err error) SizeOverflow ↔ (AreApart start end ranges × (2 ^ 64 ≤ total_of total ranges)))
+      × ((error ≡ InvalidArguments) ⊎ ((error ≡ SizeOverflow) ⊎ (error ≡ OutOfMemory)))
+  refused {T} passed ranges error h some = refuses passed.are_apart passed.total some h.apart h.sum where
+    refuses : (are_apart : Bool) (sum : Option ℕ) → refusal are_apart sum ≡ Some error → IsTrue are_apart ↔ AreApart start end ranges →
+        SomeIff sum (total_of total ranges < 2 ^ 64) (total_of total ranges) →
+        (IsErrOf {T = T} (Err error) InvalidArguments ↔ (AreApart start end ranges → ⊥))
+        × (IsErrOf {T = T} (Err error) SizeOverflow ↔ (AreApart start end ranges × (2 ^ 64 ≤ total_of total ranges)))
+        × ((error ≡ InvalidArguments) ⊎ ((error ≡ SizeOverflow) ⊎ (error ≡ OutOfMemory)))
+    refuses false sum e apart fits =
+        let is : error ≡ InvalidArguments = cc in (
+          (λ _ all. false≢true (apart.1 all), λ _. ap Err is),
+          (λ other. let clash : ⊥ = cc in absurd clash, λ all. absurd (false≢true (apart.1 all.0))),
+          inl is,
+        )
+    refuses true None e apart fits =
+        let is : error ≡ SizeOverflow = cc in (
+          (λ other. let clash : ⊥ = cc in absurd clash, λ none. absurd (none (apart.0 refl))),
+          (λ _. (apart.0 refl, not_less (total_of total ranges) (2 ^ 64) fits), λ _. ap Err is),
+          inr (inl is),
+        )
+    refuses true (Some n) e apart fits = let clash : ⊥ = cc in absurd clash
+
+-- ---- what is begun
+
+module _ {R : Type 0} where
+  pub depth-append : (front back : List (ℕ × R)) (values : ℕ) → depth (front ++ back) values ≡ depth front (depth back values)
+  depth-append [] back values = refl
+  depth-append (entry ∷ front) back values = ap (λ (n : ℕ). n - entry.0 + 1) (depth-append front back values)
+
+  pub AreBegun-append : (front back : List (ℕ × R)) (values : ℕ) → AreBegun (front ++ back) values ↔ (AreBegun front (depth back values) × AreBegun back values)
+  AreBegun-append [] back values = (λ h. (tt, h), λ h. h.1)
+  AreBegun-append (entry ∷ front) back values =
+      let rest = AreBegun-append front back values in
+      let same = depth-append front back values in (
+        λ h. let parts = rest.0 h.1 in ((subst (λ (n : ℕ). entry.0 ≤ n) same h.0, parts.0), parts.1),
+        λ h. (subst (λ (n : ℕ). entry.0 ≤ n) (sym same) h.0.0, rest.1 (h.0.1, h.1)),
+      )
+
+-- ---- taking a tree apart
+
+module _ {R A : Type 0} where
+  pub entries_after-none : (begun : ℕ) (tree : MergeTree R A) → entries_after begun 0 tree ≡ entries begun tree
+  entries_after-none begun (Leaf range) = refl
+  entries_after-none begun (Join' p left q right) = refl
+
+  taken_entries : (begun links now then : ℕ) (p q : Box (Unit {0}) Global) (range : R) (rest : MergeTree R A) → IsBegun begun links now then →
+      entries_after begun links (Join' p (Leaf range) q rest) ≡ (now, range) ∷ entries_after 0 (then - 1) rest
+  taken_entries begun zero now then p q range rest h =
+      λ i. (let e : suc begun ≡ now = omega arith in e i, range) ∷ (sym (entries_after-none 0 rest) ∙ ap (λ (n : ℕ). entries_after 0 n rest) (let e : 0 ≡ then - 1 = omega arith in e)) i
+  taken_entries begun (suc links) now then p q range rest h =
+      λ i. (let e : begun ≡ now = omega arith in e i, range) ∷ entries_after 0 (let e : links ≡ then - 1 = omega arith in e i) rest
+
+  lowered_entries : (begun links now then : ℕ) (p q p' q' s t : Box (Unit {0}) Global) (first second rest : MergeTree R A) → IsBegun begun links now then →
+      entries_after begun links (Join' p (Join' p' first q' second) q rest) ≡ entries_after (now + 1) (then + 1) (Join' p' first s (Join' q' second t rest))
+  lowered_entries begun zero now then p q p' q' s t first second rest h =
+      append_assoc (entries (suc (suc begun)) first) (entries 0 second) (entries 0 rest)
+      ∙ ap (λ (l : List (ℕ × R)). entries (suc (suc begun)) first ++ (entries 0 second ++ l)) (sym (entries_after-none 0 rest))
+      ∙ (λ i. entries_after (let e : suc (suc begun) ≡ now + 1 = omega arith in e i) (let e : 2 ≡ then + 1 = omega arith in e i) (Join' p' first s (Join' q' second t rest)))
+  lowered_entries begun (suc links) now then p q p' q' s t first second rest h =
+      append_assoc (entries (suc begun) first) (entries 0 second) (entries_after 0 links rest)
+      ∙ (λ i. entries_after (let e : suc begun ≡ now + 1 = omega arith in e i) (let e : suc (suc links) ≡ then + 1 = omega arith in e i) (Join' p' first s (Join' q' second t rest)))
+
+  module _ {X : Type 0} (es : X → List (ℕ × R)) (bg lk : X → ℕ) (tree : MergeTree R A) (all : List (ℕ × R)) where
+    pub taken_order : (o o' o'' : Option X) (p q : Box (Unit {0}) Global) (range : R) (rest : MergeTree R A) → tree ≡ Join' p (Leaf range) q rest →
+        IfSome o (λ order. es order ++ entries_after (bg order) (lk order) tree ≡ all) →
+        Follow o o' (λ old new. (es new ≡ es old) × IsBegun (bg old) (lk old) (bg new) (lk new)) →
+        Follow o' o'' (λ old new. (es new ≡ es old ++ (bg old, range) ∷ []) × (bg new ≡ 0) × (lk new ≡ lk old - 1)) →
+        IfSome o'' (λ order. es order ++ entries_after (bg order) (lk order) rest ≡ all)
+    taken_order o o' None p q range rest at h begin take = tt
+    taken_order o None (Some c) p q range rest at h begin take = absurd take
+    taken_order None (Some b) (Some c) p q range rest at h begin take = absurd begin
+    taken_order (Some a) (Some b) (Some c) p q range rest at h begin take =
+        (λ i. take.0 i ++ entries_after (take.1 i) (take.2 i) rest)
+        ∙ append_assoc (es b) ((bg b, range) ∷ []) (entries_after 0 (lk b - 1) rest)
+        ∙ ap (λ (l : List (ℕ × R)). es b ++ l) (sym (taken_entries (bg a) (lk a) (bg b) (lk b) p q range rest begin.1) ∙ ap (entries_after (bg a) (lk a)) (sym at))
+        ∙ ap (λ (l : List (ℕ × R)). l ++ entries_after (bg a) (lk a) tree) begin.0
+        ∙ h
+
+    pub lowered_order : (o o' o'' : Option X) (p q p' q' s t : Box (Unit {0}) Global) (first second rest : MergeTree R A) → tree ≡ Join' p (Join' p' first q' second) q rest →
+        IfSome o (λ order. es order ++ entries_after (bg order) (lk order) tree ≡ all) →
+        Follow o o' (λ old new. (es new ≡ es old) × IsBegun (bg old) (lk old) (bg new) (lk new)) →
+        Follow o' o'' (λ old new. (es new ≡ es old) × (bg new ≡ bg old + 1) × (lk new ≡ lk old + 1)) →
+        IfSome o'' (λ order. es order ++ entries_after (bg order) (lk order) (Join' p' first s (Join' q' second t rest)) ≡ all)
+    lowered_order o o' None p q p' q' s t first second rest at h begin lower = tt
+    lowered_order o None (Some c) p q p' q' s t first second rest at h begin lower = absurd lower
+    lowered_order None (Some b) (Some c) p q p' q' s t first second rest at h begin lower = absurd begin
+    lowered_order (Some a) (Some b) (Some c) p q p' q' s t first second rest at h begin lower =
+        (λ i. lower.0 i ++ entries_after (lower.1 i) (lower.2 i) (Join' p' first s (Join' q' second t rest)))
+        ∙ ap (λ (l : List (ℕ × R)). es b ++ l) (sym (lowered_entries (bg a) (lk a) (bg b) (lk b) p q p' q' s t first second rest begin.1) ∙ ap (entries_after (bg a) (lk a)) (sym at))
+        ∙ ap (λ (l : List (ℕ × R)). l ++ entries_after (bg a) (lk a) tree) begin.0
+        ∙ h
+
+  pub leaves_some : (tree : MergeTree R A) → 0 < length (leaves tree)
+  leaves_some (Leaf range) = omega arith
+  leaves_some (Join' p left q right) = let some = leaves_some left in omega (arith, length-append (leaves left) (leaves right))
+
+  pub lowered_lefts : (p q p' q' s t : Box (Unit {0}) Global) (first second rest : MergeTree R A) →
+      lefts (Join' p' first s (Join' q' second t rest)) < lefts (Join' p (Join' p' first q' second) q rest)
+  lowered_lefts p q p' q' s t first second rest = let some = leaves_some first in omega (arith, length-append (leaves first) (leaves second))
+
+  pub depth-entries : (begun : ℕ) (tree : MergeTree R A) (values : ℕ) → begun ≤ values → (depth (entries begun tree) values ≡ values - begun + 1) × AreBegun (entries begun tree) values
+  depth-entries begun (Leaf range) values few = (refl, (few, tt))
+  depth-entries begun (Join' p left q right) values few =
+      let back = depth-entries 0 right values (omega arith) in
+      let front = depth-entries (suc begun) left (depth (entries 0 right) values) (let d = back.0 in omega arith) in (
+        (let all = depth-append (entries (suc begun) left) (entries 0 right) values in let d = back.0 in let e = front.0 in omega arith),
+        (AreBegun-append (entries (suc begun) left) (entries 0 right) values).1 (front.1, back.1),
+      )
+
+  pub entries-leaves : (begun : ℕ) (tree : MergeTree R A) → map (λ (entry : ℕ × R). entry.1) (entries begun tree) ≡ leaves tree
+  entries-leaves begun (Leaf range) = refl
+  entries-leaves begun (Join' p left q right) =
+      map-append (λ (entry : ℕ × R). entry.1) (entries (suc begun) left) (entries 0 right) ∙ (λ i. entries-leaves (suc begun) left i ++ entries-leaves 0 right i)
+
+-- ---- joining
+
+module _ {R : Type 0} (stands : R → List Node → Type 0) (start end : R → Bool) (total : R → ℕ) where
+  pub JoinsTo-all : (ranges : List R) → AreApart start end ranges → JoinsTo stands start end total ranges ranges
+  JoinsTo-all ranges apart = record { apart = apart; first = refl; last = refl; sum = refl; lists = λ lists all. (lists, all, refl) }
+
+  pub apart_at : (before after : List R) (a b : R) → AreApart start end (before ++ a ∷ b ∷ after) → (end a ≡ false) × (start b ≡ false)
+  apart_at [] after a b apart = (apart.0, apart.1)
+  apart_at (x ∷ []) after a b apart = (apart.2.0, apart.2.1)
+  apart_at (x ∷ y ∷ before) after a b apart = apart_at (y ∷ before) after a b apart.2
+
+  pub total_at : (before after : List R) (a b : R) → total a + total b ≤ total_of total (before ++ a ∷ b ∷ after)
+  total_at before after a b = omega (arith, sum_by-append total before (a ∷ b ∷ after), sum_by-cons total a (b ∷ after), sum_by-cons total b after)
+
+  module _ (a b ab : R) (same_start : start ab ≡ start a) (same_end : end ab ≡ end b) (sum : total ab ≡ total a + total b)
+      (joined : (front back : List Node) → stands a front → stands b back → stands ab (front ++ back)) where
+    join_apart : (before after : List R) → AreApart start end (before ++ a ∷ b ∷ after) → AreApart start end (before ++ ab ∷ after)
+    join_apart [] [] apart = tt
+    join_apart [] (c ∷ after) apart = (same_end ∙ apart.2.0, apart.2.1, apart.2.2)
+    join_apart (x ∷ []) [] apart = (apart.0, same_start ∙ apart.1, tt)
+    join_apart (x ∷ []) (c ∷ after) apart = (apart.0, same_start ∙ apart.1, (same_end ∙ apart.2.2.0, apart.2.2.1, apart.2.2.2))
+    join_apart (x ∷ y ∷ before) after apart = (apart.0, apart.1, join_apart (y ∷ before) after apart.2)
+
+    join_first : (before after : List R) → start_of_first start (before ++ ab ∷ after) ≡ start_of_first start (before ++ a ∷ b ∷ after)
+    join_first [] after = ap Some same_start
+    join_first (x ∷ before) after = refl
+
+    join_last : (before after : List R) → end_of_last end (before ++ ab ∷ after) ≡ end_of_last end (before ++ a ∷ b ∷ after)
+    join_last [] [] = ap Some same_end
+    join_last [] (c ∷ after) = refl
+    join_last (x ∷ []) [] = ap Some same_end
+    join_last (x ∷ []) (c ∷ after) = refl
+    join_last (x ∷ y ∷ before) after = join_last (y ∷ before) after
+
+    join_lists : (before after : List R) (lists : List (List Node)) → AllZip stands (before ++ a ∷ b ∷ after) lists →
+        (others : List (List Node)) × AllZip stands (before ++ ab ∷ after) others × (flat_map (λ list. list) others ≡ flat_map (λ list. list) lists)
+    join_lists [] after [] all = elim all [ ]
+    join_lists [] after (front ∷ []) all = elim all.1 [ ]
+    join_lists [] after (front ∷ back ∷ lists) all =
+        ((front ++ back) ∷ lists, (joined front back all.0 all.1.0, all.1.1), append_assoc front back (flat_map (λ list. list) lists))
+    join_lists (x ∷ before) after [] all = elim all [ ]
+    join_lists (x ∷ before) after (list ∷ lists) all =
+        let rest = join_lists before after lists all.1 in
+        (list ∷ rest.0, (all.0, rest.1), ap (λ (l : List Node). list ++ l) rest.2)
+
+    pub JoinsTo-join : (ranges before after : List R) → JoinsTo stands start end total ranges (before ++ a ∷ b ∷ after) → JoinsTo stands start end total ranges (before ++ ab ∷ after)
+    JoinsTo-join ranges before after h = record {
+      apart = join_apart before after h.apart;
+      first = join_first before after ∙ h.first;
+      last = join_last before after ∙ h.last;
+      sum = let so_far = h.sum in omega (arith, sum_by-append total before (ab ∷ after), sum_by-append total before (a ∷ b ∷ after), sum_by-cons total ab after, sum_by-cons total a (b ∷ after), sum_by-cons total b after);
+      lists = λ lists all.
+          let so_far = h.lists lists all in
+          let next = join_lists before after so_far.0 so_far.1 in
+          (next.0, next.1, next.2 ∙ so_far.2);
+    }
+
+  pub JoinsTo-one : (ranges : List R) (range : R) → JoinsTo stands start end total ranges (range ∷ []) → (lists : List (List Node)) → AllZip stands ranges lists →
+      stands range (flat_map (λ list. list) lists)
+  JoinsTo-one ranges range h lists all = let found = h.lists lists all in one found.0 found.1 found.2 where
+    one : (others : List (List Node)) → AllZip stands (range ∷ []) others → flat_map (λ list. list) others ≡ flat_map (λ list. list) lists → stands range (flat_map (λ list. list) lists)
+    one [] zip e = elim zip [ ]
+    one (list ∷ []) zip e = subst (stands range) (sym (append-nil list) ∙ e) zip.0
+    one (list ∷ next ∷ others) zip e = elim zip.1 [ ]
+
+module _ {R A : Type 0} (start end : R → Bool) where
+  pub first_of_leaves : (tree : MergeTree R A) (more : List R) → start_of_first start (leaves tree ++ more) ≡ Some (start (first_leaf tree))
+  first_of_leaves (Leaf range) more = refl
+  first_of_leaves (Join' p left q right) more =
+      ap (start_of_first start) (append_assoc (leaves left) (leaves right) more) ∙ first_of_leaves left (leaves right ++ more)
+
+  pub last_of_leaves : (before : List R) (tree : MergeTree R A) → end_of_last end (before ++ leaves tree) ≡ Some (end (last_leaf tree))
+  last_of_leaves before (Leaf range) = end_of_last-push start end (λ r. 0) before range
+  last_of_leaves before (Join' p left q right) =
+      ap (end_of_last end) (sym (append_assoc before (leaves left) (leaves right))) ∙ last_of_leaves (before ++ leaves left) right

@@ -1,0 +1,90 @@
+use Rattle.std.proofs.Common.{◌≡◌, ℕ, ◌+◌, ◌-◌, ◌<◌, ◌≤◌, ◌^◌, List, [], ◌∷◌, ◌++◌, length, map, reverse, length-append, Err, refl, sym, ap, subst, ◌∙◌, append-nil, append_assoc, inl, inr, arith, rules}
+use Rattle.std.proofs.lemmas.Bool.{false≢true}
+use Rattle.std.proofs.lemmas.List.{reverse-append}
+use Rattle.xet_merkle.specs.MergeTree.{AreApart, total_of}
+use Rattle.xet_merkle.specs.Steps.Bracketing.{depth, AreBegun, JoinsTo}
+use Rattle.xet_merkle.proofs.Json.Reading.{passed_on}
+use Rattle.xet_merkle.proofs.Merging.Bracketing.{depth-append, AreBegun-append, JoinsTo-all, JoinsTo-join, apart_at, total_at}
+use Rattle.xet_merkle.proofs.merge_tree.join_entries.Goals as goal
+
+pub entries-init : goal.entries-init
+entries-init g c =
+    let ranges = map (λ entry. entry.1) c.args.entries.items in
+    rw c.new-values.ensures.items (record {
+      begun = c.requires.begun;
+      one = c.requires.one;
+      joins = subst (JoinsTo g.R.ChunkRange.stands g.R.ChunkRange.start g.R.ChunkRange.end g.R.ChunkRange.total ranges) (sym (append-nil ranges))
+          (JoinsTo-all g.R.ChunkRange.stands g.R.ChunkRange.start g.R.ChunkRange.end g.R.ChunkRange.total ranges c.requires.apart);
+    })
+
+pub unwrap-right-requires : goal.unwrap-right-requires
+unwrap-right-requires g c =
+    let parts = (AreBegun-append c.pop.new.self.items ((c.in-Some.begun, c.in-Some.range) ∷ []) (length c.entries.values.items)).0
+    (subst (λ l. AreBegun l (length c.entries.values.items)) c.in-Some.ensures.items c.entries.invariant.begun) in
+    let few = parts.1.0 in
+    let left = c.begun.invariant.left in
+    let more : c.begun.counter < c.in-Some.begun = search rules in
+    let some : 0 < length c.begun.values.items = omega arith in
+    search rules
+
+pub returns-in_err-join-clause-errors : goal.returns-in_err-join-clause-errors
+returns-in_err-join-clause-errors g c =
+    let ranges = map (λ entry. entry.1) c.args.entries.items in
+    let before = map (λ entry. entry.1) c.pop.new.self.items in
+    let right = c.unwrap-right.result in
+    let values = c.pop-in-begun.new.self.items in
+    let taken : c.begun.values.items ≡ values ++ right ∷ [] = search rules in
+    let back = ap reverse taken ∙ reverse-append values (right ∷ []) in
+    let joins : JoinsTo g.R.ChunkRange.stands g.R.ChunkRange.start g.R.ChunkRange.end g.R.ChunkRange.total ranges (before ++ c.begun.range ∷ right ∷ reverse values) =
+    subst (λ l. JoinsTo g.R.ChunkRange.stands g.R.ChunkRange.start g.R.ChunkRange.end g.R.ChunkRange.total ranges (before ++ c.begun.range ∷ l)) back c.begun.invariant.joins in
+    let apart = apart_at g.R.ChunkRange.stands g.R.ChunkRange.start g.R.ChunkRange.end g.R.ChunkRange.total before (reverse values) c.begun.range right joins.apart in
+    let most = total_at g.R.ChunkRange.stands g.R.ChunkRange.start g.R.ChunkRange.end g.R.ChunkRange.total before (reverse values) c.begun.range right in
+    let sum = joins.sum in
+    let fits = c.requires.fits in
+    passed_on _ c.from_residual.result c.in_err-join.field-0.0 c.from_residual.ensures.1 (elim c.in_err-join.ensures.errors [
+      | inl arguments ↦ elim (c.in_err-join.ensures.arguments.0 (ap Err arguments)) [
+        | inl marked ↦ absurd (false≢true (sym apart.0 ∙ marked))
+        | inr marked ↦ absurd (false≢true (sym apart.1 ∙ marked))
+      ]
+      | inr other ↦ elim other [
+        | inl overflow ↦ absurd (let past = (c.in_err-join.ensures.overflow.0 (ap Err overflow)).1 in omega arith)
+        | inr memory ↦ memory
+      ]
+    ])
+
+pub begun-preserved : goal.begun-preserved
+begun-preserved g c =
+    let ranges = map (λ entry. entry.1) c.args.entries.items in
+    let before = map (λ entry. entry.1) c.pop.new.self.items in
+    let right = c.unwrap-right.result in
+    let values = c.pop-in-begun.new.self.items in
+    let taken : c.begun.values.items ≡ values ++ right ∷ [] = search rules in
+    let back = ap reverse taken ∙ reverse-append values (right ∷ []) in
+    let joins : JoinsTo g.R.ChunkRange.stands g.R.ChunkRange.start g.R.ChunkRange.end g.R.ChunkRange.total ranges (before ++ c.begun.range ∷ right ∷ reverse values) =
+    subst (λ l. JoinsTo g.R.ChunkRange.stands g.R.ChunkRange.start g.R.ChunkRange.end g.R.ChunkRange.total ranges (before ++ c.begun.range ∷ l)) back c.begun.invariant.joins in
+    let left = c.begun.invariant.left in
+    let len = ap length taken in
+    record {
+      left = omega (arith, length-append values (right ∷ []));
+      joins = JoinsTo-join g.R.ChunkRange.stands g.R.ChunkRange.start g.R.ChunkRange.end g.R.ChunkRange.total c.begun.range right c.join.new.self c.in_ok-join.ensures.start c.in_ok-join.ensures.end c.in_ok-join.ensures.total
+          c.in_ok-join.ensures.stands ranges before (reverse values) joins;
+    }
+
+pub entries-preserved : goal.entries-preserved
+entries-preserved g c =
+    let parts = (AreBegun-append c.pop.new.self.items ((c.in-Some.begun, c.in-Some.range) ∷ []) (length c.entries.values.items)).0
+    (subst (λ l. AreBegun l (length c.entries.values.items)) c.in-Some.ensures.items c.entries.invariant.begun) in
+    let few = parts.1.0 in
+    let left = c.begun.invariant.left in
+    let ranges = map (λ entry. entry.1) c.args.entries.items in
+    let before = map (λ entry. entry.1) c.pop.new.self.items in
+    let m = length c.entries.values.items in
+    let end : c.begun.counter ≡ c.in-Some.begun = search rules in
+    let pushed : c.push.new.self.items ≡ c.begun.values.items ++ c.begun.range ∷ [] = search rules in
+    let len = ap length pushed in
+    let now : m - c.in-Some.begun + 1 ≡ length c.push.new.self.items = omega (arith, length-append c.begun.values.items (c.begun.range ∷ [])) in
+    record {
+      begun = subst (AreBegun c.pop.new.self.items) now parts.0;
+      one = ap (depth c.pop.new.self.items) (sym now) ∙ sym (depth-append c.pop.new.self.items ((c.in-Some.begun, c.in-Some.range) ∷ []) m) ∙ ap (λ l. depth l m) (sym c.in-Some.ensures.items) ∙ c.entries.invariant.one;
+      joins = subst (λ l. JoinsTo g.R.ChunkRange.stands g.R.ChunkRange.start g.R.ChunkRange.end g.R.ChunkRange.total ranges (before ++ l)) (sym (reverse-append c.begun.values.items (c.begun.range ∷ [])) ∙ ap reverse (sym pushed)) c.begun.invariant.joins;
+    }

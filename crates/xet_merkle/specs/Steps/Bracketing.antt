@@ -1,0 +1,94 @@
+-- The leaves of a bracketing in order, each with the number of joins that begin with it, and how they are joined.
+use Rattle.std.specs.Prelude.{◌≡◌, ℕ, zero, suc, ◌+◌, ◌-◌, ◌^◌, ◌<◌, ◌≤◌, ◌↔◌, Bool, true, false, List, [], ◌∷◌, ◌++◌, Option, Some, None, SomeIff, IsTrue, flat_map, length, Box}
+use Rattle.std.specs.List.{AllZip}
+use Rattle.std.specs.declared.alloc.Global.{Global}
+use Rattle.xet_merkle.specs.Groups.{Node}
+use Rattle.xet_merkle.specs.declared.error.CoreError.{CoreError}
+use Rattle.xet_merkle.specs.declared.error.CoreError.TheVariants.{InvalidArguments, SizeOverflow}
+use Rattle.xet_merkle.specs.declared.merge_tree.MergeTree.{MergeTree}
+use Rattle.xet_merkle.specs.declared.merge_tree.MergeTree.TheVariants.{Leaf, Join'}
+use Rattle.xet_merkle.specs.declared.merge_tree.Turned.{Turned}
+use Rattle.xet_merkle.specs.declared.merge_tree.Turned.TheVariants.{Taken, Lowered}
+use Rattle.xet_merkle.specs.declared.merge_tree.Passed.{Passed}
+use Rattle.xet_merkle.specs.MergeTree.{leaves, AreApart, total_of}
+
+-- the leaves of a tree, `begun` joins having begun with the first of them before
+abbrev pub entries : {R A : Type 0} → ℕ → MergeTree R A → List (ℕ × R)
+entries begun (Leaf range) = (begun, range) ∷ []
+entries begun (Join' p left q right) = entries (suc begun) left ++ entries 0 right
+
+-- the same where so many of the joins at the tree's right side have begun before
+abbrev pub entries_after : {R A : Type 0} → ℕ → ℕ → MergeTree R A → List (ℕ × R)
+entries_after begun links (Leaf range) = (begun, range) ∷ []
+entries_after begun zero (Join' p left q right) = entries (suc begun) left ++ entries 0 right
+entries_after begun (suc links) (Join' p left q right) = entries begun left ++ entries_after 0 links right
+
+-- the mark at the end of the last of some ranges
+abbrev pub end_of_last : {R : Type 0} → (R → Bool) → List R → Option Bool
+end_of_last end [] = None
+end_of_last end (range ∷ []) = Some (end range)
+end_of_last end (range ∷ next ∷ ranges) = end_of_last end (next ∷ ranges)
+
+-- the mark at the start of the first of some ranges
+abbrev pub start_of_first : {R : Type 0} → (R → Bool) → List R → Option Bool
+start_of_first start [] = None
+start_of_first start (range ∷ ranges) = Some (start range)
+
+-- what is known of the leaves that were passed
+pub record IsPassed {R : Type 0} (start end : R → Bool) (total : R → ℕ) (passed : Passed) (ranges : List R) : Type 0 where
+  pub last : passed.last_end ≡ end_of_last end ranges
+  pub apart : IsTrue passed.are_apart ↔ AreApart start end ranges
+  pub sum : SomeIff passed.total (total_of total ranges < 2 ^ 64) (total_of total ranges)
+
+-- how many values there are once entries are joined, the last first, behind so many values; and that each join
+-- finds its right operand
+abbrev pub depth : {R : Type 0} → List (ℕ × R) → ℕ → ℕ
+depth [] values = values
+depth (entry ∷ more) values = depth more values - entry.0 + 1
+
+abbrev pub AreBegun : {R : Type 0} → List (ℕ × R) → ℕ → Type 0
+AreBegun [] values = Unit {0}
+AreBegun (entry ∷ more) values = (entry.0 ≤ depth more values) × AreBegun more values
+
+-- adjacent ranges are joined to others
+pub record JoinsTo {R : Type 0} (stands : R → List Node → Type 0) (start end : R → Bool) (total : R → ℕ) (ranges others : List R) : Type 0 where
+  pub apart : AreApart start end others
+  pub first : start_of_first start others ≡ start_of_first start ranges
+  pub last : end_of_last end others ≡ end_of_last end ranges
+  pub sum : total_of total others ≡ total_of total ranges
+  pub lists : (lists : List (List Node)) → AllZip stands ranges lists →
+      (joined : List (List Node)) × AllZip stands others joined × (flat_map (λ list. list) joined ≡ flat_map (λ list. list) lists)
+
+-- two trees are turned: the first is a leaf, and the second is left; or both are one tree, whose first part is the
+-- first one's first part
+abbrev pub TurnsTo : {R A : Type 0} → MergeTree R A → MergeTree R A → Turned R A → Type 0
+TurnsTo left right (Taken range rest) = (left ≡ Leaf range) × (right ≡ rest)
+TurnsTo {R} {A} left right (Lowered tree) = (first second : MergeTree R A) × (p q s t : Box (Unit {0}) Global)
+    × (left ≡ Join' p first q second) × (tree ≡ Join' p first s (Join' q second t right))
+
+-- the join at the top has begun, by now or before
+abbrev pub IsBegun : ℕ → ℕ → ℕ → ℕ → Type 0
+IsBegun begun zero now links = (now ≡ begun + 1) × (links ≡ 1)
+IsBegun begun (suc before) now links = (now ≡ begun) × (links ≡ suc before)
+
+-- what is there now comes of what was there before
+abbrev pub Follow : {X : Type 0} → Option X → Option X → (X → X → Type 0) → Type 0
+Follow old None P = Unit {0}
+Follow None (Some new) P = ⊥
+Follow (Some old) (Some new) P = P old new
+
+-- no mark stands between the last range, if there is one, and the next
+abbrev pub Follows : Option Bool → Bool → Type 0
+Follows None start = Unit {0}
+Follows (Some end) start = (end ≡ false) × (start ≡ false)
+
+-- why ranges of which this is known can't be joined
+abbrev pub refusal : Bool → Option ℕ → Option CoreError
+refusal false total = Some InvalidArguments
+refusal true None = Some SizeOverflow
+refusal true (Some total) = None
+
+-- the leaves on the left of each join
+abbrev pub lefts : {R A : Type 0} → MergeTree R A → ℕ
+lefts (Leaf range) = 0
+lefts (Join' p left q right) = length (leaves left) + (lefts left + lefts right)

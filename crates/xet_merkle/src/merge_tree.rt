@@ -1,0 +1,270 @@
+//! Adjacent ranges, and which of them are joined first.
+
+ghost use Rattle.std.specs.Prelude.{◌≡◌, ℕ, ◌+◌, ◌-◌, ◌^◌, ◌<◌, ◌≤◌, ◌⊎◌, ◌↔◌, List, [], ◌∷◌, ◌++◌, true, Some, None, flat_map, map, IfOk, IfErr, IfSome, SomeIff, IsNone, IsTrue, IsErrOf, false};
+ghost use Rattle.std.specs.List.{AllZip};
+ghost use Rattle.xet_merkle.specs.Groups.{Node};
+ghost use Rattle.xet_merkle.specs.MergeTree.{leaves, first_leaf, last_leaf, AreApart, total_of};
+ghost use Rattle.xet_merkle.specs.Steps.Bracketing.{entries, entries_after, IsPassed, depth, AreBegun, JoinsTo, TurnsTo, IsBegun, Follow, Follows, refusal};
+
+use crate::chunk_range::ChunkRange;
+use crate::error::CoreError;
+use std::alloc::Global;
+use std::mem;
+
+/// Adjacent ranges under a bracketing.
+#[derive(Drop)]
+pub enum MergeTree<R: ChunkRange> {
+    /// A range.
+    Leaf(R),
+    /// What the left tree is joined to, joined with what the right one is.
+    Join(Box<MergeTree<R>>, Box<MergeTree<R>>),
+}
+
+// The first of two trees as it is a leaf, and the second; or both as one tree whose first part is lower by one.
+enum Turned<R: ChunkRange> {
+    Taken(R, MergeTree<R>),
+    Lowered(MergeTree<R>),
+}
+
+// Turns two trees. It takes no memory.
+fn turn<R: ChunkRange>(left: Box<MergeTree<R>>, right: Box<MergeTree<R>>) -> Turned<R>
+    ensures { TurnsTo left.value right.value result }
+{
+    let mut left = left;
+    let mut right = right;
+    mem::swap(&mut left, &mut right);
+    if let MergeTree::Join(inner, next) = right.as_mut() {
+        mem::swap(&mut left, inner);
+        mem::swap(inner, next);
+        return Turned::Lowered(MergeTree::Join(left, right));
+    }
+    match Box::into_inner(right) {
+        MergeTree::Leaf(range) => Turned::Taken(range, Box::into_inner(left)),
+        joined => Turned::Lowered(joined),
+    }
+}
+
+// What is known of the leaves that were passed.
+#[derive(Clone, Copy)]
+struct Passed {
+    // The end mark of the last one.
+    last_end: Option<bool>,
+    // Whether no mark stands between two of them.
+    are_apart: bool,
+    // The sum of their sizes, where it is at most `u64::MAX`.
+    total: Option<u64>,
+}
+
+impl Passed {
+    fn new() -> Self
+        ensures { result ≡ record { last_end = None; are_apart = true; total = Some 0 } }
+    {
+        Passed {
+            last_end: None,
+            are_apart: true,
+            total: Some(0),
+        }
+    }
+
+    // Passes a leaf.
+    fn pass<R: ChunkRange>(self, range: &R) -> Self
+        ensures { (ranges : List R) → IsPassed R.start R.end R.total self ranges → IsPassed R.start R.end R.total result (ranges ++ range.now ∷ []) }
+    {
+        Passed {
+            last_end: Some(range.at_end()),
+            are_apart: still_apart(self.are_apart, self.last_end, range.at_start()),
+            total: added(self.total, range.total_size()),
+        }
+    }
+
+    // Why ranges of which this is known can't be joined.
+    fn refusal(self) -> Option<CoreError>
+        ensures { result ≡ refusal self.are_apart self.total }
+    {
+        if !self.are_apart {
+            Some(CoreError::InvalidArguments)
+        } else if self.total.is_none() {
+            Some(CoreError::SizeOverflow)
+        } else {
+            None
+        }
+    }
+}
+
+// Whether no mark stands between ranges, the last of which has that end mark, if there is one, and one more.
+fn still_apart(are_apart: bool, last_end: Option<bool>, at_start: bool) -> bool
+    ensures { IsTrue result ↔ (IsTrue are_apart × Follows last_end at_start) }
+{
+    match last_end {
+        None => are_apart,
+        Some(last_end) => are_apart && !last_end && !at_start,
+    }
+}
+
+// A sum of sizes, if it is at most `u64::MAX`, with one more.
+fn added(total: Option<u64>, size: u64) -> Option<u64>
+    ensures { (sum : ℕ) → SomeIff total (sum < 2 ^ 64) sum → SomeIff result (sum + size < 2 ^ 64) (sum + size) }
+{
+    total?.checked_add(size)
+}
+
+// The leaves that were taken from a tree, each with the number of joins that begin with it.
+#[derive(Drop)]
+struct Order<R: ChunkRange> {
+    entries: Vec<(usize, R)>,
+    // How many joins have begun with the next leaf.
+    begun: usize,
+    // How many of the joins at the right side of what is left of the tree have begun.
+    links: usize,
+}
+
+impl<R: ChunkRange> Order<R> {
+    fn new(alloc: Global) -> Self
+        ensures entries { result.entries.items ≡ [] }
+        ensures begun { result.begun ≡ 0 }
+        ensures links { result.links ≡ 0 }
+    {
+        Order {
+            entries: Vec::new(alloc),
+            begun: 0,
+            links: 0,
+        }
+    }
+}
+
+// Begins the join at the top of what is left, where it hasn't begun.
+fn begin<R: ChunkRange>(order: Option<Order<R>>) -> Option<Order<R>>
+    ensures { Follow order result (λ old new. (new.entries.items ≡ old.entries.items) × IsBegun old.begun old.links new.begun new.links) }
+{
+    let order = order?;
+    if order.links > 0 {
+        return Some(order);
+    }
+    Some(Order {
+        begun: order.begun.checked_add(1)?,
+        entries: order.entries,
+        links: 1,
+    })
+}
+
+// Begins one more join with the next leaf.
+fn lower<R: ChunkRange>(order: Option<Order<R>>) -> Option<Order<R>>
+    ensures { Follow order result (λ old new. (new.entries.items ≡ old.entries.items) × (new.begun ≡ old.begun + 1) × (new.links ≡ old.links + 1)) }
+{
+    let order = order?;
+    Some(Order {
+        begun: order.begun.checked_add(1)?,
+        links: order.links.checked_add(1)?,
+        entries: order.entries,
+    })
+}
+
+// Takes the next leaf.
+fn take<R: ChunkRange>(order: Option<Order<R>>, range: R) -> Option<Order<R>>
+    ensures { Follow order result (λ old new. (new.entries.items ≡ old.entries.items ++ (old.begun, range) ∷ [])
+        × (new.begun ≡ 0) × (new.links ≡ old.links - 1)) }
+{
+    let order = order?;
+    let mut entries = order.entries;
+    entries.push((order.begun, range)).ok()?;
+    Some(Order {
+        entries,
+        begun: 0,
+        links: order.links.saturating_sub(1),
+    })
+}
+
+// The leaves of a tree, each with the number of joins that begin with it, where memory is there; and what is known of
+// them, which takes none.
+fn take_apart<R: ChunkRange>(alloc: Global, tree: MergeTree<R>) -> (Option<Order<R>>, Passed)
+    ensures order { IfSome result.0 (λ order. order.entries.items ≡ entries 0 tree) }
+    ensures passed { IsPassed R.start R.end R.total result.1 (leaves tree) }
+{
+    let mut order = Some(Order::new(alloc));
+    let mut passed = Passed::new();
+    let mut tree = tree;
+    'leaves: loop {
+        match tree {
+            MergeTree::Leaf(range) => {
+                let passed = passed.pass(&range);
+                return (take(order, range), passed);
+            }
+            MergeTree::Join(left, right) => {
+                order = begin(order);
+                match turn(left, right) {
+                    Turned::Taken(range, rest) => {
+                        passed = passed.pass(&range);
+                        order = take(order, range);
+                        tree = rest;
+                    }
+                    Turned::Lowered(lowered) => {
+                        order = lower(order);
+                        tree = lowered;
+                    }
+                }
+            }
+        }
+    }
+}
+
+// Joins the leaves of a tree as it is bracketed.
+fn join_entries<R: ChunkRange>(alloc: Global, entries: Vec<(usize, R)>) -> Result<R, CoreError>
+    requires begun { AreBegun entries.items 0 }
+    requires one { depth entries.items 0 ≡ 1 }
+    requires apart { AreApart R.start R.end (map (λ entry. entry.1) entries.items) }
+    requires fits { total_of R.total (map (λ entry. entry.1) entries.items) < 2 ^ 64 }
+    ensures joined { IfOk result (λ range. JoinsTo R.stands R.start R.end R.total (map (λ entry. entry.1) entries.items) (range ∷ [])) }
+    ensures errors { IfErr result (λ e. e ≡ CoreError.OutOfMemory) }
+{
+    let mut entries = entries;
+    let mut values: Vec<R> = Vec::new(alloc);
+    'entries: while let Some((begun, range)) = entries.pop() {
+        let mut range = range;
+        'begun: for _ in 0..begun {
+            let right = values.pop().unwrap();
+            range.join(&right)?;
+        }
+        values.push(range)?;
+    }
+    Ok(values.pop().unwrap())
+}
+
+impl<R: ChunkRange> MergeTree<R> {
+    /// Joins the ranges as the tree brackets them: a range that stands for all lists in order, with the first range's
+    /// start mark and the last one's end mark. A tree of any depth takes no more than its share of stack.
+    ///
+    /// It looks at all ranges first. It fails with [`CoreError::InvalidArguments`] where a range other than the first is
+    /// marked at its start or one other than the last at its end; then with [`CoreError::SizeOverflow`] where the sizes of
+    /// all ranges add up to more than `u64::MAX`; and with [`CoreError::OutOfMemory`] where an allocation is refused. The
+    /// tree is spent in every case.
+    pub fn run(self) -> Result<R, CoreError>
+        ensures stands { IfOk result (λ range. (lists : List (List Node)) →
+            AllZip R.stands (leaves self) lists → R.stands range (flat_map (λ list. list) lists)) }
+        ensures start { IfOk result (λ range. R.start range ≡ R.start (first_leaf self)) }
+        ensures end { IfOk result (λ range. R.end range ≡ R.end (last_leaf self)) }
+        ensures total { IfOk result (λ range. R.total range ≡ total_of R.total (leaves self)) }
+        ensures arguments { IsErrOf result CoreError.InvalidArguments ↔ ¬ (AreApart R.start R.end (leaves self)) }
+        ensures overflow { IsErrOf result CoreError.SizeOverflow ↔
+            (AreApart R.start R.end (leaves self) × (2 ^ 64 ≤ total_of R.total (leaves self))) }
+        ensures errors { IfErr result (λ e.
+            (e ≡ CoreError.InvalidArguments) ⊎ ((e ≡ CoreError.SizeOverflow) ⊎ (e ≡ CoreError.OutOfMemory))) }
+    {
+        match self {
+            MergeTree::Leaf(range) => match Passed::new().pass(&range).refusal() {
+                Some(error) => Err(error),
+                None => Ok(range),
+            },
+            MergeTree::Join(left, right) => {
+                let alloc = *Box::allocator(&left);
+                let (order, passed) = take_apart(alloc, MergeTree::Join(left, right));
+                if let Some(error) = passed.refusal() {
+                    return Err(error);
+                }
+                let Some(order) = order else {
+                    return Err(CoreError::OutOfMemory);
+                };
+                Ok(join_entries(alloc, order.entries)?)
+            }
+        }
+    }
+}
