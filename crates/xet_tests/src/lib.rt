@@ -13,6 +13,8 @@ mod error;
 #[cfg(test)]
 mod hashed_write;
 #[cfg(test)]
+mod merge_tree;
+#[cfg(test)]
 mod merkle_hash_subtree;
 #[cfg(test)]
 mod passthrough_hasher;

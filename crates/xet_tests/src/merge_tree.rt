@@ -1,0 +1,233 @@
+//! Trees of joins over several kinds of range.
+
+ghost use Rattle.std.specs.Prelude.{◌≡◌};
+ghost use Rattle.xet_merkle.specs.Roots.{total_size};
+
+use crate::support::{EACH_FOURTH, with_cuts};
+use std::alloc::{AllocError, Global};
+use std::test::Fail;
+use xet_hash::data_hash::{DataHash, MerkleHash};
+use xet_merkle::CoreError;
+use xet_merkle::aggregated_hashes::{Node, xorb_hash};
+use xet_merkle::chunk_range::ChunkRange;
+use xet_merkle::merge_tree::MergeTree;
+use xet_merkle::merkle_hash_subtree::MerkleHashSubtree;
+use xet_merkle::plain_range::PlainRange;
+
+// A range that counts the joins that made it, and how deep they go, beside a range that keeps its chunks.
+#[derive(Drop)]
+struct CountedRange {
+    plain: PlainRange,
+    joins: u32,
+    depth: u32,
+}
+
+impl ChunkRange for CountedRange {
+    type Alloc = Global;
+
+    ghost stands = { λ range chunks. range.plain.chunks ≡ chunks };
+
+    ghost start = { λ range. range.plain.at_start };
+
+    ghost end = { λ range. range.plain.at_end };
+
+    ghost total = { λ range. total_size range.plain.chunks };
+
+    fn from_chunks(
+        alloc: Global,
+        at_start: bool,
+        chunks: &[Node],
+        at_end: bool,
+    ) -> Result<Self, CoreError> {
+        Ok(CountedRange {
+            plain: PlainRange::from_chunks(alloc, at_start, chunks, at_end)?,
+            joins: 0,
+            depth: 0,
+        })
+    }
+
+    fn at_start(&self) -> bool {
+        self.plain.at_start()
+    }
+
+    fn at_end(&self) -> bool {
+        self.plain.at_end()
+    }
+
+    fn total_size(&self) -> u64 {
+        self.plain.total_size()
+    }
+
+    fn join(&mut self, right: &Self) -> Result<(), CoreError> {
+        self.plain.join(&right.plain)?;
+        self.joins = self.joins.wrapping_add(right.joins).wrapping_add(1);
+        self.depth = self.depth.max(right.depth).wrapping_add(1);
+        Ok(())
+    }
+
+    fn root(&self) -> Result<Option<MerkleHash>, CoreError> {
+        self.plain.root()
+    }
+}
+
+fn join<R: ChunkRange>(
+    alloc: Global,
+    left: MergeTree<R>,
+    right: MergeTree<R>,
+) -> Result<MergeTree<R>, AllocError> {
+    Ok(MergeTree::Join(Box::new(alloc, left)?, Box::new(alloc, right)?))
+}
+
+// The tree of a bracketing: a point stands for the next range, a plus joins the last two trees.
+fn tree<R: ChunkRange>(
+    alloc: Global,
+    bracketing: &str,
+    ranges: Vec<R>,
+) -> Result<Option<MergeTree<R>>, AllocError> {
+    let mut ranges = ranges.into_iter();
+    let mut trees: Vec<MergeTree<R>> = Vec::new(alloc);
+    for step in bracketing.bytes() {
+        if step == b'.' {
+            let Some(range) = ranges.next() else {
+                return Ok(None);
+            };
+            trees.push(MergeTree::Leaf(range))?;
+        } else {
+            let (Some(right), Some(left)) = (trees.pop(), trees.pop()) else {
+                return Ok(None);
+            };
+            trees.push(join(alloc, left, right)?)?;
+        }
+    }
+    Ok(trees.pop())
+}
+
+// The nodes 0 to 3, 4 to 23, 24 to 27 and none, of 28 of which each fourth is a natural cut; the first range is marked
+// at its start, the last at its end.
+fn four_ranges<R: ChunkRange<Alloc = Global>>(alloc: Global) -> Result<Vec<R>, CoreError> {
+    let nodes = with_cuts::<28>(&EACH_FOURTH);
+    let mut ranges = Vec::new(alloc);
+    ranges.push(R::from_chunks(alloc, true, &nodes[..4], false)?)?;
+    ranges.push(R::from_chunks(alloc, false, &nodes[4..24], false)?)?;
+    ranges.push(R::from_chunks(alloc, false, &nodes[24..], false)?)?;
+    ranges.push(R::from_chunks(alloc, false, &[], true)?)?;
+    Ok(ranges)
+}
+
+fn run<R: ChunkRange<Alloc = Global>>(alloc: Global, bracketing: &str) -> Result<R, CoreError> {
+    match tree(alloc, bracketing, four_ranges(alloc)?)? {
+        Some(tree) => Ok(tree.run()?),
+        None => Err(CoreError::InvalidArguments),
+    }
+}
+
+// The five bracketings of four ranges, and how deep their joins go.
+const BRACKETINGS: [(&str, u32); 5] = [
+    ("..+.+.+", 3),
+    ("...++.+", 3),
+    ("..+..++", 2),
+    ("...+.++", 3),
+    ("....+++", 3),
+];
+
+#[test]
+fn each_bracketing_gives_one_subtree(rt: HostRuntime) -> Result<(), Fail> {
+    let nodes = with_cuts::<28>(&EACH_FOURTH);
+    let whole = MerkleHashSubtree::from_chunks(rt.alloc(), true, &nodes, true)?;
+    let text = whole.to_json(rt.alloc())?.to_string(rt.alloc())?;
+    for (bracketing, _) in BRACKETINGS {
+        let merged: MerkleHashSubtree = run(rt.alloc(), bracketing)?;
+        assert!(rt; merged == whole, "{bracketing}");
+        assert_eq!(rt; merged.to_json(rt.alloc())?.to_string(rt.alloc())?.as_str(), text.as_str());
+    }
+    Ok(())
+}
+
+#[test]
+fn ranges_of_each_kind_have_the_root(rt: HostRuntime) -> Result<(), Fail> {
+    let root = Some(xorb_hash(rt.alloc(), &with_cuts::<28>(&EACH_FOURTH))?);
+    for (bracketing, depth) in BRACKETINGS {
+        let counted: CountedRange = run(rt.alloc(), bracketing)?;
+        assert_eq!(rt; (counted.joins, counted.depth), (3, depth), "{bracketing}");
+        assert_eq!(rt; counted.root()?, root);
+        let plain: PlainRange = run(rt.alloc(), bracketing)?;
+        assert_eq!(rt; plain.chunks().len(), 28);
+        assert_eq!(rt; plain.root()?, root);
+        let subtree: MerkleHashSubtree = run(rt.alloc(), bracketing)?;
+        assert_eq!(rt; subtree.root()?, root);
+    }
+    Ok(())
+}
+
+// Whether a tree of two ranges of one node each, with these marks and sizes, is refused with that.
+fn is_refused(
+    alloc: Global,
+    marks: [(bool, bool); 2],
+    sizes: [u64; 2],
+    refusal: CoreError,
+) -> Result<bool, CoreError> {
+    let hash = DataHash::random_from_seed(1);
+    let [first, second] = [0, 1].map(|i: usize| (marks[i.min(1)], [(hash, sizes[i.min(1)])]));
+    let ((start, end), nodes) = first;
+    let left = PlainRange::from_chunks(alloc, start, &nodes, end)?;
+    let ((start, end), nodes) = second;
+    let right = PlainRange::from_chunks(alloc, start, &nodes, end)?;
+    let tree = join(alloc, MergeTree::Leaf(left), MergeTree::Leaf(right))?;
+    Ok(tree.run().err() == Some(refusal))
+}
+
+#[test]
+fn marks_are_refused_before_sizes(rt: HostRuntime) -> Result<(), Fail> {
+    let open = (false, false);
+    for (marks, sizes, refusal) in [
+        ([open, (true, false)], [1, 1], CoreError::InvalidArguments),
+        ([(false, true), open], [1, 1], CoreError::InvalidArguments),
+        ([(false, true), open], [u64::MAX, 1], CoreError::InvalidArguments),
+        ([open, open], [u64::MAX, 1], CoreError::SizeOverflow),
+    ] {
+        assert!(rt; is_refused(rt.alloc(), marks, sizes, refusal)?, "{refusal}");
+    }
+    Ok(())
+}
+
+// A tree of so many joins of empty ranges, each on the left of the next, or on its right.
+fn leaning(alloc: Global, joins: u32, is_left: bool) -> Result<MergeTree<CountedRange>, CoreError> {
+    let mut tree = MergeTree::Leaf(CountedRange::from_chunks(alloc, false, &[], false)?);
+    for _ in 0..joins {
+        let leaf = MergeTree::Leaf(CountedRange::from_chunks(alloc, false, &[], false)?);
+        tree = if is_left {
+            join(alloc, tree, leaf)?
+        } else {
+            join(alloc, leaf, tree)?
+        };
+    }
+    Ok(tree)
+}
+
+// A tree of 2^height ranges, all of them equally deep.
+fn balanced(alloc: Global, height: u32) -> Result<MergeTree<CountedRange>, CoreError> {
+    let mut trees = Vec::new(alloc);
+    for _ in 0..1u32 << height.min(20) {
+        trees.push(MergeTree::Leaf(CountedRange::from_chunks(alloc, false, &[], false)?))?;
+    }
+    'levels: for _ in 0..height {
+        let mut joined = Vec::new(alloc);
+        let mut lower = trees.into_iter();
+        'pairs: while let (Some(left), Some(right)) = (lower.next(), lower.next()) {
+            joined.push(join(alloc, left, right)?)?;
+        }
+        trees = joined;
+    }
+    Ok(trees.pop().ok_or(CoreError::OutOfMemory)?)
+}
+
+#[test]
+fn trees_of_great_depth_are_run(rt: HostRuntime) -> Result<(), Fail> {
+    for is_left in [true, false] {
+        let range = leaning(rt.alloc(), 100_000, is_left)?.run()?;
+        assert_eq!(rt; (range.joins, range.depth), (100_000, 100_000), "{is_left}");
+    }
+    let range = balanced(rt.alloc(), 17)?.run()?;
+    assert_eq!(rt; (range.joins, range.depth), (131_071, 17));
+    Ok(())
+}
