@@ -139,21 +139,17 @@ fn converts<Key: U64HashExtractable + Hash + Eq + Copy>(
     had_both && has_one
 }
 
-// Look-ups, walks and conversions of a map of two pairs.
-fn reads_and_converts<Key: U64HashExtractable + Hash + Eq + Copy>(
-    alloc: Global,
-    keys: [Key; 3],
-) -> Result<bool, AllocError> {
-    let [first, second, _] = keys;
-    let map = PassThroughHashMap::from_array(alloc, [(first, 10), (second, 20)])?;
-    Ok(reads(&map, &keys) && converts(map, &keys))
-}
-
 #[test]
 fn finds_hashes_numbers_and_other_keys(rt: HostRuntime) -> Result<(), Fail> {
-    assert!(rt; reads_and_converts(rt.alloc(), hashes())?);
-    assert!(rt; reads_and_converts(rt.alloc(), NUMBERS)?);
-    assert!(rt; reads_and_converts(rt.alloc(), NAMES)?);
+    let keys = hashes();
+    let map = PassThroughHashMap::from_array(rt.alloc(), [(keys[0], 10), (keys[1], 20)])?;
+    assert!(rt; reads(&map, &keys) && converts(map, &keys));
+    let keys = NUMBERS;
+    let map = PassThroughHashMap::from_array(rt.alloc(), [(keys[0], 10), (keys[1], 20)])?;
+    assert!(rt; reads(&map, &keys) && converts(map, &keys));
+    let keys = NAMES;
+    let map = PassThroughHashMap::from_array(rt.alloc(), [(keys[0], 10), (keys[1], 20)])?;
+    assert!(rt; reads(&map, &keys) && converts(map, &keys));
     Ok(())
 }
 
