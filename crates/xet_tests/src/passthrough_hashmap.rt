@@ -292,10 +292,11 @@ fn the_last_value_of_a_key_wins(rt: HostRuntime) -> Result<(), Fail> {
         assert_eq!(rt; map.get(&2), Some(&20));
     }
     let keys = hashes();
-    let [first, second, _] = keys;
-    let pairs = [(first, 30), (second, 20), (first, 10)];
-    assert!(rt; reads(&PassThroughHashMap::from_array(rt.alloc(), pairs)?, &keys));
-    assert!(rt; reads(&PassThroughHashMap::from_pairs(rt.alloc(), pairs)?, &keys));
+    let [first, second, _] = hashes();
+    let map = PassThroughHashMap::from_array(rt.alloc(), [(first, 30), (second, 20), (first, 10)])?;
+    assert!(rt; reads(&map, &keys));
+    let map = PassThroughHashMap::from_pairs(rt.alloc(), [(first, 30), (second, 20), (first, 10)])?;
+    assert!(rt; reads(&map, &keys));
     Ok(())
 }
 

@@ -75,9 +75,9 @@ fn merge_three(alloc: &Refusing, chunks: &Chunks<'_>) -> Attempt {
 }
 
 // Merges the right range into a copy of the left one, which stays the same where that is refused.
-fn merge_into_copy(
-    left: &MerkleHashSubtree<&Refusing>,
-    right: &MerkleHashSubtree<&Refusing>,
+fn merge_into_copy<'a>(
+    left: &MerkleHashSubtree<&'a Refusing>,
+    right: &MerkleHashSubtree<&'a Refusing>,
 ) -> Attempt {
     let Ok(mut merged) = left.try_clone() else {
         return Ok(None);
