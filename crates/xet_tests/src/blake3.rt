@@ -151,8 +151,8 @@ const KEY: [u8; 32] = *b"whats the Elvish word for friend";
 // The bytes from 0 to 250, again and again.
 fn message<const N: usize>() -> [u8; N] {
     let mut message = [0; N];
-    for (byte, number) in message.iter_mut().zip((0..251).cycle()) {
-        *byte = number;
+    for (place, byte) in message.iter_mut().enumerate() {
+        *byte = (place % 251) as u8;
     }
     message
 }

@@ -57,45 +57,73 @@ const ANSWERS: [Result<usize, ErrorKind>; 8] = [
     Err(ErrorKind::Other),
 ];
 
+// Whether a write is one inner write and has its answer, and the hash is that of what was taken.
+fn is_one_inner_write(
+    alloc: Global,
+    slice: &[u8],
+    most: Result<usize, ErrorKind>,
+) -> Result<bool, Fail> {
+    let expected = most.map(|most| most.min(slice.len()));
+    let mut writer = HashedWrite::new(Recorder::new(alloc, most));
+    let answer = writer.write(slice).map_err(|error| error.kind());
+    let taken = slice.get(..expected.unwrap_or(0)).ok_or("too many")?;
+    let has_hash = writer.hash() == compute_data_hash(taken);
+    let Recorder { given, writes, .. } = writer.into_inner();
+    Ok(
+        answer == expected
+            && has_hash
+            && writes.as_slice() == [(slice.len(), expected)].as_slice()
+            && given.as_slice() == slice,
+    )
+}
+
 #[test]
 fn a_write_is_one_inner_write_and_has_its_answer(rt: HostRuntime) -> Result<(), Fail> {
     let mut message = [0u8; 10_000];
     Xoshiro256PlusPlus::seed_from_u64(14).fill_bytes(&mut message);
-    for length in [6, 10_000] {
-        let slice = &message[..length];
+    for slice in [&message[..6], &message] {
         for most in ANSWERS {
-            let expected = most.map(|most| most.min(length));
-            let mut writer = HashedWrite::new(Recorder::new(rt.alloc(), most));
-            let answer = writer.write(slice).map_err(|error| error.kind());
-            assert_eq!(rt; answer, expected, "{length}, {most:?}");
-            let taken = slice.get(..expected.unwrap_or(0)).ok_or("too many")?;
-            assert_eq!(rt;
-                writer.hash(),
-                compute_data_hash(taken),
-                "{length}, {most:?}"
+            assert!(rt;
+                is_one_inner_write(rt.alloc(), slice, most)?,
+                "{}, {most:?}",
+                slice.len()
             );
-            let Recorder { given, writes, .. } = writer.into_inner();
-            assert_eq!(rt; writes.as_slice(), [(length, expected)].as_slice());
-            assert!(rt; given.as_slice() == slice, "{length}, {most:?}");
         }
     }
     Ok(())
 }
 
+// Whether a flush is one inner flush and has its answer.
+fn is_one_inner_flush(alloc: Global, most: Result<usize, ErrorKind>) -> bool {
+    let mut writer = HashedWrite::new(Recorder::new(alloc, most));
+    let answer = writer.flush().map_err(|error| error.kind());
+    let Recorder {
+        writes,
+        flushes,
+        ..
+    } = writer.into_inner();
+    answer == most.map(|_| ()) && flushes == 1 && writes.is_empty()
+}
+
 #[test]
 fn a_flush_is_one_inner_flush_and_has_its_answer(rt: HostRuntime) {
     for most in ANSWERS {
-        let mut writer = HashedWrite::new(Recorder::new(rt.alloc(), most));
-        let answer = writer.flush().map_err(|error| error.kind());
-        assert_eq!(rt; answer, most.map(|_| ()), "{most:?}");
-        let Recorder {
-            writes,
-            flushes,
-            ..
-        } = writer.into_inner();
-        assert_eq!(rt; flushes, 1, "{most:?}");
-        assert!(rt; writes.is_empty(), "{most:?}");
+        assert!(rt; is_one_inner_flush(rt.alloc(), most), "{most:?}");
     }
+}
+
+// The hash of a message that is written in pieces of a length. An error where other bytes are handed on.
+fn hash_in_pieces(alloc: Global, message: &[u8], length: usize) -> Result<DataHash, Fail> {
+    let mut writer = HashedWrite::new(Vec::new(alloc));
+    for piece in message.chunks(length.max(1)) {
+        writer.write_all(piece)?;
+    }
+    writer.flush()?;
+    let hash = writer.hash();
+    if writer.into_inner().as_slice() != message {
+        return Err("other bytes are handed on")?;
+    }
+    Ok(hash)
 }
 
 // The hash is a value from outside.
@@ -107,17 +135,8 @@ fn drawn_bytes_are_hashed_and_handed_on(rt: HostRuntime) -> Result<(), Fail> {
     let hash = DataHash::from_hex(hash)?;
     assert_eq!(rt; compute_data_hash(&message), hash);
     for length in [1, 10, 64, 300] {
-        let mut writer = HashedWrite::new(Vec::new(rt.alloc()));
-        for piece in message.chunks(length) {
-            writer.write_all(piece)?;
-        }
-        writer.flush()?;
-        assert_eq!(rt; writer.hash(), hash, "{length}");
-        assert_eq!(rt;
-            writer.into_inner().as_slice(),
-            message.as_slice(),
-            "{length}"
-        );
+        let in_pieces = hash_in_pieces(rt.alloc(), &message, length)?;
+        assert_eq!(rt; in_pieces, hash, "{length}");
     }
     Ok(())
 }

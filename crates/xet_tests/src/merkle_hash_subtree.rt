@@ -8,6 +8,7 @@ mod json_rules;
 mod levels;
 mod merged_levels;
 mod merging;
+mod texts;
 
 use crate::support::{EACH_FOURTH, drawn_list, has_counts, with_cuts};
 use rand_core::SeedableRng;

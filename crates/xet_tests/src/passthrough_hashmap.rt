@@ -6,9 +6,7 @@ ghost use Rattle.xet_hash.specs.FiniteMap.{value_at};
 
 use std::alloc::{AllocError, Global};
 use std::collections::HashMap;
-use std::fmt::Debug;
 use std::hash::Hash;
-use std::process::Abort;
 use std::test::Fail;
 use xet_hash::data_hash::DataHash;
 use xet_hash::laws::written_value_is_found;
@@ -64,150 +62,212 @@ fn hashes() -> [DataHash; 3] {
     ]
 }
 
-// Look-ups in a map without entries.
-fn finds_nothing<Key: U64HashExtractable + Hash + Eq + Debug>(
-    rt: &impl Abort,
+// Whether look-ups of a key find nothing.
+fn lacks<Key: U64HashExtractable + Hash + Eq>(
     map: &PassThroughHashMap<Key, u32>,
-    keys: &[Key],
-) {
-    assert_eq!(rt; map.len(), 0);
-    assert!(rt; map.is_empty());
-    assert_eq!(rt; map.iter().count(), 0);
-    for key in keys {
-        assert_eq!(rt; map.get(key), None);
-        assert!(rt; !map.contains_key(key));
-    }
+    key: &Key,
+) -> bool {
+    map.get(key).is_none() && !map.contains_key(key)
 }
 
-// Look-ups and walks.
-fn reads<Key: U64HashExtractable + Hash + Eq + Copy + Debug>(
-    rt: &impl Abort,
+// Whether look-ups of a key find a value.
+fn finds<Key: U64HashExtractable + Hash + Eq>(
     map: &PassThroughHashMap<Key, u32>,
-    first: Key,
-    second: Key,
-    lacking: Key,
-) {
-    assert_eq!(rt; map.len(), 2);
-    assert!(rt; !map.is_empty());
-    assert_eq!(rt; map.get(&first), Some(&10));
-    assert_eq!(rt; map.get(&lacking), None);
-    assert_eq!(rt; map.get_key_value(&second), Some((&second, &20)));
-    assert!(rt; map.contains_key(&second));
-    assert!(rt; !map.contains_key(&lacking));
-    assert_eq!(rt; map.as_map().get(&second), Some(&20));
+    key: &Key,
+    value: &u32,
+) -> bool {
+    map.get(key) == Some(value)
+        && map.get_key_value(key) == Some((key, value))
+        && map.contains_key(key)
+        && map.as_map().get(key) == Some(value)
+}
+
+// Whether each walk over a map goes to two keys, with the values 10 and 20.
+fn walks<Key: U64HashExtractable + Hash + Eq>(
+    map: &PassThroughHashMap<Key, u32>,
+    first: &Key,
+    second: &Key,
+) -> bool {
     let mut sum = 0u32;
     for (key, value) in map {
-        assert_eq!(rt; map.get(key), Some(value));
+        if map.get(key) != Some(value) {
+            return false;
+        }
         sum = sum.saturating_add(*value);
     }
-    assert_eq!(rt; sum, 30);
-    assert_eq!(rt; map.iter().count(), 2);
-    assert_eq!(rt;
-        map.keys()
-            .filter(|key| **key == first || **key == second)
-            .count(),
-        2
-    );
-    assert_eq!(rt; map.values().copied().max(), Some(20));
-}
-
-// What changes a map.
-fn changes<Key: U64HashExtractable + Hash + Eq + Copy + Debug>(
-    rt: &impl Abort,
-    alloc: Global,
-    first: Key,
-    second: Key,
-    lacking: Key,
-) -> Result<(), Fail> {
-    let mut map = PassThroughHashMap::with_capacity(alloc, 100)?;
-    assert!(rt; map.is_empty());
-    assert_eq!(rt; map.insert(first, "value1")?, None);
-    assert_eq!(rt; map.insert(first, "value2")?, Some("value1"));
-    assert_eq!(rt; map.get(&first), Some(&"value2"));
-    if let Some(value) = map.get_mut(&first) {
-        *value = "value3";
+    for key in map.keys() {
+        if key != first && key != second {
+            return false;
+        }
     }
-    assert_eq!(rt; map.get(&first), Some(&"value3"));
-    assert!(rt; map.get_mut(&second).is_none());
-    map.entry(second).or_insert("value4")?;
-    map.entry(second)
-        .and_modify(|value| *value = "value5")
-        .or_insert_with(|| "value6")?;
-    assert_eq!(rt; map.get(&second), Some(&"value5"));
-    assert_eq!(rt; map.remove(&lacking), None);
-    assert_eq!(rt; map.len(), 2);
-    assert_eq!(rt; map.remove(&first), Some("value3"));
-    assert_eq!(rt; map.remove_entry(&second), Some((second, "value5")));
-    assert_eq!(rt; map.remove_entry(&second), None);
-    assert!(rt; map.is_empty());
-    map.as_map_mut().insert(first, "value7")?;
-    assert_eq!(rt; map.get(&first), Some(&"value7"));
-    map.clear();
-    assert_eq!(rt; map.len(), 0);
-    Ok(())
+    sum == 30
+        && map.iter().count() == 2
+        && map.keys().count() == 2
+        && map.values().copied().max() == Some(20)
 }
 
-// What is made of a map, and a map of that.
-fn converts<Key: U64HashExtractable + Hash + Eq + Copy + Debug>(
-    rt: &impl Abort,
+// Whether a map has two keys, with the values 10 and 20, and not a third one.
+fn reads<Key: U64HashExtractable + Hash + Eq>(
+    map: &PassThroughHashMap<Key, u32>,
+    keys: &[Key; 3],
+) -> bool {
+    let [first, second, lacking] = keys;
+    map.len() == 2
+        && !map.is_empty()
+        && finds(map, first, &10)
+        && finds(map, second, &20)
+        && lacks(map, lacking)
+        && walks(map, first, second)
+}
+
+// Whether a standard map has what the map had that it is made of, and the other way round: two keys, with the
+// values 10 and 20.
+fn converts<Key: U64HashExtractable + Hash + Eq + Copy>(
     map: PassThroughHashMap<Key, u32>,
-    first: Key,
-    second: Key,
-) {
+    keys: &[Key; 3],
+) -> bool {
+    let [first, second, _] = keys;
     let mut inner: HashMap<Key, u32> = map.into();
-    assert_eq!(rt; inner.len(), 2);
-    assert_eq!(rt; inner.remove(&first), Some(10));
+    let had_both = inner.len() == 2 && inner.remove(first) == Some(10);
     let map = PassThroughHashMap::from(inner);
-    assert_eq!(rt; map.len(), 1);
+    let has_one = map.len() == 1;
     for (key, value) in map {
-        assert_eq!(rt; key, second);
-        assert_eq!(rt; value, 20);
+        if key != *second || value != 20 {
+            return false;
+        }
     }
+    had_both && has_one
 }
 
 #[test]
 fn finds_hashes_numbers_and_other_keys(rt: HostRuntime) -> Result<(), Fail> {
-    let [first, second, lacking] = hashes();
-    let map = PassThroughHashMap::from_array(rt.alloc(), [(first, 10), (second, 20)])?;
-    reads(&rt, &map, first, second, lacking);
-    converts(&rt, map, first, second);
-    let [first, second, lacking] = NUMBERS;
-    let map = PassThroughHashMap::from_array(rt.alloc(), [(first, 10), (second, 20)])?;
-    reads(&rt, &map, first, second, lacking);
-    converts(&rt, map, first, second);
-    let [first, second, lacking] = NAMES;
-    let map = PassThroughHashMap::from_array(rt.alloc(), [(first, 10), (second, 20)])?;
-    reads(&rt, &map, first, second, lacking);
-    converts(&rt, map, first, second);
+    let keys = hashes();
+    let map = PassThroughHashMap::from_array(rt.alloc(), [(keys[0], 10), (keys[1], 20)])?;
+    assert!(rt; reads(&map, &keys) && converts(map, &keys));
+    let keys = NUMBERS;
+    let map = PassThroughHashMap::from_array(rt.alloc(), [(keys[0], 10), (keys[1], 20)])?;
+    assert!(rt; reads(&map, &keys) && converts(map, &keys));
+    let keys = NAMES;
+    let map = PassThroughHashMap::from_array(rt.alloc(), [(keys[0], 10), (keys[1], 20)])?;
+    assert!(rt; reads(&map, &keys) && converts(map, &keys));
     Ok(())
+}
+
+// A map whose values are texts.
+type Texts<Key> = PassThroughHashMap<Key, &'static str>;
+
+// Inserts two values at a key, one after another.
+fn inserts<Key: U64HashExtractable + Hash + Eq + Copy>(
+    map: &mut Texts<Key>,
+    key: Key,
+) -> Result<bool, AllocError> {
+    let before = map.insert(key, "value1")?;
+    let replaced = map.insert(key, "value2")?;
+    Ok(before.is_none() && replaced == Some("value1") && map.get(&key) == Some(&"value2"))
+}
+
+// Writes to a value that is there, and looks for one that isn't.
+fn writes<Key: U64HashExtractable + Hash + Eq>(
+    map: &mut Texts<Key>,
+    key: &Key,
+    lacking: &Key,
+) -> bool {
+    if let Some(value) = map.get_mut(key) {
+        *value = "value3";
+    }
+    map.get(key) == Some(&"value3") && map.get_mut(lacking).is_none()
+}
+
+// Fills the place of a key that isn't there, and then changes what it has.
+fn enters<Key: U64HashExtractable + Hash + Eq + Copy>(
+    map: &mut Texts<Key>,
+    key: Key,
+) -> Result<bool, AllocError> {
+    map.entry(key).or_insert("value4")?;
+    map.entry(key)
+        .and_modify(|value| *value = "value5")
+        .or_insert_with(|| "value6")?;
+    Ok(map.get(&key) == Some(&"value5"))
+}
+
+// Removes a key that isn't there, and the two that are.
+fn removes<Key: U64HashExtractable + Hash + Eq + Copy>(
+    map: &mut Texts<Key>,
+    keys: &[Key; 3],
+) -> bool {
+    let [first, second, lacking] = keys;
+    map.remove(lacking).is_none()
+        && map.len() == 2
+        && map.remove(first) == Some("value3")
+        && matches!(map.remove_entry(second), Some((key, "value5")) if key == *second)
+        && map.remove_entry(second).is_none()
+        && map.is_empty()
+}
+
+// Inserts a value by the inner map, and removes all.
+fn clears<Key: U64HashExtractable + Hash + Eq + Copy>(
+    map: &mut Texts<Key>,
+    key: Key,
+) -> Result<bool, AllocError> {
+    map.as_map_mut().insert(key, "value7")?;
+    let has_value = map.get(&key) == Some(&"value7");
+    map.clear();
+    Ok(has_value && map.len() == 0)
+}
+
+// What changes a map, one after another.
+fn changes<Key: U64HashExtractable + Hash + Eq + Copy>(
+    alloc: Global,
+    keys: [Key; 3],
+) -> Result<bool, AllocError> {
+    let [first, second, _] = keys;
+    let mut map = PassThroughHashMap::with_capacity(alloc, 100)?;
+    Ok(
+        map.is_empty()
+            && inserts(&mut map, first)?
+            && writes(&mut map, &first, &second)
+            && enters(&mut map, second)?
+            && removes(&mut map, &keys)
+            && clears(&mut map, first)?,
+    )
 }
 
 #[test]
 fn changes_at_hashes_numbers_and_other_keys(rt: HostRuntime) -> Result<(), Fail> {
-    let [first, second, lacking] = hashes();
-    changes(&rt, rt.alloc(), first, second, lacking)?;
-    let [first, second, lacking] = NUMBERS;
-    changes(&rt, rt.alloc(), first, second, lacking)?;
-    let [first, second, lacking] = NAMES;
-    changes(&rt, rt.alloc(), first, second, lacking)
+    assert!(rt; changes(rt.alloc(), hashes())?);
+    assert!(rt; changes(rt.alloc(), NUMBERS)?);
+    assert!(rt; changes(rt.alloc(), NAMES)?);
+    Ok(())
 }
 
-// The two kinds of new maps.
-fn starts_empty<Key: U64HashExtractable + Hash + Eq + Copy + Debug>(
-    rt: &impl Abort,
+// Whether a map has no entries: none of these keys, and none on a walk.
+fn has_nothing<Key: U64HashExtractable + Hash + Eq>(
+    map: &PassThroughHashMap<Key, u32>,
+    keys: &[Key; 3],
+) -> bool {
+    for key in keys {
+        if !lacks(map, key) {
+            return false;
+        }
+    }
+    map.len() == 0 && map.is_empty() && map.iter().count() == 0
+}
+
+// Whether the two kinds of new maps have no entries.
+fn start_empty<Key: U64HashExtractable + Hash + Eq + Copy>(
     alloc: Global,
-    keys: &[Key],
-) -> Result<(), Fail> {
-    finds_nothing(rt, &PassThroughHashMap::new(alloc), keys);
-    finds_nothing(rt, &PassThroughHashMap::with_capacity(alloc, 100)?, keys);
-    Ok(())
+    keys: &[Key; 3],
+) -> Result<bool, AllocError> {
+    let with_room = PassThroughHashMap::with_capacity(alloc, 100)?;
+    Ok(has_nothing(&PassThroughHashMap::new(alloc), keys) && has_nothing(&with_room, keys))
 }
 
 #[test]
 fn new_maps_have_no_entries(rt: HostRuntime) -> Result<(), Fail> {
-    starts_empty(&rt, rt.alloc(), &hashes())?;
-    starts_empty(&rt, rt.alloc(), &NUMBERS)?;
-    starts_empty(&rt, rt.alloc(), &NAMES)
+    assert!(rt; start_empty(rt.alloc(), &hashes())?);
+    assert!(rt; start_empty(rt.alloc(), &NUMBERS)?);
+    assert!(rt; start_empty(rt.alloc(), &NAMES)?);
+    Ok(())
 }
 
 #[test]
@@ -231,11 +291,12 @@ fn the_last_value_of_a_key_wins(rt: HostRuntime) -> Result<(), Fail> {
         assert_eq!(rt; map.get(&1), Some(&30));
         assert_eq!(rt; map.get(&2), Some(&20));
     }
-    let [first, second, lacking] = hashes();
+    let keys = hashes();
+    let [first, second, _] = hashes();
     let map = PassThroughHashMap::from_array(rt.alloc(), [(first, 30), (second, 20), (first, 10)])?;
-    reads(&rt, &map, first, second, lacking);
+    assert!(rt; reads(&map, &keys));
     let map = PassThroughHashMap::from_pairs(rt.alloc(), [(first, 30), (second, 20), (first, 10)])?;
-    reads(&rt, &map, first, second, lacking);
+    assert!(rt; reads(&map, &keys));
     Ok(())
 }
 
@@ -277,54 +338,82 @@ fn write_one_at_place(map: &mut PassThroughHashMap<u64, u64>, key: u64) -> Resul
     Ok(())
 }
 
-// The calls of an occupied place and of a vacant one.
-fn changes_at_places<Key: U64HashExtractable + Hash + Eq + Copy + Debug>(
-    rt: &impl Abort,
-    alloc: Global,
-    first: Key,
-    second: Key,
-) -> Result<(), Fail> {
-    let mut map = PassThroughHashMap::new(alloc);
-    assert_eq!(rt; map.entry(first).key(), &first);
-    match map.entry(first) {
-        Entry::Occupied(_) => Err("an empty map has a value")?,
+// Fills the vacant place of a key.
+fn fills<Key: U64HashExtractable + Hash + Eq + Copy>(
+    map: &mut PassThroughHashMap<Key, u32>,
+    key: Key,
+) -> Result<bool, AllocError> {
+    let has_place = *map.entry(key).key() == key;
+    match map.entry(key) {
+        Entry::Occupied(_) => Ok(false),
         Entry::Vacant(place) => {
-            assert_eq!(rt; place.key(), &first);
-            *place.insert(1u32)? += 1;
+            let is_of_key = *place.key() == key;
+            *place.insert(1)? += 1;
+            Ok(has_place && is_of_key)
         }
     }
-    match map.entry(first) {
+}
+
+// Reads the value 2 at the occupied place of a key, and writes there twice.
+fn overwrites<Key: U64HashExtractable + Hash + Eq + Copy>(
+    map: &mut PassThroughHashMap<Key, u32>,
+    key: Key,
+) -> bool {
+    match map.entry(key) {
         Entry::Occupied(mut place) => {
-            assert_eq!(rt; place.key(), &first);
-            assert_eq!(rt; place.get(), &2);
-            assert_eq!(rt; place.insert(3), 2);
+            let was_two = *place.key() == key && *place.get() == 2 && place.insert(3) == 2;
             *place.into_mut() = 4;
+            was_two
         }
-        Entry::Vacant(_) => Err("the value is lacking")?,
+        Entry::Vacant(_) => false,
     }
-    if let Entry::Vacant(place) = map.entry(second) {
-        assert_eq!(rt; place.into_key(), second);
+}
+
+// What the place of a key gives back as it is emptied, or the key alone where it is vacant.
+fn emptied<Key: U64HashExtractable + Hash + Eq + Copy>(
+    map: &mut PassThroughHashMap<Key, u32>,
+    key: Key,
+) -> (Key, Option<u32>) {
+    match map.entry(key) {
+        Entry::Occupied(place) => {
+            let (key, value) = place.remove_entry();
+            (key, Some(value))
+        }
+        Entry::Vacant(place) => (place.into_key(), None),
     }
-    assert_eq!(rt; map.len(), 1);
-    if let Entry::Occupied(place) = map.entry(first) {
-        assert_eq!(rt; place.remove(), 4);
+}
+
+// The value that the place of a key gives back as it is emptied.
+fn removed<Key: U64HashExtractable + Hash + Eq + Copy>(
+    map: &mut PassThroughHashMap<Key, u32>,
+    key: Key,
+) -> Option<u32> {
+    match map.entry(key) {
+        Entry::Occupied(place) => Some(place.remove()),
+        Entry::Vacant(_) => None,
     }
+}
+
+// The calls of an occupied place and of a vacant one.
+fn changes_at_places<Key: U64HashExtractable + Hash + Eq + Copy>(
+    alloc: Global,
+    [first, second, _]: [Key; 3],
+) -> Result<bool, AllocError> {
+    let mut map = PassThroughHashMap::new(alloc);
+    let is_filled = fills(&mut map, first)? && overwrites(&mut map, first);
+    let stays_vacant = emptied(&mut map, second) == (second, None) && map.len() == 1;
+    let is_removed = removed(&mut map, first) == Some(4);
     map.insert(second, 5)?;
-    if let Entry::Occupied(place) = map.entry(second) {
-        assert_eq!(rt; place.remove_entry(), (second, 5));
-    }
-    assert!(rt; map.is_empty());
-    Ok(())
+    let is_emptied = emptied(&mut map, second) == (second, Some(5)) && map.is_empty();
+    Ok(is_filled && stays_vacant && is_removed && is_emptied)
 }
 
 #[test]
 fn places_are_read_filled_and_emptied(rt: HostRuntime) -> Result<(), Fail> {
-    let [first, second, _] = hashes();
-    changes_at_places(&rt, rt.alloc(), first, second)?;
-    let [first, second, _] = NUMBERS;
-    changes_at_places(&rt, rt.alloc(), first, second)?;
-    let [first, second, _] = NAMES;
-    changes_at_places(&rt, rt.alloc(), first, second)
+    assert!(rt; changes_at_places(rt.alloc(), hashes())?);
+    assert!(rt; changes_at_places(rt.alloc(), NUMBERS)?);
+    assert!(rt; changes_at_places(rt.alloc(), NAMES)?);
+    Ok(())
 }
 
 #[test]

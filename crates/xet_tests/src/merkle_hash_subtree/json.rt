@@ -73,109 +73,55 @@ fn a_subtree_read_back_is_merged_on(rt: HostRuntime) -> Result<(), Fail> {
     Ok(())
 }
 
-const ZERO: &str =
-    "{\"hash\":\"0000000000000000000000000000000000000000000000000000000000000000\",\"size\":0}";
-
-const GREAT: &str =
-    "{\"hash\":\"0000000000000000000000000000000000000000000000000000000000000000\",\"size\":18446744073709551615}";
-
-const SMALL: &str =
-    "{\"hash\":\"0000000000000000000000000000000000000000000000000000000000000000\",\"size\":1}";
-
 const FIRST: &str =
     "{\"hash\":\"CFC5D07F6F03C29BBF424132963FE08D19A37D5757AAF520BF08119F05CD56D6\",\"size\":100,\"more\":[]}";
 
+// Whether a text is refused by the rule of a number.
+fn breaks_rule(alloc: Global, rule: &str, text: &str) -> Result<bool, Fail> {
+    let refusal = CoreError::InvalidJson(rule.parse()?);
+    Ok(read_json(alloc, text)?.err() == Some(refusal))
+}
+
 #[test]
 fn the_least_broken_rule_is_told(rt: HostRuntime) -> Result<(), Fail> {
-    let zeros = format!(in rt.alloc(); "{ZERO},{ZERO}")?;
-    let sizes = format!(in rt.alloc(); "{GREAT},{SMALL}")?;
-    let firsts = format!(in rt.alloc(); "{FIRST},{FIRST}")?;
-    for (start, end, levels, nodes, rule) in [
-        (true, true, "[[1,0]]", "{\"hash\":\"00\",\"size\":1}", 3),
-        (
-            true,
-            true,
-            "[[1,0]]",
-            "{\"hash\":\"0000000000000000000000000000000000000000000000000000000000000000\",\"size\":-1}",
-            3,
-        ),
-        (
-            true,
-            true,
-            "[[1,0]]",
-            "{\"hash\":\"0000000000000000000000000000000000000000000000000000000000000000\",\"size\":1.0}",
-            3,
-        ),
-        (
-            true,
-            true,
-            "[[1,0]]",
-            "{\"hash\":\"0000000000000000000000000000000000000000000000000000000000000000\",\"size\":-0}",
-            3,
-        ),
-        (
-            true,
-            true,
-            "[[1,0]]",
-            "{\"hash\":\"0000000000000000000000000000000000000000000000000000000000000000\",\"size\":18446744073709551616}",
-            3,
-        ),
-        (true, true, "[[0]]", "", 4),
-        (true, true, "[[0,-1]]", "", 4),
-        (true, true, "[[0,0,0]]", "", 4),
-        (true, true, "[]", "", 5),
-        (true, true, "[[1,0]]", "", 6),
-        (
-            true,
-            true,
-            "[[18446744073709551615,18446744073709551615]]",
-            "",
-            6,
-        ),
-        (true, true, "[[18446744073709551615,1]]", "", 6),
-        (
-            true,
-            true,
-            "[[9223372036854775808,0],[9223372036854775808,0]]",
-            "",
-            6,
-        ),
-        (false, false, "[[2,0]]", sizes.as_str(), 7),
-        (false, false, "[[0,1]]", ZERO, 8),
-        (true, false, "[[1,0],[1,0]]", zeros.as_str(), 9),
-        (true, true, "[[2,0]]", zeros.as_str(), 10),
-        (true, true, "[[0,0],[0,0]]", "", 11),
-        (false, false, "[[1,0],[1,0]]", zeros.as_str(), 12),
-        (true, false, "[[0,1],[1,0]]", firsts.as_str(), 13),
-    ] {
-        let text = format!(in rt.alloc();
-            "{{\"at_start\":{start},\"at_end\":{end},\"levels\":{levels},\"nodes\":[{nodes}]}}"
-        )?;
-        assert!(rt;
-            read_json(rt.alloc(), text.as_str())? == Err(CoreError::InvalidJson(rule)),
-            "{text}"
-        );
+    let mut count = 0usize;
+    for row in BROKEN.lines() {
+        let (rule, text) = row.split_once(' ').ok_or("no rule")?;
+        assert!(rt; breaks_rule(rt.alloc(), rule, text)?, "{row}");
+        count = count.saturating_add(1);
     }
-    for (text, rule) in [
-        ("[]", 1),
-        ("null", 1),
-        ("{}", 2),
-        (
-            "{\"at_start\":0,\"at_end\":true,\"levels\":[],\"nodes\":[]}",
-            2,
-        ),
-        (
-            "{\"at_start\":true,\"at_end\":true,\"levels\":{},\"nodes\":[]}",
-            2,
-        ),
-    ] {
-        assert!(rt;
-            read_json(rt.alloc(), text)? == Err(CoreError::InvalidJson(rule)),
-            "{text}"
-        );
-    }
+    assert_eq!(rt; count, 25);
     Ok(())
 }
+
+// Each row has the least rule that a text breaks, and the text.
+const BROKEN: &str =
+    r#"3 {"at_start":true,"at_end":true,"levels":[[1,0]],"nodes":[{"hash":"00","size":1}]}
+3 {"at_start":true,"at_end":true,"levels":[[1,0]],"nodes":[{"hash":"0000000000000000000000000000000000000000000000000000000000000000","size":-1}]}
+3 {"at_start":true,"at_end":true,"levels":[[1,0]],"nodes":[{"hash":"0000000000000000000000000000000000000000000000000000000000000000","size":1.0}]}
+3 {"at_start":true,"at_end":true,"levels":[[1,0]],"nodes":[{"hash":"0000000000000000000000000000000000000000000000000000000000000000","size":-0}]}
+3 {"at_start":true,"at_end":true,"levels":[[1,0]],"nodes":[{"hash":"0000000000000000000000000000000000000000000000000000000000000000","size":18446744073709551616}]}
+4 {"at_start":true,"at_end":true,"levels":[[0]],"nodes":[]}
+4 {"at_start":true,"at_end":true,"levels":[[0,-1]],"nodes":[]}
+4 {"at_start":true,"at_end":true,"levels":[[0,0,0]],"nodes":[]}
+5 {"at_start":true,"at_end":true,"levels":[],"nodes":[]}
+6 {"at_start":true,"at_end":true,"levels":[[1,0]],"nodes":[]}
+6 {"at_start":true,"at_end":true,"levels":[[18446744073709551615,18446744073709551615]],"nodes":[]}
+6 {"at_start":true,"at_end":true,"levels":[[18446744073709551615,1]],"nodes":[]}
+6 {"at_start":true,"at_end":true,"levels":[[9223372036854775808,0],[9223372036854775808,0]],"nodes":[]}
+7 {"at_start":false,"at_end":false,"levels":[[2,0]],"nodes":[{"hash":"0000000000000000000000000000000000000000000000000000000000000000","size":18446744073709551615},{"hash":"0000000000000000000000000000000000000000000000000000000000000000","size":1}]}
+8 {"at_start":false,"at_end":false,"levels":[[0,1]],"nodes":[{"hash":"0000000000000000000000000000000000000000000000000000000000000000","size":0}]}
+9 {"at_start":true,"at_end":false,"levels":[[1,0],[1,0]],"nodes":[{"hash":"0000000000000000000000000000000000000000000000000000000000000000","size":0},{"hash":"0000000000000000000000000000000000000000000000000000000000000000","size":0}]}
+10 {"at_start":true,"at_end":true,"levels":[[2,0]],"nodes":[{"hash":"0000000000000000000000000000000000000000000000000000000000000000","size":0},{"hash":"0000000000000000000000000000000000000000000000000000000000000000","size":0}]}
+11 {"at_start":true,"at_end":true,"levels":[[0,0],[0,0]],"nodes":[]}
+12 {"at_start":false,"at_end":false,"levels":[[1,0],[1,0]],"nodes":[{"hash":"0000000000000000000000000000000000000000000000000000000000000000","size":0},{"hash":"0000000000000000000000000000000000000000000000000000000000000000","size":0}]}
+13 {"at_start":true,"at_end":false,"levels":[[0,1],[1,0]],"nodes":[{"hash":"CFC5D07F6F03C29BBF424132963FE08D19A37D5757AAF520BF08119F05CD56D6","size":100,"more":[]},{"hash":"CFC5D07F6F03C29BBF424132963FE08D19A37D5757AAF520BF08119F05CD56D6","size":100,"more":[]}]}
+1 []
+1 null
+2 {}
+2 {"at_start":0,"at_end":true,"levels":[],"nodes":[]}
+2 {"at_start":true,"at_end":true,"levels":{},"nodes":[]}
+"#;
 
 #[test]
 fn empty_sides_and_further_members_are_read(rt: HostRuntime) -> Result<(), Fail> {

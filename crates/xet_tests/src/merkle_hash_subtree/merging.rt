@@ -148,27 +148,46 @@ fn largest(
     MerkleHashSubtree::from_chunks(alloc, at_start, nodes, at_end)
 }
 
+// What the merge of two ranges is refused with, by either call. The range that takes in the other stays the same then.
+fn refusals(
+    alloc: Global,
+    left: MerkleHashSubtree,
+    right: MerkleHashSubtree,
+) -> Result<[Option<CoreError>; 2], Fail> {
+    let mut merged = left.try_clone()?;
+    let refusal = merged.merge_into(&right).err();
+    if refusal.is_some() && merged != left {
+        return Err("refused, and changed")?;
+    }
+    let answer = MerkleHashSubtree::merge(alloc, &[left, right]);
+    Ok([refusal, answer.err()])
+}
+
+// Whether two ranges with these marks are refused as they should be, be they empty or too large together.
+fn marks_count_first(
+    alloc: Global,
+    left_marks: (bool, bool),
+    right_marks: (bool, bool),
+) -> Result<bool, Fail> {
+    for (left_empty, right_empty) in MARKS {
+        let left = largest(alloc, left_marks, left_empty)?;
+        let right = largest(alloc, right_marks, right_empty)?;
+        let expected = refusal(left.at_end(), right.at_start(), !left_empty && !right_empty);
+        if refusals(alloc, left, right)? != [expected; 2] {
+            return Ok(false);
+        }
+    }
+    Ok(true)
+}
+
 #[test]
 fn marks_between_ranges_are_refused_before_sizes(rt: HostRuntime) -> Result<(), Fail> {
-    for left_marks in MARKS {
-        for right_marks in MARKS {
-            for (left_empty, right_empty) in [
-                (false, false),
-                (true, false),
-                (false, true),
-                (true, true),
-            ] {
-                let left = largest(rt.alloc(), left_marks, left_empty)?;
-                let right = largest(rt.alloc(), right_marks, right_empty)?;
-                let overflows = !left_empty && !right_empty;
-                let expected = refusal(left.at_end(), right.at_start(), overflows);
-                let mut merged = left.try_clone()?;
-                let case = (left_marks, left_empty, right_marks, right_empty);
-                assert_eq!(rt; merged.merge_into(&right).err(), expected, "{case:?}");
-                assert!(rt; expected.is_none() || merged == left, "{case:?}");
-                let answer = MerkleHashSubtree::merge(rt.alloc(), &[left, right]);
-                assert_eq!(rt; answer.err(), expected, "{case:?}");
-            }
+    for left in MARKS {
+        for right in MARKS {
+            assert!(rt;
+                marks_count_first(rt.alloc(), left, right)?,
+                "{left:?}, {right:?}"
+            );
         }
     }
     Ok(())
@@ -198,27 +217,36 @@ fn all_marks_are_looked_at_before_all_sizes(rt: HostRuntime) -> Result<(), Fail>
     Ok(())
 }
 
+// What the merge of two nodes of these sizes is refused with. Where it isn't, the merged ones have the root of both.
+fn joint_refusal(alloc: Global, size: u64, next: u64) -> Result<Option<CoreError>, Fail> {
+    let hash = DataHash::random_from_seed(3);
+    let left = MerkleHashSubtree::from_chunks(alloc, true, &[(hash, size)], false)?;
+    let right = MerkleHashSubtree::from_chunks(alloc, false, &[(hash, next)], true)?;
+    let root = xorb_hash(alloc, &[(hash, size), (hash, next)]);
+    let mut merged = left.try_clone()?;
+    let refusal = merged.merge_into(&right).err();
+    if merged.final_hash() != root.ok() || refusal.is_some() && merged != left {
+        return Err("another root, or refused and changed")?;
+    }
+    Ok(refusal)
+}
+
 #[test]
 fn joint_sizes_stay_below_two_to_the_64(rt: HostRuntime) -> Result<(), Fail> {
-    let hash = DataHash::random_from_seed(3);
-    for (size, next, expected) in [
-        (u64::MAX, 0, None),
-        (0, u64::MAX, None),
-        (u64::MAX, 1, Some(CoreError::SizeOverflow)),
-        (1, u64::MAX, Some(CoreError::SizeOverflow)),
-        (1 << 63, 1 << 63, Some(CoreError::SizeOverflow)),
+    for (size, next, fits) in [
+        (u64::MAX, 0, true),
+        (0, u64::MAX, true),
+        (u64::MAX, 1, false),
+        (1, u64::MAX, false),
+        (1 << 63, 1 << 63, false),
     ] {
-        let left = MerkleHashSubtree::from_chunks(rt.alloc(), true, &[(hash, size)], false)?;
-        let right = MerkleHashSubtree::from_chunks(rt.alloc(), false, &[(hash, next)], true)?;
-        let mut merged = left.try_clone()?;
-        assert_eq!(rt;
-            merged.merge_into(&right).err(),
-            expected,
-            "{size} and {next}"
-        );
-        let whole = xorb_hash(rt.alloc(), &[(hash, size), (hash, next)]);
-        assert_eq!(rt; merged.final_hash(), whole.ok(), "{size} and {next}");
-        assert!(rt; expected.is_none() || merged == left, "{size} and {next}");
+        let expected = if fits {
+            None
+        } else {
+            Some(CoreError::SizeOverflow)
+        };
+        let refusal = joint_refusal(rt.alloc(), size, next)?;
+        assert_eq!(rt; refusal, expected, "{size} and {next}");
     }
     Ok(())
 }
