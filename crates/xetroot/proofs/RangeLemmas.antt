@@ -1,13 +1,9 @@
 -- What holds of the pairs of ranges.
-use Rattle.std.proofs.Common.{◌≡◌, ◌+◌, ◌^◌, ◌<◌, ◌≤◌, ◌⊎◌, ◌↔◌, ℕ, Bool, IsTrue, inl, inr, arith, false, List, [], ◌++◌, refl, sym, ap, subst, ◌∙◌, append-nil}
-use Rattle.std.specs.Prelude.{Result, Ok, Err, IfErr, IsErrOf}
+use Rattle.std.proofs.Common.{◌^◌, ◌<◌, arith, List}
 use Rattle.std.specs.declared.clone.Clone as clone
-use Rattle.std.proofs.lemmas.Bool.{false≢true}
 use Rattle.xet_merkle.specs.Groups.{Node}
 use Rattle.xet_merkle.specs.Roots.{total_size}
 use Rattle.xet_merkle.specs.declared.chunk_range.ChunkRange as chunk_range
-use Rattle.xet_merkle.specs.declared.error.CoreError.{CoreError}
-use Rattle.xet_merkle.specs.declared.error.CoreError.TheVariants.{InvalidArguments, SizeOverflow, OutOfMemory}
 use Rattle.xetroot.specs.declared.ranges.Ranges.{Ranges}
 use Rattle.xetroot.specs.Steps.Ranges.{HoldPairs}
 

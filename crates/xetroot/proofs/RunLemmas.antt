@@ -1,11 +1,6 @@
 -- What is known of a whole input from what was read of it.
-use Rattle.std.proofs.Common.{◌≡◌, ◌<◌, ℕ, List, [], ◌∷◌, ◌++◌, length, replicate, refl, sym, ap, subst, ◌∙◌, arith, Option, Some, None, IfSome}
+use Rattle.std.proofs.Common.{ℕ, List, ◌++◌, sym, subst, Option, Some, None, IfSome}
 use Rattle.std.specs.Io.KnownBytes.{Consumes}
-use Rattle.xet_hash.specs.Blake3.{keyed_hash}
-use Rattle.xet_hash.specs.Hash.{default_hash, bytes_of, hash_of}
-use Rattle.xet_merkle.specs.Groups.{Node}
-use Rattle.xet_merkle.specs.Roots.{IsRoot, IsFileHash}
-use Rattle.xet_merkle.specs.Roots.IsRootBy.{no_node, one_node, of_parents}
 
 -- what holds however the input goes on holds of the input
 pub IfSome-consumed : (old new : Option (List ℕ)) (read : List ℕ) (P : List ℕ → Type 0) → Consumes old new read → ((rest : List ℕ) → P (read ++ rest)) → IfSome old P

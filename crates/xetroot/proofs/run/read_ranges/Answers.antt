@@ -1,6 +1,6 @@
 use Rattle.std.proofs.Common.{◌++◌, ℕ, List, take, arith, length-append, length-take}
 use Rattle.std.proofs.KnownBytes.{Consumes-trans}
-use Rattle.std.proofs.lemmas.Result.{err_from_is_err_and, IfOk-weaker}
+use Rattle.std.proofs.lemmas.Result.{err_from_is_err_and}
 use Rattle.xetroot.specs.Answer.{IsFaultOf}
 use Rattle.xetroot.proofs.RunLemmas.{IfSome-consumed}
 use Rattle.xetroot.proofs.run.read_ranges.Goals as goal

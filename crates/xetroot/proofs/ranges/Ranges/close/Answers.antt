@@ -1,5 +1,4 @@
-use Rattle.std.proofs.Common.{◌≡◌, ◌++◌, List, [], sym, ap, subst, ◌∙◌, rules}
-use Rattle.std.proofs.lemmas.Grind.{common_steps}
+use Rattle.std.proofs.Common.{◌++◌, List, [], sym, ap, subst, ◌∙◌, rules}
 use Rattle.xet_merkle.specs.Groups.{Node}
 use Rattle.xetroot.proofs.ranges.Ranges.close.Goals as goal
 

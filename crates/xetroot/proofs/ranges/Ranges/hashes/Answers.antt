@@ -1,6 +1,5 @@
 use Rattle.std.proofs.Common.{ℕ, List, Option, IfSome, subst, rules}
 use Rattle.xet_merkle.specs.Roots.{IsRoot}
-use Rattle.xet_merkle.specs.Groups.{Node}
 use Rattle.xetroot.proofs.ranges.Ranges.hashes.Goals as goal
 
 pub returns-clause-root : goal.returns-clause-root
