@@ -4,7 +4,7 @@
 //! A list is cut into groups of nodes; each group becomes a parent, whose hash is that of the group's
 //! text and whose size is the sum of the group's. The root of a list is that of its parents.
 
-ghost use Rattle.std.specs.Prelude.{◌≡◌, ◌⊎◌, ◌+◌, ◌^◌, ◌<◌, ◌≤◌, ◌↔◌, List, ◌++◌, length, take, drop, replicate, IsOk, IfOk, IfErr, IsErrOf, IsSome, SomeIff};
+ghost use Rattle.std.specs.Prelude.{◌≡◌, ◌⊎◌, ◌+◌, ◌^◌, ◌<◌, ◌≤◌, ◌↔◌, List, ◌++◌, length, take, drop, replicate, IsOk, IfOk, IfErr, IsErrOf, IsSome, IsTrue, SomeIff};
 ghost use Rattle.arrayvec.specs.ArrayVec.{array_vec_len};
 ghost use Rattle.xet_merkle.specs.Groups.{Node, is_cut};
 ghost use Rattle.xet_merkle.specs.Roots.{total_size, node_line, group_text, parent, IsRoot, IsFileHash};
@@ -195,10 +195,23 @@ pub fn file_hash_with_salt<A: Allocator>(
     ensures short { length chunks.now ≤ 1 → IsOk result }
 {
     let root = xorb_hash(alloc, chunks)?;
-    if chunks.is_empty() {
-        return Ok(root);
+    Ok(file_hash_of_root(root, chunks.is_empty(), salt))
+}
+
+/// The file hash of a list of chunks under a salt, where its root is at hand and the chunks may be gone: for no chunk the
+/// root, which is the default hash, whatever the salt, else the root's [`hmac`](xet_hash::data_hash::DataHash::hmac)
+/// under the salt's 32 bytes.
+///
+/// Whether the list is empty is asked for, since its root doesn't tell: a single chunk's root is the chunk's own hash,
+/// which may be the default hash too.
+pub fn file_hash_of_root(root: MerkleHash, is_empty: bool, salt: &[u8; 32]) -> MerkleHash
+    ensures { (chunks : List Node) → IsRoot chunks root → (IsTrue is_empty ↔ (length chunks ≡ 0)) →
+        IsFileHash chunks salt.now result }
+{
+    if is_empty {
+        return root;
     }
-    Ok(root.hmac(HMACKey::from(salt)))
+    root.hmac(HMACKey::from(salt))
 }
 
 /// The file hash of a list of chunks without a salt, which is that under 32 zero bytes.

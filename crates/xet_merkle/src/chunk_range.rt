@@ -42,6 +42,7 @@ pub trait ChunkRange: Drop {
         ensures stands { IfOk result (λ range. stands range chunks.now) }
         ensures start { IfOk result (λ range. start range ≡ at_start) }
         ensures end { IfOk result (λ range. end range ≡ at_end) }
+        ensures total { IfOk result (λ range. total range ≡ total_size chunks.now) }
         ensures overflow { IsErrOf result CoreError.SizeOverflow ↔ (2 ^ 64 ≤ total_size chunks.now) }
         ensures errors { IfErr result (λ e. (e ≡ CoreError.SizeOverflow) ⊎ (e ≡ CoreError.OutOfMemory)) };
 

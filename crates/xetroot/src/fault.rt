@@ -2,12 +2,10 @@
 
 ghost use Rattle.std.specs.Prelude.{◌≡◌};
 ghost use Rattle.xetroot.specs.Status.{status_of};
-ghost use Rattle.xet_merkle.specs.declared.error.CoreError.TheVariants.{OutOfMemory};
 ghost use Rattle.xetroot.specs.declared.fault.Fault.TheVariants.{Memory};
 
 use std::alloc::{AllocError, AllocFailed};
 use std::fmt;
-use xet_merkle::CoreError;
 
 /// Why [`run`](crate::run::run) was refused.
 #[derive(Clone, Copy, Debug, PartialEq, Eq)]
@@ -56,15 +54,6 @@ impl<T: Drop> From<AllocFailed<T>> for Fault {
     ghost from_gives = { λ _ fault. fault ≡ Memory };
 
     fn from(_error: AllocFailed<T>) -> Fault {
-        Fault::Memory
-    }
-}
-
-// Nothing is said of the other errors, so where a contract speaks of the fault, nothing but memory can be wanting.
-impl From<CoreError> for Fault {
-    ghost from_gives = { λ error fault. error ≡ OutOfMemory → fault ≡ Memory };
-
-    fn from(_error: CoreError) -> Fault {
         Fault::Memory
     }
 }

@@ -10,7 +10,8 @@ use crate::line::Line;
 use crate::open_line::OpenLine;
 use crate::ranges::Ranges;
 use memchr::memchr;
-use std::alloc::Allocator;
+use std::alloc::AllocError;
+use xet_merkle::chunk_range::ChunkRange;
 
 // The most bytes of an input.
 const BYTE_LIMIT: u64 = 1 << 40;
@@ -19,8 +20,8 @@ const BYTE_LIMIT: u64 = 1 << 40;
 ///
 /// It keeps the pairs as [`Ranges`] do, and of the text the open line alone, in fixed room.
 #[derive(Drop)]
-pub struct Reading<A: Allocator> {
-    ranges: Ranges<A>,
+pub struct Reading<C: ChunkRange> {
+    ranges: Ranges<C>,
     // The number of bytes taken.
     count: u64,
     // The number of the open line, from 1.
@@ -28,15 +29,14 @@ pub struct Reading<A: Allocator> {
     line: OpenLine,
 }
 
-impl<A: Allocator + Clone> Reading<A> {
+impl<C: ChunkRange> Reading<C> {
     ghost use Rattle.xetroot.specs.Steps.Open.{IsOpenLine};
     ghost use Rattle.xetroot.specs.Steps.Ranges.{HoldPairs};
     ghost use Rattle.xetroot.specs.Steps.Taken.{IsTaken, HoldGood, HoldMore, IsLineFault};
 
     /// A reading of nothing yet.
-    pub fn new(alloc: A) -> Result<Self, Fault>
-        ensures taken { IfOk result (λ reading. IsTaken reading []) }
-        ensures errors { IfErr result (λ fault. fault ≡ Fault.Memory) }
+    pub fn new(alloc: C::Alloc) -> Result<Self, AllocError>
+        ensures { IfOk result (λ reading. IsTaken reading []) }
     {
         Ok(Reading {
             ranges: Ranges::new(alloc)?,
@@ -63,7 +63,7 @@ impl<A: Allocator + Clone> Reading<A> {
     }
 
     /// The pairs, where the input ends here. A fault is as that of `take`.
-    pub fn finish(mut self) -> Result<Ranges<A>, Fault>
+    pub fn finish(mut self) -> Result<Ranges<C>, Fault>
         ensures pairs { IfOk result (λ ranges. (text : List ℕ) → IsTaken self text → HoldGood ranges text) }
         ensures fault { IfErr result (λ fault. (text : List ℕ) →
             IsTaken self text → IsFaultOf text fault) }
@@ -139,7 +139,7 @@ impl<A: Allocator + Clone> Reading<A> {
     {
         match self.line.says() {
             None => Err(Fault::BadLine(self.number)),
-            Some(Line::Separator) => self.ranges.end_range(),
+            Some(Line::Separator) => Ok(self.ranges.end_range()?),
             Some(Line::Pair(pair)) => self.ranges.push(pair, self.number),
         }
     }

@@ -15,6 +15,8 @@ use arrayvec::ArrayVec;
 use std::alloc::Allocator;
 use std::io::{ErrorKind, Read, Write};
 use xet_hash::data_hash::MerkleHash;
+use xet_merkle::chunk_range::ChunkRange;
+use xet_merkle::merkle_hash_subtree::MerkleHashSubtree;
 
 // The most bytes that one read is asked for.
 const BUFFER_LEN: usize = 65536;
@@ -47,13 +49,36 @@ pub fn run<R: Read, W: Write>(alloc: impl Allocator, r: &mut R, w: &mut W) -> Re
         (written rest : List ℕ) × IsAnswer text (written ++ rest)
         × Appends (W.contents w.old) (W.contents w.new) written) }
 {
-    let (root, file) = read_ranges(&alloc, r)?.hashes()?;
+    run_with::<MerkleHashSubtree<_>, R, W>(&alloc, r, w)
+}
+
+/// Does what [`run`] does by another kind of range: it keeps the ranges that are ended as one `C`, which takes its memory
+/// of `alloc`, and the rest as `run` does. The output and the faults are those of `run`, and so is what was read and
+/// written at each; only when memory is wanting depends on `C`.
+pub fn run_with<C: ChunkRange, R: Read, W: Write>(
+    alloc: C::Alloc,
+    r: &mut R,
+    w: &mut W,
+) -> Result<(), Fault>
+    // What was written is the answer to the whole input.
+    ensures answer { OnOk result (IfSome (R.remaining r.old) (λ text.
+        (output : List ℕ) × IsAnswer text output × Appends (W.contents w.old) (W.contents w.new) output)) }
+    ensures read { OnOk result (IsAtEnd (R.remaining r.new)) }
+
+    // The fault of a line is that of the whole input, the part that was left unread included.
+    ensures fault { IfErr result (λ fault. IfSome (R.remaining r.old) (λ text. IsFaultOf text fault)) }
+    ensures unwritten { IfErr result (λ fault. fault ≢ Fault.Write →
+        Keeps (W.contents w.old) (W.contents w.new)) }
+    ensures begun { result ≡ Err Fault.Write → IfSome (R.remaining r.old) (λ text.
+        (written rest : List ℕ) × IsAnswer text (written ++ rest)
+        × Appends (W.contents w.old) (W.contents w.new) written) }
+{
+    let (root, file) = read_ranges::<C, R>(alloc, r)?.hashes()?;
     write_all(w, output(&root, &file).as_slice())
 }
 
 // The pairs of the whole input.
-fn read_ranges<A: Allocator + Clone, R: Read>(alloc: A, r: &mut R) -> Result<Ranges<A>, Fault>
-    ensures held { IfOk result (λ ranges. (pairs : List Node) × HoldPairs ranges pairs) }
+fn read_ranges<C: ChunkRange, R: Read>(alloc: C::Alloc, r: &mut R) -> Result<Ranges<C>, Fault>
     ensures pairs { IfOk result (λ ranges. IfSome (R.remaining r.old) (HoldGood ranges)) }
     ensures read { OnOk result (IsAtEnd (R.remaining r.new)) }
     ensures fault { IfErr result (λ fault. IfSome (R.remaining r.old) (λ text. IsFaultOf text fault)) }

@@ -1,9 +1,10 @@
 use crate::fault::Fault;
-use crate::run::run;
+use crate::run::{run, run_with};
 use std::io;
 use std::io::{Read, Write};
 use std::test::Fail;
 use xet_hash::data_hash::DataHash;
+use xet_merkle::plain_range::PlainRange;
 
 const H1: &str = "cfc5d07f6f03c29bbf424132963fe08d19a37d5757aaf520bf08119f05cd56d6";
 
@@ -119,6 +120,31 @@ fn answers_chunks_in_lines(rt: HostRuntime) -> Result<(), Fail> {
         let mut output = Vec::new(rt.alloc());
         let mut reader = input;
         assert_eq!(rt; run(rt.alloc(), &mut reader, &mut output), Ok(()));
+        assert_eq!(rt; output.as_slice(), want.as_bytes());
+    }
+    Ok(())
+}
+
+#[test]
+fn ranges_that_keep_their_chunks_answer_the_same(rt: HostRuntime) -> Result<(), Fail> {
+    let one = format!(in rt.alloc(); "{H1} 100")?;
+    let three = format!(in rt.alloc(); "{H1} 100\n{H2} 200\n{H3} 300\n")?;
+    let with_ranges = format!(in rt.alloc(); "--\n--\n{H1} 100\n--\n{H2} 200\n{H3} 300\n--")?;
+    let mixed = format!(in rt.alloc(); "{H1} 100\n+\n--\n++a\0\r\n+--\n")?;
+    for (input, want) in [
+        (b"".as_slice(), NO_PAIR),
+        (b"--", NO_PAIR),
+        (one.as_bytes(), ONE_PAIR),
+        (three.as_bytes(), THREE_PAIRS),
+        (with_ranges.as_bytes(), THREE_PAIRS),
+        (b"+abc", ABC),
+        (b"+", NO_BYTES),
+        (mixed.as_bytes(), PAIR_AND_CHUNKS),
+    ] {
+        let mut output = Vec::new(rt.alloc());
+        let mut reader = input;
+        let result = run_with::<PlainRange, _, _>(rt.alloc(), &mut reader, &mut output);
+        assert_eq!(rt; result, Ok(()));
         assert_eq!(rt; output.as_slice(), want.as_bytes());
     }
     Ok(())

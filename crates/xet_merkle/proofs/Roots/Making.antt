@@ -68,6 +68,15 @@ IsRoot-one [] d e = absurd (omega arith)
 IsRoot-one (node ∷ []) d e = one_node
 IsRoot-one (node ∷ next ∷ nodes) d e = absurd (omega arith)
 
+root_of_none : {nodes : List Node} {hash : List ℕ} → length nodes ≡ 0 → IsRoot nodes hash → hash ≡ default_hash
+root_of_none e no_node = refl
+root_of_none e one_node = absurd (omega arith)
+root_of_none e (of_parents two groups root) = absurd (omega arith)
+
+pub IsFileHash-none : (nodes : List Node) (salt root : List ℕ) → length nodes ≡ 0 → IsRoot nodes root → IsFileHash nodes salt root
+IsFileHash-none [] salt root e is_root = root_of_none refl is_root
+IsFileHash-none (node ∷ nodes) salt root e is_root = absurd (omega arith)
+
 pub IsFileHash-some : (nodes : List Node) (salt root hash : List ℕ) → 0 < length nodes → IsRoot nodes root →
     hash ≡ hash_of (keyed_hash salt (bytes_of root)) → IsFileHash nodes salt hash
 IsFileHash-some [] salt root hash some is_root e = absurd (omega arith)

@@ -1,7 +1,9 @@
 -- Where a reading of the input stands, which private contracts and proofs speak of.
 use Rattle.std.specs.Prelude.{◌≡◌, ℕ, ◌+◌, ◌≤◌, List, [], ◌∷◌, ◌++◌, length}
 use Rattle.std.specs.List.{concat}
+use Rattle.std.specs.declared.clone.Clone as clone
 use Rattle.xet_merkle.specs.Groups.{Node}
+use Rattle.xet_merkle.specs.declared.chunk_range.ChunkRange as chunk_range
 use Rattle.xetroot.specs.declared.reading.Reading.{Reading}
 use Rattle.xetroot.specs.declared.fault.Fault.{Fault}
 use Rattle.xetroot.specs.declared.fault.Fault.TheVariants.{BadLine, Sizes, Memory, Read, Write}
@@ -20,27 +22,28 @@ pub record StandsAt (text : List ℕ) (pairs : List Node) (number : ℕ) (line :
   pub number_is : number ≡ length before + 1
   pub is_open : NoNewline line
 
--- a reading has taken a text
-pub record IsTaken {A : Type 0} (reading : Reading A) (text : List ℕ) : Type 0 where
-  pub pairs : List Node
-  pub line : List ℕ
-  pub held : HoldPairs reading.ranges pairs
-  pub stands : StandsAt text pairs reading.number line
-  pub open_line : IsOpenLine reading.line line
-  pub count_is : reading.count ≡ length text
-  pub within : length text ≤ byte_limit
-
--- ranges hold what the good lines of a text say
-abbrev pub HoldGood : {A : Type 0} → Ranges A → List ℕ → Type 0
-HoldGood ranges text = (pairs : List Node) × HoldPairs ranges pairs × AreGood (lines_of text) pairs
-
 -- what a line says has been added to some pairs
 abbrev pub AddsLine : List Node → List Node → List ℕ → Type 0
 AddsLine old new line = (before : List (List ℕ)) → Say before old → Say (before ++ line ∷ []) new
 
--- ranges hold some pairs and what a line says
-abbrev pub HoldMore : {A : Type 0} → Ranges A → List Node → List ℕ → Type 0
-HoldMore ranges pairs line = (more : List Node) × HoldPairs ranges more × AddsLine pairs more line
+module _ {C A : Type 0} {kept : chunk_range.Ghosts C A} {copied : clone.Ghosts A} where
+  -- a reading has taken a text
+  pub record IsTaken (reading : Reading C A kept copied) (text : List ℕ) : Type 0 where
+    pub pairs : List Node
+    pub line : List ℕ
+    pub held : HoldPairs reading.ranges pairs
+    pub stands : StandsAt text pairs reading.number line
+    pub open_line : IsOpenLine reading.line line
+    pub count_is : reading.count ≡ length text
+    pub within : length text ≤ byte_limit
+
+  -- ranges hold what the good lines of a text say
+  abbrev pub HoldGood : Ranges C A kept copied → List ℕ → Type 0
+  HoldGood ranges text = (pairs : List Node) × HoldPairs ranges pairs × AreGood (lines_of text) pairs
+
+  -- ranges hold some pairs and what a line says
+  abbrev pub HoldMore : Ranges C A kept copied → List Node → List ℕ → Type 0
+  HoldMore ranges pairs line = (more : List Node) × HoldPairs ranges more × AddsLine pairs more line
 
 -- the fault of a line after good lines, which say these pairs; want of memory is no line's fault
 abbrev pub IsLineFault : ℕ → List Node → List ℕ → Fault → Type 0

@@ -1,14 +1,9 @@
 use Rattle.std.proofs.Common.{◌++◌, ℕ, List, take, arith, length-append, length-take}
 use Rattle.std.proofs.KnownBytes.{Consumes-trans}
-use Rattle.std.proofs.lemmas.Result.{err_from_is_err_and, IfOk-weaker}
+use Rattle.std.proofs.lemmas.Result.{err_from_is_err_and}
 use Rattle.xetroot.specs.Answer.{IsFaultOf}
 use Rattle.xetroot.proofs.RunLemmas.{IfSome-consumed}
 use Rattle.xetroot.proofs.run.read_ranges.Goals as goal
-
-pub returns-then-n-eq0-clause-held : goal.returns-then-n-eq0-clause-held
-returns-then-n-eq0-clause-held g c =
-    let inv = c.pieces.invariant in
-    IfOk-weaker c.finish.result _ _ (λ ranges good. let held = good inv.0 inv.1 in (held.0, held.1)) c.finish.ensures.pairs
 
 pub pieces-preserved : goal.pieces-preserved
 pieces-preserved g c =

@@ -1,4 +1,4 @@
-use Rattle.std.proofs.Common.{◌≤◌, ◌^◌, Err, inl, inr, ap, arith}
+use Rattle.std.proofs.Common.{Err, inl, inr, ap, arith}
 use Rattle.xet_merkle.specs.Roots.{total_size}
 use Rattle.xet_merkle.proofs.Json.Reading.{passed_on}
 use Rattle.xet_merkle.proofs.plain_range.PlainRangeChunkRange.root.Goals as goal

@@ -8,18 +8,12 @@ use Rattle.xetroot.proofs.reading.Reading.add_line.Goals as goal
 pub returns-in-None-clause-fault : goal.returns-in-None-clause-fault
 returns-in-None-clause-fault g c = λ pairs line held is. (refl, c.in-None.ensures.nothing (content line) is)
 
-pub returns-in-Some-Separator-clause-says : goal.returns-in-Some-Separator-clause-says
-returns-in-Some-Separator-clause-says g c =
-    on_ok_weaker c.end_range.result (λ same pairs line held is. (
-      pairs,
-      same pairs held,
-      AddsLine-separator pairs line (rw c.in-Some-Separator.field-0-is at (c.in-Some-Separator.ensures.says (content line) is)),
-    ))
-    c.end_range.ensures.same
-
-pub returns-in-Some-Separator-clause-fault : goal.returns-in-Some-Separator-clause-fault
-returns-in-Some-Separator-clause-fault g c =
-    IfErr-weaker c.end_range.result _ _ (λ fault is pairs line held open_line. subst (IsLineFault c.args.self.now.number pairs line) (sym is) tt) c.end_range.ensures.errors
+pub returns-in_ok-end_range-in-Some-Separator-clause-says : goal.returns-in_ok-end_range-in-Some-Separator-clause-says
+returns-in_ok-end_range-in-Some-Separator-clause-says g c = λ pairs line held is. (
+  pairs,
+  c.in_ok-end_range-in-Some-Separator.ensures.same pairs held,
+  AddsLine-separator pairs line (rw c.in-Some-Separator.field-0-is at (c.in-Some-Separator.ensures.says (content line) is)),
+)
 
 pub returns-in-Some-Pair-clause-says : goal.returns-in-Some-Pair-clause-says
 returns-in-Some-Pair-clause-says g c =

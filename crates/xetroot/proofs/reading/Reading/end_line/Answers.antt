@@ -3,6 +3,7 @@ use Rattle.std.proofs.lemmas.Result.{err_from_is_err_and}
 use Rattle.xetroot.specs.Lines.{newline}
 use Rattle.xetroot.specs.Steps.Open.{IsOpenLine}
 use Rattle.xetroot.proofs.LineLemmas.{content-whole}
+use Rattle.xetroot.proofs.RangeLemmas.{HoldPairs-fits}
 use Rattle.xetroot.proofs.ReadingLemmas.{StandsAt-end, IsFaultOf-ended}
 use Rattle.xetroot.proofs.reading.Reading.end_line.Goals as goal
 
@@ -20,7 +21,7 @@ returns-clause-taken g c = λ text within taken.
     let held = subst (IsOpenLine c.args.self.now.line) (sym (content-whole line)) taken.open_line in
     let added = c.in_ok-add_line.ensures in
     let more = added.says taken.pairs (line ++ newline ∷ []) taken.held held in
-    let stands = StandsAt-end text _ _ _ line more.2 more.1.fits within taken.stands in
+    let stands = StandsAt-end text _ _ _ line more.2 (HoldPairs-fits _ more.0 more.1) within taken.stands in
     let number : c.saturating_add-self-2.result ≡ c.args.self.now.number + 1 =
     let kept = added.kept.1 in
     let is = taken.stands.number_is in

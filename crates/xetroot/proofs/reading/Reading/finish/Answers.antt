@@ -3,6 +3,7 @@ use Rattle.std.proofs.lemmas.Result.{err_from_is_err_and}
 use Rattle.std.proofs.lemmas.Bool.Decides.{nat_tests}
 use Rattle.xetroot.specs.Steps.Open.{IsOpenLine}
 use Rattle.xetroot.proofs.LineLemmas.{content-open}
+use Rattle.xetroot.proofs.RangeLemmas.{HoldPairs-fits}
 use Rattle.xetroot.proofs.ReadingLemmas.{AreGood-all, AreGood-last, IsFaultOf-last}
 use Rattle.xetroot.proofs.reading.Reading.finish.Goals as goal
 
@@ -27,4 +28,4 @@ returns-clause-pairs g c = λ text taken.
     let held = subst (IsOpenLine c.args.self.line) (sym (content-open line taken.stands.is_open)) taken.open_line in
     let added = c.in_ok-add_line.ensures in
     let more = added.says taken.pairs line taken.held held in
-    (more.0, more.1, AreGood-last text _ _ _ line some taken.within more.2 more.1.fits taken.stands)
+    (more.0, more.1, AreGood-last text _ _ _ line some taken.within more.2 (HoldPairs-fits _ more.0 more.1) taken.stands)

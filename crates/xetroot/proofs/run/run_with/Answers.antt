@@ -3,7 +3,7 @@ use Rattle.std.specs.Io.KnownBytes.{Appends}
 use Rattle.std.proofs.lemmas.Result.{on_ok_weaker, IfErr-at_err}
 use Rattle.xetroot.specs.Answer.{IsAnswer, IsOutput}
 use Rattle.xetroot.proofs.RunLemmas.{IfSome-weaker}
-use Rattle.xetroot.proofs.run.run.Goals as goal
+use Rattle.xetroot.proofs.run.run_with.Goals as goal
 
 pub returns-clause-answer : goal.returns-clause-answer
 returns-clause-answer g c =
