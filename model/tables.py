@@ -1,9 +1,10 @@
-"""The tables of 300 cases that the tests of the libraries compare with.
+"""The tables of 300 cases, and one of texts, that the tests of the libraries compare with.
 
     python3 tables.py levels        summaries of canonical subtrees of drawn lists
     python3 tables.py merged        those of subtrees that are merged from drawn ranges
     python3 tables.py json_rules    the least rules that drawn JSON values break
-    python3 tables.py check         compares all three with the texts in crates/xet_tests
+    python3 tables.py texts         the JSON texts of subtrees whose ranges stand in the rows
+    python3 tables.py check         compares all four with the texts in crates/xet_tests
 
 Lists are drawn here as `numbered_list` of crates/xet_tests/src/support.rt draws them, by the same generator.
 """
@@ -167,29 +168,68 @@ def json_rule(number: int) -> str:
     return "0"
 
 
+# ------------------------------------------------------------- texts
+
+# The ranges of a list and the places at which two are merged, as crates/xet_tests/src/merkle_hash_subtree/texts.rt
+# tells them.
+ROWS = [
+    "(...|...|...|...|...|) -",
+    "(...|...|...|...|...|/...|) 1",
+    "(...|/...|...|...|...|...|) 1",
+    "[...|/...|...|...|...|...|/...|) 2,1",
+    "[...|/...|...|...|...|...|/...|/] 2,1,1",
+    "(|..|..|) -",
+    "[|..|..|) -",
+    "(|..|..|] -",
+    "(+o] -",
+    "[+/o] 1",
+    "[) -",
+    "(.] -",
+    "(.) -",
+]
+SIZES = {"+": m.MAX_U64, "o": 0}
+
+
+def text_row(number: int) -> str:
+    """A row, and the text of what its ranges are merged to."""
+    ranges, places = ROWS[number].split(" ")
+    marks, count, trees = (ranges[0] == "[", ranges[-1] == "]"), 0, []
+    parts = ranges[1:-1].split("/")
+    for at, part in enumerate(parts):
+        nodes = []
+        for letter in part:
+            nodes.append(((count, 0, 0, int(letter != "|")), SIZES.get(letter, 1)))
+            count += 1
+        trees.append(m.Leaf(tuple(nodes), at == 0 and marks[0], at == len(parts) - 1 and marks[1]))
+    for place in [] if places == "-" else map(int, places.split(",")):
+        trees[place - 1:place + 1] = [m.Join(trees[place - 1], trees[place])]
+    return f"{ROWS[number]} {m.to_json_text(m.run_bracketing(trees[0]))}"
+
+
 # ------------------------------------------------------------- printing and comparing
 
-CASES = 300
-TABLES = {"levels": (levels, 1), "merged": (merged, 1), "json_rules": (json_rule, 25)}
+CASES = {"levels": 300, "merged": 300, "json_rules": 300, "texts": len(ROWS)}
+TABLES = {"levels": (levels, 1), "merged": (merged, 1), "json_rules": (json_rule, 25), "texts": (text_row, 1)}
 PLACES = {
     "levels": ("levels.rt", "SUMMARIES"),
     "merged": ("merged_levels.rt", "SUMMARIES"),
     "json_rules": ("json_rules.rt", "RULES"),
+    "texts": ("texts.rt", "ROWS"),
 }
 
 
 def table(name: str) -> str:
     of, a_line = TABLES[name]
-    cases = [of(number) for number in range(CASES)]
-    lines = [" ".join(cases[i:i + a_line]) for i in range(0, CASES, a_line)]
+    cases = [of(number) for number in range(CASES[name])]
+    lines = [" ".join(cases[i:i + a_line]) for i in range(0, len(cases), a_line)]
     return "\n".join(lines) + "\n"
 
 
 def stored(name: str) -> str:
     file, constant = PLACES[name]
     tests = pathlib.Path(__file__).resolve().parent.parent / "crates/xet_tests/src/merkle_hash_subtree"
-    text = (tests / file).read_text().split(f'const {constant}: &str = "', 1)[1]
-    return text.split('";', 1)[0]
+    text = (tests / file).read_text().split(f"const {constant}: &str =", 1)[1]
+    return text.split(";\n", 1)[0].strip(' \nr#"')
 
 
 def main(arguments) -> int:
