@@ -106,10 +106,12 @@ fn tree<R: ChunkRange>(
 // at its start, the last at its end.
 fn four_ranges<R: ChunkRange<Alloc = Global>>(alloc: Global) -> Result<Vec<R>, CoreError> {
     let nodes = with_cuts::<28>(&EACH_FOURTH);
+    let (first, others) = nodes.as_slice().split_at(4);
+    let (second, third) = others.split_at(20);
     let mut ranges = Vec::new(alloc);
-    ranges.push(R::from_chunks(alloc, true, &nodes[..4], false)?)?;
-    ranges.push(R::from_chunks(alloc, false, &nodes[4..24], false)?)?;
-    ranges.push(R::from_chunks(alloc, false, &nodes[24..], false)?)?;
+    ranges.push(R::from_chunks(alloc, true, first, false)?)?;
+    ranges.push(R::from_chunks(alloc, false, second, false)?)?;
+    ranges.push(R::from_chunks(alloc, false, third, false)?)?;
     ranges.push(R::from_chunks(alloc, false, &[], true)?)?;
     Ok(ranges)
 }
@@ -138,7 +140,10 @@ fn each_bracketing_gives_one_subtree(rt: HostRuntime) -> Result<(), Fail> {
     for (bracketing, _) in BRACKETINGS {
         let merged: MerkleHashSubtree = run(rt.alloc(), bracketing)?;
         assert!(rt; merged == whole, "{bracketing}");
-        assert_eq!(rt; merged.to_json(rt.alloc())?.to_string(rt.alloc())?.as_str(), text.as_str());
+        assert_eq!(rt;
+            merged.to_json(rt.alloc())?.to_string(rt.alloc())?.as_str(),
+            text.as_str()
+        );
     }
     Ok(())
 }
@@ -182,7 +187,11 @@ fn marks_are_refused_before_sizes(rt: HostRuntime) -> Result<(), Fail> {
     for (marks, sizes, refusal) in [
         ([open, (true, false)], [1, 1], CoreError::InvalidArguments),
         ([(false, true), open], [1, 1], CoreError::InvalidArguments),
-        ([(false, true), open], [u64::MAX, 1], CoreError::InvalidArguments),
+        (
+            [(false, true), open],
+            [u64::MAX, 1],
+            CoreError::InvalidArguments,
+        ),
         ([open, open], [u64::MAX, 1], CoreError::SizeOverflow),
     ] {
         assert!(rt; is_refused(rt.alloc(), marks, sizes, refusal)?, "{refusal}");
@@ -212,9 +221,12 @@ fn balanced(alloc: Global, height: u32) -> Result<MergeTree<CountedRange>, CoreE
     }
     'levels: for _ in 0..height {
         let mut joined = Vec::new(alloc);
+        let pairs = trees.len() / 2;
         let mut lower = trees.into_iter();
-        'pairs: while let (Some(left), Some(right)) = (lower.next(), lower.next()) {
-            joined.push(join(alloc, left, right)?)?;
+        'pairs: for _ in 0..pairs {
+            if let (Some(left), Some(right)) = (lower.next(), lower.next()) {
+                joined.push(join(alloc, left, right)?)?;
+            }
         }
         trees = joined;
     }
