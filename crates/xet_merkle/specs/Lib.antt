@@ -5,6 +5,7 @@ pub mod Levels
 pub mod Canonical
 pub mod Subtree
 pub mod WellFormed
+pub mod Ranges
 pub mod MergeTree
 pub mod Merging
 pub mod PlainRange

@@ -1,8 +1,9 @@
 -- Merging the subtrees of adjacent ranges of chunks (module `merklehash::merkle_hash_subtree` of the crate
 -- `xet-core-structures`).
-use Rattle.std.specs.Prelude.{◌≡◌, ℕ, ◌+◌, Bool, true, false, List, [], ◌∷◌, ◌++◌, sum_by}
+use Rattle.std.specs.Prelude.{◌≡◌, ℕ, ◌+◌, Bool, true, false, List, [], ◌∷◌, ◌++◌}
 use Rattle.std.specs.List.{AllZip}
 use Rattle.xet_merkle.specs.Groups.{Node}
+use Rattle.xet_merkle.specs.Ranges.{AreApart, total_of}
 use Rattle.xet_merkle.specs.Levels.{levels_size}
 use Rattle.xet_merkle.specs.Subtree.{Subtree, IsCanonical}
 
@@ -18,9 +19,7 @@ pub record IsMerged (front back merged : Subtree) : Type 0 where
 
 -- no mark stands between adjacent ranges
 abbrev pub NoMarkBetween : List Subtree → Type 0
-NoMarkBetween [] = Unit {0}
-NoMarkBetween (range ∷ []) = Unit {0}
-NoMarkBetween (range ∷ next ∷ ranges) = (range.at_end ≡ false) × (next.at_start ≡ false) × NoMarkBetween (next ∷ ranges)
+NoMarkBetween = AreApart (λ range. range.at_start) (λ range. range.at_end)
 
 -- the start mark of the first range, and the end mark of the last; no ranges have both
 abbrev pub start_mark : List Subtree → Bool
@@ -34,7 +33,7 @@ end_mark (range ∷ next ∷ ranges) = end_mark (next ∷ ranges)
 
 -- the sum of the sizes of all ranges
 abbrev pub ranges_size : List Subtree → ℕ
-ranges_size ranges = sum_by (λ range. levels_size range.levels) ranges
+ranges_size = total_of (λ range. levels_size range.levels)
 
 -- ranges are the canonical subtrees of lists, one of each
 abbrev pub AreCanonical : List Subtree → List (List Node) → Type 0

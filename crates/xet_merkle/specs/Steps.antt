@@ -3,6 +3,7 @@ pub mod StableScan
 pub mod Joining
 pub mod Building
 pub mod RangeMerging
+pub mod SubtreeMerging
 pub mod Bracketing
 pub mod LevelSides
 pub mod SubtreeEquality

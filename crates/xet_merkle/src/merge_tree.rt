@@ -3,8 +3,10 @@
 ghost use Rattle.std.specs.Prelude.{◌≡◌, ℕ, ◌+◌, ◌-◌, ◌^◌, ◌<◌, ◌≤◌, ◌⊎◌, ◌↔◌, List, [], ◌∷◌, ◌++◌, true, Some, None, flat_map, map, IfOk, IfErr, IfSome, SomeIff, IsNone, IsTrue, IsErrOf, false};
 ghost use Rattle.std.specs.List.{AllZip};
 ghost use Rattle.xet_merkle.specs.Groups.{Node};
-ghost use Rattle.xet_merkle.specs.MergeTree.{leaves, first_leaf, last_leaf, AreApart, total_of};
-ghost use Rattle.xet_merkle.specs.Steps.Bracketing.{entries, entries_after, IsPassed, depth, AreBegun, JoinsTo, TurnsTo, IsBegun, Follow, Follows, refusal};
+ghost use Rattle.xet_merkle.specs.MergeTree.{leaves, first_leaf, last_leaf};
+ghost use Rattle.xet_merkle.specs.Ranges.{AreApart, total_of};
+ghost use Rattle.xet_merkle.specs.Steps.Bracketing.{entries, entries_after, IsPassed, depth, AreBegun, TurnsTo, IsBegun, Follow, Follows, refusal};
+ghost use Rattle.xet_merkle.specs.Steps.RangeMerging.{JoinsTo};
 
 use crate::chunk_range::ChunkRange;
 use crate::error::CoreError;

@@ -1,19 +1,19 @@
 -- The leaves of a bracketing, passed one after another, and joined from the last to the first.
-use Rattle.std.proofs.Common.{◌≡◌, ℕ, zero, suc, ◌+◌, ◌-◌, ◌^◌, ◌<◌, ◌≤◌, ◌↔◌, ◌⊎◌, inl, inr, Bool, true, false, ◌&&◌, IsTrue, Option, Some, None, List, [], ◌∷◌, ◌++◌, length, flat_map, refl, sym, ap, subst, ◌∙◌, arith, append_assoc, append-nil, length-append}
-use Rattle.std.specs.Prelude.{SomeIff, IfSome, IsErrOf, Result, Err, sum_by, map, Box}
+use Rattle.std.proofs.Common.{◌≡◌, ℕ, zero, suc, ◌+◌, ◌-◌, ◌^◌, ◌<◌, ◌≤◌, ◌↔◌, ◌⊎◌, inl, inr, Bool, true, false, IsTrue, Option, Some, None, List, [], ◌∷◌, ◌++◌, length, refl, sym, ap, subst, ◌∙◌, arith, append_assoc, length-append}
+use Rattle.std.specs.Prelude.{SomeIff, IfSome, IsErrOf, Err, map, Box}
 use Rattle.std.specs.declared.alloc.Global.{Global}
 use Rattle.std.proofs.lemmas.Bool.{cases_lt, false≢true}
 use Rattle.std.proofs.lemmas.List.{map-append}
 use Rattle.xet_merkle.specs.declared.error.CoreError.{CoreError}
 use Rattle.xet_merkle.specs.declared.error.CoreError.TheVariants.{InvalidArguments, SizeOverflow, OutOfMemory}
-use Rattle.std.specs.List.{AllZip}
 use Rattle.std.proofs.lemmas.List.Sums.{sum_by-append, sum_by-cons}
-use Rattle.xet_merkle.specs.Groups.{Node}
 use Rattle.xet_merkle.specs.declared.merge_tree.MergeTree.{MergeTree}
 use Rattle.xet_merkle.specs.declared.merge_tree.MergeTree.TheVariants.{Leaf, Join'}
 use Rattle.xet_merkle.specs.declared.merge_tree.Passed.{Passed}
-use Rattle.xet_merkle.specs.MergeTree.{leaves, first_leaf, last_leaf, AreApart, total_of}
-use Rattle.xet_merkle.specs.Steps.Bracketing.{entries, entries_after, start_of_first, end_of_last, IsPassed, depth, AreBegun, JoinsTo, IsBegun, Follow, Follows, refusal, lefts}
+use Rattle.xet_merkle.specs.MergeTree.{leaves, first_leaf, last_leaf}
+use Rattle.xet_merkle.specs.Ranges.{AreApart, total_of}
+use Rattle.xet_merkle.specs.Steps.Bracketing.{entries, entries_after, IsPassed, depth, AreBegun, IsBegun, Follow, Follows, refusal, lefts}
+use Rattle.xet_merkle.specs.Steps.RangeMerging.{start_of_first, end_of_last}
 
 not_less : (m n : ℕ) → (m < n → ⊥) → n ≤ m
 not_less m n none = elim (cases_lt m n) [ inl less ↦ absurd (none less) | inr more ↦ more ]
@@ -182,70 +182,7 @@ module _ {R A : Type 0} where
   entries-leaves begun (Join' p left q right) =
       map-append (λ (entry : ℕ × R). entry.1) (entries (suc begun) left) (entries 0 right) ∙ (λ i. entries-leaves (suc begun) left i ++ entries-leaves 0 right i)
 
--- ---- joining
-
-module _ {R : Type 0} (stands : R → List Node → Type 0) (start end : R → Bool) (total : R → ℕ) where
-  pub JoinsTo-all : (ranges : List R) → AreApart start end ranges → JoinsTo stands start end total ranges ranges
-  JoinsTo-all ranges apart = record { apart = apart; first = refl; last = refl; sum = refl; lists = λ lists all. (lists, all, refl) }
-
-  pub apart_at : (before after : List R) (a b : R) → AreApart start end (before ++ a ∷ b ∷ after) → (end a ≡ false) × (start b ≡ false)
-  apart_at [] after a b apart = (apart.0, apart.1)
-  apart_at (x ∷ []) after a b apart = (apart.2.0, apart.2.1)
-  apart_at (x ∷ y ∷ before) after a b apart = apart_at (y ∷ before) after a b apart.2
-
-  pub total_at : (before after : List R) (a b : R) → total a + total b ≤ total_of total (before ++ a ∷ b ∷ after)
-  total_at before after a b = omega (arith, sum_by-append total before (a ∷ b ∷ after), sum_by-cons total a (b ∷ after), sum_by-cons total b after)
-
-  module _ (a b ab : R) (same_start : start ab ≡ start a) (same_end : end ab ≡ end b) (sum : total ab ≡ total a + total b)
-      (joined : (front back : List Node) → stands a front → stands b back → stands ab (front ++ back)) where
-    join_apart : (before after : List R) → AreApart start end (before ++ a ∷ b ∷ after) → AreApart start end (before ++ ab ∷ after)
-    join_apart [] [] apart = tt
-    join_apart [] (c ∷ after) apart = (same_end ∙ apart.2.0, apart.2.1, apart.2.2)
-    join_apart (x ∷ []) [] apart = (apart.0, same_start ∙ apart.1, tt)
-    join_apart (x ∷ []) (c ∷ after) apart = (apart.0, same_start ∙ apart.1, (same_end ∙ apart.2.2.0, apart.2.2.1, apart.2.2.2))
-    join_apart (x ∷ y ∷ before) after apart = (apart.0, apart.1, join_apart (y ∷ before) after apart.2)
-
-    join_first : (before after : List R) → start_of_first start (before ++ ab ∷ after) ≡ start_of_first start (before ++ a ∷ b ∷ after)
-    join_first [] after = ap Some same_start
-    join_first (x ∷ before) after = refl
-
-    join_last : (before after : List R) → end_of_last end (before ++ ab ∷ after) ≡ end_of_last end (before ++ a ∷ b ∷ after)
-    join_last [] [] = ap Some same_end
-    join_last [] (c ∷ after) = refl
-    join_last (x ∷ []) [] = ap Some same_end
-    join_last (x ∷ []) (c ∷ after) = refl
-    join_last (x ∷ y ∷ before) after = join_last (y ∷ before) after
-
-    join_lists : (before after : List R) (lists : List (List Node)) → AllZip stands (before ++ a ∷ b ∷ after) lists →
-        (others : List (List Node)) × AllZip stands (before ++ ab ∷ after) others × (flat_map (λ list. list) others ≡ flat_map (λ list. list) lists)
-    join_lists [] after [] all = elim all [ ]
-    join_lists [] after (front ∷ []) all = elim all.1 [ ]
-    join_lists [] after (front ∷ back ∷ lists) all =
-        ((front ++ back) ∷ lists, (joined front back all.0 all.1.0, all.1.1), append_assoc front back (flat_map (λ list. list) lists))
-    join_lists (x ∷ before) after [] all = elim all [ ]
-    join_lists (x ∷ before) after (list ∷ lists) all =
-        let rest = join_lists before after lists all.1 in
-        (list ∷ rest.0, (all.0, rest.1), ap (λ (l : List Node). list ++ l) rest.2)
-
-    pub JoinsTo-join : (ranges before after : List R) → JoinsTo stands start end total ranges (before ++ a ∷ b ∷ after) → JoinsTo stands start end total ranges (before ++ ab ∷ after)
-    JoinsTo-join ranges before after h = record {
-      apart = join_apart before after h.apart;
-      first = join_first before after ∙ h.first;
-      last = join_last before after ∙ h.last;
-      sum = let so_far = h.sum in omega (arith, sum_by-append total before (ab ∷ after), sum_by-append total before (a ∷ b ∷ after), sum_by-cons total ab after, sum_by-cons total a (b ∷ after), sum_by-cons total b after);
-      lists = λ lists all.
-          let so_far = h.lists lists all in
-          let next = join_lists before after so_far.0 so_far.1 in
-          (next.0, next.1, next.2 ∙ so_far.2);
-    }
-
-  pub JoinsTo-one : (ranges : List R) (range : R) → JoinsTo stands start end total ranges (range ∷ []) → (lists : List (List Node)) → AllZip stands ranges lists →
-      stands range (flat_map (λ list. list) lists)
-  JoinsTo-one ranges range h lists all = let found = h.lists lists all in one found.0 found.1 found.2 where
-    one : (others : List (List Node)) → AllZip stands (range ∷ []) others → flat_map (λ list. list) others ≡ flat_map (λ list. list) lists → stands range (flat_map (λ list. list) lists)
-    one [] zip e = elim zip [ ]
-    one (list ∷ []) zip e = subst (stands range) (sym (append-nil list) ∙ e) zip.0
-    one (list ∷ next ∷ others) zip e = elim zip.1 [ ]
+-- ---- the first and the last leaf
 
 module _ {R A : Type 0} (start end : R → Bool) where
   pub first_of_leaves : (tree : MergeTree R A) (more : List R) → start_of_first start (leaves tree ++ more) ≡ Some (start (first_leaf tree))

@@ -1,70 +1,183 @@
 -- Merging ranges one after another, and in any order.
-use Rattle.std.proofs.Common.{◌≡◌, Bool, false, List, [], ◌∷◌, ◌++◌, flat_map, refl, sym, subst, ◌∙◌, arith, append_assoc, append-nil}
-use Rattle.std.proofs.lemmas.List.Sums.{sum_by-cons}
+use Rattle.std.proofs.Common.{◌≡◌, ℕ, ◌+◌, ◌≤◌, Bool, false, Some, List, [], ◌∷◌, ◌++◌, flat_map, refl, sym, ap, subst, ◌∙◌, arith, append_assoc, append-nil}
+use Rattle.std.specs.List.{AllZip}
+use Rattle.std.proofs.lemmas.List.Sums.{sum_by-append, sum_by-cons}
 use Rattle.xet_merkle.specs.Groups.{Node}
 use Rattle.xet_merkle.specs.Roots.{parent}
 use Rattle.xet_merkle.specs.Levels.{levels_size}
 use Rattle.xet_merkle.specs.Canonical.{IsCanonicalBy}
 use Rattle.xet_merkle.specs.Subtree.{Subtree, IsCanonical}
 use Rattle.xet_merkle.specs.Merging.{IsMerged, NoMarkBetween, end_mark, ranges_size, AreCanonical}
-use Rattle.xet_merkle.specs.Steps.RangeMerging.{MergesTo}
+use Rattle.xet_merkle.specs.Ranges.{AreApart, total_of}
+use Rattle.xet_merkle.specs.Steps.RangeMerging.{JoinsTo, start_of_first, end_of_last}
+use Rattle.xet_merkle.specs.Steps.SubtreeMerging.{MergesTo}
 use Rattle.xet_merkle.proofs.Canonical.OneSubtree.{IsCanonicalBy-unique}
 
-abbrev pub joined_lists : List (List Node) → List Node
-joined_lists lists = flat_map (λ (list : List Node). list) lists
+-- ---- ranges of any kind, joined one after another
 
--- ---- the first two ranges of several, merged
+module _ {R : Type 0} (stands : R → List Node → Type 0) (start end : R → Bool) (total : R → ℕ) where
+  pub JoinsTo-all : (ranges : List R) → AreApart start end ranges → JoinsTo stands start end total ranges ranges
+  JoinsTo-all ranges apart = record { apart = apart; first = refl; last = refl; sum = refl; lists = λ lists all. (lists, all, refl) }
 
-module _ (front back merged : Subtree) (h : IsMerged front back merged) where
-  marks_behind : (rest : List Subtree) → NoMarkBetween (front ∷ back ∷ rest) → NoMarkBetween (merged ∷ rest)
-  marks_behind [] marks = tt
-  marks_behind (next ∷ rest) marks = (h.end ∙ marks.2.0, marks.2.1, marks.2.2)
+  pub apart_at : (before after : List R) (a b : R) → AreApart start end (before ++ a ∷ b ∷ after) → (end a ≡ false) × (start b ≡ false)
+  apart_at [] after a b apart = (apart.0, apart.1)
+  apart_at (x ∷ []) after a b apart = (apart.2.0, apart.2.1)
+  apart_at (x ∷ y ∷ before) after a b apart = apart_at (y ∷ before) after a b apart.2
 
-  end_behind : (rest : List Subtree) → end_mark (merged ∷ rest) ≡ end_mark (front ∷ back ∷ rest)
-  end_behind [] = h.end
-  end_behind (next ∷ rest) = refl
+  pub total_at : (before after : List R) (a b : R) → total a + total b ≤ total_of total (before ++ a ∷ b ∷ after)
+  total_at before after a b = omega (arith, sum_by-append total before (a ∷ b ∷ after), sum_by-cons total a (b ∷ after), sum_by-cons total b after)
 
-  size_behind : (rest : List Subtree) → ranges_size (merged ∷ rest) ≡ ranges_size (front ∷ back ∷ rest)
-  size_behind rest =
-      let size = h.size in
-      let f = λ (range : Subtree). levels_size range.levels in
-      omega (arith, sum_by-cons f merged rest, sum_by-cons f front (back ∷ rest), sum_by-cons f back rest)
+  module _ (a b ab : R) (same_start : start ab ≡ start a) (same_end : end ab ≡ end b) (sum : total ab ≡ total a + total b)
+      (joined : (front back : List Node) → stands a front → stands b back → stands ab (front ++ back)) where
+    join_apart : (before after : List R) → AreApart start end (before ++ a ∷ b ∷ after) → AreApart start end (before ++ ab ∷ after)
+    join_apart [] [] apart = tt
+    join_apart [] (c ∷ after) apart = (same_end ∙ apart.2.0, apart.2.1, apart.2.2)
+    join_apart (x ∷ []) [] apart = (apart.0, same_start ∙ apart.1, tt)
+    join_apart (x ∷ []) (c ∷ after) apart = (apart.0, same_start ∙ apart.1, (same_end ∙ apart.2.2.0, apart.2.2.1, apart.2.2.2))
+    join_apart (x ∷ y ∷ before) after apart = (apart.0, apart.1, join_apart (y ∷ before) after apart.2)
 
-  canonical_behind : (rest : List Subtree) (lists : List (List Node)) → AreCanonical (front ∷ back ∷ rest) lists →
-      (joined : List (List Node)) × AreCanonical (merged ∷ rest) joined × (joined_lists joined ≡ joined_lists lists)
-  canonical_behind rest [] all = elim all [ ]
-  canonical_behind rest (first ∷ []) all = elim all.1 [ ]
-  canonical_behind rest (first ∷ second ∷ lists) all =
-      ((first ++ second) ∷ lists, (h.canonical first second all.0 all.1.0, all.1.1), append_assoc first second (joined_lists lists))
+    join_first : (before after : List R) → start_of_first start (before ++ ab ∷ after) ≡ start_of_first start (before ++ a ∷ b ∷ after)
+    join_first [] after = ap Some same_start
+    join_first (x ∷ before) after = refl
 
-  pub MergesTo-step : (ranges rest : List Subtree) → MergesTo ranges (front ∷ back ∷ rest) → MergesTo ranges (merged ∷ rest)
-  MergesTo-step ranges rest so_far = record {
-    marks = marks_behind rest so_far.marks;
-    start = h.start ∙ so_far.start;
-    end = end_behind rest ∙ so_far.end;
-    size = size_behind rest ∙ so_far.size;
-    canonical = λ lists all.
-        let before = so_far.canonical lists all in
-        let after = canonical_behind rest before.0 before.1 in
-        (after.0, after.1, after.2 ∙ before.2);
-  }
+    join_last : (before after : List R) → end_of_last end (before ++ ab ∷ after) ≡ end_of_last end (before ++ a ∷ b ∷ after)
+    join_last [] [] = ap Some same_end
+    join_last [] (c ∷ after) = refl
+    join_last (x ∷ []) [] = ap Some same_end
+    join_last (x ∷ []) (c ∷ after) = refl
+    join_last (x ∷ y ∷ before) after = join_last (y ∷ before) after
 
--- ---- all ranges, merged
+    join_lists : (before after : List R) (lists : List (List Node)) → AllZip stands (before ++ a ∷ b ∷ after) lists →
+        (others : List (List Node)) × AllZip stands (before ++ ab ∷ after) others × (flat_map (λ list. list) others ≡ flat_map (λ list. list) lists)
+    join_lists [] after [] all = elim all [ ]
+    join_lists [] after (front ∷ []) all = elim all.1 [ ]
+    join_lists [] after (front ∷ back ∷ lists) all =
+        ((front ++ back) ∷ lists, (joined front back all.0 all.1.0, all.1.1), append_assoc front back (flat_map (λ list. list) lists))
+    join_lists (x ∷ before) after [] all = elim all [ ]
+    join_lists (x ∷ before) after (list ∷ lists) all =
+        let rest = join_lists before after lists all.1 in
+        (list ∷ rest.0, (all.0, rest.1), ap (λ (l : List Node). list ++ l) rest.2)
 
-pub merged_list : (merged : Subtree) (joined : List (List Node)) (nodes : List Node) → AreCanonical (merged ∷ []) joined → joined_lists joined ≡ nodes → IsCanonical merged nodes
-merged_list merged [] nodes all e = elim all [ ]
-merged_list merged (list ∷ []) nodes all e = subst (IsCanonical merged) (sym (append-nil list) ∙ e) all.0
-merged_list merged (list ∷ next ∷ lists) nodes all e = elim all.1 [ ]
+    pub JoinsTo-join : (ranges before after : List R) → JoinsTo stands start end total ranges (before ++ a ∷ b ∷ after) → JoinsTo stands start end total ranges (before ++ ab ∷ after)
+    JoinsTo-join ranges before after h = record {
+      apart = join_apart before after h.apart;
+      first = join_first before after ∙ h.first;
+      last = join_last before after ∙ h.last;
+      sum = let so_far = h.sum in omega (arith, sum_by-append total before (ab ∷ after), sum_by-append total before (a ∷ b ∷ after), sum_by-cons total ab after, sum_by-cons total a (b ∷ after), sum_by-cons total b after);
+      lists = λ lists all.
+          let so_far = h.lists lists all in
+          let next = join_lists before after so_far.0 so_far.1 in
+          (next.0, next.1, next.2 ∙ so_far.2);
+    }
+
+  pub JoinsTo-one : (ranges : List R) (range : R) → JoinsTo stands start end total ranges (range ∷ []) → (lists : List (List Node)) → AllZip stands ranges lists →
+      stands range (flat_map (λ list. list) lists)
+  JoinsTo-one ranges range h lists all = let found = h.lists lists all in one found.0 found.1 found.2 where
+    one : (others : List (List Node)) → AllZip stands (range ∷ []) others → flat_map (λ list. list) others ≡ flat_map (λ list. list) lists → stands range (flat_map (λ list. list) lists)
+    one [] zip e = elim zip [ ]
+    one (list ∷ []) zip e = subst (stands range) (sym (append-nil list) ∙ e) zip.0
+    one (list ∷ next ∷ others) zip e = elim zip.1 [ ]
+
+-- ranges that are joined to one on either side
+module _ {R : Type 0} (stands : R → List Node → Type 0) (start end : R → Bool) (total : R → ℕ) where
+  apart_between : (front back : List R) → AreApart start end (front ++ back) → (e s : Bool) → end_of_last end front ≡ Some e → start_of_first start back ≡ Some s →
+      (e ≡ false) × (s ≡ false)
+  apart_between [] back apart e s last first = let clash : ⊥ = cc in absurd clash
+  apart_between (x ∷ []) [] apart e s last first = let clash : ⊥ = cc in absurd clash
+  apart_between (x ∷ []) (y ∷ back) apart e s last first =
+      ((let same : e ≡ end x = cc in same) ∙ apart.0, (let same : s ≡ start y = cc in same) ∙ apart.1)
+  apart_between (x ∷ y ∷ front) back apart e s last first = apart_between (y ∷ front) back apart.2 e s last first
+
+  pub apart_parts : (front back : List R) → AreApart start end (front ++ back) → AreApart start end front × AreApart start end back
+  apart_parts [] back apart = (tt, apart)
+  apart_parts (x ∷ []) [] apart = (tt, tt)
+  apart_parts (x ∷ []) (y ∷ back) apart = (tt, apart.2)
+  apart_parts (x ∷ y ∷ front) back apart = let rest = apart_parts (y ∷ front) back apart.2 in ((apart.0, apart.1, rest.0), rest.1)
+
+  start_of_append : (front back : List R) (s : Bool) → start_of_first start front ≡ Some s → start_of_first start (front ++ back) ≡ Some s
+  start_of_append [] back s first = let clash : ⊥ = cc in absurd clash
+  start_of_append (x ∷ front) back s first = first
+
+  end_of_append : (front back : List R) (e : Bool) → end_of_last end back ≡ Some e → end_of_last end (front ++ back) ≡ Some e
+  end_of_append [] back e last = last
+  end_of_append (x ∷ []) [] e last = let clash : ⊥ = cc in absurd clash
+  end_of_append (x ∷ []) (y ∷ back) e last = last
+  end_of_append (x ∷ y ∷ front) back e last = end_of_append (y ∷ front) back e last
+
+  zip_parts : (front back : List R) (lists : List (List Node)) → AllZip stands (front ++ back) lists →
+      (ls rs : List (List Node)) × AllZip stands front ls × AllZip stands back rs × (flat_map (λ list. list) lists ≡ flat_map (λ list. list) ls ++ flat_map (λ list. list) rs)
+  zip_parts [] back lists all = ([], lists, tt, all, refl)
+  zip_parts (x ∷ front) back [] all = elim all [ ]
+  zip_parts (x ∷ front) back (list ∷ lists) all =
+      let rest = zip_parts front back lists all.1 in
+      (list ∷ rest.0, rest.1, (all.0, rest.2), rest.3, ap (λ (l : List Node). list ++ l) rest.4 ∙ sym (append_assoc list (flat_map (λ list. list) rest.0) (flat_map (λ list. list) rest.1)))
+
+  pub JoinsTo-both : (front back : List R) (a b : R) → AreApart start end (front ++ back) → JoinsTo stands start end total front (a ∷ []) → JoinsTo stands start end total back (b ∷ []) →
+      JoinsTo stands start end total (front ++ back) (a ∷ b ∷ [])
+  JoinsTo-both front back a b apart x y =
+      let between = apart_between front back apart (end a) (start b) (sym x.last) (sym y.first) in record {
+        apart = (between.0, between.1, tt);
+        first = sym (start_of_append front back (start a) (sym x.first));
+        last = sym (end_of_append front back (end b) (sym y.last));
+        sum = let first = x.sum in let second = y.sum in omega (arith, sum_by-append total front back, sum_by-cons total a (b ∷ []), sum_by-cons total a [], sum_by-cons total b []);
+        lists = λ lists all.
+            let parts = zip_parts front back lists all in
+            let one = JoinsTo-one stands start end total front a x parts.0 parts.2 in
+            let two = JoinsTo-one stands start end total back b y parts.1 parts.3 in (
+              flat_map (λ list. list) parts.0 ∷ flat_map (λ list. list) parts.1 ∷ [],
+              (one, (two, tt)),
+              ap (λ (l : List Node). flat_map (λ list. list) parts.0 ++ l) (append-nil (flat_map (λ list. list) parts.1)) ∙ sym parts.4,
+            );
+      }
+
+-- ---- subtrees, merged
+
+abbrev start_of : Subtree → Bool
+start_of range = range.at_start
+
+abbrev end_of : Subtree → Bool
+end_of range = range.at_end
+
+abbrev size_of : Subtree → ℕ
+size_of range = levels_size range.levels
+
+pub parts_apart : (front back : List Subtree) → NoMarkBetween (front ++ back) → NoMarkBetween front × NoMarkBetween back
+parts_apart front back = apart_parts IsCanonical start_of end_of size_of front back
+
+pub parts_size : (front back : List Subtree) → ranges_size (front ++ back) ≡ ranges_size front + ranges_size back
+parts_size front back = sum_by-append size_of front back
+
+pub size_of_one : (range : Subtree) → ranges_size (range ∷ []) ≡ levels_size range.levels
+size_of_one range = omega (arith, sum_by-cons size_of range [])
+
+pub MergesTo-all : (range : Subtree) → MergesTo (range ∷ []) (range ∷ [])
+MergesTo-all range = JoinsTo-all IsCanonical start_of end_of size_of (range ∷ []) tt
+
+pub MergesTo-both : (front back : List Subtree) (a b : Subtree) → NoMarkBetween (front ++ back) → MergesTo front (a ∷ []) → MergesTo back (b ∷ []) → MergesTo (front ++ back) (a ∷ b ∷ [])
+MergesTo-both front back a b apart x y = JoinsTo-both IsCanonical start_of end_of size_of front back a b apart x y
+
+pub MergesTo-merged : (ranges : List Subtree) (front back merged : Subtree) → MergesTo ranges (front ∷ back ∷ []) → IsMerged front back merged → MergesTo ranges (merged ∷ [])
+MergesTo-merged ranges front back merged so_far h =
+    JoinsTo-join IsCanonical start_of end_of size_of front back merged h.start h.end h.size h.canonical ranges [] [] so_far
 
 pub MergesTo-one : (ranges : List Subtree) (merged : Subtree) → MergesTo ranges (merged ∷ []) → (lists : List (List Node)) → AreCanonical ranges lists →
-    IsCanonical merged (joined_lists lists)
-MergesTo-one ranges merged h lists all =
-    let joined = h.canonical lists all in
-    merged_list merged joined.0 (joined_lists lists) joined.1 joined.2
+    IsCanonical merged (flat_map (λ (list : List Node). list) lists)
+MergesTo-one ranges merged h lists all = JoinsTo-one IsCanonical start_of end_of size_of ranges merged h lists all
+
+end_mark-last : (range : Subtree) (ranges : List Subtree) → end_of_last end_of (range ∷ ranges) ≡ Some (end_mark (range ∷ ranges))
+end_mark-last range [] = refl
+end_mark-last range (next ∷ ranges) = end_mark-last next ranges
+
+pub MergesTo-end : (ranges : List Subtree) (merged : Subtree) → MergesTo ranges (merged ∷ []) → merged.at_end ≡ end_mark ranges
+MergesTo-end [] merged h = let last = h.last in let clash : ⊥ = cc in absurd clash
+MergesTo-end (range ∷ ranges) merged h =
+    let last : Some merged.at_end ≡ end_of_last end_of (range ∷ ranges) = h.last in
+    let same : Some merged.at_end ≡ Some (end_mark (range ∷ ranges)) = last ∙ end_mark-last range ranges in
+    cc
 
 -- ---- in any order
 
-same_canonical : (a b : Subtree) (nodes : List Node) → a.at_start ≡ b.at_start → a.at_end ≡ b.at_end → IsCanonical a nodes → IsCanonical b nodes → a ≡ b
+pub same_canonical : (a b : Subtree) (nodes : List Node) → a.at_start ≡ b.at_start → a.at_end ≡ b.at_end → IsCanonical a nodes → IsCanonical b nodes → a ≡ b
 same_canonical a b nodes start end x y =
     let marked = subst (λ (s : Bool). IsCanonicalBy parent s a.at_end nodes b.levels y.0) (sym start)
     (subst (λ (e : Bool). IsCanonicalBy parent b.at_start e nodes b.levels y.0) (sym end) y.1) in

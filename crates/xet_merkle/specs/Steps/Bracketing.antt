@@ -1,8 +1,6 @@
 -- The leaves of a bracketing in order, each with the number of joins that begin with it, and how they are joined.
-use Rattle.std.specs.Prelude.{◌≡◌, ℕ, zero, suc, ◌+◌, ◌-◌, ◌^◌, ◌<◌, ◌≤◌, ◌↔◌, Bool, true, false, List, [], ◌∷◌, ◌++◌, Option, Some, None, SomeIff, IsTrue, flat_map, length, Box}
-use Rattle.std.specs.List.{AllZip}
+use Rattle.std.specs.Prelude.{◌≡◌, ℕ, zero, suc, ◌+◌, ◌-◌, ◌^◌, ◌<◌, ◌≤◌, ◌↔◌, Bool, true, false, List, [], ◌∷◌, ◌++◌, Option, Some, None, SomeIff, IsTrue, length, Box}
 use Rattle.std.specs.declared.alloc.Global.{Global}
-use Rattle.xet_merkle.specs.Groups.{Node}
 use Rattle.xet_merkle.specs.declared.error.CoreError.{CoreError}
 use Rattle.xet_merkle.specs.declared.error.CoreError.TheVariants.{InvalidArguments, SizeOverflow}
 use Rattle.xet_merkle.specs.declared.merge_tree.MergeTree.{MergeTree}
@@ -10,7 +8,9 @@ use Rattle.xet_merkle.specs.declared.merge_tree.MergeTree.TheVariants.{Leaf, Joi
 use Rattle.xet_merkle.specs.declared.merge_tree.Turned.{Turned}
 use Rattle.xet_merkle.specs.declared.merge_tree.Turned.TheVariants.{Taken, Lowered}
 use Rattle.xet_merkle.specs.declared.merge_tree.Passed.{Passed}
-use Rattle.xet_merkle.specs.MergeTree.{leaves, AreApart, total_of}
+use Rattle.xet_merkle.specs.Ranges.{AreApart, total_of}
+use Rattle.xet_merkle.specs.Steps.RangeMerging.{end_of_last}
+use Rattle.xet_merkle.specs.MergeTree.{leaves}
 
 -- the leaves of a tree, `begun` joins having begun with the first of them before
 abbrev pub entries : {R A : Type 0} → ℕ → MergeTree R A → List (ℕ × R)
@@ -22,17 +22,6 @@ abbrev pub entries_after : {R A : Type 0} → ℕ → ℕ → MergeTree R A → 
 entries_after begun links (Leaf range) = (begun, range) ∷ []
 entries_after begun zero (Join' p left q right) = entries (suc begun) left ++ entries 0 right
 entries_after begun (suc links) (Join' p left q right) = entries begun left ++ entries_after 0 links right
-
--- the mark at the end of the last of some ranges
-abbrev pub end_of_last : {R : Type 0} → (R → Bool) → List R → Option Bool
-end_of_last end [] = None
-end_of_last end (range ∷ []) = Some (end range)
-end_of_last end (range ∷ next ∷ ranges) = end_of_last end (next ∷ ranges)
-
--- the mark at the start of the first of some ranges
-abbrev pub start_of_first : {R : Type 0} → (R → Bool) → List R → Option Bool
-start_of_first start [] = None
-start_of_first start (range ∷ ranges) = Some (start range)
 
 -- what is known of the leaves that were passed
 pub record IsPassed {R : Type 0} (start end : R → Bool) (total : R → ℕ) (passed : Passed) (ranges : List R) : Type 0 where
@@ -49,15 +38,6 @@ depth (entry ∷ more) values = depth more values - entry.0 + 1
 abbrev pub AreBegun : {R : Type 0} → List (ℕ × R) → ℕ → Type 0
 AreBegun [] values = Unit {0}
 AreBegun (entry ∷ more) values = (entry.0 ≤ depth more values) × AreBegun more values
-
--- adjacent ranges are joined to others
-pub record JoinsTo {R : Type 0} (stands : R → List Node → Type 0) (start end : R → Bool) (total : R → ℕ) (ranges others : List R) : Type 0 where
-  pub apart : AreApart start end others
-  pub first : start_of_first start others ≡ start_of_first start ranges
-  pub last : end_of_last end others ≡ end_of_last end ranges
-  pub sum : total_of total others ≡ total_of total ranges
-  pub lists : (lists : List (List Node)) → AllZip stands ranges lists →
-      (joined : List (List Node)) × AllZip stands others joined × (flat_map (λ list. list) joined ≡ flat_map (λ list. list) lists)
 
 -- two trees are turned: the first is a leaf, and the second is left; or both are one tree, whose first part is the
 -- first one's first part

@@ -1,10 +1,11 @@
-use Rattle.std.proofs.Common.{◌≡◌, ℕ, ◌+◌, ◌-◌, ◌<◌, ◌≤◌, ◌^◌, List, [], ◌∷◌, ◌++◌, length, map, reverse, length-append, Err, refl, sym, ap, subst, ◌∙◌, append-nil, append_assoc, inl, inr, arith, rules}
+use Rattle.std.proofs.Common.{◌≡◌, ◌+◌, ◌-◌, ◌<◌, [], ◌∷◌, ◌++◌, length, map, reverse, length-append, Err, sym, ap, subst, ◌∙◌, append-nil, inl, inr, arith, rules}
 use Rattle.std.proofs.lemmas.Bool.{false≢true}
 use Rattle.std.proofs.lemmas.List.{reverse-append}
-use Rattle.xet_merkle.specs.MergeTree.{AreApart, total_of}
-use Rattle.xet_merkle.specs.Steps.Bracketing.{depth, AreBegun, JoinsTo}
+use Rattle.xet_merkle.specs.Steps.Bracketing.{depth, AreBegun}
+use Rattle.xet_merkle.specs.Steps.RangeMerging.{JoinsTo}
 use Rattle.xet_merkle.proofs.Json.Reading.{passed_on}
-use Rattle.xet_merkle.proofs.Merging.Bracketing.{depth-append, AreBegun-append, JoinsTo-all, JoinsTo-join, apart_at, total_at}
+use Rattle.xet_merkle.proofs.Merging.Bracketing.{depth-append, AreBegun-append}
+use Rattle.xet_merkle.proofs.Merging.Ranges.{JoinsTo-all, JoinsTo-join, apart_at, total_at}
 use Rattle.xet_merkle.proofs.merge_tree.join_entries.Goals as goal
 
 pub entries-init : goal.entries-init

@@ -1,5 +1,6 @@
-use Rattle.std.proofs.Common.{◌≡◌, ℕ, ◌+◌, ◌≤◌, List, ◌∷◌, ◌++◌, length, map, reverse}
-use Rattle.xet_merkle.specs.Steps.Bracketing.{depth, AreBegun, JoinsTo}
+use Rattle.std.proofs.Common.{◌≡◌, ◌+◌, ◌∷◌, ◌++◌, length, map, reverse}
+use Rattle.xet_merkle.specs.Steps.Bracketing.{depth, AreBegun}
+use Rattle.xet_merkle.specs.Steps.RangeMerging.{JoinsTo}
 use Rattle.xet_merkle.proofs.merge_tree.join_entries.Given as goal
 
 abbrev pub invariant-entries : goal.invariant-entries

@@ -1,11 +1,11 @@
 //! Merging the subtrees of adjacent ranges, without their chunks.
 
-ghost use Rattle.std.specs.Prelude.{◌≡◌, ◌+◌, ◌^◌, ◌<◌, ◌≤◌, ◌⊎◌, ◌↔◌, List, [], ◌∷◌, flat_map, IfOk, IfErr, SomeIff, IsErrOf, IsTrue};
+ghost use Rattle.std.specs.Prelude.{◌≡◌, ◌+◌, ◌^◌, ◌<◌, ◌≤◌, ◌⊎◌, ◌↔◌, List, [], ◌∷◌, length, flat_map, IfOk, IfErr, SomeIff, IsErrOf, IsTrue};
 ghost use Rattle.xet_merkle.specs.Groups.{Node};
 ghost use Rattle.xet_merkle.specs.Levels.{levels_size};
 ghost use Rattle.xet_merkle.specs.Subtree.{Subtree, IsCanonical};
 ghost use Rattle.xet_merkle.specs.Merging.{IsMerged, NoMarkBetween, start_mark, end_mark, ranges_size, AreCanonical};
-ghost use Rattle.xet_merkle.specs.Steps.RangeMerging.{MergesTo};
+ghost use Rattle.xet_merkle.specs.Steps.SubtreeMerging.{MergesTo};
 
 use super::MerkleHashSubtree;
 use crate::error::CoreError;
@@ -99,21 +99,24 @@ impl<A: Allocator + Clone> MerkleHashSubtree<A> {
         match ranges {
             [] => Self::from_chunks(alloc, true, &[], true),
             [range] => Ok(range.copy(alloc)?),
-            [first, others @ ..] => Ok(first.copy(alloc)?.followed_by(others)?),
+            _ => Ok(Self::merge_halves(alloc, ranges)?),
         }
     }
 
-    // This range and all that follow it, merged.
-    fn followed_by(self, others: &[MerkleHashSubtree<A>]) -> Result<Self, CoreError>
-        requires marks { NoMarkBetween (self ∷ others.now) }
-        requires fits { ranges_size (self ∷ others.now) < 2 ^ 64 }
-        ensures merges { IfOk result (λ merged. MergesTo (self ∷ others.now) (merged ∷ [])) }
+    // Some adjacent ranges, merged: the first half of them and the second apart, and then the two.
+    fn merge_halves(alloc: A, ranges: &[MerkleHashSubtree<A>]) -> Result<Self, CoreError>
+        requires some { 0 < length ranges.now }
+        requires marks { NoMarkBetween ranges.now }
+        requires fits { ranges_size ranges.now < 2 ^ 64 }
+        ensures merges { IfOk result (λ merged. MergesTo ranges.now (merged ∷ [])) }
         ensures errors { IfErr result (λ e. e ≡ CoreError.OutOfMemory) }
     {
-        let mut merged = self;
-        'merging: for range in others {
-            merged.merge_into(range)?;
+        if ranges.len() < 2 {
+            return Ok(ranges[0].copy(alloc)?);
         }
+        let (front, back) = ranges.split_at(ranges.len().div_ceil(2));
+        let mut merged = Self::merge_halves(alloc.clone()?, front)?;
+        merged.merge_into(&Self::merge_halves(alloc, back)?)?;
         Ok(merged)
     }
 }

@@ -1,9 +1,12 @@
-use Rattle.std.proofs.Common.{◌≡◌, ◌<◌, ◌^◌, List, [], ◌∷◌, ◌++◌, length, map, None, Some, refl, sym, ap, subst, ◌∙◌, append-nil, arith, rules}
+use Rattle.std.proofs.Common.{◌≡◌, ◌<◌, ◌^◌, [], ◌∷◌, map, None, Some, sym, ap, subst, ◌∙◌, append-nil, arith, rules}
 use Rattle.std.specs.Prelude.{IfSome}
 use Rattle.std.proofs.lemmas.List.Sums.{sum_by-cons}
-use Rattle.xet_merkle.specs.MergeTree.{leaves, first_leaf, last_leaf, AreApart, total_of}
-use Rattle.xet_merkle.specs.Steps.Bracketing.{entries, start_of_first, IsPassed, AreBegun, depth, JoinsTo, refusal}
-use Rattle.xet_merkle.proofs.Merging.Bracketing.{IsPassed-none, apart_allowed, refused, depth-entries, entries-leaves, JoinsTo-one, first_of_leaves, last_of_leaves}
+use Rattle.xet_merkle.specs.MergeTree.{leaves}
+use Rattle.xet_merkle.specs.Ranges.{AreApart, total_of}
+use Rattle.xet_merkle.specs.Steps.Bracketing.{entries, IsPassed, AreBegun, depth, refusal}
+use Rattle.xet_merkle.specs.Steps.RangeMerging.{start_of_first, JoinsTo}
+use Rattle.xet_merkle.proofs.Merging.Bracketing.{IsPassed-none, apart_allowed, refused, depth-entries, entries-leaves, first_of_leaves, last_of_leaves}
+use Rattle.xet_merkle.proofs.Merging.Ranges.{JoinsTo-one}
 use Rattle.xet_merkle.proofs.merge_tree.MergeTree.run.Goals as goal
 
 some_same : {X : Type 0} (x y : X) → Some x ≡ Some y → x ≡ y

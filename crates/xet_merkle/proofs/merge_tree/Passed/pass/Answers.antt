@@ -1,6 +1,6 @@
-use Rattle.std.proofs.Common.{◌≡◌, ℕ, ◌+◌, ◌<◌, ◌^◌, ◌↔◌, IsTrue, Option, List, [], ◌∷◌, ◌++◌, Some, subst, sym, ap}
+use Rattle.std.proofs.Common.{ℕ, ◌+◌, ◌<◌, ◌^◌, ◌↔◌, IsTrue, sym}
 use Rattle.std.specs.Prelude.{SomeIff}
-use Rattle.xet_merkle.specs.Steps.Bracketing.{IsPassed, Follows}
+use Rattle.xet_merkle.specs.Steps.Bracketing.{Follows}
 use Rattle.xet_merkle.proofs.Merging.Bracketing.{IsPassed-push}
 use Rattle.xet_merkle.proofs.merge_tree.Passed.pass.Goals as goal
 
