@@ -8,7 +8,9 @@ ghost use Rattle.xet_merkle.specs.StablePoints.{EndsStable, IsStable, IsTriple, 
 ghost use Rattle.xet_merkle.specs.Levels.{Level, top_nodes, top_hash, node_count};
 ghost use Rattle.xet_merkle.specs.Canonical.{IsSplit, IsCanonicalBy};
 ghost use Rattle.serde_json.specs.Data.{Data};
+ghost use Rattle.serde_json.specs.Written.{compact_text, has_float};
 ghost use Rattle.xet_merkle.specs.Subtree.{Subtree, IsCanonical, same_subtree};
+ghost use Rattle.xet_merkle.specs.SubtreeJson.{subtree_json};
 ghost use Rattle.xet_merkle.specs.JsonRules.{Reads};
 ghost use Rattle.xet_merkle.specs.Merging.{IsMerged};
 
@@ -104,6 +106,18 @@ pub fn merging_is_associative()
         IsCanonical a first → IsCanonical b second → IsCanonical c third →
         IsMerged a b ab → IsMerged ab c left → IsMerged b c bc → IsMerged a bc right →
         (left ≡ right) × IsCanonical left (first ++ (second ++ third)) }
+{}
+
+/// All bracketings of one list under the same marks give one subtree and one JSON text: where each range is the canonical
+/// subtree of its chunks, `MergeTree::run` and `merge` answer a canonical subtree of the joined list, and two of those
+/// with the same marks are equal. The JSON value of a subtree has no float, so its compact text is the one that is given
+/// here.
+pub fn all_bracketings_agree()
+    ensures subtrees { (a b : Subtree) (nodes : List Node) → a.at_start ≡ b.at_start → a.at_end ≡ b.at_end →
+        IsCanonical a nodes → IsCanonical b nodes → a ≡ b }
+    ensures texts { (a b : Subtree) (nodes : List Node) → a.at_start ≡ b.at_start → a.at_end ≡ b.at_end →
+        IsCanonical a nodes → IsCanonical b nodes → compact_text (subtree_json a) ≡ compact_text (subtree_json b) }
+    ensures no_float { (subtree : Subtree) → has_float (subtree_json subtree) ≡ false }
 {}
 
 /// An empty range without marks changes nothing where it is merged with the canonical subtree of a list.
