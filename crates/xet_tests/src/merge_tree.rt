@@ -3,7 +3,9 @@
 ghost use Rattle.std.specs.Prelude.{◌≡◌};
 ghost use Rattle.xet_merkle.specs.Roots.{total_size};
 
-use crate::support::{EACH_FOURTH, with_cuts};
+use crate::support::{EACH_FOURTH, MARKS, ranges, with_cut, with_cuts};
+use rand_core::{Rng, SeedableRng};
+use rand_xoshiro::Xoshiro256PlusPlus;
 use std::alloc::{AllocError, Global};
 use std::test::Fail;
 use xet_hash::data_hash::{DataHash, MerkleHash};
@@ -160,6 +162,82 @@ fn ranges_of_each_kind_have_the_root(rt: HostRuntime) -> Result<(), Fail> {
         assert_eq!(rt; plain.root()?, root);
         let subtree: MerkleHashSubtree = run(rt.alloc(), bracketing)?;
         assert_eq!(rt; subtree.root()?, root);
+    }
+    Ok(())
+}
+
+// So many drawn nodes, of which as many in four are natural cuts as told.
+fn drawn_nodes(
+    generator: &mut Xoshiro256PlusPlus,
+    alloc: Global,
+    count: usize,
+    cuts_in_four: u64,
+) -> Result<Vec<Node>, AllocError> {
+    let mut nodes = Vec::new(alloc);
+    for _ in 0..count {
+        let hash = DataHash::random_from_seed(generator.next_u64());
+        let is_cut = generator.next_u64() % 4 < cuts_in_four;
+        nodes.push((with_cut(hash, is_cut), generator.next_u64() % 1000))?;
+    }
+    Ok(nodes)
+}
+
+// The lengths of 1 to 12 ranges. Each fourth range or so is empty.
+fn drawn_lengths(
+    generator: &mut Xoshiro256PlusPlus,
+    alloc: Global,
+) -> Result<Vec<usize>, AllocError> {
+    let mut lengths = Vec::new(alloc);
+    for _ in 0..generator.next_u64() % 12 + 1 {
+        let is_empty = generator.next_u64().is_multiple_of(4);
+        let length = (generator.next_u64() % 40) as usize;
+        lengths.push(if is_empty { 0 } else { length })?;
+    }
+    Ok(lengths)
+}
+
+// A drawn bracketing of so many ranges, one at least.
+fn drawn_bracketing(
+    generator: &mut Xoshiro256PlusPlus,
+    alloc: Global,
+    ranges: usize,
+) -> Result<String, AllocError> {
+    let mut bracketing = String::new(alloc);
+    let mut trees = 0u32;
+    for _ in 0..ranges {
+        bracketing.push('.')?;
+        trees = trees.saturating_add(1);
+        while trees > 1 && generator.next_u64().is_multiple_of(2) {
+            bracketing.push('+')?;
+            trees = trees.saturating_sub(1);
+        }
+    }
+    for _ in 1..trees {
+        bracketing.push('+')?;
+    }
+    Ok(bracketing)
+}
+
+#[test]
+fn drawn_trees_give_the_subtree_of_the_whole(rt: HostRuntime) -> Result<(), Fail> {
+    let alloc = rt.alloc();
+    let mut generator = Xoshiro256PlusPlus::seed_from_u64(12);
+    for number in 0..300usize {
+        let cuts_in_four = [0, 1, 2, 4][number % 4];
+        let (at_start, at_end) = MARKS[number / 4 % 4];
+        let lengths = drawn_lengths(&mut generator, alloc)?;
+        let count = lengths.iter().sum();
+        let nodes = drawn_nodes(&mut generator, alloc, count, cuts_in_four)?;
+        let bracketing = drawn_bracketing(&mut generator, alloc, lengths.len())?;
+        // The last range takes all that is left, which is what the last length says.
+        let (_, others) = lengths.split_last().unwrap_or((&0, &[]));
+        let ranges = ranges(alloc, nodes.as_slice(), others, (at_start, at_end))?;
+        let merged = match tree(alloc, &bracketing, ranges)? {
+            Some(tree) => tree.run()?,
+            None => return Err("no tree")?,
+        };
+        let whole = MerkleHashSubtree::from_chunks(alloc, at_start, nodes.as_slice(), at_end)?;
+        assert!(rt; merged == whole, "{number}: {bracketing}");
     }
     Ok(())
 }

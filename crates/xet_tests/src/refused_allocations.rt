@@ -11,7 +11,10 @@ use xet_hash::data_hash::DataHash;
 use xet_hash::passthrough_hashmap::PassThroughHashMap;
 use xet_merkle::CoreError;
 use xet_merkle::aggregated_hashes::{Node, file_hash, xorb_hash};
+use xet_merkle::chunk_range::ChunkRange;
+use xet_merkle::merge_tree::MergeTree;
 use xet_merkle::merkle_hash_subtree::MerkleHashSubtree;
+use xet_merkle::plain_range::PlainRange;
 
 // At least as many requests as each call makes.
 const MOST_REQUESTS: u32 = 200;
@@ -99,6 +102,91 @@ fn merge_halves(alloc: &Refusing, chunks: &Chunks<'_>) -> Attempt {
     }
 }
 
+// Whether a range shows the marks and the size of a list of chunks.
+fn shows<R: ChunkRange>(range: &R, chunks: &Chunks<'_>) -> bool {
+    let mut size = 0u64;
+    for (_, chunk_size) in chunks.nodes {
+        size = size.wrapping_add(*chunk_size);
+    }
+    range.at_start() == chunks.at_start
+        && range.at_end() == chunks.at_end
+        && range.total_size() == size
+}
+
+// Chunks in two parts, of which the first has so many.
+fn split<'a>(chunks: &Chunks<'a>, len: usize) -> [Chunks<'a>; 2] {
+    let (first, second) = chunks.nodes.split_at(len.min(chunks.nodes.len()));
+    [
+        Chunks {
+            nodes: first,
+            at_end: false,
+            ..*chunks
+        },
+        Chunks {
+            nodes: second,
+            at_start: false,
+            ..*chunks
+        },
+    ]
+}
+
+fn join_halves<'a, R: ChunkRange<Alloc = &'a Refusing>>(
+    alloc: &'a Refusing,
+    chunks: &Chunks<'_>,
+) -> Attempt {
+    let [first, second] = split(chunks, 100);
+    let left = R::from_chunks(alloc, first.at_start, first.nodes, first.at_end);
+    let right = R::from_chunks(alloc, second.at_start, second.nodes, second.at_end);
+    let (Ok(mut joined), Ok(right)) = (left, right) else {
+        return Ok(None);
+    };
+    match joined.join(&right) {
+        Ok(()) => Ok(Some(shows(&joined, chunks))),
+        Err(CoreError::OutOfMemory) => refused(shows(&joined, &first)),
+        Err(_) => Ok(Some(false)),
+    }
+}
+
+// The range of some chunks, as a tree of no joins.
+fn leaf<'a, R: ChunkRange<Alloc = &'a Refusing>>(
+    alloc: &'a Refusing,
+    chunks: &Chunks<'_>,
+) -> Result<Box<MergeTree<R>>, CoreError> {
+    let range = R::from_chunks(alloc, chunks.at_start, chunks.nodes, chunks.at_end)?;
+    Ok(Box::new(chunks.alloc, MergeTree::Leaf(range))?)
+}
+
+// Three ranges, of which the last two are joined first.
+fn tree<'a, R: ChunkRange<Alloc = &'a Refusing>>(
+    alloc: &'a Refusing,
+    chunks: &Chunks<'_>,
+) -> Result<MergeTree<R>, CoreError> {
+    let [first, rest] = split(chunks, 60);
+    let [second, third] = split(&rest, 70);
+    let joined = MergeTree::Join(leaf(alloc, &second)?, leaf(alloc, &third)?);
+    Ok(MergeTree::Join(leaf(alloc, &first)?, Box::new(chunks.alloc, joined)?))
+}
+
+fn run<'a, R: ChunkRange<Alloc = &'a Refusing>>(
+    alloc: &'a Refusing,
+    chunks: &Chunks<'_>,
+) -> Attempt {
+    match tree::<R>(alloc, chunks) {
+        Ok(tree) => Ok(Some(shows(&tree.run()?, chunks))),
+        Err(_) => Ok(None),
+    }
+}
+
+fn root_of<'a, R: ChunkRange<Alloc = &'a Refusing>>(
+    alloc: &'a Refusing,
+    chunks: &Chunks<'_>,
+) -> Attempt {
+    match R::from_chunks(alloc, chunks.at_start, chunks.nodes, chunks.at_end) {
+        Ok(range) => Ok(Some(range.root()? == Some(xorb_hash(chunks.alloc, chunks.nodes)?))),
+        Err(_) => Ok(None),
+    }
+}
+
 fn read_back(alloc: &Refusing, chunks: &Chunks<'_>) -> Attempt {
     let value = chunks.subtree()?.to_json(chunks.alloc)?;
     let subtree = MerkleHashSubtree::from_json(alloc, &value)?;
@@ -167,6 +255,11 @@ enum Call {
     FromChunks,
     Merge,
     MergeInto,
+    JoinPlain,
+    JoinSubtrees,
+    RunPlain,
+    RunSubtrees,
+    RootOfPlain,
     FromJson,
     MapWithCapacity,
     MapFromPairs,
@@ -183,6 +276,11 @@ fn attempt(call: Call, alloc: &Refusing, chunks: &Chunks<'_>) -> Attempt {
         Call::FromChunks => return make_and_copy(alloc, chunks),
         Call::Merge => return merge_three(alloc, chunks),
         Call::MergeInto => return merge_halves(alloc, chunks),
+        Call::JoinPlain => return join_halves::<PlainRange<&Refusing>>(alloc, chunks),
+        Call::JoinSubtrees => return join_halves::<MerkleHashSubtree<&Refusing>>(alloc, chunks),
+        Call::RunPlain => return run::<PlainRange<&Refusing>>(alloc, chunks),
+        Call::RunSubtrees => return run::<MerkleHashSubtree<&Refusing>>(alloc, chunks),
+        Call::RootOfPlain => return root_of::<PlainRange<&Refusing>>(alloc, chunks),
         Call::FromJson => return read_back(alloc, chunks),
         Call::MapCopy => return copy_map(alloc),
         Call::MapInsert => return fill(alloc, false),
@@ -248,6 +346,36 @@ fn merge_is_refused_with_each_request(rt: HostRuntime) -> Result<(), Fail> {
 #[test]
 fn merge_into_changes_nothing_where_a_request_is_refused(rt: HostRuntime) -> Result<(), Fail> {
     assert!(rt; is_refused_under_all_marks(rt.alloc(), Call::MergeInto, 11)?);
+    Ok(())
+}
+
+#[test]
+fn ranges_stay_as_they_were_where_a_request_of_their_join_is_refused(
+    rt: HostRuntime,
+) -> Result<(), Fail> {
+    assert!(rt; is_refused_under_all_marks(rt.alloc(), Call::JoinPlain, 13)?);
+    assert!(rt; is_refused_under_all_marks(rt.alloc(), Call::JoinSubtrees, 14)?);
+    Ok(())
+}
+
+#[test]
+fn trees_are_refused_with_each_request_of_their_ranges(rt: HostRuntime) -> Result<(), Fail> {
+    assert!(rt; is_refused_under_all_marks(rt.alloc(), Call::RunPlain, 15)?);
+    assert!(rt; is_refused_under_all_marks(rt.alloc(), Call::RunSubtrees, 16)?);
+    Ok(())
+}
+
+#[test]
+fn the_root_of_a_plain_range_is_refused_with_each_request(rt: HostRuntime) -> Result<(), Fail> {
+    let mut generator = Xoshiro256PlusPlus::seed_from_u64(17);
+    let nodes = drawn_list(&mut generator, rt.alloc(), 200)?;
+    let chunks = Chunks {
+        alloc: rt.alloc(),
+        at_start: true,
+        nodes: nodes.as_slice(),
+        at_end: true,
+    };
+    assert!(rt; is_refused_with_each_request(Call::RootOfPlain, &chunks));
     Ok(())
 }
 
