@@ -19,6 +19,7 @@ extern "C" {
     fn xet_bench_ranges(
         nodes: *const u64,
         len: usize,
+        length: usize,
         steps: usize,
         out: *mut u8,
         out_len: usize,
@@ -232,31 +233,41 @@ fn compare_subtrees(nodes: &[u64]) {
     }
 }
 
-fn our_ranges(nodes: &[u64], steps: usize) -> [u8; 32] {
+fn our_ranges(nodes: &[u64], length: usize, steps: usize) -> [u8; 32] {
     let mut out = [0; 32];
-    let done =
-        unsafe { xet_bench_ranges(nodes.as_ptr(), nodes.len(), steps, out.as_mut_ptr(), 32) };
-    assert!(done);
+    let (start, len) = (nodes.as_ptr(), nodes.len());
+    assert!(unsafe { xet_bench_ranges(start, len, length, steps, out.as_mut_ptr(), 32) });
     out
 }
 
-// The time of joining ranges beside that of making them. Either is what a run takes longer with that step.
-fn compare_joining(nodes: &[u64]) {
-    assert_eq!(our_ranges(nodes, 2), our_root(nodes));
-    let mut best = [f64::MAX; 3];
+// The times of making ranges of so many pairs, of joining them from the left, and of merging them: what a run takes
+// longer with that step.
+fn times_of_ranges(nodes: &[u64], length: usize) -> [f64; 3] {
+    for steps in [2, 3] {
+        assert_eq!(our_ranges(nodes, length, steps), our_root(nodes));
+    }
+    let mut best = [f64::MAX; 4];
     for _ in 0..TURNS {
         for (steps, best) in best.iter_mut().enumerate() {
-            *best = best.min(seconds(1, || our_ranges(black_box(nodes), steps)));
+            *best = best.min(seconds(1, || our_ranges(black_box(nodes), length, steps)));
         }
     }
-    let (making, joining) = (best[1] - best[0], best[2] - best[1]);
-    println!("\n| Task | joining, ms | making, ms | ratio |\n|---|---|---|---|");
+    let [nodes, ranges, joined, merged] = best.map(|time| time * 1e3);
+    [ranges - nodes, joined - ranges, merged - ranges]
+}
+
+fn compare_joining(nodes: &[u64]) {
     println!(
-        "| 1000 ranges of 1000 pairs, joined from the left | {:.1} | {:.0} | {:.2} |",
-        joining * 1e3,
-        making * 1e3,
-        joining / making
+        "\n| Task | making, ms | joining, ms | beside making | `merge`, ms | beside joining |\n|---|---|---|---|---|---|"
     );
+    for (name, length) in [("1000 ranges of 1000 pairs", 1000), ("10,000 ranges of 100 pairs", 100)] {
+        let [making, joining, merging] = times_of_ranges(nodes, length);
+        println!(
+            "| {name} | {making:.0} | {joining:.1} | {:.2} | {merging:.1} | {:.2} |",
+            joining / making,
+            merging / joining
+        );
+    }
 }
 
 fn main() {

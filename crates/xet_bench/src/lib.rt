@@ -77,16 +77,18 @@ pub extern "C" fn xet_bench_from_chunks(
 }
 
 /// Makes the nodes of a list, given as to `xet_bench_xorb_hash`. Where `steps` is at least 1, it makes the
-/// subtrees of each 1000 of them, with the list's start and end marked, and where it is at least 2, it joins
-/// them from the left and writes the final hash to `out`. False where a call was refused.
+/// subtrees of each `range_len` of them, with the list's start and end marked. Where it is 2 it joins them from the
+/// left, and where it is more by `merge`, and writes the final hash to `out`. False where a call was refused.
 #[unsafe(no_mangle)]
 pub extern "C" fn xet_bench_ranges(
     alloc: Global,
     nodes: &[u64],
+    range_len: usize,
     steps: usize,
     out: &mut [u8],
 ) -> bool
-    requires { length out.old ≡ 32 }
+    requires some { 0 < range_len }
+    requires out { length out.old ≡ 32 }
 {
     let Ok(nodes) = nodes_of(alloc, nodes) else {
         return false;
@@ -94,13 +96,15 @@ pub extern "C" fn xet_bench_ranges(
     if steps < 1 {
         return true;
     }
-    let Ok(ranges) = ranges_of(alloc, nodes.as_slice()) else {
+    let Ok(ranges) = ranges_of(alloc, nodes.as_slice(), range_len) else {
         return false;
     };
-    if steps < 2 {
-        return true;
-    }
-    match final_hash_of_joined(ranges.as_slice()) {
+    let root = match steps {
+        1 => return true,
+        2 => final_hash_of_joined(ranges.as_slice()),
+        _ => final_hash_of_merged(alloc, ranges.as_slice()),
+    };
+    match root {
         Ok(Some(root)) => {
             out.copy_from_slice(&root.as_bytes());
             true
@@ -133,10 +137,16 @@ fn is_read_back(alloc: Global, nodes: &[Node], steps: usize) -> Result<bool, Cor
     Ok(read.num_nodes() == subtree.num_nodes())
 }
 
-fn ranges_of(alloc: Global, nodes: &[Node]) -> Result<Vec<MerkleHashSubtree>, CoreError> {
+fn ranges_of(
+    alloc: Global,
+    nodes: &[Node],
+    range_len: usize,
+) -> Result<Vec<MerkleHashSubtree>, CoreError>
+    requires { 0 < range_len }
+{
     let mut ranges = Vec::new(alloc);
     let mut rest = nodes;
-    for range in nodes.chunks(1000) {
+    for range in nodes.chunks(range_len) {
         let at_start = rest.len() == nodes.len();
         let (_, after) = rest.split_at(range.len().min(rest.len()));
         rest = after;
@@ -154,6 +164,13 @@ fn final_hash_of_joined(ranges: &[MerkleHashSubtree]) -> Result<Option<MerkleHas
         joined.merge_into(range)?;
     }
     Ok(joined.final_hash())
+}
+
+fn final_hash_of_merged(
+    alloc: Global,
+    ranges: &[MerkleHashSubtree],
+) -> Result<Option<MerkleHash>, CoreError> {
+    Ok(MerkleHashSubtree::merge(alloc, ranges)?.final_hash())
 }
 
 fn nodes_of(alloc: Global, nodes: &[u64]) -> Result<Vec<Node>, AllocError> {

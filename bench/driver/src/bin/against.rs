@@ -5,15 +5,15 @@ use std::hint::black_box;
 use std::time::Instant;
 
 type FromChunks = unsafe extern "C" fn(bool, *const u64, usize, bool, *mut u8, usize) -> bool;
-type Ranges = unsafe extern "C" fn(*const u64, usize, usize, *mut u8, usize) -> bool;
+type Ranges = unsafe extern "C" fn(*const u64, usize, usize, usize, *mut u8, usize) -> bool;
 type Json = unsafe extern "C" fn(*const u64, usize, usize) -> bool;
 
 extern "C" {
     fn xet_bench_from_chunks(a: bool, n: *const u64, l: usize, b: bool, o: *mut u8, m: usize) -> bool;
-    fn xet_bench_ranges(n: *const u64, l: usize, steps: usize, o: *mut u8, m: usize) -> bool;
+    fn xet_bench_ranges(n: *const u64, l: usize, length: usize, steps: usize, o: *mut u8, m: usize) -> bool;
     fn xet_bench_json(n: *const u64, l: usize, steps: usize) -> bool;
     fn before_from_chunks(a: bool, n: *const u64, l: usize, b: bool, o: *mut u8, m: usize) -> bool;
-    fn before_ranges(n: *const u64, l: usize, steps: usize, o: *mut u8, m: usize) -> bool;
+    fn before_ranges(n: *const u64, l: usize, length: usize, steps: usize, o: *mut u8, m: usize) -> bool;
     fn before_json(n: *const u64, l: usize, steps: usize) -> bool;
 }
 
@@ -28,7 +28,7 @@ fn from_chunks(call: FromChunks, nodes: &[u64], is_marked: bool) -> [u8; 32] {
 
 fn ranges(call: Ranges, nodes: &[u64], steps: usize) -> [u8; 32] {
     let mut out = [0; 32];
-    assert!(unsafe { call(nodes.as_ptr(), nodes.len(), steps, out.as_mut_ptr(), 32) });
+    assert!(unsafe { call(nodes.as_ptr(), nodes.len(), 1000, steps, out.as_mut_ptr(), 32) });
     out
 }
 
@@ -41,7 +41,7 @@ fn json(call: Json, nodes: &[u64], steps: usize) -> [u8; 32] {
 fn best(steps: usize, mut after: impl FnMut(usize) -> [u8; 32], mut before: impl FnMut(usize) -> [u8; 32]) -> [f64; 2] {
     assert_eq!(after(steps), before(steps));
     let mut best = [[f64::MAX; 2]; 2];
-    let mut time = |best: &mut f64, task: &mut dyn FnMut(usize) -> [u8; 32], steps: usize| {
+    let time = |best: &mut f64, task: &mut dyn FnMut(usize) -> [u8; 32], steps: usize| {
         let start = Instant::now();
         black_box(task(steps));
         *best = best.min(start.elapsed().as_secs_f64());
