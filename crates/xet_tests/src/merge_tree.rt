@@ -203,14 +203,15 @@ fn drawn_bracketing(
     ranges: usize,
 ) -> Result<String, AllocError> {
     let mut bracketing = String::new(alloc);
-    let mut trees = 0u32;
+    // How many trees stand before the next range.
+    let mut trees = 0u64;
     for _ in 0..ranges {
         bracketing.push('.')?;
-        trees = trees.saturating_add(1);
-        while trees > 1 && generator.next_u64().is_multiple_of(2) {
+        let joins = (generator.next_u64() % 3).min(trees);
+        for _ in 0..joins {
             bracketing.push('+')?;
-            trees = trees.saturating_sub(1);
         }
+        trees = trees.saturating_sub(joins).saturating_add(1);
     }
     for _ in 1..trees {
         bracketing.push('+')?;
@@ -226,7 +227,10 @@ fn drawn_trees_give_the_subtree_of_the_whole(rt: HostRuntime) -> Result<(), Fail
         let cuts_in_four = [0, 1, 2, 4][number % 4];
         let (at_start, at_end) = MARKS[number / 4 % 4];
         let lengths = drawn_lengths(&mut generator, alloc)?;
-        let count = lengths.iter().sum();
+        let mut count = 0usize;
+        for length in lengths.iter() {
+            count = count.saturating_add(*length);
+        }
         let nodes = drawn_nodes(&mut generator, alloc, count, cuts_in_four)?;
         let bracketing = drawn_bracketing(&mut generator, alloc, lengths.len())?;
         // The last range takes all that is left, which is what the last length says.
