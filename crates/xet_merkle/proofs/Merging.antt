@@ -3,4 +3,5 @@ pub mod Join
 pub mod Kept
 pub mod LevelByLevel
 pub mod Ranges
+pub mod Bounds
 pub mod Bracketing

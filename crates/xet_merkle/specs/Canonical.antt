@@ -24,15 +24,15 @@ pub record IsSplit (at_start at_end : Bool) (nodes left middle right : List Node
   pub low : IsLow at_start left (middle ++ right)
   pub high : IsHigh at_end middle right
 
--- the canonical subtree of a list under marks, under what makes a parent of a group, and the number of
--- parents that it needs. Without a split it has one level, with all nodes on the left. With one, the first
+-- the canonical subtree of a list under marks, under what makes a parent of a group, and its work: the
+-- number of parents that are made for it. Without a split it has one level, with all nodes on the left. With one, the first
 -- level has what stays on either side, and the others are the canonical subtree of the parents of the
 -- groups of what is collapsed.
 pub data IsCanonicalBy (make : List Node → Node) (at_start at_end : Bool) : List Node → List Level → ℕ → Type 0 where
   whole : {nodes : List Node} →
       ((left middle right : List Node) → ¬ (IsSplit at_start at_end nodes left middle right)) →
       IsCanonicalBy make at_start at_end nodes (record { left = nodes; right = [] } ∷ []) 0
-  collapsed : {nodes left middle right : List Node} {groups : List (List Node)} {levels : List Level} {parents : ℕ} →
+  collapsed : {nodes left middle right : List Node} {groups : List (List Node)} {levels : List Level} {work : ℕ} →
       IsSplit at_start at_end nodes left middle right → Groups middle groups →
-      IsCanonicalBy make at_start at_end (map make groups) levels parents →
-      IsCanonicalBy make at_start at_end nodes (record { left = left; right = right } ∷ levels) (length groups + parents)
+      IsCanonicalBy make at_start at_end (map make groups) levels work →
+      IsCanonicalBy make at_start at_end nodes (record { left = left; right = right } ∷ levels) (length groups + work)

@@ -5,6 +5,7 @@ use Rattle.std.specs.List.{AllZip}
 use Rattle.xet_merkle.specs.Groups.{Node}
 use Rattle.xet_merkle.specs.Ranges.{AreApart, total_of}
 use Rattle.xet_merkle.specs.Levels.{levels_size}
+use Rattle.xet_merkle.specs.Canonical.{IsCanonicalBy}
 use Rattle.xet_merkle.specs.Subtree.{Subtree, IsCanonical}
 
 -- two subtrees are merged to a third: no mark stands between them, and the third has their outer marks, the
@@ -16,6 +17,19 @@ pub record IsMerged (front back merged : Subtree) : Type 0 where
   pub end : merged.at_end ≡ back.at_end
   pub size : levels_size merged.levels ≡ levels_size front.levels + levels_size back.levels
   pub canonical : (first second : List Node) → IsCanonical front first → IsCanonical back second → IsCanonical merged (first ++ second)
+
+-- the same where parents are made as told, and so many were made for it: the work of both lists and these are the work
+-- of the joined list
+pub record IsMergedBy (make : List Node → Node) (made : ℕ) (front back merged : Subtree) : Type 0 where
+  pub no_end : front.at_end ≡ false
+  pub no_start : back.at_start ≡ false
+  pub start : merged.at_start ≡ front.at_start
+  pub end : merged.at_end ≡ back.at_end
+  pub size : levels_size merged.levels ≡ levels_size front.levels + levels_size back.levels
+  pub canonical : (first second : List Node) (work_first work_second : ℕ) →
+      IsCanonicalBy make front.at_start front.at_end first front.levels work_first →
+      IsCanonicalBy make back.at_start back.at_end second back.levels work_second →
+      IsCanonicalBy make merged.at_start merged.at_end (first ++ second) merged.levels (made + (work_first + work_second))
 
 -- no mark stands between adjacent ranges
 abbrev pub NoMarkBetween : List Subtree → Type 0

@@ -17,9 +17,17 @@ node_line node = hex_text node.0 ++ codes " : " ++ decimal node.1 ++ codes "\n"
 abbrev pub group_text : List Node → List ℕ
 group_text group = flat_map node_line group
 
--- the parent of a group: the internal node hash of its text, and the sum of its sizes
-unfoldable pub parent : List Node → Node
-parent group = (hash_of (keyed_hash internal_key (group_text group)), total_size group)
+-- the parent of a group under what is named as the hash of each group: that hash, and the sum of the group's sizes
+abbrev pub parent_by : (List Node → List ℕ) → List Node → Node
+parent_by hash group = (hash group, total_size group)
+
+-- the internal node hash of a group's text
+unfoldable pub parent_hash : List Node → List ℕ
+parent_hash group = hash_of (keyed_hash internal_key (group_text group))
+
+-- the parent of a group
+abbrev pub parent : List Node → Node
+parent = parent_by parent_hash
 
 -- the root of a list of nodes, under what makes a parent of a group: the default hash for no node, the
 -- node's own hash for one, else the root of the parents of the list's groups

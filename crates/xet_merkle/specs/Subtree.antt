@@ -15,7 +15,7 @@ pub record Subtree : Type 0 where
 
 -- a subtree is the canonical subtree of a list under the subtree's marks
 abbrev pub IsCanonical : Subtree → List Node → Type 0
-IsCanonical subtree nodes = (parents : ℕ) × IsCanonicalBy parent subtree.at_start subtree.at_end nodes subtree.levels parents
+IsCanonical subtree nodes = (work : ℕ) × IsCanonicalBy parent subtree.at_start subtree.at_end nodes subtree.levels work
 
 -- whether two nodes, two levels and two subtrees are equal
 abbrev pub same_node : Node → Node → Bool

@@ -7,10 +7,11 @@
 ghost use Rattle.std.specs.Prelude.{◌≡◌, ◌⊎◌, ◌+◌, ◌^◌, ◌<◌, ◌≤◌, ◌↔◌, List, ◌++◌, length, take, drop, replicate, IsOk, IfOk, IfErr, IsErrOf, IsSome, IsTrue, SomeIff};
 ghost use Rattle.arrayvec.specs.ArrayVec.{array_vec_len};
 ghost use Rattle.xet_merkle.specs.Groups.{Node, is_cut};
-ghost use Rattle.xet_merkle.specs.Roots.{total_size, node_line, group_text, parent, IsRoot, IsFileHash};
+ghost use Rattle.xet_merkle.specs.Roots.{total_size, node_line, group_text, parent_hash, parent_by, parent, IsRoot, IsFileHash};
 ghost use Rattle.xet_merkle.specs.Steps.Scan.{IsFirstGroup, AreParents};
 
 use crate::error::CoreError;
+use crate::parent_maker::{ParentHashes, ParentMaker};
 use arrayvec::ArrayVec;
 use std::alloc::{AllocError, Allocator};
 use xet_hash::data_hash::{HMACKey, MerkleHash, compute_internal_node_hash};
@@ -102,27 +103,50 @@ pub(crate) fn total_size(nodes: &[Node]) -> Option<u64>
     Some(total)
 }
 
+// The hash of a group's parent.
+#[tactic(auto, unfolding(crate::specs::Roots::parent_hash))]
+pub(crate) fn parent_hash(group: &[Node]) -> MerkleHash
+    requires { length group.now ≤ MAX_GROUP_LEN }
+    ensures { result ≡ parent_hash group.now }
+{
+    compute_internal_node_hash(&group_text(group))
+}
+
+// The sum of the sizes of a group.
+fn group_size(group: &[Node]) -> u64
+    requires { total_size group.now < 2 ^ 64 }
+    ensures { result ≡ total_size group.now }
+{
+    group.iter().map(|node| node.1).sum()
+}
+
 // The parent of a group.
-#[tactic(auto, unfolding(crate::specs::Roots::parent))]
 fn parent(group: &[Node]) -> Node
     requires few { length group.now ≤ MAX_GROUP_LEN }
     requires fits { total_size group.now < 2 ^ 64 }
     ensures { result ≡ parent group.now }
 {
-    let size = group.iter().map(|node| node.1).sum();
-    (compute_internal_node_hash(&group_text(group)), size)
+    (parent_hash(group), group_size(group))
 }
 
-// The parents of the groups of some nodes, in a new list.
-pub(crate) fn parents<A: Allocator>(alloc: A, nodes: &[Node]) -> Result<Vec<Node, A>, AllocError>
-    requires { total_size nodes.now < 2 ^ 64 }
-    ensures { IfOk result (λ made. AreParents parent nodes.now made.items) }
+// The parents of the groups of some nodes, in a new list, with the hashes that a maker makes.
+pub(crate) fn parents<A: Allocator, P: ParentMaker>(
+    alloc: A,
+    nodes: &[Node],
+    maker: &mut P,
+) -> Result<Vec<Node, A>, AllocError>
+    requires fits { total_size nodes.now < 2 ^ 64 }
+    requires room { P.count maker.old ≤ 2 ^ 99 }
+    ensures parents { IfOk result (λ made. AreParents (parent_by P.hash_of) nodes.now made.items) }
+    ensures count { IfOk result (λ made. P.count maker.new ≡ P.count maker.old + length made.items) }
+    ensures few { IfOk result (λ made. length made.items < 2 ^ 64) }
 {
-    let mut made = Vec::new(alloc);
+    // Each group but the last has three nodes or more.
+    let mut made = Vec::with_capacity(alloc, nodes.len().div_ceil(FIRST_CUT_INDEX + 1))?;
     let mut rest = nodes;
     'groups: while !rest.is_empty() {
         let (group, after) = rest.split_at(first_group_len(rest));
-        made.push(parent(group))?;
+        made.push((maker.make(group), group_size(group)))?;
         rest = after;
     }
     Ok(made)
@@ -176,7 +200,7 @@ pub fn xorb_hash<A: Allocator>(alloc: A, chunks: &[Node]) -> Result<MerkleHash, 
     match chunks {
         [] => Ok(MerkleHash::default()),
         [(hash, _)] => Ok(*hash),
-        _ => Ok(root(parents(alloc, chunks)?)),
+        _ => Ok(root(parents(alloc, chunks, &mut ParentHashes::new())?)),
     }
 }
 
@@ -313,7 +337,7 @@ mod tests {
             ),
         ] {
             assert!(rt; total_size(nodes).is_some());
-            let made = parents(rt.alloc(), nodes)?;
+            let made = parents(rt.alloc(), nodes, &mut ParentHashes::new())?;
             assert_eq!(rt; made.len(), groups.len());
             let mut rest = nodes;
             for ((len, hash, size), parent) in groups.iter().zip(made.iter()) {

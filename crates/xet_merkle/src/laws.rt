@@ -67,31 +67,32 @@ pub fn lower_end_below_upper_end()
         IsSplit at_start at_end nodes left middle right → 0 < length middle }
 {}
 
-/// Each list has exactly one canonical subtree under given marks, which needs one number of parents.
+/// Each list has exactly one canonical subtree under given marks, which takes one number of parents, its
+/// work.
 pub fn one_canonical_subtree()
     ensures exists { (make : List Node → Node) (at_start at_end : Bool) (nodes : List Node) →
-        (levels : List Level) × (parents : ℕ) × IsCanonicalBy make at_start at_end nodes levels parents }
+        (levels : List Level) × (work : ℕ) × IsCanonicalBy make at_start at_end nodes levels work }
     ensures unique { (make : List Node → Node) (at_start at_end : Bool) (nodes : List Node) →
-        (levels others : List Level) (parents others_parents : ℕ) →
-        IsCanonicalBy make at_start at_end nodes levels parents → IsCanonicalBy make at_start at_end nodes others others_parents →
-        (levels ≡ others) × (parents ≡ others_parents) }
+        (levels others : List Level) (work others_work : ℕ) →
+        IsCanonicalBy make at_start at_end nodes levels work → IsCanonicalBy make at_start at_end nodes others others_work →
+        (levels ≡ others) × (work ≡ others_work) }
 {}
 
 /// The canonical subtree of a list with both ends marked has at most one node at the top, whose hash is
 /// the root of the list.
 pub fn closed_subtree_has_root()
-    ensures { (nodes : List Node) (levels : List Level) (parents : ℕ) →
-        IsCanonicalBy parent true true nodes levels parents →
+    ensures { (nodes : List Node) (levels : List Level) (work : ℕ) →
+        IsCanonicalBy parent true true nodes levels work →
         (length (top_nodes levels) ≤ 1) × IsRoot nodes (top_hash levels) }
 {}
 
 /// A canonical subtree keeps at most as many nodes as its list has, and a list whose canonical subtree has
 /// two levels and `below` more has more nodes than 3 to the power of `below`.
 pub fn canonical_subtree_bounds()
-    ensures nodes { (make : List Node → Node) (at_start at_end : Bool) (nodes : List Node) (levels : List Level) (parents : ℕ) →
-        IsCanonicalBy make at_start at_end nodes levels parents → node_count levels ≤ length nodes }
-    ensures levels { (make : List Node → Node) (at_start at_end : Bool) (nodes : List Node) (levels : List Level) (parents below : ℕ) →
-        IsCanonicalBy make at_start at_end nodes levels parents → length levels ≡ below + 2 → 3 ^ below < length nodes }
+    ensures nodes { (make : List Node → Node) (at_start at_end : Bool) (nodes : List Node) (levels : List Level) (work : ℕ) →
+        IsCanonicalBy make at_start at_end nodes levels work → node_count levels ≤ length nodes }
+    ensures levels { (make : List Node → Node) (at_start at_end : Bool) (nodes : List Node) (levels : List Level) (work below : ℕ) →
+        IsCanonicalBy make at_start at_end nodes levels work → length levels ≡ below + 2 → 3 ^ below < length nodes }
 {}
 
 /// Two subtrees are equal where, and only where, their marks and their levels are.

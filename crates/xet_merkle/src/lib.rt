@@ -8,6 +8,7 @@ pub mod error;
 pub mod laws;
 pub mod merge_tree;
 pub mod merkle_hash_subtree;
+pub mod parent_maker;
 pub mod plain_range;
 
 pub use error::CoreError;

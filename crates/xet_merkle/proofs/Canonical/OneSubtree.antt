@@ -29,20 +29,20 @@ top_nodes-more level (next ∷ levels) some = refl
 module _ (make : List Node → Node) where
   module _ (at_start at_end : Bool) where
     -- there is at most one, with one number of parents
-    pub IsCanonicalBy-unique : {nodes : List Node} {levels others : List Level} {parents others_parents : ℕ} → IsCanonicalBy make at_start at_end nodes levels parents →
-        IsCanonicalBy make at_start at_end nodes others others_parents → (levels ≡ others) × (parents ≡ others_parents)
+    pub IsCanonicalBy-unique : {nodes : List Node} {levels others : List Level} {work others_work : ℕ} → IsCanonicalBy make at_start at_end nodes levels work →
+        IsCanonicalBy make at_start at_end nodes others others_work → (levels ≡ others) × (work ≡ others_work)
     IsCanonicalBy-unique (whole none) (whole none') = (refl, refl)
     IsCanonicalBy-unique (whole none) (collapsed split cutting canonical) = absurd (none _ _ _ split)
     IsCanonicalBy-unique (collapsed split cutting canonical) (whole none) = absurd (none _ _ _ split)
-    IsCanonicalBy-unique {others_parents = n} (collapsed {nodes} {left} {middle} {right} {groups} {levels} {parents} split cutting canonical) (collapsed {left = left'} {middle = middle'} {right = right'} {groups = groups'} {levels = levels'} {parents = parents'} split' cutting' canonical') =
+    IsCanonicalBy-unique {others_work = n} (collapsed {nodes} {left} {middle} {right} {groups} {levels} {work} split cutting canonical) (collapsed {left = left'} {middle = middle'} {right = right'} {groups = groups'} {levels = levels'} {work = work'} split' cutting' canonical') =
         let parts = same_split at_start at_end nodes left middle right left' middle' right' split split' in
         let same_groups : groups' ≡ groups = Groups-unique middle groups' groups (subst (λ (l : List Node). Groups l groups') (sym parts.1) cutting') cutting in
-        let rest = IsCanonicalBy-unique canonical (subst (λ (g : List (List Node)). IsCanonicalBy make at_start at_end (map make g) levels' parents') same_groups canonical') in
+        let rest = IsCanonicalBy-unique canonical (subst (λ (g : List (List Node)). IsCanonicalBy make at_start at_end (map make g) levels' work') same_groups canonical') in
         let below : record { left = left; right = right } ∷ levels ≡ record { left = left'; right = right' } ∷ levels' = cc in
-        let made : length groups + parents ≡ length groups' + parents' = cc in
+        let made : length groups + work ≡ length groups' + work' = cc in
         (below, made)
 
-    canonical_within : (bound : ℕ) (nodes : List Node) → length nodes ≤ bound → (levels : List Level) × (parents : ℕ) × IsCanonicalBy make at_start at_end nodes levels parents
+    canonical_within : (bound : ℕ) (nodes : List Node) → length nodes ≤ bound → (levels : List Level) × (work : ℕ) × IsCanonicalBy make at_start at_end nodes levels work
     canonical_within zero nodes h = (record { left = nodes; right = [] } ∷ [], 0, whole (λ left middle right split. let several = split.several in omega arith))
     canonical_within (suc bound) nodes h = elim (split_or_none at_start at_end nodes) [
       | inr none ↦ (record { left = nodes; right = [] } ∷ [], 0, whole none)
@@ -54,10 +54,10 @@ module _ (make : List Node → Node) where
     ]
 
     -- there is one
-    pub canonical_exists : (nodes : List Node) → (levels : List Level) × (parents : ℕ) × IsCanonicalBy make at_start at_end nodes levels parents
+    pub canonical_exists : (nodes : List Node) → (levels : List Level) × (work : ℕ) × IsCanonicalBy make at_start at_end nodes levels work
     canonical_exists nodes = canonical_within (length nodes) nodes (omega arith)
 
-    pub levels_some : {nodes : List Node} {levels : List Level} {parents : ℕ} → IsCanonicalBy make at_start at_end nodes levels parents → 0 < length levels
+    pub levels_some : {nodes : List Node} {levels : List Level} {work : ℕ} → IsCanonicalBy make at_start at_end nodes levels work → 0 < length levels
     levels_some (whole none) = omega arith
     levels_some (collapsed split cutting canonical) = omega arith
 
@@ -67,12 +67,12 @@ module _ (make : List Node → Node) where
   root_of_few (node ∷ next ∷ nodes) few = absurd (omega arith)
 
   -- with both ends marked, the top has at most one node, and its hash is the root of the list
-  pub closed_root : {nodes : List Node} {levels : List Level} {parents : ℕ} → IsCanonicalBy make true true nodes levels parents →
+  pub closed_root : {nodes : List Node} {levels : List Level} {work : ℕ} → IsCanonicalBy make true true nodes levels work →
       (length (top_nodes levels) ≤ 1) × IsRootBy make nodes (top_hash levels)
   closed_root (whole {nodes} none) =
       let few : length nodes < 2 = elim (cases_lt (length nodes) 2) [ inl few ↦ few | inr several ↦ absurd (none [] nodes [] (closed_split nodes several)) ] in
       (omega (arith, length-append nodes []), root_of_few nodes few)
-  closed_root (collapsed {nodes} {left} {middle} {right} {groups} {levels} {parents} split cutting canonical) =
+  closed_root (collapsed {nodes} {left} {middle} {right} {groups} {levels} {work} split cutting canonical) =
       let rest = closed_root canonical in
       let top = top_nodes-more (record { left = left; right = right }) levels (levels_some true true canonical) in
       let all = (same_split true true nodes [] nodes [] left middle right (closed_split nodes split.several) split).1 in (

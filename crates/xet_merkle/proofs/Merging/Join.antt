@@ -57,11 +57,11 @@ groups_before_split false left (x ∷ middle) rest groups others ends (inr none)
 -- ---- all levels
 
 module _ (make : List Node → Node) (at_start at_end : Bool) where
-  -- the canonical subtree of a list with a split, with its number of parents
-  joined_level : (nodes left middle right : List Node) (groups : List (List Node)) (levels : List Level) (parents made : ℕ) → IsSplit at_start at_end nodes left middle right →
-      Groups middle groups → IsCanonicalBy make at_start at_end (map make groups) levels parents → length groups + parents ≡ made →
+  -- the canonical subtree of a list with a split, with its work
+  joined_level : (nodes left middle right : List Node) (groups : List (List Node)) (levels : List Level) (work made : ℕ) → IsSplit at_start at_end nodes left middle right →
+      Groups middle groups → IsCanonicalBy make at_start at_end (map make groups) levels work → length groups + work ≡ made →
       IsCanonicalBy make at_start at_end nodes (record { left = left; right = right } ∷ levels) made
-  joined_level nodes left middle right groups levels parents made split cutting canonical count =
+  joined_level nodes left middle right groups levels work made split cutting canonical count =
       subst (IsCanonicalBy make at_start at_end nodes (record { left = left; right = right } ∷ levels)) count (collapsed split cutting canonical)
 
   -- both operands have levels above
@@ -150,29 +150,29 @@ module _ (make : List Node → Node) (at_start at_end : Bool) where
       subst (IsCanonicalBy make at_start at_end (a ++ (carry ++ b)) levels) (omega arith) canonical
   join (all_in_sight canonical) a b wx wy (collapsed split cutting above_x) hy = absurd (let some = levels_some make at_start false above_x in omega arith)
   join (all_in_sight canonical) a b wx wy (whole none) (collapsed split cutting above_y) = absurd (let some = levels_some make false at_end above_y in omega arith)
-  join (step {levels = levels} {carry = carry} {left = left} {middle = middle} {right = right} {groups = groups} {parents = parents} (both left_is seen right_is) cutting rest) a b wx wy (collapsed {left = xl} {middle = xm} {right = xr} {groups = gx} {parents = px} split_x cutting_x above_x) (collapsed {left = yl} {middle = ym} {right = yr} {groups = gy} {parents = py} split_y cutting_y above_y) =
+  join (step {levels = levels} {carry = carry} {left = left} {middle = middle} {right = right} {groups = groups} {work = work} (both left_is seen right_is) cutting rest) a b wx wy (collapsed {left = xl} {middle = xm} {right = xr} {groups = gx} {work = px} split_x cutting_x above_x) (collapsed {left = yl} {middle = ym} {right = yr} {groups = gy} {work = py} split_y cutting_y above_y) =
       let joined = join rest (map make gx) (map make gy) px py above_x above_y in
-      joined_level (a ++ (carry ++ b)) left (xm ++ (middle ++ ym)) right (gx ++ (groups ++ gy)) levels (parents + (px + py)) (length groups + parents + (length gx + px + (length gy + py)))
+      joined_level (a ++ (carry ++ b)) left (xm ++ (middle ++ ym)) right (gx ++ (groups ++ gy)) levels (work + (px + py)) (length groups + work + (length gx + px + (length gy + py)))
       (both_split a b carry xl xm xr yl ym yr left middle right split_x split_y left_is seen right_is)
       (both_groups a b carry xl xm xr yl ym yr left middle right split_x split_y left_is seen right_is gx groups gy cutting_x cutting cutting_y)
-      (subst (λ (l : List Node). IsCanonicalBy make at_start at_end l levels (parents + (px + py))) (parents_of_three gx groups gy) joined)
+      (subst (λ (l : List Node). IsCanonicalBy make at_start at_end l levels (work + (px + py))) (parents_of_three gx groups gy) joined)
       (omega (arith, length-append gx (groups ++ gy), length-append groups gy))
-  join (step {levels = levels} {carry = carry} {left = left} {middle = middle} {right = right} {groups = groups} {parents = parents} (left_alone left_is seen high) cutting rest) a b wx wy (collapsed {left = xl} {middle = xm} {right = xr} {groups = gx} {parents = px} split_x cutting_x above_x) (whole none) =
+  join (step {levels = levels} {carry = carry} {left = left} {middle = middle} {right = right} {groups = groups} {work = work} (left_alone left_is seen high) cutting rest) a b wx wy (collapsed {left = xl} {middle = xm} {right = xr} {groups = gx} {work = px} split_x cutting_x above_x) (whole none) =
       let joined = join rest (map make gx) [] px 0 above_x (canonical_of_none false at_end) in
-      joined_level (a ++ (carry ++ b)) left (xm ++ middle) right (gx ++ groups) levels (parents + (px + 0)) (length groups + parents + (length gx + px + 0))
+      joined_level (a ++ (carry ++ b)) left (xm ++ middle) right (gx ++ groups) levels (work + (px + 0)) (length groups + work + (length gx + px + 0))
       (left_split a b carry xl xm xr left middle right split_x left_is seen high)
       (Groups-behind xm middle gx groups (inl split_x.high.stable.ends) cutting_x cutting)
-      (subst (λ (l : List Node). IsCanonicalBy make at_start at_end l levels (parents + (px + 0)))
+      (subst (λ (l : List Node). IsCanonicalBy make at_start at_end l levels (work + (px + 0)))
       (ap (λ (l : List Node). map make gx ++ l) (append-nil (map make groups)) ∙ sym (map-append make gx groups)) joined)
       (omega (arith, length-append gx groups))
   join (step (left_alone left_is seen high) cutting rest) a b wx wy (collapsed split_x cutting_x above_x) (collapsed split_y cutting_y above_y) =
       absurd (let some = levels_some make false at_end above_y in omega arith)
-  join (step {levels = levels} {carry = carry} {left = left} {middle = middle} {right = right} {groups = groups} {parents = parents} (right_alone seen low right_is) cutting rest) a b wx wy (whole none) (collapsed {left = yl} {middle = ym} {right = yr} {groups = gy} {parents = py} split_y cutting_y above_y) =
+  join (step {levels = levels} {carry = carry} {left = left} {middle = middle} {right = right} {groups = groups} {work = work} (right_alone seen low right_is) cutting rest) a b wx wy (whole none) (collapsed {left = yl} {middle = ym} {right = yr} {groups = gy} {work = py} split_y cutting_y above_y) =
       let joined = join rest [] (map make gy) 0 py (canonical_of_none at_start false) above_y in
-      joined_level (a ++ (carry ++ b)) left (middle ++ ym) right (groups ++ gy) levels (parents + (0 + py)) (length groups + parents + (0 + (length gy + py)))
+      joined_level (a ++ (carry ++ b)) left (middle ++ ym) right (groups ++ gy) levels (work + (0 + py)) (length groups + work + (0 + (length gy + py)))
       (right_split a b carry yl ym yr left middle right split_y seen low right_is)
       (right_groups a b carry yl ym yr left middle right split_y seen low right_is groups gy cutting cutting_y)
-      (subst (λ (l : List Node). IsCanonicalBy make at_start at_end l levels (parents + (0 + py))) (sym (map-append make groups gy)) joined)
+      (subst (λ (l : List Node). IsCanonicalBy make at_start at_end l levels (work + (0 + py))) (sym (map-append make groups gy)) joined)
       (omega (arith, length-append groups gy))
   join (step (right_alone seen low right_is) cutting rest) a b wx wy (collapsed split_x cutting_x above_x) hy =
       absurd (let some = levels_some make at_start false above_x in omega arith)

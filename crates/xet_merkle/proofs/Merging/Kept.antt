@@ -2,7 +2,7 @@
 use Rattle.std.proofs.Common.{◌≡◌, ℕ, ◌+◌, ◌<◌, ◌≤◌, ◌⊎◌, Bool, true, false, List, [], ◌∷◌, ◌++◌, length, map, refl, sym, ap, subst, ◌∙◌, inl, inr, arith, append_assoc, append-nil, length-append}
 use Rattle.std.proofs.lemmas.List.{length-map}
 use Rattle.xet_merkle.specs.Groups.{Node}
-use Rattle.xet_merkle.specs.Roots.{total_size, parent}
+use Rattle.xet_merkle.specs.Roots.{total_size, parent_by, parent}
 use Rattle.xet_merkle.specs.StablePoints.{EndsStable, BeginsStable}
 use Rattle.xet_merkle.specs.Levels.{Level, top_nodes, levels_size}
 use Rattle.xet_merkle.specs.Canonical.{IsCanonicalBy}
@@ -138,30 +138,30 @@ joined_one make (step {levels = levels} {left = left} {right = right} split cutt
 
 -- ---- sizes
 
-pub joined_size : (at_start at_end : Bool) {xs ys levels : List Level} {carry : List Node} {made : ℕ} → IsJoin parent at_start at_end xs carry ys levels made →
+pub joined_size : (hash : List Node → List ℕ) (at_start at_end : Bool) {xs ys levels : List Level} {carry : List Node} {made : ℕ} → IsJoin (parent_by hash) at_start at_end xs carry ys levels made →
     HaveSides at_start false xs → HaveSides false at_end ys → levels_size levels ≡ levels_size xs + (total_size carry + levels_size ys)
-joined_size at_start at_end (all_in_sight {x} {y} {carry} canonical) hx hy =
-    let size = levels_size-canonical canonical in
+joined_size hash at_start at_end (all_in_sight {x} {y} {carry} canonical) hx hy =
+    let size = levels_size-canonical hash canonical in
     let none_x = ap total_size hx in
     let none_y = ap total_size hy in
     omega (arith, total_size-append x.left (carry ++ y.left), total_size-append carry y.left)
-joined_size at_start at_end (step {carry = carry} {left = left} {middle = middle} {right = right} {groups = groups} (both {x = x} {y = y} left_is seen right_is) cutting rest) hx hy =
-    let above_size = joined_size at_start at_end rest hx.2 hy.2 in
-    let made = total_size-are_parents middle (map parent groups) (groups, cutting, refl) in
+joined_size hash at_start at_end (step {carry = carry} {left = left} {middle = middle} {right = right} {groups = groups} (both {x = x} {y = y} left_is seen right_is) cutting rest) hx hy =
+    let above_size = joined_size hash at_start at_end rest hx.2 hy.2 in
+    let made = total_size-are_parents hash middle (map (parent_by hash) groups) (groups, cutting, refl) in
     let left_size = ap total_size left_is in
     let right_size = ap total_size right_is in
     let seen_size = ap total_size seen in
     omega (arith, total_size-append x.right (carry ++ y.left), total_size-append carry y.left)
-joined_size at_start at_end (step {carry = carry} {left = left} {middle = middle} {right = right} {groups = groups} (left_alone {x = x} {y = y} left_is seen high) cutting rest) hx hy =
-    let above_size = joined_size at_start at_end rest hx.2 refl in
-    let made = total_size-are_parents middle (map parent groups) (groups, cutting, refl) in
+joined_size hash at_start at_end (step {carry = carry} {left = left} {middle = middle} {right = right} {groups = groups} (left_alone {x = x} {y = y} left_is seen high) cutting rest) hx hy =
+    let above_size = joined_size hash at_start at_end rest hx.2 refl in
+    let made = total_size-are_parents hash middle (map (parent_by hash) groups) (groups, cutting, refl) in
     let left_size = ap total_size left_is in
     let none_y = ap total_size hy in
     let seen_size = ap total_size seen in
     omega (arith, total_size-append x.right (carry ++ y.left), total_size-append carry y.left, total_size-append middle right)
-joined_size at_start at_end (step {carry = carry} {left = left} {middle = middle} {right = right} {groups = groups} (right_alone {x = x} {y = y} seen low right_is) cutting rest) hx hy =
-    let above_size = joined_size at_start at_end rest refl hy.2 in
-    let made = total_size-are_parents middle (map parent groups) (groups, cutting, refl) in
+joined_size hash at_start at_end (step {carry = carry} {left = left} {middle = middle} {right = right} {groups = groups} (right_alone {x = x} {y = y} seen low right_is) cutting rest) hx hy =
+    let above_size = joined_size hash at_start at_end rest refl hy.2 in
+    let made = total_size-are_parents hash middle (map (parent_by hash) groups) (groups, cutting, refl) in
     let right_size = ap total_size right_is in
     let none_x = ap total_size hx in
     let seen_size = ap total_size seen in

@@ -1,16 +1,19 @@
 -- Joining level by level: what stands below what is left of the operands, and what the whole is.
-use Rattle.std.proofs.Common.{◌≡◌, ◌+◌, ◌<◌, ◌≤◌, Bool, true, false, List, [], ◌∷◌, ◌++◌, length, map, refl, sym, ap, subst, arith, append_assoc}
+use Rattle.std.proofs.lemmas.List.{length-map}
+use Rattle.xet_merkle.proofs.Merging.Bounds.{right_sides_short, left_sides_short}
+use Rattle.std.proofs.Common.{◌≡◌, ℕ, ◌+◌, ◌<◌, ◌≤◌, Bool, true, false, List, [], ◌∷◌, ◌++◌, length, map, refl, sym, ap, subst, arith, append_assoc}
 use Rattle.xet_merkle.specs.Groups.{Node}
-use Rattle.xet_merkle.specs.Roots.{total_size, parent}
+use Rattle.xet_merkle.specs.Roots.{total_size, parent_by, parent}
 use Rattle.xet_merkle.specs.Steps.Scan.{AreParents}
-use Rattle.xet_merkle.specs.Levels.{Level, top_nodes, levels_size}
+use Rattle.xet_merkle.specs.Levels.{Level, top_nodes, node_count, levels_size}
 use Rattle.xet_merkle.specs.Subtree.{Subtree}
-use Rattle.xet_merkle.specs.Merging.{IsMerged}
+use Rattle.xet_merkle.specs.Merging.{IsMerged, IsMergedBy}
 use Rattle.xet_merkle.specs.WellFormed.{IsWellFormed}
 use Rattle.xet_merkle.specs.Steps.Joining.{HaveSides, above, between, IsJoinSplit, IsJoin}
 use Rattle.xet_merkle.specs.Steps.Joining.IsJoinSplit.{both, left_alone, right_alone}
 use Rattle.xet_merkle.specs.Steps.Joining.IsJoin.{all_in_sight, step}
-use Rattle.xet_merkle.specs.Steps.Building.{HasCanonical, HasJoin, AreOperands, JoinBelow}
+use Rattle.xet_merkle.specs.Canonical.{IsCanonicalBy}
+use Rattle.xet_merkle.specs.Steps.Building.{AreOperands, JoinBelow}
 use Rattle.xet_merkle.proofs.Levels.Flat.{total_size-append}
 use Rattle.xet_merkle.proofs.Levels.Sides.{well_formed_sides, well_formed_from_sides}
 use Rattle.xet_merkle.proofs.Merging.Join.{join}
@@ -49,56 +52,57 @@ module _ (at_start at_end : Bool) where
       let size = ap total_size seen in
       omega (arith, total_size-append x.left (carry ++ y.left), total_size-append carry y.left, total_size-append left middle)
 
-  module _ (xs ys : List Level) where
-    -- ---- levels
+module _ (make : List Node → Node) (at_start at_end : Bool) (xs ys : List Level) where
+  -- ---- levels
 
-    pub join_step : (levels rest_x rest_y : List Level) (carry left middle right parents : List Node) → JoinBelow at_start at_end xs ys levels rest_x carry rest_y →
-        IsJoinSplit at_start at_end rest_x rest_y (between rest_x carry rest_y) left middle right → AreParents parent middle parents →
-        JoinBelow at_start at_end xs ys (levels ++ record { left = left; right = right } ∷ []) (above rest_x) parents (above rest_y)
-    join_step levels rest_x rest_y carry left middle right parents h split made =
-        let level : Level = record { left = left; right = right } in
-        λ top joined.
-        let rest : IsJoin parent at_start at_end (above rest_x) (map parent made.0) (above rest_y) top joined.0 =
-        subst (λ (l : List Node). IsJoin parent at_start at_end (above rest_x) l (above rest_y) top joined.0) made.2 joined.1 in
-        subst (HasJoin at_start at_end xs [] ys) (sym (append_assoc levels (level ∷ []) top))
-        (h (level ∷ top) (length made.0 + joined.0, step split made.1 rest))
+  -- nothing is built yet
+  pub join_start : JoinBelow make at_start at_end xs ys [] 0 xs [] ys
+  join_start = λ top work joined.
+      let none_done : work ≡ 0 + work = omega arith in
+      subst (λ (n : ℕ). IsJoin make at_start at_end xs [] ys top n) none_done joined
 
-    -- where neither operand has levels above, all nodes are in sight
-    pub join_top : (levels rest_x rest_y : List Level) (carry : List Node) → 0 < length rest_x → 0 < length rest_y → ¬ (1 < length rest_x) → ¬ (1 < length rest_y) →
-        JoinBelow at_start at_end xs ys levels rest_x carry rest_y → (top : List Level) → HasCanonical at_start at_end (between rest_x carry rest_y) top →
-        HasJoin at_start at_end xs [] ys (levels ++ top)
-    join_top levels [] rest_y carry some_x some_y one_x one_y h = absurd (omega arith)
-    join_top levels (x ∷ next ∷ rest_x) rest_y carry some_x some_y one_x one_y h = absurd (one_x (omega arith))
-    join_top levels (x ∷ []) [] carry some_x some_y one_x one_y h = absurd (omega arith)
-    join_top levels (x ∷ []) (y ∷ next ∷ rest_y) carry some_x some_y one_x one_y h = absurd (one_y (omega arith))
-    join_top levels (x ∷ []) (y ∷ []) carry some_x some_y one_x one_y h = λ top canonical. h top (canonical.0, all_in_sight canonical.1)
+  pub join_step : (levels : List Level) (done : ℕ) (rest_x rest_y : List Level) (carry left middle right parents : List Node) →
+      JoinBelow make at_start at_end xs ys levels done rest_x carry rest_y →
+      IsJoinSplit at_start at_end rest_x rest_y (between rest_x carry rest_y) left middle right → AreParents make middle parents →
+      JoinBelow make at_start at_end xs ys (levels ++ record { left = left; right = right } ∷ []) (done + length parents) (above rest_x) parents (above rest_y)
+  join_step levels done rest_x rest_y carry left middle right parents h split made =
+      let level : Level = record { left = left; right = right } in
+      λ top work joined.
+      let rest : IsJoin make at_start at_end (above rest_x) (map make made.0) (above rest_y) top work =
+      subst (λ (l : List Node). IsJoin make at_start at_end (above rest_x) l (above rest_y) top work) made.2 joined in
+      let len = ap length made.2 in
+      let sum : done + (length made.0 + work) ≡ (done + length parents) + work = omega (arith, length-map made.0 make) in
+      subst (λ (n : ℕ). IsJoin make at_start at_end xs [] ys ((levels ++ level ∷ []) ++ top) n) sum
+      (subst (λ (l : List Level). IsJoin make at_start at_end xs [] ys l (done + (length made.0 + work))) (sym (append_assoc levels (level ∷ []) top))
+      (h (level ∷ top) (length made.0 + work) (step split made.1 rest)))
 
-    -- ---- what is joined is well formed
+  -- where neither operand has levels above, all nodes are in sight
+  pub join_top : (levels : List Level) (done : ℕ) (rest_x rest_y : List Level) (carry : List Node) → 0 < length rest_x → 0 < length rest_y →
+      ¬ (1 < length rest_x) → ¬ (1 < length rest_y) → JoinBelow make at_start at_end xs ys levels done rest_x carry rest_y → (top : List Level) (work : ℕ) →
+      IsCanonicalBy make at_start at_end (between rest_x carry rest_y) top work → IsJoin make at_start at_end xs [] ys (levels ++ top) (done + work)
+  join_top levels done [] rest_y carry some_x some_y one_x one_y h = absurd (omega arith)
+  join_top levels done (x ∷ next ∷ rest_x) rest_y carry some_x some_y one_x one_y h = absurd (one_x (omega arith))
+  join_top levels done (x ∷ []) [] carry some_x some_y one_x one_y h = absurd (omega arith)
+  join_top levels done (x ∷ []) (y ∷ next ∷ rest_y) carry some_x some_y one_x one_y h = absurd (one_y (omega arith))
+  join_top levels done (x ∷ []) (y ∷ []) carry some_x some_y one_x one_y h = λ top work canonical. h top work (all_in_sight canonical)
 
-    module _ (levels : List Level) (h : HasJoin at_start at_end xs [] ys levels) (operands : AreOperands at_start at_end xs ys) where
-      pub join_size : levels_size levels ≡ levels_size xs + levels_size ys
-      join_size = let joined = joined_size at_start at_end h.1 operands.sides_x operands.sides_y in omega arith
+-- ---- what is joined is well formed
 
-      one_at_top : at_start ≡ true → at_end ≡ true → length (top_nodes levels) ≤ 1
-      one_at_top start end =
-          joined_one parent (subst (λ (e : Bool). IsJoin parent true e xs [] ys levels h.0) end (subst (λ (s : Bool). IsJoin parent s at_end xs [] ys levels h.0) start h.1))
+module _ (hash : List Node → List ℕ) (at_start at_end : Bool) (xs ys levels : List Level) (work : ℕ) (h : IsJoin (parent_by hash) at_start at_end xs [] ys levels work)
+    (operands : AreOperands at_start at_end xs ys) where
+  join_size : levels_size levels ≡ levels_size xs + levels_size ys
+  join_size = let joined = joined_size hash at_start at_end h operands.sides_x operands.sides_y in omega arith
 
-      pub join_well_formed : IsWellFormed (record { at_start = at_start; at_end = at_end; levels = levels })
-      join_well_formed = well_formed_from_sides at_start at_end levels (joined_sides parent at_start at_end h.1 operands.sides_x operands.sides_y) one_at_top
-          (joined_top parent at_start at_end h.1 operands.sides_x operands.sides_y operands.top_x operands.top_y)
+  one_at_top : at_start ≡ true → at_end ≡ true → length (top_nodes levels) ≤ 1
+  one_at_top start end = joined_one (parent_by hash)
+      (subst (λ (e : Bool). IsJoin (parent_by hash) true e xs [] ys levels work) end (subst (λ (s : Bool). IsJoin (parent_by hash) s at_end xs [] ys levels work) start h))
 
--- ---- canonical operands
+  join_well_formed : IsWellFormed (record { at_start = at_start; at_end = at_end; levels = levels })
+  join_well_formed = well_formed_from_sides at_start at_end levels (joined_sides (parent_by hash) at_start at_end h operands.sides_x operands.sides_y) one_at_top
+      (joined_top (parent_by hash) at_start at_end h operands.sides_x operands.sides_y operands.top_x operands.top_y)
 
-pub join_canonical : (at_start at_end : Bool) (xs ys levels : List Level) (a b : List Node) → HasJoin at_start at_end xs [] ys levels →
-    HasCanonical at_start false a xs → HasCanonical false at_end b ys → HasCanonical at_start at_end (a ++ b) levels
-join_canonical at_start at_end xs ys levels a b joined x y = (
-  joined.0 + (x.0 + y.0),
-  join parent at_start at_end joined.1 a b x.0 y.0 x.1 y.1,
-)
-
--- two subtrees that a mark doesn't stand between, and levels that theirs are joined to
-module _ (front back : Subtree) (x : IsWellFormed front) (y : IsWellFormed back) (no_end : front.at_end ≡ false) (no_start : back.at_start ≡ false)
-    (levels : List Level) (joined : HasJoin front.at_start back.at_end front.levels [] back.levels levels) where
+-- two subtrees that a mark doesn't stand between
+module _ (front back : Subtree) (x : IsWellFormed front) (y : IsWellFormed back) (no_end : front.at_end ≡ false) (no_start : back.at_start ≡ false) where
   operands : AreOperands front.at_start back.at_end front.levels back.levels
   operands = record {
     sides_x = subst (λ (e : Bool). HaveSides front.at_start e front.levels) no_end (well_formed_sides front.at_start front.at_end front.levels x);
@@ -107,21 +111,38 @@ module _ (front back : Subtree) (x : IsWellFormed front) (y : IsWellFormed back)
     top_y = y.rule_11;
   }
 
-  pub merged_size : levels_size levels ≡ levels_size front.levels + levels_size back.levels
-  merged_size = join_size front.at_start back.at_end front.levels back.levels levels joined operands
+  -- each of them has at most one level more than nodes
+  pub operands_short : (length front.levels ≤ node_count front.levels + 1) × (length back.levels ≤ node_count back.levels + 1)
+  operands_short = (right_sides_short front.at_start front.levels operands.sides_x, left_sides_short back.at_end back.levels operands.sides_y)
 
-  pub merged_well_formed : IsWellFormed (record { at_start = front.at_start; at_end = back.at_end; levels = levels })
-  merged_well_formed = join_well_formed front.at_start back.at_end front.levels back.levels levels joined operands
+  -- and levels that theirs are joined to
+  module _ (hash : List Node → List ℕ) (levels : List Level) (work : ℕ) (joined : IsJoin (parent_by hash) front.at_start back.at_end front.levels [] back.levels levels work) where
+    pub merged_size : levels_size levels ≡ levels_size front.levels + levels_size back.levels
+    merged_size = join_size hash front.at_start back.at_end front.levels back.levels levels work joined operands
 
-  pub merged : IsMerged front back (record { at_start = front.at_start; at_end = back.at_end; levels = levels })
-  merged = record {
-    no_end = no_end;
-    no_start = no_start;
-    start = refl;
-    end = refl;
-    size = merged_size;
-    canonical = λ first second h k.
-        join_canonical front.at_start back.at_end front.levels back.levels levels first second joined
-        (subst (λ (e : Bool). HasCanonical front.at_start e first front.levels) no_end h)
-        (subst (λ (s : Bool). HasCanonical s back.at_end second back.levels) no_start k);
-  }
+    pub merged_well_formed : IsWellFormed (record { at_start = front.at_start; at_end = back.at_end; levels = levels })
+    merged_well_formed = join_well_formed hash front.at_start back.at_end front.levels back.levels levels work joined operands
+
+    pub merged_by : IsMergedBy (parent_by hash) work front back (record { at_start = front.at_start; at_end = back.at_end; levels = levels })
+    merged_by = record {
+      no_end = no_end;
+      no_start = no_start;
+      start = refl;
+      end = refl;
+      size = merged_size;
+      canonical = λ first second work_first work_second h k.
+          join (parent_by hash) front.at_start back.at_end joined first second work_first work_second
+          (subst (λ (e : Bool). IsCanonicalBy (parent_by hash) front.at_start e first front.levels work_first) no_end h)
+          (subst (λ (s : Bool). IsCanonicalBy (parent_by hash) s back.at_end second back.levels work_second) no_start k);
+    }
+
+-- what is merged under the parents' own hashes is merged
+pub merged_plainly : (count : ℕ) (front back merged : Subtree) → IsMergedBy parent count front back merged → IsMerged front back merged
+merged_plainly count front back merged h = record {
+  no_end = h.no_end;
+  no_start = h.no_start;
+  start = h.start;
+  end = h.end;
+  size = h.size;
+  canonical = λ first second x y. (count + (x.0 + y.0), h.canonical first second x.0 y.0 x.1 y.1);
+}

@@ -1,11 +1,11 @@
 -- Making the parents of a list group by group, and a root level by level.
-use Rattle.std.proofs.Common.{◌≡◌, ℕ, ◌+◌, ◌<◌, ◌≤◌, List, [], ◌∷◌, ◌++◌, length, get_or, map, take, drop, refl, sym, ap, subst, ◌∙◌, arith, append_assoc, append-nil}
+use Rattle.std.proofs.Common.{◌≡◌, ℕ, ◌+◌, ◌*◌, ◌<◌, ◌≤◌, List, [], ◌∷◌, ◌++◌, length, get_or, map, take, drop, refl, sym, ap, subst, ◌∙◌, arith, append_assoc, append-nil}
 use Rattle.std.proofs.lemmas.List.{take-append-drop, length-map}
 use Rattle.std.proofs.lemmas.List.Sums.{sum_by-append, sum_by-cons, sum_by-take-drop}
 use Rattle.xet_hash.specs.Blake3.{keyed_hash}
 use Rattle.xet_hash.specs.Hash.{default_hash, bytes_of, hash_of}
 use Rattle.xet_merkle.specs.Groups.{Node, Groups}
-use Rattle.xet_merkle.specs.Roots.{total_size, parent, IsRoot, IsFileHash}
+use Rattle.xet_merkle.specs.Roots.{total_size, parent_by, parent, IsRoot, IsFileHash}
 use Rattle.xet_merkle.specs.Roots.IsRootBy.{no_node, one_node, of_parents}
 use Rattle.xet_merkle.specs.Steps.Scan.{IsFirstGroup, AreParents}
 use Rattle.xet_merkle.proofs.Groups.OneCutting.{joined_nodes, Groups-push}
@@ -32,29 +32,31 @@ module _ (make : List Node → Node) (nodes : List Node) where
 pub total_size-drop-le : (n : ℕ) (nodes : List Node) → total_size (drop n nodes) ≤ total_size nodes
 total_size-drop-le n nodes = omega (arith, sum_by-take-drop (λ (node : Node). node.1) nodes n)
 
-total_size-parents : (groups : List (List Node)) → total_size (map parent groups) ≡ total_size (joined_nodes groups)
-unfolding parent
-total_size-parents [] = refl
-total_size-parents (group ∷ groups) =
-    sum_by-cons (λ (node : Node). node.1) (parent group) (map parent groups)
-    ∙ ap (λ (n : ℕ). total_size group + n) (total_size-parents groups)
-    ∙ sym (sum_by-append (λ (node : Node). node.1) group (joined_nodes groups))
+module _ (hash : List Node → List ℕ) where
+  total_size-parents : (groups : List (List Node)) → total_size (map (parent_by hash) groups) ≡ total_size (joined_nodes groups)
+  total_size-parents [] = refl
+  total_size-parents (group ∷ groups) =
+      sum_by-cons (λ (node : Node). node.1) (parent_by hash group) (map (parent_by hash) groups)
+      ∙ ap (λ (n : ℕ). total_size group + n) (total_size-parents groups)
+      ∙ sym (sum_by-append (λ (node : Node). node.1) group (joined_nodes groups))
 
--- parents have the sizes of their nodes, are fewer than several nodes, and have their root
-pub total_size-are_parents : (nodes parents : List Node) → AreParents parent nodes parents → total_size parents ≡ total_size nodes
-total_size-are_parents nodes parents made = ap total_size made.2 ∙ total_size-parents made.0 ∙ ap total_size made.1.joined
+  -- parents have the sizes of their nodes
+  pub total_size-are_parents : (nodes parents : List Node) → AreParents (parent_by hash) nodes parents → total_size parents ≡ total_size nodes
+  total_size-are_parents nodes parents made = ap total_size made.2 ∙ total_size-parents made.0 ∙ ap total_size made.1.joined
 
-pub AreParents-some : (nodes parents : List Node) → AreParents parent nodes parents → 0 < length nodes → 0 < length parents
-AreParents-some nodes parents made some =
-    let len = ap length made.2 in
-    let groups = Groups-some nodes made.0 made.1 some in
-    omega (arith, length-map made.0 parent)
+module _ (make : List Node → Node) where
+  -- a node has a parent, and three times as many nodes as parents are there, but for two
+  pub AreParents-some : (nodes parents : List Node) → AreParents make nodes parents → 0 < length nodes → 0 < length parents
+  AreParents-some nodes parents made some =
+      let len = ap length made.2 in
+      let groups = Groups-some nodes made.0 made.1 some in
+      omega (arith, length-map made.0 make)
 
-pub AreParents-fewer : (nodes parents : List Node) → AreParents parent nodes parents → 2 ≤ length nodes → length parents < length nodes
-AreParents-fewer nodes parents made two =
-    let len = ap length made.2 in
-    let groups = Groups-few nodes made.0 made.1 in
-    omega (arith, length-map made.0 parent)
+  pub AreParents-few : (nodes parents : List Node) → AreParents make nodes parents → 3 * length parents ≤ length nodes + 2
+  AreParents-few nodes parents made =
+      let len = ap length made.2 in
+      let groups = Groups-few nodes made.0 made.1 in
+      omega (arith, length-map made.0 make)
 
 pub IsRoot-from_parents : (nodes parents : List Node) (hash : List ℕ) → AreParents parent nodes parents → 2 ≤ length nodes → IsRoot parents hash → IsRoot nodes hash
 IsRoot-from_parents nodes parents hash made two root = of_parents two made.1 (subst (λ (l : List Node). IsRoot l hash) made.2 root)

@@ -1,17 +1,10 @@
 -- Levels of a canonical subtree and of a join while they are built, and what is stored of a subtree.
-use Rattle.std.specs.Prelude.{◌≡◌, ℕ, ◌^◌, ◌<◌, Bool, false, List, [], ◌++◌, length}
+use Rattle.std.specs.Prelude.{◌≡◌, ℕ, ◌+◌, ◌^◌, ◌<◌, Bool, false, List, [], ◌++◌, length}
 use Rattle.xet_merkle.specs.Groups.{Node}
-use Rattle.xet_merkle.specs.Roots.{parent}
 use Rattle.xet_merkle.specs.Levels.{Level, top_nodes, node_count, levels_size}
 use Rattle.xet_merkle.specs.Canonical.{IsCanonicalBy}
 use Rattle.xet_merkle.specs.WellFormed.{IsWellFormed}
 use Rattle.xet_merkle.specs.Steps.Joining.{HaveSides, IsJoin}
-
-abbrev pub HasCanonical : Bool → Bool → List Node → List Level → Type 0
-HasCanonical at_start at_end nodes levels = (parents : ℕ) × IsCanonicalBy parent at_start at_end nodes levels parents
-
-abbrev pub HasJoin : Bool → Bool → List Level → List Node → List Level → List Level → Type 0
-HasJoin at_start at_end xs carry ys levels = (parents : ℕ) × IsJoin parent at_start at_end xs carry ys levels parents
 
 -- the levels of two subtrees that can be joined, whose outer marks are given
 pub record AreOperands (at_start at_end : Bool) (xs ys : List Level) : Type 0 where
@@ -20,14 +13,15 @@ pub record AreOperands (at_start at_end : Bool) (xs ys : List Level) : Type 0 wh
   pub top_x : 1 < length xs → 0 < length (top_nodes xs)
   pub top_y : 1 < length ys → 0 < length (top_nodes ys)
 
--- levels below the canonical subtree of some nodes that make it that of others
-abbrev pub StandBelow : Bool → Bool → List Node → List Level → List Node → Type 0
-StandBelow at_start at_end all levels nodes = (top : List Level) → HasCanonical at_start at_end nodes top → HasCanonical at_start at_end all (levels ++ top)
+-- levels below the canonical subtree of some nodes, and the work that is done, make it that of others
+abbrev pub StandBelow : (List Node → Node) → Bool → Bool → List Node → List Level → ℕ → List Node → Type 0
+StandBelow make at_start at_end all levels done nodes = (top : List Level) (work : ℕ) →
+    IsCanonicalBy make at_start at_end nodes top work → IsCanonicalBy make at_start at_end all (levels ++ top) (done + work)
 
--- levels below what is left of two operands, joined, that make it the join of the operands
-abbrev pub JoinBelow : Bool → Bool → List Level → List Level → List Level → List Level → List Node → List Level → Type 0
-JoinBelow at_start at_end xs ys levels rest_x carry rest_y =
-    (top : List Level) → HasJoin at_start at_end rest_x carry rest_y top → HasJoin at_start at_end xs [] ys (levels ++ top)
+-- levels below what is left of two operands, joined, and the work that is done, make it the join of the operands
+abbrev pub JoinBelow : (List Node → Node) → Bool → Bool → List Level → List Level → List Level → ℕ → List Level → List Node → List Level → Type 0
+JoinBelow make at_start at_end xs ys levels done rest_x carry rest_y = (top : List Level) (work : ℕ) →
+    IsJoin make at_start at_end rest_x carry rest_y top work → IsJoin make at_start at_end xs [] ys (levels ++ top) (done + work)
 
 -- what a subtree stores beside its marks: levels, and the sum of the sizes, which fits 64 bits, as the number of
 -- nodes does

@@ -70,13 +70,13 @@ pub data IsJoinSplit (at_start at_end : Bool) : List Level → List Level → Li
       seen ≡ left ++ middle → IsLowBefore at_start left middle → right ≡ y.right →
       IsJoinSplit at_start at_end (x ∷ []) (y ∷ next_y ∷ ys) seen left middle right
 
--- the levels that two operands, and nodes carried between them, are joined to, and how many parents are
--- made. Where neither operand has levels above, all nodes are in sight.
+-- the levels that two operands, and nodes carried between them, are joined to, and the work: how many
+-- parents are made. Where neither operand has levels above, all nodes are in sight.
 pub data IsJoin (make : List Node → Node) (at_start at_end : Bool) : List Level → List Node → List Level → List Level → ℕ → Type 0 where
-  all_in_sight : {x y : Level} {carry : List Node} {levels : List Level} {parents : ℕ} →
-      IsCanonicalBy make at_start at_end (between (x ∷ []) carry (y ∷ [])) levels parents →
-      IsJoin make at_start at_end (x ∷ []) carry (y ∷ []) levels parents
-  step : {xs ys levels : List Level} {carry left middle right : List Node} {groups : List (List Node)} {parents : ℕ} →
+  all_in_sight : {x y : Level} {carry : List Node} {levels : List Level} {work : ℕ} →
+      IsCanonicalBy make at_start at_end (between (x ∷ []) carry (y ∷ [])) levels work →
+      IsJoin make at_start at_end (x ∷ []) carry (y ∷ []) levels work
+  step : {xs ys levels : List Level} {carry left middle right : List Node} {groups : List (List Node)} {work : ℕ} →
       IsJoinSplit at_start at_end xs ys (between xs carry ys) left middle right → Groups middle groups →
-      IsJoin make at_start at_end (above xs) (map make groups) (above ys) levels parents →
-      IsJoin make at_start at_end xs carry ys (record { left = left; right = right } ∷ levels) (length groups + parents)
+      IsJoin make at_start at_end (above xs) (map make groups) (above ys) levels work →
+      IsJoin make at_start at_end xs carry ys (record { left = left; right = right } ∷ levels) (length groups + work)

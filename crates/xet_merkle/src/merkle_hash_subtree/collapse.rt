@@ -1,48 +1,56 @@
 //! The levels of canonical subtrees, from the nodes of the lowest one up.
 
-ghost use Rattle.std.specs.Prelude.{◌≡◌, ◌^◌, ◌<◌, List, ◌++◌, ◌∷◌, [], length, IfOk};
+ghost use Rattle.std.specs.Prelude.{◌≡◌, ℕ, ◌+◌, ◌^◌, ◌<◌, ◌≤◌, List, ◌++◌, ◌∷◌, [], length, IfOk};
 ghost use Rattle.xet_merkle.specs.Groups.{Node};
-ghost use Rattle.xet_merkle.specs.Roots.{total_size, parent};
+ghost use Rattle.xet_merkle.specs.Roots.{total_size, parent_by, parent};
 ghost use Rattle.xet_merkle.specs.Levels.{Level};
+ghost use Rattle.xet_merkle.specs.Canonical.{IsCanonicalBy};
 ghost use Rattle.xet_merkle.specs.Steps.Scan.{AreParents};
-ghost use Rattle.xet_merkle.specs.Steps.Building.{HasCanonical};
 
 use super::levels::{LevelNodes, pushed};
 use super::split::{Split, find_split};
 use crate::aggregated_hashes::{Node, parents};
+use crate::parent_maker::{ParentHashes, ParentMaker};
 use std::alloc::{AllocError, Allocator};
 
 // Levels with one more at the top, and the parents of what is collapsed of it.
-pub(super) fn collapse_middle<A: Allocator + Clone>(
+pub(super) fn collapse_middle<A: Allocator + Clone, P: ParentMaker>(
     alloc: A,
     levels: Vec<LevelNodes<A>, A>,
     split: Split,
+    maker: &mut P,
 ) -> Result<(Vec<LevelNodes<A>, A>, Vec<Node, A>), AllocError>
-    requires { total_size split.middle.now < 2 ^ 64 }
+    requires fits { total_size split.middle.now < 2 ^ 64 }
+    requires room { P.count maker.old ≤ 2 ^ 99 }
     ensures levels { IfOk result (λ made. made.0.items ≡ levels.items ++ record { left = split.entry.left.now; right = split.entry.right.now } ∷ []) }
-    ensures parents { IfOk result (λ made. AreParents parent split.entry.middle.now made.1.items) }
+    ensures parents { IfOk result (λ made. AreParents (parent_by P.hash_of) split.entry.middle.now made.1.items) }
+    ensures count { IfOk result (λ made. P.count maker.new ≡ P.count maker.old + length made.1.items) }
+    ensures few { IfOk result (λ made. length made.1.items < 2 ^ 64) }
 {
     let level = LevelNodes::copied(alloc.clone()?, split.left, split.right)?;
     let levels = pushed(levels, level)?;
-    let parents = parents(alloc, split.middle)?;
+    let parents = parents(alloc, split.middle, maker)?;
     Ok((levels, parents))
 }
 
 // Levels with those of the canonical subtree of some nodes on top.
-pub(super) fn collapse<A: Allocator + Clone>(
+pub(super) fn collapse<A: Allocator + Clone, P: ParentMaker>(
     alloc: A,
     levels: Vec<LevelNodes<A>, A>,
     nodes: Vec<Node, A>,
     at_start: bool,
     at_end: bool,
+    maker: &mut P,
 ) -> Result<Vec<LevelNodes<A>, A>, AllocError>
-    requires { total_size nodes.items < 2 ^ 64 }
-    ensures { IfOk result (λ all. (top : List Level) × HasCanonical at_start at_end nodes.items top × (all.items ≡ levels.items ++ top)) }
+    requires fits { total_size nodes.items < 2 ^ 64 }
+    requires room { P.count maker.old + length nodes.items ≤ 2 ^ 99 }
+    ensures { IfOk result (λ all. (top : List Level) × (work : ℕ) × IsCanonicalBy (parent_by P.hash_of) at_start at_end nodes.items top work
+        × (all.items ≡ levels.items ++ top) × (P.count maker.new ≡ P.count maker.old + work)) }
 {
     let mut levels = levels;
     let mut nodes = nodes;
     'collapsing: while let Some(split) = find_split(&nodes, at_start, at_end) {
-        (levels, nodes) = collapse_middle(alloc.clone()?, levels, split)?;
+        (levels, nodes) = collapse_middle(alloc.clone()?, levels, split, maker)?;
     }
     Ok(pushed(levels, LevelNodes::new(nodes, Vec::new(alloc)))?)
 }
@@ -55,14 +63,15 @@ pub(super) fn collapse_chunks<A: Allocator + Clone>(
     at_end: bool,
 ) -> Result<Vec<LevelNodes<A>, A>, AllocError>
     requires { total_size chunks.now < 2 ^ 64 }
-    ensures { IfOk result (λ levels. HasCanonical at_start at_end chunks.now levels.items) }
+    ensures { IfOk result (λ levels. (work : ℕ) × IsCanonicalBy parent at_start at_end chunks.now levels.items work) }
 {
     let levels = Vec::new(alloc.clone()?);
     match find_split(chunks, at_start, at_end) {
         None => Ok(pushed(levels, LevelNodes::copied(alloc, chunks, &[])?)?),
         Some(split) => {
-            let (levels, parents) = collapse_middle(alloc.clone()?, levels, split)?;
-            Ok(collapse(alloc, levels, parents, at_start, at_end)?)
+            let mut maker = ParentHashes::new();
+            let (levels, parents) = collapse_middle(alloc.clone()?, levels, split, &mut maker)?;
+            Ok(collapse(alloc, levels, parents, at_start, at_end, &mut maker)?)
         }
     }
 }

@@ -1,15 +1,16 @@
 //! Joining two subtrees of adjacent ranges from what they keep of each level, from the chunks up.
 
 ghost use Rattle.std.specs.Prelude.{◌≡◌, ◌+◌, ◌^◌, ◌<◌, ◌≤◌, ◌⊎◌, List, [], length, take, drop, IfOk};
-ghost use Rattle.xet_merkle.specs.Levels.{levels_size};
-ghost use Rattle.xet_merkle.specs.Steps.Joining.{operand, between, IsHighBehind, IsLowBefore, IsJoinSplit};
-ghost use Rattle.xet_merkle.specs.Steps.Building.{HasJoin};
+ghost use Rattle.xet_merkle.specs.Roots.{parent_by};
+ghost use Rattle.xet_merkle.specs.Levels.{levels_size, node_count};
+ghost use Rattle.xet_merkle.specs.Steps.Joining.{operand, between, IsHighBehind, IsLowBefore, IsJoinSplit, IsJoin};
 
 use super::collapse::{collapse, collapse_middle};
 use super::levels::{LevelNodes, above, inner, left_at, right_at};
 use super::split::Split;
 use super::stable_points::{find_stable_start, last_stable};
 use crate::aggregated_hashes::Node;
+use crate::parent_maker::ParentMaker;
 use std::alloc::{AllocError, Allocator};
 
 // How many nodes are collapsed of those behind collapsed ones, the last of which is a natural cut.
@@ -87,17 +88,20 @@ fn in_sight<A: Allocator>(
 }
 
 // The levels that two operands are joined to.
-pub(super) fn join<A: Allocator + Clone>(
+pub(super) fn join<A: Allocator + Clone, P: ParentMaker>(
     alloc: A,
     front: &[LevelNodes<A>],
     back: &[LevelNodes<A>],
     at_start: bool,
     at_end: bool,
+    maker: &mut P,
 ) -> Result<Vec<LevelNodes<A>, A>, AllocError>
     requires some_front { 0 < length front.now }
     requires some_back { 0 < length back.now }
     requires fits { levels_size front.now + levels_size back.now < 2 ^ 64 }
-    ensures { IfOk result (λ levels. HasJoin at_start at_end front.now [] back.now levels.items) }
+    requires none_made { P.count maker.old ≡ 0 }
+    requires room { (node_count front.now + length front.now) + (node_count back.now + length back.now) ≤ 2 ^ 99 }
+    ensures { IfOk result (λ levels. IsJoin (parent_by P.hash_of) at_start at_end front.now [] back.now levels.items (P.count maker.new)) }
 {
     let mut levels = Vec::new(alloc.clone()?);
     let mut carry = Vec::new(alloc.clone()?);
@@ -106,10 +110,10 @@ pub(super) fn join<A: Allocator + Clone>(
     'joining: while front.len() > 1 || back.len() > 1 {
         let seen = in_sight(alloc.clone()?, front, &carry, back)?;
         let split = join_split(front, &seen, back, at_start, at_end);
-        (levels, carry) = collapse_middle(alloc.clone()?, levels, split)?;
+        (levels, carry) = collapse_middle(alloc.clone()?, levels, split, maker)?;
         front = above(front);
         back = above(back);
     }
     let nodes = in_sight(alloc.clone()?, front, &carry, back)?;
-    Ok(collapse(alloc, levels, nodes, at_start, at_end)?)
+    Ok(collapse(alloc, levels, nodes, at_start, at_end, maker)?)
 }

@@ -130,6 +130,7 @@ impl<A: Allocator> MerkleHashSubtree<A> {
     fn levels(&self) -> &[LevelNodes<A>]
         ensures levels { result.now ≡ self.now.levels }
         ensures well_formed { IsWellFormed self.now }
+        ensures few { node_count self.now.levels < 2 ^ 64 }
     {
         &self.levels
     }

@@ -1,18 +1,18 @@
 use Rattle.std.proofs.Common.{◌≡◌, length, sym, subst, arith}
 use Rattle.xet_merkle.specs.Groups.{Node}
-use Rattle.xet_merkle.specs.Roots.{IsRoot}
-use Rattle.xet_merkle.proofs.Roots.Making.{total_size-are_parents, AreParents-some, AreParents-fewer, IsRoot-from_parents, IsRoot-one}
+use Rattle.xet_merkle.specs.Roots.{IsRoot, parent, parent_hash}
+use Rattle.xet_merkle.proofs.Roots.Making.{total_size-are_parents, AreParents-some, AreParents-few, IsRoot-from_parents, IsRoot-one}
 use Rattle.xet_merkle.proofs.aggregated_hashes.root.Goals as goal
 
 pub levels-smaller : goal.levels-smaller
-levels-smaller g c = AreParents-fewer c.levels.nodes.items c.shrink.new.nodes.items c.shrink.ensures (omega arith)
+levels-smaller g c = let few = AreParents-few parent c.levels.nodes.items c.shrink.new.nodes.items c.shrink.ensures in omega arith
 
 pub levels-preserved : goal.levels-preserved
 levels-preserved g c =
     let nodes = c.levels.nodes.items in
     let parents = c.shrink.new.nodes.items in record {
-      some = AreParents-some nodes parents c.shrink.ensures c.levels.invariant.some;
-      fits = rw (total_size-are_parents nodes parents c.shrink.ensures) c.levels.invariant.fits;
+      some = AreParents-some parent nodes parents c.shrink.ensures c.levels.invariant.some;
+      fits = rw (total_size-are_parents parent_hash nodes parents c.shrink.ensures) c.levels.invariant.fits;
       same_root = λ hash root. c.levels.invariant.same_root hash (IsRoot-from_parents nodes parents hash c.shrink.ensures (omega arith) root);
     }
 

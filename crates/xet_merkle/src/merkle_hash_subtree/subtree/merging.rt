@@ -1,15 +1,17 @@
 //! Merging the subtrees of adjacent ranges, without their chunks.
 
-ghost use Rattle.std.specs.Prelude.{◌≡◌, ◌+◌, ◌^◌, ◌<◌, ◌≤◌, ◌⊎◌, ◌↔◌, List, [], ◌∷◌, length, flat_map, IfOk, IfErr, SomeIff, IsErrOf, IsTrue};
+ghost use Rattle.std.specs.Prelude.{◌≡◌, ◌+◌, ◌-◌, ◌*◌, ◌^◌, ◌<◌, ◌≤◌, ◌⊎◌, ◌↔◌, List, [], ◌∷◌, length, flat_map, IfOk, IfErr, SomeIff, IsErrOf, IsTrue};
 ghost use Rattle.xet_merkle.specs.Groups.{Node};
-ghost use Rattle.xet_merkle.specs.Levels.{levels_size};
+ghost use Rattle.xet_merkle.specs.Roots.{parent_by, parent};
+ghost use Rattle.xet_merkle.specs.Levels.{levels_size, node_count};
 ghost use Rattle.xet_merkle.specs.Subtree.{Subtree, IsCanonical};
-ghost use Rattle.xet_merkle.specs.Merging.{IsMerged, NoMarkBetween, start_mark, end_mark, ranges_size, AreCanonical};
+ghost use Rattle.xet_merkle.specs.Merging.{IsMerged, IsMergedBy, NoMarkBetween, start_mark, end_mark, ranges_size, AreCanonical};
 ghost use Rattle.xet_merkle.specs.Steps.SubtreeMerging.{MergesTo};
 
 use super::MerkleHashSubtree;
 use crate::error::CoreError;
 use crate::merkle_hash_subtree::join::join;
+use crate::parent_maker::{ParentHashes, ParentMaker};
 use std::alloc::Allocator;
 
 // Whether no mark stands between adjacent ranges.
@@ -56,6 +58,54 @@ impl<A: Allocator + Clone> MerkleHashSubtree<A> {
         ensures errors { IfErr result (λ e.
             (e ≡ CoreError.InvalidArguments) ⊎ ((e ≡ CoreError.SizeOverflow) ⊎ (e ≡ CoreError.OutOfMemory))) }
     {
+        self.merge_into_counted(other)?;
+        Ok(())
+    }
+
+    /// Does what [`merge_into`](Self::merge_into) does, and answers how many parents were hashed: at most half as many as
+    /// both ranges have nodes, and one more for each level of the merged range but the top.
+    ///
+    /// It fails where `merge_into` does, in the same order.
+    pub fn merge_into_counted(&mut self, other: &Self) -> Result<u128, CoreError>
+        ensures merged { IfOk result (λ count. IsMergedBy parent count self.old other.now self.new) }
+        ensures bound { IfOk result (λ count.
+            2 * count ≤ node_count self.old.levels + node_count other.now.levels + 2 * length self.new.levels) }
+        ensures closer_bound { IfOk result (λ count.
+            2 * count ≤ node_count self.old.levels + node_count other.now.levels + 2 * (length self.new.levels - 1)) }
+        ensures unchanged { IfErr result (λ _. self.new ≡ self.old) }
+        ensures arguments { IsErrOf result CoreError.InvalidArguments ↔ (IsTrue self.old.at_end ⊎ IsTrue other.now.at_start) }
+        ensures overflow { IsErrOf result CoreError.SizeOverflow ↔
+            (¬ (IsTrue self.old.at_end ⊎ IsTrue other.now.at_start) × (2 ^ 64 ≤ levels_size self.old.levels + levels_size other.now.levels)) }
+        ensures errors { IfErr result (λ e.
+            (e ≡ CoreError.InvalidArguments) ⊎ ((e ≡ CoreError.SizeOverflow) ⊎ (e ≡ CoreError.OutOfMemory))) }
+    {
+        Ok(self.merge_into_by(other, ParentHashes::new())?.made())
+    }
+
+    /// Does what [`merge_into`](Self::merge_into) does, with each parent's hash from `maker`, which comes back with the
+    /// number of hashes that it made and is spent where the merge is refused. It has made none before. Where both ranges
+    /// have the parents that the maker names, so has the merged one.
+    ///
+    /// It fails where `merge_into` does, in the same order.
+    pub fn merge_into_by<P: ParentMaker>(
+        &mut self,
+        other: &Self,
+        maker: P,
+    ) -> Result<P, CoreError>
+        requires { P.count maker ≡ 0 }
+        ensures merged { IfOk result (λ maker. IsMergedBy (parent_by P.hash_of) (P.count maker) self.old other.now self.new) }
+        ensures bound { IfOk result (λ maker.
+            2 * P.count maker ≤ node_count self.old.levels + node_count other.now.levels + 2 * length self.new.levels) }
+        ensures closer_bound { IfOk result (λ maker.
+            2 * P.count maker ≤ node_count self.old.levels + node_count other.now.levels + 2 * (length self.new.levels - 1)) }
+        ensures unchanged { IfErr result (λ _. self.new ≡ self.old) }
+        ensures arguments { IsErrOf result CoreError.InvalidArguments ↔ (IsTrue self.old.at_end ⊎ IsTrue other.now.at_start) }
+        ensures overflow { IsErrOf result CoreError.SizeOverflow ↔
+            (¬ (IsTrue self.old.at_end ⊎ IsTrue other.now.at_start) × (2 ^ 64 ≤ levels_size self.old.levels + levels_size other.now.levels)) }
+        ensures errors { IfErr result (λ e.
+            (e ≡ CoreError.InvalidArguments) ⊎ ((e ≡ CoreError.SizeOverflow) ⊎ (e ≡ CoreError.OutOfMemory))) }
+    {
+        let mut maker = maker;
         if self.at_end() || other.at_start() {
             return Err(CoreError::InvalidArguments);
         }
@@ -64,9 +114,9 @@ impl<A: Allocator + Clone> MerkleHashSubtree<A> {
         };
         let (at_start, at_end) = (self.at_start(), other.at_end());
         let alloc = self.levels.allocator().clone()?;
-        let levels = join(alloc, self.levels(), other.levels(), at_start, at_end)?;
+        let levels = join(alloc, self.levels(), other.levels(), at_start, at_end, &mut maker)?;
         *self = Self::from_levels(levels, at_start, at_end, size)?;
-        Ok(())
+        Ok(maker)
     }
 
     /// Merges adjacent ranges in order: the canonical subtree of the joined list, with the first range's

@@ -1,5 +1,5 @@
-use Rattle.std.proofs.Common.{◌≡◌, ◌++◌, ◌<◌, ◌^◌, List, length}
-use Rattle.xet_merkle.specs.Roots.{total_size}
+use Rattle.std.proofs.Common.{◌≡◌, ℕ, ◌+◌, ◌++◌, ◌<◌, ◌≤◌, ◌^◌, List, length}
+use Rattle.xet_merkle.specs.Roots.{total_size, parent_by}
 use Rattle.xet_merkle.specs.Levels.{Level}
 use Rattle.xet_merkle.specs.Steps.Building.{StandBelow}
 use Rattle.xet_merkle.proofs.merkle_hash_subtree.collapse.collapse.Given as goal
@@ -7,9 +7,12 @@ use Rattle.xet_merkle.proofs.merkle_hash_subtree.collapse.collapse.Given as goal
 abbrev pub invariant-collapsing : goal.invariant-collapsing
 invariant-collapsing g l = record {
   below : List Level;
+  done : ℕ;
   added : l.levels.items ≡ l.fn.levels.items ++ below;
-  stand : StandBelow l.at_start l.at_end l.fn.nodes.items below l.nodes.items;
+  count : g.P.ParentMaker.count l.maker ≡ g.P.ParentMaker.count l.fn.maker + done;
+  stand : StandBelow (parent_by g.P.ParentMaker.hash_of) l.at_start l.at_end l.fn.nodes.items below done l.nodes.items;
   fits : total_size l.nodes.items < 2 ^ 64;
+  room : g.P.ParentMaker.count l.maker + length l.nodes.items ≤ 2 ^ 99;
 }
 
 abbrev pub decreases-collapsing : goal.decreases-collapsing

@@ -1,6 +1,7 @@
 use Rattle.std.proofs.Common.{sym, ap, ◌∙◌}
 use Rattle.xet_merkle.specs.Levels.{levels_size}
 use Rattle.xet_merkle.specs.Subtree.{Subtree}
+use Rattle.xet_merkle.specs.Roots.{parent_hash}
 use Rattle.xet_merkle.proofs.Canonical.Collapsing.{levels_size-canonical}
 use Rattle.xet_merkle.proofs.Merging.Kept.{canonical_well_formed}
 use Rattle.xet_merkle.proofs.merkle_hash_subtree.subtree.MerkleHashSubtree.from_chunks.Goals as goal
@@ -9,7 +10,7 @@ pub from_levels-requires-clause-well_formed : goal.from_levels-requires-clause-w
 from_levels-requires-clause-well_formed g c = canonical_well_formed c.args.at_start c.args.at_end c.in_ok-levels.ensures.1
 
 pub from_levels-requires-clause-size : goal.from_levels-requires-clause-size
-from_levels-requires-clause-size g c = levels_size-canonical c.in_ok-levels.ensures.1 ∙ sym c.in-Some.ensures.total.1
+from_levels-requires-clause-size g c = levels_size-canonical parent_hash c.in_ok-levels.ensures.1 ∙ sym c.in-Some.ensures.total.1
 
 pub returns-clause-size : goal.returns-clause-size
-returns-clause-size g c = ap (λ (s : Subtree). levels_size s.levels) c.in_ok-from_levels.ensures ∙ levels_size-canonical c.in_ok-levels.ensures.1
+returns-clause-size g c = ap (λ (s : Subtree). levels_size s.levels) c.in_ok-from_levels.ensures ∙ levels_size-canonical parent_hash c.in_ok-levels.ensures.1

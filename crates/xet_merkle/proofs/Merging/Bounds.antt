@@ -1,0 +1,95 @@
+-- How many parents are made where two subtrees are joined, and how many levels they have.
+use Rattle.std.proofs.Common.{ℕ, ◌+◌, ◌*◌, ◌<◌, ◌≤◌, Bool, false, List, [], ◌∷◌, ◌++◌, length, ap, arith, length-append}
+use Rattle.std.proofs.lemmas.List.{length-map}
+use Rattle.xet_merkle.specs.Groups.{Node}
+use Rattle.xet_merkle.specs.StablePoints.{EndsStable}
+use Rattle.xet_merkle.specs.Levels.{Level, node_count}
+use Rattle.xet_merkle.specs.Canonical.{IsCanonicalBy}
+use Rattle.xet_merkle.specs.Canonical.IsCanonicalBy.{whole, collapsed}
+use Rattle.xet_merkle.specs.Steps.Joining.{HaveSides, above, between, IsJoinSplit, IsJoin}
+use Rattle.xet_merkle.specs.Steps.Joining.IsJoinSplit.{both, left_alone, right_alone}
+use Rattle.xet_merkle.specs.Steps.Joining.IsJoin.{all_in_sight, step}
+use Rattle.xet_merkle.proofs.Roots.OneRoot.{Groups-few}
+use Rattle.xet_merkle.proofs.Canonical.Splits.{BeginsStable-some}
+
+EndsStable-some : (nodes : List Node) → EndsStable nodes → 0 < length nodes
+EndsStable-some nodes h = let len = ap length h.parts in omega (arith, length-append h.before (h.first ∷ (h.between ++ h.last ∷ [])))
+
+-- where the end isn't marked, each level below the top has a node on the right; where the start isn't, on the left
+pub right_sides_short : (at_start : Bool) (levels : List Level) → HaveSides at_start false levels → length levels ≤ node_count levels + 1
+right_sides_short at_start [] h = absurd h
+right_sides_short at_start (top ∷ []) h = omega arith
+right_sides_short at_start (level ∷ next ∷ levels) h =
+    let rest = right_sides_short at_start (next ∷ levels) h.2 in
+    let some = BeginsStable-some level.right h.1.0 in
+    omega arith
+
+pub left_sides_short : (at_end : Bool) (levels : List Level) → HaveSides false at_end levels → length levels ≤ node_count levels + 1
+left_sides_short at_end [] h = absurd h
+left_sides_short at_end (top ∷ []) h = omega arith
+left_sides_short at_end (level ∷ next ∷ levels) h =
+    let rest = left_sides_short at_end (next ∷ levels) h.2 in
+    let some = EndsStable-some level.left h.0.0 in
+    omega arith
+
+-- the nodes in sight are those carried and some of the operands' first levels
+pub between_few : (xs : List Level) (carry : List Node) (ys : List Level) →
+    length (between xs carry ys) + (node_count (above xs) + node_count (above ys)) ≤ node_count xs + (length carry + node_count ys)
+between_few [] carry [] = omega arith
+between_few [] carry (y ∷ []) = omega (arith, length-append carry y.left)
+between_few [] carry (y ∷ next ∷ ys) = omega (arith, length-append carry y.left)
+between_few (x ∷ []) carry [] = omega (arith, length-append x.left carry)
+between_few (x ∷ []) carry (y ∷ []) = omega (arith, length-append x.left (carry ++ y.left), length-append carry y.left)
+between_few (x ∷ []) carry (y ∷ next ∷ ys) = omega (arith, length-append x.left (carry ++ y.left), length-append carry y.left)
+between_few (x ∷ next ∷ xs) carry [] = omega (arith, length-append x.right carry)
+between_few (x ∷ next ∷ xs) carry (y ∷ []) = omega (arith, length-append x.right (carry ++ y.left), length-append carry y.left)
+between_few (x ∷ next ∷ xs) carry (y ∷ next' ∷ ys) = omega (arith, length-append x.right (carry ++ y.left), length-append carry y.left)
+
+module _ (make : List Node → Node) (at_start at_end : Bool) where
+  -- what is collapsed is in sight, and an operand has a level less above
+  pub middle_few : {xs ys : List Level} {seen left middle right : List Node} → IsJoinSplit at_start at_end xs ys seen left middle right → length middle ≤ length seen
+  middle_few (both left_is seen right_is) = let len = ap length seen in omega arith
+  middle_few {middle = middle} {right = right} (left_alone left_is seen high) = let len = ap length seen in omega (arith, length-append middle right)
+  middle_few {left = left} {middle = middle} (right_alone seen low right_is) = let len = ap length seen in omega (arith, length-append left middle)
+
+  -- the work of a list: twice as much is at most its nodes, and two for each level below the top
+  pub canonical_work : {nodes : List Node} {levels : List Level} {work : ℕ} → IsCanonicalBy make at_start at_end nodes levels work →
+      2 * work + 2 ≤ length nodes + 2 * length levels
+  canonical_work (whole none) = omega arith
+  canonical_work (collapsed {nodes} {left} {middle} {right} {groups} {levels} {work} split cutting canonical) =
+      let rest = canonical_work canonical in
+      let few = Groups-few middle groups cutting in
+      let len = ap length split.parts in
+      omega (arith, length-map groups make, length-append left (middle ++ right), length-append middle right)
+
+  -- the work of a join, likewise
+  pub join_work : {xs ys levels : List Level} {carry : List Node} {work : ℕ} → IsJoin make at_start at_end xs carry ys levels work →
+      2 * work + 2 ≤ node_count xs + (length carry + node_count ys) + 2 * length levels
+  join_work (all_in_sight {x} {y} {carry} canonical) =
+      let rest = canonical_work canonical in
+      let few = between_few (x ∷ []) carry (y ∷ []) in
+      omega arith
+  join_work (step {xs = xs} {ys = ys} {carry = carry} {middle = middle} {groups = groups} split cutting rest) =
+      let above_work = join_work rest in
+      let few = Groups-few middle groups cutting in
+      let within = middle_few split in
+      let seen = between_few xs carry ys in
+      omega (arith, length-map groups make)
+
+  -- nodes, levels and parents together never grow
+  pub step_room : {xs ys : List Level} (carry : List Node) {left middle right : List Node} (parents : List Node) →
+      IsJoinSplit at_start at_end xs ys (between xs carry ys) left middle right → 3 * length parents ≤ length middle + 2 →
+      (length parents + length parents) + ((node_count (above xs) + length (above xs)) + (node_count (above ys) + length (above ys)))
+      ≤ length carry + ((node_count xs + length xs) + (node_count ys + length ys))
+  step_room carry parents (both {x} {next_x} {y} {next_y} {xs} {ys} left_is seen right_is) few =
+      let within = middle_few (both {x = x} {next_x = next_x} {y = y} {next_y = next_y} {xs = xs} {ys = ys} left_is seen right_is) in
+      let sight = between_few (x ∷ next_x ∷ xs) carry (y ∷ next_y ∷ ys) in
+      omega arith
+  step_room carry parents (left_alone {x} {next_x} {y} {xs} left_is seen high) few =
+      let within = middle_few (left_alone {x = x} {next_x = next_x} {y = y} {xs = xs} left_is seen high) in
+      let sight = between_few (x ∷ next_x ∷ xs) carry (y ∷ []) in
+      omega arith
+  step_room carry parents (right_alone {x} {y} {next_y} {ys} seen low right_is) few =
+      let within = middle_few (right_alone {x = x} {y = y} {next_y = next_y} {ys = ys} seen low right_is) in
+      let sight = between_few (x ∷ []) carry (y ∷ next_y ∷ ys) in
+      omega arith
