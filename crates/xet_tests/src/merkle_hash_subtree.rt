@@ -2,6 +2,7 @@
 //! lists.
 
 mod boundaries;
+mod counted;
 mod forged;
 mod json;
 mod json_rules;

@@ -87,11 +87,7 @@ impl<A: Allocator + Clone> MerkleHashSubtree<A> {
     /// have the parents that the maker names, so has the merged one.
     ///
     /// It fails where `merge_into` does, in the same order.
-    pub fn merge_into_by<P: ParentMaker>(
-        &mut self,
-        other: &Self,
-        maker: P,
-    ) -> Result<P, CoreError>
+    pub fn merge_into_by<P: ParentMaker>(&mut self, other: &Self, maker: P) -> Result<P, CoreError>
         requires { P.count maker ≡ 0 }
         ensures merged { IfOk result (λ maker. IsMergedBy (parent_by P.hash_of) (P.count maker) self.old other.now self.new) }
         ensures bound { IfOk result (λ maker.
@@ -114,7 +110,14 @@ impl<A: Allocator + Clone> MerkleHashSubtree<A> {
         };
         let (at_start, at_end) = (self.at_start(), other.at_end());
         let alloc = self.levels.allocator().clone()?;
-        let levels = join(alloc, self.levels(), other.levels(), at_start, at_end, &mut maker)?;
+        let levels = join(
+            alloc,
+            self.levels(),
+            other.levels(),
+            at_start,
+            at_end,
+            &mut maker,
+        )?;
         *self = Self::from_levels(levels, at_start, at_end, size)?;
         Ok(maker)
     }

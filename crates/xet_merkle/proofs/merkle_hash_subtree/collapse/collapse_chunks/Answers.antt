@@ -32,6 +32,8 @@ returns-in_ok-collapse-in-Some g c =
     let level : Level = record { left = c.in-Some.split.left.now; right = c.in-Some.split.right.now } in
     let levels : c.in_ok-collapse-in-Some.field-0.items ≡ (level ∷ []) ++ top =
     collapsed.3 ∙ ap (λ (l : List Level). l ++ top) (c.in_ok-levels-in-Some.ensures.levels ∙ ap (λ (l : List Level). l ++ level ∷ []) c.new-levels.ensures.items) in
-    subst (λ (l : List Level). (work : ℕ) × IsCanonicalBy parent c.args.at_start c.args.at_end c.args.chunks.now l work) (sym levels)
-    (_, stand_more parent c.args.at_start c.args.at_end c.args.chunks.now [] 0 c.args.chunks.now _ _ _ _ (stand_start parent c.args.at_start c.args.at_end c.args.chunks.now)
-        c.in-Some.ensures.split c.in_ok-levels-in-Some.ensures.parents top collapsed.1 collapsed.2)
+    subst (λ (l : List Level). (work : ℕ) × IsCanonicalBy parent c.args.at_start c.args.at_end c.args.chunks.now l work) (sym levels) (
+      _,
+      stand_more parent c.args.at_start c.args.at_end c.args.chunks.now [] 0 c.args.chunks.now _ _ _ _ (stand_start parent c.args.at_start c.args.at_end c.args.chunks.now)
+          c.in-Some.ensures.split c.in_ok-levels-in-Some.ensures.parents top collapsed.1 collapsed.2,
+    )

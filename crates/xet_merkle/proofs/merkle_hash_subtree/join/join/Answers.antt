@@ -65,10 +65,10 @@ joining-preserved g c =
     let count = c.in_ok-levels.ensures.count in
     let next = join_step (parent_by hash) c.args.at_start c.args.at_end c.args.front.now c.args.back.now c.joining.levels.items (g.P.ParentMaker.count c.joining.maker) rest_x rest_y c.joining.carry.items _ _ _ parents c.joining.invariant.joins split c.in_ok-levels.ensures.parents in
     let joins : JoinBelow (parent_by hash) c.args.at_start c.args.at_end c.args.front.now c.args.back.now c.in_ok-levels.field-0-0.items (g.P.ParentMaker.count c.collapse_middle.new.maker)
-        (operand c.above-front.result.now) parents (operand c.above-back.result.now) =
+    (operand c.above-front.result.now) parents (operand c.above-back.result.now) =
     rw (c.in_ok-levels.ensures.levels, c.above-front.ensures.above, c.above-back.ensures.above, count) next in
     let room : g.P.ParentMaker.count c.collapse_middle.new.maker + (length parents + ((node_count (operand c.above-front.result.now) + length (operand c.above-front.result.now))
-        + (node_count (operand c.above-back.result.now) + length (operand c.above-back.result.now)))) ≤ 2 ^ 99 =
+    + (node_count (operand c.above-back.result.now) + length (operand c.above-back.result.now)))) ≤ 2 ^ 99 =
     rw (c.above-front.ensures.above, c.above-back.ensures.above) (omega arith) in
     let fits : levels_size (operand c.above-front.result.now) + (total_size c.in_ok-levels.field-0-1.items + levels_size (operand c.above-back.result.now)) < 2 ^ 64 =
     rw (c.above-front.ensures.above, c.above-back.ensures.above) (omega arith) in

@@ -1,0 +1,244 @@
+//! How many parents a merge hashes: worked examples, another maker of hashes, and the bounds.
+
+ghost use Rattle.std.specs.Prelude.{◌≡◌, [], ◌∷◌, length};
+
+use crate::support::{EACH_FOURTH, drawn_list, has_counts, read_json, with_cut, with_cuts};
+use rand_core::{Rng, SeedableRng};
+use rand_xoshiro::Xoshiro256PlusPlus;
+use std::alloc::{AllocError, Global};
+use std::fmt::Write;
+use std::test::Fail;
+use xet_hash::data_hash::{DataHash, MerkleHash};
+use xet_merkle::CoreError;
+use xet_merkle::aggregated_hashes::Node;
+use xet_merkle::merkle_hash_subtree::MerkleHashSubtree;
+use xet_merkle::parent_maker::{ParentHashes, ParentMaker};
+
+#[test]
+fn an_open_range_hashes_what_completes_stable_points(rt: HostRuntime) -> Result<(), Fail> {
+    let alloc = rt.alloc();
+    let nodes = with_cuts::<28>(&EACH_FOURTH);
+    let mut first = MerkleHashSubtree::from_chunks(alloc, true, &nodes[..4], false)?;
+    let mut twenty = MerkleHashSubtree::from_chunks(alloc, false, &nodes[4..24], false)?;
+    let four = MerkleHashSubtree::from_chunks(alloc, false, &nodes[24..], false)?;
+    assert_eq!(rt; twenty.merge_into_counted(&four)?, 1);
+    assert_eq!(rt; first.merge_into_counted(&twenty)?, 3);
+    assert!(rt; first == MerkleHashSubtree::from_chunks(alloc, true, &nodes, false)?);
+    Ok(())
+}
+
+#[test]
+fn short_ranges_hash_each_level(rt: HostRuntime) -> Result<(), Fail> {
+    let one = [(DataHash::random_from_seed(1), 100)];
+    let nil = (MerkleHash::default(), 0);
+    let zeros = [nil, one[0], nil];
+    for (left, right, count, counts, root) in [
+        (
+            zeros.as_slice(),
+            one.as_slice(),
+            3,
+            [(0, 0), (0, 0), (1, 0)].as_slice(),
+            "e1755c85be07fd6b7a8d7becc85e6d8c5f507f2a3d38b316bcb6f97855e72188",
+        ),
+        (
+            &one,
+            &[one[0]; 3],
+            1,
+            &[(0, 0), (1, 0)],
+            "89f2ada89ff8c96763c6b25010e6dd76a4c05b1466207633ea559acf2093211b",
+        ),
+        (
+            &[],
+            &[],
+            0,
+            &[(0, 0)],
+            "0000000000000000000000000000000000000000000000000000000000000000",
+        ),
+    ] {
+        let mut subtree = MerkleHashSubtree::from_chunks(rt.alloc(), true, left, false)?;
+        let right = MerkleHashSubtree::from_chunks(rt.alloc(), false, right, true)?;
+        assert_eq!(rt; subtree.merge_into_counted(&right)?, count);
+        assert!(rt; has_counts(&subtree, counts), "{count}");
+        assert_eq!(rt; subtree.final_hash(), Some(DataHash::from_hex(root)?));
+    }
+    Ok(())
+}
+
+// Names the hash of a group by its length.
+#[derive(Drop)]
+struct LengthHashes {
+    made: u128,
+}
+
+impl ParentMaker for LengthHashes {
+    ghost hash_of = { λ group. length group ∷ 0 ∷ 0 ∷ 1 ∷ [] };
+
+    ghost count = { λ hashes. hashes.made };
+
+    fn make(&mut self, group: &[Node]) -> MerkleHash {
+        self.made += 1;
+        MerkleHash::from([group.len() as u64, 0, 0, 1])
+    }
+
+    fn made(&self) -> u128 {
+        self.made
+    }
+}
+
+#[test]
+fn parents_have_the_hashes_of_their_maker(rt: HostRuntime) -> Result<(), Fail> {
+    let nodes = with_cuts::<8>(&EACH_FOURTH);
+    let (first, second) = nodes.split_at(4);
+    let mut left = MerkleHashSubtree::from_chunks(rt.alloc(), true, first, false)?;
+    let right = MerkleHashSubtree::from_chunks(rt.alloc(), false, second, true)?;
+    let mut own = left.try_clone()?;
+    let maker = left.merge_into_by(&right, LengthHashes { made: 0 })?;
+    assert_eq!(rt; maker.made(), 3);
+    assert!(rt; has_counts(&left, &[(0, 0), (0, 0), (1, 0)]));
+    assert_eq!(rt; left.final_hash(), Some(MerkleHash::from([2, 0, 0, 1])));
+    assert_eq!(rt; own.merge_into_by(&right, ParentHashes::new())?.made(), 3);
+    Ok(())
+}
+
+// The nodes and the levels of a subtree.
+fn sizes(subtree: &MerkleHashSubtree) -> (u128, u128) {
+    (subtree.num_nodes() as u128, subtree.num_levels() as u128)
+}
+
+// Merges a range into the one before it. False where that hashes more parents than half of the nodes of both and one for
+// each level of the result but the top.
+fn merge_within_bound(
+    left: &mut MerkleHashSubtree,
+    right: &MerkleHashSubtree,
+) -> Result<bool, CoreError> {
+    let (before, _) = sizes(left);
+    let (more, _) = sizes(right);
+    let count = left.merge_into_counted(right)?;
+    let (_, levels) = sizes(left);
+    Ok(2 * count.min(1 << 64) <= before + more + 2 * (levels - levels.min(1)))
+}
+
+// Whether an open subtree of so many chunks has no more nodes than these, and few levels.
+fn is_small(subtree: &MerkleHashSubtree, chunks: u64) -> bool {
+    let mut most = 1u64;
+    for _ in 2..subtree.num_levels() {
+        most = most.saturating_mul(3);
+    }
+    subtree.num_nodes() as u64 <= chunks && (subtree.num_levels() < 2 || most < chunks)
+}
+
+#[test]
+fn drawn_lists_stay_within_the_bounds(rt: HostRuntime) -> Result<(), Fail> {
+    let alloc = rt.alloc();
+    let mut generator = Xoshiro256PlusPlus::seed_from_u64(18);
+    for count in [100u64, 500, 1000, 5000] {
+        let nodes = drawn_list(&mut generator, alloc, count)?;
+        let whole = MerkleHashSubtree::from_chunks(alloc, false, nodes.as_slice(), false)?;
+        assert!(rt; is_small(&whole, count), "{count}");
+        let (first, second) = nodes.split_at(nodes.len() / 2);
+        let mut left = MerkleHashSubtree::from_chunks(alloc, false, first, false)?;
+        let right = MerkleHashSubtree::from_chunks(alloc, false, second, false)?;
+        assert!(rt; merge_within_bound(&mut left, &right)?, "{count}");
+        assert!(rt; left == whole && is_small(&left, count), "{count}");
+    }
+    Ok(())
+}
+
+#[test]
+fn ranges_stay_within_the_bounds_after_each_join(rt: HostRuntime) -> Result<(), Fail> {
+    let alloc = rt.alloc();
+    let mut generator = Xoshiro256PlusPlus::seed_from_u64(19);
+    for count in [200u64, 500, 1000, 2000] {
+        let nodes = drawn_list(&mut generator, alloc, count)?;
+        let mut joined = MerkleHashSubtree::from_chunks(alloc, false, &[], false)?;
+        let mut rest = nodes.as_slice();
+        // Of 10 nodes or more each, these are more than all.
+        for _ in 0..200 {
+            let len = (generator.next_u64() % 40 + 10) as usize;
+            let (range, after) = rest.split_at(len.min(rest.len()));
+            let range = MerkleHashSubtree::from_chunks(alloc, false, range, false)?;
+            assert!(rt; merge_within_bound(&mut joined, &range)?, "{count}");
+            rest = after;
+            let chunks = count.saturating_sub(rest.len() as u64);
+            assert!(rt; is_small(&joined, chunks), "{count}");
+        }
+        assert!(rt; rest.is_empty());
+    }
+    Ok(())
+}
+
+// So many drawn nodes, of which every fourth one or so is a natural cut.
+fn drawn_nodes(
+    generator: &mut Xoshiro256PlusPlus,
+    alloc: Global,
+    count: u64,
+) -> Result<Vec<Node>, AllocError> {
+    let mut nodes = Vec::new(alloc);
+    for _ in 0..count {
+        let hash = DataHash::random_from_seed(generator.next_u64());
+        let is_cut = generator.next_u64().is_multiple_of(4);
+        nodes.push((with_cut(hash, is_cut), generator.next_u64() % 1000))?;
+    }
+    Ok(nodes)
+}
+
+// The nodes of a side and how many there are, as a subtree's JSON text has them.
+fn write_nodes(text: &mut String, nodes: &[Node]) -> Result<(), AllocError> {
+    for (hash, size) in nodes {
+        if text.as_str().ends_with('}') {
+            text.push(',')?;
+        }
+        write!(text, "{{\"hash\":\"{hash}\",\"size\":{size}}}")?;
+    }
+    Ok(())
+}
+
+// A subtree of up to four levels whose sides are those of other lists, marked at its start or at its end.
+fn of_no_list(
+    generator: &mut Xoshiro256PlusPlus,
+    alloc: Global,
+    at_start: bool,
+) -> Result<MerkleHashSubtree, Fail> {
+    let mut counts = String::new(alloc);
+    let mut sides = Vec::new(alloc);
+    for _ in 0..generator.next_u64() % 4 {
+        let list = drawn_nodes(generator, alloc, 200)?;
+        let subtree = MerkleHashSubtree::from_chunks(alloc, at_start, list.as_slice(), !at_start)?;
+        if subtree.num_levels() > 1 {
+            let (left, right) = (subtree.left(0), subtree.right(0));
+            write!(counts, "[{},{}],", left.len(), right.len())?;
+            sides.push(if at_start { right } else { left }.to_vec(alloc)?)?;
+        }
+    }
+    let count = generator.next_u64() % 12 + 1;
+    let top = drawn_nodes(generator, alloc, count)?;
+    write!(counts, "[{count},0]")?;
+    let mut nodes = String::new(alloc);
+    if at_start {
+        write_nodes(&mut nodes, top.as_slice())?;
+        for side in sides.iter().rev() {
+            write_nodes(&mut nodes, side.as_slice())?;
+        }
+    } else {
+        for side in sides.iter() {
+            write_nodes(&mut nodes, side.as_slice())?;
+        }
+        write_nodes(&mut nodes, top.as_slice())?;
+    }
+    let text = format!(in alloc;
+        "{{\"at_end\":{},\"at_start\":{at_start},\"levels\":[{counts}],\"nodes\":[{nodes}]}}",
+        !at_start
+    )?;
+    Ok(read_json(alloc, &text)??)
+}
+
+#[test]
+fn subtrees_of_no_list_stay_within_the_bound(rt: HostRuntime) -> Result<(), Fail> {
+    let mut generator = Xoshiro256PlusPlus::seed_from_u64(20);
+    for number in 0..100 {
+        let mut left = of_no_list(&mut generator, rt.alloc(), true)?;
+        let right = of_no_list(&mut generator, rt.alloc(), false)?;
+        assert!(rt; merge_within_bound(&mut left, &right)?, "{number}");
+    }
+    Ok(())
+}
