@@ -18,9 +18,11 @@ use xet_merkle::parent_maker::{ParentHashes, ParentMaker};
 fn an_open_range_hashes_what_completes_stable_points(rt: HostRuntime) -> Result<(), Fail> {
     let alloc = rt.alloc();
     let nodes = with_cuts::<28>(&EACH_FOURTH);
-    let mut first = MerkleHashSubtree::from_chunks(alloc, true, &nodes[..4], false)?;
-    let mut twenty = MerkleHashSubtree::from_chunks(alloc, false, &nodes[4..24], false)?;
-    let four = MerkleHashSubtree::from_chunks(alloc, false, &nodes[24..], false)?;
+    let (first, rest) = nodes.split_at(4);
+    let (second, third) = rest.split_at(20);
+    let mut first = MerkleHashSubtree::from_chunks(alloc, true, first, false)?;
+    let mut twenty = MerkleHashSubtree::from_chunks(alloc, false, second, false)?;
+    let four = MerkleHashSubtree::from_chunks(alloc, false, third, false)?;
     assert_eq!(rt; twenty.merge_into_counted(&four)?, 1);
     assert_eq!(rt; first.merge_into_counted(&twenty)?, 3);
     assert!(rt; first == MerkleHashSubtree::from_chunks(alloc, true, &nodes, false)?);
@@ -100,22 +102,17 @@ fn parents_have_the_hashes_of_their_maker(rt: HostRuntime) -> Result<(), Fail> {
     Ok(())
 }
 
-// The nodes and the levels of a subtree.
-fn sizes(subtree: &MerkleHashSubtree) -> (u128, u128) {
-    (subtree.num_nodes() as u128, subtree.num_levels() as u128)
-}
-
 // Merges a range into the one before it. False where that hashes more parents than half of the nodes of both and one for
 // each level of the result but the top.
 fn merge_within_bound(
     left: &mut MerkleHashSubtree,
     right: &MerkleHashSubtree,
 ) -> Result<bool, CoreError> {
-    let (before, _) = sizes(left);
-    let (more, _) = sizes(right);
+    let nodes = left.num_nodes().saturating_add(right.num_nodes());
     let count = left.merge_into_counted(right)?;
-    let (_, levels) = sizes(left);
-    Ok(2 * count.min(1 << 64) <= before + more + 2 * (levels - levels.min(1)))
+    let below_top = left.num_levels().saturating_sub(1);
+    let most = nodes.saturating_add(below_top.saturating_mul(2));
+    Ok(count.saturating_mul(2) <= most as u128)
 }
 
 // Whether an open subtree of so many chunks has no more nodes than these, and few levels.
