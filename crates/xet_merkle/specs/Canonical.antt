@@ -25,9 +25,9 @@ pub record IsSplit (at_start at_end : Bool) (nodes left middle right : List Node
   pub high : IsHigh at_end middle right
 
 -- the canonical subtree of a list under marks, under what makes a parent of a group, and its work: the
--- number of parents that are made for it. Without a split it has one level, with all nodes on the left. With one, the first
--- level has what stays on either side, and the others are the canonical subtree of the parents of the
--- groups of what is collapsed.
+-- number of parents that are made for it. Without a split it has one level, with all nodes on the left.
+-- With one, the first level has what stays on either side, and the others are the canonical subtree of the
+-- parents of the groups of what is collapsed.
 pub data IsCanonicalBy (make : List Node → Node) (at_start at_end : Bool) : List Node → List Level → ℕ → Type 0 where
   whole : {nodes : List Node} →
       ((left middle right : List Node) → ¬ (IsSplit at_start at_end nodes left middle right)) →
