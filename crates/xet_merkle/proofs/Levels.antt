@@ -1,3 +1,4 @@
 pub mod Flat
 pub mod Reading
 pub mod Sides
+pub mod InPlace

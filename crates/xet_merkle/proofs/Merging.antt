@@ -5,3 +5,4 @@ pub mod LevelByLevel
 pub mod Ranges
 pub mod Bounds
 pub mod Bracketing
+pub mod Appending

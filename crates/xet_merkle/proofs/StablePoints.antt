@@ -4,3 +4,4 @@ pub mod Search
 pub mod Scan
 pub mod Loops
 pub mod Triples
+pub mod Appending

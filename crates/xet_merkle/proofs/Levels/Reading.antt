@@ -2,7 +2,7 @@
 use Rattle.std.proofs.Common.{◌≡◌, ℕ, zero, suc, ◌+◌, ◌<◌, ◌≤◌, List, [], ◌∷◌, ◌++◌, length, get_or, take, drop, refl, sym, ap, ◌∙◌, arith, append-nil}
 use Rattle.std.proofs.lemmas.List.{take_more}
 use Rattle.xet_merkle.specs.Groups.{Node}
-use Rattle.xet_merkle.specs.Levels.{Level, left_at, right_at, top_of, below_top, top_nodes, node_count}
+use Rattle.xet_merkle.specs.Levels.{Level, no_level, left_at, right_at, top_of, below_top, top_nodes, node_count}
 use Rattle.xet_merkle.specs.Steps.Joining.{operand, above, inner_nodes}
 
 pub left_at-some : (levels : List Level) (i : ℕ) (d : Level) → i < length levels → (get_or levels i d).left ≡ left_at levels i
@@ -68,14 +68,20 @@ pub operand-longer : (levels : List Level) → 1 < length levels → 1 < length 
 operand-longer [] more = absurd (omega arith)
 operand-longer (level ∷ levels) more = more
 
-pub operand-above : (levels : List Level) → 0 < length levels → operand (drop 1 levels) ≡ above (operand levels)
-operand-above [] some = absurd (omega arith)
-operand-above (top ∷ []) some = refl
-operand-above (level ∷ next ∷ levels) some = refl
+pub operand-above : (levels : List Level) → operand (drop 1 levels) ≡ above (operand levels)
+operand-above [] = refl
+operand-above (top ∷ []) = refl
+operand-above (level ∷ next ∷ levels) = refl
 
-pub operand-none : (levels : List Level) → length levels < 1 → operand levels ≡ above (operand levels)
-operand-none [] none = refl
-operand-none (level ∷ levels) none = absurd (omega arith)
+pub above-drop : (levels : List Level) → 1 < length levels → above levels ≡ drop 1 levels
+above-drop [] more = absurd (omega arith)
+above-drop (top ∷ []) more = absurd (omega arith)
+above-drop (level ∷ next ∷ levels) more = refl
+
+pub operand-one : (levels : List Level) → length levels ≤ 1 → (top : Level) × (operand levels ≡ top ∷ []) × (top.left ≡ left_at levels 0)
+operand-one [] few = (no_level, refl, refl)
+operand-one (top ∷ []) few = (top, refl, refl)
+operand-one (level ∷ next ∷ levels) few = absurd (omega arith)
 
 pub operand-left : (levels : List Level) → left_at levels 0 ≡ left_at (operand levels) 0
 operand-left [] = refl

@@ -8,9 +8,10 @@ use Rattle.xet_merkle.specs.Canonical.{IsCanonicalBy}
 use Rattle.xet_merkle.specs.Canonical.IsCanonicalBy.{whole, collapsed}
 use Rattle.xet_merkle.specs.Steps.Joining.{HaveSides, above, between, IsJoinSplit, IsJoin}
 use Rattle.xet_merkle.specs.Steps.Joining.IsJoinSplit.{both, left_alone, right_alone}
-use Rattle.xet_merkle.specs.Steps.Joining.IsJoin.{all_in_sight, step}
+use Rattle.xet_merkle.specs.Steps.Joining.IsJoin.{all_in_sight, appended, step}
 use Rattle.xet_merkle.proofs.Roots.OneRoot.{Groups-few}
 use Rattle.xet_merkle.proofs.Canonical.Splits.{BeginsStable-some}
+use Rattle.xet_merkle.proofs.Canonical.Bounds.{few_nodes}
 
 EndsStable-some : (nodes : List Node) → EndsStable nodes → 0 < length nodes
 EndsStable-some nodes h = let len = ap length h.parts in omega (arith, length-append h.before (h.first ∷ (h.between ++ h.last ∷ [])))
@@ -69,6 +70,7 @@ module _ (make : List Node → Node) (at_start at_end : Bool) where
       let rest = canonical_work canonical in
       let few = between_few (x ∷ []) carry (y ∷ []) in
       omega arith
+  join_work (appended unmarked none) = omega arith
   join_work (step {xs = xs} {ys = ys} {carry = carry} {middle = middle} {groups = groups} split cutting rest) =
       let above_work = join_work rest in
       let few = Groups-few middle groups cutting in
@@ -93,3 +95,33 @@ module _ (make : List Node → Node) (at_start at_end : Bool) where
       let within = middle_few (right_alone {x = x} {y = y} {next_y = next_y} {ys = ys} seen low right_is) in
       let sight = between_few (x ∷ []) carry (y ∷ next_y ∷ ys) in
       omega arith
+
+  -- what is collapsed and what stays were nodes of the operands or carried
+  step_count : {xs ys : List Level} (carry : List Node) {left middle right : List Node} → IsJoinSplit at_start at_end xs ys (between xs carry ys) left middle right →
+      (length left + length right) + (length middle + (node_count (above xs) + node_count (above ys))) ≤ node_count xs + (length carry + node_count ys)
+  step_count carry (both {x} {next_x} {y} {next_y} {xs} {ys} left_is seen right_is) =
+      let len = ap length seen in
+      let len_left = ap length left_is in
+      let len_right = ap length right_is in
+      omega (arith, length-append x.right (carry ++ y.left), length-append carry y.left)
+  step_count carry {middle = middle} {right = right} (left_alone {x} {next_x} {y} {xs} left_is seen high) =
+      let len = ap length seen in
+      let len_left = ap length left_is in
+      omega (arith, length-append x.right (carry ++ y.left), length-append carry y.left, length-append middle right)
+  step_count carry {left = left} {middle = middle} (right_alone {x} {y} {next_y} {ys} seen low right_is) =
+      let len = ap length seen in
+      let len_right = ap length right_is in
+      omega (arith, length-append x.left (carry ++ y.left), length-append carry y.left, length-append left middle)
+
+  -- a join has at most as many nodes as the operands
+  pub join_count : {xs ys levels : List Level} {carry : List Node} {work : ℕ} → IsJoin make at_start at_end xs carry ys levels work →
+      node_count levels ≤ node_count xs + (length carry + node_count ys)
+  join_count (all_in_sight {x} {y} {carry} canonical) =
+      let few = few_nodes make at_start at_end canonical in
+      omega (arith, length-append x.left (carry ++ y.left), length-append carry y.left)
+  join_count (appended {x} {y} {carry} unmarked none) = omega (arith, length-append x.left (carry ++ y.left), length-append carry y.left)
+  join_count (step {xs = xs} {ys = ys} {carry = carry} {middle = middle} {groups = groups} split cutting rest) =
+      let above_count = join_count rest in
+      let few = Groups-few middle groups cutting in
+      let here = step_count carry split in
+      omega (arith, length-map groups make)

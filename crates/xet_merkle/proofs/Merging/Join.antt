@@ -8,9 +8,9 @@ use Rattle.xet_merkle.specs.Levels.{Level, no_level, left_at, right_at}
 use Rattle.xet_merkle.specs.Canonical.{IsLow, IsHigh, IsSplit, IsCanonicalBy}
 use Rattle.xet_merkle.specs.Canonical.IsCanonicalBy.{whole, collapsed}
 use Rattle.xet_merkle.specs.Steps.StableScan.{IsFront}
-use Rattle.xet_merkle.specs.Steps.Joining.{IsHighBehind, IsLowBefore, IsJoinSplit, IsJoin}
+use Rattle.xet_merkle.specs.Steps.Joining.{NoSplit, IsHighBehind, IsLowBefore, IsJoinSplit, IsJoin}
 use Rattle.xet_merkle.specs.Steps.Joining.IsJoinSplit.{both, left_alone, right_alone}
-use Rattle.xet_merkle.specs.Steps.Joining.IsJoin.{all_in_sight, step}
+use Rattle.xet_merkle.specs.Steps.Joining.IsJoin.{all_in_sight, appended, step}
 use Rattle.xet_merkle.proofs.Groups.OneCutting.{Groups-unique}
 use Rattle.xet_merkle.proofs.StablePoints.CutPlaces.{EndsStable-append, before_cut, after_cut, behind_one}
 use Rattle.xet_merkle.proofs.StablePoints.Boundaries.{Groups-behind}
@@ -150,6 +150,10 @@ module _ (make : List Node → Node) (at_start at_end : Bool) where
       subst (IsCanonicalBy make at_start at_end (a ++ (carry ++ b)) levels) (omega arith) canonical
   join (all_in_sight canonical) a b wx wy (collapsed split cutting above_x) hy = absurd (let some = levels_some make at_start false above_x in omega arith)
   join (all_in_sight canonical) a b wx wy (whole none) (collapsed split cutting above_y) = absurd (let some = levels_some make false at_end above_y in omega arith)
+  join {carry = carry} (appended unmarked none) a b wx wy (whole none_a) (whole none_b) =
+      whole (subst (λ (e : Bool). NoSplit at_start e (a ++ (carry ++ b))) (sym unmarked) (none none_a))
+  join (appended unmarked none) a b wx wy (collapsed split cutting above_x) hy = absurd (let some = levels_some make at_start false above_x in omega arith)
+  join (appended unmarked none) a b wx wy (whole none_a) (collapsed split cutting above_y) = absurd (let some = levels_some make false at_end above_y in omega arith)
   join (step {levels = levels} {carry = carry} {left = left} {middle = middle} {right = right} {groups = groups} {work = work} (both left_is seen right_is) cutting rest) a b wx wy (collapsed {left = xl} {middle = xm} {right = xr} {groups = gx} {work = px} split_x cutting_x above_x) (collapsed {left = yl} {middle = ym} {right = yr} {groups = gy} {work = py} split_y cutting_y above_y) =
       let joined = join rest (map make gx) (map make gy) px py above_x above_y in
       joined_level (a ++ (carry ++ b)) left (xm ++ (middle ++ ym)) right (gx ++ (groups ++ gy)) levels (work + (px + py)) (length groups + work + (length gx + px + (length gy + py)))
@@ -205,10 +209,8 @@ module _ (at_start at_end : Bool) (seen left middle right : List Node) where
   left_above (x ∷ next_x ∷ xs) (y ∷ []) more some none left_is parts high = left_alone left_is parts high
   left_above (x ∷ next_x ∷ xs) (y ∷ next_y ∷ ys) more some none left_is parts high = absurd (none (omega arith))
 
-  pub right_above : (xs ys : List Level) → 0 < length xs → ¬ (1 < length xs) → 1 < length ys → seen ≡ left ++ middle → IsLowBefore at_start left middle → right ≡ right_at ys 0 →
-      IsJoinSplit at_start at_end xs ys seen left middle right
-  right_above [] ys some none more parts low right_is = absurd (omega arith)
-  right_above (x ∷ []) [] some none more parts low right_is = absurd (omega arith)
-  right_above (x ∷ []) (y ∷ []) some none more parts low right_is = absurd (omega arith)
-  right_above (x ∷ []) (y ∷ next_y ∷ ys) some none more parts low right_is = right_alone parts low right_is
-  right_above (x ∷ next_x ∷ xs) ys some none more parts low right_is = absurd (none (omega arith))
+  pub right_above : (x : Level) (ys : List Level) → 1 < length ys → seen ≡ left ++ middle → IsLowBefore at_start left middle → right ≡ right_at ys 0 →
+      IsJoinSplit at_start at_end (x ∷ []) ys seen left middle right
+  right_above x [] more parts low right_is = absurd (omega arith)
+  right_above x (y ∷ []) more parts low right_is = absurd (omega arith)
+  right_above x (y ∷ next_y ∷ ys) more parts low right_is = right_alone parts low right_is

@@ -1,5 +1,6 @@
 -- What joining keeps: the sides, the top and the sizes of the operands, whether or not they come from lists.
 use Rattle.std.proofs.Common.{◌≡◌, ℕ, ◌+◌, ◌<◌, ◌≤◌, ◌⊎◌, Bool, true, false, List, [], ◌∷◌, ◌++◌, length, map, refl, sym, ap, subst, ◌∙◌, inl, inr, arith, append_assoc, append-nil, length-append}
+use Rattle.std.proofs.lemmas.Bool.{false≢true}
 use Rattle.std.proofs.lemmas.List.{length-map}
 use Rattle.xet_merkle.specs.Groups.{Node}
 use Rattle.xet_merkle.specs.Roots.{total_size, parent_by, parent}
@@ -10,7 +11,7 @@ use Rattle.xet_merkle.specs.Canonical.IsCanonicalBy.{whole, collapsed}
 use Rattle.xet_merkle.specs.WellFormed.{IsWellFormed}
 use Rattle.xet_merkle.specs.Steps.Joining.{IsLeftUnder, IsRightUnder, HaveSides, IsHighBehind, IsLowBefore, IsJoin}
 use Rattle.xet_merkle.specs.Steps.Joining.IsJoinSplit.{both, left_alone, right_alone}
-use Rattle.xet_merkle.specs.Steps.Joining.IsJoin.{all_in_sight, step}
+use Rattle.xet_merkle.specs.Steps.Joining.IsJoin.{all_in_sight, appended, step}
 use Rattle.xet_merkle.proofs.Roots.OneRoot.{Groups-some}
 use Rattle.xet_merkle.proofs.Roots.Making.{total_size-are_parents}
 use Rattle.xet_merkle.proofs.StablePoints.CutPlaces.{EndsStable-append}
@@ -53,6 +54,7 @@ module _ (make : List Node → Node) (at_start at_end : Bool) where
   pub joined_sides : {xs ys levels : List Level} {carry : List Node} {made : ℕ} → IsJoin make at_start at_end xs carry ys levels made →
       HaveSides at_start false xs → HaveSides false at_end ys → HaveSides at_start at_end levels
   joined_sides (all_in_sight canonical) hx hy = canonical_sides canonical
+  joined_sides (appended unmarked none) hx hy = refl
   joined_sides (step {levels = levels} {left = left} {right = right} (both {next_x = next_x} {next_y = next_y} {xs = xs} {ys = ys} left_is seen right_is) cutting rest) hx hy =
       sides_below at_start at_end (record { left = left; right = right }) levels (subst (IsLeftUnder at_start) (sym left_is) hx.0)
       (subst (IsRightUnder at_end) (sym right_is) hy.1) (joined_sides rest hx.2 hy.2)
@@ -66,6 +68,7 @@ module _ (make : List Node → Node) (at_start at_end : Bool) where
 
   pub joined_some : {xs ys levels : List Level} {carry : List Node} {made : ℕ} → IsJoin make at_start at_end xs carry ys levels made → 0 < length levels
   joined_some (all_in_sight canonical) = levels_some make at_start at_end canonical
+  joined_some (appended unmarked none) = omega arith
   joined_some (step split cutting rest) = omega arith
 
   -- ---- the top
@@ -93,6 +96,12 @@ module _ (make : List Node → Node) (at_start at_end : Bool) where
   joined_has_top (all_in_sight {x} {y} {carry} canonical) hx hy top_x top_y (inr some) =
       let none = ap length hy in
       canonical_top canonical (omega (arith, length-append y.left y.right, length-append x.left (carry ++ y.left), length-append carry y.left))
+  joined_has_top (appended {x} {y} {carry} unmarked none) hx hy top_x top_y (inl some) =
+      let none_x = ap length hx in
+      omega (arith, length-append x.left x.right, length-append x.left (carry ++ y.left), length-append (x.left ++ (carry ++ y.left)) [])
+  joined_has_top (appended {x} {y} {carry} unmarked none) hx hy top_x top_y (inr some) =
+      let none_y = ap length hy in
+      omega (arith, length-append y.left y.right, length-append x.left (carry ++ y.left), length-append carry y.left, length-append (x.left ++ (carry ++ y.left)) [])
   joined_has_top (step {levels = levels} {left = left} {right = right} (both left_is seen right_is) cutting rest) hx hy top_x top_y some =
       let here = top_x (omega arith) in
       HasTop-more (record { left = left; right = right }) levels (joined_some rest)
@@ -115,6 +124,7 @@ module _ (make : List Node → Node) (at_start at_end : Bool) where
       HaveSides at_start false xs → HaveSides false at_end ys → (1 < length xs → HasTop xs) → (1 < length ys → HasTop ys) →
       1 < length levels → HasTop levels
   joined_top (all_in_sight canonical) hx hy top_x top_y more = canonical_top_below canonical more
+  joined_top (appended unmarked none) hx hy top_x top_y more = absurd (omega arith)
   joined_top (step (both left_is seen right_is) cutting rest) hx hy top_x top_y more =
       joined_has_top (step (both left_is seen right_is) cutting rest) hx hy top_x top_y (inl (top_x (omega arith)))
   joined_top (step (left_alone left_is seen high) cutting rest) hx hy top_x top_y more =
@@ -133,6 +143,7 @@ canonical_well_formed at_start at_end {nodes} {levels} {made} h = well_formed_fr
 pub joined_one : (make : List Node → Node) {xs ys levels : List Level} {carry : List Node} {made : ℕ} → IsJoin make true true xs carry ys levels made →
     length (top_nodes levels) ≤ 1
 joined_one make (all_in_sight canonical) = (closed_root make canonical).0
+joined_one make (appended unmarked none) = absurd (false≢true (sym unmarked))
 joined_one make (step {levels = levels} {left = left} {right = right} split cutting rest) =
     subst (λ (l : List Node). length l ≤ 1) (sym (top_nodes-more (record { left = left; right = right }) levels (joined_some make true true rest))) (joined_one make rest)
 
@@ -142,6 +153,10 @@ pub joined_size : (hash : List Node → List ℕ) (at_start at_end : Bool) {xs y
     HaveSides at_start false xs → HaveSides false at_end ys → levels_size levels ≡ levels_size xs + (total_size carry + levels_size ys)
 joined_size hash at_start at_end (all_in_sight {x} {y} {carry} canonical) hx hy =
     let size = levels_size-canonical hash canonical in
+    let none_x = ap total_size hx in
+    let none_y = ap total_size hy in
+    omega (arith, total_size-append x.left (carry ++ y.left), total_size-append carry y.left)
+joined_size hash at_start at_end (appended {x} {y} {carry} unmarked none) hx hy =
     let none_x = ap total_size hx in
     let none_y = ap total_size hy in
     omega (arith, total_size-append x.left (carry ++ y.left), total_size-append carry y.left)

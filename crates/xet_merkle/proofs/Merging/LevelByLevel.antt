@@ -1,22 +1,24 @@
 -- Joining level by level: what stands below what is left of the operands, and what the whole is.
 use Rattle.std.proofs.lemmas.List.{length-map}
-use Rattle.xet_merkle.proofs.Merging.Bounds.{right_sides_short, left_sides_short}
-use Rattle.std.proofs.Common.{◌≡◌, ℕ, ◌+◌, ◌<◌, ◌≤◌, Bool, true, false, List, [], ◌∷◌, ◌++◌, length, map, refl, sym, ap, subst, arith, append_assoc}
+use Rattle.xet_merkle.proofs.Merging.Bounds.{right_sides_short, left_sides_short, join_count}
+use Rattle.std.proofs.Common.{◌≡◌, ℕ, ◌+◌, ◌<◌, ◌≤◌, ◌^◌, Bool, true, false, List, [], ◌∷◌, ◌++◌, length, map, take, drop, refl, sym, ap, subst, ◌∙◌, arith, append_assoc}
 use Rattle.xet_merkle.specs.Groups.{Node}
 use Rattle.xet_merkle.specs.Roots.{total_size, parent_by, parent}
 use Rattle.xet_merkle.specs.Steps.Scan.{AreParents}
-use Rattle.xet_merkle.specs.Levels.{Level, top_nodes, node_count, levels_size}
+use Rattle.xet_merkle.specs.Levels.{Level, right_at, top_nodes, node_count, levels_size}
 use Rattle.xet_merkle.specs.Subtree.{Subtree}
 use Rattle.xet_merkle.specs.Merging.{IsMerged, IsMergedBy}
 use Rattle.xet_merkle.specs.WellFormed.{IsWellFormed}
-use Rattle.xet_merkle.specs.Steps.Joining.{HaveSides, above, between, IsJoinSplit, IsJoin}
+use Rattle.xet_merkle.specs.Steps.Joining.{HaveSides, operand, above, between, lowest_with, IsLowBefore, IsJoinSplit, IsJoin}
 use Rattle.xet_merkle.specs.Steps.Joining.IsJoinSplit.{both, left_alone, right_alone}
 use Rattle.xet_merkle.specs.Steps.Joining.IsJoin.{all_in_sight, step}
 use Rattle.xet_merkle.specs.Canonical.{IsCanonicalBy}
-use Rattle.xet_merkle.specs.Steps.Building.{AreOperands, JoinBelow}
+use Rattle.xet_merkle.specs.Steps.Building.{AreOperands, JoinBelow, IsStored}
 use Rattle.xet_merkle.proofs.Levels.Flat.{total_size-append}
 use Rattle.xet_merkle.proofs.Levels.Sides.{well_formed_sides, well_formed_from_sides}
-use Rattle.xet_merkle.proofs.Merging.Join.{join}
+use Rattle.xet_merkle.proofs.Levels.InPlace.{put, put-in_front}
+use Rattle.xet_merkle.proofs.Levels.Reading.{operand-one, operand-longer, operand-right}
+use Rattle.xet_merkle.proofs.Merging.Join.{join, right_above}
 use Rattle.xet_merkle.proofs.Merging.Kept.{joined_sides, joined_top, joined_one, joined_size}
 
 -- ---- lengths and sizes
@@ -52,19 +54,29 @@ module _ (at_start at_end : Bool) where
       let size = ap total_size seen in
       omega (arith, total_size-append x.left (carry ++ y.left), total_size-append carry y.left, total_size-append left middle)
 
-module _ (make : List Node → Node) (at_start at_end : Bool) (xs ys : List Level) where
+-- what is collapsed where the right operand alone has levels above
+pub split_before : (at_start at_end : Bool) (xs ys : List Level) (carry seen left middle : List Node) {right : List Node} → length xs ≤ 1 → 1 < length ys →
+    seen ≡ between (operand xs) carry (operand ys) → seen ≡ left ++ middle → IsLowBefore at_start left middle → right ≡ right_at ys 0 →
+    IsJoinSplit at_start at_end (operand xs) (operand ys) (between (operand xs) carry (operand ys)) left middle right
+split_before at_start at_end xs ys carry seen left middle {right} few more seen_is parts low right_is =
+    let one = operand-one xs few in
+    subst (λ (l : List Node). IsJoinSplit at_start at_end (operand xs) (operand ys) l left middle right) seen_is
+    (subst (λ (l : List Level). IsJoinSplit at_start at_end l (operand ys) seen left middle right) (sym one.1)
+    (right_above at_start at_end seen left middle right one.0 (operand ys) (operand-longer ys more) parts low (right_is ∙ operand-right ys)))
+
+module _ (make : List Node → Node) (at_start at_end : Bool) (xs ys : List Level) (first : List Node) where
   -- ---- levels
 
   -- nothing is built yet
-  pub join_start : JoinBelow make at_start at_end xs ys [] 0 xs [] ys
+  pub join_start : JoinBelow make at_start at_end xs first ys [] 0 xs first ys
   join_start = λ top work joined.
       let none_done : work ≡ 0 + work = omega arith in
-      subst (λ (n : ℕ). IsJoin make at_start at_end xs [] ys top n) none_done joined
+      subst (λ (n : ℕ). IsJoin make at_start at_end xs first ys top n) none_done joined
 
   pub join_step : (levels : List Level) (done : ℕ) (rest_x rest_y : List Level) (carry left middle right parents : List Node) →
-      JoinBelow make at_start at_end xs ys levels done rest_x carry rest_y →
+      JoinBelow make at_start at_end xs first ys levels done rest_x carry rest_y →
       IsJoinSplit at_start at_end rest_x rest_y (between rest_x carry rest_y) left middle right → AreParents make middle parents →
-      JoinBelow make at_start at_end xs ys (levels ++ record { left = left; right = right } ∷ []) (done + length parents) (above rest_x) parents (above rest_y)
+      JoinBelow make at_start at_end xs first ys (levels ++ record { left = left; right = right } ∷ []) (done + length parents) (above rest_x) parents (above rest_y)
   join_step levels done rest_x rest_y carry left middle right parents h split made =
       let level : Level = record { left = left; right = right } in
       λ top work joined.
@@ -72,19 +84,25 @@ module _ (make : List Node → Node) (at_start at_end : Bool) (xs ys : List Leve
       subst (λ (l : List Node). IsJoin make at_start at_end (above rest_x) l (above rest_y) top work) made.2 joined in
       let len = ap length made.2 in
       let sum : done + (length made.0 + work) ≡ (done + length parents) + work = omega (arith, length-map made.0 make) in
-      subst (λ (n : ℕ). IsJoin make at_start at_end xs [] ys ((levels ++ level ∷ []) ++ top) n) sum
-      (subst (λ (l : List Level). IsJoin make at_start at_end xs [] ys l (done + (length made.0 + work))) (sym (append_assoc levels (level ∷ []) top))
+      subst (λ (n : ℕ). IsJoin make at_start at_end xs first ys ((levels ++ level ∷ []) ++ top) n) sum
+      (subst (λ (l : List Level). IsJoin make at_start at_end xs first ys l (done + (length made.0 + work))) (sym (append_assoc levels (level ∷ []) top))
       (h (level ∷ top) (length made.0 + work) (step split made.1 rest)))
 
   -- where neither operand has levels above, all nodes are in sight
-  pub join_top : (levels : List Level) (done : ℕ) (rest_x rest_y : List Level) (carry : List Node) → 0 < length rest_x → 0 < length rest_y →
-      ¬ (1 < length rest_x) → ¬ (1 < length rest_y) → JoinBelow make at_start at_end xs ys levels done rest_x carry rest_y → (top : List Level) (work : ℕ) →
-      IsCanonicalBy make at_start at_end (between rest_x carry rest_y) top work → IsJoin make at_start at_end xs [] ys (levels ++ top) (done + work)
-  join_top levels done [] rest_y carry some_x some_y one_x one_y h = absurd (omega arith)
-  join_top levels done (x ∷ next ∷ rest_x) rest_y carry some_x some_y one_x one_y h = absurd (one_x (omega arith))
-  join_top levels done (x ∷ []) [] carry some_x some_y one_x one_y h = absurd (omega arith)
-  join_top levels done (x ∷ []) (y ∷ next ∷ rest_y) carry some_x some_y one_x one_y h = absurd (one_y (omega arith))
-  join_top levels done (x ∷ []) (y ∷ []) carry some_x some_y one_x one_y h = λ top work canonical. h top work (all_in_sight canonical)
+  pub join_all : (levels : List Level) (done : ℕ) (x : Level) (rest_y : List Level) (carry : List Node) → 0 < length rest_y →
+      ¬ (1 < length rest_y) → JoinBelow make at_start at_end xs first ys levels done (x ∷ []) carry rest_y → (top : List Level) (work : ℕ) →
+      IsCanonicalBy make at_start at_end (between (x ∷ []) carry rest_y) top work → IsJoin make at_start at_end xs first ys (levels ++ top) (done + work)
+  join_all levels done x [] carry some_y one_y h = absurd (omega arith)
+  join_all levels done x (y ∷ next ∷ rest_y) carry some_y one_y h = absurd (one_y (omega arith))
+  join_all levels done x (y ∷ []) carry some_y one_y h = λ top work canonical. h top work (all_in_sight canonical)
+
+-- a left operand's levels joined in place: the lowest have other right nodes, and the others are the join of what is left
+pub joined_in_place : (make : List Node → Node) (at_start at_end : Bool) (xs ys rest_y : List Level) (lists : List (List Node)) (carry : List Node) (others changed : List Level) (done work : ℕ) →
+    JoinBelow make at_start at_end xs [] ys (lowest_with lists xs) done (drop (length lists) xs) carry rest_y → length lists ≤ length xs →
+    changed ≡ take (length lists) xs ++ others → IsJoin make at_start at_end (drop (length lists) xs) carry rest_y others work →
+    IsJoin make at_start at_end xs [] ys (put lists changed) (done + work)
+joined_in_place make at_start at_end xs ys rest_y lists carry others changed done work below within changed_is joined =
+    subst (λ (l : List Level). IsJoin make at_start at_end xs [] ys l (done + work)) (sym (ap (put lists) changed_is ∙ put-in_front lists xs others within)) (below others work joined)
 
 -- ---- what is joined is well formed
 
@@ -103,7 +121,7 @@ module _ (hash : List Node → List ℕ) (at_start at_end : Bool) (xs ys levels 
 
 -- two subtrees that a mark doesn't stand between
 module _ (front back : Subtree) (x : IsWellFormed front) (y : IsWellFormed back) (no_end : front.at_end ≡ false) (no_start : back.at_start ≡ false) where
-  operands : AreOperands front.at_start back.at_end front.levels back.levels
+  pub operands : AreOperands front.at_start back.at_end front.levels back.levels
   operands = record {
     sides_x = subst (λ (e : Bool). HaveSides front.at_start e front.levels) no_end (well_formed_sides front.at_start front.at_end front.levels x);
     sides_y = subst (λ (s : Bool). HaveSides s back.at_end back.levels) no_start (well_formed_sides back.at_start back.at_end back.levels y);
@@ -122,6 +140,15 @@ module _ (front back : Subtree) (x : IsWellFormed front) (y : IsWellFormed back)
 
     pub merged_well_formed : IsWellFormed (record { at_start = front.at_start; at_end = back.at_end; levels = levels })
     merged_well_formed = join_well_formed hash front.at_start back.at_end front.levels back.levels levels work joined operands
+
+    pub merged_stored : (size : ℕ) → size ≡ levels_size front.levels + levels_size back.levels → size < 2 ^ 64 → node_count front.levels + node_count back.levels < 2 ^ 64 →
+        IsStored front.at_start back.at_end levels size
+    merged_stored size size_is fits few = record {
+      well_formed = merged_well_formed;
+      size_is = size_is ∙ sym merged_size;
+      fits = fits;
+      few = let count = join_count (parent_by hash) front.at_start back.at_end joined in omega arith;
+    }
 
     pub merged_by : IsMergedBy (parent_by hash) work front back (record { at_start = front.at_start; at_end = back.at_end; levels = levels })
     merged_by = record {

@@ -258,21 +258,26 @@ module _ (front : List Node) (has_cut ends_stable : Bool) (since : ℕ) (node : 
       let is_gap = gap_from since (omega arith) (omega arith) in
       (and_from (is_cut node) (ends_stable && is_stable_gap since) new.cut (and_from ends_stable (is_stable_gap since) stable is_gap), sym len)
 
-  pub NoStable-more : completing ≡ false → NoStable front → NoStable (front ++ node ∷ [])
-  NoStable-more no_new none left right e stable = elim (push_place front node left right e stable) [
-    | inl old ↦ none left old.rest old.parts old.stable
-    | inr new ↦ false≢true (sym no_new ∙ (new_place left new).0)
+  -- where it isn't, each stable place was there before
+  pub place_before : completing ≡ false → (left right : List Node) → front ++ node ∷ [] ≡ left ++ right → IsStable left right →
+      (rest : List Node) × (front ≡ left ++ rest) × IsStable left rest
+  place_before no_new left right e stable = elim (push_place front node left right e stable) [
+    | inl old ↦ (old.rest, old.parts, old.stable)
+    | inr new ↦ absurd (false≢true (sym no_new ∙ (new_place left new).0))
   ]
+
+  pub NoStable-more : completing ≡ false → NoStable front → NoStable (front ++ node ∷ [])
+  NoStable-more no_new none left right e stable =
+      let before = place_before no_new left right e stable in
+      none left before.0 before.1 before.2
 
   pub IsLastStable-more : (left right : List Node) → completing ≡ false → front ≡ left ++ right → IsLastStable left right → IsLastStable left (right ++ node ∷ [])
   IsLastStable-more left right no_new e last = record {
     stable = record { ends = last.stable.ends; begins = BeginsStable-append right (node ∷ []) last.stable.begins };
     last = λ l r p stable.
         let whole : front ++ node ∷ [] ≡ l ++ r = ap (λ (m : List Node). m ++ node ∷ []) e ∙ append_assoc left right (node ∷ []) ∙ p in
-        elim (push_place front node l r whole stable) [
-          | inl old ↦ last.last l old.rest (sym e ∙ old.parts) old.stable
-          | inr new ↦ absurd (false≢true (sym no_new ∙ (new_place l new).0))
-        ];
+        let before = place_before no_new l r whole stable in
+        last.last l before.0 (sym e ∙ before.1) before.2;
   }
 
   stable_new : completing ≡ true → IsStable h.head (h.tail ++ node ∷ [])

@@ -1,5 +1,5 @@
 -- Levels of a canonical subtree and of a join while they are built, and what is stored of a subtree.
-use Rattle.std.specs.Prelude.{◌≡◌, ℕ, ◌+◌, ◌^◌, ◌<◌, Bool, false, List, [], ◌++◌, length}
+use Rattle.std.specs.Prelude.{◌≡◌, ℕ, ◌+◌, ◌^◌, ◌<◌, Bool, false, List, ◌++◌, length}
 use Rattle.xet_merkle.specs.Groups.{Node}
 use Rattle.xet_merkle.specs.Levels.{Level, top_nodes, node_count, levels_size}
 use Rattle.xet_merkle.specs.Canonical.{IsCanonicalBy}
@@ -18,10 +18,11 @@ abbrev pub StandBelow : (List Node → Node) → Bool → Bool → List Node →
 StandBelow make at_start at_end all levels done nodes = (top : List Level) (work : ℕ) →
     IsCanonicalBy make at_start at_end nodes top work → IsCanonicalBy make at_start at_end all (levels ++ top) (done + work)
 
--- levels below what is left of two operands, joined, and the work that is done, make it the join of the operands
-abbrev pub JoinBelow : (List Node → Node) → Bool → Bool → List Level → List Level → List Level → ℕ → List Level → List Node → List Level → Type 0
-JoinBelow make at_start at_end xs ys levels done rest_x carry rest_y = (top : List Level) (work : ℕ) →
-    IsJoin make at_start at_end rest_x carry rest_y top work → IsJoin make at_start at_end xs [] ys (levels ++ top) (done + work)
+-- levels below what is left of two operands, and of the nodes carried between them, and the work that is done, make
+-- it the join of the operands
+abbrev pub JoinBelow : (List Node → Node) → Bool → Bool → List Level → List Node → List Level → List Level → ℕ → List Level → List Node → List Level → Type 0
+JoinBelow make at_start at_end xs carry ys levels done rest_x rest rest_y = (top : List Level) (work : ℕ) →
+    IsJoin make at_start at_end rest_x rest rest_y top work → IsJoin make at_start at_end xs carry ys (levels ++ top) (done + work)
 
 -- what a subtree stores beside its marks: levels, and the sum of the sizes, which fits 64 bits, as the number of
 -- nodes does

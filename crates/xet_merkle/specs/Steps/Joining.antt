@@ -4,7 +4,7 @@ use Rattle.std.specs.Prelude.{◌≡◌, ℕ, ◌+◌, ◌⊎◌, Bool, true, fa
 use Rattle.xet_merkle.specs.Groups.{Node, Cut, Groups}
 use Rattle.xet_merkle.specs.StablePoints.{NoStable, IsFirstStable, IsLastStable}
 use Rattle.xet_merkle.specs.Levels.{Level, no_level}
-use Rattle.xet_merkle.specs.Canonical.{IsCanonicalBy}
+use Rattle.xet_merkle.specs.Canonical.{IsSplit, IsCanonicalBy}
 use Rattle.xet_merkle.specs.WellFormed.{IsLeftSide, IsRightSide}
 
 -- what may stay on the left, and on the right, below the top under a mark: nothing where there is one
@@ -57,6 +57,10 @@ abbrev pub IsLowBefore : Bool → List Node → List Node → Type 0
 IsLowBefore true left middle = left ≡ []
 IsLowBefore false left middle = IsFirstStable left middle ⊎ ((middle ≡ []) × NoStable left)
 
+-- nodes have no split under marks
+abbrev pub NoSplit : Bool → Bool → List Node → Type 0
+NoSplit at_start at_end nodes = (left middle right : List Node) → ¬ (IsSplit at_start at_end nodes left middle right)
+
 -- of the nodes in sight between two operands, what is collapsed; and what stays on either side. An operand
 -- that has levels above keeps its outer side.
 pub data IsJoinSplit (at_start at_end : Bool) : List Level → List Level → List Node → List Node → List Node → List Node → Type 0 where
@@ -71,12 +75,30 @@ pub data IsJoinSplit (at_start at_end : Bool) : List Level → List Level → Li
       IsJoinSplit at_start at_end (x ∷ []) (y ∷ next_y ∷ ys) seen left middle right
 
 -- the levels that two operands, and nodes carried between them, are joined to, and the work: how many
--- parents are made. Where neither operand has levels above, all nodes are in sight.
+-- parents are made. Where neither operand has levels above, all nodes are in sight. Where the end isn't marked and
+-- no split comes up among them that the left operand hadn't, they are the top.
 pub data IsJoin (make : List Node → Node) (at_start at_end : Bool) : List Level → List Node → List Level → List Level → ℕ → Type 0 where
   all_in_sight : {x y : Level} {carry : List Node} {levels : List Level} {work : ℕ} →
       IsCanonicalBy make at_start at_end (between (x ∷ []) carry (y ∷ [])) levels work →
       IsJoin make at_start at_end (x ∷ []) carry (y ∷ []) levels work
+  appended : {x y : Level} {carry : List Node} → at_end ≡ false →
+      (NoSplit at_start false x.left → NoSplit at_start false (between (x ∷ []) carry (y ∷ []))) →
+      IsJoin make at_start at_end (x ∷ []) carry (y ∷ []) (record { left = between (x ∷ []) carry (y ∷ []); right = [] } ∷ []) 0
   step : {xs ys levels : List Level} {carry left middle right : List Node} {groups : List (List Node)} {work : ℕ} →
       IsJoinSplit at_start at_end xs ys (between xs carry ys) left middle right → Groups middle groups →
       IsJoin make at_start at_end (above xs) (map make groups) (above ys) levels work →
       IsJoin make at_start at_end xs carry ys (record { left = left; right = right } ∷ levels) (length groups + work)
+
+-- ---- in place
+
+-- the lowest of some levels, as many as there are lists, each with other right nodes
+abbrev pub lowest_with : List (List Node) → List Level → List Level
+lowest_with [] levels = []
+lowest_with (right ∷ rights) [] = []
+lowest_with (right ∷ rights) (level ∷ levels) = record { left = level.left; right = right } ∷ lowest_with rights levels
+
+-- the levels of a left operand with more nodes behind those of its first level towards the right one
+abbrev pub with_inner : List Level → List Node → List Level
+with_inner [] more = []
+with_inner (top ∷ []) more = record { left = top.left ++ more; right = top.right } ∷ []
+with_inner (level ∷ next ∷ levels) more = record { left = level.left; right = level.right ++ more } ∷ next ∷ levels

@@ -1,15 +1,24 @@
 //! Joining two subtrees of adjacent ranges from what they keep of each level, from the chunks up.
+//!
+//! The left operand's levels are changed in place, and only where there is a change: below its top each level keeps its
+//! left nodes, and above the first level at which nothing is collapsed all levels stay. What takes memory is made
+//! before anything is changed.
 
-ghost use Rattle.std.specs.Prelude.{◌≡◌, ◌+◌, ◌^◌, ◌<◌, ◌≤◌, ◌⊎◌, List, [], length, take, drop, IfOk};
-ghost use Rattle.xet_merkle.specs.Roots.{parent_by};
-ghost use Rattle.xet_merkle.specs.Levels.{levels_size, node_count};
-ghost use Rattle.xet_merkle.specs.Steps.Joining.{operand, between, IsHighBehind, IsLowBefore, IsJoinSplit, IsJoin};
+ghost use Rattle.std.specs.Prelude.{◌≡◌, ℕ, ◌+◌, ◌^◌, ◌<◌, ◌≤◌, Bool, false, List, [], ◌∷◌, ◌++◌, length, map, take, drop, IfOk, IfErr, IsTrue};
+ghost use Rattle.xet_merkle.specs.Groups.{Node};
+ghost use Rattle.xet_merkle.specs.Roots.{total_size, parent_by};
+ghost use Rattle.xet_merkle.specs.Levels.{Level, left_at, levels_size, node_count};
+ghost use Rattle.xet_merkle.specs.Steps.StableScan.{AddsNoStable};
+ghost use Rattle.xet_merkle.specs.Steps.Joining.{HaveSides, operand, inner_nodes, between, with_inner, lowest_with, IsHighBehind, IsLowBefore, IsJoinSplit, IsJoin};
+ghost use Rattle.xet_merkle.specs.Steps.Building.{JoinBelow};
 
 use super::collapse::{collapse, collapse_middle};
-use super::levels::{LevelNodes, above, inner, left_at, right_at};
+use super::levels::{
+    LevelNodes, above, extend_inner, inner, left_at, replace_rights, replace_top, right_at,
+};
 use super::split::Split;
-use super::stable_points::{find_stable_start, last_stable};
-use crate::aggregated_hashes::Node;
+use super::stable_points::{adds_no_stable, find_stable_start, last_stable};
+use crate::aggregated_hashes::{Node, parents};
 use crate::parent_maker::ParentMaker;
 use std::alloc::{AllocError, Allocator};
 
@@ -37,40 +46,6 @@ fn low_end_before(nodes: &[Node], at_start: bool) -> usize
     }
 }
 
-// Of the nodes in sight between two operands, of which one has levels above, what is collapsed.
-fn join_split<'a, A: Allocator>(
-    front: &'a [LevelNodes<A>],
-    seen: &'a [Node],
-    back: &'a [LevelNodes<A>],
-    at_start: bool,
-    at_end: bool,
-) -> Split<'a>
-    requires { (1 < length front.now) ⊎ (1 < length back.now) }
-    ensures { IsJoinSplit at_start at_end (operand front.now) (operand back.now) seen.now result.left.now result.middle.now result.right.now }
-{
-    if front.len() <= 1 {
-        let (left, middle) = seen.split_at(low_end_before(seen, at_start));
-        Split {
-            left,
-            middle,
-            right: right_at(back, 0),
-        }
-    } else if back.len() <= 1 {
-        let (middle, right) = seen.split_at(high_end_behind(seen, at_end));
-        Split {
-            left: left_at(front, 0),
-            middle,
-            right,
-        }
-    } else {
-        Split {
-            left: left_at(front, 0),
-            middle: seen,
-            right: right_at(back, 0),
-        }
-    }
-}
-
 // The nodes in sight between two operands.
 fn in_sight<A: Allocator>(
     alloc: A,
@@ -87,33 +62,180 @@ fn in_sight<A: Allocator>(
     Ok(seen)
 }
 
-// The levels that two operands are joined to.
-pub(super) fn join<A: Allocator + Clone, P: ParentMaker>(
-    alloc: A,
+// Of the nodes in sight at a level of a left operand that has levels above, what is collapsed, and what stays on the
+// right.
+fn split_behind<'a, A: Allocator>(
+    seen: &'a [Node],
+    back: &'a [LevelNodes<A>],
+    at_end: bool,
+) -> (&'a [Node], &'a [Node])
+    ensures { (at_start : Bool) (front : List Level) → 1 < length front →
+        IsJoinSplit at_start at_end front (operand back.now) seen.now (left_at front 0) result.0.now result.1.now }
+{
+    if back.len() > 1 {
+        (seen, right_at(back, 0))
+    } else {
+        seen.split_at(high_end_behind(seen, at_end))
+    }
+}
+
+// Whether the nodes carried, and those of the right operand, only go behind what the left operand has of a level: the
+// end isn't marked, the right operand has no levels above, and no stable point comes up.
+fn only_appends<A: Allocator>(
     front: &[LevelNodes<A>],
+    carry: &[Node],
+    back: &[LevelNodes<A>],
+    at_end: bool,
+) -> bool
+    ensures { IsTrue result → (at_end ≡ false) × (length back.now ≤ 1) × AddsNoStable (inner_nodes (operand front.now)) (carry.now ++ left_at back.now 0) }
+{
+    !at_end && back.len() <= 1 && adds_no_stable(inner(front), carry, left_at(back, 0))
+}
+
+// What was made below a left operand's top, or below the level from which on nothing is collapsed.
+struct Lower<'a, A: Allocator> {
+    // The right nodes of each level. It keeps its left ones.
+    rights: Vec<Vec<Node, A>, A>,
+    // The parents of what was collapsed of the last one.
+    carry: Vec<Node, A>,
+    // The right operand's levels above them.
+    back: &'a [LevelNodes<A>],
+    // Whether from here on nothing is collapsed.
+    appends: bool,
+}
+
+// Joins the levels of a left operand below its top, as far as something is collapsed.
+fn join_lower<'a, A: Allocator + Clone, P: ParentMaker>(
+    alloc: A,
+    levels: &[LevelNodes<A>],
+    other: &'a [LevelNodes<A>],
+    at_end: bool,
+    maker: &mut P,
+) -> Result<Lower<'a, A>, AllocError>
+    requires some { 0 < length levels.now }
+    requires some_other { 0 < length other.now }
+    requires fits { levels_size levels.now + levels_size other.now < 2 ^ 64 }
+    requires none_made { P.count maker.old ≡ 0 }
+    requires room { (node_count levels.now + length levels.now) + (node_count other.now + length other.now) ≤ 2 ^ 99 }
+    ensures within { IfOk result (λ lower. length lower.rights.items < length levels.now) }
+    ensures joins { IfOk result (λ lower. (at_start : Bool) →
+        JoinBelow (parent_by P.hash_of) at_start at_end levels.now [] other.now (lowest_with (map (λ right. right.items) lower.rights.items) levels.now) (P.count maker.new)
+        (drop (length lower.rights.items) levels.now) lower.carry.items (operand lower.back.now)) }
+    ensures appends { IfOk result (λ lower. IsTrue lower.appends → (at_end ≡ false) × (length lower.back.now ≤ 1)
+        × AddsNoStable (inner_nodes (drop (length lower.rights.items) levels.now)) (lower.carry.items ++ left_at lower.back.now 0)) }
+    ensures top { IfOk result (λ lower. lower.appends ≡ false → length levels.now ≡ length lower.rights.items + 1) }
+    ensures fits { IfOk result (λ lower.
+        levels_size (drop (length lower.rights.items) levels.now) + (total_size lower.carry.items + levels_size (operand lower.back.now)) < 2 ^ 64) }
+    ensures room { IfOk result (λ lower. P.count maker.new + (length lower.carry.items
+        + ((node_count (drop (length lower.rights.items) levels.now) + length (drop (length lower.rights.items) levels.now)) + (node_count (operand lower.back.now) + length (operand lower.back.now)))) ≤ 2 ^ 99) }
+{
+    let mut rights = Vec::new(alloc.clone()?);
+    let mut carry = Vec::new(alloc.clone()?);
+    let mut front = levels;
+    let mut back = other;
+    let mut appends = only_appends(front, &carry, back, at_end);
+    'levels: while !appends && front.len() > 1 {
+        let seen = in_sight(alloc.clone()?, front, &carry, back)?;
+        let (middle, right) = split_behind(&seen, back, at_end);
+        rights.push(right.to_vec(alloc.clone()?)?)?;
+        carry = parents(alloc.clone()?, middle, maker)?;
+        front = above(front);
+        back = above(back);
+        appends = only_appends(front, &carry, back, at_end);
+    }
+    Ok(Lower {
+        rights,
+        carry,
+        back,
+        appends,
+    })
+}
+
+// The levels in place of a left operand's top.
+fn join_top<A: Allocator + Clone, P: ParentMaker>(
+    alloc: A,
+    top: &[LevelNodes<A>],
+    carry: Vec<Node, A>,
     back: &[LevelNodes<A>],
     at_start: bool,
     at_end: bool,
     maker: &mut P,
 ) -> Result<Vec<LevelNodes<A>, A>, AllocError>
-    requires some_front { 0 < length front.now }
-    requires some_back { 0 < length back.now }
-    requires fits { levels_size front.now + levels_size back.now < 2 ^ 64 }
-    requires none_made { P.count maker.old ≡ 0 }
-    requires room { (node_count front.now + length front.now) + (node_count back.now + length back.now) ≤ 2 ^ 99 }
-    ensures { IfOk result (λ levels. IsJoin (parent_by P.hash_of) at_start at_end front.now [] back.now levels.items (P.count maker.new)) }
+    requires one { length top.now ≤ 1 }
+    requires fits { levels_size (operand top.now) + (total_size carry.items + levels_size (operand back.now)) < 2 ^ 64 }
+    requires room { P.count maker.old + (length carry.items + ((node_count (operand top.now) + length (operand top.now)) + (node_count (operand back.now) + length (operand back.now)))) ≤ 2 ^ 99 }
+    ensures { IfOk result (λ levels. (work : ℕ) × IsJoin (parent_by P.hash_of) at_start at_end (operand top.now) carry.items (operand back.now) levels.items work
+        × (P.count maker.new ≡ P.count maker.old + work)) }
 {
     let mut levels = Vec::new(alloc.clone()?);
-    let mut carry = Vec::new(alloc.clone()?);
-    let mut front = front;
+    let mut front = top;
+    let mut carry = carry;
     let mut back = back;
-    'joining: while front.len() > 1 || back.len() > 1 {
+    'levels: while back.len() > 1 {
         let seen = in_sight(alloc.clone()?, front, &carry, back)?;
-        let split = join_split(front, &seen, back, at_start, at_end);
+        let (left, middle) = seen.split_at(low_end_before(&seen, at_start));
+        let right = right_at(back, 0);
+        let split = Split {
+            left,
+            middle,
+            right,
+        };
         (levels, carry) = collapse_middle(alloc.clone()?, levels, split, maker)?;
-        front = above(front);
+        front = &[];
         back = above(back);
     }
     let nodes = in_sight(alloc.clone()?, front, &carry, back)?;
     Ok(collapse(alloc, levels, nodes, at_start, at_end, maker)?)
+}
+
+// Puts the nodes carried, and those of a right operand, behind what a left operand has of a level.
+fn append<A: Allocator>(
+    levels: &mut Vec<LevelNodes<A>, A>,
+    at: usize,
+    carry: &mut Vec<Node, A>,
+    other: &[Node],
+) -> Result<(), AllocError>
+    requires { at < length levels.old.items }
+    ensures extended { IfOk result (λ _. levels.new.items ≡ take at levels.old.items ++ with_inner (drop at levels.old.items) (carry.old.items ++ other.now)) }
+    ensures unchanged { IfErr result (λ _. levels.new.items ≡ levels.old.items) }
+{
+    if carry.is_empty() {
+        return extend_inner(levels, at, other);
+    }
+    carry.extend_from_slice(other)?;
+    extend_inner(levels, at, carry)
+}
+
+// Joins the levels of a right operand to those of a left one, which are as they were where memory is refused.
+pub(super) fn join<A: Allocator + Clone, P: ParentMaker>(
+    levels: &mut Vec<LevelNodes<A>, A>,
+    other: &[LevelNodes<A>],
+    at_start: bool,
+    at_end: bool,
+    maker: &mut P,
+) -> Result<(), AllocError>
+    requires sides { HaveSides at_start false levels.old.items }
+    requires some_other { 0 < length other.now }
+    requires fits { levels_size levels.old.items + levels_size other.now < 2 ^ 64 }
+    requires none_made { P.count maker.old ≡ 0 }
+    requires room { (node_count levels.old.items + length levels.old.items) + (node_count other.now + length other.now) ≤ 2 ^ 99 }
+    ensures joined { IfOk result (λ _. IsJoin (parent_by P.hash_of) at_start at_end levels.old.items [] other.now levels.new.items (P.count maker.new)) }
+    ensures unchanged { IfErr result (λ _. levels.new.items ≡ levels.old.items) }
+{
+    let alloc = levels.allocator().clone()?;
+    let Lower {
+        rights,
+        mut carry,
+        back,
+        appends,
+    } = join_lower(alloc.clone()?, levels, other, at_end, maker)?;
+    let at = rights.len();
+    if appends {
+        append(levels, at, &mut carry, left_at(back, 0))?;
+    } else {
+        let tops = join_top(alloc, &levels[at..], carry, back, at_start, at_end, maker)?;
+        replace_top(levels, tops)?;
+    }
+    replace_rights(levels, rights);
+    Ok(())
 }

@@ -1,10 +1,10 @@
 //! What is kept of the levels of a subtree, from the chunks up.
 
-ghost use Rattle.std.specs.Prelude.{◌≡◌, ◌^◌, ◌<◌, ◌-◌, List, ◌∷◌, ◌++◌, [], length, IfOk, SomeIff};
+ghost use Rattle.std.specs.Prelude.{◌≡◌, ◌^◌, ◌<◌, ◌≤◌, ◌-◌, List, ◌∷◌, ◌++◌, [], length, map, take, drop, IfOk, IfErr, SomeIff};
 ghost use Rattle.xet_merkle.specs.Levels.{Level, left_at, right_at, top_of, below_top, node_count};
 ghost use Rattle.xet_merkle.specs.Subtree.{same_level};
 ghost use Rattle.xet_merkle.specs.Steps.SubtreeEquality.{same_level-per, same_level-equiv};
-ghost use Rattle.xet_merkle.specs.Steps.Joining.{operand, above, inner_nodes};
+ghost use Rattle.xet_merkle.specs.Steps.Joining.{operand, inner_nodes, with_inner, lowest_with};
 
 use crate::aggregated_hashes::Node;
 use std::alloc::{AllocError, Allocator};
@@ -155,13 +155,60 @@ pub(super) fn inner<A: Allocator>(levels: &[LevelNodes<A>]) -> &[Node]
     }
 }
 
-// An operand's levels above the first, and none above the top.
+// All levels but the first.
 pub(super) fn above<A: Allocator>(levels: &[LevelNodes<A>]) -> &[LevelNodes<A>]
-    ensures above { operand result.now ≡ above (operand levels.now) }
-    ensures len { length result.now ≡ length levels.now - 1 }
+    ensures { result.now ≡ drop 1 levels.now }
 {
     match levels {
         [_, above @ ..] => above,
         [] => levels,
+    }
+}
+
+// Puts nodes behind those that a left operand has of a level towards the right one.
+pub(super) fn extend_inner<A: Allocator>(
+    levels: &mut Vec<LevelNodes<A>, A>,
+    at: usize,
+    more: &[Node],
+) -> Result<(), AllocError>
+    requires { at < length levels.old.items }
+    ensures extended { IfOk result (λ _. levels.new.items ≡ take at levels.old.items ++ with_inner (drop at levels.old.items) more.now) }
+    ensures unchanged { IfErr result (λ _. levels.new.items ≡ levels.old.items) }
+{
+    if at + 1 == levels.len() {
+        levels[at].left.extend_from_slice(more)?;
+    } else {
+        levels[at].right.extend_from_slice(more)?;
+    }
+    Ok(())
+}
+
+// Puts levels in the place of the top.
+pub(super) fn replace_top<A: Allocator>(
+    levels: &mut Vec<LevelNodes<A>, A>,
+    tops: Vec<LevelNodes<A>, A>,
+) -> Result<(), AllocError>
+    requires { 0 < length levels.old.items }
+    ensures replaced { IfOk result (λ _. levels.new.items ≡ take (length levels.old.items - 1) levels.old.items ++ tops.items) }
+    ensures unchanged { IfErr result (λ _. levels.new.items ≡ levels.old.items) }
+{
+    let top = levels.len() - 1;
+    let mut tops = tops;
+    levels.append(&mut tops)?;
+    levels.remove(top);
+    Ok(())
+}
+
+// Gives the lowest levels other right nodes.
+pub(super) fn replace_rights<A: Allocator>(
+    levels: &mut Vec<LevelNodes<A>, A>,
+    rights: Vec<Vec<Node, A>, A>,
+)
+    requires { length rights.items ≤ length levels.old.items }
+    ensures { levels.new.items ≡ lowest_with (map (λ right. right.items) rights.items) levels.old.items ++ drop (length rights.items) levels.old.items }
+{
+    let mut rights = rights;
+    'rights: while let Some(right) = rights.pop() {
+        levels[rights.len()].right = right;
     }
 }

@@ -1,11 +1,11 @@
 //! The stable points of a list of nodes: places at which groups end, whatever nodes stand before and
 //! after the list.
 
-ghost use Rattle.std.specs.Prelude.{◌≡◌, ◌<◌, ◌≤◌, ◌↔◌, List, ◌++◌, true, false, length, take, drop, IfSome, IfNone, IsTrue};
+ghost use Rattle.std.specs.Prelude.{◌≡◌, ◌+◌, ◌<◌, ◌≤◌, ◌↔◌, List, ◌++◌, true, false, length, take, drop, IfSome, IfNone, IsTrue};
 ghost use Rattle.xet_merkle.specs.Groups.{Node};
 ghost use Rattle.xet_merkle.specs.StablePoints.{EndsStable, NoStable, IsFirstStable, IsLastStable, IsGroupBoundary};
 ghost use Rattle.xet_merkle.specs.Steps.Scan.{is_stable_gap};
-ghost use Rattle.xet_merkle.specs.Steps.StableScan.{completes, next_scan, IsFront};
+ghost use Rattle.xet_merkle.specs.Steps.StableScan.{completes, next_scan, IsFront, scan_behind, completes_none, AddsNoStable};
 
 use crate::aggregated_hashes::{Node, is_natural_cut};
 
@@ -66,6 +66,35 @@ impl CutScan {
             self.since_cut += 1;
         }
     }
+
+    // Passes some nodes: whether none of them is the third natural cut of a stable point.
+    fn pass_all(&mut self, nodes: &[Node]) -> bool
+        requires { self.old.since_cut + length nodes.now < usize.MAX }
+        ensures scan { self.new ≡ scan_behind self.old nodes.now }
+        ensures none { result ≡ completes_none self.old nodes.now }
+    {
+        let mut none = true;
+        'nodes: for i in 0..nodes.len() {
+            let is_cut = is_natural_cut(&nodes[i]);
+            none = none && !self.completes(is_cut);
+            self.pass(is_cut);
+        }
+        none
+    }
+}
+
+// A stable point's third natural cut stands at most so many nodes behind its first one.
+const LOOK_BACK: usize = 14;
+
+// Whether nodes bring up no stable point where they are put behind others, in two parts. Of the others only the last
+// few are looked at.
+pub(super) fn adds_no_stable(nodes: &[Node], first: &[Node], second: &[Node]) -> bool
+    ensures { IsTrue result → AddsNoStable nodes.now (first.now ++ second.now) }
+{
+    let (_, near) = nodes.split_at(nodes.len().saturating_sub(LOOK_BACK));
+    let mut scan = CutScan::new(true);
+    let _ = scan.pass_all(near);
+    scan.pass_all(first) && scan.pass_all(second)
 }
 
 // Whether some nodes end with a natural cut that stands 3 to 7 nodes after the natural cut before it.

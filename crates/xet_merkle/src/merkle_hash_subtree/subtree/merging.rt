@@ -108,17 +108,20 @@ impl<A: Allocator + Clone> MerkleHashSubtree<A> {
         let Some(size) = self.total_size().checked_add(other.total_size()) else {
             return Err(CoreError::SizeOverflow);
         };
+        // So many nodes as pass `usize::MAX` are in no memory.
+        let Some(_nodes) = self.num_nodes().checked_add(other.num_nodes()) else {
+            return Err(CoreError::OutOfMemory);
+        };
         let (at_start, at_end) = (self.at_start(), other.at_end());
-        let alloc = self.levels.allocator().clone()?;
-        let levels = join(
-            alloc,
-            self.levels(),
+        join(
+            &mut self.levels,
             other.levels(),
             at_start,
             at_end,
             &mut maker,
         )?;
-        *self = Self::from_levels(levels, at_start, at_end, size)?;
+        self.at_end = at_end;
+        self.total_size = size;
         Ok(maker)
     }
 

@@ -1,57 +1,54 @@
-use Rattle.std.proofs.Common.{◌≡◌, ◌+◌, arith, ap, length, false, [], sym, subst, ◌∙◌, rules}
+use Rattle.std.proofs.Common.{◌≡◌, ◌+◌, ◌<◌, ◌^◌, arith, ap, false, [], sym, subst, rules}
 use Rattle.xet_merkle.specs.Roots.{parent_by}
-use Rattle.xet_merkle.specs.Levels.{levels_size}
-use Rattle.xet_merkle.specs.Merging.{IsMergedBy}
+use Rattle.xet_merkle.specs.Levels.{node_count, levels_size}
 use Rattle.xet_merkle.specs.Subtree.{Subtree}
+use Rattle.xet_merkle.specs.WellFormed.{IsWellFormed}
 use Rattle.xet_merkle.specs.Steps.Joining.{IsJoin}
 use Rattle.xet_merkle.proofs.Merging.Bounds.{join_work}
-use Rattle.xet_merkle.proofs.Merging.LevelByLevel.{merged_size, merged_well_formed, merged_by, operands_short}
+use Rattle.xet_merkle.proofs.Merging.LevelByLevel.{operands, merged_stored, merged_by}
 use Rattle.xet_merkle.proofs.merkle_hash_subtree.subtree.MerkleHashSubtree.merge_into_by.Goals as goal
 
-pub from_levels-requires-clause-well_formed : goal.from_levels-requires-clause-well_formed
-from_levels-requires-clause-well_formed g c =
+pub join-requires-clause-sides : goal.join-requires-clause-sides
+join-requires-clause-sides g c =
     let no_end : c.args.self.now.at_end ≡ false = search rules in
     let no_start : c.args.other.now.at_start ≡ false = search rules in
-    let joined : IsJoin (parent_by g.P.ParentMaker.hash_of) c.args.self.now.at_start c.args.other.now.at_end c.args.self.now.levels [] c.args.other.now.levels c.in_ok-levels.levels.items (g.P.ParentMaker.count c.join.new.maker) =
-    rw (sym c.at_start-at_start.ensures, sym c.at_end-at_end.ensures, sym c.levels.ensures.levels, sym c.levels-2.ensures.levels) c.in_ok-levels.ensures in
-    rw (c.at_start-at_start.ensures, c.at_end-at_end.ensures) (merged_well_formed c.args.self.now c.args.other.now c.levels.ensures.well_formed c.levels-2.ensures.well_formed no_end no_start g.P.ParentMaker.hash_of c.in_ok-levels.levels.items (g.P.ParentMaker.count c.join.new.maker) joined)
+    let sides = (operands c.args.self.now c.args.other.now (subst IsWellFormed c.self.view_is c.self.invariant.well_formed) c.levels.ensures.well_formed no_end no_start).sides_x in
+    rw (c.at_start-at_start.ensures, ap (λ (s : Subtree). s.levels) c.self.view_is) sides
 
-pub from_levels-requires-clause-size : goal.from_levels-requires-clause-size
-from_levels-requires-clause-size g c =
-    let no_end : c.args.self.now.at_end ≡ false = search rules in
-    let no_start : c.args.other.now.at_start ≡ false = search rules in
-    let joined : IsJoin (parent_by g.P.ParentMaker.hash_of) c.args.self.now.at_start c.args.other.now.at_end c.args.self.now.levels [] c.args.other.now.levels c.in_ok-levels.levels.items (g.P.ParentMaker.count c.join.new.maker) =
-    rw (sym c.at_start-at_start.ensures, sym c.at_end-at_end.ensures, sym c.levels.ensures.levels, sym c.levels-2.ensures.levels) c.in_ok-levels.ensures in
-    let size : c.in-Some.size ≡ levels_size c.args.self.now.levels + levels_size c.args.other.now.levels = search rules in
-    merged_size c.args.self.now c.args.other.now c.levels.ensures.well_formed c.levels-2.ensures.well_formed no_end no_start g.P.ParentMaker.hash_of c.in_ok-levels.levels.items (g.P.ParentMaker.count c.join.new.maker) joined ∙ sym size
+pub invariant_of-self-2 : goal.invariant_of-self-2
+invariant_of-self-2 g c =
+    let front = c.args.self.now in
+    let back = c.args.other.now in
+    let no_end : front.at_end ≡ false = search rules in
+    let no_start : back.at_start ≡ false = search rules in
+    let joined : IsJoin (parent_by g.P.ParentMaker.hash_of) front.at_start back.at_end front.levels [] back.levels c.join.new.levels.items (g.P.ParentMaker.count c.join.new.maker) =
+    rw (sym c.at_start-at_start.ensures, sym c.at_end-at_end.ensures, sym (ap (λ (s : Subtree). s.levels) c.self.view_is), sym c.levels.ensures.levels) c.in_ok-join.ensures.joined in
+    let size : c.in-Some.size ≡ levels_size front.levels + levels_size back.levels = search rules in
+    let fits : c.in-Some.size < 2 ^ 64 = search rules in
+    let few : node_count front.levels + node_count back.levels < 2 ^ 64 = search rules in
+    rw (ap (λ (s : Subtree). s.at_start) c.self.view_is, c.at_end-at_end.ensures)
+    (merged_stored front back (subst IsWellFormed c.self.view_is c.self.invariant.well_formed) c.levels.ensures.well_formed no_end no_start g.P.ParentMaker.hash_of c.join.new.levels.items
+    (g.P.ParentMaker.count c.join.new.maker) joined c.in-Some.size size fits few)
 
 pub returns-clause-merged : goal.returns-clause-merged
 returns-clause-merged g c =
-    let no_end : c.args.self.now.at_end ≡ false = search rules in
-    let no_start : c.args.other.now.at_start ≡ false = search rules in
-    let joined : IsJoin (parent_by g.P.ParentMaker.hash_of) c.args.self.now.at_start c.args.other.now.at_end c.args.self.now.levels [] c.args.other.now.levels c.in_ok-levels.levels.items (g.P.ParentMaker.count c.join.new.maker) =
-    rw (sym c.at_start-at_start.ensures, sym c.at_end-at_end.ensures, sym c.levels.ensures.levels, sym c.levels-2.ensures.levels) c.in_ok-levels.ensures in
-    let value : c.in_ok-self-inside.field-0 ≡ record { at_start = c.args.self.now.at_start; at_end = c.args.other.now.at_end; levels = c.in_ok-levels.levels.items } =
-    rw (sym c.at_start-at_start.ensures, sym c.at_end-at_end.ensures) c.in_ok-self-inside.ensures in
-    subst (IsMergedBy (parent_by g.P.ParentMaker.hash_of) (g.P.ParentMaker.count c.join.new.maker) c.args.self.now c.args.other.now) (sym c.drop.view_is) (subst (IsMergedBy (parent_by g.P.ParentMaker.hash_of) (g.P.ParentMaker.count c.join.new.maker) c.args.self.now c.args.other.now) (sym value) (merged_by c.args.self.now c.args.other.now c.levels.ensures.well_formed c.levels-2.ensures.well_formed no_end no_start g.P.ParentMaker.hash_of c.in_ok-levels.levels.items (g.P.ParentMaker.count c.join.new.maker) joined))
-
-pub join-requires-clause-room : goal.join-requires-clause-room
-join-requires-clause-room g c =
-    let no_end : c.args.self.now.at_end ≡ false = search rules in
-    let no_start : c.args.other.now.at_start ≡ false = search rules in
-    let short = operands_short c.args.self.now c.args.other.now c.levels.ensures.well_formed c.levels-2.ensures.well_formed no_end no_start in
-    let short_x = short.0 in
-    let short_y = short.1 in
-    let few_x = c.levels.ensures.few in
-    let few_y = c.levels-2.ensures.few in
-    rw (c.levels.ensures.levels, c.levels-2.ensures.levels) (omega arith)
+    let front = c.args.self.now in
+    let back = c.args.other.now in
+    let no_end : front.at_end ≡ false = search rules in
+    let no_start : back.at_start ≡ false = search rules in
+    let joined : IsJoin (parent_by g.P.ParentMaker.hash_of) front.at_start back.at_end front.levels [] back.levels c.join.new.levels.items (g.P.ParentMaker.count c.join.new.maker) =
+    rw (sym c.at_start-at_start.ensures, sym c.at_end-at_end.ensures, sym (ap (λ (s : Subtree). s.levels) c.self.view_is), sym c.levels.ensures.levels) c.in_ok-join.ensures.joined in
+    rw (ap (λ (s : Subtree). s.at_start) c.self.view_is, c.at_end-at_end.ensures)
+    (merged_by front back (subst IsWellFormed c.self.view_is c.self.invariant.well_formed) c.levels.ensures.well_formed no_end no_start g.P.ParentMaker.hash_of c.join.new.levels.items
+    (g.P.ParentMaker.count c.join.new.maker) joined)
 
 pub returns-clause-closer_bound : goal.returns-clause-closer_bound
 returns-clause-closer_bound g c =
-    let joined : IsJoin (parent_by g.P.ParentMaker.hash_of) c.args.self.now.at_start c.args.other.now.at_end c.args.self.now.levels [] c.args.other.now.levels c.in_ok-levels.levels.items (g.P.ParentMaker.count c.join.new.maker) =
-    rw (sym c.at_start-at_start.ensures, sym c.at_end-at_end.ensures, sym c.levels.ensures.levels, sym c.levels-2.ensures.levels) c.in_ok-levels.ensures in
-    let work = join_work (parent_by g.P.ParentMaker.hash_of) c.args.self.now.at_start c.args.other.now.at_end joined in
-    let levels = ap (λ (s : Subtree). length s.levels) (c.drop.view_is ∙ c.in_ok-self-inside.ensures) in
+    let front = c.args.self.now in
+    let back = c.args.other.now in
+    let joined : IsJoin (parent_by g.P.ParentMaker.hash_of) front.at_start back.at_end front.levels [] back.levels c.join.new.levels.items (g.P.ParentMaker.count c.join.new.maker) =
+    rw (sym c.at_start-at_start.ensures, sym c.at_end-at_end.ensures, sym (ap (λ (s : Subtree). s.levels) c.self.view_is), sym c.levels.ensures.levels) c.in_ok-join.ensures.joined in
+    let work = join_work (parent_by g.P.ParentMaker.hash_of) front.at_start back.at_end joined in
     omega arith
 
 pub returns-clause-bound : goal.returns-clause-bound

@@ -1,0 +1,64 @@
+-- Levels changed in place: the lowest get other right nodes, the highest of them first.
+use Rattle.std.proofs.Common.{◌≡◌, Bool, ℕ, zero, suc, ◌+◌, ◌<◌, ◌≤◌, List, [], ◌∷◌, ◌++◌, length, set, get_or, take, drop, refl, ap, arith}
+use Rattle.xet_merkle.specs.Groups.{Node}
+use Rattle.xet_merkle.specs.Levels.{Level, left_at}
+use Rattle.xet_merkle.specs.Steps.Joining.{HaveSides, lowest_with, with_inner}
+
+-- levels of which the lowest have other right nodes
+abbrev pub put : List (List Node) → List Level → List Level
+put rights levels = lowest_with rights levels ++ drop (length rights) levels
+
+-- the last of the lists can be put first
+pub put-last : (rights : List (List Node)) (right : List Node) (levels : List Level) (d : Level) → length rights < length levels →
+    put (rights ++ right ∷ []) levels ≡ put rights (set levels (length rights) (record { left = (get_or levels (length rights) d).left; right = right }))
+put-last rights right [] d within = absurd (omega arith)
+put-last [] right (level ∷ levels) d within = refl
+put-last (first ∷ rights) right (level ∷ levels) d within =
+    ap (λ (l : List Level). record { left = level.left; right = first } ∷ l) (put-last rights right levels d (omega arith))
+
+-- those with levels in the place of the others
+pub put-in_front : (rights : List (List Node)) (levels others : List Level) → length rights ≤ length levels →
+    put rights (take (length rights) levels ++ others) ≡ lowest_with rights levels ++ others
+put-in_front [] levels others within = refl
+put-in_front (right ∷ rights) [] others within = absurd (omega arith)
+put-in_front (right ∷ rights) (level ∷ levels) others within =
+    ap (λ (l : List Level). record { left = level.left; right = right } ∷ l) (put-in_front rights levels others (omega arith))
+
+pub lowest_with-more : (rights : List (List Node)) (right : List Node) (levels : List Level) → length rights < length levels →
+    lowest_with (rights ++ right ∷ []) levels ≡ lowest_with rights levels ++ record { left = left_at (drop (length rights) levels) 0; right = right } ∷ []
+lowest_with-more rights right [] within = absurd (omega arith)
+lowest_with-more [] right (level ∷ levels) within = refl
+lowest_with-more (first ∷ rights) right (level ∷ levels) within =
+    ap (λ (l : List Level). record { left = level.left; right = first } ∷ l) (lowest_with-more rights right levels (omega arith))
+
+-- ---- nodes put behind those towards the right operand
+
+pub with_inner-top : (levels : List Level) (at : ℕ) (more : List Node) (d : Level) → at + 1 ≡ length levels →
+    set levels at (record { left = (get_or levels at d).left ++ more; right = (get_or levels at d).right }) ≡ take at levels ++ with_inner (drop at levels) more
+with_inner-top [] at more d last = absurd (omega arith)
+with_inner-top (top ∷ []) zero more d last = refl
+with_inner-top (top ∷ []) (suc at) more d last = absurd (omega arith)
+with_inner-top (level ∷ next ∷ levels) zero more d last = absurd (omega arith)
+with_inner-top (level ∷ next ∷ levels) (suc at) more d last = ap (λ (l : List Level). level ∷ l) (with_inner-top (next ∷ levels) at more d (omega arith))
+
+pub with_inner-below : (levels : List Level) (at : ℕ) (more : List Node) (d : Level) → at + 1 < length levels →
+    set levels at (record { left = (get_or levels at d).left; right = (get_or levels at d).right ++ more }) ≡ take at levels ++ with_inner (drop at levels) more
+with_inner-below [] at more d below = absurd (omega arith)
+with_inner-below (top ∷ []) zero more d below = absurd (omega arith)
+with_inner-below (top ∷ []) (suc at) more d below = absurd (omega arith)
+with_inner-below (level ∷ next ∷ levels) zero more d below = refl
+with_inner-below (level ∷ next ∷ levels) (suc at) more d below = ap (λ (l : List Level). level ∷ l) (with_inner-below (next ∷ levels) at more d (omega arith))
+
+-- ---- the levels above
+
+pub drop-next : (n : ℕ) (levels : List Level) → drop 1 (drop n levels) ≡ drop (suc n) levels
+drop-next zero [] = refl
+drop-next zero (level ∷ levels) = refl
+drop-next (suc n) [] = refl
+drop-next (suc n) (level ∷ levels) = drop-next n levels
+
+pub sides-above : (at_start at_end : Bool) (n : ℕ) (levels : List Level) → n < length levels → HaveSides at_start at_end levels → HaveSides at_start at_end (drop n levels)
+sides-above at_start at_end zero levels within sides = sides
+sides-above at_start at_end (suc n) [] within sides = absurd (omega arith)
+sides-above at_start at_end (suc n) (top ∷ []) within sides = absurd (omega arith)
+sides-above at_start at_end (suc n) (level ∷ next ∷ levels) within sides = sides-above at_start at_end n (next ∷ levels) (omega arith) sides.2

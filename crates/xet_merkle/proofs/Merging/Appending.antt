@@ -1,0 +1,91 @@
+-- A left operand whose levels stay: nodes that bring up no stable point go behind what it has of its first level, and
+-- above it nothing is collapsed.
+use Rattle.std.proofs.Common.{◌≡◌, ◌≤◌, Bool, true, false, List, [], ◌∷◌, ◌++◌, length, refl, sym, ap, subst, ◌∙◌, inl, inr, arith, append_assoc, append-nil, length-append}
+use Rattle.xet_merkle.specs.Groups.{Node, Groups}
+use Rattle.xet_merkle.specs.StablePoints.{EndsStable}
+use Rattle.xet_merkle.specs.Levels.{Level, no_level, left_at}
+use Rattle.xet_merkle.specs.Canonical.{IsLow}
+use Rattle.xet_merkle.specs.Steps.StableScan.{AddsNoStable}
+use Rattle.xet_merkle.specs.Steps.Joining.{HaveSides, operand, inner_nodes, with_inner, NoSplit, IsJoin}
+use Rattle.xet_merkle.specs.Steps.Joining.IsJoinSplit.{left_alone}
+use Rattle.xet_merkle.specs.Steps.Joining.IsJoin.{appended, step}
+use Rattle.xet_merkle.proofs.Levels.Reading.{operand-one}
+use Rattle.xet_merkle.proofs.StablePoints.CutPlaces.{EndsStable-append}
+use Rattle.xet_merkle.proofs.StablePoints.Scan.{stable_ends, begins_in_front, BeginsStable-append}
+use Rattle.xet_merkle.proofs.StablePoints.Search.{last_stable}
+use Rattle.xet_merkle.proofs.StablePoints.Appending.{none_behind_cut}
+
+-- ---- no split comes up
+
+low_before : (at_start : Bool) (left middle rest right nodes more : List Node) → nodes ≡ left ++ (middle ++ rest) → nodes ++ more ≡ left ++ (middle ++ right) → EndsStable middle →
+    IsLow at_start left (middle ++ right) → IsLow at_start left (middle ++ rest)
+low_before true left middle rest right nodes more here whole ends low = low
+low_before false left middle rest right nodes more here whole ends low =
+    let last = (stable_ends middle ends).0 in
+    let begins = begins_in_front middle right last.0 last.1 [] last.2 last.3 low.stable.begins in record {
+      stable = record { ends = low.stable.ends; begins = BeginsStable-append middle rest begins };
+      first = λ l r e stable.
+          low.first l (r ++ more) (sym whole ∙ ap (λ (m : List Node). m ++ more) (here ∙ e) ∙ append_assoc l r more)
+          (record { ends = stable.ends; begins = BeginsStable-append r more stable.begins });
+    }
+
+pub no_split_appended : (at_start : Bool) (nodes more : List Node) → AddsNoStable nodes more → NoSplit at_start false nodes → NoSplit at_start false (nodes ++ more)
+no_split_appended at_start nodes more adds none left middle right split =
+    let ends = split.high.stable.ends in
+    let before = adds [] (left ++ middle) right (omega arith) (split.parts ∙ sym (append_assoc left middle right))
+    (record { ends = EndsStable-append left middle ends; begins = split.high.stable.begins }) in
+    let rest = before.0 in
+    let here : nodes ≡ left ++ (middle ++ rest) = before.1 ∙ append_assoc left middle rest in
+    let long = (stable_ends middle ends).1 in
+    let len = ap length here in
+    elim (last_stable (middle ++ rest)) [
+      | inl no_place ↦ no_place middle rest refl (record { ends = ends; begins = before.2.begins })
+      | inr found ↦ none left found.0 found.1 (record {
+        parts = here ∙ ap (λ (l : List Node). left ++ l) found.2;
+        several = omega (arith, length-append left (middle ++ rest), length-append middle rest);
+        low = subst (IsLow at_start left) found.2 (low_before at_start left middle rest right nodes more here split.parts ends split.low);
+        high = found.3;
+      })
+    ]
+
+-- ---- what stays
+
+no_groups : Groups [] []
+no_groups = record { joined = refl; are_groups = tt }
+
+module _ (make : List Node → Node) (at_start : Bool) where
+  whole_top : (top : Level) (nodes : List Node) → top.right ≡ [] → top.left ≡ nodes → record { left = nodes; right = [] } ∷ [] ≡ top ∷ []
+  whole_top top nodes none all = λ i. record { left = sym all i; right = sym none i } ∷ []
+
+  -- all levels, where nothing is put behind
+  kept : (xs : List Level) → HaveSides at_start false xs → IsJoin make at_start false xs [] (no_level ∷ []) xs 0
+  kept [] sides = absurd sides
+  kept (top ∷ []) sides =
+      let same = append-nil top.left in
+      subst (λ (l : List Level). IsJoin make at_start false (top ∷ []) [] (no_level ∷ []) l 0) (whole_top top (top.left ++ []) sides (sym same))
+      (appended refl (subst (NoSplit at_start false) (sym same)))
+  kept (x ∷ next ∷ xs) sides =
+      step {left = x.left} {middle = []} {right = x.right} {groups = []} (left_alone refl (append-nil x.right) (inr (refl, sides.1.1))) no_groups (kept (next ∷ xs) sides.2)
+
+  -- and where nodes are
+  appended_levels : (xs : List Level) (carry : List Node) (y : Level) → HaveSides at_start false xs → AddsNoStable (inner_nodes xs) (carry ++ y.left) →
+      IsJoin make at_start false xs carry (y ∷ []) (with_inner xs (carry ++ y.left)) 0
+  appended_levels [] carry y sides adds = absurd sides
+  appended_levels (top ∷ []) carry y sides adds =
+      let more = carry ++ y.left in
+      subst (λ (l : List Level). IsJoin make at_start false (top ∷ []) carry (y ∷ []) l 0) (λ i. record { left = top.left ++ more; right = sym sides i } ∷ [])
+      (appended refl (no_split_appended at_start top.left more adds))
+  appended_levels (x ∷ next ∷ xs) carry y sides adds =
+      step {left = x.left} {middle = []} {right = x.right ++ (carry ++ y.left)} {groups = []}
+      (left_alone refl refl (inr (refl, none_behind_cut x.right (carry ++ y.left) adds sides.1.1))) no_groups (kept (next ∷ xs) sides.2)
+
+pub joined_behind : (make : List Node → Node) (at_start at_end : Bool) (xs : List Level) (carry : List Node) (ys : List Level) → HaveSides at_start false xs →
+    at_end ≡ false → length ys ≤ 1 → AddsNoStable (inner_nodes xs) (carry ++ left_at ys 0) → IsJoin make at_start at_end xs carry (operand ys) (with_inner xs (carry ++ left_at ys 0)) 0
+joined_behind make at_start at_end xs carry ys sides unmarked few adds =
+    let one = operand-one ys few in
+    let y = one.0 in
+    let here : IsJoin make at_start false xs carry (y ∷ []) (with_inner xs (carry ++ y.left)) 0 =
+    appended_levels make at_start xs carry y sides (subst (λ (l : List Node). AddsNoStable (inner_nodes xs) (carry ++ l)) (sym one.2) adds) in
+    subst (λ (e : Bool). IsJoin make at_start e xs carry (operand ys) (with_inner xs (carry ++ left_at ys 0)) 0) (sym unmarked)
+    (subst (λ (l : List Node). IsJoin make at_start false xs carry (operand ys) (with_inner xs (carry ++ l)) 0) one.2
+    (subst (λ (l : List Level). IsJoin make at_start false xs carry l (with_inner xs (carry ++ y.left)) 0) (sym one.1) here))

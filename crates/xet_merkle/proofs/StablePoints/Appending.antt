@@ -1,0 +1,206 @@
+-- Nodes put behind others that bring up no stable point. A scan shows it that begins 14 nodes before them: the third
+-- natural cut of a stable point stands at most 14 nodes behind the first one.
+use Rattle.std.proofs.Common.{◌≡◌, ◌+◌, ◌<◌, ◌≤◌, ◌⊎◌, ◌&&◌, not, true, false, List, [], ◌∷◌, ◌++◌, length, refl, sym, ap, subst, ◌∙◌, inl, inr, arith, append_assoc, append-nil, length-append}
+use Rattle.std.proofs.lemmas.Bool.{cases_Bool, and_parts, and_from, cases_lt, not-true}
+use Rattle.xet_merkle.specs.Groups.{Node, is_cut, Cut}
+use Rattle.xet_merkle.specs.StablePoints.{EndsStable, BeginsStable, IsStable, NoStable}
+use Rattle.xet_merkle.specs.Steps.StableScan.{completes, next_scan, scan_behind, completes_none, AddsNoStable}
+use Rattle.xet_merkle.specs.declared.merkle_hash_subtree.stable_points.CutScan.{CutScan}
+use Rattle.xet_merkle.proofs.Lists.Places.{meets}
+use Rattle.xet_merkle.proofs.Lists.Places.Meets.{same, earlier, later}
+use Rattle.xet_merkle.proofs.Lists.PlaceSearch.{same_place}
+use Rattle.xet_merkle.proofs.StablePoints.Scan.{place_before}
+use Rattle.xet_merkle.proofs.StablePoints.Loops.{Scanned, Scanned-push, since_more, LastSoFar-none}
+
+-- ---- a scan behind some nodes
+
+pub scan_behind-append : (scan : CutScan) (front back : List Node) → scan_behind scan (front ++ back) ≡ scan_behind (scan_behind scan front) back
+scan_behind-append scan [] back = refl
+scan_behind-append scan (x ∷ front) back = scan_behind-append (next_scan scan (is_cut x)) front back
+
+pub completes_none-append : (scan : CutScan) (front back : List Node) → completes_none scan front ≡ true → completes_none (scan_behind scan front) back ≡ true →
+    completes_none scan (front ++ back) ≡ true
+completes_none-append scan [] back first second = second
+completes_none-append scan (x ∷ front) back first second =
+    let parts = and_parts _ _ first in
+    and_from _ _ parts.0 (completes_none-append (next_scan scan (is_cut x)) front back parts.1 second)
+
+pub completes_none-push : (scan : CutScan) (nodes : List Node) (x : Node) →
+    completes_none scan (nodes ++ x ∷ []) ≡ completes_none scan nodes && not (completes (scan_behind scan nodes) (is_cut x))
+completes_none-push scan [] x = elim (cases_Bool (completes scan (is_cut x))) [
+  | inl here ↦ rw here refl
+  | inr not_here ↦ rw not_here refl
+]
+completes_none-push scan (y ∷ nodes) x =
+    let rest = completes_none-push (next_scan scan (is_cut y)) nodes x in
+    elim (cases_Bool (completes scan (is_cut y))) [
+      | inl here ↦ rw here refl
+      | inr not_here ↦ rw not_here rest
+    ]
+
+pub since_behind : (scan : CutScan) (nodes : List Node) → (scan_behind scan nodes).since_cut ≤ scan.since_cut + length nodes
+since_behind scan [] = omega arith
+since_behind scan (x ∷ nodes) =
+    let one = since_more scan (is_cut x) in
+    let rest = since_behind (next_scan scan (is_cut x)) nodes in
+    omega arith
+
+Scanned-behind : (more nodes : List Node) (scan : CutScan) → Scanned nodes scan → Scanned (nodes ++ more) (scan_behind scan more)
+Scanned-behind [] nodes scan h = subst (λ (l : List Node). Scanned l scan) (sym (append-nil nodes)) h
+Scanned-behind (x ∷ more) nodes scan h =
+    subst (λ (l : List Node). Scanned l (scan_behind scan (x ∷ more))) (append_assoc nodes (x ∷ []) more)
+    (Scanned-behind more (nodes ++ x ∷ []) (next_scan scan (is_cut x)) (Scanned-push nodes scan x h))
+
+-- ---- no new stable place
+
+-- each stable place of some nodes with more behind was there before
+abbrev NoNew : List Node → List Node → Type 0
+NoNew nodes more = (left right : List Node) → nodes ++ more ≡ left ++ right → IsStable left right → (rest : List Node) × (nodes ≡ left ++ rest) × IsStable left rest
+
+none_new : (more nodes passed : List Node) (scan : CutScan) → Scanned (nodes ++ passed) scan → completes_none scan more ≡ true → NoNew nodes passed → NoNew nodes (passed ++ more)
+none_new [] nodes passed scan h none old = subst (NoNew nodes) (sym (append-nil passed)) old
+none_new (x ∷ more) nodes passed scan h none old =
+    let parts = and_parts _ _ none in
+    let with_x : (nodes ++ passed) ++ x ∷ [] ≡ nodes ++ (passed ++ x ∷ []) = append_assoc nodes passed (x ∷ []) in
+    let pushed = subst (λ (l : List Node). Scanned l (next_scan scan (is_cut x))) with_x (Scanned-push (nodes ++ passed) scan x h) in
+    let here : NoNew nodes (passed ++ x ∷ []) = λ left right e stable.
+    let before = place_before (nodes ++ passed) scan.has_cut scan.ends_stable scan.since_cut x h (not-true (completes scan (is_cut x)) parts.0) left right (with_x ∙ e) stable in
+    old left before.0 before.1 before.2 in
+    subst (NoNew nodes) (append_assoc passed (x ∷ []) more) (none_new more nodes (passed ++ x ∷ []) (next_scan scan (is_cut x)) pushed parts.1 here)
+
+none_behind : (near more : List Node) → completes_none (scan_behind (record { has_cut = true; ends_stable = false; since_cut = 0 }) near) more ≡ true →
+    (cut : Node) → Cut cut → NoNew (cut ∷ near) more
+none_behind near more none cut is_cut =
+    let start : CutScan = record { has_cut = true; ends_stable = false; since_cut = 0 } in
+    let first : Scanned (cut ∷ []) start = (LastSoFar-none [] true (cut ∷ []) (cut, refl, is_cut)).scanned in
+    let scanned = Scanned-behind near (cut ∷ []) start first in
+    none_new more (cut ∷ near) [] (scan_behind start near) (subst (λ (l : List Node). Scanned l (scan_behind start near)) (sym (append-nil (cut ∷ near))) scanned) none
+    (λ left right e stable. (right, sym (append-nil (cut ∷ near)) ∙ e, stable))
+
+-- ---- what stands 14 nodes before makes no difference
+
+-- the shorter one of two fronts of a list
+front_of : (a b c d : List Node) → a ++ b ≡ c ++ d → length c ≤ length a → (gap : List Node) × (a ≡ c ++ gap) × (d ≡ gap ++ b)
+front_of a b c d e short = elim (meets a b c d e) [
+  | same p q ↦ ([], p ∙ sym (append-nil c), sym q)
+  | earlier x gap p q ↦ absurd (let len = ap length p in omega (arith, length-append a (x ∷ gap)))
+  | later x gap p q ↦ (x ∷ gap, p, q)
+]
+
+pub nothing_of : (nodes : List Node) → length nodes < 1 → nodes ≡ []
+nothing_of [] few = refl
+nothing_of (x ∷ nodes) few = absurd (omega arith)
+
+module _ (near more : List Node) (none : (cut : Node) → Cut cut → NoNew (cut ∷ near) more) where
+  -- a stable place whose second and third natural cuts are in sight, and the first one too or in front of them
+  in_sight : (cut : Node) → Cut cut → (out tail left right : List Node) → left ≡ out ++ tail → EndsStable left → EndsStable (cut ∷ tail) → BeginsStable right →
+      (out ++ near) ++ more ≡ left ++ right → (rest : List Node) × (out ++ near ≡ left ++ rest) × IsStable left rest
+  in_sight cut is_cut out tail left right left_is ends ends_here begins e =
+      let whole : out ++ (near ++ more) ≡ out ++ (tail ++ right) =
+      sym (append_assoc out near more) ∙ e ∙ ap (λ (l : List Node). l ++ right) left_is ∙ append_assoc out tail right in
+      let behind = (same_place out (near ++ more) out (tail ++ right) whole refl).1 in
+      let seen = none cut is_cut (cut ∷ tail) right (ap (λ (l : List Node). cut ∷ l) behind) (record { ends = ends_here; begins = begins }) in
+      let rest = seen.0 in
+      let near_is : near ≡ tail ++ rest = let here : cut ∷ near ≡ cut ∷ (tail ++ rest) = seen.1 in cc in
+      (rest, ap (λ (l : List Node). out ++ l) near_is ∙ sym (append_assoc out tail rest) ∙ ap (λ (l : List Node). l ++ rest) (sym left_is), record { ends = ends; begins = seen.2.begins })
+
+  first_in_sight : (out gap left right : List Node) (stable : IsStable left right) → stable.ends.before ≡ out ++ gap → (out ++ near) ++ more ≡ left ++ right →
+      (rest : List Node) × (out ++ near ≡ left ++ rest) × IsStable left rest
+  first_in_sight out gap left right stable at e =
+      let ends = stable.ends in
+      let cuts : List Node = ends.first ∷ (ends.between ++ ends.last ∷ []) in
+      let left_is : left ≡ out ++ (gap ++ cuts) = ends.parts ∙ ap (λ (l : List Node). l ++ cuts) at ∙ append_assoc out gap cuts in
+      in_sight ends.first ends.first_cut out (gap ++ cuts) left right left_is ends
+      (record {
+        before = ends.first ∷ gap;
+        first = ends.first;
+        between = ends.between;
+        last = ends.last;
+        parts = refl;
+        first_cut = ends.first_cut;
+        last_cut = ends.last_cut;
+        gap = ends.gap;
+      }) stable.begins e
+
+  first_in_front : (out left right : List Node) (stable : IsStable left right) → length out ≤ 1 → length stable.ends.before < length out → (out ++ near) ++ more ≡ left ++ right →
+      (rest : List Node) × (out ++ near ≡ left ++ rest) × IsStable left rest
+  first_in_front [] left right stable few short e = absurd (omega arith)
+  first_in_front (x ∷ y ∷ out) left right stable few short e = absurd (omega arith)
+  first_in_front (x ∷ []) left right stable few short e =
+      let ends = stable.ends in
+      let none_before = nothing_of ends.before (omega arith) in
+      let cuts : List Node = ends.between ++ ends.last ∷ [] in
+      let left_cut : left ≡ ends.first ∷ cuts = ends.parts ∙ ap (λ (l : List Node). l ++ ends.first ∷ cuts) none_before in
+      let whole : x ∷ (near ++ more) ≡ ends.first ∷ (cuts ++ right) = e ∙ ap (λ (l : List Node). l ++ right) left_cut in
+      let at : x ≡ ends.first = cc in
+      in_sight ends.first ends.first_cut (x ∷ []) cuts left right (left_cut ∙ ap (λ (y : Node). y ∷ cuts) (sym at)) ends
+      (record {
+        before = [];
+        first = ends.first;
+        between = ends.between;
+        last = ends.last;
+        parts = refl;
+        first_cut = ends.first_cut;
+        last_cut = ends.last_cut;
+        gap = ends.gap;
+      }) stable.begins e
+
+  adds_none : (before : List Node) → (before ≡ []) ⊎ (14 ≤ length near) → AddsNoStable (before ++ near) more
+  adds_none before enough front left right few e stable =
+      let ends = stable.ends in
+      let begins = stable.begins in
+      let out = front ++ before in
+      let whole : (out ++ near) ++ more ≡ left ++ right = ap (λ (l : List Node). l ++ more) (append_assoc front before near) ∙ e in
+      let len_left = ap length ends.parts in
+      let six = ends.gap.six in
+      let six_behind = begins.gap.six in
+      elim (cases_lt (length left + length begins.between) (length (front ++ (before ++ near)))) [
+        | inl inside ↦
+            let third : List Node = left ++ (begins.between ++ begins.first ∷ []) in
+            let parts : (front ++ (before ++ near)) ++ more ≡ third ++ begins.after =
+            e ∙ ap (λ (l : List Node). left ++ l) (begins.parts ∙ sym (append_assoc begins.between (begins.first ∷ []) begins.after)) ∙ sym (append_assoc left (begins.between ++ begins.first ∷ []) begins.after) in
+            let at = front_of (front ++ (before ++ near)) more third begins.after parts (omega (arith, length-append left (begins.between ++ begins.first ∷ []), length-append begins.between (begins.first ∷ []))) in (
+              (begins.between ++ begins.first ∷ []) ++ at.0,
+              at.1 ∙ append_assoc left (begins.between ++ begins.first ∷ []) at.0,
+              record {
+                ends = ends;
+                begins = record {
+                  between = begins.between;
+                  first = begins.first;
+                  after = at.0;
+                  parts = append_assoc begins.between (begins.first ∷ []) at.0;
+                  first_cut = begins.first_cut;
+                  gap = begins.gap;
+                };
+              },
+            )
+        | inr beyond ↦ elim (cases_lt (length ends.before) (length out)) [
+          | inl short ↦ elim enough [
+            | inl nothing ↦
+                let out_is : out ≡ front = ap (λ (l : List Node). front ++ l) nothing ∙ append-nil front in
+                let len_out = ap length out_is in
+                let found = first_in_front out left right stable (omega arith) short whole in
+                (found.0, sym (append_assoc front before near) ∙ found.1, found.2)
+            | inr long ↦ absurd (omega (arith, length-append front before, length-append front (before ++ near), length-append before near, length-append ends.before (ends.first ∷ (ends.between ++ ends.last ∷ [])), length-append ends.between (ends.last ∷ [])))
+          ]
+          | inr enough_before ↦
+              let cuts : List Node = ends.first ∷ (ends.between ++ ends.last ∷ []) in
+              let parts : ends.before ++ (cuts ++ right) ≡ out ++ (near ++ more) =
+              sym (append_assoc ends.before cuts right) ∙ ap (λ (l : List Node). l ++ right) (sym ends.parts) ∙ sym whole ∙ append_assoc out near more in
+              let at = front_of ends.before (cuts ++ right) out (near ++ more) parts enough_before in
+              let found = first_in_sight out at.0 left right stable at.1 whole in
+              (found.0, sym (append_assoc front before near) ∙ found.1, found.2)
+        ]
+      ]
+
+-- what a scan that begins behind a natural cut tells, in front of nodes that are all there are or 14
+pub adds_none_behind : (before near more : List Node) → (before ≡ []) ⊎ (14 ≤ length near) →
+    completes_none (scan_behind (record { has_cut = true; ends_stable = false; since_cut = 0 }) near) more ≡ true → AddsNoStable (before ++ near) more
+adds_none_behind before near more enough none = adds_none near more (none_behind near more none) before enough
+
+-- ---- what it keeps
+
+pub none_behind_cut : (nodes more : List Node) → AddsNoStable nodes more → ((cut : Node) → Cut cut → NoStable (cut ∷ nodes)) → (cut : Node) → Cut cut → NoStable (cut ∷ (nodes ++ more))
+none_behind_cut nodes more adds none cut is_cut = λ left right e stable.
+    let before = adds (cut ∷ []) left right (omega arith) e stable in
+    none cut is_cut left before.0 before.1 before.2
