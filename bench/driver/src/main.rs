@@ -270,6 +270,40 @@ fn compare_joining(nodes: &[u64]) {
     }
 }
 
+// A million and half a million ranges of one pair joined from the left, both ends marked, beside `from_chunks` of them
+// all: drawn pairs, the same without natural cuts, and with nothing else.
+fn compare_one_by_one(drawn: &[u64]) {
+    println!("\n| Task | joining, ms | `from_chunks`, ms | ratio | beside half as many |\n|---|---|---|---|---|");
+    let with_cuts = |cut: fn(u64) -> u64| -> Vec<u64> {
+        drawn.iter().enumerate().map(|(i, word)| if i % 5 == 3 { cut(*word) } else { *word }).collect()
+    };
+    for (name, nodes) in [
+        ("drawn pairs", with_cuts(|word| word)),
+        ("pairs without natural cuts", with_cuts(|word| word | 1)),
+        ("natural cuts alone", with_cuts(|word| word & !3)),
+    ] {
+        assert_eq!(our_ranges(&nodes, 1, 2), our_root(&nodes));
+        let [half, all] = [nodes.len() / 2, nodes.len()].map(|len| {
+            let nodes = &nodes[..len];
+            let mut best = [f64::MAX; 3];
+            for _ in 0..TURNS / 3 {
+                for steps in [1, 2] {
+                    best[steps] = best[steps].min(seconds(1, || our_ranges(black_box(nodes), 1, steps)));
+                }
+                best[0] = best[0].min(seconds(1, || our_subtree(true, black_box(nodes), true)));
+            }
+            [(best[2] - best[1]) * 1e3, best[0] * 1e3]
+        });
+        println!(
+            "| a million ranges of one of {name} | {:.0} | {:.0} | {:.2} | {:.2} |",
+            all[0],
+            all[1],
+            all[0] / all[1],
+            all[0] / half[0]
+        );
+    }
+}
+
 fn main() {
     let message: Vec<u8> = (0..64usize << 20).map(|i| (i % 251) as u8).collect();
     println!("| Task | ours, MB/s | crate, MB/s | ratio |\n|---|---|---|---|");
@@ -313,4 +347,5 @@ fn main() {
     compare_maps();
     compare_subtrees(&nodes);
     compare_joining(&nodes);
+    compare_one_by_one(&nodes);
 }

@@ -77,6 +77,11 @@
 //! on the right. With `other` alone, all are where `self` is marked at its start, and else none without a stable
 //! point: then all stay on the left. The natural cut put in front stands for the last node that `self` has
 //! collapsed; a stable point follows it, so it is one, and which one it is makes no difference.
+//!
+//! What merely stays isn't touched. Below its top `self` keeps the left nodes of each level where they are. And where
+//! `other` isn't marked at its end and has no level above, and the carry and its nodes bring up no stable point, these
+//! go behind the nodes that `self` has in sight, and nothing is collapsed there or above. The last 14 nodes of `self`
+//! tell it, since the third natural cut of a stable point stands at most 14 nodes behind the first.
 //! `specs/Steps/Joining.antt` says this as a relation. `proofs/Merging/Join.antt` proves that the canonical
 //! subtrees of two lists are joined to that of the joined list.
 //!

@@ -3,7 +3,7 @@
 ghost use Rattle.std.specs.Prelude.{◌≡◌};
 ghost use Rattle.xet_merkle.specs.Roots.{total_size};
 
-use crate::support::{EACH_FOURTH, MARKS, ranges, with_cut, with_cuts};
+use crate::support::{EACH_FOURTH, MARKS, drawn_nodes, ranges, with_cuts};
 use rand_core::{Rng, SeedableRng};
 use rand_xoshiro::Xoshiro256PlusPlus;
 use std::alloc::{AllocError, Global};
@@ -164,22 +164,6 @@ fn ranges_of_each_kind_have_the_root(rt: HostRuntime) -> Result<(), Fail> {
         assert_eq!(rt; subtree.root()?, root);
     }
     Ok(())
-}
-
-// So many drawn nodes, of which as many in four are natural cuts as told.
-fn drawn_nodes(
-    generator: &mut Xoshiro256PlusPlus,
-    alloc: Global,
-    count: usize,
-    cuts_in_four: u64,
-) -> Result<Vec<Node>, AllocError> {
-    let mut nodes = Vec::new(alloc);
-    for _ in 0..count {
-        let hash = DataHash::random_from_seed(generator.next_u64());
-        let is_cut = generator.next_u64() % 4 < cuts_in_four;
-        nodes.push((with_cut(hash, is_cut), generator.next_u64() % 1000))?;
-    }
-    Ok(nodes)
 }
 
 // The lengths of 1 to 12 ranges. Each fourth range or so is empty.

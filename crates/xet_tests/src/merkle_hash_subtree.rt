@@ -1,6 +1,7 @@
 //! Stable points, canonical subtrees and their merging, of lists whose natural cuts are told, and of drawn
 //! lists.
 
+mod appending;
 mod boundaries;
 mod counted;
 mod forged;

@@ -1,7 +1,7 @@
 //! Calls with an allocator that refuses a request and each later one: the first request, then the second, and
 //! so on, until the call succeeds.
 
-use crate::support::{MARKS, drawn_list};
+use crate::support::{MARKS, drawn_list, drawn_nodes};
 use rand_core::SeedableRng;
 use rand_xoshiro::Xoshiro256PlusPlus;
 use refusing_allocator::RefusingAllocator;
@@ -96,6 +96,17 @@ fn merge_halves(alloc: &Refusing, chunks: &Chunks<'_>) -> Attempt {
     let (first, second) = chunks.nodes.split_at(chunks.nodes.len() / 2);
     let left = MerkleHashSubtree::from_chunks(alloc, chunks.at_start, first, false);
     let right = MerkleHashSubtree::from_chunks(alloc, false, second, chunks.at_end);
+    match (left, right) {
+        (Ok(left), Ok(right)) => merge_into_copy(&left, &right),
+        _ => Ok(None),
+    }
+}
+
+// Merges the last chunk into the others, which are open at the end.
+fn append_last(alloc: &Refusing, chunks: &Chunks<'_>) -> Attempt {
+    let [others, last] = split(chunks, chunks.nodes.len().saturating_sub(1));
+    let left = MerkleHashSubtree::from_chunks(alloc, others.at_start, others.nodes, false);
+    let right = MerkleHashSubtree::from_chunks(alloc, false, last.nodes, last.at_end);
     match (left, right) {
         (Ok(left), Ok(right)) => merge_into_copy(&left, &right),
         _ => Ok(None),
@@ -255,6 +266,7 @@ enum Call {
     FromChunks,
     Merge,
     MergeInto,
+    Append,
     JoinPlain,
     JoinSubtrees,
     RunPlain,
@@ -276,6 +288,7 @@ fn attempt(call: Call, alloc: &Refusing, chunks: &Chunks<'_>) -> Attempt {
         Call::FromChunks => return make_and_copy(alloc, chunks),
         Call::Merge => return merge_three(alloc, chunks),
         Call::MergeInto => return merge_halves(alloc, chunks),
+        Call::Append => return append_last(alloc, chunks),
         Call::JoinPlain => return join_halves::<PlainRange<&Refusing>>(alloc, chunks),
         Call::JoinSubtrees => return join_halves::<MerkleHashSubtree<&Refusing>>(alloc, chunks),
         Call::RunPlain => return run::<PlainRange<&Refusing>>(alloc, chunks),
@@ -346,6 +359,28 @@ fn merge_is_refused_with_each_request(rt: HostRuntime) -> Result<(), Fail> {
 #[test]
 fn merge_into_changes_nothing_where_a_request_is_refused(rt: HostRuntime) -> Result<(), Fail> {
     assert!(rt; is_refused_under_all_marks(rt.alloc(), Call::MergeInto, 11)?);
+    Ok(())
+}
+
+#[test]
+fn appending_changes_nothing_where_a_request_is_refused(rt: HostRuntime) -> Result<(), Fail> {
+    let mut generator = Xoshiro256PlusPlus::seed_from_u64(18);
+    for (cuts_in_four, at_start) in [(0, true), (1, false), (1, true), (2, false), (4, false)] {
+        let nodes = drawn_nodes(&mut generator, rt.alloc(), 60, cuts_in_four)?;
+        for count in 1..60 {
+            let (front, _) = nodes.split_at(count);
+            let chunks = Chunks {
+                alloc: rt.alloc(),
+                at_start,
+                nodes: front,
+                at_end: false,
+            };
+            assert!(rt;
+                is_refused_with_each_request(Call::Append, &chunks),
+                "{count}"
+            );
+        }
+    }
     Ok(())
 }
 

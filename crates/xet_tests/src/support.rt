@@ -34,6 +34,22 @@ pub fn drawn_list(
     Ok(nodes)
 }
 
+/// So many nodes of drawn hashes, each one a natural cut or not as is drawn among four, and of sizes below 1000.
+pub fn drawn_nodes(
+    generator: &mut Xoshiro256PlusPlus,
+    alloc: Global,
+    count: usize,
+    cuts_in_four: u64,
+) -> Result<Vec<Node>, AllocError> {
+    let mut nodes = Vec::new(alloc);
+    for _ in 0..count {
+        let hash = DataHash::random_from_seed(generator.next_u64());
+        let is_cut = generator.next_u64() % 4 < cuts_in_four;
+        nodes.push((with_cut(hash, is_cut), generator.next_u64() % 1000))?;
+    }
+    Ok(nodes)
+}
+
 /// Nodes of size 1 of which those at the given indices are natural cuts.
 pub fn with_cuts<const N: usize>(cuts: &[u64]) -> [Node; N] {
     let mut nodes = [(MerkleHash::default(), 1); N];

@@ -2,7 +2,7 @@
 
 ghost use Rattle.std.specs.Prelude.{◌≡◌, [], ◌∷◌, length};
 
-use crate::support::{EACH_FOURTH, drawn_list, has_counts, read_json, with_cut, with_cuts};
+use crate::support::{EACH_FOURTH, drawn_list, drawn_nodes, has_counts, read_json, with_cuts};
 use rand_core::{Rng, SeedableRng};
 use rand_xoshiro::Xoshiro256PlusPlus;
 use std::alloc::{AllocError, Global};
@@ -164,21 +164,6 @@ fn ranges_stay_within_the_bounds_after_each_join(rt: HostRuntime) -> Result<(), 
     Ok(())
 }
 
-// So many drawn nodes, of which every fourth one or so is a natural cut.
-fn drawn_nodes(
-    generator: &mut Xoshiro256PlusPlus,
-    alloc: Global,
-    count: u64,
-) -> Result<Vec<Node>, AllocError> {
-    let mut nodes = Vec::new(alloc);
-    for _ in 0..count {
-        let hash = DataHash::random_from_seed(generator.next_u64());
-        let is_cut = generator.next_u64().is_multiple_of(4);
-        nodes.push((with_cut(hash, is_cut), generator.next_u64() % 1000))?;
-    }
-    Ok(nodes)
-}
-
 // The nodes of a side and how many there are, as a subtree's JSON text has them.
 fn write_nodes(text: &mut String, nodes: &[Node]) -> Result<(), AllocError> {
     for (hash, size) in nodes {
@@ -199,7 +184,7 @@ fn of_no_list(
     let mut counts = String::new(alloc);
     let mut sides = Vec::new(alloc);
     for _ in 0..generator.next_u64() % 4 {
-        let list = drawn_nodes(generator, alloc, 200)?;
+        let list = drawn_nodes(generator, alloc, 200, 1)?;
         let subtree = MerkleHashSubtree::from_chunks(alloc, at_start, list.as_slice(), !at_start)?;
         if subtree.num_levels() > 1 {
             let (left, right) = (subtree.left(0), subtree.right(0));
@@ -207,8 +192,8 @@ fn of_no_list(
             sides.push(if at_start { right } else { left }.to_vec(alloc)?)?;
         }
     }
-    let count = generator.next_u64() % 12 + 1;
-    let top = drawn_nodes(generator, alloc, count)?;
+    let count = (generator.next_u64() % 12 + 1) as usize;
+    let top = drawn_nodes(generator, alloc, count, 1)?;
     write!(counts, "[{count},0]")?;
     let mut nodes = String::new(alloc);
     if at_start {
