@@ -367,7 +367,7 @@ fn appending_changes_nothing_where_a_request_is_refused(rt: HostRuntime) -> Resu
     let mut generator = Xoshiro256PlusPlus::seed_from_u64(18);
     for (cuts_in_four, at_start) in [(0, true), (1, false), (1, true), (2, false), (4, false)] {
         let nodes = drawn_nodes(&mut generator, rt.alloc(), 60, cuts_in_four)?;
-        for count in 1..60 {
+        for count in 1..nodes.len() {
             let (front, _) = nodes.split_at(count);
             let chunks = Chunks {
                 alloc: rt.alloc(),

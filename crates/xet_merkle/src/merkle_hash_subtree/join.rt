@@ -55,10 +55,11 @@ fn in_sight<A: Allocator>(
 ) -> Result<Vec<Node, A>, AllocError>
     ensures { IfOk result (λ seen. seen.items ≡ between (operand front.now) carry.now (operand back.now)) }
 {
-    let mut seen = Vec::new(alloc);
-    seen.extend_from_slice(inner(front))?;
+    let (first, last) = (inner(front), left_at(back, 0));
+    let mut seen = Vec::with_capacity(alloc, first.len() + carry.len() + last.len())?;
+    seen.extend_from_slice(first)?;
     seen.extend_from_slice(carry)?;
-    seen.extend_from_slice(left_at(back, 0))?;
+    seen.extend_from_slice(last)?;
     Ok(seen)
 }
 
