@@ -3,7 +3,7 @@ use Rattle.std.proofs.Common.{◌≡◌, ℕ, zero, suc, ◌+◌, ◌<◌, ◌�
 use Rattle.std.proofs.lemmas.List.{take_more}
 use Rattle.xet_merkle.specs.Groups.{Node}
 use Rattle.xet_merkle.specs.Levels.{Level, no_level, left_at, right_at, top_of, below_top, top_nodes, node_count}
-use Rattle.xet_merkle.specs.Steps.Joining.{operand, above, inner_nodes}
+use Rattle.xet_merkle.specs.Steps.Joining.{operand, above}
 
 pub left_at-some : (levels : List Level) (i : ℕ) (d : Level) → i < length levels → (get_or levels i d).left ≡ left_at levels i
 left_at-some [] i d within = absurd (omega arith)
@@ -83,23 +83,9 @@ operand-one [] few = (no_level, refl, refl)
 operand-one (top ∷ []) few = (top, refl, refl)
 operand-one (level ∷ next ∷ levels) few = absurd (omega arith)
 
-pub operand-left : (levels : List Level) → left_at levels 0 ≡ left_at (operand levels) 0
-operand-left [] = refl
-operand-left (level ∷ levels) = refl
-
 pub operand-right : (levels : List Level) → right_at levels 0 ≡ right_at (operand levels) 0
 operand-right [] = refl
 operand-right (level ∷ levels) = refl
-
-pub inner-one : (levels : List Level) → length levels ≡ 1 → left_at levels 0 ≡ inner_nodes (operand levels)
-inner-one [] one = absurd (omega arith)
-inner-one (top ∷ []) one = refl
-inner-one (level ∷ next ∷ levels) one = absurd (omega arith)
-
-pub inner-other : (levels : List Level) → (length levels ≡ 1 → ⊥) → right_at levels 0 ≡ inner_nodes (operand levels)
-inner-other [] other = refl
-inner-other (top ∷ []) other = absurd (other refl)
-inner-other (level ∷ next ∷ levels) other = refl
 
 -- ---- counts
 

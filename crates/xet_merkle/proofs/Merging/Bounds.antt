@@ -1,37 +1,15 @@
 -- How many parents are made where two subtrees are joined, and how many levels they have.
-use Rattle.std.proofs.Common.{ℕ, ◌+◌, ◌*◌, ◌<◌, ◌≤◌, Bool, false, List, [], ◌∷◌, ◌++◌, length, ap, arith, length-append}
+use Rattle.std.proofs.Common.{ℕ, ◌+◌, ◌*◌, ◌≤◌, Bool, List, [], ◌∷◌, ◌++◌, length, ap, arith, length-append}
 use Rattle.std.proofs.lemmas.List.{length-map}
 use Rattle.xet_merkle.specs.Groups.{Node}
-use Rattle.xet_merkle.specs.StablePoints.{EndsStable}
 use Rattle.xet_merkle.specs.Levels.{Level, node_count}
 use Rattle.xet_merkle.specs.Canonical.{IsCanonicalBy}
 use Rattle.xet_merkle.specs.Canonical.IsCanonicalBy.{whole, collapsed}
-use Rattle.xet_merkle.specs.Steps.Joining.{HaveSides, above, between, IsJoinSplit, IsJoin}
+use Rattle.xet_merkle.specs.Steps.Joining.{above, between, IsJoinSplit, IsJoin}
 use Rattle.xet_merkle.specs.Steps.Joining.IsJoinSplit.{both, left_alone, right_alone}
 use Rattle.xet_merkle.specs.Steps.Joining.IsJoin.{all_in_sight, appended, step}
 use Rattle.xet_merkle.proofs.Roots.OneRoot.{Groups-few}
-use Rattle.xet_merkle.proofs.Canonical.Splits.{BeginsStable-some}
 use Rattle.xet_merkle.proofs.Canonical.Bounds.{few_nodes}
-
-EndsStable-some : (nodes : List Node) → EndsStable nodes → 0 < length nodes
-EndsStable-some nodes h = let len = ap length h.parts in omega (arith, length-append h.before (h.first ∷ (h.between ++ h.last ∷ [])))
-
--- where the end isn't marked, each level below the top has a node on the right; where the start isn't, on the left
-pub right_sides_short : (at_start : Bool) (levels : List Level) → HaveSides at_start false levels → length levels ≤ node_count levels + 1
-right_sides_short at_start [] h = absurd h
-right_sides_short at_start (top ∷ []) h = omega arith
-right_sides_short at_start (level ∷ next ∷ levels) h =
-    let rest = right_sides_short at_start (next ∷ levels) h.2 in
-    let some = BeginsStable-some level.right h.1.0 in
-    omega arith
-
-pub left_sides_short : (at_end : Bool) (levels : List Level) → HaveSides false at_end levels → length levels ≤ node_count levels + 1
-left_sides_short at_end [] h = absurd h
-left_sides_short at_end (top ∷ []) h = omega arith
-left_sides_short at_end (level ∷ next ∷ levels) h =
-    let rest = left_sides_short at_end (next ∷ levels) h.2 in
-    let some = EndsStable-some level.left h.0.0 in
-    omega arith
 
 -- the nodes in sight are those carried and some of the operands' first levels
 pub between_few : (xs : List Level) (carry : List Node) (ys : List Level) →

@@ -1,6 +1,6 @@
 -- Joining level by level: what stands below what is left of the operands, and what the whole is.
 use Rattle.std.proofs.lemmas.List.{length-map}
-use Rattle.xet_merkle.proofs.Merging.Bounds.{right_sides_short, left_sides_short, join_count}
+use Rattle.xet_merkle.proofs.Merging.Bounds.{join_count}
 use Rattle.std.proofs.Common.{◌≡◌, ℕ, ◌+◌, ◌<◌, ◌≤◌, ◌^◌, Bool, true, false, List, [], ◌∷◌, ◌++◌, length, map, take, drop, refl, sym, ap, subst, ◌∙◌, arith, append_assoc}
 use Rattle.xet_merkle.specs.Groups.{Node}
 use Rattle.xet_merkle.specs.Roots.{total_size, parent_by, parent}
@@ -22,24 +22,6 @@ use Rattle.xet_merkle.proofs.Merging.Join.{join, right_above}
 use Rattle.xet_merkle.proofs.Merging.Kept.{joined_sides, joined_top, joined_one, joined_size}
 
 -- ---- lengths and sizes
-
-pub above-shorter : (levels : List Level) → 1 < length levels → length (above levels) < length levels
-above-shorter [] more = absurd (omega arith)
-above-shorter (top ∷ []) more = absurd (omega arith)
-above-shorter (level ∷ next ∷ levels) more = omega arith
-
-pub above-not_longer : (levels : List Level) → length (above levels) ≤ length levels
-above-not_longer [] = omega arith
-above-not_longer (top ∷ []) = omega arith
-above-not_longer (level ∷ next ∷ levels) = omega arith
-
-pub between_size : (xs : List Level) (carry : List Node) (ys : List Level) → total_size (between xs carry ys) ≤ levels_size xs + (total_size carry + levels_size ys)
-between_size [] carry [] = omega arith
-between_size [] carry (y ∷ ys) = omega (arith, total_size-append carry y.left)
-between_size (x ∷ []) carry [] = omega (arith, total_size-append x.left carry)
-between_size (x ∷ []) carry (y ∷ ys) = omega (arith, total_size-append x.left (carry ++ y.left), total_size-append carry y.left)
-between_size (x ∷ next ∷ xs) carry [] = omega (arith, total_size-append x.right carry)
-between_size (x ∷ next ∷ xs) carry (y ∷ ys) = omega (arith, total_size-append x.right (carry ++ y.left), total_size-append carry y.left)
 
 module _ (at_start at_end : Bool) where
   pub step_size : {xs ys : List Level} (carry : List Node) {left middle right : List Node} → IsJoinSplit at_start at_end xs ys (between xs carry ys) left middle right →
@@ -66,12 +48,6 @@ split_before at_start at_end xs ys carry seen left middle {right} few more seen_
 
 module _ (make : List Node → Node) (at_start at_end : Bool) (xs ys : List Level) (first : List Node) where
   -- ---- levels
-
-  -- nothing is built yet
-  pub join_start : JoinBelow make at_start at_end xs first ys [] 0 xs first ys
-  join_start = λ top work joined.
-      let none_done : work ≡ 0 + work = omega arith in
-      subst (λ (n : ℕ). IsJoin make at_start at_end xs first ys top n) none_done joined
 
   pub join_step : (levels : List Level) (done : ℕ) (rest_x rest_y : List Level) (carry left middle right parents : List Node) →
       JoinBelow make at_start at_end xs first ys levels done rest_x carry rest_y →
@@ -128,10 +104,6 @@ module _ (front back : Subtree) (x : IsWellFormed front) (y : IsWellFormed back)
     top_x = x.rule_11;
     top_y = y.rule_11;
   }
-
-  -- each of them has at most one level more than nodes
-  pub operands_short : (length front.levels ≤ node_count front.levels + 1) × (length back.levels ≤ node_count back.levels + 1)
-  operands_short = (right_sides_short front.at_start front.levels operands.sides_x, left_sides_short back.at_end back.levels operands.sides_y)
 
   -- and levels that theirs are joined to
   module _ (hash : List Node → List ℕ) (levels : List Level) (work : ℕ) (joined : IsJoin (parent_by hash) front.at_start back.at_end front.levels [] back.levels levels work) where
