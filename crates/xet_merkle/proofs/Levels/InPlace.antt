@@ -51,12 +51,6 @@ with_inner-below (level ∷ next ∷ levels) (suc at) more d below = ap (λ (l :
 
 -- ---- the levels above
 
-pub drop-next : (n : ℕ) (levels : List Level) → drop 1 (drop n levels) ≡ drop (suc n) levels
-drop-next zero [] = refl
-drop-next zero (level ∷ levels) = refl
-drop-next (suc n) [] = refl
-drop-next (suc n) (level ∷ levels) = drop-next n levels
-
 pub sides-above : (at_start at_end : Bool) (n : ℕ) (levels : List Level) → n < length levels → HaveSides at_start at_end levels → HaveSides at_start at_end (drop n levels)
 sides-above at_start at_end zero levels within sides = sides
 sides-above at_start at_end (suc n) [] within sides = absurd (omega arith)

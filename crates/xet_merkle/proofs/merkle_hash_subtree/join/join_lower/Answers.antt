@@ -1,5 +1,5 @@
-use Rattle.std.proofs.Common.{◌≡◌, ℕ, suc, ◌+◌, ◌<◌, ◌≤◌, Bool, false, List, [], ◌∷◌, ◌++◌, length, map, drop, sym, ap, subst, ◌∙◌, arith, rules, length-append, IsTrue}
-use Rattle.std.proofs.lemmas.List.{length-drop, map-append, length-map}
+use Rattle.std.proofs.Common.{◌≡◌, ℕ, ◌+◌, ◌<◌, ◌≤◌, Bool, false, List, [], ◌∷◌, ◌++◌, length, map, drop, sym, ap, subst, ◌∙◌, arith, rules, length-append, IsTrue}
+use Rattle.std.proofs.lemmas.List.{length-drop, drop-drop, map-append, length-map}
 use Rattle.xet_merkle.specs.Groups.{Node}
 use Rattle.xet_merkle.specs.Roots.{parent_by}
 use Rattle.xet_merkle.specs.Levels.{Level, left_at}
@@ -7,7 +7,7 @@ use Rattle.xet_merkle.specs.Steps.StableScan.{AddsNoStable}
 use Rattle.xet_merkle.specs.Steps.Joining.{operand, above, inner_nodes, between, lowest_with, IsJoinSplit}
 use Rattle.xet_merkle.specs.Steps.Building.{JoinBelow}
 use Rattle.xet_merkle.proofs.Levels.Reading.{operand-some, operand-above, above-drop}
-use Rattle.xet_merkle.proofs.Levels.InPlace.{lowest_with-more, drop-next}
+use Rattle.xet_merkle.proofs.Levels.InPlace.{lowest_with-more}
 use Rattle.xet_merkle.proofs.Roots.Making.{total_size-are_parents, AreParents-few}
 use Rattle.xet_merkle.proofs.Merging.Bounds.{step_room}
 use Rattle.xet_merkle.proofs.Merging.LevelByLevel.{step_size, join_step}
@@ -69,7 +69,7 @@ levels-preserved g c =
     ap (λ vecs. map (λ vec. vec.items) vecs) pushed ∙ map-append (λ vec. vec.items) rights (last ∷ []) ∙ ap (λ (l : List Node). lists ++ l ∷ []) last_is in
     let len_lists = length-map rights (λ vec. vec.items) in
     let len_pushed = ap length pushed in
-    let next_is : suc (length rights) ≡ length c.push.new.self.items = omega (arith, length-append rights (last ∷ [])) in
+    let next_is : length rights + 1 ≡ length c.push.new.self.items = omega (arith, length-append rights (last ∷ [])) in
     let lower : lowest_with (map (λ vec. vec.items) c.push.new.self.items) levels ≡ lowest_with lists levels ++ record { left = left_at front 0; right = right } ∷ [] =
     rw (more_lists, c.levels.invariant.front_is, sym len_lists) (lowest_with-more lists right levels (let within = c.levels.invariant.within in omega arith)) in
     let above_is : above front ≡ c.above-front.result.now = above-drop front more ∙ sym c.above-front.ensures in
@@ -88,7 +88,7 @@ levels-preserved g c =
     let before = c.levels.invariant.room in
     record {
       within = omega (arith, length-append rights (last ∷ []), length-drop (length rights) levels);
-      front_is = sym above_is ∙ above-drop front more ∙ ap (λ (xs : List Level). drop 1 xs) c.levels.invariant.front_is ∙ drop-next (length rights) levels
+      front_is = sym above_is ∙ above-drop front more ∙ ap (λ (xs : List Level). drop 1 xs) c.levels.invariant.front_is ∙ drop-drop 1 (length rights) levels
           ∙ ap (λ (n : ℕ). drop n levels) next_is;
       joins = rw (lower, count, sym above_is, sym back_is) next;
       appends = subst (λ (l : List Node). IsTrue c.only_appends-appends-in-levels.result → (c.args.at_end ≡ false) × (length c.above-back.result.now ≤ 1) × AddsNoStable (inner_nodes (operand c.above-front.result.now)) (l ++ left_at c.above-back.result.now 0)) c.deref-in-levels-3.ensures.value c.only_appends-appends-in-levels.ensures;
