@@ -91,6 +91,19 @@ pub nothing_of : (nodes : List Node) → length nodes < 1 → nodes ≡ []
 nothing_of [] few = refl
 nothing_of (x ∷ nodes) few = absurd (omega arith)
 
+-- other nodes in front of the last two natural cuts
+ends_behind : (left : List Node) (h : EndsStable left) (before : List Node) → EndsStable (before ++ h.first ∷ (h.between ++ h.last ∷ []))
+ends_behind left h before = record {
+  before = before;
+  first = h.first;
+  between = h.between;
+  last = h.last;
+  parts = refl;
+  first_cut = h.first_cut;
+  last_cut = h.last_cut;
+  gap = h.gap;
+}
+
 module _ (near more : List Node) (none : (cut : Node) → Cut cut → NoNew (cut ∷ near) more) where
   -- a stable place whose second and third natural cuts are in sight, and the first one too or in front of them
   in_sight : (cut : Node) → Cut cut → (out tail left right : List Node) → left ≡ out ++ tail → EndsStable left → EndsStable (cut ∷ tail) → BeginsStable right →
@@ -110,17 +123,7 @@ module _ (near more : List Node) (none : (cut : Node) → Cut cut → NoNew (cut
       let ends = stable.ends in
       let cuts : List Node = ends.first ∷ (ends.between ++ ends.last ∷ []) in
       let left_is : left ≡ out ++ (gap ++ cuts) = ends.parts ∙ ap (λ (l : List Node). l ++ cuts) at ∙ append_assoc out gap cuts in
-      in_sight ends.first ends.first_cut out (gap ++ cuts) left right left_is ends
-      (record {
-        before = ends.first ∷ gap;
-        first = ends.first;
-        between = ends.between;
-        last = ends.last;
-        parts = refl;
-        first_cut = ends.first_cut;
-        last_cut = ends.last_cut;
-        gap = ends.gap;
-      }) stable.begins e
+      in_sight ends.first ends.first_cut out (gap ++ cuts) left right left_is ends (ends_behind left ends (ends.first ∷ gap)) stable.begins e
 
   first_in_front : (out left right : List Node) (stable : IsStable left right) → length out ≤ 1 → length stable.ends.before < length out → (out ++ near) ++ more ≡ left ++ right →
       (rest : List Node) × (out ++ near ≡ left ++ rest) × IsStable left rest
@@ -133,17 +136,7 @@ module _ (near more : List Node) (none : (cut : Node) → Cut cut → NoNew (cut
       let left_cut : left ≡ ends.first ∷ cuts = ends.parts ∙ ap (λ (l : List Node). l ++ ends.first ∷ cuts) none_before in
       let whole : x ∷ (near ++ more) ≡ ends.first ∷ (cuts ++ right) = e ∙ ap (λ (l : List Node). l ++ right) left_cut in
       let at : x ≡ ends.first = cc in
-      in_sight ends.first ends.first_cut (x ∷ []) cuts left right (left_cut ∙ ap (λ (y : Node). y ∷ cuts) (sym at)) ends
-      (record {
-        before = [];
-        first = ends.first;
-        between = ends.between;
-        last = ends.last;
-        parts = refl;
-        first_cut = ends.first_cut;
-        last_cut = ends.last_cut;
-        gap = ends.gap;
-      }) stable.begins e
+      in_sight ends.first ends.first_cut (x ∷ []) cuts left right (left_cut ∙ ap (λ (y : Node). y ∷ cuts) (sym at)) ends (ends_behind left ends []) stable.begins e
 
   adds_none : (before : List Node) → (before ≡ []) ⊎ (14 ≤ length near) → AddsNoStable (before ++ near) more
   adds_none before enough front left right few e stable =
