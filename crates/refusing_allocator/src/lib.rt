@@ -23,7 +23,12 @@ impl<B: Allocator> RefusingAllocator<B> {
         }
     }
 
-    /// Whether a request was refused.
+    /// Grants so many requests from here on, and refuses each later one.
+    pub fn grant(&self, granted: u32) {
+        self.left.set(i64::from(granted));
+    }
+
+    /// Whether a request was refused since requests were last granted.
     pub fn has_refused(&self) -> bool {
         self.left.get() < 0
     }

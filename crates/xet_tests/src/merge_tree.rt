@@ -80,8 +80,8 @@ fn join<R: ChunkRange>(
     Ok(MergeTree::Join(Box::new(alloc, left)?, Box::new(alloc, right)?))
 }
 
-// The tree of a bracketing: a point stands for the next range, a plus joins the last two trees.
-fn tree<R: ChunkRange>(
+/// The tree of a bracketing: a point stands for the next range, a plus joins the last two trees.
+pub fn tree<R: ChunkRange>(
     alloc: Global,
     bracketing: &str,
     ranges: Vec<R>,
@@ -104,29 +104,32 @@ fn tree<R: ChunkRange>(
     Ok(trees.pop())
 }
 
-// The nodes 0 to 3, 4 to 23, 24 to 27 and none, of 28 of which each fourth is a natural cut; the first range is marked
-// at its start, the last at its end.
-fn four_ranges<R: ChunkRange<Alloc = Global>>(alloc: Global) -> Result<Vec<R>, CoreError> {
+/// The nodes 0 to 3, 4 to 23, 24 to 27 and none, of 28 of which each fourth is a natural cut; the first range is marked
+/// at its start, the last at its end.
+pub fn four_ranges<R: ChunkRange>(alloc: Global, of_ranges: R::Alloc) -> Result<Vec<R>, CoreError>
+where
+    R::Alloc: Copy,
+{
     let nodes = with_cuts::<28>(&EACH_FOURTH);
     let (first, others) = nodes.as_slice().split_at(4);
     let (second, third) = others.split_at(20);
     let mut ranges = Vec::new(alloc);
-    ranges.push(R::from_chunks(alloc, true, first, false)?)?;
-    ranges.push(R::from_chunks(alloc, false, second, false)?)?;
-    ranges.push(R::from_chunks(alloc, false, third, false)?)?;
-    ranges.push(R::from_chunks(alloc, false, &[], true)?)?;
+    ranges.push(R::from_chunks(of_ranges, true, first, false)?)?;
+    ranges.push(R::from_chunks(of_ranges, false, second, false)?)?;
+    ranges.push(R::from_chunks(of_ranges, false, third, false)?)?;
+    ranges.push(R::from_chunks(of_ranges, false, &[], true)?)?;
     Ok(ranges)
 }
 
 fn run<R: ChunkRange<Alloc = Global>>(alloc: Global, bracketing: &str) -> Result<R, CoreError> {
-    match tree(alloc, bracketing, four_ranges(alloc)?)? {
+    match tree(alloc, bracketing, four_ranges(alloc, alloc)?)? {
         Some(tree) => Ok(tree.run()?),
         None => Err(CoreError::InvalidArguments),
     }
 }
 
-// The five bracketings of four ranges, and how deep their joins go.
-const BRACKETINGS: [(&str, u32); 5] = [
+/// The five bracketings of four ranges, and how deep their joins go.
+pub const BRACKETINGS: [(&str, u32); 5] = [
     ("..+.+.+", 3),
     ("...++.+", 3),
     ("..+..++", 2),

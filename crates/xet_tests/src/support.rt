@@ -4,7 +4,7 @@
 use rand_core::{Rng, SeedableRng};
 use rand_xoshiro::Xoshiro256PlusPlus;
 use serde_json::Value;
-use std::alloc::{AllocError, Global};
+use std::alloc::{AllocError, Allocator, Global};
 use std::fmt::Write;
 use std::test::Fail;
 use xet_hash::data_hash::{DataHash, MerkleHash, compute_data_hash};
@@ -66,7 +66,7 @@ pub fn with_cuts<const N: usize>(cuts: &[u64]) -> [Node; N] {
 pub const EACH_FOURTH: [u64; 7] = [3, 7, 11, 15, 19, 23, 27];
 
 /// Whether each level of a subtree has so many left and right nodes.
-pub fn has_counts(subtree: &MerkleHashSubtree, counts: &[(usize, usize)]) -> bool {
+pub fn has_counts<A: Allocator>(subtree: &MerkleHashSubtree<A>, counts: &[(usize, usize)]) -> bool {
     let mut total = 0usize;
     for (level, (left, right)) in counts.iter().enumerate() {
         if subtree.left(level).len() != *left || subtree.right(level).len() != *right {
@@ -210,4 +210,28 @@ pub fn drawn_lengths(
 /// What the JSON value of a text is read as.
 pub fn read_json(alloc: Global, text: &str) -> Result<Result<MerkleHashSubtree, CoreError>, Fail> {
     Ok(MerkleHashSubtree::from_json(alloc, &Value::from_str(alloc, text)?))
+}
+
+/// The JSON value of an open subtree of two levels: left and right nodes of the lower one, and left nodes of the upper one.
+pub fn two_levels(
+    alloc: Global,
+    left: &[Node],
+    right: &[Node],
+    top: &[Node],
+) -> Result<Value, Fail> {
+    let mut text = format!(in alloc;
+        "{{\"at_end\":false,\"at_start\":false,\"levels\":[[{},{}],[{},0]],\"nodes\":[",
+        left.len(),
+        right.len(),
+        top.len()
+    )?;
+    let mut comma = "";
+    for nodes in [left, top, right] {
+        for (hash, size) in nodes {
+            write!(text, "{comma}{{\"hash\":\"{hash}\",\"size\":{size}}}")?;
+            comma = ",";
+        }
+    }
+    write!(text, "]}}")?;
+    Ok(Value::from_str(alloc, text.as_str())?)
 }

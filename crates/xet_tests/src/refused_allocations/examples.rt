@@ -1,0 +1,190 @@
+//! The worked examples of lists, subtrees, maps and trees.
+
+use super::ranges::Kind;
+use super::{Call, Outcome, Refusing, outcome_of};
+use crate::merge_tree::{BRACKETINGS, four_ranges, tree};
+use crate::support::{EACH_FOURTH, has_counts, two_levels, with_cuts};
+use serde_json::Value;
+use std::alloc::Global;
+use std::test::Fail;
+use xet_hash::data_hash::DataHash;
+use xet_hash::passthrough_hashmap::PassThroughHashMap;
+use xet_merkle::CoreError;
+use xet_merkle::aggregated_hashes::{Node, file_hash, xorb_hash};
+use xet_merkle::merkle_hash_subtree::MerkleHashSubtree;
+use xet_merkle::plain_range::PlainRange;
+
+/// Tries a worked example.
+pub fn attempt(
+    call: Call,
+    alloc: &Refusing,
+    granted: u32,
+    memory: Global,
+) -> Result<Outcome, Fail> {
+    let values = strangers(memory)?;
+    alloc.grant(granted);
+    let answer = match call {
+        Call::ThreePairs => three_pairs(alloc),
+        Call::OpenRanges => open_ranges(alloc),
+        Call::RangesFromTheStart => ranges_from_the_start(alloc),
+        Call::SubtreesFromStrangers => subtrees_from_strangers(alloc, &values),
+        Call::NoPairs => no_pairs(alloc),
+        Call::TwoValuesOfOneKey => two_values_of_one_key(alloc),
+        Call::BracketingsOfSubtrees => bracketings::<MerkleHashSubtree<&Refusing>>(alloc, memory),
+        _ => bracketings::<PlainRange<&Refusing>>(alloc, memory),
+    };
+    Ok(outcome_of(answer, values == strangers(memory)?))
+}
+
+const ROOT: &str = "71ec1275fca074724e2dd666921b3277c7cee603e4d025bcab2d4050015be2bc";
+
+const FILE: &str = "54e55dccc6653c612bdb5576c5d3cb34bb31bc4e100248abccf4c908b3ef7715";
+
+// Whether three pairs have their root and their file hash.
+fn three_pairs(alloc: &Refusing) -> Result<bool, CoreError> {
+    let pairs = [1, 2, 3].map(|seed| (DataHash::random_from_seed(seed), seed.saturating_mul(100)));
+    let root = xorb_hash(alloc, &pairs)?;
+    let file = file_hash(alloc, &pairs)?;
+    Ok(DataHash::from_hex(ROOT).ok() == Some(root) && DataHash::from_hex(FILE).ok() == Some(file))
+}
+
+// Whether merging a range into the one before it gives the subtree of all their chunks and hashes so many parents. False,
+// too, where it is refused and the one before isn't as it was.
+fn merges_to<'a>(
+    left: &mut MerkleHashSubtree<&'a Refusing>,
+    right: &MerkleHashSubtree<&'a Refusing>,
+    whole: &MerkleHashSubtree<&'a Refusing>,
+    count: u128,
+) -> Result<bool, CoreError> {
+    let before = left.try_clone()?;
+    match left.merge_into_counted(right) {
+        Ok(hashed) => Ok(hashed == count && *left == *whole),
+        Err(CoreError::OutOfMemory) if *left != before => Ok(false),
+        Err(error) => Err(error),
+    }
+}
+
+// Some of 28 nodes of which each fourth is a natural cut.
+fn open<'a>(
+    alloc: &'a Refusing,
+    nodes: &[Node],
+) -> Result<MerkleHashSubtree<&'a Refusing>, CoreError> {
+    MerkleHashSubtree::from_chunks(alloc, false, nodes, false)
+}
+
+// Whether ranges of the first 24 nodes merge.
+fn open_ranges(alloc: &Refusing) -> Result<bool, CoreError> {
+    let all = with_cuts::<28>(&EACH_FOURTH);
+    let nodes = all.as_slice();
+    let whole = open(alloc, &nodes[..24])?;
+    let mut twenty = open(alloc, &nodes[..20])?;
+    let last_four = open(alloc, &nodes[20..24])?;
+    let mut four = open(alloc, &nodes[..4])?;
+    let last_twenty = open(alloc, &nodes[4..24])?;
+    let have_counts = has_counts(&twenty, &[(8, 4), (2, 0)])
+        && has_counts(&whole, &[(8, 4), (3, 0)]);
+    let is_merged = merges_to(&mut twenty, &last_four, &whole, 1)?;
+    Ok(merges_to(&mut four, &last_twenty, &whole, 1)? && is_merged && have_counts)
+}
+
+// Whether ranges of all 28 nodes merge, from the start to the end.
+fn ranges_from_the_start(alloc: &Refusing) -> Result<bool, CoreError> {
+    let all = with_cuts::<28>(&EACH_FOURTH);
+    let nodes = all.as_slice();
+    let mut first = MerkleHashSubtree::from_chunks(alloc, true, &nodes[..4], false)?;
+    let mut middle = open(alloc, &nodes[4..24])?;
+    let last = open(alloc, &nodes[24..])?;
+    let others = open(alloc, &nodes[4..])?;
+    let end = MerkleHashSubtree::from_chunks(alloc, false, &[], true)?;
+    let begun = MerkleHashSubtree::from_chunks(alloc, true, nodes, false)?;
+    let closed = MerkleHashSubtree::from_chunks(alloc, true, nodes, true)?;
+    let root = xorb_hash(alloc, nodes)?;
+    let is_open = merges_to(&mut middle, &last, &others, 1)?;
+    let is_begun = merges_to(&mut first, &middle, &begun, 3)?;
+    let has_counts = has_counts(&first, &[(0, 4), (6, 0)]);
+    let is_closed = merges_to(&mut first, &end, &closed, 4)?;
+    Ok(is_open && is_begun && has_counts && is_closed && first.final_hash() == Some(root))
+}
+
+// The JSON values of three subtrees: a level's left nodes have a stable point; right ones have no natural cut; and all
+// is right.
+fn strangers(memory: Global) -> Result<[Value; 3], Fail> {
+    let nodes = with_cuts::<28>(&EACH_FOURTH);
+    let (nodes, _) = nodes.split_at(24);
+    let (first, rest) = nodes.split_at(8);
+    let (_, last) = rest.split_at(8);
+    let (_, right) = rest.split_at(12);
+    let twenty = MerkleHashSubtree::from_chunks(memory, false, &nodes[..20], false)?;
+    let whole = MerkleHashSubtree::from_chunks(memory, false, nodes, false)?;
+    let mut longer = Vec::new(memory);
+    longer.extend_from_slice(first)?;
+    longer.extend_from_slice(last)?;
+    let plain = with_cuts::<4>(&[]);
+    Ok([
+        two_levels(memory, longer.as_slice(), &[], twenty.left(1))?,
+        two_levels(memory, first, &plain, whole.left(1))?,
+        two_levels(memory, first, right, whole.left(1))?,
+    ])
+}
+
+// Whether a value is refused by a rule.
+fn breaks(alloc: &Refusing, value: &Value, rule: u8) -> Result<bool, CoreError> {
+    match MerkleHashSubtree::from_json(alloc, value) {
+        Err(CoreError::OutOfMemory) => Err(CoreError::OutOfMemory),
+        answer => Ok(answer.err() == Some(CoreError::InvalidJson(rule))),
+    }
+}
+
+// Whether the first of three values breaks rule 12, the second rule 13, and the third is read.
+fn subtrees_from_strangers(alloc: &Refusing, values: &[Value; 3]) -> Result<bool, CoreError> {
+    let [longer, plain, right] = values;
+    let nodes = with_cuts::<28>(&EACH_FOURTH);
+    let whole = open(alloc, &nodes[..24])?;
+    Ok(
+        breaks(alloc, longer, 12)?
+            && breaks(alloc, plain, 13)?
+            && MerkleHashSubtree::from_json(alloc, right)? == whole,
+    )
+}
+
+// Whether the subtree of no pairs has no node, and is refused a range that is marked at its start.
+fn no_pairs(alloc: &Refusing) -> Result<bool, CoreError> {
+    let closed = MerkleHashSubtree::from_chunks(alloc, true, &[], true)?;
+    let begun = MerkleHashSubtree::from_chunks(alloc, true, &[], false)?;
+    let mut open = MerkleHashSubtree::from_chunks(alloc, false, &[], false)?;
+    let before = open.try_clone()?;
+    Ok(
+        has_counts(&closed, &[(0, 0)])
+            && closed.final_hash() == Some(DataHash::default())
+            && begun.final_hash().is_none()
+            && open.merge_into(&begun) == Err(CoreError::InvalidArguments)
+            && open == before,
+    )
+}
+
+// Whether a map keeps the last of two values of a key, and gives the first one back.
+fn two_values_of_one_key(alloc: &Refusing) -> Result<bool, CoreError> {
+    let key = DataHash::random_from_seed(1);
+    let mut map = PassThroughHashMap::new(alloc);
+    let none = map.insert(key, "value1")?;
+    let first = map.insert(key, "value2")?;
+    Ok(none.is_none() && first == Some("value1") && map.get(&key) == Some(&"value2"))
+}
+
+// Whether each bracketing of four ranges gives the range of all their chunks.
+fn bracketings<'a, R: Kind<Alloc = &'a Refusing>>(
+    alloc: &'a Refusing,
+    memory: Global,
+) -> Result<bool, CoreError> {
+    let whole = R::from_chunks(alloc, true, &with_cuts::<28>(&EACH_FOURTH), true)?;
+    for (bracketing, _) in BRACKETINGS {
+        let ranges = four_ranges::<R>(memory, alloc)?;
+        let Some(tree) = tree(memory, bracketing, ranges)? else {
+            return Ok(false);
+        };
+        if !tree.run()?.equals(&whole) {
+            return Ok(false);
+        }
+    }
+    Ok(true)
+}

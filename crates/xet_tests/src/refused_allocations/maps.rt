@@ -1,0 +1,72 @@
+//! The map for deduplication.
+
+use super::{Call, Outcome, Refusing, outcome_of};
+use std::alloc::AllocError;
+use std::test::Fail;
+use xet_hash::passthrough_hashmap::PassThroughHashMap;
+use xet_merkle::CoreError;
+
+/// A map of the numbers from 0 on, each with itself as its value.
+pub type Numbers<'a> = PassThroughHashMap<u64, u64, &'a Refusing>;
+
+/// Eight numbers, each with itself.
+pub const EIGHT: [(u64, u64); 8] = [
+    (0, 0),
+    (1, 1),
+    (2, 2),
+    (3, 3),
+    (4, 4),
+    (5, 5),
+    (6, 6),
+    (7, 7),
+];
+
+/// Whether a map has the numbers up to a count, and no more.
+pub fn has_numbers(map: &Numbers<'_>, count: u64) -> bool {
+    for number in 0..count {
+        if map.get(&number) != Some(&number) {
+            return false;
+        }
+    }
+    map.len() as u64 == count
+}
+
+// Whether a map that a call makes has its numbers.
+fn is_made(call: Call, alloc: &Refusing, eight: &Numbers<'_>) -> Result<bool, CoreError> {
+    match call {
+        Call::MapWithCapacity => Ok(has_numbers(&PassThroughHashMap::with_capacity(alloc, 8)?, 0)),
+        Call::MapFromPairs => Ok(has_numbers(&PassThroughHashMap::from_pairs(alloc, EIGHT)?, 8)),
+        Call::MapFromArray => Ok(has_numbers(&PassThroughHashMap::from_array(alloc, EIGHT)?, 8)),
+        _ => Ok(has_numbers(&eight.try_clone()?, 8)),
+    }
+}
+
+/// Tries a call that makes a map.
+pub fn make(call: Call, alloc: &Refusing, granted: u32) -> Result<Outcome, Fail> {
+    let eight = PassThroughHashMap::from_array(alloc, EIGHT)?;
+    alloc.grant(granted);
+    let answer = is_made(call, alloc, &eight);
+    Ok(outcome_of(answer, has_numbers(&eight, 8)))
+}
+
+// Puts a number into a map, through its entry or not.
+fn put(call: Call, map: &mut Numbers<'_>, number: u64) -> Result<(), AllocError> {
+    if call == Call::MapEntry {
+        map.entry(number).or_insert(number)?;
+    } else {
+        map.insert(number, number)?;
+    }
+    Ok(())
+}
+
+/// Tries to put the numbers up to 99 into a map. After a refusal it should have the numbers before the refused one.
+pub fn fill(call: Call, alloc: &Refusing, granted: u32) -> Outcome {
+    let mut map = PassThroughHashMap::new(alloc);
+    alloc.grant(granted);
+    for number in 0..100 {
+        if put(call, &mut map, number).is_err() {
+            return outcome_of(Err(CoreError::OutOfMemory), has_numbers(&map, number));
+        }
+    }
+    outcome_of(Ok(has_numbers(&map, 100)), true)
+}

@@ -1,0 +1,127 @@
+//! Calls that take no memory, with each request refused. A call that is passed no allocator, and no value that holds
+//! one, has none to ask; of the others each is called here.
+
+use super::maps::{EIGHT, Numbers, has_numbers};
+use super::{Refusing, refusing};
+use crate::support::{EACH_FOURTH, has_counts, with_cuts};
+use std::collections::HashMap;
+use std::test::Fail;
+use xet_hash::data_hash::{DataHash, MerkleHash};
+use xet_hash::passthrough_hashmap::{Entry, PassThroughHashMap};
+use xet_merkle::CoreError;
+use xet_merkle::aggregated_hashes::{Node, file_hash, file_hash_with_salt, xorb_hash};
+use xet_merkle::chunk_range::ChunkRange;
+use xet_merkle::merkle_hash_subtree::{MerkleHashSubtree, find_stable_end, find_stable_start};
+
+// The root of some pairs, and their file hash without a salt and under one of zeros.
+fn hashes(alloc: &Refusing, pairs: &[Node]) -> Result<[MerkleHash; 3], CoreError> {
+    Ok([
+        xorb_hash(alloc, pairs)?,
+        file_hash(alloc, pairs)?,
+        file_hash_with_salt(alloc, pairs, &[0; 32])?,
+    ])
+}
+
+#[test]
+fn hashes_of_at_most_one_pair_take_no_memory(rt: HostRuntime) -> Result<(), Fail> {
+    let root = "cfc5d07f6f03c29bbf424132963fe08d19a37d5757aaf520bf08119f05cd56d6";
+    let root = DataHash::from_hex(root)?;
+    let file = "8e16257caa3fe079d484d872a8975264b2ff683b0d6db9028cc7c0f968a45661";
+    let file = DataHash::from_hex(file)?;
+    let alloc = refusing(rt.alloc());
+    alloc.grant(0);
+    assert_eq!(rt; hashes(&alloc, &[]), Ok([DataHash::default(); 3]));
+    assert_eq!(rt; hashes(&alloc, &[(root, u64::MAX)]), Ok([root, file, file]));
+    assert!(rt; !alloc.has_refused());
+    Ok(())
+}
+
+// Whether what an open subtree of 24 nodes and a closed one of 28 show is right.
+fn show_what_they_are<'a>(
+    open: &MerkleHashSubtree<&'a Refusing>,
+    closed: &MerkleHashSubtree<&'a Refusing>,
+    root: MerkleHash,
+) -> bool {
+    has_counts(open, &[(8, 4), (3, 0)])
+        && !open.at_start()
+        && !open.at_end()
+        && open.total_size() == 24
+        && open.final_hash().is_none()
+        && open.root() == Ok(None)
+        && open != closed
+        && closed.at_start()
+        && closed.at_end()
+        && closed.total_size() == 28
+        && closed.final_hash() == Some(root)
+        && closed.root() == Ok(Some(root))
+}
+
+#[test]
+fn looking_at_subtrees_takes_no_memory(rt: HostRuntime) -> Result<(), Fail> {
+    let nodes = with_cuts::<28>(&EACH_FOURTH);
+    let root = xorb_hash(rt.alloc(), &nodes)?;
+    let alloc = refusing(rt.alloc());
+    let open = MerkleHashSubtree::from_chunks(&alloc, false, &nodes[..24], false)?;
+    let closed = MerkleHashSubtree::from_chunks(&alloc, true, &nodes, true)?;
+    alloc.grant(0);
+    assert!(rt; show_what_they_are(&open, &closed, root));
+    assert_eq!(rt; find_stable_start(open.left(0)), None);
+    assert_eq!(rt; find_stable_end(&nodes), Some(24));
+    assert!(rt; !alloc.has_refused());
+    Ok(())
+}
+
+// Whether look-ups in a map of eight numbers and walks over it find them.
+fn is_read(map: &Numbers<'_>) -> bool {
+    let mut sum = 0u64;
+    for (number, value) in map {
+        sum = sum.saturating_add(*number).saturating_add(*value);
+    }
+    sum == 56
+        && has_numbers(map, 8)
+        && map.get_key_value(&7) == Some((&7, &7))
+        && map.contains_key(&7)
+        && !map.contains_key(&8)
+        && !map.is_empty()
+        && map.iter().next().is_some()
+        && map.keys().copied().max() == Some(7)
+        && map.values().copied().max() == Some(7)
+        && map.as_map().len() == 8
+}
+
+// Whether numbers are changed and taken out of a map of eight.
+fn is_changed(map: &mut Numbers<'_>) -> bool {
+    if let Some(value) = map.get_mut(&6) {
+        *value = 60;
+    }
+    let taken = match map.entry(5) {
+        Entry::Occupied(place) => Some(place.remove()),
+        Entry::Vacant(_) => None,
+    };
+    taken == Some(5)
+        && map.remove(&7) == Some(7)
+        && map.remove_entry(&6) == Some((6, 60))
+        && map.remove(&6).is_none()
+        && map.as_map_mut().remove(&0) == Some(0)
+        && map.len() == 4
+}
+
+#[test]
+fn maps_are_read_and_emptied_without_memory(rt: HostRuntime) -> Result<(), Fail> {
+    let alloc = refusing(rt.alloc());
+    let mut map: Numbers<'_> = PassThroughHashMap::from_array(&alloc, EIGHT)?;
+    alloc.grant(0);
+    let none: Numbers<'_> = PassThroughHashMap::new(&alloc);
+    assert!(rt; none.is_empty());
+    assert!(rt; is_read(&map));
+    assert!(rt; is_changed(&mut map));
+    let inner: HashMap<u64, u64, _, &Refusing> = map.into();
+    assert_eq!(rt; inner.len(), 4);
+    let mut map: Numbers<'_> = PassThroughHashMap::from(inner);
+    assert_eq!(rt; map.get(&1), Some(&1));
+    map.clear();
+    assert!(rt; map.is_empty());
+    assert_eq!(rt; map.into_iter().count(), 0);
+    assert!(rt; !alloc.has_refused());
+    Ok(())
+}

@@ -1,0 +1,205 @@
+//! Ranges of chunks of each kind, their joins and trees.
+
+use super::{Call, Chunks, Outcome, Refusing, outcome_of};
+use std::test::Fail;
+use xet_merkle::CoreError;
+use xet_merkle::aggregated_hashes::xorb_hash;
+use xet_merkle::chunk_range::ChunkRange;
+use xet_merkle::merge_tree::MergeTree;
+use xet_merkle::merkle_hash_subtree::MerkleHashSubtree;
+use xet_merkle::parent_maker::{ParentHashes, ParentMaker};
+use xet_merkle::plain_range::PlainRange;
+
+// The subtree of some chunks.
+fn subtree<'a>(
+    alloc: &'a Refusing,
+    chunks: &Chunks<'_>,
+) -> Result<MerkleHashSubtree<&'a Refusing>, CoreError> {
+    MerkleHashSubtree::from_chunks(alloc, chunks.at_start, chunks.nodes, chunks.at_end)
+}
+
+// What a call comes to that should answer a subtree: whether it does, or all that was lent to it is the same.
+fn subtree_outcome<'a>(
+    answer: Result<MerkleHashSubtree<&'a Refusing>, CoreError>,
+    expected: &MerkleHashSubtree<&'a Refusing>,
+    is_same: bool,
+) -> Outcome {
+    match answer {
+        Ok(subtree) => outcome_of(Ok(subtree == *expected), is_same),
+        Err(error) => outcome_of(Err(error), is_same),
+    }
+}
+
+/// Tries to make the subtree of some chunks.
+pub fn from_chunks(alloc: &Refusing, granted: u32, chunks: &Chunks<'_>) -> Result<Outcome, Fail> {
+    let expected = subtree(alloc, chunks)?;
+    alloc.grant(granted);
+    let answer = subtree(alloc, chunks);
+    Ok(subtree_outcome(answer, &expected, true))
+}
+
+/// Tries to copy the subtree of some chunks.
+pub fn try_clone(alloc: &Refusing, granted: u32, chunks: &Chunks<'_>) -> Result<Outcome, Fail> {
+    let subtree = subtree(alloc, chunks)?;
+    let before = subtree.try_clone()?;
+    alloc.grant(granted);
+    let answer = subtree.try_clone();
+    Ok(subtree_outcome(answer, &before, subtree == before))
+}
+
+// Whether a call merges a range into the one before it and tells the count of parents, where it tells one.
+fn merges<'a>(
+    call: Call,
+    left: &mut MerkleHashSubtree<&'a Refusing>,
+    right: &MerkleHashSubtree<&'a Refusing>,
+    count: u128,
+) -> Result<bool, CoreError> {
+    match call {
+        Call::MergeIntoCounted => Ok(left.merge_into_counted(right)? == count),
+        Call::MergeIntoBy => { Ok(left.merge_into_by(right, ParentHashes::new())?.made() == count) }
+        _ => {
+            left.merge_into(right)?;
+            Ok(true)
+        }
+    }
+}
+
+/// Tries to merge the second of two lists of chunks into the first.
+pub fn merge_into(
+    call: Call,
+    alloc: &Refusing,
+    granted: u32,
+    parts: &[Chunks<'_>; 2],
+) -> Result<Outcome, Fail> {
+    let [first, second] = parts;
+    let (mut left, right) = (subtree(alloc, first)?, subtree(alloc, second)?);
+    let (left_before, right_before) = (left.try_clone()?, right.try_clone()?);
+    let mut merged = left.try_clone()?;
+    let count = merged.merge_into_counted(&right)?;
+    alloc.grant(granted);
+    let answer = merges(call, &mut left, &right, count);
+    let is_merged = left == merged;
+    let is_same = left == left_before && right == right_before;
+    Ok(outcome_of(answer.map(|is_right| is_right && is_merged), is_same))
+}
+
+/// Tries to merge the subtrees of three parts of some chunks.
+pub fn merge(alloc: &Refusing, granted: u32, chunks: &Chunks<'_>) -> Result<Outcome, Fail> {
+    let [first, rest] = chunks.split(chunks.nodes.len() / 3);
+    let [second, third] = rest.split(rest.nodes.len() / 2);
+    let expected = subtree(alloc, chunks)?;
+    let ranges = [
+        subtree(alloc, &first)?,
+        subtree(alloc, &second)?,
+        subtree(alloc, &third)?,
+    ];
+    let before = [
+        subtree(alloc, &first)?,
+        subtree(alloc, &second)?,
+        subtree(alloc, &third)?,
+    ];
+    alloc.grant(granted);
+    let answer = MerkleHashSubtree::merge(alloc, &ranges);
+    Ok(subtree_outcome(answer, &expected, ranges == before))
+}
+
+/// A kind of range of which two can be compared.
+pub trait Kind: ChunkRange {
+    /// Whether two ranges are equal.
+    fn equals(&self, other: &Self) -> bool;
+}
+
+impl Kind for MerkleHashSubtree<&Refusing> {
+    fn equals(&self, other: &Self) -> bool {
+        self == other
+    }
+}
+
+impl Kind for PlainRange<&Refusing> {
+    fn equals(&self, other: &Self) -> bool {
+        self.at_start() == other.at_start()
+            && self.chunks() == other.chunks()
+            && self.at_end() == other.at_end()
+            && self.total_size() == other.total_size()
+    }
+}
+
+// The range of some chunks.
+fn range<'a, R: Kind<Alloc = &'a Refusing>>(
+    alloc: &'a Refusing,
+    chunks: &Chunks<'_>,
+) -> Result<R, CoreError> {
+    R::from_chunks(alloc, chunks.at_start, chunks.nodes, chunks.at_end)
+}
+
+/// Tries to join two parts of some chunks.
+pub fn join<'a, R: Kind<Alloc = &'a Refusing>>(
+    alloc: &'a Refusing,
+    granted: u32,
+    chunks: &Chunks<'_>,
+) -> Result<Outcome, Fail> {
+    let [first, second] = chunks.split(100);
+    let expected: R = range(alloc, chunks)?;
+    let (mut left, right): (R, R) = (range(alloc, &first)?, range(alloc, &second)?);
+    let (left_before, right_before): (R, R) = (range(alloc, &first)?, range(alloc, &second)?);
+    alloc.grant(granted);
+    let answer = left.join(&right);
+    let is_same = left.equals(&left_before) && right.equals(&right_before);
+    match answer {
+        Ok(()) => Ok(outcome_of(Ok(left.equals(&expected)), is_same)),
+        Err(error) => Ok(outcome_of(Err(error), is_same)),
+    }
+}
+
+/// Tries the root of some chunks.
+pub fn root<'a, R: Kind<Alloc = &'a Refusing>>(
+    alloc: &'a Refusing,
+    granted: u32,
+    chunks: &Chunks<'_>,
+) -> Result<Outcome, Fail> {
+    let expected = xorb_hash(alloc, chunks.nodes)?;
+    let (range, before): (R, R) = (range(alloc, chunks)?, range(alloc, chunks)?);
+    alloc.grant(granted);
+    let answer = range.root();
+    let is_same = range.equals(&before);
+    match answer {
+        Ok(root) => Ok(outcome_of(Ok(root == Some(expected)), is_same)),
+        Err(error) => Ok(outcome_of(Err(error), is_same)),
+    }
+}
+
+// The range of some chunks, as a tree without joins.
+fn leaf<'a, R: Kind<Alloc = &'a Refusing>>(
+    alloc: &'a Refusing,
+    chunks: &Chunks<'_>,
+) -> Result<Box<MergeTree<R>>, CoreError> {
+    Ok(Box::new(chunks.alloc, MergeTree::Leaf(range(alloc, chunks)?))?)
+}
+
+/// Tries to join three parts of some chunks, of which the last two are joined first.
+pub fn run<'a, R: Kind<Alloc = &'a Refusing>>(
+    alloc: &'a Refusing,
+    granted: u32,
+    chunks: &Chunks<'_>,
+) -> Result<Outcome, Fail> {
+    let [first, rest] = chunks.split(60);
+    let [second, third] = rest.split(70);
+    let joined = MergeTree::Join(leaf(alloc, &second)?, leaf(alloc, &third)?);
+    let tree: MergeTree<R> = MergeTree::Join(leaf(alloc, &first)?, Box::new(chunks.alloc, joined)?);
+    let expected: R = range(alloc, chunks)?;
+    alloc.grant(granted);
+    match tree.run() {
+        Ok(joined) => Ok(outcome_of(Ok(joined.equals(&expected)), true)),
+        Err(error) => Ok(outcome_of(Err(error), true)),
+    }
+}
+
+/// Tries to read the JSON value of the subtree of some chunks.
+pub fn from_json(alloc: &Refusing, granted: u32, chunks: &Chunks<'_>) -> Result<Outcome, Fail> {
+    let expected = subtree(alloc, chunks)?;
+    let value = expected.to_json(chunks.alloc)?;
+    let before = expected.to_json(chunks.alloc)?;
+    alloc.grant(granted);
+    let answer = MerkleHashSubtree::from_json(alloc, &value);
+    Ok(subtree_outcome(answer, &expected, value == before))
+}
