@@ -140,3 +140,36 @@ fn drawn_bytes_are_hashed_and_handed_on(rt: HostRuntime) -> Result<(), Fail> {
     }
     Ok(())
 }
+
+// A writer that takes three bytes, and then fails.
+#[derive(Drop)]
+struct ThreeBytes {
+    taken: Vec<u8>,
+}
+
+impl Write for ThreeBytes {
+    fn write(&mut self, slice: &[u8]) -> io::Result<usize> {
+        if !self.taken.is_empty() {
+            return Err(io::Error::from(ErrorKind::StorageFull));
+        }
+        let len = slice.len().min(3);
+        self.taken.extend_from_slice(&slice[..len])?;
+        Ok(len)
+    }
+
+    fn flush(&mut self) -> io::Result<()> {
+        Ok(())
+    }
+}
+
+#[test]
+fn a_writer_that_fails_midway_has_what_is_hashed(rt: HostRuntime) {
+    let mut writer = HashedWrite::new(ThreeBytes {
+        taken: Vec::new(rt.alloc()),
+    });
+    let answer = writer.write_all(b"abcdef").map_err(|error| error.kind());
+    assert_eq!(rt; answer, Err(ErrorKind::StorageFull));
+    assert_eq!(rt; writer.hash(), compute_data_hash(b"abc"));
+    let ThreeBytes { taken } = writer.into_inner();
+    assert_eq!(rt; taken.as_slice(), b"abc".as_slice());
+}

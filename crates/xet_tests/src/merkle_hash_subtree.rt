@@ -10,6 +10,7 @@ mod json_rules;
 mod levels;
 mod merged_levels;
 mod merging;
+mod shapes;
 mod texts;
 
 use crate::support::{EACH_FOURTH, drawn_list, has_counts, with_cuts};

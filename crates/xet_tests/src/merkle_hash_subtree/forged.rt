@@ -1,8 +1,11 @@
 //! Merging subtrees that were read back and came from no list. What the merged ones print as was computed without
 //! this code.
 
-use crate::support::read_json;
+use crate::support::{has_counts, read_json};
 use std::test::Fail;
+use xet_hash::data_hash::DataHash;
+use xet_merkle::CoreError;
+use xet_merkle::merkle_hash_subtree::MerkleHashSubtree;
 
 #[test]
 fn subtrees_of_no_list_merge_from_their_nodes(rt: HostRuntime) -> Result<(), Fail> {
@@ -15,6 +18,29 @@ fn subtrees_of_no_list_merge_from_their_nodes(rt: HostRuntime) -> Result<(), Fai
         assert_eq!(rt; Some(text.as_str()), texts.next(), "{number}");
     }
     assert_eq!(rt; texts.next(), None);
+    Ok(())
+}
+
+// Nine nodes in two levels, which are marked at the end, and which no list has.
+const FORGED: &str =
+    r#"{"at_end":true,"at_start":false,"levels":[[4,0],[5,0]],"nodes":[{"hash":"0000000000000000000000000000000000000000000000000000000000000000","size":1},{"hash":"0000000000000001000000000000000000000000000000000000000000000001","size":1},{"hash":"0000000000000002000000000000000000000000000000000000000000000001","size":1},{"hash":"0000000000000003000000000000000000000000000000000000000000000000","size":1},{"hash":"0000000000000004000000000000000000000000000000000000000000000001","size":1},{"hash":"0000000000000005000000000000000000000000000000000000000000000001","size":1},{"hash":"0000000000000006000000000000000000000000000000000000000000000001","size":1},{"hash":"0000000000000007000000000000000000000000000000000000000000000001","size":1},{"hash":"0000000000000008000000000000000000000000000000000000000000000001","size":1}]}"#;
+
+#[test]
+fn a_subtree_of_no_list_is_closed_within_the_bound(rt: HostRuntime) -> Result<(), Fail> {
+    let alloc = rt.alloc();
+    let mut forged = read_json(alloc, FORGED)??;
+    let mut begun = MerkleHashSubtree::from_chunks(alloc, true, &[], false)?;
+    let count = begun.merge_into_counted(&forged)?;
+    let value = begun.to_json(alloc)?;
+    assert!(rt; MerkleHashSubtree::from_json(alloc, &value)? == begun);
+    // Twice the count is at most the nine nodes and twice the three levels.
+    assert_eq!(rt; count, 2);
+    assert!(rt; has_counts(&begun, &[(0, 0), (0, 0), (1, 0)]));
+    let root = "84bfec9db0352b08ae1df914f0e58a707deb858e107751964f57889bfc82f41d";
+    assert_eq!(rt; begun.final_hash(), Some(DataHash::from_hex(root)?));
+    let before = forged.try_clone()?;
+    assert_eq!(rt; forged.merge_into(&begun), Err(CoreError::InvalidArguments));
+    assert!(rt; forged == before);
     Ok(())
 }
 

@@ -1,14 +1,14 @@
 //! The JSON form of subtrees: its text, what is read back, and the least broken rule of what isn't a subtree's.
 
-use crate::support::{EACH_FOURTH, MARKS, drawn_list, read_json, with_cuts};
+use crate::support::{EACH_FOURTH, MARKS, drawn_list, read_json, two_levels, with_cuts};
 use rand_core::SeedableRng;
 use rand_xoshiro::Xoshiro256PlusPlus;
+use serde_json::Value;
 use std::alloc::Global;
-use std::fmt::Write;
 use std::test::Fail;
 use xet_hash::data_hash::DataHash;
 use xet_merkle::CoreError;
-use xet_merkle::aggregated_hashes::{Node, xorb_hash};
+use xet_merkle::aggregated_hashes::xorb_hash;
 use xet_merkle::merkle_hash_subtree::MerkleHashSubtree;
 
 const ONE: &str =
@@ -139,25 +139,6 @@ fn empty_sides_and_further_members_are_read(rt: HostRuntime) -> Result<(), Fail>
     Ok(())
 }
 
-// The text of an open subtree of two levels: left and right nodes of the lower one, and left nodes of the upper one.
-fn two_levels(alloc: Global, left: &[Node], right: &[Node], top: &[Node]) -> Result<String, Fail> {
-    let mut text = format!(in alloc;
-        "{{\"at_end\":false,\"at_start\":false,\"levels\":[[{},{}],[{},0]],\"nodes\":[",
-        left.len(),
-        right.len(),
-        top.len()
-    )?;
-    let mut comma = "";
-    for nodes in [left, top, right] {
-        for (hash, size) in nodes {
-            write!(text, "{comma}{{\"hash\":\"{hash}\",\"size\":{size}}}")?;
-            comma = ",";
-        }
-    }
-    write!(text, "]}}")?;
-    Ok(text)
-}
-
 #[test]
 fn sides_from_strangers_are_looked_at(rt: HostRuntime) -> Result<(), Fail> {
     let nodes = with_cuts::<28>(&EACH_FOURTH);
@@ -165,19 +146,93 @@ fn sides_from_strangers_are_looked_at(rt: HostRuntime) -> Result<(), Fail> {
     let whole = MerkleHashSubtree::from_chunks(rt.alloc(), false, nodes, false)?;
     let (first, last) = nodes.split_at(8);
     let (_, right) = last.split_at(12);
-    let text = two_levels(rt.alloc(), first, right, whole.left(1))?;
-    assert!(rt; read_json(rt.alloc(), text.as_str())?? == whole);
+    let value = two_levels(rt.alloc(), first, right, whole.left(1))?;
+    assert!(rt; MerkleHashSubtree::from_json(rt.alloc(), &value)? == whole);
     // A stable point among the left nodes.
     let mut longer = Vec::new(rt.alloc());
     longer.extend_from_slice(first)?;
     longer.extend_from_slice(last.split_at(8).1)?;
     let (twenty, _) = nodes.split_at(20);
     let open = MerkleHashSubtree::from_chunks(rt.alloc(), false, twenty, false)?;
-    let text = two_levels(rt.alloc(), longer.as_slice(), &[], open.left(1))?;
-    assert!(rt; read_json(rt.alloc(), text.as_str())? == Err(CoreError::InvalidJson(12)));
+    let value = two_levels(rt.alloc(), longer.as_slice(), &[], open.left(1))?;
+    let refusal = MerkleHashSubtree::from_json(rt.alloc(), &value).err();
+    assert_eq!(rt; refusal, Some(CoreError::InvalidJson(12)));
     // Right nodes without a natural cut.
     let plain = with_cuts::<4>(&[]);
-    let text = two_levels(rt.alloc(), first, &plain, whole.left(1))?;
-    assert!(rt; read_json(rt.alloc(), text.as_str())? == Err(CoreError::InvalidJson(13)));
+    let value = two_levels(rt.alloc(), first, &plain, whole.left(1))?;
+    let refusal = MerkleHashSubtree::from_json(rt.alloc(), &value).err();
+    assert_eq!(rt; refusal, Some(CoreError::InvalidJson(13)));
+    Ok(())
+}
+
+#[test]
+fn proper_fronts_of_a_text_are_no_json(rt: HostRuntime) -> Result<(), Fail> {
+    for text in [ONE, NONE] {
+        for len in 0..text.len() {
+            let front = text.get(..len).ok_or("no boundary")?;
+            assert!(rt; Value::from_str(rt.alloc(), front).is_err(), "{len}");
+        }
+        assert!(rt; read_json(rt.alloc(), text)?.is_ok());
+    }
+    Ok(())
+}
+
+#[test]
+fn each_member_has_to_be_there(rt: HostRuntime) -> Result<(), Fail> {
+    for (member, rule) in [
+        (r#""at_end":false,"#, 2),
+        (r#""at_start":true,"#, 2),
+        (r#""levels":[[1,0]],"#, 2),
+        (
+            r#","nodes":[{"hash":"cfc5d07f6f03c29bbf424132963fe08d19a37d5757aaf520bf08119f05cd56d6","size":100}]"#,
+            2,
+        ),
+        (
+            r#""hash":"cfc5d07f6f03c29bbf424132963fe08d19a37d5757aaf520bf08119f05cd56d6","#,
+            3,
+        ),
+        (r#","size":100"#, 3),
+    ] {
+        let text = ONE.replace(rt.alloc(), member, "")?;
+        assert!(rt; text.len() < ONE.len(), "{member}");
+        let refusal = read_json(rt.alloc(), text.as_str())?.err();
+        assert_eq!(rt; refusal, Some(CoreError::InvalidJson(rule)), "{member}");
+    }
+    Ok(())
+}
+
+#[test]
+fn a_further_member_of_each_object_is_let_be(rt: HostRuntime) -> Result<(), Fail> {
+    let text = ONE.replace(rt.alloc(), "}", ",\"x\":1}")?;
+    assert!(rt; read_json(rt.alloc(), text.as_str())?? == read_json(rt.alloc(), ONE)??);
+    Ok(())
+}
+
+// Whether a text is refused, as no JSON or as no subtree.
+fn is_refused(alloc: Global, text: &str) -> bool {
+    match Value::from_str(alloc, text) {
+        Ok(value) => MerkleHashSubtree::from_json(alloc, &value).is_err(),
+        Err(_) => true,
+    }
+}
+
+#[test]
+fn texts_nested_deep_are_refused(rt: HostRuntime) -> Result<(), Fail> {
+    let mut deep = String::new(rt.alloc());
+    for _ in 0..100_000 {
+        deep.push('[')?;
+    }
+    assert!(rt; is_refused(rt.alloc(), deep.as_str()));
+    for _ in 0..100_000 {
+        deep.push(']')?;
+    }
+    assert!(rt; is_refused(rt.alloc(), deep.as_str()));
+    let inside = NONE.replace(rt.alloc(), "[]", deep.as_str())?;
+    assert!(rt; is_refused(rt.alloc(), inside.as_str()));
+    let mut objects = String::new(rt.alloc());
+    for _ in 0..100_000 {
+        objects.push_str("{\"levels\":")?;
+    }
+    assert!(rt; is_refused(rt.alloc(), objects.as_str()));
     Ok(())
 }
