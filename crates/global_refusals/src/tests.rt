@@ -1,0 +1,88 @@
+use std::fmt::{self, Write as _};
+use std::hash::{Hash, Hasher as _};
+use std::io;
+use std::test::Fail;
+use xet_hash::blake3::{Hasher, keyed_hash};
+use xet_hash::data_hash::{
+    DATA_KEY, DataHash, HashedWrite, compute_data_hash, compute_internal_node_hash,
+};
+use xet_hash::passthrough_hasher::{U64DirectHasher, U64HashExtractable};
+use xet_merkle::aggregated_hashes::Node;
+use xet_merkle::merkle_hash_subtree::{MerkleHashSubtree, find_stable_end, find_stable_start};
+
+// Three chunks, each with its seed.
+fn chunks() -> [Node; 3] {
+    [1, 2, 3].map(|seed| (DataHash::random_from_seed(seed), seed))
+}
+
+#[test]
+fn a_subtree_goes_to_json(rt: HostRuntime) -> Result<(), Fail> {
+    let subtree = MerkleHashSubtree::from_chunks(rt.alloc(), true, &chunks(), false)?;
+    let before = subtree.try_clone()?;
+    let answer = subtree.to_json(rt.alloc());
+    assert!(rt; subtree == before);
+    let value = answer?;
+    assert!(rt; MerkleHashSubtree::from_json(rt.alloc(), &value)? == subtree);
+    Ok(())
+}
+
+#[test]
+fn a_hash_goes_to_json(rt: HostRuntime) -> Result<(), Fail> {
+    let hash = DataHash::random_from_seed(1);
+    let value = hash.to_json(rt.alloc())?;
+    assert!(rt; DataHash::from_json(&value).ok() == Some(hash));
+    Ok(())
+}
+
+// A writer that keeps nothing.
+#[derive(Drop)]
+struct Nowhere;
+
+impl io::Write for Nowhere {
+    fn write(&mut self, slice: &[u8]) -> io::Result<usize> {
+        Ok(slice.len())
+    }
+
+    fn flush(&mut self) -> io::Result<()> {
+        Ok(())
+    }
+}
+
+// The same of a text.
+#[derive(Drop)]
+struct Unread;
+
+impl fmt::Write for Unread {
+    fn write_str(&mut self, _text: &str) -> fmt::Result {
+        Ok(())
+    }
+}
+
+#[test]
+fn hashes_take_no_memory(rt: HostRuntime) -> Result<(), Fail> {
+    let hash = compute_data_hash(b"abc");
+    let mut hasher = Hasher::new_keyed(&DATA_KEY);
+    hasher.update(b"abc");
+    assert_eq!(rt; DataHash::from(hasher.finalize()), hash);
+    assert_eq!(rt; DataHash::from(keyed_hash(&DATA_KEY, b"abc")), hash);
+    let mut writer = HashedWrite::new(Nowhere);
+    io::Write::write_all(&mut writer, b"abc")?;
+    assert_eq!(rt; writer.hash(), hash);
+    assert_ne!(rt; compute_internal_node_hash(b"abc"), hash);
+    assert_eq!(rt;
+        DataHash::from_hex_digits(&hash.hex_digits()).ok(),
+        Some(hash)
+    );
+    assert_eq!(rt; DataHash::from_slice(&hash.as_bytes()).ok(), Some(hash));
+    assert_eq!(rt; DataHash::from(hash.words()), hash);
+    assert!(rt; DataHash::default() < hash && hash < DataHash::marker());
+    assert_eq!(rt; DataHash::marker() % 4, 3);
+    assert_ne!(rt; hash.hmac(hash), DataHash::random_from_seed(1));
+    let mut state = U64DirectHasher::<DataHash>::default();
+    hash.hash(&mut state);
+    assert_eq!(rt; state.finish(), hash.u64_hash_value());
+    write!(Unread, "{hash} {hash:?}")?;
+    assert_eq!(rt; find_stable_start(&chunks()), None);
+    assert_eq!(rt; find_stable_end(&chunks()), None);
+    Ok(())
+}
