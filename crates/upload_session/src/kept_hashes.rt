@@ -1,0 +1,127 @@
+//! What is kept of the hashes of chunks, to tell which of others are new.
+
+ghost use Rattle.std.specs.Prelude.{◌≡◌, not, List, [], ◌&&◌, ◌||◌, is_some, IfOk, OnOk, OnErr};
+ghost use Rattle.std.specs.List.{IsDistinct};
+ghost use Rattle.xet_hash.specs.FiniteMap.{value_at};
+ghost use Rattle.upload_session.specs.Hashes.{Hash, hash_eq, hashes_of, is_among, AreBoth, AreNew};
+
+use std::alloc::{AllocError, Allocator, Global};
+use xet_hash::data_hash::MerkleHash;
+use xet_hash::passthrough_hashmap::PassThroughHashMap;
+use xet_merkle::aggregated_hashes::Node;
+
+/// What is kept of the hashes of chunks, to tell which of others are new.
+pub trait KeptHashes<A: Allocator>: Drop {
+    // It knows the hashes of a list, and no more.
+    ghost knows: { Self → List Hash → Type 0 };
+
+    // What it tells of some hashes, where it knows the first ones: the last ones, as those that are new.
+    ghost tells: { List Hash → List Hash → List Hash → Type 0 };
+
+    /// No hashes. It takes no memory.
+    fn new(alloc: A) -> Self
+        ensures { knows result [] };
+
+    /// Keeps the hashes of some chunks, and tells which of them are new, each once, in memory of `alloc`.
+    ///
+    /// It fails where an allocation is refused, and then knows what it knew.
+    fn keep(&mut self, alloc: A, chunks: &[Node]) -> Result<Vec<MerkleHash, A>, AllocError>
+        ensures new { IfOk result (λ new. (known : List Hash) →
+            knows self.old known → tells known (hashes_of chunks.now) new.items) }
+        ensures kept { OnOk result ((known all : List Hash) →
+            knows self.old known → AreBoth known (hashes_of chunks.now) all → knows self.new all) }
+        ensures refused { OnErr result ((known : List Hash) → knows self.old known → knows self.new known) };
+
+    /// Gives up the hashes that [`KeptHashes::keep`] told as new, and knows what it knew before. It takes no memory.
+    fn give_up(&mut self, new: &[MerkleHash])
+        ensures { (known hashes all : List Hash) → AreBoth known hashes all → tells known hashes new.now →
+            knows self.old all → knows self.new known };
+}
+
+/// All hashes, each once, in a map for deduplication.
+#[derive(Drop)]
+pub struct SeenHashes<A: Allocator = Global> {
+    hashes: PassThroughHashMap<MerkleHash, (), A>,
+}
+
+impl<A: Allocator + Clone> SeenHashes<A> {
+    // Keeps the hashes of some chunks, and lists those that are new, each once. Where it is refused, what it kept is listed.
+    fn keep_into(&mut self, chunks: &[Node], new: &mut Vec<MerkleHash, A>) -> Result<(), AllocError>
+        requires { new.old.items ≡ [] }
+        ensures kept { OnOk result ((hash : Hash) → is_some (value_at hash_eq self.new.hashes hash)
+            ≡ (is_some (value_at hash_eq self.old.hashes hash) || is_among (hashes_of chunks.now) hash)) }
+        ensures each_once { OnOk result (IsDistinct hash_eq new.new.items) }
+        ensures among { OnOk result ((hash : Hash) → is_among new.new.items hash
+            ≡ (is_among (hashes_of chunks.now) hash && not (is_some (value_at hash_eq self.old.hashes hash)))) }
+        ensures refused { OnErr result ((hash : Hash) → is_some (value_at hash_eq self.old.hashes hash)
+            ≡ (is_some (value_at hash_eq self.new.hashes hash) && not (is_among new.new.items hash))) }
+    {
+        'chunks: for (hash, _) in chunks {
+            if !self.hashes.contains_key(hash) {
+                new.push(*hash)?;
+                self.hashes.insert(*hash, ())?;
+            }
+        }
+        Ok(())
+    }
+
+    // Takes some hashes out.
+    fn remove_all(&mut self, hashes: &[MerkleHash])
+        ensures { (hash : Hash) → is_some (value_at hash_eq self.new.hashes hash)
+            ≡ (is_some (value_at hash_eq self.old.hashes hash) && not (is_among hashes.now hash)) }
+    {
+        'hashes: for hash in hashes {
+            self.hashes.remove(hash);
+        }
+    }
+}
+
+impl<A: Allocator + Clone> KeptHashes<A> for SeenHashes<A> {
+    ghost knows = { λ seen known. (hash : Hash) → is_some (value_at hash_eq seen.hashes hash) ≡ is_among known hash };
+
+    ghost tells = { AreNew };
+
+    fn new(alloc: A) -> Self {
+        SeenHashes {
+            hashes: PassThroughHashMap::new(alloc),
+        }
+    }
+
+    fn keep(&mut self, alloc: A, chunks: &[Node]) -> Result<Vec<MerkleHash, A>, AllocError> {
+        let mut new = Vec::new(alloc);
+        match self.keep_into(chunks, &mut new) {
+            Ok(()) => Ok(new),
+            Err(error) => {
+                self.remove_all(&new);
+                Err(error)
+            }
+        }
+    }
+
+    fn give_up(&mut self, new: &[MerkleHash]) {
+        self.remove_all(new);
+    }
+}
+
+/// No hashes: nothing is told of which are new.
+#[derive(Clone, Copy, Debug, Drop)]
+pub struct NoHashes;
+
+impl<A: Allocator> KeptHashes<A> for NoHashes {
+    ghost knows = { λ _ _. Unit {0} };
+
+    ghost tells = { λ _ _ _. Unit {0} };
+
+    fn new(_alloc: A) -> Self {
+        NoHashes
+    }
+
+    fn keep(&mut self, alloc: A, _chunks: &[Node]) -> Result<Vec<MerkleHash, A>, AllocError> {
+        Ok(Vec::new(alloc))
+    }
+
+    fn give_up(&mut self, _new: &[MerkleHash]) {}
+}
+
+#[cfg(test)]
+mod tests;
