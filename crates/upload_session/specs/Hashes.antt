@@ -8,6 +8,7 @@ use Rattle.xet_merkle.specs.Groups.{Node}
 abbrev pub Hash : Type 0
 Hash = List ℕ
 
+-- whether two hashes are equal
 abbrev pub hash_eq : Hash → Hash → Bool
 hash_eq = pointwise nat_eq
 

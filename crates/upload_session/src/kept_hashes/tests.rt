@@ -37,7 +37,7 @@ fn new_hashes_are_told_once(rt: HostRuntime) -> Result<(), Fail> {
 
 type Refusing = RefusingAllocator<Global>;
 
-// Whether 100 hashes are new after they were kept, and requests were refused from some one on.
+// Whether 100 hashes are all new again after a call that was refused a request, and none is after one that wasn't.
 fn are_given_up(alloc: &Refusing, granted: u32, chunks: &[Node]) -> Result<bool, AllocError> {
     let mut seen: SeenHashes<&Refusing> = KeptHashes::new(alloc);
     let before = seen.keep(alloc, &[chunk(200)])?;
