@@ -1,6 +1,6 @@
 -- Hashes that are put into a set one after another, and taken out.
 use Rattle.std.proofs.Common.{◌≡◌, ◌+◌, ◌<◌, ℕ, Bool, true, false, not, List, [], ◌∷◌, ◌++◌, ◌&&◌, ◌||◌, get_or, length, take, refl, sym, ap, subst, ◌∙◌}
-use Rattle.std.specs.Prelude.{Option, Some, None, cond, is_some, Result, Ok, Err, OnErr}
+use Rattle.std.specs.Prelude.{Option, Some, None, cond, is_some}
 use Rattle.std.specs.List.{IsDistinct}
 use Rattle.std.proofs.lemmas.Bool.{true≢false}
 use Rattle.std.proofs.lemmas.Cmp.{nat_list_eq_equiv}
@@ -68,11 +68,6 @@ keeps-none first new none = (
   subst (λ (l : List Hash). IsDistinct hash_eq l) (sym none) tt,
   λ hash. ap (λ (l : List Hash). is_among l hash) none,
 )
-
--- where an error is answered, what holds anyway
-pub at_error : {T E P : Type 0} (result : Result T E) → P → OnErr result P
-at_error (Ok value) holds = tt
-at_error (Err error) holds = holds
 
 -- what was kept so far is given up by taking the listed hashes out
 was : (now first among done : Bool) → now ≡ (first || done) → among ≡ (done && not first) → first ≡ (now && not among)

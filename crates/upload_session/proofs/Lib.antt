@@ -1,1 +1,10 @@
+pub mod AroundEntries
 pub mod Hashes
+pub mod Joining
+pub mod Neighbours
+pub mod Placing
+pub mod Positions
+pub mod Results
+pub mod SortedEntries
+pub mod SortedPositions
+pub mod Whole

@@ -1,1 +1,3 @@
 pub mod Hashes
+pub mod Session
+pub mod Steps

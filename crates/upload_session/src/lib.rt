@@ -2,3 +2,8 @@
 #![tactic(auto)]
 
 pub mod kept_hashes;
+mod runs;
+pub mod session;
+pub mod session_fault;
+#[cfg(test)]
+mod tests;

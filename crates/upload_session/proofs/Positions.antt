@@ -1,0 +1,215 @@
+-- The positions that runs have.
+use Rattle.std.proofs.Common.{arith, nat_cmp, is_le, get_or, ◌≡◌, ◌+◌, ◌-◌, ◌<◌, ◌≤◌, ℕ, Bool, true, false, List, [], ◌∷◌, ◌++◌, ◌&&◌, ◌||◌, nat_eq, nat_lt, length, refl, sym, ap, subst, ◌∙◌}
+use Rattle.std.specs.Prelude.{All, cond}
+use Rattle.std.specs.declared.ops.Bound.TheVariants.{Included, Unbounded}
+use Rattle.std.specs.BTreeMap.Range.{entries_between}
+use Rattle.std.specs.List.{list_any}
+use Rattle.std.proofs.lemmas.Bool.{true≢false}
+use Rattle.std.proofs.lemmas.List.Elements.{All-nil, All-cons, All-head, All-tail, All-weaker}
+use Rattle.std.proofs.lemmas.List.Folds.{list_any-append, list_any_none}
+use Rattle.xet_merkle.specs.Groups.{Node}
+use Rattle.upload_session.specs.Session.{Placed, Run, placed_from, is_taken, overlaps, AreFrom, StandFor}
+use Rattle.upload_session.proofs.Placing.{Rises, rises-behind}
+
+-- what holds of all holds of each
+pub holds_of_last : {X : Type 0} (P : X → Type 0) (front : List X) (last : X) (back : List X) → All P (front ++ last ∷ back) → P last
+holds_of_last P [] last back all = All-head P last back all
+holds_of_last P (x ∷ front) last back all = holds_of_last P front last back (All-tail P x (front ++ last ∷ back) all)
+
+-- a position is one adjacent position
+at_one : (p position : ℕ) → nat_eq p position ≡ (nat_lt position (p + 1) && nat_lt p (position + 1))
+at_one p position = grind arith
+
+pub taken-overlaps : (placed : List Placed) (position : ℕ) → is_taken placed position ≡ overlaps placed position 1
+taken-overlaps [] position = refl
+taken-overlaps (p ∷ placed) position =
+    ap (λ b. b || is_taken placed position) (at_one p.0 position)
+    ∙ ap (λ b. (nat_lt position (p.0 + 1) && nat_lt p.0 (position + 1)) || b) (taken-overlaps placed position)
+
+one_only : (start first count : ℕ) → ((nat_lt first (start + 1) && nat_lt start (first + count)) || false) ≡ (nat_lt first (start + 1) && nat_lt start (first + count))
+one_only start first count = grind arith
+
+one_more : (start first count many more : ℕ) → 0 < count → 0 < many → more ≡ many + 1
+    → ((nat_lt first (start + 1) && nat_lt start (first + count)) || (nat_lt first ((start + 1) + many) && nat_lt (start + 1) (first + count)))
+    ≡ (nat_lt first (start + more) && nat_lt start (first + count))
+one_more start first count many more some others is = grind (arith, some, others, is)
+
+-- whether a run has one of some adjacent positions
+abbrev pub meets : {C : Type 0} → ℕ → ℕ → Run C → Bool
+meets first count run = nat_lt first run.1.0 && nat_lt run.0 (first + count)
+
+module _ (first count : ℕ) (some : 0 < count) where
+  overlaps-run : (start : ℕ) (chunks : List Node) → 0 < length chunks
+      → overlaps (placed_from start chunks) first count ≡ (nat_lt first (start + length chunks) && nat_lt start (first + count))
+  overlaps-run start [] none = absurd (omega (arith, none))
+  overlaps-run start (chunk ∷ []) _ = one_only start first count
+  overlaps-run start (chunk ∷ next ∷ chunks) _ =
+      ap (λ b. (nat_lt first (start + 1) && nat_lt start (first + count)) || b) (overlaps-run (start + 1) (next ∷ chunks) (omega arith))
+      ∙ one_more start first count (length (next ∷ chunks)) (length (chunk ∷ next ∷ chunks)) some (omega arith) (omega arith)
+
+  module _ {C : Type 0} (stands : C → List Node → Type 0) (start end : C → Bool) where
+    pub overlaps-runs : (runs : List (Run C)) (placed : List Placed) → StandFor stands start end runs placed
+        → overlaps placed first count ≡ list_any (meets first count) runs
+    overlaps-runs [] placed none = ap (λ (l : List Placed). overlaps l first count) none
+    overlaps-runs (run ∷ runs) placed (chunks, others, is, of_run, apart, rest) =
+        ap (λ (l : List Placed). overlaps l first count) is
+        ∙ list_any-append (λ (p : Placed). nat_lt first (p.0 + 1) && nat_lt p.0 (first + count)) (placed_from run.0 chunks) others
+        ∙ ap (λ b. b || overlaps others first count)
+        (overlaps-run run.0 chunks of_run.0 ∙ ap (λ n. nat_lt first n && nat_lt run.0 (first + count)) (sym of_run.1))
+        ∙ ap (λ b. meets first count run || b) (overlaps-runs runs others rest)
+
+module _ {C : Type 0} (stands : C → List Node → Type 0) (start end : C → Bool) where
+  -- runs begin where their positions do
+  first-from : (bound first : ℕ) (chunks : List Node) (others : List Placed) → 0 < length chunks
+      → AreFrom bound (placed_from first chunks ++ others) → bound ≤ first
+  first-from bound first [] others some from = absurd (omega (arith, some))
+  first-from bound first (chunk ∷ chunks) others some from =
+      All-head (λ (p : Placed). bound ≤ p.0) (first, chunk) (placed_from (first + 1) chunks ++ others) from
+
+  others-from : (bound first : ℕ) (chunks : List Node) (others : List Placed)
+      → AreFrom bound (placed_from first chunks ++ others) → AreFrom bound others
+  others-from bound first [] others from = from
+  others-from bound first (chunk ∷ chunks) others from =
+      others-from bound (first + 1) chunks others (All-tail (λ (p : Placed). bound ≤ p.0) (first, chunk) (placed_from (first + 1) chunks ++ others) from)
+
+  pub runs-from : (bound : ℕ) (runs : List (Run C)) (placed : List Placed) → StandFor stands start end runs placed → AreFrom bound placed
+      → All (λ (run : Run C). bound ≤ run.0) runs
+  runs-from bound [] placed none from = All-nil (λ (run : Run C). bound ≤ run.0)
+  runs-from bound (run ∷ runs) placed (chunks, others, is, of_run, apart, rest) from =
+      let pieces = subst (λ (l : List Placed). AreFrom bound l) is from in
+      All-cons (λ (run : Run C). bound ≤ run.0) run runs (first-from bound run.0 chunks others of_run.0 pieces)
+      (runs-from bound runs others rest (others-from bound run.0 chunks others pieces))
+
+  -- the runs in front of one end before it
+  fronts_end : (front : List (Run C)) (last : Run C) (back : List (Run C)) (placed : List Placed)
+      → StandFor stands start end (front ++ last ∷ back) placed → All (λ (run : Run C). run.1.0 < last.0) front
+  fronts_end [] last back placed stand = All-nil (λ (run : Run C). run.1.0 < last.0)
+  fronts_end (run ∷ front) last back placed (chunks, others, is, of_run, apart, rest) =
+      let far = holds_of_last (λ (next : Run C). run.1.0 + 1 ≤ next.0) front last back (runs-from (run.1.0 + 1) (front ++ last ∷ back) others rest apart) in
+      All-cons (λ (run : Run C). run.1.0 < last.0) run front (omega (arith, far)) (fronts_end front last back others rest)
+
+  pub taken-runs : (runs : List (Run C)) (placed : List Placed) (position : ℕ) → StandFor stands start end runs placed
+      → is_taken placed position ≡ list_any (meets position 1) runs
+  taken-runs runs placed position stand = taken-overlaps placed position ∙ overlaps-runs position 1 (omega arith) stands start end runs placed stand
+
+  -- only the last run that begins at a position or before it can have it
+  pub taken-last : (front : List (Run C)) (last : Run C) (back : List (Run C)) (placed : List Placed) (position : ℕ)
+      → StandFor stands start end (front ++ last ∷ back) placed → last.0 ≤ position → All (λ (run : Run C). position < run.0) back
+      → is_taken placed position ≡ nat_lt position last.1.0
+  taken-last front last back placed position stand begun behind =
+      let ended = fronts_end front last back placed stand in
+      let has = meets position 1 in
+      taken-runs (front ++ last ∷ back) placed position stand
+      ∙ list_any-append has front (last ∷ back)
+      ∙ ap (λ b. b || list_any has (last ∷ back))
+      (list_any_none has front (λ k d inside. let ends = ended k d inside in grind (arith, ends, begun)))
+      ∙ ap (λ b. has last || b)
+      (list_any_none has back (λ k d inside. let begins = behind k d inside in grind (arith, begins)))
+      ∙ only (nat_lt position last.1.0) (nat_lt last.0 (position + 1)) (grind (arith, begun))
+    where
+      only : (a b : Bool) → b ≡ true → ((a && b) || false) ≡ a
+      only true true h = refl
+      only true false h = absurd (true≢false (sym h))
+      only false b h = refl
+
+  pub taken-none : (runs : List (Run C)) (placed : List Placed) (position : ℕ)
+      → StandFor stands start end runs placed → All (λ (run : Run C). position < run.0) runs → is_taken placed position ≡ false
+  taken-none runs placed position stand behind =
+      taken-runs runs placed position stand
+      ∙ list_any_none (meets position 1) runs (λ k d inside. let begins = behind k d inside in grind (arith, begins))
+
+-- where a position is taken, one of those from it on is
+pub overlaps-more : (placed : List Placed) (first count : ℕ) → 0 < count → is_taken placed first ≡ true → overlaps placed first count ≡ true
+overlaps-more [] first count some taken = absurd (true≢false (sym taken))
+overlaps-more (p ∷ placed) first count some taken = choose (overlaps-more placed first count some) (nat_eq p.0 first) refl taken
+  where
+    or-true : (b : Bool) → (b || true) ≡ true
+    or-true true = refl
+    or-true false = refl
+
+    choose : (is_taken placed first ≡ true → overlaps placed first count ≡ true) → (b : Bool) → nat_eq p.0 first ≡ b
+        → (b || is_taken placed first) ≡ true → overlaps (p ∷ placed) first count ≡ true
+    choose more true there h = ap (λ b. b || overlaps placed first count) {y = true} (grind (arith, there, some))
+    choose more false other h =
+        ap (λ b. (nat_lt first (p.0 + 1) && nat_lt p.0 (first + count)) || b) (more h)
+        ∙ or-true (nat_lt first (p.0 + 1) && nat_lt p.0 (first + count))
+
+-- the runs that begin at a position or behind it
+abbrev pub from : {C : Type 0} → ℕ → List (Run C) → List (Run C)
+from first runs = entries_between nat_cmp (Included first) Unbounded runs
+
+-- where neither of two holds
+pub neither : (a b : Bool) → (a || b) ≡ false → (a ≡ false) × (b ≡ false)
+neither true b h = absurd (true≢false h)
+neither false b h = (refl, h)
+
+both : (a b : Bool) → a ≡ false → b ≡ false → (a || b) ≡ false
+both a b first second = ap (λ x. x || b) first ∙ second
+
+begins_before : (first n : ℕ) → is_le (nat_cmp first n) ≡ false → n < first
+begins_before first n h = grind (arith, h)
+
+begins_from : (first n : ℕ) → is_le (nat_cmp first n) ≡ true → first ≤ n
+begins_from first n h = grind (arith, h)
+
+module _ {C : Type 0} (first count : ℕ) where
+  not_begun : (run : Run C) → meets first 1 run ≡ false → run.0 < first → meets first count run ≡ false
+  not_begun run free begins = grind (arith, free, begins)
+
+  -- where no run has the first position, and none begins behind it, none has any
+  pub overlap-none : (runs : List (Run C)) → from first runs ≡ [] → list_any (meets first 1) runs ≡ false → list_any (meets first count) runs ≡ false
+  overlap-none [] none free = refl
+  overlap-none (run ∷ runs) none free = choose (overlap-none runs) (neither (meets first 1 run) (list_any (meets first 1) runs) free) (is_le (nat_cmp first run.0)) refl none
+    where
+      choose : (from first runs ≡ [] → list_any (meets first 1) runs ≡ false → list_any (meets first count) runs ≡ false)
+          → (meets first 1 run ≡ false) × (list_any (meets first 1) runs ≡ false)
+          → (b : Bool) → is_le (nat_cmp first run.0) ≡ b → cond (b && true) (run ∷ from first runs) (from first runs) ≡ []
+          → list_any (meets first count) (run ∷ runs) ≡ false
+      choose rest (one, others) true near h = absurd (omega (arith, ap length h))
+      choose rest (one, others) false far h =
+          both (meets first count run) (list_any (meets first count) runs) (not_begun run one (begins_before first run.0 far)) (rest h others)
+
+  module _ (stands : C → List Node → Type 0) (start end : C → Bool) where
+    -- otherwise the first that begins behind it has one, or none does
+    pub overlap-next : (runs : List (Run C)) (placed : List Placed) (next : Run C) (more : List (Run C)) → StandFor stands start end runs placed
+        → from first runs ≡ next ∷ more → list_any (meets first 1) runs ≡ false → list_any (meets first count) runs ≡ nat_lt (next.0 - first) count
+    overlap-next [] placed next more stand is free = absurd (omega (arith, ap length is))
+    overlap-next (run ∷ runs) placed next more (chunks, others, _, of_run, apart, stand) is free =
+        choose (λ is free. overlap-next runs others next more stand is free)
+        (neither (meets first 1 run) (list_any (meets first 1) runs) free) (is_le (nat_cmp first run.0)) refl is
+      where
+        begins : run.0 < run.1.0
+        begins = omega (arith, of_run.0, of_run.1)
+
+        farther : All (λ (other : Run C). run.1.0 + 1 ≤ other.0) runs
+        farther = runs-from stands start end (run.1.0 + 1) runs others stand apart
+
+        at : first ≤ run.0 → (b : Bool) → nat_lt (run.0 - first) count ≡ b → list_any (meets first count) (run ∷ runs) ≡ b
+        at near true inside = ap (λ b. b || list_any (meets first count) runs) {y = true} (grind (arith, near, inside, begins))
+        at near false behind =
+            both (meets first count run) (list_any (meets first count) runs) (grind (arith, near, behind))
+            (list_any_none (meets first count) runs (λ k d inside. let far = farther k d inside in grind (arith, far, near, behind, begins)))
+
+        choose : (from first runs ≡ next ∷ more → list_any (meets first 1) runs ≡ false → list_any (meets first count) runs ≡ nat_lt (next.0 - first) count)
+            → (meets first 1 run ≡ false) × (list_any (meets first 1) runs ≡ false)
+            → (b : Bool) → is_le (nat_cmp first run.0) ≡ b → cond (b && true) (run ∷ from first runs) (from first runs) ≡ next ∷ more
+            → list_any (meets first count) (run ∷ runs) ≡ nat_lt (next.0 - first) count
+        choose rest (one, free) true near h =
+            at (begins_from first run.0 near) (nat_lt (run.0 - first) count) refl
+            ∙ ap (λ (runs : List (Run C)). nat_lt ((get_or runs 0 run).0 - first) count) {y = next ∷ more} h
+        choose rest (one, free) false far h =
+            ap (λ b. b || list_any (meets first count) runs) (not_begun run one (begins_before first run.0 far)) ∙ rest h free
+
+-- the positions rise
+pub stand-rises : {C : Type 0} (stands : C → List Node → Type 0) (start end : C → Bool) (runs : List (Run C)) (placed : List Placed)
+    → StandFor stands start end runs placed → Rises placed
+stand-rises stands start end [] placed none = subst (λ l. Rises l) (sym none) tt
+stand-rises stands start end (run ∷ runs) placed (chunks, others, is, of_run, apart, rest) =
+    subst (λ l. Rises l) (sym is)
+    (rises-behind run.0 chunks others
+    (All-weaker (λ (p : Placed). run.1.0 + 1 ≤ p.0) (λ (p : Placed). run.0 + length chunks ≤ p.0) (λ p h. let ends = of_run.1 in omega (arith, h, ends)) others apart)
+    (stand-rises stands start end runs others rest))
+
+-- no position is one of none
+pub overlaps-none : (placed : List Placed) (first : ℕ) → overlaps placed first 0 ≡ false
+overlaps-none placed first = list_any_none (λ (p : Placed). nat_lt first (p.0 + 1) && nat_lt p.0 (first + 0)) placed (λ k d inside. grind arith)

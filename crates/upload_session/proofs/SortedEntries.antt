@@ -1,0 +1,102 @@
+-- What a map over numbers does to entries that stand in order.
+use Rattle.std.proofs.Common.{arith, nat_cmp, is_lt, is_eq, ◌≡◌, ◌<◌, ◌≤◌, ℕ, Bool, true, not, List, [], ◌∷◌, ◌++◌, refl, ap, ◌∙◌}
+use Rattle.std.specs.Prelude.{All, None, Some, cond}
+use Rattle.std.specs.declared.cmp.Ordering.TheVariants.{Less, Equal, Greater}
+use Rattle.std.specs.declared.ops.Bound.TheVariants.{Included, Unbounded}
+use Rattle.std.specs.BTreeMap.{insert_entry, is_at}
+use Rattle.std.specs.BTreeMap.Range.{entries_between}
+use Rattle.std.specs.Map.{lookup, remove_entry, set_value}
+use Rattle.std.specs.Ordering.{match_ordering}
+use Rattle.std.proofs.lemmas.List.Elements.{All-head, All-tail}
+
+below : (k n : ℕ) → n < k → nat_cmp k n ≡ Greater
+below k n h = grind (arith, h)
+
+above : (k n : ℕ) → k < n → nat_cmp k n ≡ Less
+above k n h = grind (arith, h)
+
+at : (k : ℕ) → nat_cmp k k ≡ Equal
+at k = grind arith
+
+near : (k n : ℕ) → n ≤ k → not (is_lt (nat_cmp k n)) ≡ true
+near k n h = grind (arith, h)
+
+-- whether a key is the number
+abbrev test : ℕ → ℕ → Bool
+test k = is_at (nat_cmp k)
+
+module _ {X : Type 0} (k : ℕ) where
+  -- the entries at the number or before it
+  abbrev pub upto : List (ℕ × X) → List (ℕ × X)
+  upto entries = entries_between nat_cmp Unbounded (Included k) entries
+
+  abbrev pub AllBelow : List (ℕ × X) → Type 0
+  AllBelow entries = All (λ e. e.0 < k) entries
+
+  abbrev pub AllAbove : List (ℕ × X) → Type 0
+  AllAbove entries = All (λ e. k < e.0) entries
+
+  pub upto-above : (back : List (ℕ × X)) → AllAbove back → upto back ≡ []
+  upto-above [] all = refl
+  upto-above (e ∷ back) all =
+      ap (λ o. cond (not (is_lt o)) (e ∷ upto back) (upto back)) (above k e.0 (All-head (λ (e : ℕ × X). k < e.0) e back all))
+      ∙ upto-above back (All-tail (λ (e : ℕ × X). k < e.0) e back all)
+
+  pub upto-both : (front back : List (ℕ × X)) → All (λ (e : ℕ × X). e.0 ≤ k) front → AllAbove back → upto (front ++ back) ≡ front
+  upto-both [] back low high = upto-above back high
+  upto-both (e ∷ front) back low high =
+      ap (λ b. cond b (e ∷ upto (front ++ back)) (upto (front ++ back))) (near k e.0 (All-head (λ (e : ℕ × X). e.0 ≤ k) e front low))
+      ∙ ap (λ l. e ∷ l) (upto-both front back (All-tail (λ (e : ℕ × X). e.0 ≤ k) e front low) high)
+
+  lookup-above : (back : List (ℕ × X)) → AllAbove back → lookup (test k) back ≡ None
+  lookup-above [] all = refl
+  lookup-above (e ∷ back) all =
+      ap (λ o. cond (is_eq o) (Some e.1) (lookup (test k) back)) (above k e.0 (All-head (λ (e : ℕ × X). k < e.0) e back all))
+      ∙ lookup-above back (All-tail (λ (e : ℕ × X). k < e.0) e back all)
+
+  lookup-below : (front back : List (ℕ × X)) → AllBelow front → lookup (test k) (front ++ back) ≡ lookup (test k) back
+  lookup-below [] back all = refl
+  lookup-below (e ∷ front) back all =
+      ap (λ o. cond (is_eq o) (Some e.1) (lookup (test k) (front ++ back))) (below k e.0 (All-head (λ (e : ℕ × X). e.0 < k) e front all))
+      ∙ lookup-below front back (All-tail (λ (e : ℕ × X). e.0 < k) e front all)
+
+  pub lookup-none : (front back : List (ℕ × X)) → AllBelow front → AllAbove back → lookup (test k) (front ++ back) ≡ None
+  lookup-none front back low high = lookup-below front back low ∙ lookup-above back high
+
+  pub lookup-at : (front back : List (ℕ × X)) (x : X) → AllBelow front → lookup (test k) (front ++ (k, x) ∷ back) ≡ Some x
+  lookup-at front back x low = lookup-below front ((k, x) ∷ back) low ∙ ap (λ o. cond (is_eq o) (Some x) (lookup (test k) back)) (at k)
+
+  pub set_value-at : (front back : List (ℕ × X)) (x w : X) → AllBelow front → set_value (test k) (front ++ (k, x) ∷ back) w ≡ front ++ (k, w) ∷ back
+  set_value-at [] back x w low = ap (λ o. cond (is_eq o) ((k, w) ∷ back) ((k, x) ∷ set_value (test k) back w)) (at k)
+  set_value-at (e ∷ front) back x w low =
+      ap (λ o. cond (is_eq o) ((e.0, w) ∷ front ++ (k, x) ∷ back) (e ∷ set_value (test k) (front ++ (k, x) ∷ back) w)) (below k e.0 (All-head (λ (e : ℕ × X). e.0 < k) e front low))
+      ∙ ap (λ l. e ∷ l) (set_value-at front back x w (All-tail (λ (e : ℕ × X). e.0 < k) e front low))
+
+  insert-above : (back : List (ℕ × X)) (w : X) → AllAbove back → insert_entry nat_cmp back k w ≡ (k, w) ∷ back
+  insert-above [] w high = refl
+  insert-above (e ∷ back) w high =
+      ap (λ o. match_ordering o ((k, w) ∷ e ∷ back) ((e.0, w) ∷ back) (e ∷ insert_entry nat_cmp back k w)) (above k e.0 (All-head (λ (e : ℕ × X). k < e.0) e back high))
+
+  pub insert-between : (front back : List (ℕ × X)) (w : X) → AllBelow front → AllAbove back → insert_entry nat_cmp (front ++ back) k w ≡ front ++ (k, w) ∷ back
+  insert-between [] back w low high = insert-above back w high
+  insert-between (e ∷ front) back w low high =
+      ap (λ o. match_ordering o ((k, w) ∷ e ∷ front ++ back) ((e.0, w) ∷ front ++ back) (e ∷ insert_entry nat_cmp (front ++ back) k w)) (below k e.0 (All-head (λ (e : ℕ × X). e.0 < k) e front low))
+      ∙ ap (λ l. e ∷ l) (insert-between front back w (All-tail (λ (e : ℕ × X). e.0 < k) e front low) high)
+
+  remove-below : (front back : List (ℕ × X)) → AllBelow front → remove_entry (test k) (front ++ back) ≡ front ++ remove_entry (test k) back
+  remove-below [] back low = refl
+  remove-below (e ∷ front) back low =
+      ap (λ o. cond (is_eq o) (front ++ back) (e ∷ remove_entry (test k) (front ++ back))) (below k e.0 (All-head (λ (e : ℕ × X). e.0 < k) e front low))
+      ∙ ap (λ l. e ∷ l) (remove-below front back (All-tail (λ (e : ℕ × X). e.0 < k) e front low))
+
+  remove-above : (back : List (ℕ × X)) → AllAbove back → remove_entry (test k) back ≡ back
+  remove-above [] high = refl
+  remove-above (e ∷ back) high =
+      ap (λ o. cond (is_eq o) back (e ∷ remove_entry (test k) back)) (above k e.0 (All-head (λ (e : ℕ × X). k < e.0) e back high))
+      ∙ ap (λ l. e ∷ l) (remove-above back (All-tail (λ (e : ℕ × X). k < e.0) e back high))
+
+  pub remove-none : (front back : List (ℕ × X)) → AllBelow front → AllAbove back → remove_entry (test k) (front ++ back) ≡ front ++ back
+  remove-none front back low high = remove-below front back low ∙ ap (λ l. front ++ l) (remove-above back high)
+
+  pub remove-at : (front back : List (ℕ × X)) (x : X) → AllBelow front → remove_entry (test k) (front ++ (k, x) ∷ back) ≡ front ++ back
+  remove-at front back x low = remove-below front ((k, x) ∷ back) low ∙ ap (λ o. front ++ cond (is_eq o) back ((k, x) ∷ remove_entry (test k) back)) (at k)

@@ -1,0 +1,71 @@
+-- Chunks by their positions, and the runs of a session that stand for them.
+use Rattle.std.specs.Prelude.{◌≡◌, ℕ, ◌+◌, ◌<◌, ◌≤◌, Bool, false, not, List, [], ◌∷◌, ◌++◌, ◌&&◌, length, filter, map, All, nat_eq, nat_lt}
+use Rattle.std.specs.List.{list_any}
+use Rattle.xet_merkle.specs.Groups.{Node}
+use Rattle.xet_merkle.specs.Roots.{total_size}
+use Rattle.upload_session.specs.Hashes.{Hash, hashes_of}
+
+-- a chunk at a position
+abbrev pub Placed : Type 0
+Placed = ℕ × Node
+
+-- chunks at adjacent positions, from the first one on
+abbrev pub placed_from : ℕ → List Node → List Placed
+placed_from first [] = []
+placed_from first (chunk ∷ chunks) = (first, chunk) ∷ placed_from (first + 1) chunks
+
+-- the chunks placed, with more of them at adjacent positions: those before, the new ones, and those behind
+abbrev pub place : List Placed → ℕ → List Node → List Placed
+place placed first chunks =
+    filter (λ p. nat_lt p.0 first) placed ++ placed_from first chunks ++ filter (λ p. not (nat_lt p.0 first)) placed
+
+-- the chunks by position
+abbrev pub chunks_of : List Placed → List Node
+chunks_of placed = map (λ p. p.1) placed
+
+-- whether a position is taken
+abbrev pub is_taken : List Placed → ℕ → Bool
+is_taken placed position = list_any (λ p. nat_eq p.0 position) placed
+
+-- whether one of some adjacent positions is taken
+abbrev pub overlaps : List Placed → ℕ → ℕ → Bool
+overlaps placed first count = list_any (λ p. nat_lt first (p.0 + 1) && nat_lt p.0 (first + count)) placed
+
+-- the positions taken are exactly those below a number
+abbrev pub IsWhole : ℕ → List Placed → Type 0
+IsWhole total placed = (placed ≡ placed_from 0 (chunks_of placed)) × (length placed ≡ total)
+
+-- each position is at a bound or behind it
+abbrev pub AreFrom : ℕ → List Placed → Type 0
+AreFrom bound placed = All (λ p. bound ≤ p.0) placed
+
+-- what is kept of a run of adjacent positions: the first one, the one behind the last, and a range
+abbrev pub Run : Type 0 → Type 0
+Run C = ℕ × (ℕ × C)
+
+module _ {C : Type 0} (stands : C → List Node → Type 0) (start end : C → Bool) where
+  -- a run stands for chunks, one at least, by a range that is open at both ends
+  abbrev pub IsRunOf : List Node → Run C → Type 0
+  IsRunOf chunks run =
+      (0 < length chunks) × (run.1.0 ≡ run.0 + length chunks) × stands run.1.1 chunks
+      × (start run.1.1 ≡ false) × (end run.1.1 ≡ false)
+
+  -- the runs stand for chunks by their positions, which rise: each for all that are adjacent
+  abbrev pub StandFor : List (Run C) → List Placed → Type 0
+  StandFor [] placed = placed ≡ []
+  StandFor (run ∷ runs) placed =
+      (chunks : List Node) × (others : List Placed) × (placed ≡ placed_from run.0 chunks ++ others)
+      × IsRunOf chunks run × AreFrom (run.1.0 + 1) others × StandFor runs others
+
+-- a session as contracts see it: its runs, what it keeps of hashes, and the sum of all sizes
+pub record Parts (C H : Type 0) : Type 0 where
+  pub runs : List (Run C)
+  pub kept : H
+  pub size : ℕ
+
+-- a session stands for chunks by their positions, and knows their hashes
+module _ {C H : Type 0} (stands : C → List Node → Type 0) (start end : C → Bool) (knows : H → List Hash → Type 0) where
+  abbrev pub SessionStands : Parts C H → List Placed → Type 0
+  SessionStands session placed =
+      StandFor stands start end session.runs placed × knows session.kept (hashes_of (chunks_of placed))
+      × (session.size ≡ total_size (chunks_of placed))

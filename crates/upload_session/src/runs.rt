@@ -1,0 +1,163 @@
+//! Ranges of chunks by their positions, joined as they become adjacent.
+
+ghost use Rattle.std.specs.Prelude.{◌≡◌, ◌+◌, ◌^◌, ◌<◌, List, ℕ, [], false, length, option_map, slice_get, IfOk, IfErr, IfSome, IfNone, OnOk, OnErr};
+ghost use Rattle.xet_merkle.specs.Groups.{Node};
+ghost use Rattle.upload_session.specs.Steps.{EndsAt, NoneEndsAt, IsWithNext};
+ghost use Rattle.upload_session.specs.Session.{Placed, place, chunks_of, is_taken, overlaps, IsWhole, StandFor};
+
+use crate::session_fault::SessionFault;
+use std::alloc::AllocError;
+use std::collections::BTreeMap;
+use std::marker::Model;
+use xet_merkle::CoreError;
+use xet_merkle::aggregated_hashes::Node;
+use xet_merkle::chunk_range::ChunkRange;
+
+// The position behind the last one of a run, and the range of its chunks.
+type Run<C> = (u64, C);
+
+/// The runs of adjacent positions that are taken, each with one range of its chunks, which is open at both ends.
+#[derive(Drop)]
+pub struct Runs<C: ChunkRange> {
+    // The runs by their first positions.
+    runs: BTreeMap<u64, Run<C>, C::Alloc>,
+    alloc: C::Alloc,
+}
+
+impl<C: ChunkRange> Model for Runs<C> {
+    ghost use Rattle.std.specs.Prelude.{List};
+    ghost use Rattle.upload_session.specs.Session.{Run};
+
+    ghost Value = { List (Run C) };
+
+    ghost view = { λ stored. stored.runs.entries };
+}
+
+impl<C: ChunkRange> Runs<C> {
+    /// No runs.
+    pub fn new(alloc: C::Alloc) -> Result<Self, AllocError>
+        ensures { IfOk result (λ runs. runs ≡ []) }
+    {
+        Ok(Runs {
+            runs: BTreeMap::new(alloc.clone()?),
+            alloc,
+        })
+    }
+
+    /// Where the memory comes from.
+    pub fn allocator(&self) -> &C::Alloc {
+        &self.alloc
+    }
+
+    /// Whether a position is taken. It takes no memory.
+    pub fn taken(&self, position: u64) -> bool
+        ensures { (placed : List Placed) → StandFor C.stands C.start C.end self.now placed →
+            result ≡ is_taken placed position }
+    {
+        match self.runs.range(..=position).next_back() {
+            Some((_, (end, _))) => position < *end,
+            None => false,
+        }
+    }
+
+    /// Whether one of some adjacent positions is taken. It takes no memory.
+    pub fn overlap(&self, first: u64, count: u64) -> bool
+        requires { 0 < count }
+        ensures { (placed : List Placed) → StandFor C.stands C.start C.end self.now placed →
+            result ≡ overlaps placed first count }
+    {
+        if self.taken(first) {
+            return true;
+        }
+        match self.runs.range(first..).next() {
+            Some((next, _)) => *next - first < count,
+            None => false,
+        }
+    }
+
+    /// The first position and the range of a run, by its number in rising order from 0. It takes no memory.
+    pub fn nth(&self, i: usize) -> Option<(u64, &C)>
+        ensures { option_map {U = ℕ × C} (λ shown. (shown.0, shown.1.now)) result
+            ≡ option_map {U = ℕ × C} (λ run. (run.0, run.1.1)) (slice_get self.now i) }
+    {
+        let (first, (_, range)) = self.runs.iter().nth(i)?;
+        Some((*first, range))
+    }
+
+    /// The range of all chunks, or `None` where there is none. It fails with [`SessionFault::Gap`] where the positions taken
+    /// aren't exactly those below a total, and takes no memory.
+    pub fn whole(&self, total: u64) -> Result<Option<&C>, SessionFault>
+        ensures whole { OnOk result ((placed : List Placed) → StandFor C.stands C.start C.end self.now placed →
+            IsWhole total placed) }
+        ensures gap { OnErr result ((placed : List Placed) → StandFor C.stands C.start C.end self.now placed →
+            ¬ IsWhole total placed) }
+        ensures errors { IfErr result (λ e. e ≡ SessionFault.Gap) }
+        ensures none { (placed : List Placed) → StandFor C.stands C.start C.end self.now placed →
+            IfOk result (λ whole. IfNone whole (placed ≡ [])) }
+        ensures range { (placed : List Placed) → StandFor C.stands C.start C.end self.now placed →
+            IfOk result (λ whole. IfSome whole (λ range. C.stands range.now (chunks_of placed))) }
+    {
+        let Some((first, (end, range))) = self.runs.first_key_value() else {
+            return if total == 0 {
+                Ok(None)
+            } else {
+                Err(SessionFault::Gap)
+            };
+        };
+        if 0 < *first || *end != total || 1 < self.runs.len() {
+            return Err(SessionFault::Gap);
+        }
+        Ok(Some(range))
+    }
+
+    /// Places chunks, one at least, at adjacent positions that aren't taken. After a refusal nothing has changed.
+    pub fn place(&mut self, first: u64, chunks: &[Node]) -> Result<(), CoreError>
+        requires { first + length chunks.now < 2 ^ 64 }
+        ensures placed { OnOk result ((placed : List Placed) → StandFor C.stands C.start C.end self.old placed →
+            0 < length chunks.now → overlaps placed first (length chunks.now) ≡ false →
+            StandFor C.stands C.start C.end self.new (place placed first chunks.now)) }
+        ensures unchanged { OnErr result (self.new ≡ self.old) }
+    {
+        let behind = first + chunks.len() as u64;
+        let (end, range) = self.with_next(chunks, behind)?;
+        match self.ending_at(first) {
+            Some(start) => {
+                if let Some(run) = self.runs.get_mut(&start) {
+                    run.1.join(&range)?;
+                    run.0 = end;
+                }
+            }
+            None => {
+                self.runs.insert(first, (end, range))?;
+            }
+        }
+        self.runs.remove(&behind);
+        Ok(())
+    }
+
+    // The range of some chunks and of the run that begins behind them, where there is one, and the position behind both.
+    fn with_next(&self, chunks: &[Node], behind: u64) -> Result<Run<C>, CoreError>
+        ensures { IfOk result (IsWithNext C.stands C.start C.end self.now behind chunks.now) }
+    {
+        let alloc = self.alloc.clone()?;
+        let mut range = C::from_chunks(alloc, false, chunks, false)?;
+        match self.runs.get(&behind) {
+            Some((end, next)) => {
+                range.join(next)?;
+                Ok((*end, range))
+            }
+            None => Ok((behind, range)),
+        }
+    }
+
+    // The first position of the run that ends just before a position.
+    fn ending_at(&self, position: u64) -> Option<u64>
+        ensures some { IfSome result (λ begin. EndsAt self.now position begin) }
+        ensures none { IfNone result (NoneEndsAt self.now position) }
+    {
+        match self.runs.range(..=position).next_back() {
+            Some((start, (end, _))) if *end == position => Some(*start),
+            _ => None,
+        }
+    }
+}

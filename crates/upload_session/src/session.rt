@@ -1,0 +1,190 @@
+//! A session: ranges of chunks that come in any order, joined as they become adjacent.
+
+ghost use Rattle.std.specs.Prelude.{◌≡◌, ℕ, ◌+◌, ◌^◌, ◌<◌, ◌≤◌, ◌↔◌, ◌⊎◌, List, [], false, length, replicate, sum_by, option_map, slice_get, Ok, IfOk, IfErr, IfSome, IfNone, SomeIff, OnOk, OnErr, IsTrue, IsErrOf};
+ghost use Rattle.xet_merkle.specs.Groups.{Node};
+ghost use Rattle.xet_merkle.specs.Roots.{total_size, IsRoot, IsFileHash};
+ghost use Rattle.upload_session.specs.Hashes.{Hash, hashes_of};
+ghost use Rattle.upload_session.specs.Session.{Placed, place, chunks_of, is_taken, overlaps, IsWhole, SessionStands};
+
+use crate::kept_hashes::{KeptHashes, SeenHashes};
+use crate::runs::Runs;
+use crate::session_fault::SessionFault;
+use std::alloc::{AllocError, Global};
+use std::marker::Model;
+use xet_hash::data_hash::MerkleHash;
+use xet_merkle::CoreError;
+use xet_merkle::aggregated_hashes::{Node, file_hash_of_root};
+use xet_merkle::chunk_range::ChunkRange;
+use xet_merkle::merkle_hash_subtree::MerkleHashSubtree;
+
+/// A session over subtrees that keeps all hashes.
+pub type Session<A = Global> = SessionOf<MerkleHashSubtree<A>, SeenHashes<A>>;
+
+/// Chunks by their positions, which come in any order.
+///
+/// Of each run of adjacent positions that are taken it keeps one range, open at both ends, and of the hashes what `H` keeps.
+#[derive(Drop)]
+pub struct SessionOf<C: ChunkRange, H> {
+    runs: Runs<C>,
+    kept: H,
+    // The sum of the sizes of all chunks.
+    size: u64,
+}
+
+impl<C: ChunkRange, H> Model for SessionOf<C, H> {
+    ghost use Rattle.upload_session.specs.Session.{Parts};
+
+    ghost Value = { Parts C H };
+
+    ghost view = { λ stored. record { runs = stored.runs; kept = stored.kept; size = stored.size } };
+}
+
+impl<C: ChunkRange, H: KeptHashes<C::Alloc>> SessionOf<C, H> {
+    /// A session without chunks, which takes its memory of `alloc`. It fails where `alloc` can't be cloned.
+    pub fn new(alloc: C::Alloc) -> Result<Self, AllocError>
+        ensures { IfOk result (λ session. SessionStands C.stands C.start C.end H.knows session []) }
+    {
+        let kept = H::new(alloc.clone()?);
+        Ok(SessionOf {
+            runs: Runs::new(alloc)?,
+            kept,
+            size: 0,
+        })
+    }
+
+    /// Whether a position is taken. It takes no memory.
+    pub fn taken(&self, position: u64) -> bool
+        ensures { (placed : List Placed) → SessionStands C.stands C.start C.end H.knows self.now placed →
+            result ≡ is_taken placed position }
+    {
+        self.runs.taken(position)
+    }
+
+    /// The first position and the range of a run of adjacent positions that are taken, by the run's number in rising order
+    /// from 0; `None` past the last one. It takes no memory, and time in proportion to the number.
+    pub fn range(&self, i: usize) -> Option<(u64, &C)>
+        ensures { option_map {U = ℕ × C} (λ shown. (shown.0, shown.1.now)) result
+            ≡ option_map {U = ℕ × C} (λ run. (run.0, run.1.1)) (slice_get self.now.runs i) }
+    {
+        self.runs.nth(i)
+    }
+
+    /// Places chunks at the positions from `first` on, and answers how many hashes among them are new, each counted once.
+    /// No chunks are placed anywhere, and the answer is 0.
+    ///
+    /// It fails with [`SessionFault::Overlap`] where one of the positions is taken, then with [`SessionFault::Positions`]
+    /// where `first` plus the number of chunks passes `u64::MAX`, then with [`SessionFault::Sizes`] where all sizes add up
+    /// to more than `u64::MAX` bytes, and with [`SessionFault::Memory`] where an allocation is refused. After a refusal
+    /// the session stands for the same chunks, and its ranges are as they were.
+    pub fn put(&mut self, first: u64, chunks: &[Node]) -> Result<u64, SessionFault>
+        ensures placed { OnOk result ((placed : List Placed) → SessionStands C.stands C.start C.end H.knows self.old placed →
+            SessionStands C.stands C.start C.end H.knows self.new (place placed first chunks.now)) }
+        ensures new { IfOk result (λ count. (placed : List Placed) →
+            SessionStands C.stands C.start C.end H.knows self.old placed → 0 < length chunks.now →
+            (new : List Hash) × H.tells (hashes_of (chunks_of placed)) (hashes_of chunks.now) new × (count ≡ length new)) }
+        ensures nothing { length chunks.now ≡ 0 → (result ≡ Ok 0) × (self.new ≡ self.old) }
+        ensures overlap { (placed : List Placed) → SessionStands C.stands C.start C.end H.knows self.old placed →
+            (IsErrOf result SessionFault.Overlap ↔ IsTrue (overlaps placed first (length chunks.now))) }
+        ensures positions { (placed : List Placed) → SessionStands C.stands C.start C.end H.knows self.old placed →
+            (IsErrOf result SessionFault.Positions ↔ (¬ IsTrue (overlaps placed first (length chunks.now))
+            × (2 ^ 64 ≤ first + length chunks.now))) }
+        ensures sizes { (placed : List Placed) → SessionStands C.stands C.start C.end H.knows self.old placed →
+            (IsErrOf result SessionFault.Sizes ↔ (¬ IsTrue (overlaps placed first (length chunks.now))
+            × (first + length chunks.now < 2 ^ 64)
+            × (2 ^ 64 ≤ total_size (chunks_of placed) + total_size chunks.now))) }
+        ensures errors { IfErr result (λ e. (e ≡ SessionFault.Overlap) ⊎ ((e ≡ SessionFault.Positions)
+            ⊎ ((e ≡ SessionFault.Sizes) ⊎ (e ≡ SessionFault.Memory)))) }
+        ensures refused { OnErr result ((placed : List Placed) →
+            SessionStands C.stands C.start C.end H.knows self.old placed →
+            SessionStands C.stands C.start C.end H.knows self.new placed) }
+        ensures unchanged { OnErr result (self.new.runs ≡ self.old.runs) }
+    {
+        let (count, size) = (chunks.len() as u64, self.size);
+        if count == 0 {
+            return Ok(0);
+        }
+        if self.runs.overlap(first, count) {
+            return Err(SessionFault::Overlap);
+        }
+        first.checked_add(count).ok_or(SessionFault::Positions)?;
+        let size = add_sizes(size, chunks).ok_or(SessionFault::Sizes)?;
+        let new = self.kept.keep(self.runs.allocator().clone()?, chunks)?;
+        match self.runs.place(first, chunks) {
+            Ok(()) => {
+                self.size = size;
+                Ok(new.len() as u64)
+            }
+            Err(error) => {
+                self.kept.give_up(&new);
+                Err(want_of_memory(error))
+            }
+        }
+    }
+
+    /// The root of all chunks by position.
+    ///
+    /// It fails with [`SessionFault::Gap`] where the positions taken aren't exactly those from 0 to `total` - 1, before
+    /// anything is allocated, and with [`SessionFault::Memory`] where an allocation is refused.
+    pub fn root(&self, total: u64) -> Result<MerkleHash, SessionFault>
+        ensures root { IfOk result (λ root. (placed : List Placed) →
+            SessionStands C.stands C.start C.end H.knows self.now placed → IsRoot (chunks_of placed) root) }
+        ensures whole { ¬ IsErrOf result SessionFault.Gap → (placed : List Placed) →
+            SessionStands C.stands C.start C.end H.knows self.now placed → IsWhole total placed }
+        ensures gap { IsErrOf result SessionFault.Gap → (placed : List Placed) →
+            SessionStands C.stands C.start C.end H.knows self.now placed → ¬ IsWhole total placed }
+        ensures errors { IfErr result (λ e. (e ≡ SessionFault.Gap) ⊎ (e ≡ SessionFault.Memory)) }
+    {
+        let whole = self.runs.whole(total)?;
+        close(self.runs.allocator(), whole).map_err(want_of_memory)
+    }
+
+    /// The file hash of all chunks by position, without a salt, which is that under 32 zero bytes. It fails as
+    /// [`SessionOf::root`] does.
+    pub fn finish(&self, total: u64) -> Result<MerkleHash, SessionFault>
+        ensures file { IfOk result (λ file. (placed : List Placed) →
+            SessionStands C.stands C.start C.end H.knows self.now placed →
+            IsFileHash (chunks_of placed) (replicate 32 0) file) }
+        ensures whole { ¬ IsErrOf result SessionFault.Gap → (placed : List Placed) →
+            SessionStands C.stands C.start C.end H.knows self.now placed → IsWhole total placed }
+        ensures gap { IsErrOf result SessionFault.Gap → (placed : List Placed) →
+            SessionStands C.stands C.start C.end H.knows self.now placed → ¬ IsWhole total placed }
+        ensures errors { IfErr result (λ e. (e ≡ SessionFault.Gap) ⊎ (e ≡ SessionFault.Memory)) }
+    {
+        let root = self.root(total)?;
+        Ok(file_hash_of_root(root, total == 0, &[0; 32]))
+    }
+}
+
+// A size and those of some chunks, where they add up to at most `u64::MAX`.
+fn add_sizes(size: u64, chunks: &[Node]) -> Option<u64>
+    ensures { SomeIff result (size + total_size chunks.now < 2 ^ 64) (size + total_size chunks.now) }
+{
+    let mut sum = size;
+    for (_, size) in chunks {
+        sum = sum.checked_add(*size)?;
+    }
+    Some(sum)
+}
+
+// The root of the chunks of a range that is open at both ends, or of no chunk.
+fn close<C: ChunkRange>(alloc: &C::Alloc, range: Option<&C>) -> Result<MerkleHash, CoreError>
+    ensures none { IfNone range.entry (IfOk result (IsRoot [])) }
+    ensures some { IfSome range.entry (λ range. (chunks : List Node) → C.stands range.now chunks →
+        IfOk result (IsRoot chunks)) }
+{
+    let mut all = C::from_chunks(alloc.clone()?, true, &[], false)?;
+    if let Some(range) = range {
+        all.join(range)?;
+    }
+    let end = C::from_chunks(alloc.clone()?, false, &[], true)?;
+    all.join(&end)?;
+    Ok(all.root()?.unwrap())
+}
+
+// The fault of calls on ranges, which only want of memory refuses: a run's range is open at both ends, and sizes were
+// tested.
+fn want_of_memory(_error: CoreError) -> SessionFault
+    ensures { result ≡ SessionFault.Memory }
+{
+    SessionFault::Memory
+}
