@@ -1,4 +1,5 @@
 pub mod AroundEntries
+pub mod Exchanging
 pub mod Hashes
 pub mod Joining
 pub mod Neighbours

@@ -49,32 +49,43 @@ chunks-placed first [] = refl
 chunks-placed first (chunk ∷ chunks) = ap (λ rest. chunk ∷ rest) (chunks-placed (first + 1) chunks)
 
 module _ (first : ℕ) where
-  abbrev before : Placed → Bool
+  abbrev pub before : Placed → Bool
   before p = nat_lt p.0 first
 
-  abbrev behind : Placed → Bool
+  abbrev pub behind : Placed → Bool
   behind p = not (nat_lt p.0 first)
+
+  -- which are before and behind, where all are
+  pub before-all : (placed : List Placed) → AreBelow first placed → filter before placed ≡ placed
+  before-all placed below =
+      filter-all before placed (All-weaker (λ (p : Placed). p.0 < first) (λ (p : Placed). before p ≡ true) (λ p h. grind (arith, h)) placed below)
+
+  pub behind-none : (placed : List Placed) → AreBelow first placed → filter behind placed ≡ []
+  behind-none placed below =
+      filter-none behind placed (All-weaker (λ (p : Placed). p.0 < first) (λ (p : Placed). behind p ≡ false) (λ p h. grind (arith, h)) placed below)
+
+  pub before-none : (placed : List Placed) → AreFrom first placed → filter before placed ≡ []
+  before-none placed from =
+      filter-none before placed (All-weaker (λ (p : Placed). first ≤ p.0) (λ (p : Placed). before p ≡ false) (λ p h. grind (arith, h)) placed from)
+
+  pub behind-all : (placed : List Placed) → AreFrom first placed → filter behind placed ≡ placed
+  behind-all placed from =
+      filter-all behind placed (All-weaker (λ (p : Placed). first ≤ p.0) (λ (p : Placed). behind p ≡ true) (λ p h. grind (arith, h)) placed from)
 
   pub place-front : (front back : List Placed) (chunks : List Node) → AreBelow first front
       → place (front ++ back) first chunks ≡ front ++ place back first chunks
   place-front front back chunks below =
-      let fronts : filter before (front ++ back) ≡ front ++ filter before back =
-      filter-append before front back
-      ∙ ap (λ l. l ++ filter before back) (filter-all before front (All-weaker (λ (p : Placed). p.0 < first) (λ (p : Placed). before p ≡ true) (λ p h. grind (arith, h)) front below)) in
-      let backs : filter behind (front ++ back) ≡ filter behind back =
-      filter-append behind front back
-      ∙ ap (λ l. l ++ filter behind back) (filter-none behind front (All-weaker (λ (p : Placed). p.0 < first) (λ (p : Placed). behind p ≡ false) (λ p h. grind (arith, h)) front below)) in
-      ap (λ l. l ++ placed_from first chunks ++ filter behind (front ++ back)) fronts
-      ∙ ap (λ l. front ++ filter before back ++ placed_from first chunks ++ l) backs
+      ap (λ l. l ++ placed_from first chunks ++ filter behind (front ++ back))
+      (filter-append before front back ∙ ap (λ l. l ++ filter before back) (before-all front below))
+      ∙ ap (λ l. front ++ filter before back ++ placed_from first chunks ++ l)
+      (filter-append behind front back ∙ ap (λ l. l ++ filter behind back) (behind-none front below))
       ∙ ap (λ l. l ++ filter behind back) (append_assoc front (filter before back) (placed_from first chunks))
       ∙ append_assoc front (filter before back ++ placed_from first chunks) (filter behind back)
 
   pub place-back : (back : List Placed) (chunks : List Node) → AreFrom first back → place back first chunks ≡ placed_from first chunks ++ back
   place-back back chunks from =
-      ap (λ l. l ++ placed_from first chunks ++ filter behind back)
-      (filter-none before back (All-weaker (λ (p : Placed). first ≤ p.0) (λ (p : Placed). before p ≡ false) (λ p h. grind (arith, h)) back from))
-      ∙ ap (λ l. placed_from first chunks ++ l)
-      (filter-all behind back (All-weaker (λ (p : Placed). first ≤ p.0) (λ (p : Placed). behind p ≡ true) (λ p h. grind (arith, h)) back from))
+      ap (λ l. l ++ placed_from first chunks ++ filter behind back) (before-none back from)
+      ∙ ap (λ l. placed_from first chunks ++ l) (behind-all back from)
 
   pub place-from : (bound : ℕ) (placed : List Placed) (chunks : List Node) → bound ≤ first → AreFrom bound placed → AreFrom bound (place placed first chunks)
   place-from bound placed chunks low from =
@@ -142,19 +153,27 @@ between false false c = ends c
     ends true = refl
     ends false = refl
 
+-- what holds of one of the chunks placed
+pub any-placed : (has : Placed → Bool) (placed : List Placed) (first : ℕ) (chunks : List Node)
+    → list_any has (place placed first chunks) ≡ (list_any has placed || list_any has (placed_from first chunks))
+any-placed has placed first chunks =
+    let front = filter (before first) placed in
+    let back = filter (behind first) placed in
+    let new = placed_from first chunks in
+    list_any-append has (front ++ new) back
+    ∙ ap (λ b. b || list_any has back) (list_any-append has front new)
+    ∙ between (list_any has front) (list_any has new) (list_any has back)
+    ∙ ap (λ b. b || list_any has new) (sym (any-parts has (before first) placed))
+
 pub place-hashes : (placed : List Placed) (first : ℕ) (chunks : List Node)
     → AreBoth (hashes_of (chunks_of placed)) (hashes_of chunks) (hashes_of (chunks_of (place placed first chunks)))
 place-hashes placed first chunks hash =
     let has = λ (p : Placed). hash_eq hash p.1.0 in
-    let front = filter (before first) placed in
-    let back = filter (behind first) placed in
-    let new = placed_from first chunks in
     among-placed (place placed first chunks) hash
-    ∙ list_any-append has (front ++ new) back
-    ∙ ap (λ b. b || list_any has back) (list_any-append has front new)
-    ∙ between (list_any has front) (list_any has new) (list_any has back)
-    ∙ ap (λ b. b || list_any has new) (sym (any-parts has (before first) placed) ∙ sym (among-placed placed hash))
-    ∙ ap (λ b. is_among (hashes_of (chunks_of placed)) hash || b) (sym (among-placed new hash) ∙ ap (λ l. is_among (hashes_of l) hash) (chunks-placed first chunks))
+    ∙ any-placed has placed first chunks
+    ∙ ap (λ b. b || list_any has (placed_from first chunks)) (sym (among-placed placed hash))
+    ∙ ap (λ b. is_among (hashes_of (chunks_of placed)) hash || b)
+    (sym (among-placed (placed_from first chunks) hash) ∙ ap (λ l. is_among (hashes_of l) hash) (chunks-placed first chunks))
 
 -- no chunk changes nothing where positions rise
 abbrev pub Rises : List Placed → Type 0

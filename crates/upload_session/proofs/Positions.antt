@@ -39,7 +39,7 @@ abbrev pub meets : {C : Type 0} → ℕ → ℕ → Run C → Bool
 meets first count run = nat_lt first run.1.0 && nat_lt run.0 (first + count)
 
 module _ (first count : ℕ) (some : 0 < count) where
-  overlaps-run : (start : ℕ) (chunks : List Node) → 0 < length chunks
+  pub overlaps-run : (start : ℕ) (chunks : List Node) → 0 < length chunks
       → overlaps (placed_from start chunks) first count ≡ (nat_lt first (start + length chunks) && nat_lt start (first + count))
   overlaps-run start [] none = absurd (omega (arith, none))
   overlaps-run start (chunk ∷ []) _ = one_only start first count

@@ -31,6 +31,17 @@ is_taken placed position = list_any (λ p. nat_eq p.0 position) placed
 abbrev pub overlaps : List Placed → ℕ → ℕ → Bool
 overlaps placed first count = list_any (λ p. nat_lt first (p.0 + 1) && nat_lt p.0 (first + count)) placed
 
+-- some chunks at adjacent positions from the first one on
+abbrev pub Put : Type 0
+Put = ℕ × List Node
+
+-- chunks that puts have placed, the last one first: each put had one chunk at least, and no position that was taken
+abbrev pub ArePlaced : List Put → List Placed → Type 0
+ArePlaced [] placed = placed ≡ []
+ArePlaced (put ∷ earlier) placed =
+    (before : List Placed) × ArePlaced earlier before × (0 < length put.1) × (overlaps before put.0 (length put.1) ≡ false)
+    × (placed ≡ place before put.0 put.1)
+
 -- the positions taken are exactly those below a number
 abbrev pub IsWhole : ℕ → List Placed → Type 0
 IsWhole total placed = (placed ≡ placed_from 0 (chunks_of placed)) × (length placed ≡ total)

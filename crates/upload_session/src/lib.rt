@@ -2,6 +2,7 @@
 #![tactic(auto)]
 
 pub mod kept_hashes;
+pub mod laws;
 mod runs;
 pub mod session;
 pub mod session_fault;

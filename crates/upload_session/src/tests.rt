@@ -93,10 +93,15 @@ const SESSIONS: [&[Call]; 9] = [
     ],
 ];
 
+// A chunk whose hash is drawn from a seed.
+fn node(seed: u64, size: u64) -> Node {
+    (DataHash::random_from_seed(seed), size)
+}
+
 fn nodes(alloc: Global, seeds: &[(u64, u64)]) -> Result<Vec<Node>, Fail> {
     let mut nodes = Vec::new(alloc);
     for (seed, size) in seeds {
-        nodes.push((DataHash::random_from_seed(*seed), *size))?;
+        nodes.push(node(*seed, *size))?;
     }
     Ok(nodes)
 }
@@ -147,7 +152,7 @@ fn sessions_answer_as_other_implementations_do(rt: HostRuntime) -> Result<(), Fa
 
 #[test]
 fn a_session_of_one_chunk_has_its_file_hash(rt: HostRuntime) -> Result<(), Fail> {
-    let chunk = [(DataHash::random_from_seed(1), MAX)];
+    let chunk = [node(1, MAX)];
     let mut session: Session = SessionOf::new(rt.alloc())?;
     assert_eq!(rt; session.put(0, &chunk), Ok(1));
     assert_eq!(rt; session.finish(1), Ok(file_hash(rt.alloc(), &chunk)?));
@@ -156,8 +161,8 @@ fn a_session_of_one_chunk_has_its_file_hash(rt: HostRuntime) -> Result<(), Fail>
 
 #[test]
 fn a_session_lends_the_ranges_of_its_runs(rt: HostRuntime) -> Result<(), Fail> {
-    let all = nodes(rt.alloc(), &[(1, 100), (2, 200), (3, 300), (4, 400)])?;
-    let chunks = all.as_slice();
+    let all = [node(1, 100), node(2, 200), node(3, 300), node(4, 400)];
+    let chunks = &all[..];
     let mut session: Session = SessionOf::new(rt.alloc())?;
     assert_eq!(rt; session.put(2, &chunks[2..3]), Ok(1));
     assert_eq!(rt; session.put(7, &chunks[3..]), Ok(1));
@@ -192,8 +197,8 @@ fn faults_print_what_was_wrong(rt: HostRuntime) -> Result<(), Fail> {
             "a position isn't taken, or one is past the total",
         ),
     ];
-    for (fault, text) in texts {
-        assert_eq!(rt; format!(in rt.alloc(); "{fault}")?, text);
+    for (fault, text) in &texts {
+        assert_eq!(rt; format!(in rt.alloc(); "{fault}")?.as_str(), *text);
     }
     Ok(())
 }

@@ -1,0 +1,128 @@
+-- Puts that change places.
+use Rattle.std.proofs.Common.{rules, arith, ◌≡◌, ◌+◌, ◌<◌, ◌≤◌, ◌⊎◌, inl, inr, ℕ, Bool, true, false, not, List, [], ◌∷◌, ◌++◌, ◌&&◌, ◌||◌, nat_lt, length, refl, sym, ap, subst, ◌∙◌, append_assoc}
+use Rattle.std.specs.Prelude.{All, filter, cond}
+use Rattle.std.proofs.lemmas.List.{append-nil}
+use Rattle.std.proofs.lemmas.List.Elements.{filter-append}
+use Rattle.xet_merkle.specs.Groups.{Node}
+use Rattle.upload_session.specs.Session.{Placed, Put, placed_from, place, overlaps, ArePlaced}
+use Rattle.upload_session.proofs.Placing.{before, behind, any-placed, before-all, before-none, behind-all, behind-none, placed_from-below, placed_from-from}
+use Rattle.upload_session.proofs.Positions.{neither, overlaps-run}
+
+-- what is kept of what is kept
+twice : {X : Type 0} (first second both : X → Bool) → ((x : X) → (first x && second x) ≡ both x) → (xs : List X)
+    → filter second (filter first xs) ≡ filter both xs
+twice first second both same [] = refl
+twice first second both same (x ∷ xs) = choose (first x) refl (twice first second both same xs)
+  where
+    choose : (b : Bool) → first x ≡ b → filter second (filter first xs) ≡ filter both xs
+        → filter second (cond b (x ∷ filter first xs) (filter first xs)) ≡ cond (both x) (x ∷ filter both xs) (filter both xs)
+    choose true passes rest =
+        ap (λ l. cond (second x) (x ∷ l) l) rest
+        ∙ ap (λ c. cond c (x ∷ filter both xs) (filter both xs)) (ap (λ b. b && second x) (sym passes) ∙ same x)
+    choose false fails rest =
+        rest ∙ ap (λ c. cond c (x ∷ filter both xs) (filter both xs)) (ap (λ b. b && second x) (sym fails) ∙ same x)
+
+nothing : {X : Type 0} (xs : List X) → filter (λ _. false) xs ≡ []
+nothing [] = refl
+nothing (x ∷ xs) = nothing xs
+
+-- chunks before others
+module _ (placed : List Placed) (first other : ℕ) (chunks more : List Node) (apart : first + length chunks ≤ other) where
+  between : Placed → Bool
+  between p = not (nat_lt p.0 first) && nat_lt p.0 other
+
+  abbrev both : List Placed
+  both = filter (before first) placed ++ placed_from first chunks ++ filter between placed ++ placed_from other more ++ filter (behind other) placed
+
+  later : place (place placed first chunks) other more ≡ both
+  unfolding between
+  later =
+      let front = filter (before first) placed in
+      let back = filter (behind first) placed in
+      let new = placed_from first chunks in
+      let below = placed_from-below other first chunks apart in
+      let low : filter (before other) (front ++ new ++ back) ≡ front ++ new ++ filter between placed =
+      filter-append (before other) (front ++ new) back
+      ∙ ap (λ l. l ++ filter (before other) back) (filter-append (before other) front new)
+      ∙ ap (λ l. l ++ filter (before other) new ++ filter (before other) back)
+      (twice (before first) (before other) (before first) (λ p. grind (arith, apart)) placed)
+      ∙ ap (λ l. front ++ l ++ filter (before other) back) (before-all other new below)
+      ∙ ap (λ l. front ++ new ++ l) (twice (behind first) (before other) between (λ p. refl) placed) in
+      let high : filter (behind other) (front ++ new ++ back) ≡ filter (behind other) placed =
+      filter-append (behind other) (front ++ new) back
+      ∙ ap (λ l. l ++ filter (behind other) back) (filter-append (behind other) front new)
+      ∙ ap (λ l. l ++ filter (behind other) new ++ filter (behind other) back)
+      (twice (before first) (behind other) (λ _. false) (λ p. grind (arith, apart)) placed ∙ nothing placed)
+      ∙ ap (λ l. l ++ filter (behind other) back) (behind-none other new below)
+      ∙ twice (behind first) (behind other) (behind other) (λ p. grind (arith, apart)) placed in
+      ap (λ l. l ++ placed_from other more ++ filter (behind other) (front ++ new ++ back)) low
+      ∙ ap (λ l. front ++ new ++ filter between placed ++ placed_from other more ++ l) high
+
+  sooner : place (place placed other more) first chunks ≡ both
+  unfolding between
+  sooner =
+      let front = filter (before other) placed in
+      let back = filter (behind other) placed in
+      let new = placed_from other more in
+      let from = placed_from-from first other more (omega (arith, apart)) in
+      let low : filter (before first) (front ++ new ++ back) ≡ filter (before first) placed =
+      filter-append (before first) (front ++ new) back
+      ∙ ap (λ l. l ++ filter (before first) back) (filter-append (before first) front new)
+      ∙ ap (λ l. l ++ filter (before first) new ++ filter (before first) back)
+      (twice (before other) (before first) (before first) (λ p. grind (arith, apart)) placed)
+      ∙ ap (λ l. filter (before first) placed ++ l ++ filter (before first) back) (before-none first new from)
+      ∙ ap (λ l. filter (before first) placed ++ [] ++ l)
+      (twice (behind other) (before first) (λ _. false) (λ p. grind (arith, apart)) placed ∙ nothing placed)
+      ∙ ap (λ l. l ++ []) (append-nil (filter (before first) placed)) ∙ append-nil (filter (before first) placed) in
+      let high : filter (behind first) (front ++ new ++ back) ≡ filter between placed ++ new ++ back =
+      filter-append (behind first) (front ++ new) back
+      ∙ ap (λ l. l ++ filter (behind first) back) (filter-append (behind first) front new)
+      ∙ ap (λ l. l ++ filter (behind first) new ++ filter (behind first) back)
+      (twice (before other) (behind first) between (λ p. grind (arith, apart)) placed)
+      ∙ ap (λ l. filter between placed ++ l ++ filter (behind first) back) (behind-all first new from)
+      ∙ ap (λ l. filter between placed ++ new ++ l) (twice (behind other) (behind first) (behind other) (λ p. grind (arith, apart)) placed) in
+      ap (λ l. l ++ placed_from first chunks ++ filter (behind first) (front ++ new ++ back)) low
+      ∙ ap (λ l. filter (before first) placed ++ placed_from first chunks ++ l) high
+      ∙ sym (append_assoc (filter (before first) placed ++ placed_from first chunks) (filter between placed ++ new) back)
+      ∙ ap (λ l. l ++ back) (sym (append_assoc (filter (before first) placed ++ placed_from first chunks) (filter between placed) new))
+
+  commute : place (place placed first chunks) other more ≡ place (place placed other more) first chunks
+  commute = later ∙ sym sooner
+
+-- two puts that don't meet
+apart_or : (first other : ℕ) (chunks more : List Node) → 0 < length chunks → 0 < length more
+    → overlaps (placed_from first chunks) other (length more) ≡ false → (first + length chunks ≤ other) ⊎ (other + length more ≤ first)
+apart_or first other chunks more some others free =
+    let met = sym (overlaps-run other (length more) others first chunks some) ∙ free in
+    grind (arith, met)
+
+exchange : (placed : List Placed) (first other : ℕ) (chunks more : List Node)
+    → (first + length chunks ≤ other) ⊎ (other + length more ≤ first)
+    → place (place placed first chunks) other more ≡ place (place placed other more) first chunks
+exchange placed first other chunks more (inl before) = commute placed first other chunks more before
+exchange placed first other chunks more (inr before) = sym (commute placed other first more chunks before)
+
+pub exchanged : (later earlier : List Put) (first second : Put) (placed : List Placed)
+    → ArePlaced (later ++ first ∷ second ∷ earlier) placed → ArePlaced (later ++ second ∷ first ∷ earlier) placed
+exchanged [] earlier first second placed (between, (before, were, others, free_second, is_second), some, free, is) =
+    let (free_first, free_both) = neither (overlaps before first.0 (length first.1)) (overlaps (placed_from second.0 second.1) first.0 (length first.1))
+    (sym (any-placed _ before second.0 second.1) ∙ ap (λ all. overlaps all first.0 (length first.1)) (sym is_second) ∙ free) in
+    let apart = apart_or second.0 first.0 second.1 first.1 others some free_both in (
+      place before first.0 first.1,
+      (before, were, some, free_first, refl),
+      others,
+      any-placed _ before first.0 first.1 ∙ ap (λ b. b || overlaps (placed_from first.0 first.1) second.0 (length second.1)) free_second
+          ∙ overlaps-run second.0 (length second.1) others first.0 first.1 some ∙ free_of (flip apart),
+      is ∙ ap (λ all. place all first.0 first.1) is_second ∙ exchange before second.0 first.0 second.1 first.1 apart,
+    )
+  where
+    flip : {A B : Type 0} → A ⊎ B → B ⊎ A
+    flip (inl a) = inr a
+    flip (inr b) = inl b
+
+    free_of : (first.0 + length first.1 ≤ second.0) ⊎ (second.0 + length second.1 ≤ first.0)
+        → (nat_lt second.0 (first.0 + length first.1) && nat_lt first.0 (second.0 + length second.1)) ≡ false
+    free_of (inl low) = grind (arith, low)
+    free_of (inr high) = grind (arith, high)
+exchanged (put ∷ later) earlier first second placed (before, were, some, free, is) =
+    (before, exchanged later earlier first second before were, some, free, is)
