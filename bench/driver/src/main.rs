@@ -24,6 +24,16 @@ extern "C" {
         out: *mut u8,
         out_len: usize,
     ) -> bool;
+    fn xet_bench_session(
+        nodes: *const u64,
+        len: usize,
+        range_len: usize,
+        order: *const u64,
+        order_len: usize,
+        keeps_hashes: bool,
+        out: *mut u8,
+        out_len: usize,
+    ) -> bool;
     fn xet_bench_map(words: *const u64, len: usize, out: *mut u8, out_len: usize) -> bool;
 }
 
@@ -304,6 +314,32 @@ fn compare_one_by_one(drawn: &[u64]) {
     }
 }
 
+fn our_session(nodes: &[u64], order: &[u64], keeps_hashes: bool) -> [u8; 32] {
+    let mut out = [0; 32];
+    let (start, len, numbers) = (nodes.as_ptr(), nodes.len(), order.as_ptr());
+    assert!(unsafe {
+        xet_bench_session(start, len, 1000, numbers, order.len(), keeps_hashes, out.as_mut_ptr(), 32)
+    });
+    out
+}
+
+// A million pairs put into a session in ranges of 1000, in three orders, beside the root of all.
+fn compare_sessions(nodes: &[u64]) {
+    println!("\n| Task | time, ms | `xorb_hash`, ms | ratio |\n|---|---|---|---|");
+    let forward: Vec<u64> = (0..nodes.len() as u64 / 5000).collect();
+    let backward: Vec<u64> = forward.iter().rev().copied().collect();
+    let mut drawn = forward.clone();
+    drawn.sort_by_key(|number| (number + 1).wrapping_mul(0x9e37_79b9_7f4a_7c15));
+    for (name, order) in [("in order", &forward), ("in reverse", &backward), ("in drawn order", &drawn)] {
+        for (kept, keeps_hashes) in [("", true), (", no hashes kept", false)] {
+            assert_eq!(our_session(nodes, order, keeps_hashes), our_root(nodes));
+            beside_root(&format!("1000 puts of 1000 pairs {name}{kept}"), nodes, || {
+                our_session(black_box(nodes), order, keeps_hashes)
+            });
+        }
+    }
+}
+
 fn main() {
     let message: Vec<u8> = (0..64usize << 20).map(|i| (i % 251) as u8).collect();
     println!("| Task | ours, MB/s | crate, MB/s | ratio |\n|---|---|---|---|");
@@ -348,4 +384,5 @@ fn main() {
     compare_subtrees(&nodes);
     compare_joining(&nodes);
     compare_one_by_one(&nodes);
+    compare_sessions(&nodes);
 }

@@ -1,5 +1,8 @@
 //! Sessions that show what no contract says: worked examples with the answers of other implementations, and printed texts.
 
+mod drawn;
+mod no_memory;
+
 use crate::kept_hashes::{KeptHashes, NoHashes, SeenHashes};
 use crate::session::{Session, SessionOf};
 use crate::session_fault::SessionFault;
@@ -16,17 +19,17 @@ const MAX: u64 = u64::MAX;
 
 // A call of a session, and its answer.
 #[derive(Clone, Copy, Debug)]
-enum Call {
+enum Call<'a> {
     // The first position, and of each chunk the seed of its hash and its size.
-    Put(u64, &'static [(u64, u64)], Result<u64, SessionFault>),
-    Finish(u64, Result<&'static str, SessionFault>),
-    Root(u64, Result<&'static str, SessionFault>),
+    Put(u64, &'a [(u64, u64)], Result<u64, SessionFault>),
+    Finish(u64, Result<&'a str, SessionFault>),
+    Root(u64, Result<&'a str, SessionFault>),
 }
 
 use Call::{Finish, Put, Root};
 
 // Some sessions, each from its beginning.
-const SESSIONS: [&[Call]; 9] = [
+const SESSIONS: [&[Call<'static>]; 9] = [
     &[
         Put(2, &[(3, 300)], Ok(1)),
         Put(0, &[(1, 100), (2, 200)], Ok(2)),
@@ -117,7 +120,7 @@ fn hash(text: Result<&str, SessionFault>) -> Result<Result<DataHash, SessionFaul
 fn answers<C: ChunkRange, H: KeptHashes<C::Alloc>>(
     alloc: Global,
     session: &mut SessionOf<C, H>,
-    calls: &[Call],
+    calls: &[Call<'_>],
     counts: bool,
 ) -> Result<(), Fail> {
     for call in calls {
@@ -147,6 +150,23 @@ fn sessions_answer_as_other_implementations_do(rt: HostRuntime) -> Result<(), Fa
         let mut without: SessionOf<MerkleHashSubtree, NoHashes> = SessionOf::new(rt.alloc())?;
         answers(rt.alloc(), &mut without, calls, false)?;
     }
+    Ok(())
+}
+
+#[test]
+fn chunks_are_put_in_any_order(rt: HostRuntime) -> Result<(), Fail> {
+    let alloc = rt.alloc();
+    let (first, second, third) = (node(1, 100), node(2, 200), node(3, 300));
+    let mut session: Session = SessionOf::new(alloc)?;
+    assert_eq!(rt; session.put(2, &[third]), Ok(1));
+    assert_eq!(rt; session.put(0, &[first, second]), Ok(2));
+    assert_eq!(rt; session.put(1, &[third]), Err(SessionFault::Overlap));
+    assert!(rt; session.taken(2) && !session.taken(3));
+    assert_eq!(rt; session.put(4, &[third]), Ok(0));
+    assert_eq!(rt; session.finish(4), Err(SessionFault::Gap));
+    assert_eq!(rt; session.put(3, &[first]), Ok(0));
+    let file = [first, second, third, first, third];
+    assert_eq!(rt; session.finish(5), Ok(file_hash(alloc, &file)?));
     Ok(())
 }
 

@@ -4,6 +4,9 @@
 ghost use Rattle.std.specs.Prelude.{◌≡◌, ◌<◌, ◌*◌, ℕ, List, length};
 
 use std::alloc::{AllocError, Global};
+use upload_session::kept_hashes::{KeptHashes, NoHashes, SeenHashes};
+use upload_session::session::SessionOf;
+use upload_session::session_fault::SessionFault;
 use xet_hash::blake3::{Hasher, keyed_hash};
 use xet_hash::data_hash::{DATA_KEY, MerkleHash};
 use xet_hash::passthrough_hashmap::PassThroughHashMap;
@@ -171,6 +174,54 @@ fn final_hash_of_merged(
     ranges: &[MerkleHashSubtree],
 ) -> Result<Option<MerkleHash>, CoreError> {
     Ok(MerkleHashSubtree::merge(alloc, ranges)?.final_hash())
+}
+
+/// Puts ranges of `range_len` nodes of a list, given as to `xet_bench_xorb_hash`, into a session in the order that `order`
+/// tells by their numbers from 0, and writes the root of all to `out`. `keeps_hashes` tells whether the session keeps the
+/// hashes, to count the new ones. False where a call was refused.
+#[unsafe(no_mangle)]
+pub extern "C" fn xet_bench_session(
+    alloc: Global,
+    nodes: &[u64],
+    range_len: usize,
+    order: &[u64],
+    keeps_hashes: bool,
+    out: &mut [u8],
+) -> bool
+    requires { length out.old ≡ 32 }
+{
+    let Ok(nodes) = nodes_of(alloc, nodes) else {
+        return false;
+    };
+    let root = if keeps_hashes {
+        root_of_session::<SeenHashes>(alloc, nodes.as_slice(), range_len, order)
+    } else {
+        root_of_session::<NoHashes>(alloc, nodes.as_slice(), range_len, order)
+    };
+    match root {
+        Ok(root) => {
+            out.copy_from_slice(&root.as_bytes());
+            true
+        }
+        Err(_) => false,
+    }
+}
+
+fn root_of_session<H: KeptHashes<Global>>(
+    alloc: Global,
+    nodes: &[Node],
+    range_len: usize,
+    order: &[u64],
+) -> Result<MerkleHash, SessionFault> {
+    let mut session: SessionOf<MerkleHashSubtree, H> = SessionOf::new(alloc)?;
+    for number in order {
+        let first = (*number as usize)
+            .saturating_mul(range_len)
+            .min(nodes.len());
+        let end = first.saturating_add(range_len).min(nodes.len());
+        session.put(first as u64, &nodes[first..end])?;
+    }
+    session.root(nodes.len() as u64)
 }
 
 fn nodes_of(alloc: Global, nodes: &[u64]) -> Result<Vec<Node>, AllocError> {
