@@ -7,5 +7,4 @@ pub mod Placing
 pub mod Positions
 pub mod Results
 pub mod SortedEntries
-pub mod SortedPositions
 pub mod Whole

@@ -1,5 +1,5 @@
 -- What a map over numbers does to entries that stand in order.
-use Rattle.std.proofs.Common.{arith, nat_cmp, is_lt, is_eq, ◌≡◌, ◌<◌, ◌≤◌, ℕ, Bool, true, not, List, [], ◌∷◌, ◌++◌, refl, ap, ◌∙◌}
+use Rattle.std.proofs.Common.{arith, nat_cmp, is_lt, is_eq, ◌≡◌, ◌<◌, ◌≤◌, ℕ, Bool, true, false, not, List, [], ◌∷◌, ◌++◌, nat_lt, refl, sym, ap, subst, ◌∙◌}
 use Rattle.std.specs.Prelude.{All, None, Some, cond}
 use Rattle.std.specs.declared.cmp.Ordering.TheVariants.{Less, Equal, Greater}
 use Rattle.std.specs.declared.ops.Bound.TheVariants.{Included, Unbounded}
@@ -7,7 +7,11 @@ use Rattle.std.specs.BTreeMap.{insert_entry, is_at}
 use Rattle.std.specs.BTreeMap.Range.{entries_between}
 use Rattle.std.specs.Map.{lookup, remove_entry, set_value}
 use Rattle.std.specs.Ordering.{match_ordering}
-use Rattle.std.proofs.lemmas.List.Elements.{All-head, All-tail}
+use Rattle.std.specs.List.Sorted.{IsStrictlySortedBy}
+use Rattle.std.specs.Map.{keys_of}
+use Rattle.std.proofs.lemmas.List.Elements.{All-nil, All-cons, All-head, All-tail}
+use Rattle.std.proofs.lemmas.Map.Keys.{sorted_tail}
+use Rattle.std.proofs.lemmas.Map.Views.{All-after_first}
 
 below : (k n : ℕ) → n < k → nat_cmp k n ≡ Greater
 below k n h = grind (arith, h)
@@ -20,6 +24,9 @@ at k = grind arith
 
 near : (k n : ℕ) → n ≤ k → not (is_lt (nat_cmp k n)) ≡ true
 near k n h = grind (arith, h)
+
+less_of : (a b c : ℕ) → a < b → nat_cmp b c ≡ Less → a < c
+less_of a b c h g = grind (arith, h, g)
 
 -- whether a key is the number
 abbrev test : ℕ → ℕ → Bool
@@ -100,3 +107,41 @@ module _ {X : Type 0} (k : ℕ) where
 
   pub remove-at : (front back : List (ℕ × X)) (x : X) → AllBelow front → remove_entry (test k) (front ++ (k, x) ∷ back) ≡ front ++ back
   remove-at front back x low = remove-below front ((k, x) ∷ back) low ∙ ap (λ o. front ++ cond (is_eq o) back ((k, x) ∷ remove_entry (test k) back)) (at k)
+
+  -- entries in order are cut behind the last one at the number or before it
+  behind-all : (e : ℕ × X) (entries : List (ℕ × X)) → k < e.0 → All (λ (n : ℕ). nat_cmp e.0 n ≡ Less) (keys_of entries)
+      → All (λ (e : ℕ × X). k < e.0) entries
+  behind-all e [] begins after = All-nil (λ (e : ℕ × X). k < e.0)
+  behind-all e (next ∷ entries) begins after =
+      All-cons (λ (e : ℕ × X). k < e.0) next entries
+      (less_of k e.0 next.0 begins (All-head (λ (n : ℕ). nat_cmp e.0 n ≡ Less) next.0 (keys_of entries) after))
+      (behind-all e entries begins (All-tail (λ (n : ℕ). nat_cmp e.0 n ≡ Less) next.0 (keys_of entries) after))
+
+  abbrev pub IsCut : List (ℕ × X) → Type 0
+  IsCut entries = (back : List (ℕ × X)) × (entries ≡ upto entries ++ back)
+      × All (λ (e : ℕ × X). e.0 ≤ k) (upto entries) × AllAbove back
+
+  pub cut : (entries : List (ℕ × X)) → IsStrictlySortedBy nat_cmp (keys_of entries) → IsCut entries
+  cut [] sorted = ([], refl, All-nil (λ (e : ℕ × X). e.0 ≤ k), All-nil (λ (e : ℕ × X). k < e.0))
+  cut (e ∷ entries) sorted = choose (cut entries (sorted_tail nat_cmp e.0 (keys_of entries) sorted)) (nat_lt k e.0) refl
+    where
+      choose : IsCut entries → (b : Bool) → nat_lt k e.0 ≡ b → IsCut (e ∷ entries)
+      choose others true past =
+          let begins : k < e.0 = grind (arith, past) in
+          let all = All-cons (λ (e : ℕ × X). k < e.0) e entries begins
+          (behind-all e entries begins (All-after_first nat_cmp e.0 (keys_of entries) sorted)) in
+          let none = upto-above (e ∷ entries) all in (
+            e ∷ entries,
+            ap (λ (l : List (ℕ × X)). l ++ e ∷ entries) (sym none),
+            subst (λ (l : List (ℕ × X)). All (λ (e : ℕ × X). e.0 ≤ k) l) (sym none) (All-nil (λ (e : ℕ × X). e.0 ≤ k)),
+            all,
+          )
+      choose others false not_past =
+          let begins : e.0 ≤ k = grind (arith, not_past) in
+          let (back, is, low, behind) = others in
+          let one : upto (e ∷ entries) ≡ e ∷ upto entries = ap (λ b. cond b (e ∷ upto entries) (upto entries)) (near k e.0 begins) in (
+            back,
+            ap (λ (l : List (ℕ × X)). e ∷ l) is ∙ ap (λ (l : List (ℕ × X)). l ++ back) (sym one),
+            subst (λ (l : List (ℕ × X)). All (λ (e : ℕ × X). e.0 ≤ k) l) (sym one) (All-cons (λ (e : ℕ × X). e.0 ≤ k) e (upto entries) begins low),
+            behind,
+          )

@@ -2,7 +2,7 @@ use Rattle.std.proofs.Common.{◌≤◌, ◌++◌, ◌∷◌, [], List, sym, sub
 use Rattle.std.specs.Prelude.{All}
 use Rattle.upload_session.specs.Session.{Run, StandFor}
 use Rattle.upload_session.proofs.Positions.{holds_of_last, taken-last, taken-none}
-use Rattle.upload_session.proofs.SortedPositions.{cut}
+use Rattle.upload_session.proofs.SortedEntries.{cut}
 use Rattle.upload_session.proofs.runs.Runs.taken.Goals as goal
 
 pub returns-in-Some : goal.returns-in-Some
