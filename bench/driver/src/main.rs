@@ -314,6 +314,25 @@ fn compare_one_by_one(drawn: &[u64]) {
     }
 }
 
+// Hashes by a plain generator, and sizes below 2^20.
+fn drawn_nodes(count: usize) -> Vec<u64> {
+    let mut state = 1u64;
+    (0..5 * count)
+        .map(|i| {
+            state = state.wrapping_mul(6364136223846793005).wrapping_add(1442695040888963407);
+            let word = state ^ state >> 29;
+            if i % 5 == 4 { word >> 44 } else { word }
+        })
+        .collect()
+}
+
+// The numbers of the ranges of 1000 pairs, in drawn order.
+fn drawn_order(nodes: &[u64]) -> Vec<u64> {
+    let mut order: Vec<u64> = (0..nodes.len() as u64 / 5000).collect();
+    order.sort_by_key(|number| (number + 1).wrapping_mul(0x9e37_79b9_7f4a_7c15));
+    order
+}
+
 fn our_session(nodes: &[u64], order: &[u64], keeps_hashes: bool) -> [u8; 32] {
     let mut out = [0; 32];
     let (start, len, numbers) = (nodes.as_ptr(), nodes.len(), order.as_ptr());
@@ -328,8 +347,7 @@ fn compare_sessions(nodes: &[u64]) {
     println!("\n| Task | time, ms | `xorb_hash`, ms | ratio |\n|---|---|---|---|");
     let forward: Vec<u64> = (0..nodes.len() as u64 / 5000).collect();
     let backward: Vec<u64> = forward.iter().rev().copied().collect();
-    let mut drawn = forward.clone();
-    drawn.sort_by_key(|number| (number + 1).wrapping_mul(0x9e37_79b9_7f4a_7c15));
+    let drawn = drawn_order(nodes);
     for (name, order) in [("in order", &forward), ("in reverse", &backward), ("in drawn order", &drawn)] {
         for (kept, keeps_hashes) in [("", true), (", no hashes kept", false)] {
             assert_eq!(our_session(nodes, order, keeps_hashes), our_root(nodes));
@@ -340,7 +358,35 @@ fn compare_sessions(nodes: &[u64]) {
     }
 }
 
+// The most memory that a process of its own took with a session of these pairs in drawn order, in bytes.
+fn peak_of_session(count: usize, keeps_hashes: bool) -> f64 {
+    let program = std::env::current_exe().unwrap();
+    let arguments = [count.to_string(), keeps_hashes.to_string()];
+    let output = std::process::Command::new(program).args(arguments).output().unwrap();
+    String::from_utf8(output.stdout).unwrap().trim().parse::<f64>().unwrap() * 1024.0
+}
+
+fn print_peak_of_session(count: usize, keeps_hashes: bool) {
+    let nodes = drawn_nodes(count);
+    our_session(&nodes, &drawn_order(&nodes), keeps_hashes);
+    let status = std::fs::read_to_string("/proc/self/status").unwrap();
+    let line = status.lines().find(|line| line.starts_with("VmHWM:")).unwrap();
+    println!("{}", line.split_whitespace().nth(1).unwrap());
+}
+
+fn compare_kept_hashes() {
+    println!("\n| Hashes that a session keeps | bytes for each |\n|---|---|");
+    for count in [1_000_000, 2_000_000, 3_000_000] {
+        let room = peak_of_session(count, true) - peak_of_session(count, false);
+        println!("| {count} | {:.0} |", room / count as f64);
+    }
+}
+
 fn main() {
+    let arguments: Vec<String> = std::env::args().skip(1).collect();
+    if let [count, keeps_hashes] = &arguments[..] {
+        return print_peak_of_session(count.parse().unwrap(), keeps_hashes == "true");
+    }
     let message: Vec<u8> = (0..64usize << 20).map(|i| (i % 251) as u8).collect();
     println!("| Task | ours, MB/s | crate, MB/s | ratio |\n|---|---|---|---|");
     for (name, len) in [
@@ -365,15 +411,7 @@ fn main() {
             || theirs_in_pieces(black_box(part), piece),
         );
     }
-    // Hashes by a plain generator, and sizes below 2^20.
-    let mut state = 1u64;
-    let nodes: Vec<u64> = (0..5_000_000)
-        .map(|i| {
-            state = state.wrapping_mul(6364136223846793005).wrapping_add(1442695040888963407);
-            let word = state ^ state >> 29;
-            if i % 5 == 4 { word >> 44 } else { word }
-        })
-        .collect();
+    let nodes = drawn_nodes(1_000_000);
     compare(
         "`xorb_hash`, a million pairs of 40 B",
         nodes.len() * 8,
@@ -385,4 +423,5 @@ fn main() {
     compare_joining(&nodes);
     compare_one_by_one(&nodes);
     compare_sessions(&nodes);
+    compare_kept_hashes();
 }
