@@ -1,11 +1,11 @@
 -- Puts that change places.
-use Rattle.std.proofs.Common.{rules, arith, ◌≡◌, ◌+◌, ◌<◌, ◌≤◌, ◌⊎◌, inl, inr, ℕ, Bool, true, false, not, List, [], ◌∷◌, ◌++◌, ◌&&◌, ◌||◌, nat_lt, length, refl, sym, ap, subst, ◌∙◌, append_assoc}
-use Rattle.std.specs.Prelude.{All, filter, cond}
+use Rattle.std.proofs.Common.{arith, ◌≡◌, ◌+◌, ◌<◌, ◌≤◌, ◌⊎◌, inl, inr, ℕ, Bool, true, false, not, List, [], ◌∷◌, ◌++◌, ◌&&◌, ◌||◌, nat_lt, length, refl, sym, ap, ◌∙◌, append_assoc}
+use Rattle.std.specs.Prelude.{filter, cond}
 use Rattle.std.proofs.lemmas.List.{append-nil}
 use Rattle.std.proofs.lemmas.List.Elements.{filter-append}
 use Rattle.xet_merkle.specs.Groups.{Node}
 use Rattle.upload_session.specs.Session.{Placed, Put, placed_from, place, overlaps, ArePlaced}
-use Rattle.upload_session.proofs.Placing.{before, behind, any-placed, before-all, before-none, behind-all, behind-none, placed_from-below, placed_from-from}
+use Rattle.upload_session.proofs.Placing.{before, behind, any-placed, before-all, before-none, behind-all, behind-none, placed_from-append, placed_from-below, placed_from-from}
 use Rattle.upload_session.proofs.Positions.{neither, overlaps-run}
 
 -- what is kept of what is kept
@@ -26,28 +26,28 @@ nothing : {X : Type 0} (xs : List X) → filter (λ _. false) xs ≡ []
 nothing [] = refl
 nothing (x ∷ xs) = nothing xs
 
+-- whether a position is from the first on, and below the other
+abbrev between : ℕ → ℕ → Placed → Bool
+between first other p = not (nat_lt p.0 first) && nat_lt p.0 other
+
 -- chunks before others
 module _ (placed : List Placed) (first other : ℕ) (chunks more : List Node) (apart : first + length chunks ≤ other) where
-  between : Placed → Bool
-  between p = not (nat_lt p.0 first) && nat_lt p.0 other
-
   abbrev both : List Placed
-  both = filter (before first) placed ++ placed_from first chunks ++ filter between placed ++ placed_from other more ++ filter (behind other) placed
+  both = filter (before first) placed ++ placed_from first chunks ++ filter (between first other) placed ++ placed_from other more ++ filter (behind other) placed
 
   later : place (place placed first chunks) other more ≡ both
-  unfolding between
   later =
       let front = filter (before first) placed in
       let back = filter (behind first) placed in
       let new = placed_from first chunks in
       let below = placed_from-below other first chunks apart in
-      let low : filter (before other) (front ++ new ++ back) ≡ front ++ new ++ filter between placed =
+      let low : filter (before other) (front ++ new ++ back) ≡ front ++ new ++ filter (between first other) placed =
       filter-append (before other) (front ++ new) back
       ∙ ap (λ l. l ++ filter (before other) back) (filter-append (before other) front new)
       ∙ ap (λ l. l ++ filter (before other) new ++ filter (before other) back)
       (twice (before first) (before other) (before first) (λ p. grind (arith, apart)) placed)
       ∙ ap (λ l. front ++ l ++ filter (before other) back) (before-all other new below)
-      ∙ ap (λ l. front ++ new ++ l) (twice (behind first) (before other) between (λ p. refl) placed) in
+      ∙ ap (λ l. front ++ new ++ l) (twice (behind first) (before other) (between first other) (λ p. refl) placed) in
       let high : filter (behind other) (front ++ new ++ back) ≡ filter (behind other) placed =
       filter-append (behind other) (front ++ new) back
       ∙ ap (λ l. l ++ filter (behind other) back) (filter-append (behind other) front new)
@@ -56,10 +56,9 @@ module _ (placed : List Placed) (first other : ℕ) (chunks more : List Node) (a
       ∙ ap (λ l. l ++ filter (behind other) back) (behind-none other new below)
       ∙ twice (behind first) (behind other) (behind other) (λ p. grind (arith, apart)) placed in
       ap (λ l. l ++ placed_from other more ++ filter (behind other) (front ++ new ++ back)) low
-      ∙ ap (λ l. front ++ new ++ filter between placed ++ placed_from other more ++ l) high
+      ∙ ap (λ l. front ++ new ++ filter (between first other) placed ++ placed_from other more ++ l) high
 
   sooner : place (place placed other more) first chunks ≡ both
-  unfolding between
   sooner =
       let front = filter (before other) placed in
       let back = filter (behind other) placed in
@@ -74,17 +73,17 @@ module _ (placed : List Placed) (first other : ℕ) (chunks more : List Node) (a
       ∙ ap (λ l. filter (before first) placed ++ [] ++ l)
       (twice (behind other) (before first) (λ _. false) (λ p. grind (arith, apart)) placed ∙ nothing placed)
       ∙ ap (λ l. l ++ []) (append-nil (filter (before first) placed)) ∙ append-nil (filter (before first) placed) in
-      let high : filter (behind first) (front ++ new ++ back) ≡ filter between placed ++ new ++ back =
+      let high : filter (behind first) (front ++ new ++ back) ≡ filter (between first other) placed ++ new ++ back =
       filter-append (behind first) (front ++ new) back
       ∙ ap (λ l. l ++ filter (behind first) back) (filter-append (behind first) front new)
       ∙ ap (λ l. l ++ filter (behind first) new ++ filter (behind first) back)
-      (twice (before other) (behind first) between (λ p. grind (arith, apart)) placed)
-      ∙ ap (λ l. filter between placed ++ l ++ filter (behind first) back) (behind-all first new from)
-      ∙ ap (λ l. filter between placed ++ new ++ l) (twice (behind other) (behind first) (behind other) (λ p. grind (arith, apart)) placed) in
+      (twice (before other) (behind first) (between first other) (λ p. grind (arith, apart)) placed)
+      ∙ ap (λ l. filter (between first other) placed ++ l ++ filter (behind first) back) (behind-all first new from)
+      ∙ ap (λ l. filter (between first other) placed ++ new ++ l) (twice (behind other) (behind first) (behind other) (λ p. grind (arith, apart)) placed) in
       ap (λ l. l ++ placed_from first chunks ++ filter (behind first) (front ++ new ++ back)) low
       ∙ ap (λ l. filter (before first) placed ++ placed_from first chunks ++ l) high
-      ∙ sym (append_assoc (filter (before first) placed ++ placed_from first chunks) (filter between placed ++ new) back)
-      ∙ ap (λ l. l ++ back) (sym (append_assoc (filter (before first) placed ++ placed_from first chunks) (filter between placed) new))
+      ∙ sym (append_assoc (filter (before first) placed ++ placed_from first chunks) (filter (between first other) placed ++ new) back)
+      ∙ ap (λ l. l ++ back) (sym (append_assoc (filter (before first) placed ++ placed_from first chunks) (filter (between first other) placed) new))
 
   commute : place (place placed first chunks) other more ≡ place (place placed other more) first chunks
   commute = later ∙ sym sooner
@@ -126,3 +125,33 @@ exchanged [] earlier first second placed (between, (before, were, others, free_s
     free_of (inr high) = grind (arith, high)
 exchanged (put ∷ later) earlier first second placed (before, were, some, free, is) =
     (before, exchanged later earlier first second before were, some, free, is)
+
+-- where none of some positions is taken, none is between
+none-between : (placed : List Placed) (first count : ℕ) → overlaps placed first count ≡ false → filter (between first (first + count)) placed ≡ []
+none-between [] first count free = refl
+none-between (p ∷ placed) first count free =
+    let (one, others) = neither (nat_lt first (p.0 + 1) && nat_lt p.0 (first + count)) (overlaps placed first count) free in
+    ap (λ b. cond b (p ∷ filter (between first (first + count)) placed) (filter (between first (first + count)) placed)) {y = false} (grind (arith, one))
+    ∙ none-between placed first count others
+
+-- and those behind the first are behind them all
+all-behind : (placed : List Placed) (first count : ℕ) → overlaps placed first count ≡ false
+    → filter (behind first) placed ≡ filter (behind (first + count)) placed
+all-behind [] first count free = refl
+all-behind (p ∷ placed) first count free =
+    let (one, others) = neither (nat_lt first (p.0 + 1) && nat_lt p.0 (first + count)) (overlaps placed first count) free in
+    let same : behind first p ≡ behind (first + count) p = grind (arith, one) in
+    ap (λ b. cond b (p ∷ filter (behind first) placed) (filter (behind first) placed)) same
+    ∙ ap (λ l. cond (behind (first + count) p) (p ∷ l) l) (all-behind placed first count others)
+
+pub in_parts : (placed : List Placed) (first : ℕ) (chunks more : List Node) → overlaps placed first (length chunks) ≡ false
+    → place (place placed first chunks) (first + length chunks) more ≡ place placed first (chunks ++ more)
+in_parts placed first chunks more free =
+    let other = first + length chunks in
+    let front = filter (before first) placed ++ placed_from first chunks in
+    later placed first other chunks more (omega arith)
+    ∙ ap (λ l. front ++ l ++ placed_from other more ++ filter (behind other) placed) (none-between placed first (length chunks) free)
+    ∙ ap (λ l. l ++ placed_from other more ++ filter (behind other) placed) (append-nil front)
+    ∙ ap (λ l. l ++ filter (behind other) placed) (append_assoc (filter (before first) placed) (placed_from first chunks) (placed_from other more))
+    ∙ ap (λ l. filter (before first) placed ++ l ++ filter (behind other) placed) (sym (placed_from-append first chunks more))
+    ∙ ap (λ l. filter (before first) placed ++ placed_from first (chunks ++ more) ++ l) (sym (all-behind placed first (length chunks) free))

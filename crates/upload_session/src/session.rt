@@ -17,14 +17,14 @@ use xet_merkle::aggregated_hashes::{Node, file_hash_of_root};
 use xet_merkle::chunk_range::ChunkRange;
 use xet_merkle::merkle_hash_subtree::MerkleHashSubtree;
 
-/// A session over subtrees that keeps all hashes.
-pub type Session<A = Global> = SessionOf<MerkleHashSubtree<A>, SeenHashes<A>>;
+/// A session over subtrees, which keeps all hashes.
+pub type Session<A = Global> = SessionOf<MerkleHashSubtree<A>>;
 
 /// Chunks by their positions, which come in any order.
 ///
 /// Of each run of adjacent positions that are taken it keeps one range, open at both ends, and of the hashes what `H` keeps.
 #[derive(Drop)]
-pub struct SessionOf<C: ChunkRange, H> {
+pub struct SessionOf<C: ChunkRange, H = SeenHashes<<C as ChunkRange>::Alloc>> {
     runs: Runs<C>,
     kept: H,
     // The sum of the sizes of all chunks.
@@ -69,8 +69,8 @@ impl<C: ChunkRange, H: KeptHashes<C::Alloc>> SessionOf<C, H> {
         self.runs.nth(i)
     }
 
-    /// Places chunks at the positions from `first` on, and answers how many hashes among them are new, each counted once.
-    /// No chunks are placed anywhere, and the answer is 0.
+    /// Places chunks at the positions from `first` on, and answers how many hashes among them no earlier accepted put had,
+    /// each counted once. Without a chunk it answers 0 and changes nothing, wherever `first` is.
     ///
     /// It fails with [`SessionFault::Overlap`] where one of the positions is taken, then with [`SessionFault::Positions`]
     /// where `first` plus the number of chunks passes `u64::MAX`, then with [`SessionFault::Sizes`] where all sizes add up

@@ -6,7 +6,7 @@ ghost use Rattle.upload_session.specs.declared.session_fault.SessionFault.TheVar
 use std::alloc::AllocError;
 use thiserror::Error;
 
-/// Why a call of a session was refused, the least reason first. After a refusal nothing has changed.
+/// Why a call of a session was refused, the least reason first: 1 to 5. After a refusal nothing has changed.
 #[derive(Clone, Copy, Debug, PartialEq, Eq, Error)]
 pub enum SessionFault {
     /// A position is taken.

@@ -3,7 +3,7 @@
 mod drawn;
 mod no_memory;
 
-use crate::kept_hashes::{KeptHashes, NoHashes, SeenHashes};
+use crate::kept_hashes::{KeptHashes, NoHashes};
 use crate::session::{Session, SessionOf};
 use crate::session_fault::SessionFault;
 use std::alloc::Global;
@@ -145,7 +145,7 @@ fn sessions_answer_as_other_implementations_do(rt: HostRuntime) -> Result<(), Fa
     for calls in SESSIONS {
         let mut subtrees: Session = SessionOf::new(rt.alloc())?;
         answers(rt.alloc(), &mut subtrees, calls, true)?;
-        let mut plain: SessionOf<PlainRange, SeenHashes> = SessionOf::new(rt.alloc())?;
+        let mut plain: SessionOf<PlainRange> = SessionOf::new(rt.alloc())?;
         answers(rt.alloc(), &mut plain, calls, true)?;
         let mut without: SessionOf<MerkleHashSubtree, NoHashes> = SessionOf::new(rt.alloc())?;
         answers(rt.alloc(), &mut without, calls, false)?;

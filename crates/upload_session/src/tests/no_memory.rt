@@ -2,7 +2,6 @@
 //! no more are made. Afterwards all answers are as if the refused call hadn't been made.
 
 use super::{Call, SESSIONS, answers, nodes};
-use crate::kept_hashes::SeenHashes;
 use crate::session::SessionOf;
 use crate::session_fault::SessionFault;
 use refusing_allocator::RefusingAllocator;
@@ -17,7 +16,7 @@ type Refusing = RefusingAllocator<Global>;
 // The fault of a call, where it has one.
 fn fault_of<'a, C: ChunkRange<Alloc = &'a Refusing>>(
     alloc: Global,
-    session: &mut SessionOf<C, SeenHashes<&'a Refusing>>,
+    session: &mut SessionOf<C>,
     call: &Call<'_>,
 ) -> Result<Option<SessionFault>, Fail> {
     Ok(match call {
@@ -43,7 +42,7 @@ fn is_refused_with_each_request<'a, C: ChunkRange<Alloc = &'a Refusing>>(
     };
     for granted in 0..500 {
         refusing.grant(u32::MAX);
-        let mut session: SessionOf<C, SeenHashes<&'a Refusing>> = SessionOf::new(refusing)?;
+        let mut session: SessionOf<C> = SessionOf::new(refusing)?;
         answers(alloc, &mut session, before, true)?;
         refusing.grant(granted);
         let fault = fault_of(alloc, &mut session, call)?;
