@@ -77,10 +77,9 @@ const SESSIONS: [&[Call<'static>]; 9] = [
         ),
         Finish(1, Err(SessionFault::Gap)),
     ],
-    // A chunk whose own hash is the root.
+    // No chunk is placed wherever it would be.
     &[
-        Put(0, &[(1, MAX)], Ok(1)),
-        Put(5, &[(2, 1)], Err(SessionFault::Sizes)),
+        Put(0, &[(1, 100)], Ok(1)),
         Put(0, &[], Ok(0)),
         Put(MAX, &[], Ok(0)),
     ],
@@ -170,12 +169,23 @@ fn chunks_are_put_in_any_order(rt: HostRuntime) -> Result<(), Fail> {
     Ok(())
 }
 
+// Whether a session of one chunk, which leaves no room for another's size, has the chunk's file hash.
+fn is_of_one_chunk<C: ChunkRange<Alloc = Global>>(alloc: Global) -> Result<bool, Fail> {
+    let chunk = [node(1, MAX)];
+    let mut session: SessionOf<C> = SessionOf::new(alloc)?;
+    let answers = [
+        session.put(0, &chunk),
+        session.put(5, &[node(2, 1)]),
+        session.put(0, &[]),
+    ];
+    let file = session.finish(1);
+    Ok(answers == [Ok(1), Err(SessionFault::Sizes), Ok(0)] && file == Ok(file_hash(alloc, &chunk)?))
+}
+
 #[test]
 fn a_session_of_one_chunk_has_its_file_hash(rt: HostRuntime) -> Result<(), Fail> {
-    let chunk = [node(1, MAX)];
-    let mut session: Session = SessionOf::new(rt.alloc())?;
-    assert_eq!(rt; session.put(0, &chunk), Ok(1));
-    assert_eq!(rt; session.finish(1), Ok(file_hash(rt.alloc(), &chunk)?));
+    assert!(rt; is_of_one_chunk::<MerkleHashSubtree>(rt.alloc())?);
+    assert!(rt; is_of_one_chunk::<PlainRange>(rt.alloc())?);
     Ok(())
 }
 
