@@ -34,6 +34,12 @@ pub fn hex_text_is_lowercase_digits()
         → str_to_ascii_lowercase (hex_text words) ≡ hex_text words }
 {}
 
+/// 64 hex digits of either case are those of a hash.
+pub fn hex_digits_are_those_of_a_hash()
+    ensures { (digits : List ℕ) → IsHexText digits →
+        (words : List ℕ) × IsHash words × (hex_text words ≡ str_to_ascii_lowercase digits) }
+{}
+
 /// Two hashes with the same hex text are equal.
 pub fn hex_text_tells_hashes_apart()
     ensures { (a b : List ℕ) → IsHash a → IsHash b → hex_text a ≡ hex_text b → a ≡ b }

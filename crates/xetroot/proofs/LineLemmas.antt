@@ -1,11 +1,12 @@
 -- Where the lines of a text fall.
-use Rattle.std.proofs.Common.{Option, Some, None, IfNone, ◌≡◌, ◌≢◌, ◌==◌, ℕ, ◌+◌, ◌<◌, ◌≤◌, false, List, [], ◌∷◌, ◌++◌, length, refl, sym, ap, subst, ◌∙◌, inl, inr, arith, length-append, codes, decimal}
+use Rattle.std.proofs.Common.{Option, Some, None, IfNone, Result, Ok, Err, OnOk, ◌≡◌, ◌≢◌, ◌==◌, ℕ, ◌+◌, ◌<◌, ◌≤◌, false, List, [], ◌∷◌, ◌++◌, length, refl, sym, ap, subst, ◌∙◌, inl, inr, arith, length-append, codes, decimal}
 use Rattle.std.proofs.Common.{suc, get_or, take, drop, length-take}
 use Rattle.std.proofs.lemmas.List.{take-append-drop, drop_more, get_or-take}
 use Rattle.std.proofs.lemmas.Bool.{cases_eq}
 use Rattle.std.proofs.lemmas.Bool.Decides.{nat_tests}
 use Rattle.std.proofs.lemmas.Fmt.{length-decimal-le}
-use Rattle.xetroot.specs.Lines.{newline, NoNewline, onto_first, lines_of, content, IsChunkLine, SaysNothing}
+use Rattle.xetroot.specs.Lines.{newline, NoNewline, onto_first, lines_of, content, IsChunkLine}
+use Rattle.xetroot.specs.Answer.{SaysNothing}
 use Rattle.xet_merkle.specs.Groups.{Node}
 use Rattle.xetroot.specs.Steps.Open.{NoPlus}
 
@@ -94,6 +95,11 @@ pub SaysNothing-long : (line more : List ℕ) → NoNewline line → NoPlus line
 SaysNothing-long line more h plus long =
     let len = length-content line more h in (
       λ separator. let two = ap length separator in omega arith,
+      λ position named.
+          let whole = ap length named.0 in
+          let low = named.1 in
+          let decimals = length-decimal-le 20 position (omega arith) (omega arith) named.1 in
+          omega (arith, length-append (codes "@") (decimal position)),
       λ node says. elim says [
         | inl pair ↦
             let parts = ap length pair.parts in
@@ -125,3 +131,8 @@ split_at_newline bytes end within is =
 pub IfNone-both : {A P Q R : Type 0} (o : Option A) → IfNone o P → IfNone o Q → (P → Q → R) → IfNone o R
 IfNone-both None p q h = h p q
 IfNone-both (Some x) p q h = tt
+
+-- two facts of an answer
+pub OnOk-both : {A E : Type 0} (P Q : Type 0) (r : Result A E) → OnOk r P → OnOk r Q → OnOk r (P × Q)
+OnOk-both P Q (Ok x) p q = (p, q)
+OnOk-both P Q (Err e) p q = tt

@@ -1,11 +1,9 @@
 -- The lines of the program's input, and what a line says.
-use Rattle.std.specs.Prelude.{◌≡◌, ◌≢◌, ℕ, ◌+◌, ◌^◌, ◌<◌, ◌≤◌, ◌==◌, if◌then◌else◌, ◌⊎◌, List, [], ◌∷◌, ◌++◌, length, codes, decimal}
-use Rattle.std.specs.List.{concat}
+use Rattle.std.specs.Prelude.{◌≡◌, ◌≢◌, ℕ, ◌^◌, ◌<◌, ◌==◌, if◌then◌else◌, ◌⊎◌, List, [], ◌∷◌, ◌++◌, length, codes, decimal}
 use Rattle.std.specs.Str.{str_to_ascii_lowercase}
 use Rattle.xet_hash.specs.Blake3.{keyed_hash}
 use Rattle.xet_hash.specs.Hash.{IsHash, IsHexText, data_key, hash_of, hex_text}
 use Rattle.xet_merkle.specs.Groups.{Node}
-use Rattle.xet_merkle.specs.Roots.{total_size}
 
 -- the byte 0A, which ends a line
 abbrev pub newline : ℕ
@@ -37,6 +35,10 @@ content (byte ∷ next ∷ more) = byte ∷ content (next ∷ more)
 abbrev pub IsSeparator : List ℕ → Type 0
 IsSeparator line = line ≡ codes "--"
 
+-- the line that names the position of the next pair: an at sign and the position in decimal
+abbrev pub IsPositionLine : List ℕ → ℕ → Type 0
+IsPositionLine line position = (line ≡ codes "@" ++ decimal position) × (position < 2 ^ 64)
+
 -- the line of a pair: the 64 hex digits of its hash in either case, one space, and its size in decimal
 pub record IsPairLine (line : List ℕ) (node : Node) : Type 0 where
   pub digits : List ℕ
@@ -54,33 +56,6 @@ IsChunkLine line node = (bytes : List ℕ) × (line ≡ codes "+" ++ bytes) × (
 abbrev pub SaysPair : List ℕ → Node → Type 0
 SaysPair line node = IsPairLine line node ⊎ IsChunkLine line node
 
--- what some lines say that are none of them bad: the pairs, in order
-pub data Say : List (List ℕ) → List Node → Type 0 where
-  no_line : Say [] []
-  separator : {line : List ℕ} {lines : List (List ℕ)} {pairs : List Node} →
-      IsSeparator (content line) → Say lines pairs → Say (line ∷ lines) pairs
-  pair : {line : List ℕ} {node : Node} {lines : List (List ℕ)} {pairs : List Node} →
-      SaysPair (content line) node → Say lines pairs → Say (line ∷ lines) (node ∷ pairs)
-
 -- the most bytes of an input
 abbrev pub byte_limit : ℕ
 byte_limit = 2 ^ 40
-
--- lines of which none is faulty, where they begin the input: what they say, sizes that fit, and no byte
--- past the limit
-pub record AreGood (lines : List (List ℕ)) (pairs : List Node) : Type 0 where
-  pub say : Say lines pairs
-  pub fits : total_size pairs < 2 ^ 64
-  pub within : length (concat lines) ≤ byte_limit
-
--- a line that is neither a separator nor says a pair
-abbrev pub SaysNothing : List ℕ → Type 0
-SaysNothing line = ¬ (IsSeparator (content line)) × ((node : Node) → ¬ (SaysPair (content line) node))
-
--- a line after good lines is bad: the first byte past the limit stands in it, or it says nothing
-abbrev pub IsBad : List (List ℕ) → List ℕ → Type 0
-IsBad before line = (byte_limit < length (concat before) + length line) ⊎ SaysNothing line
-
--- a line after good lines, which say these pairs, makes the sizes pass 2 ^ 64 - 1
-abbrev pub PassesSizes : List Node → List ℕ → Type 0
-PassesSizes pairs line = (node : Node) × SaysPair (content line) node × (2 ^ 64 ≤ total_size pairs + node.1)

@@ -10,10 +10,11 @@ use std::fmt;
 /// Why [`run`](crate::run::run) was refused.
 #[derive(Clone, Copy, Debug, PartialEq, Eq)]
 pub enum Fault {
-    /// The first faulty line, of this number from 1, is bad: it is no pair, chunk or separator, or byte number
-    /// 2^40 + 1 of the input stands in it.
+    /// The first faulty line, of this number from 1, is bad: it is no pair, chunk, position or separator, or a pair or
+    /// chunk whose position would be `u64::MAX`, or byte number 2^40 + 1 of the input stands in it.
     BadLine(u64),
-    /// The first faulty line, of this number from 1, isn't bad, and with its pair the sizes pass `u64::MAX`.
+    /// The first faulty line, of this number from 1, isn't bad, the position of its pair is free, and with its pair the
+    /// sizes pass `u64::MAX`.
     Sizes(u64),
     /// An allocation was refused.
     Memory,
@@ -21,10 +22,14 @@ pub enum Fault {
     Read,
     /// A write or the flush failed, or a write took nothing.
     Write,
+    /// The first faulty line, of this number from 1, isn't bad, and an earlier line took the position of its pair.
+    Overlap(u64),
+    /// No line is faulty, and the positions taken aren't exactly those from 0 to one less than their number.
+    Gap,
 }
 
 impl Fault {
-    /// The number of the fault, from 1 to 5, which is the program's exit status.
+    /// The number of the fault, from 1 to 7, which is the program's exit status.
     pub fn status(&self) -> u8
         ensures { result ≡ status_of self.now }
     {
@@ -34,6 +39,8 @@ impl Fault {
             Fault::Memory => 3,
             Fault::Read => 4,
             Fault::Write => 5,
+            Fault::Overlap(_) => 6,
+            Fault::Gap => 7,
         }
     }
 }
@@ -42,10 +49,12 @@ impl fmt::Display for Fault {
     fn fmt<W: fmt::Write>(&self, f: &mut fmt::Formatter<W>) -> fmt::Result {
         let status = self.status();
         match self {
-            Fault::BadLine(line) | Fault::Sizes(line) => {
+            Fault::BadLine(line) | Fault::Sizes(line) | Fault::Overlap(line) => {
                 write!(f, "xetroot: fault {status} at line {line}")
             }
-            Fault::Memory | Fault::Read | Fault::Write => write!(f, "xetroot: fault {status}"),
+            Fault::Memory | Fault::Read | Fault::Write | Fault::Gap => {
+                write!(f, "xetroot: fault {status}")
+            }
         }
     }
 }

@@ -2,7 +2,7 @@
 
 ghost use Rattle.std.specs.Prelude.{◌≡◌, ◌^◌, ◌<◌, ℕ, decimal, IfSome, IfNone};
 ghost use Rattle.xet_merkle.specs.Groups.{Node};
-ghost use Rattle.xetroot.specs.Lines.{IsSeparator, IsPairLine};
+ghost use Rattle.xetroot.specs.Lines.{IsSeparator, IsPositionLine, IsPairLine};
 ghost use Rattle.xetroot.specs.Steps.LineSays.{Says};
 
 use std::str;
@@ -14,6 +14,8 @@ use xet_merkle::aggregated_hashes::Node;
 pub enum Line {
     /// `--`, which ends a range.
     Separator,
+    /// The position of the next pair.
+    Position(u64),
     /// A pair of a hash and a size in bytes.
     Pair(Node),
 }
@@ -27,10 +29,14 @@ const DIGITS_LEN: usize = 64;
 pub fn parse(line: &[u8]) -> Option<Line>
     ensures says { IfSome result (Says line.now) }
     ensures no_separator { IfNone result (¬ (IsSeparator line.now)) }
+    ensures no_position { IfNone result ((position : ℕ) → ¬ (IsPositionLine line.now position)) }
     ensures no_pair { IfNone result ((node : Node) → ¬ (IsPairLine line.now node)) }
 {
     if line == SEPARATOR.as_slice() {
         return Some(Line::Separator);
+    }
+    if let Some(digits) = line.strip_prefix(b"@") {
+        return Some(Line::Position(parse_decimal(digits)?));
     }
     Some(Line::Pair(parse_pair(line)?))
 }
@@ -44,23 +50,23 @@ fn parse_pair(line: &[u8]) -> Option<Node>
     let Ok(hash) = DataHash::from_hex_digits(digits) else {
         return None;
     };
-    let size = parse_size(rest.strip_prefix(b" ")?)?;
+    let size = parse_decimal(rest.strip_prefix(b" ")?)?;
     Some((hash, size))
 }
 
-// The size that some decimal digits say, without a sign or leading zeros.
-fn parse_size(digits: &[u8]) -> Option<u64>
-    ensures size { IfSome result (λ size. digits.now ≡ decimal size) }
-    ensures none { IfNone result ((size : ℕ) → size < 2 ^ 64 → ¬ (digits.now ≡ decimal size)) }
+// The number that some decimal digits say, without a sign or leading zeros.
+fn parse_decimal(digits: &[u8]) -> Option<u64>
+    ensures number { IfSome result (λ number. digits.now ≡ decimal number) }
+    ensures none { IfNone result ((number : ℕ) → number < 2 ^ 64 → ¬ (digits.now ≡ decimal number)) }
 {
     let Ok(text) = str::from_utf8(digits) else {
         return None;
     };
-    let Ok(size) = text.parse::<u64>() else {
+    let Ok(number) = text.parse::<u64>() else {
         return None;
     };
-    if itoa::Buffer::new().format(size).as_bytes() != digits {
+    if itoa::Buffer::new().format(number).as_bytes() != digits {
         return None;
     }
-    Some(size)
+    Some(number)
 }

@@ -2,7 +2,7 @@
 
 ghost use Rattle.std.specs.Prelude.{◌≡◌, ◌==◌, ◌++◌, ◌↔◌, ℕ, List, [], length, IfSome, IfNone, IsTrue, OnErr, OnOk};
 ghost use Rattle.xet_merkle.specs.Groups.{Node};
-ghost use Rattle.xetroot.specs.Lines.{IsSeparator, SaysPair};
+ghost use Rattle.xetroot.specs.Lines.{IsSeparator, IsPositionLine, SaysPair};
 ghost use Rattle.xetroot.specs.Steps.LineSays.{Says};
 
 use crate::line::{self, Line};
@@ -80,7 +80,8 @@ impl OpenLine {
         ensures says { IfSome result (λ said. (line : List ℕ) →
             IsOpenLine self.now line → Says line said) }
         ensures nothing { IfNone result ((line : List ℕ) → IsOpenLine self.now line →
-            ¬ (IsSeparator line) × ((node : Node) → ¬ (SaysPair line node))) }
+            ¬ (IsSeparator line) × ((position : ℕ) → ¬ (IsPositionLine line position))
+            × ((node : Node) → ¬ (SaysPair line node))) }
     {
         match self {
             OpenLine::Text(text) => line::parse(text.as_slice()),

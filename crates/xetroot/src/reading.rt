@@ -1,7 +1,7 @@
 //! The reading of the input, piece by piece.
 
-ghost use Rattle.std.specs.Prelude.{◌≡◌, ◌≢◌, ◌+◌, ◌^◌, ◌<◌, ◌≤◌, ◌⊎◌, ℕ, List, [], ◌∷◌, ◌++◌, length, IfSome, IfNone, IfOk, IfErr, OnOk};
-ghost use Rattle.xet_merkle.specs.Groups.{Node};
+ghost use Rattle.std.specs.Prelude.{◌≡◌, ◌≢◌, ◌+◌, ◌-◌, ◌^◌, ◌<◌, ◌≤◌, ℕ, List, [], ◌∷◌, ◌++◌, length, IfSome, IfNone, IfOk, IfErr, OnOk};
+ghost use Rattle.upload_session.specs.Session.{Placed};
 ghost use Rattle.xetroot.specs.Lines.{content, NoNewline, newline};
 ghost use Rattle.xetroot.specs.Answer.{IsFaultOf};
 
@@ -31,12 +31,12 @@ pub struct Reading<C: ChunkRange> {
 
 impl<C: ChunkRange> Reading<C> {
     ghost use Rattle.xetroot.specs.Steps.Open.{IsOpenLine};
-    ghost use Rattle.xetroot.specs.Steps.Ranges.{HoldPairs};
+    ghost use Rattle.xetroot.specs.Steps.Ranges.{HoldCounted};
     ghost use Rattle.xetroot.specs.Steps.Taken.{IsTaken, HoldGood, HoldMore, IsLineFault};
 
     /// A reading of nothing yet.
     pub fn new(alloc: C::Alloc) -> Result<Self, AllocError>
-        ensures { IfOk result (λ reading. IsTaken reading []) }
+        ensures { IfOk result (λ reading. IsTaken C.stands C.start C.end reading []) }
     {
         Ok(Reading {
             ranges: Ranges::new(alloc)?,
@@ -49,9 +49,9 @@ impl<C: ChunkRange> Reading<C> {
     /// Takes the next piece of the input. A fault is that of the first faulty line, or want of memory.
     pub fn take(&mut self, piece: &[u8]) -> Result<(), Fault>
         ensures taken { OnOk result ((text : List ℕ) →
-            IsTaken self.old text → IsTaken self.new (text ++ piece.now)) }
+            IsTaken C.stands C.start C.end self.old text → IsTaken C.stands C.start C.end self.new (text ++ piece.now)) }
         ensures fault { IfErr result (λ fault. (text rest : List ℕ) →
-            IsTaken self.old text → IsFaultOf (text ++ piece.now ++ rest) fault) }
+            IsTaken C.stands C.start C.end self.old text → IsFaultOf (text ++ piece.now ++ rest) fault) }
         ensures not_write { IfErr result (λ fault. fault ≢ Fault.Write) }
     {
         let room = BYTE_LIMIT.saturating_sub(self.count);
@@ -64,9 +64,9 @@ impl<C: ChunkRange> Reading<C> {
 
     /// The pairs, where the input ends here. A fault is as that of `take`.
     pub fn finish(mut self) -> Result<Ranges<C>, Fault>
-        ensures pairs { IfOk result (λ ranges. (text : List ℕ) → IsTaken self text → HoldGood ranges text) }
+        ensures pairs { IfOk result (λ ranges. (text : List ℕ) → IsTaken C.stands C.start C.end self text → HoldGood C.stands C.start C.end ranges text) }
         ensures fault { IfErr result (λ fault. (text : List ℕ) →
-            IsTaken self text → IsFaultOf text fault) }
+            IsTaken C.stands C.start C.end self text → IsFaultOf text fault) }
         ensures not_write { IfErr result (λ fault. fault ≢ Fault.Write) }
     {
         if self.line.is_empty() {
@@ -79,9 +79,9 @@ impl<C: ChunkRange> Reading<C> {
     // Takes a piece in which no byte is past the limit.
     fn take_within(&mut self, piece: &[u8]) -> Result<(), Fault>
         ensures taken { OnOk result ((text : List ℕ) → length text + length piece.now ≤ 2 ^ 40 →
-            IsTaken self.old text → IsTaken self.new (text ++ piece.now)) }
+            IsTaken C.stands C.start C.end self.old text → IsTaken C.stands C.start C.end self.new (text ++ piece.now)) }
         ensures fault { IfErr result (λ fault. (text rest : List ℕ) → length text + length piece.now ≤ 2 ^ 40 →
-            IsTaken self.old text → IsFaultOf (text ++ piece.now ++ rest) fault) }
+            IsTaken C.stands C.start C.end self.old text → IsFaultOf (text ++ piece.now ++ rest) fault) }
         ensures not_write { IfErr result (λ fault. fault ≢ Fault.Write) }
     {
         let mut rest = piece;
@@ -97,9 +97,9 @@ impl<C: ChunkRange> Reading<C> {
     fn extend_line(&mut self, bytes: &[u8]) -> Result<(), Fault>
         requires { NoNewline bytes.now }
         ensures taken { OnOk result ((text : List ℕ) → length text + length bytes.now ≤ 2 ^ 40 →
-            IsTaken self.old text → IsTaken self.new (text ++ bytes.now)) }
+            IsTaken C.stands C.start C.end self.old text → IsTaken C.stands C.start C.end self.new (text ++ bytes.now)) }
         ensures fault { IfErr result (λ fault. (text rest : List ℕ) → length text + length bytes.now ≤ 2 ^ 40 →
-            IsTaken self.old text → IsFaultOf (text ++ bytes.now ++ rest) fault) }
+            IsTaken C.stands C.start C.end self.old text → IsFaultOf (text ++ bytes.now ++ rest) fault) }
         ensures not_write { IfErr result (λ fault. fault ≢ Fault.Write) }
     {
         let Ok(()) = self.line.extend(bytes) else {
@@ -112,9 +112,9 @@ impl<C: ChunkRange> Reading<C> {
     // Takes a newline.
     fn end_line(&mut self) -> Result<(), Fault>
         ensures taken { OnOk result ((text : List ℕ) → length text + 1 ≤ 2 ^ 40 →
-            IsTaken self.old text → IsTaken self.new (text ++ newline ∷ [])) }
+            IsTaken C.stands C.start C.end self.old text → IsTaken C.stands C.start C.end self.new (text ++ newline ∷ [])) }
         ensures fault { IfErr result (λ fault. (text rest : List ℕ) →
-            length text + 1 ≤ 2 ^ 40 → IsTaken self.old text →
+            length text + 1 ≤ 2 ^ 40 → IsTaken C.stands C.start C.end self.old text →
             IsFaultOf (text ++ newline ∷ rest) fault) }
         ensures not_write { IfErr result (λ fault. fault ≢ Fault.Write) }
     {
@@ -125,21 +125,22 @@ impl<C: ChunkRange> Reading<C> {
         Ok(())
     }
 
-    // Adds what the open line says to the pairs.
+    // Adds what the open line says to the pairs. A separator says nothing of them.
     fn add_line(&mut self) -> Result<(), Fault>
-        ensures says { OnOk result ((pairs : List Node) (line : List ℕ) →
-            HoldPairs self.old.ranges pairs → IsOpenLine self.old.line (content line) →
-            HoldMore self.new.ranges pairs line) }
+        ensures says { OnOk result ((pairs : List Placed) (next : ℕ) (line : List ℕ) →
+            HoldCounted C.stands C.start C.end self.old.ranges pairs next → length pairs < 2 ^ 64 - 1 →
+            IsOpenLine self.old.line (content line) → HoldMore C.stands C.start C.end self.new.ranges pairs next line) }
         ensures kept { OnOk result ((self.new.line ≡ self.old.line) × (self.new.number ≡ self.old.number)
             × (self.new.count ≡ self.old.count)) }
-        ensures fault { IfErr result (λ fault. (pairs : List Node) (line : List ℕ) →
-            HoldPairs self.old.ranges pairs → IsOpenLine self.old.line (content line) →
-            IsLineFault self.old.number pairs line fault) }
+        ensures fault { IfErr result (λ fault. (pairs : List Placed) (next : ℕ) (line : List ℕ) →
+            HoldCounted C.stands C.start C.end self.old.ranges pairs next → IsOpenLine self.old.line (content line) →
+            IsLineFault self.old.number pairs next line fault) }
         ensures not_write { IfErr result (λ fault. fault ≢ Fault.Write) }
     {
         match self.line.says() {
             None => Err(Fault::BadLine(self.number)),
-            Some(Line::Separator) => Ok(self.ranges.end_range()?),
+            Some(Line::Separator) => Ok(()),
+            Some(Line::Position(position)) => Ok(self.ranges.go_to(position)?),
             Some(Line::Pair(pair)) => self.ranges.push(pair, self.number),
         }
     }

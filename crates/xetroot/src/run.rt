@@ -30,11 +30,10 @@ const OUTPUT_LEN: usize = 140;
 /// Reads lines to the end of `r`, and then writes the root and the file hash of the pairs that they say, as
 /// `xorb <hex>` and `file <hex>`, to `w`, and flushes it.
 ///
-/// It keeps the subtree of the ranges that are ended, which is small where stable points come up, the pairs
-/// of the open one, at most 4096, and of the open line no more than the longest pair line has. An input has
-/// at most 2^40 bytes. A fault is as [`Fault`] says. After
-/// `BadLine`, `Sizes`, `Memory` and `Read` nothing was written; after `Write` a beginning of the output
-/// was. How much of the input was read after a fault isn't said.
+/// It keeps a session of the ranges that are ended: for each run of adjacent positions a subtree, which is small where
+/// stable points come up. Of the open range it keeps the pairs, at most 4096, and of the open line no more than the longest
+/// pair line has. An input has at most 2^40 bytes. A fault is as [`Fault`] says. After `Write` a beginning of the output was
+/// written, and after the others nothing. How much of the input was read after a fault isn't said.
 pub fn run<R: Read, W: Write>(alloc: impl Allocator, r: &mut R, w: &mut W) -> Result<(), Fault>
     // What was written is the answer to the whole input.
     ensures answer { OnOk result (IfSome (R.remaining r.old) (λ text.
@@ -52,8 +51,8 @@ pub fn run<R: Read, W: Write>(alloc: impl Allocator, r: &mut R, w: &mut W) -> Re
     run_with::<MerkleHashSubtree<_>, R, W>(&alloc, r, w)
 }
 
-/// Does what [`run`] does by another kind of range: it keeps the ranges that are ended as one `C`, which takes its memory
-/// of `alloc`, and the rest as `run` does. The output and the faults are those of `run`, and so is what was read and
+/// Does what [`run`] does by another kind of range: it keeps each run of adjacent positions as one `C`, which takes its
+/// memory of `alloc`, and the rest as `run` does. The output and the faults are those of `run`, and so is what was read and
 /// written at each; only when memory is wanting depends on `C`.
 pub fn run_with<C: ChunkRange, R: Read, W: Write>(
     alloc: C::Alloc,
@@ -79,7 +78,7 @@ pub fn run_with<C: ChunkRange, R: Read, W: Write>(
 
 // The pairs of the whole input.
 fn read_ranges<C: ChunkRange, R: Read>(alloc: C::Alloc, r: &mut R) -> Result<Ranges<C>, Fault>
-    ensures pairs { IfOk result (λ ranges. IfSome (R.remaining r.old) (HoldGood ranges)) }
+    ensures pairs { IfOk result (λ ranges. IfSome (R.remaining r.old) (HoldGood C.stands C.start C.end ranges)) }
     ensures read { OnOk result (IsAtEnd (R.remaining r.new)) }
     ensures fault { IfErr result (λ fault. IfSome (R.remaining r.old) (λ text. IsFaultOf text fault)) }
     ensures not_write { IfErr result (λ fault. fault ≢ Fault.Write) }

@@ -5,7 +5,9 @@ mod no_memory;
 
 use crate::fault::Fault;
 use crate::run::{run, run_with};
-use std::io::Write;
+use std::alloc::Global;
+use std::io::{Read, Write};
+use std::ops::Range;
 use std::test::Fail;
 use xet_hash::data_hash::DataHash;
 use xet_merkle::plain_range::PlainRange;
@@ -28,27 +30,110 @@ const THREE_PAIRS: &str = "xorb 71ec1275fca074724e2dd666921b3277c7cee603e4d025bc
 file 54e55dccc6653c612bdb5576c5d3cb34bb31bc4e100248abccf4c908b3ef7715
 ";
 
+// Of h1 100, h2 200, h1 100, h2 200.
+const TWO_PAIRS_TWICE: &str = "xorb 90f8313ef12df385d237a067aded02562c35ded12116e32eba401dbc86c38031
+file 284ea045e5a579e99c21ec597c20de1fc0c09e7168162aac00db8f61b3d82dbb
+";
+
+// The kind of range that a run keeps.
+#[derive(Clone, Copy, Debug)]
+enum Kind {
+    Subtree,
+    Plain,
+}
+
+const KINDS: [Kind; 2] = [Kind::Subtree, Kind::Plain];
+
+// What a run over such ranges answers.
+fn run_over<R: Read, W: Write>(
+    alloc: Global,
+    kind: Kind,
+    r: &mut R,
+    w: &mut W,
+) -> Result<(), Fault> {
+    match kind {
+        Kind::Subtree => run(alloc, r, w),
+        Kind::Plain => run_with::<PlainRange, _, _>(alloc, r, w),
+    }
+}
+
+// Whether a run writes a text and nothing else, or has a fault and writes nothing, over either kind of range.
+fn answers(alloc: Global, input: &[u8], want: Result<&str, Fault>) -> bool {
+    for kind in KINDS {
+        let mut reader = input;
+        let mut output = Vec::new(alloc);
+        let result = run_over(alloc, kind, &mut reader, &mut output);
+        let (answer, text) = match want {
+            Ok(text) => (Ok(()), text),
+            Err(fault) => (Err(fault), ""),
+        };
+        if result != answer || output.as_slice() != text.as_bytes() {
+            return false;
+        }
+    }
+    true
+}
+
+// Lines in which h1, h2 and h3 stand for the hashes of these names.
+fn with_hashes(alloc: Global, lines: &str) -> Result<String, Fail> {
+    let first = lines.replace(alloc, "h1", H1)?;
+    let second = first.as_str().replace(alloc, "h2", H2)?;
+    Ok(second.as_str().replace(alloc, "h3", H3)?)
+}
+
 #[test]
 fn answers_pairs_in_lines(rt: HostRuntime) -> Result<(), Fail> {
-    let three = format!(in rt.alloc(); "{H1} 100\n{H2} 200\n{H3} 300\n")?;
-    let with_ranges = format!(in rt.alloc(); "--\n--\n{H1} 100\n--\n{H2} 200\n{H3} 300\n--")?;
-    let one = format!(in rt.alloc(); "{H1} 100")?;
-    let upper = one.as_str().to_ascii_uppercase(rt.alloc())?;
-    for (input, want) in [
+    let upper = with_hashes(rt.alloc(), "h1 100")?
+        .as_str()
+        .to_ascii_uppercase(rt.alloc())?;
+    assert!(rt; answers(rt.alloc(), upper.as_bytes(), Ok(ONE_PAIR)));
+    for (lines, want) in [
         ("", NO_PAIR),
         ("--", NO_PAIR),
-        (one.as_str(), ONE_PAIR),
-        (upper.as_str(), ONE_PAIR),
-        (three.as_str(), THREE_PAIRS),
-        (with_ranges.as_str(), THREE_PAIRS),
+        ("h1 100", ONE_PAIR),
+        ("h1 100\nh2 200\nh3 300\n", THREE_PAIRS),
+        ("--\n--\nh1 100\n--\nh2 200\nh3 300\n--", THREE_PAIRS),
     ] {
-        let mut output = Vec::new(rt.alloc());
-        assert_eq!(rt;
-            run(rt.alloc(), &mut input.as_bytes(), &mut output),
-            Ok(()),
-            "{input}"
-        );
-        assert_eq!(rt; output.as_slice(), want.as_bytes(), "{input}");
+        let input = with_hashes(rt.alloc(), lines)?;
+        assert!(rt; answers(rt.alloc(), input.as_bytes(), Ok(want)), "{lines}");
+    }
+    Ok(())
+}
+
+#[test]
+fn position_lines_place_the_pairs_behind_them(rt: HostRuntime) -> Result<(), Fail> {
+    for (lines, want) in [
+        ("@2\nh3 300\n@0\nh1 100\nh2 200", Ok(THREE_PAIRS)),
+        (
+            "@0\nh1 100\n@1\nh2 200\n@7\n@2\nh3 300\n@1",
+            Ok(THREE_PAIRS),
+        ),
+        (
+            "@2\nh1 100\nh2 200\n@0\n--\nh1 100\n--\nh2 200",
+            Ok(TWO_PAIRS_TWICE),
+        ),
+        ("@5", Ok(NO_PAIR)),
+        ("@1\nh1 100", Err(Fault::Gap)),
+        ("h1 100\n@0\nh2 200", Err(Fault::Overlap(3))),
+        ("@1\nh2 200\n@0\nh1 100\nh3 300", Err(Fault::Overlap(5))),
+        ("h1 18446744073709551615\n@0\nh2 1", Err(Fault::Overlap(3))),
+        ("h1 18446744073709551615\n@7\nh2 1", Err(Fault::Sizes(3))),
+        ("@01", Err(Fault::BadLine(1))),
+        ("@", Err(Fault::BadLine(1))),
+        ("@+1", Err(Fault::BadLine(1))),
+        ("@ 1", Err(Fault::BadLine(1))),
+        ("@18446744073709551616", Err(Fault::BadLine(1))),
+        ("@18446744073709551615\nh1 100", Err(Fault::BadLine(2))),
+        ("@18446744073709551615\n+abc", Err(Fault::BadLine(2))),
+        ("@18446744073709551614\nh1 100", Err(Fault::Gap)),
+        (
+            "@18446744073709551614\nh1 100\nh2 200",
+            Err(Fault::BadLine(3)),
+        ),
+        ("@1\nh1 100\n!", Err(Fault::BadLine(3))),
+    ] {
+        let input = with_hashes(rt.alloc(), lines)?;
+        assert!(rt; answers(rt.alloc(), input.as_bytes(), want), "{lines}");
     }
     Ok(())
 }
@@ -62,9 +147,10 @@ fn separators_change_nothing(rt: HostRuntime) -> Result<(), Fail> {
                     let input = format!(in rt.alloc();
                         "{first}{H1} 100\n{second}{H2} 200\n{third}{H3} 300\n{last}"
                     )?;
-                    let mut output = Vec::new(rt.alloc());
-                    assert_eq!(rt; run(rt.alloc(), &mut input.as_bytes(), &mut output), Ok(()));
-                    assert_eq!(rt; output.as_slice(), THREE_PAIRS.as_bytes(), "{input}");
+                    assert!(rt;
+                        answers(rt.alloc(), input.as_bytes(), Ok(THREE_PAIRS)),
+                        "{input}"
+                    );
                 }
             }
         }
@@ -77,16 +163,27 @@ const MANY_PAIRS: &str = "xorb 1fa8c4f5d2b1ecb1ed7ec711894bcfaaa0c225182391131bc
 file 05fe8458ce220b994314c014b404ea97b6b86ef0ed06b74ab4c4b60cf2bc1beb
 ";
 
-#[test]
-fn a_long_range_is_answered_as_a_whole(rt: HostRuntime) -> Result<(), Fail> {
-    let mut input = String::new(rt.alloc());
-    for i in 0..9000 {
+// The lines of those of them whose numbers are from one to below another.
+fn push_lines(lines: &mut String, numbers: Range<u64>) -> Result<(), Fail> {
+    for i in numbers {
         let hash = DataHash::from([i, 0, 0, i % 4]);
-        writeln!(input, "{hash} 1")?;
+        writeln!(lines, "{hash} 1")?;
     }
-    let mut output = Vec::new(rt.alloc());
-    assert_eq!(rt; run(rt.alloc(), &mut input.as_bytes(), &mut output), Ok(()));
-    assert_eq!(rt; output.as_slice(), MANY_PAIRS.as_bytes());
+    Ok(())
+}
+
+#[test]
+fn long_ranges_are_answered_as_a_whole(rt: HostRuntime) -> Result<(), Fail> {
+    let mut in_order = String::new(rt.alloc());
+    push_lines(&mut in_order, 0..9000)?;
+    let mut in_reverse = String::new(rt.alloc());
+    writeln!(in_reverse, "@4500")?;
+    push_lines(&mut in_reverse, 4500..9000)?;
+    writeln!(in_reverse, "@0")?;
+    push_lines(&mut in_reverse, 0..4500)?;
+    for input in [in_order, in_reverse] {
+        assert!(rt; answers(rt.alloc(), input.as_bytes(), Ok(MANY_PAIRS)));
+    }
     Ok(())
 }
 
@@ -121,35 +218,7 @@ fn answers_chunks_in_lines(rt: HostRuntime) -> Result<(), Fail> {
         (mixed.as_bytes(), PAIR_AND_CHUNKS),
         (long.as_slice(), LONG_CHUNK),
     ] {
-        let mut output = Vec::new(rt.alloc());
-        let mut reader = input;
-        assert_eq!(rt; run(rt.alloc(), &mut reader, &mut output), Ok(()));
-        assert_eq!(rt; output.as_slice(), want.as_bytes());
-    }
-    Ok(())
-}
-
-#[test]
-fn ranges_that_keep_their_chunks_answer_the_same(rt: HostRuntime) -> Result<(), Fail> {
-    let one = format!(in rt.alloc(); "{H1} 100")?;
-    let three = format!(in rt.alloc(); "{H1} 100\n{H2} 200\n{H3} 300\n")?;
-    let with_ranges = format!(in rt.alloc(); "--\n--\n{H1} 100\n--\n{H2} 200\n{H3} 300\n--")?;
-    let mixed = format!(in rt.alloc(); "{H1} 100\n+\n--\n++a\0\r\n+--\n")?;
-    for (input, want) in [
-        (b"".as_slice(), NO_PAIR),
-        (b"--", NO_PAIR),
-        (one.as_bytes(), ONE_PAIR),
-        (three.as_bytes(), THREE_PAIRS),
-        (with_ranges.as_bytes(), THREE_PAIRS),
-        (b"+abc", ABC),
-        (b"+", NO_BYTES),
-        (mixed.as_bytes(), PAIR_AND_CHUNKS),
-    ] {
-        let mut output = Vec::new(rt.alloc());
-        let mut reader = input;
-        let result = run_with::<PlainRange, _, _>(rt.alloc(), &mut reader, &mut output);
-        assert_eq!(rt; result, Ok(()));
-        assert_eq!(rt; output.as_slice(), want.as_bytes());
+        assert!(rt; answers(rt.alloc(), input, Ok(want)));
     }
     Ok(())
 }
@@ -182,10 +251,10 @@ fn names_the_first_faulty_line(rt: HostRuntime) -> Result<(), Fail> {
         ),
     ] {
         let input = format!(in rt.alloc(); "{H1}{after}")?;
-        let mut output = Vec::new(rt.alloc());
-        let result = run(rt.alloc(), &mut input.as_bytes(), &mut output);
-        assert_eq!(rt; result, Err(fault), "{after}");
-        assert_eq!(rt; output.len(), 0, "{after}");
+        assert!(rt;
+            answers(rt.alloc(), input.as_bytes(), Err(fault)),
+            "{after}"
+        );
     }
     Ok(())
 }
@@ -198,6 +267,8 @@ fn faults_print_their_status_and_line(rt: HostRuntime) -> Result<(), Fail> {
         (Fault::Memory, "xetroot: fault 3", 3),
         (Fault::Read, "xetroot: fault 4", 4),
         (Fault::Write, "xetroot: fault 5", 5),
+        (Fault::Overlap(3), "xetroot: fault 6 at line 3", 6),
+        (Fault::Gap, "xetroot: fault 7", 7),
     ] {
         assert_eq!(rt; fault.to_string(rt.alloc())?.as_str(), text);
         assert_eq!(rt; fault.status(), status);

@@ -1,18 +1,20 @@
 -- The laws of a hash's bytes and of its hex text: both read back.
-use Rattle.std.proofs.Common.{◌≡◌, ℕ, zero, suc, ◌*◌, ◌<◌, ◌^◌, All, List, [], ◌∷◌, length, drop, slice_index, slice_index_or, inl, inr, refl, sym, ap, ◌∙◌, arith, lit<}
-use Rattle.std.specs.Int.{w64, to_le_bytes, from_le_bytes, to_be_bytes, byte_at, bytes_low_first, bytes_high_first}
+use Rattle.std.proofs.Common.{◌≡◌, ℕ, zero, suc, ◌*◌, ◌<◌, ◌^◌, All, List, [], ◌∷◌, length, drop, slice_index, slice_index_or, inl, inr, refl, sym, ap, ◌∙◌, arith, lit<, Result, Ok, Err}
+use Rattle.std.specs.Int.{w64, to_le_bytes, from_le_bytes, to_be_bytes, from_be_bytes, byte_at, bytes_low_first, bytes_high_first}
 use Rattle.std.specs.List.{flat_map}
 use Rattle.std.specs.Str.{str_to_ascii_lowercase}
 use Rattle.std.proofs.lemmas.List.Elements.{All-append, All-cons, All-get_or, All-map, All-nil}
 use Rattle.std.proofs.lemmas.Bool.{cases_lt}
 use Rattle.std.proofs.lemmas.List.{get_or_past}
 use Rattle.std.proofs.lemmas.Nat.{from_be_bytes-to_be_bytes_8, from_le_bytes-to_le_bytes_8}
-use Rattle.hex.specs.Hex.{IsBytes, decode_of, encode_lower}
-use Rattle.hex.proofs.HexLemmas.{decode_of-encode_lower, decode_of-same, decode_sized-encode_lower}
+use Rattle.hex.specs.Hex.{IsBytes, decode_of, decode_sized, encode_lower}
+use Rattle.hex.specs.declared.error.FromHexError.{FromHexError}
+use Rattle.hex.proofs.HexLemmas.{decode_of-encode_lower, decode_of-same, decode_pairs-ok, decode_sized-encode_lower, decode_sized-ok}
+use Rattle.hex.proofs.Pairs.{decode_sized-pairs}
 use Rattle.xet_hash.specs.Hash.{bytes_of, hash_of, hex_text, IsHash, IsHashBytes, IsHexText}
 use Rattle.xet_hash.proofs.Hash.Lemmas.{bytes_of-four, four_words, le_words_written, rest_fits, same_four}
-use Rattle.xet_hash.proofs.Hash.HexText.{be_words, encode_lower-text_bytes, text_bytes, text_bytes-four}
-use Rattle.xet_hash.proofs.Hash.HexDigits.{IsHexText-decoded}
+use Rattle.xet_hash.proofs.Hash.HexText.{be_words, encode_lower-text_bytes, hex_text-be_words, text_bytes, text_bytes-four}
+use Rattle.xet_hash.proofs.Hash.HexDigits.{IsHexText-decoded, IsHexText-refused}
 
 -- ---- Bytes are below 256
 
@@ -140,3 +142,29 @@ hex_text-injective a b ha hb e =
     let back_b = decode_of-encode_lower (text_bytes b) (text_bytes-fits b) in
     let bytes : text_bytes a ≡ text_bytes b = decode_of-same (encode_lower (text_bytes a)) _ _ back_a (ap decode_of texts ∙ back_b) in
     sym (be_words-text_bytes a ha) ∙ ap be_words bytes ∙ be_words-text_bytes b hb
+
+from_be_bytes-fits : (bytes : List ℕ) → ((i : ℕ) → slice_index bytes i < 256) → from_be_bytes w64 bytes < 2 ^ 64
+from_be_bytes-fits bytes fits =
+    omega (arith, fits 0, fits 1, fits 2, fits 3, fits 4, fits 5, fits 6, fits 7)
+
+-- 64 hex digits are those of a hash
+pub hash_of_digits : (digits : List ℕ) → IsHexText digits → (words : List ℕ) × IsHash words × (hex_text words ≡ str_to_ascii_lowercase digits)
+unfolding be_words
+hash_of_digits digits h = choose (decode_sized digits 32) refl
+  where
+    choose : (r : Result (List ℕ) FromHexError) → decode_sized digits 32 ≡ r
+        → (words : List ℕ) × IsHash words × (hex_text words ≡ str_to_ascii_lowercase digits)
+    choose (Err e) refused = absurd (IsHexText-refused digits e refused h)
+    choose (Ok bytes) read =
+        let long = decode_sized-ok digits 32 bytes read in
+        let pairs = sym (decode_sized-pairs digits 32 (omega (arith, long)) (omega (arith, long))) ∙ read in
+        let (_, twice, fits) = decode_pairs-ok 0 digits bytes pairs in
+        let len : length bytes ≡ 32 = omega (arith, twice, long) in (
+          be_words bytes,
+          (
+            refl,
+            All-map (λ w. w < 2 ^ 64) (λ k. from_be_bytes w64 (drop (8 * k) bytes)) (0 ∷ 1 ∷ 2 ∷ 3 ∷ [])
+                (λ k d inside. from_be_bytes-fits (drop (8 * slice_index_or (0 ∷ 1 ∷ 2 ∷ 3 ∷ []) k d) bytes) (rest_fits bytes _ fits)),
+          ),
+          hex_text-be_words bytes len fits ∙ (IsHexText-decoded digits bytes read).1,
+        )

@@ -1,6 +1,6 @@
 //! Readers and writers that fail, that are interrupted, and that take or give little.
 
-use super::{ABC, H1, H2, H3, THREE_PAIRS};
+use super::{ABC, H1, H2, H3, KINDS, THREE_PAIRS, run_over, with_hashes};
 use crate::fault::Fault;
 use crate::run::run;
 use std::alloc::Global;
@@ -26,21 +26,28 @@ impl Read for Failing<'_> {
 
 #[test]
 fn a_failed_read_is_a_fault_unless_a_line_before_it_is_faulty(rt: HostRuntime) -> Result<(), Fail> {
-    let one = format!(in rt.alloc(); "{H1} 100\n")?;
-    let bad_third = format!(in rt.alloc(); "{H1} 100\n--\n!")?;
-    let bad_second = format!(in rt.alloc(); "{H1} 100\n!\n--")?;
-    for (input, fault) in [
+    for (lines, fault) in [
         ("", Fault::Read),
         ("zz\n", Fault::BadLine(1)),
         ("zz", Fault::Read),
-        (one.as_str(), Fault::Read),
-        (bad_third.as_str(), Fault::Read),
-        (bad_second.as_str(), Fault::BadLine(2)),
+        ("h1 100\n", Fault::Read),
+        ("h1 100\n--\n!", Fault::Read),
+        ("h1 100\n!\n--", Fault::BadLine(2)),
+        ("h1 100\n@0\nh2 200\n", Fault::Overlap(3)),
+        ("@1\nh1 100\n", Fault::Read),
     ] {
-        let mut output = Vec::new(rt.alloc());
-        let result = run(rt.alloc(), &mut Failing(input.as_bytes()), &mut output);
-        assert_eq!(rt; result, Err(fault), "{input}");
-        assert_eq!(rt; output.len(), 0, "{input}");
+        let input = with_hashes(rt.alloc(), lines)?;
+        for kind in KINDS {
+            let mut output = Vec::new(rt.alloc());
+            let result = run_over(
+                rt.alloc(),
+                kind,
+                &mut Failing(input.as_bytes()),
+                &mut output,
+            );
+            assert_eq!(rt; result, Err(fault), "{kind:?} {lines}");
+            assert_eq!(rt; output.len(), 0, "{kind:?} {lines}");
+        }
     }
     Ok(())
 }
@@ -80,22 +87,24 @@ fn three_pairs(alloc: Global) -> Result<String, Fail> {
 #[test]
 fn a_failed_write_leaves_a_beginning(rt: HostRuntime) -> Result<(), Fail> {
     let input = three_pairs(rt.alloc())?;
-    for room in 0..=140 {
-        for fails_to_flush in [false, true] {
-            let mut writer = Full {
-                bytes: Vec::new(rt.alloc()),
-                room,
-                fails_to_flush,
-            };
-            let result = run(rt.alloc(), &mut input.as_bytes(), &mut writer);
-            let is_whole = room == 140 && !fails_to_flush;
-            assert_eq!(rt; result == Ok(()), is_whole, "{room}");
-            assert!(rt; is_whole || result == Err(Fault::Write), "{room}");
-            let Full { bytes, .. } = writer;
-            assert_eq!(rt;
-                bytes.as_slice(),
-                THREE_PAIRS.as_bytes().get(..room).ok_or("short")?
-            );
+    for kind in KINDS {
+        for room in 0..=140 {
+            for fails_to_flush in [false, true] {
+                let mut writer = Full {
+                    bytes: Vec::new(rt.alloc()),
+                    room,
+                    fails_to_flush,
+                };
+                let result = run_over(rt.alloc(), kind, &mut input.as_bytes(), &mut writer);
+                let is_whole = room == 140 && !fails_to_flush;
+                assert_eq!(rt; result == Ok(()), is_whole, "{kind:?} {room}");
+                assert!(rt; is_whole || result == Err(Fault::Write), "{kind:?} {room}");
+                let Full { bytes, .. } = writer;
+                assert_eq!(rt;
+                    bytes.as_slice(),
+                    THREE_PAIRS.as_bytes().get(..room).ok_or("short")?
+                );
+            }
         }
     }
     Ok(())

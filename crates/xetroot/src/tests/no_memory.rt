@@ -1,7 +1,7 @@
 //! The program's work with an allocator that refuses a request and each later one: the first, then the second, and so on,
 //! until no more are made. All memory is taken before the first write.
 
-use super::{ABC, H1, H2, H3, THREE_PAIRS};
+use super::{ABC, H1, H2, H3, KINDS, Kind, THREE_PAIRS};
 use crate::fault::Fault;
 use crate::run::{run, run_with};
 use refusing_allocator::RefusingAllocator;
@@ -33,13 +33,6 @@ impl Write for Fixed {
     }
 }
 
-// The kind of range that a run keeps.
-#[derive(Clone, Copy, Debug)]
-enum Kind {
-    Subtree,
-    Plain,
-}
-
 // Whether a run is out of memory exactly where one of its requests is refused, which happens, and then writes nothing; and
 // whether it answers as told where none is.
 fn is_refused_with_each_request(alloc: Global, kind: Kind, input: &[u8], answer: &str) -> bool {
@@ -68,8 +61,13 @@ fn is_refused_with_each_request(alloc: Global, kind: Kind, input: &[u8], answer:
 #[test]
 fn runs_are_refused_with_each_request(rt: HostRuntime) -> Result<(), Fail> {
     let pairs = format!(in rt.alloc(); "{H1} 100\n{H2} 200\n--\n{H3} 300\n")?;
-    for kind in [Kind::Subtree, Kind::Plain] {
-        for (input, answer) in [(pairs.as_bytes(), THREE_PAIRS), (b"+abc", ABC)] {
+    let apart = format!(in rt.alloc(); "@2\n{H3} 300\n@0\n{H1} 100\n@1\n{H2} 200\n")?;
+    for kind in KINDS {
+        for (input, answer) in [
+            (pairs.as_bytes(), THREE_PAIRS),
+            (apart.as_bytes(), THREE_PAIRS),
+            (b"+abc", ABC),
+        ] {
             assert!(rt;
                 is_refused_with_each_request(rt.alloc(), kind, input, answer),
                 "{kind:?}"

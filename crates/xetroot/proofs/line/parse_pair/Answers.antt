@@ -35,6 +35,6 @@ returns-clause-pair c =
     let space = (bytes_eq-Decides (take 1 rest) (32 ∷ [])).0 stripped.0 in
     let parts : rest ≡ 32 ∷ decimal c.in_ok-size.size =
     sym (take-append-drop 1 rest) ∙ ap (λ (l : List ℕ). l ++ drop 1 rest) space
-    ∙ ap (λ (l : List ℕ). 32 ∷ l) (sym stripped.1 ∙ c.in_ok-size.ensures.size) in
+    ∙ ap (λ (l : List ℕ). 32 ∷ l) (sym stripped.1 ∙ c.in_ok-size.ensures.number) in
     IsPairLine-made line c.in-Ok.hash c.in_ok-size.size (subst IsHexText digits (read.accepted.0 refl))
     (read.value ∙ ap str_to_ascii_lowercase digits) read.is_hash (sym c.in_ok-digits.ensures.cases.2 ∙ parts) (omega arith)

@@ -4,7 +4,7 @@ use Rattle.xetroot.specs.Steps.Taken.{IsTaken}
 use Rattle.xetroot.proofs.run.read_ranges.Given as goal
 
 abbrev pub invariant-pieces : goal.invariant-pieces
-invariant-pieces g l = (text : List ℕ) × IsTaken l.reading text
+invariant-pieces g l = (text : List ℕ) × IsTaken g.C.ChunkRange.stands g.C.ChunkRange.start g.C.ChunkRange.end l.reading text
     × Consumes (g.R.Read.remaining l.fn.r) (g.R.Read.remaining l.r) text
 
 abbrev pub decreases-pieces : goal.decreases-pieces

@@ -1,7 +1,8 @@
-use Rattle.std.proofs.Common.{◌++◌, ℕ, List, ◌∙◌, subst}
+use Rattle.std.proofs.Common.{inl, inr, ◌++◌, ℕ, List, ◌∙◌, sym, subst}
 use Rattle.std.specs.Io.KnownBytes.{Appends}
-use Rattle.std.proofs.lemmas.Result.{on_ok_weaker, IfErr-at_err}
-use Rattle.xetroot.specs.Answer.{IsAnswer, IsOutput}
+use Rattle.std.proofs.lemmas.Result.{err_from_is_err_and, on_ok_weaker, IfErr-at_err}
+use Rattle.upload_session.specs.Session.{IsWhole, chunks_of}
+use Rattle.xetroot.specs.Answer.{IsAnswer, IsFaultOf, IsOutput}
 use Rattle.xetroot.proofs.RunLemmas.{IfSome-weaker}
 use Rattle.xetroot.proofs.run.run_with.Goals as goal
 
@@ -11,15 +12,16 @@ returns-clause-answer g c =
     let hashes = c.in_ok-root.ensures in
     on_ok_weaker c.write_all.result (λ appended.
     IfSome-weaker {Q = λ (text : List ℕ). (l : List ℕ) × IsAnswer text l × Appends (g.W.Write.contents c.args.w.now) (g.W.Write.contents c.write_all.new.w) l}
-    _ c.in_ok-read_ranges.ensures.pairs (λ text good.
-    let is_output : IsOutput good.0 output = record {
+    _ c.in_ok-read_ranges.ensures.pairs (λ text (pairs, next, (held, counted), good).
+    let is_output : IsOutput (chunks_of pairs) output = record {
       root = _;
       file = _;
-      is_root = hashes.root good.0 good.1;
-      is_file = hashes.file good.0 good.1;
+      is_root = hashes.root pairs next held;
+      is_file = hashes.file pairs next held;
       text = c.as_slice.ensures.value ∙ c.output.ensures;
     } in
-    (output, (good.0, good.2, is_output), appended)))
+    let whole = subst (λ n. IsWhole n pairs) counted (hashes.whole pairs next held) in
+    (output, (pairs, next, good, whole, is_output), appended)))
     c.write_all.ensures.ok
 
 pub returns-clause-begun : goal.returns-clause-begun
@@ -29,12 +31,24 @@ returns-clause-begun g c = λ e.
     let begun = IfErr-at_err _ e c.write_all.ensures.begun in
     IfSome-weaker
     {Q = λ (text : List ℕ). (written : List ℕ) × (rest : List ℕ) × IsAnswer text (written ++ rest) × Appends (g.W.Write.contents c.args.w.now) (g.W.Write.contents c.write_all.new.w) written}
-    _ c.in_ok-read_ranges.ensures.pairs (λ text good.
-    let is_output : IsOutput good.0 output = record {
+    _ c.in_ok-read_ranges.ensures.pairs (λ text (pairs, next, (held, counted), good).
+    let is_output : IsOutput (chunks_of pairs) output = record {
       root = _;
       file = _;
-      is_root = hashes.root good.0 good.1;
-      is_file = hashes.file good.0 good.1;
+      is_root = hashes.root pairs next held;
+      is_file = hashes.file pairs next held;
       text = c.as_slice.ensures.value ∙ c.output.ensures;
     } in
-    (begun.0, begun.1, (good.0, good.2, subst (IsOutput good.0) begun.2 is_output), begun.3))
+    let whole = subst (λ n. IsWhole n pairs) counted (hashes.whole pairs next held) in
+    (begun.0, begun.1, (pairs, next, good, whole, subst (IsOutput (chunks_of pairs)) begun.2 is_output), begun.3))
+
+pub returns-in_err-root-clause-fault : goal.returns-in_err-root-clause-fault
+returns-in_err-root-clause-fault g c =
+    let p = err_from_is_err_and c.from_residual-in_err-root.result c.from_residual-in_err-root.ensures.1 in
+    let fault = c.in_err-root.field-0.0 in
+    rw (p.1, p.2)
+    (IfSome-weaker {Q = λ (text : List ℕ). IsFaultOf text fault} _ c.in_ok-read_ranges.ensures.pairs (λ text (pairs, next, (held, counted), good).
+    elim c.in_err-root.ensures.fault [
+      | inl memory ↦ subst (IsFaultOf text) (sym memory) tt
+      | inr gap ↦ subst (IsFaultOf text) (sym gap.0) (pairs, next, good, λ whole. gap.1 pairs next held (subst (λ n. IsWhole n pairs) (sym counted) whole))
+    ]))

@@ -29,4 +29,4 @@ returns-clause-fault g c = λ text rest taken.
     let past = c.if-piece-room.false in
     let len = length-take room piece in
     let taken_within = c.in_ok-take_within.ensures.taken text (omega arith) taken in
-    IsFaultOf-past text piece rest room _ _ _ past (omega (arith, length-append text (take room piece))) taken_within.stands
+    IsFaultOf-past text piece rest room _ _ _ _ past (omega (arith, length-append text (take room piece))) taken_within.stands_at

@@ -55,7 +55,7 @@ lines-preserved g c =
           let extended = c.in_ok-extend_line.ensures.taken (text ++ inv.0) (omega arith) (inv.2 text within taken) in
           let ended = c.in_ok-end_line.ensures.taken ((text ++ inv.0) ++ begun) (omega (arith, length-append (text ++ inv.0) begun)) extended in
           let same : ((text ++ inv.0) ++ begun) ++ newline ∷ [] ≡ text ++ (inv.0 ++ (begun ++ newline ∷ [])) = simp append_assoc in
-          subst (IsTaken c.end_line.new.self) same ended,
+          subst (IsTaken g.C.ChunkRange.stands g.C.ChunkRange.start g.C.ChunkRange.end c.end_line.new.self) same ended,
     )
 
 pub returns-clause-taken : goal.returns-clause-taken
@@ -67,7 +67,7 @@ returns-clause-taken g c =
     let len = length-append inv.0 rest in
     let extended = extend (text ++ inv.0) (omega (arith, length-append text inv.0)) (inv.2 text within taken) in
     let same : (text ++ inv.0) ++ rest ≡ text ++ c.args.piece.now = append_assoc text inv.0 rest ∙ ap (λ (l : List ℕ). text ++ l) (sym inv.1) in
-    subst (IsTaken c.extend_line-2.new.self) same extended)
+    subst (IsTaken g.C.ChunkRange.stands g.C.ChunkRange.start g.C.ChunkRange.end c.extend_line-2.new.self) same extended)
     c.extend_line-2.ensures.taken
 
 pub returns-clause-fault : goal.returns-clause-fault
@@ -81,4 +81,4 @@ returns-clause-fault g c =
     c.extend_line-2.ensures.fault
 
 pub lines-init : goal.lines-init
-lines-init g c = ([], refl, λ text within taken. subst (IsTaken c.args.self.now) (sym (append-nil text)) taken)
+lines-init g c = ([], refl, λ text within taken. subst (IsTaken g.C.ChunkRange.stands g.C.ChunkRange.start g.C.ChunkRange.end c.args.self.now) (sym (append-nil text)) taken)

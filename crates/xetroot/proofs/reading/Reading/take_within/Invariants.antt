@@ -4,7 +4,7 @@ use Rattle.xetroot.proofs.reading.Reading.take_within.Given as goal
 
 abbrev pub invariant-lines : goal.invariant-lines
 invariant-lines g l = (done : List ℕ) × (l.piece ≡ done ++ l.rest)
-    × ((text : List ℕ) → length text + length l.piece ≤ 2 ^ 40 → IsTaken l.fn.self text → IsTaken l.self (text ++ done))
+    × ((text : List ℕ) → length text + length l.piece ≤ 2 ^ 40 → IsTaken g.C.ChunkRange.stands g.C.ChunkRange.start g.C.ChunkRange.end l.fn.self text → IsTaken g.C.ChunkRange.stands g.C.ChunkRange.start g.C.ChunkRange.end l.self (text ++ done))
 
 abbrev pub decreases-lines : goal.decreases-lines
 decreases-lines g l = length l.rest

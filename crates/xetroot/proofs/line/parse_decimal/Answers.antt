@@ -3,7 +3,7 @@ use Rattle.std.proofs.lemmas.Slice.Eq.{bytes_eq-Decides}
 use Rattle.std.specs.Prelude.{IsUtf8, decimal}
 use Rattle.std.proofs.lemmas.Str.{IsUtf8-from_ascii}
 use Rattle.std.proofs.lemmas.Fmt.{IsAscii-decimal, parse-decimal}
-use Rattle.xetroot.proofs.line.parse_size.Goals as goal
+use Rattle.xetroot.proofs.line.parse_decimal.Goals as goal
 
 pub returns-in_default-clause-none : goal.returns-in_default-clause-none
 returns-in_default-clause-none c = λ size fits e.
@@ -19,7 +19,7 @@ pub returns-then-ne-clause-none : goal.returns-then-ne-clause-none
 returns-then-ne-clause-none c = λ size fits e.
     let text = c.in-Ok.ensures.cases.0 in
     let parsed = parse-decimal 64 size c.in-Ok.text.now _ fits fits (text ∙ e) c.parse.ensures.value.0 in
-    let same : c.in-Ok-parse.size ≡ size = cc in
+    let same : c.in-Ok-parse.number ≡ size = cc in
     let written : c.as_bytes.result.now ≡ c.args.digits.now =
     c.as_bytes.ensures.value ∙ c.format.ensures.text ∙ ap decimal same ∙ sym e in
     let equal = (bytes_eq-Decides c.as_bytes.result.now c.args.digits.now).1 written in
