@@ -55,6 +55,29 @@ pub(super) fn collapse<A: Allocator + Clone, P: ParentMaker>(
     Ok(pushed(levels, LevelNodes::new(nodes, Vec::new(alloc)))?)
 }
 
+// Levels with those of the canonical subtree of some nodes on top. Of the nodes it copies only those that stay.
+pub(super) fn collapse_slice<A: Allocator + Clone, P: ParentMaker>(
+    alloc: A,
+    levels: Vec<LevelNodes<A>, A>,
+    nodes: &[Node],
+    at_start: bool,
+    at_end: bool,
+    maker: &mut P,
+) -> Result<Vec<LevelNodes<A>, A>, AllocError>
+    requires fits { total_size nodes.now < 2 ^ 64 }
+    requires room { P.count maker.old + length nodes.now ≤ 2 ^ 99 }
+    ensures { IfOk result (λ all. (top : List Level) × (work : ℕ) × IsCanonicalBy (parent_by P.hash_of) at_start at_end nodes.now top work
+        × (all.items ≡ levels.items ++ top) × (P.count maker.new ≡ P.count maker.old + work)) }
+{
+    match find_split(nodes, at_start, at_end) {
+        None => Ok(pushed(levels, LevelNodes::copied(alloc, nodes, &[])?)?),
+        Some(split) => {
+            let (levels, parents) = collapse_middle(alloc.clone()?, levels, split, maker)?;
+            Ok(collapse(alloc, levels, parents, at_start, at_end, maker)?)
+        }
+    }
+}
+
 // The levels of the canonical subtree of some chunks.
 pub(super) fn collapse_chunks<A: Allocator + Clone>(
     alloc: A,
@@ -66,12 +89,12 @@ pub(super) fn collapse_chunks<A: Allocator + Clone>(
     ensures { IfOk result (λ levels. (work : ℕ) × IsCanonicalBy parent at_start at_end chunks.now levels.items work) }
 {
     let levels = Vec::new(alloc.clone()?);
-    match find_split(chunks, at_start, at_end) {
-        None => Ok(pushed(levels, LevelNodes::copied(alloc, chunks, &[])?)?),
-        Some(split) => {
-            let mut maker = ParentHashes::new();
-            let (levels, parents) = collapse_middle(alloc.clone()?, levels, split, &mut maker)?;
-            Ok(collapse(alloc, levels, parents, at_start, at_end, &mut maker)?)
-        }
-    }
+    Ok(collapse_slice(
+        alloc,
+        levels,
+        chunks,
+        at_start,
+        at_end,
+        &mut ParentHashes::new(),
+    )?)
 }

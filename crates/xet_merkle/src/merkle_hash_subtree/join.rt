@@ -8,11 +8,12 @@ ghost use Rattle.std.specs.Prelude.{◌≡◌, ℕ, ◌+◌, ◌^◌, ◌<◌, �
 ghost use Rattle.xet_merkle.specs.Groups.{Node};
 ghost use Rattle.xet_merkle.specs.Roots.{total_size, parent_by};
 ghost use Rattle.xet_merkle.specs.Levels.{Level, left_at, levels_size, node_count};
+ghost use Rattle.xet_merkle.specs.Canonical.{IsCanonicalBy};
 ghost use Rattle.xet_merkle.specs.Steps.StableScan.{AddsNoStable};
 ghost use Rattle.xet_merkle.specs.Steps.Joining.{HaveSides, operand, inner_nodes, between, with_inner, lowest_with, IsHighBehind, IsLowBefore, IsJoinSplit, IsJoin};
 ghost use Rattle.xet_merkle.specs.Steps.Building.{JoinBelow};
 
-use super::collapse::{collapse, collapse_middle};
+use super::collapse::{collapse, collapse_middle, collapse_slice};
 use super::levels::{
     LevelNodes, above, extend_inner, inner, left_at, replace_rights, replace_top, right_at,
 };
@@ -152,6 +153,31 @@ fn join_lower<'a, A: Allocator + Clone, P: ParentMaker>(
     })
 }
 
+// Levels with those of the canonical subtree of the nodes in sight on top. Where these are the left operand's alone, only
+// those that stay are copied.
+fn collapse_in_sight<A: Allocator + Clone, P: ParentMaker>(
+    alloc: A,
+    levels: Vec<LevelNodes<A>, A>,
+    front: &[LevelNodes<A>],
+    carry: &[Node],
+    back: &[LevelNodes<A>],
+    at_start: bool,
+    at_end: bool,
+    maker: &mut P,
+) -> Result<Vec<LevelNodes<A>, A>, AllocError>
+    requires fits { total_size (between (operand front.now) carry.now (operand back.now)) < 2 ^ 64 }
+    requires room { P.count maker.old + length (between (operand front.now) carry.now (operand back.now)) ≤ 2 ^ 99 }
+    ensures { IfOk result (λ all. (top : List Level) × (work : ℕ)
+        × IsCanonicalBy (parent_by P.hash_of) at_start at_end (between (operand front.now) carry.now (operand back.now)) top work
+        × (all.items ≡ levels.items ++ top) × (P.count maker.new ≡ P.count maker.old + work)) }
+{
+    if carry.is_empty() && left_at(back, 0).is_empty() {
+        return Ok(collapse_slice(alloc, levels, inner(front), at_start, at_end, maker)?);
+    }
+    let nodes = in_sight(alloc.clone()?, front, carry, back)?;
+    Ok(collapse(alloc, levels, nodes, at_start, at_end, maker)?)
+}
+
 // The levels in place of a left operand's top.
 fn join_top<A: Allocator + Clone, P: ParentMaker>(
     alloc: A,
@@ -185,8 +211,7 @@ fn join_top<A: Allocator + Clone, P: ParentMaker>(
         front = &[];
         back = above(back);
     }
-    let nodes = in_sight(alloc.clone()?, front, &carry, back)?;
-    Ok(collapse(alloc, levels, nodes, at_start, at_end, maker)?)
+    Ok(collapse_in_sight(alloc, levels, front, &carry, back, at_start, at_end, maker)?)
 }
 
 // Puts the nodes carried, and those of a right operand, behind what a left operand has of a level.

@@ -66,8 +66,8 @@ returns g c =
     let one = operand-one c.levels.front.now c.levels.invariant.one in
     let few : length c.levels.back.now ≤ 1 = search rules in
     let one_back : ¬ (1 < length back) = λ more. let long = operand-more c.levels.back.now more in omega arith in
-    let top = c.in_ok-collapse.ensures in
-    let seen = c.in_ok-nodes.ensures ∙ ap (λ (carry : List Node). between (operand c.levels.front.now) carry back) c.deref-2.ensures.value ∙ ap (λ (xs : List Level). between xs c.levels.carry.items back) one.1 in
+    let top = c.in_ok-collapse_in_sight.ensures in
+    let seen = ap (λ (carry : List Node). between (operand c.levels.front.now) carry back) c.deref-2.ensures.value ∙ ap (λ (xs : List Level). between xs c.levels.carry.items back) one.1 in
     let canonical = subst (λ (nodes : List Node). IsCanonicalBy make c.args.at_start c.args.at_end nodes top.0 top.1) seen top.2 in
     let h = c.levels.invariant.joins in
     let below = subst (λ (xs : List Level). JoinBelow make c.args.at_start c.args.at_end (operand c.args.top.now) c.args.carry.items (operand c.args.back.now) c.levels.levels.items h.0 xs c.levels.carry.items back) one.1 h.1 in
