@@ -1,18 +1,8 @@
 //! The program `xetroot`: the root and the file hash of the pairs and chunks in the lines of its standard input.
 #![tactic(auto)]
 
-mod fault;
-mod laws;
-mod line;
-mod open_line;
-mod ranges;
-mod reading;
-mod run;
-#[cfg(test)]
-mod tests;
-
-use run::run;
 use std::process::ExitCode;
+use xet_lines::run::run;
 
 fn main(rt: HostRuntime) -> ExitCode {
     match run(rt.alloc(), &mut rt.stdin(), &mut rt.stdout()) {

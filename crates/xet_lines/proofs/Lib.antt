@@ -1,0 +1,11 @@
+pub mod LineLemmas
+pub mod LineMeaning
+pub mod RangeLemmas
+pub mod GoodLemmas
+pub mod PositionLemmas
+pub mod ReadingLemmas
+pub mod PairLineLemmas
+pub mod RunLemmas
+pub mod OneAnswer
+pub mod InOrder
+pub mod Separators

@@ -1,0 +1,364 @@
+-- Each text has one answer, or one fault of its own.
+use Rattle.std.proofs.Common.{arith, ◌≡◌, ◌≢◌, ◌⊎◌, inl, inr, ◌+◌, ◌-◌, ◌^◌, ◌<◌, ◌≤◌, ℕ, true, false, List, [], ◌∷◌, ◌++◌, map, reverse, replicate, length, refl, sym, ap, subst, ◌∙◌, append-nil, append_assoc, length-append, drop}
+use Rattle.std.specs.List.{concat}
+use Rattle.std.proofs.lemmas.Bool.{false≢true, cases_Bool, cases_eq, cases_lt}
+use Rattle.std.proofs.lemmas.List.{reverse-append}
+use Rattle.std.proofs.lemmas.List.Folds.{concat-append}
+use Rattle.xet_hash.specs.Blake3.{keyed_hash}
+use Rattle.xet_hash.specs.Hash.{bytes_of, default_hash, hash_of}
+use Rattle.xet_merkle.specs.Groups.{Node}
+use Rattle.xet_merkle.specs.Roots.{total_size, parent, IsRoot, IsFileHash}
+use Rattle.xet_merkle.proofs.Lists.Places.{Meets, meets}
+use Rattle.xet_merkle.proofs.Lists.Places.Meets.{same as at_one, earlier as before_it, later as behind_it}
+use Rattle.xet_merkle.proofs.Roots.OneRoot.{root_exists, IsRootBy-unique}
+use Rattle.upload_session.specs.Session.{Placed, Put, ArePlaced, IsWhole, chunks_of, is_taken, place, placed_from}
+use Rattle.upload_session.proofs.Placing.{place-size}
+use Rattle.upload_session.proofs.Positions.{taken-overlaps}
+use Rattle.xet_lines.specs.declared.fault.Fault.{Fault}
+use Rattle.xet_lines.specs.declared.fault.Fault.TheVariants.{BadLine, Sizes, Memory, Read, Write, Overlap, Gap}
+use Rattle.xet_lines.specs.declared.line.Line.{Line}
+use Rattle.xet_lines.specs.declared.line.Line.TheVariants.{Separator, Position, Pair}
+use Rattle.xet_lines.specs.Lines.{byte_limit, content, lines_of, SaysPair}
+use Rattle.xet_lines.specs.Answer.{Say, AreApart, AreGood, SaysNothing, IsBad, Overlaps, PassesSizes, IsOutput, output_text, IsAnswer, HasGap, LineAt, IsOwn, IsFaultOf}
+use Rattle.xet_lines.specs.Answer.Say.{no_line, separator, position, pair}
+use Rattle.xet_lines.specs.Steps.LineSays.{Says}
+use Rattle.xet_lines.specs.Steps.Positions.{Makes}
+use Rattle.xet_lines.proofs.LineMeaning.{Says-unique, Says-decided}
+use Rattle.xet_lines.proofs.GoodLemmas.{alone, AddsLine-separator, AddsLine-position, AddsLine-pair, not_bad}
+
+-- ---- what lines say is one thing
+
+-- what follows a line that says a thing
+abbrev pub Follows : Line → ℕ → List (List ℕ) → List Placed → ℕ → Type 0
+Follows Separator next lines placed behind = Say next lines placed behind
+Follows (Position named) next lines placed behind = Say named lines placed behind
+Follows (Pair node) next lines placed behind =
+    (more : List Placed) × (placed ≡ (next, node) ∷ more) × (next < 2 ^ 64 - 1) × Say (next + 1) lines more behind
+
+pub say-first : (next behind : ℕ) (line : List ℕ) (lines : List (List ℕ)) (placed : List Placed) → Say next (line ∷ lines) placed behind
+    → (said : Line) × Says (content line) said × Follows said next lines placed behind
+say-first next behind line lines placed (separator is say) = (Separator, is, say)
+say-first next behind line lines placed (position is say) = (Position _, is, say)
+say-first next behind line lines (p ∷ placed) (pair is low say) = (Pair p.1, is, (placed, refl, low, say))
+
+say-none : (next behind : ℕ) (placed : List Placed) → Say next [] placed behind → (placed ≡ []) × (behind ≡ next)
+say-none next behind [] no_line = (refl, refl)
+say-none next behind (_ ∷ _) x3 = elim x3 [ ]
+
+say-unique : (lines : List (List ℕ)) (next n m : ℕ) (a b : List Placed) → Say next lines a n → Say next lines b m → (a ≡ b) × (n ≡ m)
+say-unique [] next n m a b first second =
+    let (none, stays) = say-none next n a first in
+    let (also, remains) = say-none next m b second in
+    (none ∙ sym also, stays ∙ sym remains)
+say-unique (line ∷ lines) next n m a b first second =
+    let (said, is, follows) = say-first next n line lines a first in
+    let (other, also, goes) = say-first next m line lines b second in
+    choose said follows (subst (λ s. Follows s next lines b m) (Says-unique (content line) other said also is) goes) (say-unique lines)
+  where
+    choose : (said : Line) → Follows said next lines a n → Follows said next lines b m
+        → ((next n m : ℕ) (a b : List Placed) → Say next lines a n → Say next lines b m → (a ≡ b) × (n ≡ m)) → (a ≡ b) × (n ≡ m)
+    choose Separator follows goes rest = rest next n m a b follows goes
+    choose (Position named) follows goes rest = rest named n m a b follows goes
+    choose (Pair node) (more, is, low, say) (others, also, _, says) rest =
+        let (same, behind) = rest (next + 1) n m more others say says in
+        (is ∙ ap (λ l. (next, node) ∷ l) same ∙ sym also, behind)
+
+pub placed-unique : (puts : List Put) (a b : List Placed) → ArePlaced puts a → ArePlaced puts b → a ≡ b
+placed-unique [] a b first second = first ∙ sym second
+placed-unique (put ∷ puts) a b (before, were, _, _, is) (other, also, _, _, same) =
+    is ∙ ap (λ l. place l put.0 put.1) (placed-unique puts before other were also) ∙ sym same
+
+pub good-unique : (lines : List (List ℕ)) (a b : List Placed) (n m : ℕ) → AreGood lines a n → AreGood lines b m → (a ≡ b) × (n ≡ m)
+good-unique lines a b n m first second =
+    let (order, behind) = say-unique lines 0 n m first.in_order second.in_order first.say second.say in
+    (placed-unique (map alone (reverse first.in_order)) a b first.apart (subst (λ l. AreApart l b) (sym order) second.apart), behind)
+
+-- ---- good lines end before a faulty one
+
+pub say-split : (before rest : List (List ℕ)) (next behind : ℕ) (placed : List Placed) → Say next (before ++ rest) placed behind
+    → (middle : ℕ) × (front : List Placed) × (back : List Placed) × (placed ≡ front ++ back) × Say next before front middle × Say middle rest back behind
+say-split [] rest next behind placed say = (next, [], placed, refl, no_line, say)
+say-split (line ∷ before) rest next behind placed (separator is say) =
+    let (middle, front, back, parts, first, second) = say-split before rest next behind placed say in
+    (middle, front, back, parts, separator is first, second)
+say-split (line ∷ before) rest next behind placed (position is say) =
+    let (middle, front, back, parts, first, second) = say-split before rest _ behind placed say in
+    (middle, front, back, parts, position is first, second)
+say-split (line ∷ before) rest next behind (p ∷ placed) (pair is low say) =
+    let (middle, front, back, parts, first, second) = say-split before rest (next + 1) behind placed say in
+    (middle, p ∷ front, back, ap (λ l. p ∷ l) parts, pair is low first, second)
+
+-- the earlier ones of some pairs, which have no more bytes
+placed-earlier : (later earlier : List Placed) (pairs : List Placed) → ArePlaced (map alone (later ++ earlier)) pairs
+    → (before : List Placed) × ArePlaced (map alone earlier) before × (total_size (chunks_of before) ≤ total_size (chunks_of pairs))
+placed-earlier [] earlier pairs apart = (pairs, apart, omega arith)
+placed-earlier (p ∷ later) earlier pairs (between, were, _, _, is) =
+    let (before, apart, few) = placed-earlier later earlier between were in
+    let all = ap (λ l. total_size (chunks_of l)) is ∙ place-size between p.0 (p.1 ∷ []) in
+    (before, apart, omega (arith, few, all))
+
+-- what is so of good lines and a line behind them, where they are all good
+record Fine (before : List (List ℕ)) (pairs : List Placed) (next : ℕ) (line : List ℕ) : Type 0 where
+  within : length (concat before) + length line ≤ byte_limit
+  said : Line
+  says : Says (content line) said
+  low : (node : Node) → said ≡ Pair node → next < 2 ^ 64 - 1
+  free : (node : Node) → said ≡ Pair node → is_taken pairs next ≡ false
+  fits : (node : Node) → said ≡ Pair node → total_size (chunks_of pairs) + node.1 < 2 ^ 64
+
+fine : (before : List (List ℕ)) (line : List ℕ) (after : List (List ℕ)) (all pairs : List Placed) (last next : ℕ)
+    → AreGood (before ++ line ∷ after) all last → AreGood before pairs next → Fine before pairs next line
+fine before line after all pairs last next good front =
+    let (middle, first, back, parts, say, rest) = say-split before (line ∷ after) 0 last good.in_order good.say in
+    let (order, at) = say-unique before 0 middle next first front.in_order say front.say in
+    let (said, says, follows) = say-first middle last line after back rest in
+    let behind = λ (node : Node) (is : said ≡ Pair node). subst (λ s. Follows s middle after back last) is follows in
+    let apart = λ (node : Node) (is : said ≡ Pair node).
+    let more = behind node is in
+    let reversed = ap reverse (parts ∙ ap (λ l. first ++ l) more.1)
+    ∙ reverse-append first ((middle, node) ∷ more.0)
+    ∙ ap (λ l. l ++ reverse first) (reverse-append ((middle, node) ∷ []) more.0)
+    ∙ append_assoc (reverse more.0) ((middle, node) ∷ []) (reverse first) in
+    placed-earlier (reverse more.0) ((middle, node) ∷ reverse first) all (subst (λ l. ArePlaced (map alone l) all) reversed good.apart) in
+    let same = λ (other : List Placed) (placed : ArePlaced (map alone (reverse first)) other).
+    placed-unique (map alone (reverse first)) other pairs placed (subst (λ l. AreApart l pairs) (sym order) front.apart) in
+    record {
+      within = omega (arith, good.within, ap length (concat-append before (line ∷ after)), length-append (concat before) (line ++ concat after), length-append line (concat after));
+      said = said;
+      says = says;
+      low = λ node is. let (more, _, low, _) = behind node is in subst (λ n. n < 2 ^ 64 - 1) at low;
+      free = λ node is.
+          let (_, (other, placed, _, free, _), _) = apart node is in
+          ap (λ l. is_taken l next) (sym (same other placed)) ∙ ap (is_taken other) (sym at) ∙ taken-overlaps other middle ∙ free;
+      fits = λ node is.
+          let (whole, (other, placed, _, _, made), few) = apart node is in
+          let size = ap (λ l. total_size (chunks_of l)) made ∙ place-size other middle (node ∷ []) in
+          omega (arith, good.fits, few, size, ap (λ l. total_size (chunks_of l)) (same other placed));
+    }
+
+-- whether a line behind good ones is faulty
+abbrev IsFaulty : List (List ℕ) → List Placed → ℕ → List ℕ → Type 0
+IsFaulty before pairs next line = IsBad before next line ⊎ (Overlaps pairs next line ⊎ PassesSizes pairs line)
+
+fine-or-faulty : (before : List (List ℕ)) (pairs : List Placed) (next : ℕ) (line : List ℕ) → Fine before pairs next line → IsFaulty before pairs next line → ⊥
+fine-or-faulty before pairs next line fine (inl (inl past)) = let within = fine.within in omega (arith, within, past)
+fine-or-faulty before pairs next line fine (inl (inr (inl nothing))) = contradict fine.said fine.says
+  where
+    contradict : (said : Line) → Says (content line) said → ⊥
+    contradict Separator says = nothing.0 says
+    contradict (Position n) says = nothing.1 n says
+    contradict (Pair node) says = nothing.2 node says
+fine-or-faulty before pairs next line fine (inl (inr (inr (node, says, high)))) =
+    let low = fine.low node (Says-unique (content line) fine.said (Pair node) fine.says says) in omega (arith, low, high)
+fine-or-faulty before pairs next line fine (inr (inl (node, says, taken))) =
+    false≢true (sym (fine.free node (Says-unique (content line) fine.said (Pair node) fine.says says)) ∙ taken)
+fine-or-faulty before pairs next line fine (inr (inr (node, says, past))) =
+    let fits = fine.fits node (Says-unique (content line) fine.said (Pair node) fine.says says) in omega (arith, fits, past)
+
+-- ---- one first faulty line
+
+no_faulty : (text : List ℕ) (number : ℕ) (at : LineAt text number) (pairs : List Placed) (next : ℕ) → AreGood (lines_of text) pairs next
+    → IsFaulty at.before at.pairs at.next at.line → ⊥
+no_faulty text number at pairs next good faulty =
+    fine-or-faulty at.before at.pairs at.next at.line
+    (fine at.before at.line at.after pairs at.pairs next at.next (subst (λ l. AreGood l pairs next) at.lines good) at.good) faulty
+
+abbrev MadeAt : List ℕ → Fault → Type 0
+MadeAt text fault = (number : ℕ) × (at : LineAt text number) × Makes at.before at.pairs at.next at.line number fault
+
+made-faulty : (before : List (List ℕ)) (pairs : List Placed) (next : ℕ) (line : List ℕ) (number : ℕ) (fault : Fault)
+    → Makes before pairs next line number fault → IsFaulty before pairs next line
+made-faulty before pairs next line number (BadLine n) h = inl h.1
+made-faulty before pairs next line number (Overlap n) h = inr (inl h.2)
+made-faulty before pairs next line number (Sizes n) h = inr (inr h.3)
+made-faulty before pairs next line number Gap h = absurd h
+made-faulty before pairs next line number Memory h = absurd h
+made-faulty before pairs next line number Read h = absurd h
+made-faulty before pairs next line number Write h = absurd h
+
+makes-one : (before : List (List ℕ)) (pairs : List Placed) (next : ℕ) (line : List ℕ) (number : ℕ) (a b : Fault)
+    → Makes before pairs next line number a → Makes before pairs next line number b → a ≡ b
+makes-one before pairs next line number (BadLine n) (BadLine m) h k = ap BadLine (h.0 ∙ sym k.0)
+makes-one before pairs next line number (BadLine n) (Overlap m) h k = absurd (k.1 h.1)
+makes-one before pairs next line number (BadLine n) (Sizes m) h k = absurd (k.1 h.1)
+makes-one before pairs next line number (Overlap n) (BadLine m) h k = absurd (h.1 k.1)
+makes-one before pairs next line number (Overlap n) (Overlap m) h k = ap Overlap (h.0 ∙ sym k.0)
+makes-one before pairs next line number (Overlap n) (Sizes m) h k = absurd (k.2 h.2)
+makes-one before pairs next line number (Sizes n) (BadLine m) h k = absurd (h.1 k.1)
+makes-one before pairs next line number (Sizes n) (Overlap m) h k = absurd (h.2 k.2)
+makes-one before pairs next line number (Sizes n) (Sizes m) h k = ap Sizes (h.0 ∙ sym k.0)
+makes-one before pairs next line number a Gap h k = absurd k
+makes-one before pairs next line number a Memory h k = absurd k
+makes-one before pairs next line number a Read h k = absurd k
+makes-one before pairs next line number a Write h k = absurd k
+makes-one before pairs next line number Gap b h k = absurd h
+makes-one before pairs next line number Memory b h k = absurd h
+makes-one before pairs next line number Read b h k = absurd h
+makes-one before pairs next line number Write b h k = absurd h
+
+-- one text makes one fault
+made-one : (text : List ℕ) (a b : Fault) → MadeAt text a → MadeAt text b → a ≡ b
+made-one text a b (n, at, first) (m, other, second) =
+    choose (meets at.before (at.line ∷ at.after) other.before (other.line ∷ other.after) (sym at.lines ∙ other.lines))
+  where
+    head : {x y : List ℕ} {xs ys : List (List ℕ)} → x ∷ xs ≡ y ∷ ys → x ≡ y
+    head is = cc
+
+    choose : Meets at.before (at.line ∷ at.after) other.before (other.line ∷ other.after) → a ≡ b
+    choose (at_one before rest) =
+        let line = head rest in
+        let (pairs, next) = good-unique other.before at.pairs other.pairs at.next other.next (subst (λ l. AreGood l at.pairs at.next) before at.good) other.good in
+        let number : n ≡ m = at.number_is ∙ ap (λ l. length l + 1) before ∙ sym other.number_is in
+        makes-one other.before other.pairs other.next other.line m a b (rw (← before, ← pairs, ← next, ← line, ← number) first) second
+    choose (before_it x gap parts rest) =
+        let line = head rest in
+        absurd (fine-or-faulty at.before at.pairs at.next at.line
+        (fine at.before at.line gap other.pairs at.pairs other.next at.next
+        (subst (λ l. AreGood l other.pairs other.next) (parts ∙ ap (λ x. at.before ++ x ∷ gap) (sym line)) other.good) at.good)
+        (made-faulty at.before at.pairs at.next at.line n a first))
+    choose (behind_it x gap parts rest) =
+        let line = head rest in
+        absurd (fine-or-faulty other.before other.pairs other.next other.line
+        (fine other.before other.line gap at.pairs other.pairs at.next other.next
+        (subst (λ l. AreGood l at.pairs at.next) (parts ∙ ap (λ x. other.before ++ x ∷ gap) (sym line)) at.good) other.good)
+        (made-faulty other.before other.pairs other.next other.line m b second))
+
+-- a fault of a text's own is a gap, or made by a line
+own-fault : (text : List ℕ) (fault : Fault) → IsOwn fault → IsFaultOf text fault → ((fault ≡ Gap) × HasGap text) ⊎ MadeAt text fault
+own-fault text (BadLine n) own (at, bad) = inr (n, at, (refl, bad))
+own-fault text (Overlap n) own (at, good, overlaps) = inr (n, at, (refl, good, overlaps))
+own-fault text (Sizes n) own (at, good, free, past) = inr (n, at, (refl, good, free, past))
+own-fault text Gap own gap = inl (refl, gap)
+own-fault text Memory own h = absurd own
+own-fault text Read own h = absurd own
+own-fault text Write own h = absurd own
+
+pub fault-unique : (text : List ℕ) (a b : Fault) → IsOwn a → IsFaultOf text a → IsOwn b → IsFaultOf text b → a ≡ b
+fault-unique text a b own_a first own_b second = choose (own-fault text a own_a first) (own-fault text b own_b second)
+  where
+    never : (fault : Fault) → HasGap text → MadeAt text fault → ⊥
+    never fault (pairs, next, good, _) (n, at, makes) = no_faulty text n at pairs next good (made-faulty at.before at.pairs at.next at.line n fault makes)
+
+    choose : ((a ≡ Gap) × HasGap text) ⊎ MadeAt text a → ((b ≡ Gap) × HasGap text) ⊎ MadeAt text b → a ≡ b
+    choose (inl (is, _)) (inl (also, _)) = is ∙ sym also
+    choose (inl (_, gap)) (inr made) = absurd (never b gap made)
+    choose (inr made) (inl (_, gap)) = absurd (never a gap made)
+    choose (inr made) (inr other) = made-one text a b made other
+
+pub never-both : (text output : List ℕ) (fault : Fault) → IsAnswer text output → IsOwn fault → IsFaultOf text fault → ⊥
+never-both text output fault (pairs, next, good, whole, is_output) own is = choose (own-fault text fault own is)
+  where
+    choose : ((fault ≡ Gap) × HasGap text) ⊎ MadeAt text fault → ⊥
+    choose (inl (_, (others, behind, also, gap))) =
+        let (same, _) = good-unique (lines_of text) pairs others next behind good also in
+        gap (subst (λ l. IsWhole (length l) l) same whole)
+    choose (inr (n, at, makes)) = no_faulty text n at pairs next good (made-faulty at.before at.pairs at.next at.line n fault makes)
+
+-- ---- one output
+
+output-unique : (pairs : List Node) (a b : List ℕ) → IsOutput pairs a → IsOutput pairs b → a ≡ b
+output-unique pairs a b first second =
+    first.text
+    ∙ ap (λ root. output_text root first.file) (IsRootBy-unique parent first.is_root second.is_root)
+    ∙ ap (output_text second.root) (file-unique pairs first.is_file second.is_file)
+    ∙ sym second.text
+  where
+    file-unique : (pairs : List Node) {a b : List ℕ} → IsFileHash pairs (replicate 32 0) a → IsFileHash pairs (replicate 32 0) b → a ≡ b
+    file-unique [] first second = first ∙ sym second
+    file-unique (node ∷ more) (root, is_root, is) (other, also, same) =
+        is ∙ ap (λ root. hash_of (keyed_hash (replicate 32 0) (bytes_of root))) (IsRootBy-unique parent is_root also) ∙ sym same
+
+pub answer-unique : (text a b : List ℕ) → IsAnswer text a → IsAnswer text b → a ≡ b
+answer-unique text a b (pairs, next, good, _, is) (others, behind, also, _, second) =
+    let (same, _) = good-unique (lines_of text) pairs others next behind good also in
+    output-unique (chunks_of others) a b (subst (λ l. IsOutput (chunks_of l) a) same is) second
+
+output-exists : (pairs : List Node) → (output : List ℕ) × IsOutput pairs output
+output-exists pairs =
+    let (root, is_root) = root_exists parent pairs in
+    let (file, is_file) = file-exists pairs root is_root in
+    (output_text root file, record { root = root; file = file; is_root = is_root; is_file = is_file; text = refl })
+  where
+    file-exists : (pairs : List Node) (root : List ℕ) → IsRoot pairs root → (file : List ℕ) × IsFileHash pairs (replicate 32 0) file
+    file-exists [] root is_root = (default_hash, refl)
+    file-exists (node ∷ more) root is_root = (hash_of (keyed_hash (replicate 32 0) (bytes_of root)), (root, is_root, refl))
+
+-- ---- there is one
+
+abbrev Has : List ℕ → Type 0
+Has text = ((output : List ℕ) × IsAnswer text output) ⊎ ((fault : Fault) × IsOwn fault × IsFaultOf text fault)
+
+first_position : List Placed → ℕ
+first_position [] = 0
+first_position (p ∷ placed) = p.0
+
+adjacent_or_not : (first : ℕ) (placed : List Placed) → (placed ≡ placed_from first (chunks_of placed)) ⊎ ¬ (placed ≡ placed_from first (chunks_of placed))
+unfolding first_position
+adjacent_or_not first [] = inl refl
+adjacent_or_not first (p ∷ placed) = choose (cases_eq p.0 first) (adjacent_or_not (first + 1) placed)
+  where
+    choose : (p.0 ≡ first) ⊎ (p.0 ≢ first)
+        → (placed ≡ placed_from (first + 1) (chunks_of placed)) ⊎ ¬ (placed ≡ placed_from (first + 1) (chunks_of placed))
+        → (p ∷ placed ≡ placed_from first (chunks_of (p ∷ placed))) ⊎ ¬ (p ∷ placed ≡ placed_from first (chunks_of (p ∷ placed)))
+    choose (inl here) (inl rest) = inl (ap (λ n. (n, p.1) ∷ placed) here ∙ ap (λ l. (first, p.1) ∷ l) rest)
+    choose (inl here) (inr other) = inr (λ is. other (ap (drop 1) is))
+    choose (inr other) _ = inr (λ is. other (ap first_position is))
+
+module _ (text : List ℕ) where
+  at_end : (pairs : List Placed) (next : ℕ) → AreGood (lines_of text) pairs next → Has text
+  at_end pairs next good = choose (adjacent_or_not 0 pairs)
+    where
+      choose : (pairs ≡ placed_from 0 (chunks_of pairs)) ⊎ ¬ (pairs ≡ placed_from 0 (chunks_of pairs)) → Has text
+      choose (inl whole) = let (output, is) = output-exists (chunks_of pairs) in inl (output, (pairs, next, good, (whole, refl), is))
+      choose (inr gap) = inr (Gap, tt, (pairs, next, good, λ whole. gap whole.0))
+
+  abbrev GoesOn : List (List ℕ) → Type 0
+  GoesOn rest = (before : List (List ℕ)) (pairs : List Placed) (next : ℕ) → lines_of text ≡ before ++ rest → AreGood before pairs next → Has text
+
+  first-fault : (rest before : List (List ℕ)) (pairs : List Placed) (next : ℕ) → lines_of text ≡ before ++ rest → AreGood before pairs next → Has text
+  first-fault [] before pairs next is good =
+      at_end pairs next (subst (λ l. AreGood l pairs next) (sym (is ∙ append-nil before)) good)
+  first-fault (line ∷ rest) before pairs next is good =
+      choose (cases_lt byte_limit (length (concat before) + length line)) (Says-decided (content line))
+      (first-fault rest)
+    where
+      at : LineAt text (length before + 1)
+      at = record { before = before; pairs = pairs; next = next; line = line; after = rest; lines = is; good = good; number_is = refl }
+
+      longer : lines_of text ≡ (before ++ line ∷ []) ++ rest
+      longer = is ∙ sym (append_assoc before (line ∷ []) rest)
+
+      a_pair : (node : Node) → SaysPair (content line) node → length (concat before) + length line ≤ byte_limit
+          → (next < 2 ^ 64 - 1) ⊎ (2 ^ 64 - 1 ≤ next) → (is_taken pairs next ≡ true) ⊎ (is_taken pairs next ≡ false)
+          → (total_size (chunks_of pairs) + node.1 < 2 ^ 64) ⊎ (2 ^ 64 ≤ total_size (chunks_of pairs) + node.1) → GoesOn rest → Has text
+      a_pair node says within (inr high) _ _ more = inr (BadLine (length before + 1), tt, (at, inr (inr (node, says, high))))
+      a_pair node says within (inl low) (inl taken) _ more =
+          inr (Overlap (length before + 1), tt, (at, not_bad before next line node says low within, (node, says, taken)))
+      a_pair node says within (inl low) (inr free) (inr past) more =
+          inr (
+            Sizes (length before + 1),
+            tt,
+            (at, not_bad before next line node says low within, (λ overlaps. false≢true (sym free ∙ overlaps.2)), (node, says, past)),
+          )
+      a_pair node says within (inl low) (inr free) (inl fits) more =
+          more (before ++ line ∷ []) (place pairs next (node ∷ [])) (next + 1) longer
+          (AddsLine-pair pairs next line node says low (λ taken. false≢true (sym free ∙ taken))
+          (let size = place-size pairs next (node ∷ []) in omega (arith, size, fits)) before within good)
+
+      a_line : (said : Line) → Says (content line) said → length (concat before) + length line ≤ byte_limit → GoesOn rest → Has text
+      a_line Separator says within more = more (before ++ line ∷ []) pairs next longer (AddsLine-separator pairs next line says before within good)
+      a_line (Position named) says within more =
+          more (before ++ line ∷ []) pairs named longer (AddsLine-position pairs next line named says before within good)
+      a_line (Pair node) says within more =
+          a_pair node says within (cases_lt next (2 ^ 64 - 1)) (cases_Bool (is_taken pairs next))
+          (cases_lt (total_size (chunks_of pairs) + node.1) (2 ^ 64)) more
+
+      choose : (byte_limit < length (concat before) + length line) ⊎ (length (concat before) + length line ≤ byte_limit)
+          → ((said : Line) × Says (content line) said) ⊎ SaysNothing line → GoesOn rest → Has text
+      choose (inl past) _ more = inr (BadLine (length before + 1), tt, (at, inl past))
+      choose (inr within) (inl (said, says)) more = a_line said says within more
+      choose (inr within) (inr nothing) more = inr (BadLine (length before + 1), tt, (at, inr (inl nothing)))
+
+pub answer-or-fault : (text : List ℕ) → Has text
+answer-or-fault text =
+    first-fault text (lines_of text) [] [] 0 refl (record { in_order = []; say = no_line; apart = refl; fits = omega arith; within = omega arith })

@@ -1,0 +1,5 @@
+pub mod LineSays
+pub mod Open
+pub mod Positions
+pub mod Ranges
+pub mod Taken

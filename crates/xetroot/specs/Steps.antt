@@ -1,4 +1,0 @@
-pub mod LineSays
-pub mod Open
-pub mod Ranges
-pub mod Taken
