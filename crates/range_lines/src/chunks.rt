@@ -10,20 +10,20 @@ use xet_merkle::aggregated_hashes::Node;
 use xet_merkle::chunk_range::ChunkRange;
 use xet_merkle::error::CoreError;
 
-// The most chunks that are open; more are cut into several ranges.
-const MAX_OPEN_LEN: usize = 4096;
+// The most chunks behind the range that is ended; more are cut into several ranges.
+const MAX_LAST_LEN: usize = 4096;
 
-/// The chunks so far: of those that are open the nodes, 40 bytes each and at most [`MAX_OPEN_LEN`], and of those before
+/// The chunks so far: of the last ones the nodes, 40 bytes each and at most [`MAX_LAST_LEN`], and of those before
 /// them one range, without marks.
 #[derive(Drop)]
 pub struct Chunks<C: ChunkRange> {
     ended: C,
-    open: Vec<Node, C::Alloc>,
+    last: Vec<Node, C::Alloc>,
     // The sum of all sizes.
     total: u64,
     ghost start: { C.start ended ≡ false },
     ghost end: { C.end ended ≡ false },
-    ghost sizes: { C.total ended + total_size open.items ≡ total },
+    ghost sizes: { C.total ended + total_size last.items ≡ total },
     ghost fits: { total < 2 ^ 64 },
 }
 
@@ -37,7 +37,7 @@ impl<C: ChunkRange> Chunks<C> {
         let ended = C::from_chunks(alloc.clone()?, false, &[], false);
         Ok(Chunks {
             ended: ended.map_err(want_of_memory)?,
-            open: Vec::new(alloc),
+            last: Vec::new(alloc),
             total: 0,
         })
     }
@@ -57,10 +57,10 @@ impl<C: ChunkRange> Chunks<C> {
             .total
             .checked_add(chunk.1)
             .ok_or(RangeFault::Sizes(number))?;
-        if self.open.len() >= MAX_OPEN_LEN {
+        if self.last.len() >= MAX_LAST_LEN {
             self.end_range()?;
         }
-        self.open.push(chunk)?;
+        self.last.push(chunk)?;
         self.total = total;
         Ok(())
     }
@@ -75,16 +75,16 @@ impl<C: ChunkRange> Chunks<C> {
         Ok(self.ended)
     }
 
-    // Joins the open chunks to those before them.
+    // Joins the last chunks to those before them.
     fn end_range(&mut self) -> Result<(), AllocError>
         ensures same { OnOk result ((chunks : List Node) → HoldChunks self.old chunks → HoldChunks self.new chunks) }
         ensures total { self.new.total ≡ self.old.total }
-        ensures none { OnOk result (self.new.open.items ≡ []) }
+        ensures none { OnOk result (self.new.last.items ≡ []) }
     {
-        let alloc = self.open.allocator().clone()?;
-        let range = C::from_chunks(alloc, false, &self.open, false).map_err(want_of_memory)?;
+        let alloc = self.last.allocator().clone()?;
+        let range = C::from_chunks(alloc, false, &self.last, false).map_err(want_of_memory)?;
         self.ended.join(&range).map_err(want_of_memory)?;
-        self.open.clear();
+        self.last.clear();
         Ok(())
     }
 }
