@@ -1,3 +1,7 @@
+use range_lines::fault::RangeFault;
+use range_lines::join::{join, root};
+use range_lines::make::make;
+use std::alloc::AllocError;
 use std::fmt::{self, Write as _};
 use std::hash::{Hash, Hasher as _};
 use std::io;
@@ -56,6 +60,33 @@ impl fmt::Write for Unread {
     fn write_str(&mut self, _text: &str) -> fmt::Result {
         Ok(())
     }
+}
+
+// Two ranges of a chunk each, as lines.
+const RANGES: &[u8] =
+    br#"{"at_end":false,"at_start":false,"levels":[[1,0]],"nodes":[{"hash":"cfc5d07f6f03c29bbf424132963fe08d19a37d5757aaf520bf08119f05cd56d6","size":100}]}
+{"at_end":false,"at_start":false,"levels":[[1,0]],"nodes":[{"hash":"c3e67584b5c4fc2a89837ec39e40f2c8a6bb0b2987ac94cd4b31e5fbdd210a72","size":200}]}
+"#;
+
+#[test]
+fn ranges_are_made_and_joined(rt: HostRuntime) -> Result<(), Fail> {
+    let alloc = rt.alloc();
+    for command in 0..3 {
+        let mut writer = HashedWrite::new(Nowhere);
+        let (unwritten, mut ranges) = (writer.hash(), RANGES);
+        let result = match command {
+            0 => make(alloc, alloc, &mut b"+a\n--\n+b".as_slice(), &mut writer),
+            1 => join(alloc, alloc, &mut ranges, &mut writer),
+            _ => root(alloc, alloc, &mut ranges, &mut writer),
+        };
+        if result == Err(RangeFault::Memory) {
+            assert_eq!(rt; writer.hash(), unwritten);
+            return Err(Fail::from(AllocError));
+        }
+        assert_eq!(rt; result, Ok(()));
+        assert_ne!(rt; writer.hash(), unwritten);
+    }
+    Ok(())
 }
 
 #[test]
