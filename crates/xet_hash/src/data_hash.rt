@@ -9,6 +9,7 @@ ghost use Rattle.keyed_blake3.specs.Blake3.{keyed_hash};
 ghost use Rattle.xet_hash.specs.HashForms.{random_hash};
 ghost use Rattle.xet_hash.specs.Hash.{default_hash, bytes_of, hash_of, hex_text, data_key, internal_key, marker_hash, IsHash, IsHexText};
 
+use crate::hex_digits::lower_digits;
 use hex::FromHex;
 use keyed_blake3::keyed_hash;
 use rand_core::{Rng, SeedableRng};
@@ -101,9 +102,7 @@ impl DataHash {
         ensures text { result ≡ hex_text self.now }
         ensures ascii { IsAscii result }
     {
-        let mut digits = [0; 64];
-        let _ = hex::encode_to_slice(self.text_bytes(), &mut digits);
-        digits
+        lower_digits(&self.text_bytes())
     }
 
     /// The hash whose hex text is `text`, in either case. It succeeds exactly on 64 ASCII hex digits.

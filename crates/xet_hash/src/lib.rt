@@ -3,6 +3,7 @@
 #![tactic(auto)]
 
 pub mod data_hash;
+mod hex_digits;
 pub mod laws;
 
 pub use keyed_blake3 as blake3;
