@@ -179,6 +179,15 @@ fn fourth_cuts(alloc: Global, first: u64, count: u64) -> Result<String, Fail> {
     Ok(lines)
 }
 
+// What a command writes to the lines of two ranges.
+fn of_two(alloc: Global, command: Command, front: &String, back: &String) -> Result<String, Fail> {
+    output_of(
+        alloc,
+        command,
+        format!(in alloc; "{front}{back}")?.as_bytes(),
+    )
+}
+
 #[test]
 fn ranges_on_which_the_rust_goes_wrong_are_joined_under_all_bracketings(
     rt: HostRuntime,
@@ -192,49 +201,21 @@ fn ranges_on_which_the_rust_goes_wrong_are_joined_under_all_bracketings(
     let b = output_of(alloc, Command::Make, fourth_cuts(alloc, 4, 20)?.as_bytes())?;
     let c = output_of(alloc, Command::Make, fourth_cuts(alloc, 24, 4)?.as_bytes())?;
     let d = output_of(alloc, Command::Make, b"")?;
-    let ab = output_of(
-        alloc,
-        Command::Join,
-        format!(in alloc; "{a}{b}")?.as_bytes(),
-    )?;
-    let bc = output_of(
-        alloc,
-        Command::Join,
-        format!(in alloc; "{b}{c}")?.as_bytes(),
-    )?;
-    let cd = output_of(
-        alloc,
-        Command::Join,
-        format!(in alloc; "{c}{d}")?.as_bytes(),
-    )?;
-    let ab_c = output_of(
-        alloc,
-        Command::Join,
-        format!(in alloc; "{ab}{c}")?.as_bytes(),
-    )?;
-    let a_bc = output_of(
-        alloc,
-        Command::Join,
-        format!(in alloc; "{a}{bc}")?.as_bytes(),
-    )?;
-    let bc_d = output_of(
-        alloc,
-        Command::Join,
-        format!(in alloc; "{bc}{d}")?.as_bytes(),
-    )?;
-    let b_cd = output_of(
-        alloc,
-        Command::Join,
-        format!(in alloc; "{b}{cd}")?.as_bytes(),
-    )?;
-    for input in [
-        format!(in alloc; "{ab_c}{d}")?,
-        format!(in alloc; "{a_bc}{d}")?,
-        format!(in alloc; "{ab}{cd}")?,
-        format!(in alloc; "{a}{bc_d}")?,
-        format!(in alloc; "{a}{b_cd}")?,
+    let ab = of_two(alloc, Command::Join, &a, &b)?;
+    let bc = of_two(alloc, Command::Join, &b, &c)?;
+    let cd = of_two(alloc, Command::Join, &c, &d)?;
+    let ab_c = of_two(alloc, Command::Join, &ab, &c)?;
+    let a_bc = of_two(alloc, Command::Join, &a, &bc)?;
+    let bc_d = of_two(alloc, Command::Join, &bc, &d)?;
+    let b_cd = of_two(alloc, Command::Join, &b, &cd)?;
+    for (front, back) in [
+        (&ab_c, &d),
+        (&a_bc, &d),
+        (&ab, &cd),
+        (&a, &bc_d),
+        (&a, &b_cd),
     ] {
-        let output = output_of(alloc, Command::Root, input.as_bytes())?;
+        let output = of_two(alloc, Command::Root, front, back)?;
         assert!(rt; output.as_bytes() == want.as_slice());
     }
     Ok(())
