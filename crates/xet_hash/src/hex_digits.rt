@@ -22,7 +22,7 @@ static DIGITS_OF_BYTES: [u8; 512] = *b"\
     e0e1e2e3e4e5e6e7e8e9eaebecedeeef\
     f0f1f2f3f4f5f6f7f8f9fafbfcfdfeff";
 
-// The lower-case hex digits of 32 bytes. Both digits of a byte are looked up at once, since a group's text is mostly digits.
+// The lower-case hex digits of 32 bytes. Both of a byte are looked up at once, since a group's text is mostly digits.
 pub(crate) fn lower_digits(bytes: &[u8; 32]) -> [u8; 64]
     ensures { result ≡ encode_lower bytes.now }
 {
