@@ -1,6 +1,5 @@
 -- Hashes and their forms.
 pub mod Base64
-pub mod ByteDigits
 pub mod HexDigits
 pub mod HexOrder
 pub mod HexText

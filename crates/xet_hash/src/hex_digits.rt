@@ -1,36 +1,30 @@
 //! The hex digits of a hash.
 
-ghost use Rattle.std.specs.Prelude.{◌≡◌};
-ghost use Rattle.hex.specs.Hex.{encode_lower};
+ghost use Rattle.std.specs.Prelude.{◌≡◌, ◌<◌, slice_index};
+ghost use Rattle.hex.specs.Hex.{encode_lower, lower_digits};
 
-// The two digits of each byte from 0 on.
-static DIGITS_OF_BYTES: [u8; 512] = *b"\
-    000102030405060708090a0b0c0d0e0f\
-    101112131415161718191a1b1c1d1e1f\
-    202122232425262728292a2b2c2d2e2f\
-    303132333435363738393a3b3c3d3e3f\
-    404142434445464748494a4b4c4d4e4f\
-    505152535455565758595a5b5c5d5e5f\
-    606162636465666768696a6b6c6d6e6f\
-    707172737475767778797a7b7c7d7e7f\
-    808182838485868788898a8b8c8d8e8f\
-    909192939495969798999a9b9c9d9e9f\
-    a0a1a2a3a4a5a6a7a8a9aaabacadaeaf\
-    b0b1b2b3b4b5b6b7b8b9babbbcbdbebf\
-    c0c1c2c3c4c5c6c7c8c9cacbcccdcecf\
-    d0d1d2d3d4d5d6d7d8d9dadbdcdddedf\
-    e0e1e2e3e4e5e6e7e8e9eaebecedeeef\
-    f0f1f2f3f4f5f6f7f8f9fafbfcfdfeff";
+// The lower-case hex digit of a number below 16.
+#[inline(always)]
+fn lower_digit(value: u8) -> u8
+    requires { value < 16 }
+    ensures { result ≡ slice_index lower_digits value }
+{
+    if value < 10 {
+        b'0' + value
+    } else {
+        b'a' - 10 + value
+    }
+}
 
-// The lower-case hex digits of 32 bytes. Both of a byte are looked up at once, since a group's text is mostly digits.
+// The lower-case hex digits of 32 bytes. A group's text is mostly digits. They are made by arithmetic that is the same for
+// each byte, so that the compiler makes those of several bytes at once.
 pub(crate) fn lower_digits(bytes: &[u8; 32]) -> [u8; 64]
     ensures { result ≡ encode_lower bytes.now }
 {
     let mut digits = [0; 64];
     'bytes: for i in 0..bytes.len() {
-        let first = 2 * usize::from(bytes[i]);
-        digits[2 * i] = DIGITS_OF_BYTES[first];
-        digits[2 * i + 1] = DIGITS_OF_BYTES[first + 1];
+        digits[2 * i] = lower_digit(bytes[i] / 16);
+        digits[2 * i + 1] = lower_digit(bytes[i] % 16);
     }
     digits
 }
