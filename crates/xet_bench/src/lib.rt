@@ -3,6 +3,8 @@
 
 ghost use Rattle.std.specs.Prelude.{◌≡◌, ◌<◌, ◌*◌, ℕ, List, length};
 
+mod joining;
+
 use std::alloc::{AllocError, Global};
 use upload_session::kept_hashes::{KeptHashes, NoHashes, SeenHashes};
 use upload_session::session::SessionOf;

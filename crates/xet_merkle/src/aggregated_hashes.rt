@@ -5,14 +5,12 @@
 //! text and whose size is the sum of the group's. The root of a list is that of its parents.
 
 ghost use Rattle.std.specs.Prelude.{◌≡◌, ◌⊎◌, ◌+◌, ◌^◌, ◌<◌, ◌≤◌, ◌↔◌, List, ◌++◌, length, take, drop, replicate, IsOk, IfOk, IfErr, IsErrOf, IsSome, IsTrue, SomeIff};
-ghost use Rattle.arrayvec.specs.ArrayVec.{array_vec_len};
 ghost use Rattle.xet_merkle.specs.Groups.{Node, is_cut};
 ghost use Rattle.xet_merkle.specs.Roots.{total_size, node_line, group_text, parent_hash, parent_by, parent, IsRoot, IsFileHash};
 ghost use Rattle.xet_merkle.specs.Steps.Scan.{IsFirstGroup, AreParents};
 
 use crate::error::CoreError;
 use crate::parent_maker::{ParentHashes, ParentMaker};
-use arrayvec::ArrayVec;
 use std::alloc::{AllocError, Allocator};
 use xet_hash::data_hash::{HMACKey, MerkleHash, compute_internal_node_hash};
 
@@ -58,37 +56,50 @@ fn first_group_len(nodes: &[Node]) -> usize
     longest
 }
 
-fn push_bytes(text: &mut ArrayVec<u8, MAX_TEXT_LEN>, bytes: &[u8])
-    requires { array_vec_len text.old + length bytes.now ≤ MAX_TEXT_LEN }
-    ensures { text.new.items ≡ text.old.items ++ bytes.now }
+// Writes bytes into a text so that they end at `end`, and returns where they start.
+#[inline]
+fn write_bytes(text: &mut [u8], bytes: &[u8], end: usize) -> usize
+    requires fits { length bytes.now ≤ end }
+    requires within { end ≤ length text.old }
+    ensures start { result + length bytes.now ≡ end }
+    ensures written { drop result text.new ≡ bytes.now ++ drop end text.old }
 {
-    text.try_extend_from_slice(bytes).unwrap();
+    let start = end - bytes.len();
+    text[start..end].copy_from_slice(bytes);
+    start
 }
 
-// Adds a node's line to a text.
+// Writes a node's line into a text so that it ends at `end`, and returns where it starts.
 #[tactic(auto, unfolding(crate::specs::Roots::node_line))]
-fn push_line(text: &mut ArrayVec<u8, MAX_TEXT_LEN>, node: &Node)
-    requires { array_vec_len text.old + MAX_LINE_LEN ≤ MAX_TEXT_LEN }
-    ensures line { text.new.items ≡ text.old.items ++ node_line node.now }
-    ensures bound { array_vec_len text.new ≤ array_vec_len text.old + MAX_LINE_LEN }
+fn write_line(text: &mut [u8], node: &Node, end: usize) -> usize
+    requires fits { MAX_LINE_LEN ≤ end }
+    requires within { end ≤ length text.old }
+    ensures start { end ≤ result + MAX_LINE_LEN }
+    ensures within { result ≤ end }
+    ensures written { drop result text.new ≡ node_line node.now ++ drop end text.old }
 {
     let (hash, size) = *node;
-    push_bytes(text, &hash.hex_digits());
-    push_bytes(text, b" : ");
-    push_bytes(text, itoa::Buffer::new().format(size).as_bytes());
-    push_bytes(text, b"\n");
+    let at = write_bytes(text, b"\n", end);
+    let at = itoa::write_digits(size, text, at);
+    let at = write_bytes(text, b" : ", at);
+    write_bytes(text, &hash.hex_digits(), at)
 }
 
-// The text of a group: a line for each of its nodes.
-fn group_text(group: &[Node]) -> ArrayVec<u8, MAX_TEXT_LEN>
-    requires { length group.now ≤ MAX_GROUP_LEN }
-    ensures { result.items ≡ group_text group.now }
+// Writes the text of a group, a line for each of its nodes, so that it ends where its room does, and returns where it
+// starts: the digits of a number are made from the last one to the first.
+fn write_text(text: &mut [u8], group: &[Node]) -> usize
+    requires few { length group.now ≤ MAX_GROUP_LEN }
+    requires room { length text.old ≡ MAX_TEXT_LEN }
+    ensures within { result ≤ MAX_TEXT_LEN }
+    ensures written { drop result text.new ≡ group_text group.now }
 {
-    let mut text = ArrayVec::new();
-    for node in group {
-        push_line(&mut text, node);
+    let mut start = text.len();
+    let mut rest = group;
+    'lines: while let [before @ .., node] = rest {
+        start = write_line(text, node, start);
+        rest = before;
     }
-    text
+    start
 }
 
 // The sum of the sizes of some nodes, where it is a `u64`, as that of one node is.
@@ -109,7 +120,9 @@ pub(crate) fn parent_hash(group: &[Node]) -> MerkleHash
     requires { length group.now ≤ MAX_GROUP_LEN }
     ensures { result ≡ parent_hash group.now }
 {
-    compute_internal_node_hash(&group_text(group))
+    let mut text = [0; MAX_TEXT_LEN];
+    let start = write_text(&mut text, group);
+    compute_internal_node_hash(&text[start..])
 }
 
 // The sum of the sizes of a group.
@@ -357,9 +370,10 @@ mod tests {
         let hash = MerkleHash::from_hex(text)?;
         for (size, len) in [(1, 69), (100, 71), (u64::MAX, 88)] {
             let line = format!(in rt.alloc(); "{text} : {size}\n")?;
-            let group = group_text(&[(hash, size)]);
-            assert_eq!(rt; group.as_slice(), line.as_bytes());
-            assert_eq!(rt; group.len(), len, "{size}");
+            let mut text = [0; MAX_TEXT_LEN];
+            let start = write_text(&mut text, &[(hash, size)]);
+            assert_eq!(rt; &text[start..], line.as_bytes());
+            assert_eq!(rt; line.len(), len, "{size}");
         }
         Ok(())
     }

@@ -5,19 +5,22 @@ use std::hint::black_box;
 use std::time::Instant;
 
 type FromChunks = unsafe extern "C" fn(bool, *const u64, usize, bool, *mut u8, usize) -> bool;
-type Ranges = unsafe extern "C" fn(*const u64, usize, usize, usize, *mut u8, usize) -> bool;
+type Joining = unsafe extern "C" fn(*const u64, usize, usize, usize, *mut u8, usize) -> bool;
 type Json = unsafe extern "C" fn(*const u64, usize, usize) -> bool;
 
 extern "C" {
     fn xet_bench_from_chunks(a: bool, n: *const u64, l: usize, b: bool, o: *mut u8, m: usize) -> bool;
-    fn xet_bench_ranges(n: *const u64, l: usize, length: usize, steps: usize, o: *mut u8, m: usize) -> bool;
+    fn xet_bench_joining(n: *const u64, l: usize, length: usize, turns: usize, o: *mut u8, m: usize) -> bool;
     fn xet_bench_json(n: *const u64, l: usize, steps: usize) -> bool;
     fn before_from_chunks(a: bool, n: *const u64, l: usize, b: bool, o: *mut u8, m: usize) -> bool;
-    fn before_ranges(n: *const u64, l: usize, length: usize, steps: usize, o: *mut u8, m: usize) -> bool;
+    fn before_joining(n: *const u64, l: usize, length: usize, turns: usize, o: *mut u8, m: usize) -> bool;
     fn before_json(n: *const u64, l: usize, steps: usize) -> bool;
 }
 
 const TURNS: usize = 15;
+
+// How often ranges are joined in a call, since it takes less than making them.
+const JOINS: usize = 20;
 
 fn from_chunks(call: FromChunks, nodes: &[u64], is_marked: bool) -> [u8; 32] {
     let mut out = [0; 32];
@@ -26,9 +29,10 @@ fn from_chunks(call: FromChunks, nodes: &[u64], is_marked: bool) -> [u8; 32] {
     out
 }
 
-fn ranges(call: Ranges, nodes: &[u64], steps: usize) -> [u8; 32] {
+// Joins ranges of 1000 nodes so many times.
+fn joining(call: Joining, nodes: &[u64], turns: usize) -> [u8; 32] {
     let mut out = [0; 32];
-    assert!(unsafe { call(nodes.as_ptr(), nodes.len(), 1000, steps, out.as_mut_ptr(), 32) });
+    assert!(unsafe { call(nodes.as_ptr(), nodes.len(), 1000, turns, out.as_mut_ptr(), 32) });
     out
 }
 
@@ -85,9 +89,10 @@ fn main() {
         let before = |_| from_chunks(before_from_chunks, black_box(&nodes), is_marked);
         row(&format!("`from_chunks`, a million pairs, {name}"), best(0, after, before));
     }
-    let after = |steps| ranges(xet_bench_ranges, black_box(&nodes), steps);
-    let before = |steps| ranges(before_ranges, black_box(&nodes), steps);
-    row("1000 ranges of 1000 pairs, joined from the left", best(2, after, before));
+    let after = |steps| joining(xet_bench_joining, black_box(&nodes), JOINS * steps);
+    let before = |steps| joining(before_joining, black_box(&nodes), JOINS * steps);
+    let joined = best(1, after, before).map(|time| time / JOINS as f64);
+    row("1000 ranges of 1000 pairs, joined from the left", joined);
     let nodes = drawn(100_000, true);
     for (name, steps) in [("`to_json`", 1), ("`from_json`", 2)] {
         let after = |steps| json(xet_bench_json, black_box(&nodes), steps);

@@ -1,0 +1,34 @@
+//! Joining ranges often in one call, so that a difference of two calls tells what that takes.
+
+ghost use Rattle.std.specs.Prelude.{◌≡◌, ◌<◌, length};
+
+use crate::{final_hash_of_joined, nodes_of, ranges_of};
+use std::alloc::Global;
+
+/// Makes the subtrees of a list's ranges, as `xet_bench_ranges` does, and joins them from the left so many times. It
+/// writes the final hash to `out`, where they are joined at all. False where a call was refused.
+#[unsafe(no_mangle)]
+pub extern "C" fn xet_bench_joining(
+    alloc: Global,
+    nodes: &[u64],
+    range_len: usize,
+    turns: usize,
+    out: &mut [u8],
+) -> bool
+    requires some { 0 < range_len }
+    requires out { length out.old ≡ 32 }
+{
+    let Ok(nodes) = nodes_of(alloc, nodes) else {
+        return false;
+    };
+    let Ok(ranges) = ranges_of(alloc, nodes.as_slice(), range_len) else {
+        return false;
+    };
+    for _ in 0..turns {
+        match final_hash_of_joined(ranges.as_slice()) {
+            Ok(Some(root)) => out.copy_from_slice(&root.as_bytes()),
+            _ => return false,
+        }
+    }
+    true
+}
