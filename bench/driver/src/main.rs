@@ -24,6 +24,14 @@ extern "C" {
         out: *mut u8,
         out_len: usize,
     ) -> bool;
+    fn xet_bench_joining(
+        nodes: *const u64,
+        len: usize,
+        length: usize,
+        turns: usize,
+        out: *mut u8,
+        out_len: usize,
+    ) -> bool;
     fn xet_bench_session(
         nodes: *const u64,
         len: usize,
@@ -48,6 +56,9 @@ const INTERNAL_KEY: [u8; 32] = [
 ];
 
 const TURNS: usize = 15;
+
+// How often ranges are joined in a call, since it takes less than making them.
+const JOINS: usize = 10;
 
 fn ours(message: &[u8]) -> [u8; 32] {
     let mut out = [0; 32];
@@ -250,20 +261,27 @@ fn our_ranges(nodes: &[u64], length: usize, steps: usize) -> [u8; 32] {
     out
 }
 
+fn our_joined(nodes: &[u64], length: usize, turns: usize) -> [u8; 32] {
+    let mut out = [0; 32];
+    let (start, len) = (nodes.as_ptr(), nodes.len());
+    assert!(unsafe { xet_bench_joining(start, len, length, turns, out.as_mut_ptr(), 32) });
+    out
+}
+
 // The times of making ranges of so many pairs, of joining them from the left, and of merging them: what a run takes
 // longer with that step.
 fn times_of_ranges(nodes: &[u64], length: usize) -> [f64; 3] {
-    for steps in [2, 3] {
-        assert_eq!(our_ranges(nodes, length, steps), our_root(nodes));
-    }
+    assert_eq!(our_joined(nodes, length, 1), our_root(nodes));
+    assert_eq!(our_ranges(nodes, length, 2), our_root(nodes));
     let mut best = [f64::MAX; 4];
     for _ in 0..TURNS {
-        for (steps, best) in best.iter_mut().enumerate() {
+        for (steps, best) in best[..3].iter_mut().enumerate() {
             *best = best.min(seconds(1, || our_ranges(black_box(nodes), length, steps)));
         }
+        best[3] = best[3].min(seconds(1, || our_joined(black_box(nodes), length, JOINS)));
     }
-    let [nodes, ranges, joined, merged] = best.map(|time| time * 1e3);
-    [ranges - nodes, joined - ranges, merged - ranges]
+    let [nodes, ranges, merged, joined] = best.map(|time| time * 1e3);
+    [ranges - nodes, (joined - ranges) / JOINS as f64, merged - ranges]
 }
 
 fn compare_joining(nodes: &[u64]) {
@@ -292,17 +310,17 @@ fn compare_one_by_one(drawn: &[u64]) {
         ("pairs without natural cuts", with_cuts(|word| word | 1)),
         ("natural cuts alone", with_cuts(|word| word & !3)),
     ] {
-        assert_eq!(our_ranges(&nodes, 1, 2), our_root(&nodes));
+        assert_eq!(our_joined(&nodes, 1, 1), our_root(&nodes));
         let [half, all] = [nodes.len() / 2, nodes.len()].map(|len| {
             let nodes = &nodes[..len];
             let mut best = [f64::MAX; 3];
             for _ in 0..TURNS / 3 {
-                for steps in [1, 2] {
-                    best[steps] = best[steps].min(seconds(1, || our_ranges(black_box(nodes), 1, steps)));
+                for turns in [0, 1] {
+                    best[turns] = best[turns].min(seconds(1, || our_joined(black_box(nodes), 1, turns)));
                 }
-                best[0] = best[0].min(seconds(1, || our_subtree(true, black_box(nodes), true)));
+                best[2] = best[2].min(seconds(1, || our_subtree(true, black_box(nodes), true)));
             }
-            [(best[2] - best[1]) * 1e3, best[0] * 1e3]
+            [(best[1] - best[0]) * 1e3, best[2] * 1e3]
         });
         println!(
             "| a million ranges of one of {name} | {:.0} | {:.0} | {:.2} | {:.2} |",

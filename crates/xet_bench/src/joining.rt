@@ -2,8 +2,11 @@
 
 ghost use Rattle.std.specs.Prelude.{◌≡◌, ◌<◌, length};
 
-use crate::{final_hash_of_joined, nodes_of, ranges_of};
+use crate::{nodes_of, ranges_of};
 use std::alloc::Global;
+use xet_hash::data_hash::MerkleHash;
+use xet_merkle::CoreError;
+use xet_merkle::merkle_hash_subtree::MerkleHashSubtree;
 
 /// Makes the subtrees of a list's ranges, as `xet_bench_ranges` does, and joins them from the left so many times. It
 /// writes the final hash to `out`, where they are joined at all. False where a call was refused.
@@ -31,4 +34,15 @@ pub extern "C" fn xet_bench_joining(
         }
     }
     true
+}
+
+fn final_hash_of_joined(ranges: &[MerkleHashSubtree]) -> Result<Option<MerkleHash>, CoreError> {
+    let [first, others @ ..] = ranges else {
+        return Ok(None);
+    };
+    let mut joined = first.try_clone()?;
+    for range in others {
+        joined.merge_into(range)?;
+    }
+    Ok(joined.final_hash())
 }

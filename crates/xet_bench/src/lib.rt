@@ -82,8 +82,8 @@ pub extern "C" fn xet_bench_from_chunks(
 }
 
 /// Makes the nodes of a list, given as to `xet_bench_xorb_hash`. Where `steps` is at least 1, it makes the
-/// subtrees of each `range_len` of them, with the list's start and end marked. Where it is 2 it joins them from the
-/// left, and where it is more by `merge`, and writes the final hash to `out`. False where a call was refused.
+/// subtrees of each `range_len` of them, with the list's start and end marked. Where it is more it merges them by
+/// `merge`, and writes the final hash to `out`. False where a call was refused.
 #[unsafe(no_mangle)]
 pub extern "C" fn xet_bench_ranges(
     alloc: Global,
@@ -104,12 +104,10 @@ pub extern "C" fn xet_bench_ranges(
     let Ok(ranges) = ranges_of(alloc, nodes.as_slice(), range_len) else {
         return false;
     };
-    let root = match steps {
-        1 => return true,
-        2 => final_hash_of_joined(ranges.as_slice()),
-        _ => final_hash_of_merged(alloc, ranges.as_slice()),
-    };
-    match root {
+    if steps < 2 {
+        return true;
+    }
+    match final_hash_of_merged(alloc, ranges.as_slice()) {
         Ok(Some(root)) => {
             out.copy_from_slice(&root.as_bytes());
             true
@@ -158,17 +156,6 @@ fn ranges_of(
         ranges.push(MerkleHashSubtree::from_chunks(alloc, at_start, range, rest.is_empty())?)?;
     }
     Ok(ranges)
-}
-
-fn final_hash_of_joined(ranges: &[MerkleHashSubtree]) -> Result<Option<MerkleHash>, CoreError> {
-    let [first, others @ ..] = ranges else {
-        return Ok(None);
-    };
-    let mut joined = first.try_clone()?;
-    for range in others {
-        joined.merge_into(range)?;
-    }
-    Ok(joined.final_hash())
 }
 
 fn final_hash_of_merged(
