@@ -4,9 +4,9 @@
     python3 tables.py merged        those of subtrees that are merged from drawn ranges
     python3 tables.py json_rules    the least rules that drawn JSON values break
     python3 tables.py texts         the JSON texts of subtrees whose ranges stand in the rows
-    python3 tables.py check         compares all four with the texts in crates/xet_tests
+    python3 tables.py check         compares all four with the texts in crates/merkle_tests
 
-Lists are drawn here as `numbered_list` of crates/xet_tests/src/support.rt draws them, by the same generator.
+Lists are drawn here as `numbered_list` of crates/merkle_tests/src/support.rt draws them, by the same generator.
 """
 
 from __future__ import annotations
@@ -170,7 +170,7 @@ def json_rule(number: int) -> str:
 
 # ------------------------------------------------------------- texts
 
-# The ranges of a list and the places at which two are merged, as crates/xet_tests/src/merkle_hash_subtree/texts.rt
+# The ranges of a list and the places at which two are merged, as crates/merkle_tests/src/merkle_hash_subtree/texts.rt
 # tells them.
 ROWS = [
     "(...|...|...|...|...|) -",
@@ -227,7 +227,7 @@ def table(name: str) -> str:
 
 def stored(name: str) -> str:
     file, constant = PLACES[name]
-    tests = pathlib.Path(__file__).resolve().parent.parent / "crates/xet_tests/src/merkle_hash_subtree"
+    tests = pathlib.Path(__file__).resolve().parent.parent / "crates/merkle_tests/src/merkle_hash_subtree"
     text = (tests / file).read_text().split(f"const {constant}: &str =", 1)[1]
     return text.split(";\n", 1)[0].strip(' \nr#"')
 

@@ -10,5 +10,3 @@ pub mod laws;
 pub mod make;
 mod pair_lines;
 mod range_line;
-#[cfg(test)]
-mod tests;

@@ -122,6 +122,3 @@ impl<A: Allocator> KeptHashes<A> for NoHashes {
 
     fn give_up(&mut self, _new: &[MerkleHash]) {}
 }
-
-#[cfg(test)]
-mod tests;

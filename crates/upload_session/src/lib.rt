@@ -6,5 +6,3 @@ pub mod laws;
 mod runs;
 pub mod session;
 pub mod session_fault;
-#[cfg(test)]
-mod tests;

@@ -298,6 +298,3 @@ impl fmt::Debug for DataHash {
         fmt::Display::fmt(self, f)
     }
 }
-
-#[cfg(test)]
-mod tests;

@@ -12,5 +12,3 @@ mod ranges;
 pub mod reading;
 pub mod run;
 pub mod take_lines;
-#[cfg(test)]
-mod tests;

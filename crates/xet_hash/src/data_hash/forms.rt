@@ -160,6 +160,3 @@ impl fmt::Display for HashTextError {
 }
 
 impl error::Error for HashTextError {}
-
-#[cfg(test)]
-mod tests;

@@ -116,6 +116,3 @@ impl<W: Write> Write for HashedWrite<W> {
         self.writer.flush()
     }
 }
-
-#[cfg(test)]
-mod tests;

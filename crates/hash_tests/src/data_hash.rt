@@ -1,0 +1,222 @@
+//! The forms of a hash, its comparisons, the two keys and `hmac`.
+
+use std::cmp::Ordering;
+use std::hash::{DefaultHasher, Hash, Hasher};
+use std::test::Fail;
+use xet_hash::data_hash::{
+    DataHash, DataHashHexParseError, MerkleHash, compute_data_hash, compute_internal_node_hash,
+};
+
+// A hash as its 32 bytes, as its words and as its text.
+const BYTES: [u8; 32] = [
+    22, 175, 58, 132, 4, 75, 131, 214, 190, 153, 138, 66, 226, 3, 153, 242, 204, 86, 80, 234, 249,
+    153, 80, 99, 159, 80, 65, 138, 236, 231, 149, 78,
+];
+
+const WORDS: [u64; 4] = [
+    15457280828836065046,
+    17481007698929162686,
+    7156389106548758220,
+    5662687109606101151,
+];
+
+const TEXT: &str = "d6834b04843aaf16f29903e2428a99be635099f9ea5056cc4e95e7ec8a41509f";
+
+#[test]
+fn has_one_value_in_each_form(rt: HostRuntime) {
+    let hash = DataHash::from(BYTES);
+    assert_eq!(rt; hash.words(), WORDS);
+    assert_eq!(rt; hash.as_bytes(), BYTES);
+    assert_eq!(rt; <[u8; 32]>::from(hash), BYTES);
+    assert_eq!(rt; hash.hex_digits().as_slice(), TEXT.as_bytes());
+    assert_eq!(rt; DataHash::from(WORDS), hash);
+    assert_eq!(rt; DataHash::from(&BYTES), hash);
+    assert_eq!(rt; MerkleHash::default().words(), [0; 4]);
+    assert!(rt; hash != MerkleHash::default());
+}
+
+#[test]
+fn reads_64_hex_digits(rt: HostRuntime) {
+    let hash = DataHash::from(BYTES);
+    for (text, is_read) in [
+        (TEXT, true),
+        (
+            "D6834B04843AAF16F29903E2428A99BE635099F9EA5056CC4E95E7EC8A41509F",
+            true,
+        ),
+        (
+            "d6834b04843aaf16f29903e2428a99be635099f9ea5056cc4e95e7ec8a41509",
+            false,
+        ),
+        (
+            "d6834b04843aaf16f29903e2428a99be635099f9ea5056cc4e95e7ec8a41509f0",
+            false,
+        ),
+        (
+            "é834b04843aaf16f29903e2428a99be635099f9ea5056cc4e95e7ec8a41509f",
+            false,
+        ),
+        (
+            "+6834b04843aaf16f29903e2428a99be635099f9ea5056cc4e95e7ec8a41509f",
+            false,
+        ),
+        ("", false),
+    ] {
+        assert_eq!(rt;
+            DataHash::from_hex(text).ok(),
+            is_read.then_some(hash),
+            "{text}"
+        );
+        let of_bytes = DataHash::from_hex_digits(text.as_bytes()).ok();
+        assert_eq!(rt; of_bytes, is_read.then_some(hash), "{text}");
+    }
+    assert!(rt; DataHash::from_hex_digits(&[0xFF; 64]).is_err());
+}
+
+#[test]
+fn prints_the_text_alone(rt: HostRuntime) -> Result<(), Fail> {
+    let alloc = rt.alloc();
+    let hash = DataHash::from(BYTES);
+    for printed in [
+        format!(in alloc; "{hash}")?,
+        format!(in alloc; "{hash:>80}")?,
+        format!(in alloc; "{hash:#.3}")?,
+        format!(in alloc; "{hash:?}")?,
+        format!(in alloc; "{hash:#?}")?,
+        format!(in alloc; "{hash:+?}")?,
+        format!(in alloc; "{hash:080?}")?,
+        format!(in alloc; "{hash:<80?}")?,
+        format!(in alloc; "{hash:>80?}")?,
+        format!(in alloc; "{hash:*^#80?}")?,
+        format!(in alloc; "{hash:.3?}")?,
+        format!(in alloc; "{hash:1?}")?,
+    ] {
+        assert_eq!(rt; printed.as_str(), TEXT);
+    }
+    let refused = format!(in alloc; "{DataHashHexParseError}")?;
+    assert_eq!(rt; refused.as_str(), "Invalid hex input for DataHash");
+    Ok(())
+}
+
+#[test]
+fn hashes_under_its_keys(rt: HostRuntime) -> Result<(), Fail> {
+    let zero = DataHash::default();
+    let first = "cfc5d07f6f03c29bbf424132963fe08d19a37d5757aaf520bf08119f05cd56d6";
+    let second = "c3e67584b5c4fc2a89837ec39e40f2c8a6bb0b2987ac94cd4b31e5fbdd210a72";
+    let line = b"cfc5d07f6f03c29bbf424132963fe08d19a37d5757aaf520bf08119f05cd56d6 : 100\n";
+    for (hash, text) in [
+        (
+            zero.hmac(zero),
+            "638a6bc391964a85939d48f008e8bdbae6a7975e7ca2d87a3ce2492f4e4d8a4c",
+        ),
+        (
+            DataHash::from_hex(first)?.hmac(DataHash::from_hex(second)?),
+            "9cb37f73951e7bd6d139f1ca83c6a60db18b413b391e2ea0552d9731140289ae",
+        ),
+        (
+            compute_data_hash(b""),
+            "e0f2cf784e7e5f10c34f84af150e9a5ff9664216debad915364d741049870f67",
+        ),
+        (
+            compute_data_hash(b"abc"),
+            "a8803506f7aff014f19aa9e9b79dc6455c49672570f96156071329698dd0284e",
+        ),
+        (
+            compute_internal_node_hash(b""),
+            "5269cbcb3dd94b6706937b205ab5eb9cd1fbd675e534aea67dd27b2c1ff69db9",
+        ),
+        (
+            compute_internal_node_hash(line),
+            "fe536ba64afae22e992334c62335987cb8ae79e55f32806d473d7619a83ce721",
+        ),
+    ] {
+        assert_eq!(rt; hash, DataHash::from_hex(text)?);
+    }
+    Ok(())
+}
+
+#[test]
+fn compares_words(rt: HostRuntime) {
+    let low = DataHash::from([1, 0, 0, 0]);
+    let high = DataHash::from([256, 0, 0, 0]);
+    assert!(rt; low < high);
+    assert_eq!(rt; low.cmp(&high), Ordering::Less);
+    assert_eq!(rt; high.cmp(&high), Ordering::Equal);
+    assert!(rt; DataHash::from([0, 0, 0, 1]) < low);
+    assert_eq!(rt; DataHash::marker() % 4, 3);
+    assert_eq!(rt; DataHash::default() % 4, 0);
+    assert_eq!(rt; DataHash::from([1, 2, 3, 14]) % 10, 4);
+}
+
+#[test]
+fn feeds_word_zero_to_a_hash_function(rt: HostRuntime) {
+    let mut of_hash = DefaultHasher::new();
+    DataHash::from([5, 6, 7, 8]).hash(&mut of_hash);
+    let mut of_word = DefaultHasher::new();
+    of_word.write_u64(5);
+    assert_eq!(rt; of_hash.finish(), of_word.finish());
+}
+
+#[test]
+fn draws_from_a_seed(rt: HostRuntime) -> Result<(), Fail> {
+    for (seed, text) in [
+        (
+            1,
+            "cfc5d07f6f03c29bbf424132963fe08d19a37d5757aaf520bf08119f05cd56d6",
+        ),
+        (
+            2,
+            "c3e67584b5c4fc2a89837ec39e40f2c8a6bb0b2987ac94cd4b31e5fbdd210a72",
+        ),
+        (
+            3,
+            "0d2beb91b9196929a5ddec9f6e306924ddf4a24268e3e59fd8464738d525af37",
+        ),
+        (
+            4,
+            "adf8773496a9b7319b2e50dc98093f344053b17d8ad37100b9c07d9805988784",
+        ),
+        (
+            5,
+            "4ac202caf347fc1e9c874b1ef6a1c5e619141eb775a6f43f0f0124ccd0060d9e",
+        ),
+        (
+            6,
+            "b3b28636f65c149ea52eb1f94669466f70f033b54cea792824c696ba6ef3c389",
+        ),
+        (
+            7,
+            "0e2c1a002aae913d2c0fc8ddfa4e9e14b7b311b3b0d458726d5d9f6a6318013c",
+        ),
+    ] {
+        assert_eq!(rt; DataHash::random_from_seed(seed), DataHash::from_hex(text)?);
+    }
+    Ok(())
+}
+
+#[test]
+fn the_hash_and_the_key_of_hmac_both_count(rt: HostRuntime) -> Result<(), Fail> {
+    let bytes = [1u8; 32];
+    let zero = DataHash::default();
+    let ones = DataHash::try_from(bytes.as_slice())?;
+    assert_eq!(rt; ones.to_vec(rt.alloc())?.as_slice(), bytes.as_slice());
+    for (hash, text) in [
+        (
+            zero.hmac(zero),
+            "638a6bc391964a85939d48f008e8bdbae6a7975e7ca2d87a3ce2492f4e4d8a4c",
+        ),
+        (
+            zero.hmac(ones),
+            "2a21456b606047d464649f6b2853966dc39ee1c64edcd78f8ef619f840cbd044",
+        ),
+        (
+            ones.hmac(zero),
+            "1ddc94a3b2b678434378a847fdcdfa15480c992d8dedd72a20e552f78645add7",
+        ),
+    ] {
+        assert_eq!(rt; hash, DataHash::from_hex(text)?);
+    }
+    assert_ne!(rt; zero.hmac(zero), zero.hmac(ones));
+    assert_ne!(rt; zero.hmac(zero), ones.hmac(zero));
+    Ok(())
+}

@@ -1,0 +1,15 @@
+//! Tests of `xet_hash` and of the crates below it, by values from outside and by plain references.
+#![tactic(auto)]
+
+#[cfg(test)]
+mod blake3;
+#[cfg(test)]
+mod data_hash;
+#[cfg(test)]
+mod forms;
+#[cfg(test)]
+mod hashed_write;
+#[cfg(test)]
+mod passthrough_hasher;
+#[cfg(test)]
+mod passthrough_hashmap;

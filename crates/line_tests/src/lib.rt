@@ -1,0 +1,12 @@
+//! Tests of `upload_session`, `xet_lines` and `range_lines`: what sessions, `xetroot` and `xetrange` answer, devices that
+//! fail, and requests for memory that are refused.
+#![tactic(auto)]
+
+#[cfg(test)]
+mod kept_hashes;
+#[cfg(test)]
+mod lines;
+#[cfg(test)]
+mod ranges;
+#[cfg(test)]
+mod sessions;

@@ -1,0 +1,155 @@
+//! Drawn sessions beside a plain model of chunks by position.
+
+use rand_core::{Rng, SeedableRng};
+use rand_xoshiro::Xoshiro256PlusPlus;
+use std::alloc::{AllocError, Global};
+use std::collections::{BTreeMap, BTreeSet};
+use std::test::Fail;
+use upload_session::kept_hashes::KeptHashes;
+use upload_session::session::SessionOf;
+use upload_session::session_fault::SessionFault;
+use xet_hash::data_hash::DataHash;
+use xet_merkle::aggregated_hashes::{Node, file_hash};
+use xet_merkle::chunk_range::ChunkRange;
+use xet_merkle::merkle_hash_subtree::MerkleHashSubtree;
+use xet_merkle::plain_range::PlainRange;
+
+// The positions that are taken, and the numbers of which the hashes were drawn.
+#[derive(Drop)]
+struct Plain {
+    taken: BTreeSet<u64>,
+    seen: BTreeSet<u64>,
+}
+
+// A chunk is drawn from a number below 60, so that some hashes come again.
+fn chunk(number: u64) -> Node {
+    (DataHash::random_from_seed(number), number)
+}
+
+impl Plain {
+    // What a session should answer, which takes the positions where it does.
+    fn put(
+        &mut self,
+        first: u64,
+        numbers: &[u64],
+    ) -> Result<Result<u64, SessionFault>, AllocError> {
+        for (position, _) in (first..).zip(numbers) {
+            if self.taken.contains(&position) {
+                return Ok(Err(SessionFault::Overlap));
+            }
+        }
+        let mut count = 0u64;
+        for (position, number) in (first..).zip(numbers) {
+            self.taken.insert(position)?;
+            if self.seen.insert(*number)? {
+                count = count.saturating_add(1);
+            }
+        }
+        Ok(Ok(count))
+    }
+}
+
+// Up to 200 drawn numbers.
+fn drawn_numbers(
+    generator: &mut Xoshiro256PlusPlus,
+    alloc: Global,
+) -> Result<Vec<u64>, AllocError> {
+    let mut numbers = Vec::new(alloc);
+    for _ in 0..generator.next_u64() % 200 + 1 {
+        numbers.push(generator.next_u64() % 60)?;
+    }
+    Ok(numbers)
+}
+
+// A list of so many chunks cut into up to 40 ranges, each with its beginning and its end, in drawn order.
+fn drawn_pieces(
+    generator: &mut Xoshiro256PlusPlus,
+    alloc: Global,
+    len: u64,
+) -> Result<BTreeMap<u64, (u64, u64)>, AllocError> {
+    let mut cuts = BTreeSet::new(alloc);
+    for _ in 0..generator.next_u64() % 40 {
+        cuts.insert(generator.next_u64() % len.max(1))?;
+    }
+    cuts.insert(len)?;
+    let mut pieces = BTreeMap::new(alloc);
+    let mut begin = 0;
+    for end in cuts.iter() {
+        if begin < *end {
+            pieces.insert(generator.next_u64(), (begin, *end))?;
+        }
+        begin = *end;
+    }
+    Ok(pieces)
+}
+
+// A part of a list, as much of it as there is.
+fn part<T>(list: &[T], begin: u64, end: u64) -> &[T] {
+    let end = list.len().min(end as usize);
+    list.get(begin as usize..end).unwrap_or_default()
+}
+
+// Whether the ranges of a session begin where positions are taken behind one that isn't, and nowhere else.
+fn has_runs<C: ChunkRange, H: KeptHashes<C::Alloc>>(
+    session: &SessionOf<C, H>,
+    plain: &Plain,
+) -> bool {
+    let mut count = 0;
+    for position in plain.taken.iter() {
+        let follows = position
+            .checked_sub(1)
+            .is_some_and(|before| plain.taken.contains(&before));
+        if !follows {
+            let Some((first, _)) = session.range(count) else {
+                return false;
+            };
+            if first != *position {
+                return false;
+            }
+            count = count.saturating_add(1);
+        }
+    }
+    session.range(count).is_none()
+}
+
+// Whether a drawn session answers as the model does, and at its end the file hash of the list.
+fn agrees<C: ChunkRange<Alloc = Global>>(alloc: Global, seed: u64) -> Result<bool, Fail> {
+    let mut generator = Xoshiro256PlusPlus::seed_from_u64(seed);
+    let numbers = drawn_numbers(&mut generator, alloc)?;
+    let mut chunks = Vec::new(alloc);
+    for number in &numbers {
+        chunks.push(chunk(*number))?;
+    }
+    let total = chunks.len() as u64;
+    let pieces = drawn_pieces(&mut generator, alloc, total)?;
+    let mut plain = Plain {
+        taken: BTreeSet::new(alloc),
+        seen: BTreeSet::new(alloc),
+    };
+    let mut session: SessionOf<C> = SessionOf::new(alloc)?;
+    for (begin, end) in pieces.values() {
+        let is_early = session.finish(total) == Err(SessionFault::Gap);
+        let expected = plain.put(*begin, part(&numbers, *begin, *end))?;
+        let is_right = session.put(*begin, part(&chunks, *begin, *end)) == expected;
+        if !is_early || !is_right || !has_runs(&session, &plain) {
+            return Ok(false);
+        }
+        let place = generator.next_u64() % total.max(1);
+        let others = part(&chunks, place, place.saturating_add(3));
+        if plain.taken.contains(&place)
+            && session.put(place, others) != Err(SessionFault::Overlap)
+        {
+            return Ok(false);
+        }
+    }
+    Ok(session.finish(total) == Ok(file_hash(alloc, &chunks)?))
+}
+
+#[test]
+fn drawn_sessions_answer_as_a_plain_model_does(rt: HostRuntime) -> Result<(), Fail> {
+    for seed in 0..300 {
+        assert!(rt; agrees::<MerkleHashSubtree>(rt.alloc(), seed)?, "{seed}");
+        assert!(rt; agrees::<PlainRange>(rt.alloc(), seed)?, "{seed}");
+    }
+    Ok(())
+}
