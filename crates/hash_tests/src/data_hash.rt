@@ -100,15 +100,10 @@ fn prints_the_text_alone(rt: HostRuntime) -> Result<(), Fail> {
 
 #[test]
 fn hashes_under_its_keys(rt: HostRuntime) -> Result<(), Fail> {
-    let zero = DataHash::default();
     let first = "cfc5d07f6f03c29bbf424132963fe08d19a37d5757aaf520bf08119f05cd56d6";
     let second = "c3e67584b5c4fc2a89837ec39e40f2c8a6bb0b2987ac94cd4b31e5fbdd210a72";
     let line = b"cfc5d07f6f03c29bbf424132963fe08d19a37d5757aaf520bf08119f05cd56d6 : 100\n";
     for (hash, text) in [
-        (
-            zero.hmac(zero),
-            "638a6bc391964a85939d48f008e8bdbae6a7975e7ca2d87a3ce2492f4e4d8a4c",
-        ),
         (
             DataHash::from_hex(first)?.hmac(DataHash::from_hex(second)?),
             "9cb37f73951e7bd6d139f1ca83c6a60db18b413b391e2ea0552d9731140289ae",

@@ -15,8 +15,6 @@ const HEX: &str = "d6834b04843aaf16f29903e2428a99be635099f9ea5056cc4e95e7ec8a415
 
 const BASE64: &str = "Fq86hARLg9a-mYpC4gOZ8sxWUOr5mVBjn1BBiuznlU4";
 
-const ZERO_BASE64: &str = "AAAAAAAAAAAAAAAAAAAAAAAAAAAAAAAAAAAAAAAAAAA";
-
 // Prints a hash by its `LowerHex`, which `{:x}` does at integers alone.
 #[derive(Drop)]
 struct LowerHexOf(DataHash);
@@ -41,14 +39,10 @@ fn takes_32_bytes(rt: HostRuntime) -> Result<(), Fail> {
 }
 
 #[test]
-fn writes_hex_and_base64(rt: HostRuntime) -> Result<(), Fail> {
+fn writes_hex(rt: HostRuntime) -> Result<(), Fail> {
     let alloc = rt.alloc();
     let hash = DataHash::from(BYTES);
     assert_eq!(rt; hash.hex(alloc)?.as_str(), HEX);
-    assert_eq!(rt; hash.base64(alloc)?.as_str(), BASE64);
-    assert_eq!(rt; DataHash::default().base64(alloc)?.as_str(), ZERO_BASE64);
-    let marker = "__________________________________________8";
-    assert_eq!(rt; DataHash::marker().base64(alloc)?.as_str(), marker);
     let lower_hex = LowerHexOf(hash);
     assert_eq!(rt; format!(in alloc; "{lower_hex}")?.as_str(), HEX);
     assert_eq!(rt; format!(in alloc; "{lower_hex:#80}")?.as_str(), HEX);
@@ -56,12 +50,26 @@ fn writes_hex_and_base64(rt: HostRuntime) -> Result<(), Fail> {
 }
 
 #[test]
-fn reads_what_base64_writes(rt: HostRuntime) {
+fn reads_what_base64_writes(rt: HostRuntime) -> Result<(), Fail> {
     let alloc = rt.alloc();
-    let zero = DataHash::default();
-    assert_eq!(rt; DataHash::from_base64(alloc, ZERO_BASE64).ok(), Some(zero));
-    let hash = DataHash::from(BYTES);
-    assert_eq!(rt; DataHash::from_base64(alloc, BASE64).ok(), Some(hash));
+    for (hash, text) in [
+        (DataHash::from(BYTES), BASE64),
+        (
+            DataHash::default(),
+            "AAAAAAAAAAAAAAAAAAAAAAAAAAAAAAAAAAAAAAAAAAA",
+        ),
+        (
+            DataHash::marker(),
+            "__________________________________________8",
+        ),
+        (
+            compute_data_hash(&[0, 1, 2, 3]),
+            "IPkvGxKfzEOLhTAiabwQRGn5GUglJmE22VCZqf-OoZ4",
+        ),
+    ] {
+        assert_eq!(rt; hash.base64(alloc)?.as_str(), text);
+        assert_eq!(rt; DataHash::from_base64(alloc, text).ok(), Some(hash));
+    }
     for text in [
         "AAAAAAAAAAAAAAAAAAAAAAAAAAAAAAAAAAAAAAAAAAB",
         "Fq86hARLg9a-mYpC4gOZ8sxWUOr5mVBjn1BBiuznlU4=",
@@ -76,6 +84,7 @@ fn reads_what_base64_writes(rt: HostRuntime) {
         };
         assert!(rt; is_refused, "{text}");
     }
+    Ok(())
 }
 
 #[test]
@@ -110,20 +119,5 @@ fn errors_speak(rt: HostRuntime) -> Result<(), Fail> {
     assert_eq!(rt; format!(in alloc; "{refused}")?.as_str(), text);
     let refused = HashTextError::OutOfMemory;
     assert_eq!(rt; format!(in alloc; "{refused}")?.as_str(), "out of memory");
-    Ok(())
-}
-
-#[test]
-fn from_base64_reads_what_base64_writes(rt: HostRuntime) -> Result<(), Fail> {
-    let hash = compute_data_hash(&[0, 1, 2, 3]);
-    let text = hash.base64(rt.alloc())?;
-    assert_eq!(rt;
-        text.as_str(),
-        "IPkvGxKfzEOLhTAiabwQRGn5GUglJmE22VCZqf-OoZ4"
-    );
-    assert_eq!(rt;
-        DataHash::from_base64(rt.alloc(), text.as_str()).ok(),
-        Some(hash)
-    );
     Ok(())
 }

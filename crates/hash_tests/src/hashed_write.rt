@@ -141,19 +141,30 @@ fn drawn_bytes_are_hashed_and_handed_on(rt: HostRuntime) -> Result<(), Fail> {
     Ok(())
 }
 
-// A writer that takes three bytes, and then fails.
+// A writer that takes at most three bytes a call, of `room` in all, and then fails.
 #[derive(Drop)]
-struct ThreeBytes {
+struct Narrow {
+    room: usize,
     taken: Vec<u8>,
 }
 
-impl Write for ThreeBytes {
+impl Narrow {
+    fn new(alloc: Global, room: usize) -> Narrow {
+        Narrow {
+            room,
+            taken: Vec::new(alloc),
+        }
+    }
+}
+
+impl Write for Narrow {
     fn write(&mut self, slice: &[u8]) -> io::Result<usize> {
-        if !self.taken.is_empty() {
+        if self.room == 0 {
             return Err(io::Error::from(ErrorKind::StorageFull));
         }
-        let len = slice.len().min(3);
+        let len = slice.len().min(self.room).min(3);
         self.taken.extend_from_slice(&slice[..len])?;
+        self.room -= len;
         Ok(len)
     }
 
@@ -163,84 +174,24 @@ impl Write for ThreeBytes {
 }
 
 #[test]
-fn a_writer_that_fails_midway_has_what_is_hashed(rt: HostRuntime) {
-    let mut writer = HashedWrite::new(ThreeBytes {
-        taken: Vec::new(rt.alloc()),
-    });
-    let answer = writer.write_all(b"abcdef").map_err(|error| error.kind());
-    assert_eq!(rt; answer, Err(ErrorKind::StorageFull));
-    assert_eq!(rt; writer.hash(), compute_data_hash(b"abc"));
-    let ThreeBytes { taken } = writer.into_inner();
-    assert_eq!(rt; taken.as_slice(), b"abc".as_slice());
-}
-
-// A writer that takes at most three bytes a call, of `room` in all, and then fails.
-#[derive(Drop)]
-struct Narrow {
-    room: usize,
-    flushes: u8,
-}
-
-impl Narrow {
-    fn new(room: usize) -> Narrow {
-        Narrow { room, flushes: 0 }
-    }
-}
-
-impl Write for Narrow {
-    fn write(&mut self, slice: &[u8]) -> io::Result<usize> {
-        if self.room == 0 {
-            return Err(io::Error::from(ErrorKind::StorageFull));
-        }
-        let taken = slice.len().min(self.room).min(3);
-        self.room -= taken;
-        Ok(taken)
-    }
-
-    fn flush(&mut self) -> io::Result<()> {
-        self.flushes = self.flushes.saturating_add(1);
-        Ok(())
-    }
-}
-
-#[test]
-fn hashes_what_short_writes_take(rt: HostRuntime) -> Result<(), Fail> {
+fn short_writes_are_hashed_one_after_another(rt: HostRuntime) -> Result<(), Fail> {
     let mut message = [0u8; 1025];
-    for i in 0..1025 {
-        message[i] = (i % 251) as u8;
-    }
-    let mut writer = HashedWrite::new(Narrow::new(1025));
+    Xoshiro256PlusPlus::seed_from_u64(12).fill_bytes(&mut message);
+    let mut writer = HashedWrite::new(Narrow::new(rt.alloc(), 1025));
     assert_eq!(rt; writer.hash(), compute_data_hash(b""));
     writer.write_all(&message)?;
     assert_eq!(rt; writer.hash(), compute_data_hash(&message));
-    writer.flush()?;
-    let narrow = writer.into_inner();
-    assert_eq!(rt; narrow.room, 0);
-    assert_eq!(rt; narrow.flushes, 1);
+    let Narrow { taken, .. } = writer.into_inner();
+    assert_eq!(rt; taken.as_slice(), message.as_slice());
     Ok(())
 }
 
 #[test]
-fn hashes_nothing_of_a_failed_write(rt: HostRuntime) -> Result<(), Fail> {
-    let mut writer = HashedWrite::new(Narrow::new(2));
-    assert_eq!(rt; writer.write(b"abc")?, 2);
-    assert!(rt; writer.write(b"c").is_err());
-    assert_eq!(rt; writer.hash(), compute_data_hash(b"ab"));
-    Ok(())
-}
-
-#[test]
-fn hands_on_what_it_hashes(rt: HostRuntime) -> Result<(), Fail> {
-    let mut message = [0u8; 300];
-    for i in 0..300 {
-        message[i] = (i * 7 % 251) as u8;
-    }
-    let mut writer = HashedWrite::new(Vec::new(rt.alloc()));
-    for piece in message.chunks(10) {
-        writer.write_all(piece)?;
-    }
-    writer.flush()?;
-    assert_eq!(rt; writer.hash(), compute_data_hash(&message));
-    assert_eq!(rt; writer.into_inner().as_slice(), message.as_slice());
-    Ok(())
+fn a_writer_that_fails_midway_has_what_is_hashed(rt: HostRuntime) {
+    let mut writer = HashedWrite::new(Narrow::new(rt.alloc(), 4));
+    let answer = writer.write_all(b"abcdef").map_err(|error| error.kind());
+    assert_eq!(rt; answer, Err(ErrorKind::StorageFull));
+    assert_eq!(rt; writer.hash(), compute_data_hash(b"abcd"));
+    let Narrow { taken, .. } = writer.into_inner();
+    assert_eq!(rt; taken.as_slice(), b"abcd".as_slice());
 }
