@@ -39,6 +39,8 @@ module _ {K V : Type 0} (eq : K → K → Bool) where
   abbrev pub Removes : List (K × V) → K → List (K × V) → Type 0
   Removes old key new = IsPermutation (remove_entry (eq key) old) new
 
-  -- the map of some pairs: at each key the value of the last pair with that key
-  abbrev pub IsMapOf : List (K × V) → List (K × V) → Type 0
-  IsMapOf pairs entries = ((key : K) → value_at eq entries key ≡ value_at eq (reverse pairs) key) × IsFiniteMap eq entries
+  -- the map of some pairs: at each key the value of the last pair with that key, stored under the key of the first one
+  pub record IsMapOf (pairs entries : List (K × V)) : Type 0 where
+    pub last_value : (key : K) → value_at eq entries key ≡ value_at eq (reverse pairs) key
+    pub first_key : (key : K) → key_at eq entries key ≡ key_at eq pairs key
+    pub map : IsFiniteMap eq entries

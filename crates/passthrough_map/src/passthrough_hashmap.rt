@@ -281,7 +281,8 @@ impl<
     Val: Drop,
     A: Allocator + Clone,
 > PassThroughHashMap<Key, Val, A> {
-    /// The map of the pairs that `pairs` gives. Of pairs with equal keys the last one's value stays.
+    /// The map of the pairs that `pairs` gives. Of pairs with equal keys the first one's key and the last one's value
+    /// stay.
     ///
     /// It fails where an allocation is refused. The iterator may then be left in its midst.
     ///
@@ -295,9 +296,11 @@ impl<
         ensures { IfOk result (λ map. (it : I.IntoIter) × (given : List (Key × Val))
             × I.into_iter_gives pairs it × Drains I.IntoIter.next_gives it given × IsMapOf Key.eq given map) }
     {
-        Ok(PassThroughHashMap {
-            map: HashMap::from_iter(alloc, pairs)?,
-        })
+        let mut map = PassThroughHashMap::new(alloc);
+        'pairs: for (key, value) in pairs {
+            map.insert(key, value)?;
+        }
+        Ok(map)
     }
 }
 
@@ -306,7 +309,7 @@ impl<
     Val: Copy,
     A: Allocator + Clone,
 > PassThroughHashMap<Key, Val, A> {
-    /// The map of some pairs. Of pairs with equal keys the last one's value stays.
+    /// The map of some pairs. Of pairs with equal keys the first one's key and the last one's value stay.
     ///
     /// It fails where an allocation is refused.
     ///
