@@ -1,11 +1,14 @@
 -- The place of a key in a map, and what the map has once it was written there.
 pub use Rattle.passthrough_map.specs.declared.passthrough_hashmap.entry.Entry.TheVariants.{Occupied, Vacant}
-use Rattle.std.specs.Prelude.{◌≡◌, Bool, List, Option, None, IsSome, Result}
-use Rattle.std.specs.Borrow.{Fml, RattleType, MutBor, Lends, LendsSoOk}
+use Rattle.std.specs.Prelude.{◌≡◌, [], Bool, List, Option, None, Some, IsSome, Result}
+use Rattle.std.specs.Borrow.{Fml, RattleType, MutBor, Lends, LendsSoOk, RestsIfErr}
 use Rattle.std.specs.Map.{set_value}
 use Rattle.std.specs.declared.alloc.Allocator as alloc
 use Rattle.std.specs.HashMap.Lent.{HashMembers}
+use mir.Syntax.{named}
 use Rattle.passthrough_map.specs.declared.passthrough_hashmap.entry.Entry.{Entry}
+use Rattle.passthrough_map.specs.declared.passthrough_hashmap.entry.OccupiedEntry.{OccupiedEntry}
+use Rattle.passthrough_map.specs.contracts.passthrough_hashmap.entry.OccupiedEntry as occupied
 use Rattle.passthrough_map.specs.FiniteMap.{IsPut, value_at}
 use Rattle.passthrough_map.specs.MapLends.{ExtractableMembers, map_row}
 
@@ -37,10 +40,24 @@ module _ {K V A : Type 0} where
     pub same_key : entry_key new ≡ entry_key old
     pub after : (entry_map new).now ≡ entries
 
+-- `filled` is the place at whose key `value` was put, in the same map
+module _ {K V A : Type 0} (eq : K → K → Bool) where
+  pub record IsFilled (place : Entry K V A) (value : V) (filled : OccupiedEntry K V A) : Type 0 where
+    pub same_map : (entry_map (Occupied filled)).ghost_name ≡ (entry_map place).ghost_name
+    pub same_key : entry_key (Occupied filled) ≡ entry_key place
+    pub live : IsLive eq (Occupied filled)
+    pub value_there : entry_value eq (Occupied filled) ≡ Some value
+    pub put : IsPut eq (entry_map place).now (entry_key place) value (entry_map (Occupied filled)).now
+
 module _ (K V A : RattleType) (extracted : ExtractableMembers K.Denot) (hashed : HashMembers K.Denot) (heap : alloc.Ghosts A.Denot) where
   -- the map's type, as the logic has it
   abbrev pub map_type : RattleType
   map_type = map_row K V A extracted hashed heap
+
+  -- the type of an occupied place, as the logic has it
+  abbrev pub place_type : RattleType
+  place_type =
+      occupied.the_row (record { mir = named 1; lft = [] }) K V A (record { hash_value = extracted.hash_value }) (record { eq = hashed.eq }) (record { hash_input = hashed.hash_input }) heap
 
   module _ (place : Entry K.Denot V.Denot A.Denot) where
     -- once the borrow ends, the last value behind r was written at the place's key, which has a value
@@ -52,3 +69,16 @@ module _ (K V A : RattleType) (extracted : ExtractableMembers K.Denot) (hashed :
     puts_there r =
         LendsSoOk map_type V (entry_map place) r (λ left value. IsPut hashed.eq (entry_map place).now (entry_key place) value left)
         (λ left. left ≡ (entry_map place).now)
+
+    -- where the place couldn't be filled, the map stays as it is
+    abbrev pub stays_if_refused : {E : Type 0} → Result (OccupiedEntry K.Denot V.Denot A.Denot) E → Fml
+    stays_if_refused filled =
+        RestsIfErr map_type (entry_map place) (λ occupied. (entry_map (Occupied occupied)).ghost_name) filled (λ left. left ≡ (entry_map place).now)
+
+  -- the place whose value is w now
+  abbrev pub with_value : OccupiedEntry K.Denot V.Denot A.Denot → V.Denot → OccupiedEntry K.Denot V.Denot A.Denot
+  with_value place w = record place { map = record place.map { now = set_value (hashed.eq place.key) place.map.now w } }
+
+  -- once the borrow ends, the last value behind r was written at the place's key, which has a value
+  abbrev pub writes_in_place : MutBor (OccupiedEntry K.Denot V.Denot A.Denot) → MutBor V.Denot → Fml
+  writes_in_place place r = Lends place_type V place r (with_value place.now)

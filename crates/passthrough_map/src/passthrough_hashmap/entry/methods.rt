@@ -1,12 +1,13 @@
 // What is done at the place of a key.
 
 ghost use Rattle.std.specs.Prelude.{◌≡◌, Some, None, unwrap_or, IfOk, OnErr};
-ghost use Rattle.std.specs.Borrow.{sem, MutBor};
+ghost use Rattle.std.specs.Borrow.{sem, Bor, MutBor};
+ghost use Rattle.std.specs.Fn.{FnOnceReturnsAt};
 ghost use Rattle.std.specs.Map.{set_value};
 ghost use Rattle.std.specs.Map.Calls.{ModifiesValue};
 ghost use Rattle.std.specs.Option.{UnwrapsOrElse};
 ghost use Rattle.passthrough_map.specs.FiniteMap.{key_at, Removes, Sets};
-ghost use Rattle.passthrough_map.specs.Entry.{Occupied, Vacant, entry_map, entry_key, entry_value, writes_there, puts_there, IsLive, IsPlaceAfter};
+ghost use Rattle.passthrough_map.specs.Entry.{Occupied, Vacant, entry_map, entry_key, entry_value, writes_there, writes_in_place, puts_there, stays_if_refused, IsLive, IsFilled, IsPlaceAfter};
 
 use super::{Entry, OccupiedEntry, VacantEntry};
 use crate::passthrough_hasher::U64HashExtractable;
@@ -86,6 +87,64 @@ impl<'a, Key: U64HashExtractable + Hash + Eq + Copy, Val: Drop, A: Allocator + C
             Entry::Vacant(place) => place.insert(default()),
         }
     }
+
+    /// The value, to be written for as long as the map is lent; it is what `default` gives for the key that was asked for
+    /// where there was none.
+    ///
+    /// It fails where there was none and no memory for one more entry. The map is then unchanged.
+    pub fn or_insert_with_key<F: FnOnce(&Key) -> Val + Drop>(
+        self,
+        default: F,
+    ) -> Result<&'a mut Val, AllocError>
+        requires live { IsLive Key.eq self }
+        requires callable { entry_value Key.eq self ≡ None → (key : Bor Key) → key.now ≡ entry_key self → F.pre default key }
+        ensures* written { sem 𝓛 (puts_there Key.row Val.row A.row Key.U64HashExtractable Key.Hash A.Allocator self.entry result) }
+        ensures value { IfOk result (λ value. UnwrapsOrElse (entry_value Key.eq self.entry)
+            (FnOnceReturnsAt F.FnOnce default (entry_key self.entry)) value.now) }
+        ensures absent { OnErr result (entry_value Key.eq self.entry ≡ None) }
+    {
+        match self {
+            Entry::Occupied(place) => Ok(place.into_mut()),
+            Entry::Vacant(place) => {
+                let value = default(place.key());
+                place.insert(value)
+            }
+        }
+    }
+
+    /// The value, to be written for as long as the map is lent; it is the type's default where there was none.
+    ///
+    /// It fails where there was none and no memory for one more entry. The map is then unchanged.
+    pub fn or_default(self) -> Result<&'a mut Val, AllocError>
+    where
+        Val: Default,
+        requires { IsLive Key.eq self }
+        ensures* written { sem 𝓛 (puts_there Key.row Val.row A.row Key.U64HashExtractable Key.Hash A.Allocator self.entry result) }
+        ensures value { IfOk result (λ value. UnwrapsOrElse (entry_value Key.eq self.entry) Val.is_default value.now) }
+        ensures absent { OnErr result (entry_value Key.eq self.entry ≡ None) }
+    {
+        match self {
+            Entry::Occupied(place) => Ok(place.into_mut()),
+            Entry::Vacant(place) => place.insert(Val::default()),
+        }
+    }
+
+    /// Puts `value` at the place, which is occupied then.
+    ///
+    /// It fails where there was no value and no memory for one more entry. The map is then unchanged.
+    pub fn insert_entry(self, value: Val) -> Result<OccupiedEntry<'a, Key, Val, A>, AllocError>
+        requires { IsLive Key.eq self }
+        ensures written { IfOk result (IsFilled Key.eq self.entry value) }
+        ensures absent { OnErr result (entry_value Key.eq self.entry ≡ None) }
+    {
+        match self {
+            Entry::Occupied(mut place) => {
+                place.insert(value);
+                Ok(place)
+            }
+            Entry::Vacant(place) => place.insert_entry(value),
+        }
+    }
 }
 
 impl<'a, Key: U64HashExtractable + Hash + Eq, Val, A: Allocator> OccupiedEntry<'a, Key, Val, A> {
@@ -103,6 +162,18 @@ impl<'a, Key: U64HashExtractable + Hash + Eq, Val, A: Allocator> OccupiedEntry<'
         ensures { entry_value Key.eq (Occupied self.now) ≡ Some result.now }
     {
         self.map.get(&self.key).unwrap()
+    }
+
+    /// The value, to be written for as long as the place is lent.
+    pub fn get_mut(&mut self) -> &mut Val
+    where
+        Key: Copy,
+        requires { IsLive Key.eq (Occupied self.old) }
+        ensures* written { sem 𝓛 (writes_in_place Key.row Val.row A.row Key.U64HashExtractable Key.Hash A.Allocator self.entry result) }
+        ensures value { entry_value Key.eq (Occupied self.old) ≡ Some result.now }
+    {
+        let key = self.key;
+        self.map.get_mut(&key).unwrap()
     }
 
     // Changes the value by `f`.
@@ -206,5 +277,18 @@ impl<'a, Key: U64HashExtractable + Hash + Eq + Copy, Val: Drop, A: Allocator + C
         let VacantEntry { map, key } = self;
         map.insert(key, value)?;
         Ok(map.get_mut(&key).unwrap())
+    }
+
+    /// Puts `value` at the key, and the place is occupied then.
+    ///
+    /// It fails where there is no memory for one more entry. The map is then unchanged.
+    pub fn insert_entry(self, value: Val) -> Result<OccupiedEntry<'a, Key, Val, A>, AllocError>
+        requires { IsLive Key.eq (Vacant self) }
+        ensures* refused { sem 𝓛 (stays_if_refused Key.row Val.row A.row Key.U64HashExtractable Key.Hash A.Allocator (Vacant self.entry) result) }
+        ensures written { IfOk result (IsFilled Key.eq (Vacant self.entry) value) }
+    {
+        let VacantEntry { map, key } = self;
+        map.insert(key, value)?;
+        Ok(OccupiedEntry { map, key })
     }
 }
