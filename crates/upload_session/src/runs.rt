@@ -6,7 +6,6 @@ ghost use Rattle.upload_session.specs.Steps.{EndsAt, NoneEndsAt, IsWithNext};
 ghost use Rattle.upload_session.specs.Session.{Placed, place, chunks_of, is_taken, overlaps, IsWhole, StandFor};
 
 use crate::session_fault::SessionFault;
-use std::alloc::AllocError;
 use std::collections::BTreeMap;
 use std::marker::Model;
 use xet_merkle::CoreError;
@@ -34,14 +33,14 @@ impl<C: ChunkRange> Model for Runs<C> {
 }
 
 impl<C: ChunkRange> Runs<C> {
-    /// No runs.
-    pub fn new(alloc: C::Alloc) -> Result<Self, AllocError>
-        ensures { IfOk result (λ runs. runs ≡ []) }
+    /// No runs. The map of the runs takes its memory of `of_runs`, and each range of a clone of `alloc`.
+    pub fn new(of_runs: C::Alloc, alloc: C::Alloc) -> Self
+        ensures { result ≡ [] }
     {
-        Ok(Runs {
-            runs: BTreeMap::new(alloc.clone()?),
+        Runs {
+            runs: BTreeMap::new(of_runs),
             alloc,
-        })
+        }
     }
 
     /// Where the memory comes from.

@@ -1,6 +1,6 @@
 //! A session: ranges of chunks that come in any order, joined as they become adjacent.
 
-ghost use Rattle.std.specs.Prelude.{◌≡◌, ℕ, ◌+◌, ◌^◌, ◌<◌, ◌≤◌, ◌↔◌, ◌⊎◌, List, [], false, length, replicate, sum_by, option_map, slice_get, Ok, IfOk, IfErr, IfSome, IfNone, SomeIff, OnOk, OnErr, IsTrue, IsErrOf};
+ghost use Rattle.std.specs.Prelude.{◌≡◌, ℕ, ◌+◌, ◌^◌, ◌<◌, ◌≤◌, ◌↔◌, ◌⊎◌, List, [], false, length, replicate, sum_by, option_map, slice_get, Ok, IfOk, IfErr, IfSome, IfNone, SomeIff, OnOk, OnErr, IsOk, IsTrue, IsErrOf};
 ghost use Rattle.xet_merkle.specs.Groups.{Node};
 ghost use Rattle.xet_merkle.specs.Roots.{total_size, IsRoot, IsFileHash};
 ghost use Rattle.upload_session.specs.Hashes.{Hash, hashes_of};
@@ -39,17 +39,39 @@ impl<C: ChunkRange, H> Model for SessionOf<C, H> {
     ghost view = { λ stored. record { runs = stored.runs; kept = stored.kept; size = stored.size } };
 }
 
+impl<C: ChunkRange<Alloc = Global>, H: KeptHashes<Global>> SessionOf<C, H> {
+    /// A session without chunks, which takes its memory of the global allocator. It takes none yet.
+    ///
+    /// [`SessionOf::new_in`] is the call for other allocators.
+    pub fn new(alloc: Global) -> Self
+        ensures { SessionStands C.stands C.start C.end H.knows result [] }
+    {
+        Self::from_parts(Runs::new(alloc, alloc), H::new(alloc))
+    }
+}
+
 impl<C: ChunkRange, H: KeptHashes<C::Alloc>> SessionOf<C, H> {
-    /// A session without chunks, which takes its memory of `alloc`. It fails where `alloc` can't be cloned.
-    pub fn new(alloc: C::Alloc) -> Result<Self, AllocError>
-        ensures { IfOk result (λ session. SessionStands C.stands C.start C.end H.knows session []) }
+    /// A session without chunks, which takes its memory of `alloc`. It fails where `alloc` can't be cloned, and takes no
+    /// memory but what that takes. At the global allocator, [`SessionOf::new`] has no `Result`.
+    pub fn new_in(alloc: C::Alloc) -> Result<Self, AllocError>
+        ensures empty { IfOk result (λ session. SessionStands C.stands C.start C.end H.knows session []) }
+        ensures succeeds { ((a : C.Alloc) → C.Alloc.is_infallible a) → IsOk result }
     {
         let kept = H::new(alloc.clone()?);
-        Ok(SessionOf {
-            runs: Runs::new(alloc)?,
+        Ok(Self::from_parts(Runs::new(alloc.clone()?, alloc), kept))
+    }
+
+    // A session without chunks of its parts.
+    fn from_parts(runs: Runs<C>, kept: H) -> Self
+        requires none { runs ≡ [] }
+        requires knows { H.knows kept [] }
+        ensures { SessionStands C.stands C.start C.end H.knows result [] }
+    {
+        SessionOf {
+            runs,
             kept,
             size: 0,
-        })
+        }
     }
 
     /// Whether a position is taken. It takes no memory.

@@ -202,7 +202,7 @@ fn root_of_session<H: KeptHashes<Global>>(
     range_len: usize,
     order: &[u64],
 ) -> Result<MerkleHash, SessionFault> {
-    let mut session: SessionOf<MerkleHashSubtree, H> = SessionOf::new(alloc)?;
+    let mut session: SessionOf<MerkleHashSubtree, H> = SessionOf::new(alloc);
     for number in order {
         let first = (*number as usize)
             .saturating_mul(range_len)

@@ -138,5 +138,9 @@ mod split;
 mod stable_points;
 mod subtree;
 
+pub use crate::chunk_range::ChunkRange;
+pub use crate::merge_tree::MergeTree;
+pub use crate::parent_maker::ParentMaker;
+pub use crate::plain_range::PlainRange;
 pub use stable_points::{find_stable_end, find_stable_start};
 pub use subtree::MerkleHashSubtree;
