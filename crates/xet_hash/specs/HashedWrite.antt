@@ -1,5 +1,7 @@
 -- What a writer that hashes has taken, and the writer behind it.
 use Rattle.std.specs.Prelude.{◌≡◌, ℕ, List, [], ◌++◌, take, Result, Ok, Err}
+use Rattle.std.specs.Borrow.{Bor, MutBor}
+use Rattle.std.specs.Fn.{Once}
 use Rattle.xet_hash.specs.Hash.{data_key}
 use Rattle.keyed_blake3.specs.Blake3Hasher.{Holds}
 use Rattle.xet_hash.specs.declared.data_hash.hashed_write.HashedWrite.{HashedWrite}
@@ -24,3 +26,14 @@ pub record HoldsBeginning {W : Type 0} (old new : HashedWrite W) (slice : List �
 abbrev pub taken_bytes : {E : Type 0} → Result ℕ E → List ℕ → List ℕ
 taken_bytes (Ok k) slice = take k slice
 taken_bytes (Err e) slice = []
+
+-- what a call of `call` gave: it had the writer `old` and all of `slice`, answered `answer` and left the writer `new`
+pub record IsOneCall {F W R : Type 0} (g : Once F (MutBor W × (Bor (List ℕ) × Unit {0})) (R × (MutBor W × Unit {0}))) (call : F)
+    (old : W) (slice : List ℕ) (answer : R) (new : W) : Type 0 where
+  pub writer : MutBor W
+  pub was : writer.now ≡ old
+  pub bytes : Bor (List ℕ)
+  pub whole : bytes.now ≡ slice
+  pub left : MutBor W
+  pub met : g.post call (writer, (bytes, tt)) (answer, (left, tt))
+  pub is : left.now ≡ new

@@ -1,11 +1,11 @@
 -- Pairs inserted in turn leave at each key the value of the last pair with that key, and store the key of the first one.
-use Rattle.std.proofs.Common.{◌≡◌, ◌+◌, ◌<◌, ◌≤◌, ℕ, Bool, true, false, List, [], ◌∷◌, ◌++◌, get_or, length, reverse, take, refl, sym, ap, subst, ◌∙◌}
-use Rattle.std.specs.Prelude.{Option, Some, None, cond}
+use Rattle.std.proofs.Common.{◌≡◌, ◌+◌, ◌<◌, ◌≤◌, ℕ, Bool, List, [], ◌∷◌, ◌++◌, get_or, length, take, sym, ap, subst, ◌∙◌}
+use Rattle.std.specs.Prelude.{Some, None, cond}
 use Rattle.std.specs.Cmp.{IsEquivalence}
 use Rattle.std.specs.Map.{lookup}
 use Rattle.std.specs.Option.{option_or}
 use Rattle.std.proofs.lemmas.List.{reverse-append, take_all, take_more}
-use Rattle.passthrough_map.specs.FiniteMap.{key_at, value_at, IsFiniteMap, IsMapOf, IsPut, Puts, Sets}
+use Rattle.passthrough_map.specs.FiniteMap.{value_at, IsFiniteMap, IsMapOf, Puts, Sets}
 use Rattle.passthrough_map.proofs.Map.StoredKeys.{key_at-put, lookup_key-append}
 
 module _ {K V : Type 0} {eq : K → K → Bool} (laws : IsEquivalence eq) where

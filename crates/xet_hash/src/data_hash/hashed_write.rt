@@ -6,7 +6,7 @@ ghost use Rattle.std.specs.Io.KnownBytes.{Appends, Keeps, WriteAppends};
 ghost use Rattle.std.specs.IoError.{error_kind};
 ghost use Rattle.keyed_blake3.specs.Blake3.{keyed_hash};
 ghost use Rattle.xet_hash.specs.Hash.{data_key, hash_of};
-ghost use Rattle.xet_hash.specs.HashedWrite.{inner_writer, taken_bytes, HoldsBeginning, HoldsWritten};
+ghost use Rattle.xet_hash.specs.HashedWrite.{inner_writer, taken_bytes, HoldsBeginning, HoldsWritten, IsOneCall};
 
 use super::{DATA_KEY, DataHash};
 use keyed_blake3::Hasher;
@@ -58,6 +58,34 @@ impl<W: Write> HashedWrite<W> {
         Err(io::Error::from(ErrorKind::Interrupted))
     }
 
+    // Calls `call` once, with the inner writer and all of `slice`, hashes what it took and answers its answer; with no room
+    // for all of `slice` it is not called, and the error is `InvalidInput`.
+    #[tactic(auto, unfolding(crate::specs::HashedWrite::inner_writer))]
+    fn write_by<F: FnOnce(&mut W, &[u8]) -> io::Result<usize> + Drop>(
+        &mut self,
+        slice: &[u8],
+        call: F,
+    ) -> io::Result<usize>
+        requires callable { (w : _) (s : _) → F.pre call w s }
+        requires bounded { (w : _) (s : _) (answer : _) (left : _) → F.post call w s answer left → WritesAtMost answer s.now }
+        requires appends { (w : _) (s : _) (answer : _) (left : _) → F.post call w s answer left →
+            WriteAppends (W.contents w.now) (W.contents left.now) answer s.now }
+        ensures bound { WritesAtMost result slice.now }
+        ensures bytes { WriteAppends (W.contents (inner_writer self.old)) (W.contents (inner_writer self.new)) result slice.now }
+        ensures one_call { (m : List ℕ) → HoldsWritten self.old m → length m + length slice.now < 2 ^ 64 →
+            IsOneCall F.FnOnce call (inner_writer self.old) slice.now result (inner_writer self.new) }
+        ensures message { (m : List ℕ) → HoldsWritten self.old m → HoldsWritten self.new (m ++ taken_bytes result slice.now) }
+        ensures full { (m : List ℕ) → HoldsWritten self.old m → 2 ^ 64 ≤ length m + length slice.now
+            → IsErrAnd result (λ e. error_kind e ≡ ErrorKind.InvalidInput) × (self.new ≡ self.old) }
+    {
+        if !self.hasher.has_room(slice.len()) {
+            return Err(io::Error::from(ErrorKind::InvalidInput));
+        }
+        let taken = call(&mut self.writer, slice)?;
+        self.hasher.update(&slice[..taken]);
+        Ok(taken)
+    }
+
     /// The inner writer, as it stands.
     #[tactic(auto, unfolding(crate::specs::HashedWrite::inner_writer))]
     pub fn into_inner(self) -> W
@@ -82,12 +110,7 @@ impl<W: Write> Write for HashedWrite<W> {
         ensures full { (m : List ℕ) → HoldsWritten self.old m → 2 ^ 64 ≤ length m + length slice.now
             → IsErrAnd result (λ e. error_kind e ≡ ErrorKind.InvalidInput) × (self.new ≡ self.old) }
     {
-        if !self.hasher.has_room(slice.len()) {
-            return Err(io::Error::from(ErrorKind::InvalidInput));
-        }
-        let taken = self.writer.write(slice)?;
-        self.hasher.update(&slice[..taken]);
-        Ok(taken)
+        self.write_by(slice, |writer, slice| writer.write(slice))
     }
 
     /// Hands all of `slice` to the inner writer, in as many calls of `write` as that takes.
