@@ -7,6 +7,10 @@ mod kept_hashes;
 #[cfg(test)]
 mod lines;
 #[cfg(test)]
+mod programs;
+#[cfg(test)]
 mod ranges;
 #[cfg(test)]
 mod sessions;
+#[cfg(test)]
+mod texts;

@@ -9,4 +9,5 @@ mod joined_lines;
 pub mod laws;
 pub mod make;
 mod pair_lines;
+pub mod program;
 mod range_line;

@@ -1,16 +1,12 @@
 //! The program `xetroot`: the root and the file hash of the pairs and chunks in the lines of its standard input.
 #![tactic(auto)]
 
+use std::env;
 use std::process::ExitCode;
-use xet_lines::run::run;
+use xet_lines::program::program;
 
 fn main(rt: HostRuntime) -> ExitCode {
-    match run(rt.alloc(), &mut rt.stdin(), &mut rt.stdout()) {
-        Ok(()) => ExitCode::SUCCESS,
-        Err(fault) => {
-            // Where the fault can't be printed, the status still tells it.
-            let _ = eprintln!(rt; "{fault}");
-            ExitCode::from(fault.status())
-        }
-    }
+    let args = env::args(&rt);
+    let (r, w, errors) = (&mut rt.stdin(), &mut rt.stdout(), &mut rt.stderr());
+    ExitCode::from(program(rt.alloc(), args, r, w, errors))
 }

@@ -1,0 +1,163 @@
+//! Runs of both programs over arguments and devices: the status, and the text on each stream.
+
+use super::texts::with_hashes;
+use refusing_allocator::RefusingAllocator;
+use std::alloc::Global;
+use std::env::Args;
+use std::io::{self, ErrorKind, Read, Write};
+use std::test::Fail;
+
+// The words of a command, what fails in the run, standard input, the status, standard output and standard error. A newline
+// is written `;`.
+const RUNS: &str = r#"xetroot|nothing|h1 100|0|xorb h1;file 8e16257caa3fe079d484d872a8975264b2ff683b0d6db9028cc7c0f968a45661;|
+xetroot|nothing|zz|1||xetroot: fault 1 at line 1;
+xetroot|nothing|h1 18446744073709551615;h2 1|2||xetroot: fault 2 at line 2;
+xetroot|memory|h1 100|3||xetroot: fault 3;
+xetroot|list of arguments|h1 100|3||xetroot: fault 3;
+xetroot|input|h1 100|4||xetroot: fault 4;
+xetroot|output|h1 100|5||xetroot: fault 5;
+xetroot|nothing|h1 100;@0;h2 200|6||xetroot: fault 6 at line 3;
+xetroot|nothing|@1;h1 100|7||xetroot: fault 7;
+xetroot|errors|zz|1||
+xetroot root|nothing|h1 100|64||xetroot: expected no argument, --help or --version;
+xetroot |nothing|h1 100|64||xetroot: expected no argument, --help or --version;
+xetroot --help --help|nothing|h1 100|64||xetroot: expected no argument, --help or --version;
+xetroot|text of arguments|h1 100|64||xetroot: expected no argument, --help or --version;
+xetroot --version|nothing|zz|0|xetroot 1.5.2;|
+xetroot --version|output|zz|5||xetroot: fault 5;
+xetrange make|nothing|h1 100|0|{"at_end":false,"at_start":false,"levels":[[1,0]],"nodes":[{"hash":"h1","size":100}]};|
+xetrange join|nothing||0|{"at_end":false,"at_start":false,"levels":[[0,0]],"nodes":[]};|
+xetrange root|nothing|{"at_end":false,"at_start":false,"levels":[[1,0]],"nodes":[{"hash":"h1","size":100}]}|0|xorb h1;file 8e16257caa3fe079d484d872a8975264b2ff683b0d6db9028cc7c0f968a45661;|
+xetrange make|nothing|@0|1||xetrange: fault 1 at line 1;
+xetrange make|nothing|h1 18446744073709551615;h2 1|2||xetrange: fault 2 at line 2;
+xetrange make|memory|h1 100|3||xetrange: fault 3;
+xetrange join|memory|{}|3||xetrange: fault 3;
+xetrange root|list of arguments||3||xetrange: fault 3;
+xetrange make|input|h1 100|4||xetrange: fault 4;
+xetrange join|input||4||xetrange: fault 4;
+xetrange root|input||4||xetrange: fault 4;
+xetrange make|output|h1 100|5||xetrange: fault 5;
+xetrange join|output||5||xetrange: fault 5;
+xetrange root|output||5||xetrange: fault 5;
+xetrange join|nothing|{}|8||xetrange: fault 8 at line 1: rule 2;
+xetrange root|nothing|zz|8||xetrange: fault 8 at line 1;
+xetrange root|errors|zz|8||
+xetrange|nothing||64||xetrange: expected make, join, root, --help or --version;
+xetrange |nothing||64||xetrange: expected make, join, root, --help or --version;
+xetrange unmake|nothing||64||xetrange: expected make, join, root, --help or --version;
+xetrange make join|nothing||64||xetrange: expected make, join, root, --help or --version;
+xetrange make|text of arguments||64||xetrange: expected make, join, root, --help or --version;
+xetrange --version|nothing|zz|0|xetrange 1.5.2;|
+xetrange --help|output|zz|5||xetrange: fault 5;"#;
+
+// A reader of a text that gives it or fails.
+#[derive(Drop)]
+struct Input<'a> {
+    text: &'a [u8],
+    fails: bool,
+}
+
+impl Read for Input<'_> {
+    fn read(&mut self, buf: &mut [u8]) -> io::Result<usize> {
+        if self.fails {
+            return Err(io::Error::from(ErrorKind::Other));
+        }
+        self.text.read(buf)
+    }
+}
+
+// A writer that keeps what it is given or fails.
+#[derive(Drop)]
+struct Output {
+    bytes: Vec<u8>,
+    fails: bool,
+}
+
+impl Write for Output {
+    fn write(&mut self, buf: &[u8]) -> io::Result<usize> {
+        if self.fails {
+            return Err(io::Error::from(ErrorKind::Other));
+        }
+        self.bytes.write(buf)
+    }
+
+    fn flush(&mut self) -> io::Result<()> {
+        Ok(())
+    }
+}
+
+// What the runtime answers of the words of a command.
+fn arguments(alloc: Global, command: &str, failing: &str) -> Result<io::Result<Args>, Fail> {
+    if failing == "list of arguments" {
+        return Ok(Err(io::Error::from(ErrorKind::OutOfMemory)));
+    }
+    if failing == "text of arguments" {
+        return Ok(Err(io::Error::from(ErrorKind::InvalidData)));
+    }
+    let mut words = Vec::new(alloc);
+    for word in command.split(' ') {
+        words.push(String::from_str(alloc, word)?)?;
+    }
+    Ok(Ok(words.into_iter()))
+}
+
+// The status of a run, and what it wrote to standard output and standard error, as a row of `RUNS` has them.
+fn outcome(alloc: Global, command: &str, failing: &str, input: &str) -> Result<String, Fail> {
+    let granted = if failing == "memory" { 0 } else { u32::MAX };
+    let refusing: RefusingAllocator<Global> = RefusingAllocator::new(alloc, granted);
+    let args = arguments(alloc, command, failing)?;
+    let text = input.replace(alloc, ";", "\n")?;
+    let mut r = Input {
+        text: text.as_bytes(),
+        fails: failing == "input",
+    };
+    let mut w = Output {
+        bytes: Vec::new(alloc),
+        fails: failing == "output",
+    };
+    let mut errors = Output {
+        bytes: Vec::new(alloc),
+        fails: failing == "errors",
+    };
+    let status = if command.starts_with("xetroot") {
+        xet_lines::program::program(&refusing, args, &mut r, &mut w, &mut errors)
+    } else {
+        range_lines::program::program(&refusing, alloc, args, &mut r, &mut w, &mut errors)
+    };
+    let (Output { bytes, .. }, Output { bytes: lines, .. }) = (w, errors);
+    let (output, printed) = (String::from_utf8(bytes)?, String::from_utf8(lines)?);
+    let row = format!(in alloc; "{status}|{output}|{printed}")?;
+    Ok(row.as_str().replace(alloc, "\n", ";")?)
+}
+
+#[test]
+fn runs_end_with_their_status_and_write_to_their_stream(rt: HostRuntime) -> Result<(), Fail> {
+    for run in with_hashes(rt.alloc(), RUNS)?.as_str().lines() {
+        let mut fields = run.splitn(4, '|');
+        let (Some(command), Some(failing), Some(input), Some(expected)) =
+            (fields.next(), fields.next(), fields.next(), fields.next())
+        else {
+            return Err("a row without its fields")?;
+        };
+        let found = outcome(rt.alloc(), command, failing, input)?;
+        assert_eq!(rt; found.as_str(), expected, "{command}, {failing}, {input}");
+    }
+    Ok(())
+}
+
+#[test]
+fn help_goes_to_standard_output(rt: HostRuntime) -> Result<(), Fail> {
+    for (command, start) in [
+        ("xetroot -h", "0|Usage: xetroot;"),
+        ("xetroot --help", "0|Usage: xetroot;"),
+        ("xetrange -h", "0|Usage: xetrange make|join|root;"),
+        ("xetrange --help", "0|Usage: xetrange make|join|root;"),
+    ] {
+        let found = outcome(rt.alloc(), command, "nothing", "zz")?;
+        assert!(rt;
+            found.as_str().starts_with(start) && found.as_str().ends_with(";|"),
+            "{command}"
+        );
+    }
+    Ok(())
+}
