@@ -3,9 +3,13 @@
 #![tactic(auto)]
 
 #[cfg(test)]
+mod devices;
+#[cfg(test)]
 mod kept_hashes;
 #[cfg(test)]
 mod lines;
+#[cfg(test)]
+mod memory;
 #[cfg(test)]
 mod programs;
 #[cfg(test)]

@@ -1,8 +1,8 @@
 //! What the program answers to whole inputs, and what it prints of faults.
 
-mod devices;
 mod no_memory;
 
+use super::texts::{H1, H2, H3, NO_PAIR, THREE_PAIRS, with_hashes};
 use std::alloc::Global;
 use std::io::{Read, Write};
 use std::ops::Range;
@@ -12,22 +12,14 @@ use xet_lines::fault::Fault;
 use xet_lines::run::{run, run_with};
 use xet_merkle::plain_range::PlainRange;
 
-const H1: &str = "cfc5d07f6f03c29bbf424132963fe08d19a37d5757aaf520bf08119f05cd56d6";
-
-const H2: &str = "c3e67584b5c4fc2a89837ec39e40f2c8a6bb0b2987ac94cd4b31e5fbdd210a72";
-
-const H3: &str = "0d2beb91b9196929a5ddec9f6e306924ddf4a24268e3e59fd8464738d525af37";
-
-const NO_PAIR: &str = "xorb 0000000000000000000000000000000000000000000000000000000000000000
-file 0000000000000000000000000000000000000000000000000000000000000000
-";
-
 const ONE_PAIR: &str = "xorb cfc5d07f6f03c29bbf424132963fe08d19a37d5757aaf520bf08119f05cd56d6
 file 8e16257caa3fe079d484d872a8975264b2ff683b0d6db9028cc7c0f968a45661
 ";
 
-const THREE_PAIRS: &str = "xorb 71ec1275fca074724e2dd666921b3277c7cee603e4d025bcab2d4050015be2bc
-file 54e55dccc6653c612bdb5576c5d3cb34bb31bc4e100248abccf4c908b3ef7715
+// Of h1 100, four times.
+const FOUR_EQUAL_PAIRS: &str =
+    "xorb 89f2ada89ff8c96763c6b25010e6dd76a4c05b1466207633ea559acf2093211b
+file 2cdba690d0e09563596e0cda626d43eb4c96ef1e994fe72d9b2f5a83cfcd36dd
 ";
 
 // Of h1 100, h2 200, h1 100, h2 200.
@@ -74,13 +66,6 @@ fn answers(alloc: Global, input: &[u8], want: Result<&str, Fault>) -> bool {
     true
 }
 
-// Lines in which h1, h2 and h3 stand for the hashes of these names.
-fn with_hashes(alloc: Global, lines: &str) -> Result<String, Fail> {
-    let first = lines.replace(alloc, "h1", H1)?;
-    let second = first.as_str().replace(alloc, "h2", H2)?;
-    Ok(second.as_str().replace(alloc, "h3", H3)?)
-}
-
 #[test]
 fn answers_pairs_in_lines(rt: HostRuntime) -> Result<(), Fail> {
     let upper = with_hashes(rt.alloc(), "h1 100")?
@@ -91,6 +76,8 @@ fn answers_pairs_in_lines(rt: HostRuntime) -> Result<(), Fail> {
         ("", NO_PAIR),
         ("--", NO_PAIR),
         ("h1 100", ONE_PAIR),
+        ("h1 100\nh1 100\nh1 100\nh1 100", FOUR_EQUAL_PAIRS),
+        ("h1 100\nh2 200\nh1 100\nh2 200", TWO_PAIRS_TWICE),
         ("h1 100\nh2 200\nh3 300\n", THREE_PAIRS),
         ("--\n--\nh1 100\n--\nh2 200\nh3 300\n--", THREE_PAIRS),
     ] {
@@ -158,9 +145,9 @@ fn separators_change_nothing(rt: HostRuntime) -> Result<(), Fail> {
     Ok(())
 }
 
-// Of 9000 pairs of size 1, whose hashes have the words i, 0, 0 and i modulo 4.
-const MANY_PAIRS: &str = "xorb 1fa8c4f5d2b1ecb1ed7ec711894bcfaaa0c225182391131bc4f8c2b740f58ac0
-file 05fe8458ce220b994314c014b404ea97b6b86ef0ed06b74ab4c4b60cf2bc1beb
+// Of 20,000 pairs of size 1, whose hashes have the words i, 0, 0 and i modulo 4.
+const MANY_PAIRS: &str = "xorb 951ddfa7a459b95ea55bb6cf4cc2d4329fd1b2520abe09727bf118a687459d2c
+file c5b91c43e27f1d0785ce40a29b7baee822db7f5136611cbc2eaf04a3ac6d4004
 ";
 
 // The lines of those of them whose numbers are from one to below another.
@@ -175,12 +162,12 @@ fn push_lines(lines: &mut String, numbers: Range<u64>) -> Result<(), Fail> {
 #[test]
 fn long_ranges_are_answered_as_a_whole(rt: HostRuntime) -> Result<(), Fail> {
     let mut in_order = String::new(rt.alloc());
-    push_lines(&mut in_order, 0..9000)?;
+    push_lines(&mut in_order, 0..20000)?;
     let mut in_reverse = String::new(rt.alloc());
-    writeln!(in_reverse, "@4500")?;
-    push_lines(&mut in_reverse, 4500..9000)?;
+    writeln!(in_reverse, "@10000")?;
+    push_lines(&mut in_reverse, 4500..20000)?;
     writeln!(in_reverse, "@0")?;
-    push_lines(&mut in_reverse, 0..4500)?;
+    push_lines(&mut in_reverse, 0..10000)?;
     for input in [in_order, in_reverse] {
         assert!(rt; answers(rt.alloc(), input.as_bytes(), Ok(MANY_PAIRS)));
     }
@@ -200,15 +187,15 @@ const PAIR_AND_CHUNKS: &str = "xorb 859115aa66e63b78efe686437a7cdda2aec8e69a7326
 file 5ca6e50a28a8d975b146c9925696bf176766a6661f828c4108bcf4f2a8dac543
 ";
 
-// Of 200000 times the letter a.
-const LONG_CHUNK: &str = "xorb 22b4a2f49d46c6fc515ae744088b4eae05b0d117f224dd1ac51350457433b5f3
-file ef4601d711ad197f16f928aa87efcedee8a7c35df45ad740918127e2561559da
+// Of a million times the letter a.
+const LONG_CHUNK: &str = "xorb 9af74aa9a252880f8c22ca2ff1e11bef7b2e4b90a350fe7ee0bb08f5725bdbf6
+file f51f13f534f02922122f84c1c3cb040392afd49ff95185d599d31942e1fcc597
 ";
 
 #[test]
 fn answers_chunks_in_lines(rt: HostRuntime) -> Result<(), Fail> {
     let mixed = format!(in rt.alloc(); "{H1} 100\n+\n--\n++a\0\r\n+--\n")?;
-    let mut long = vec![in rt.alloc(); b'a'; 200_001]?;
+    let mut long = vec![in rt.alloc(); b'a'; 1_000_001]?;
     if let Some(first) = long.first_mut() {
         *first = b'+';
     }

@@ -9,7 +9,8 @@ use std::test::Fail;
 
 // The words of a command, what fails in the run, standard input, the status, standard output and standard error. A newline
 // is written `;`.
-const RUNS: &str = r#"xetroot|nothing|h1 100|0|xorb h1;file 8e16257caa3fe079d484d872a8975264b2ff683b0d6db9028cc7c0f968a45661;|
+const RUNS: &str =
+    r#"xetroot|nothing|h1 100|0|xorb h1;file 8e16257caa3fe079d484d872a8975264b2ff683b0d6db9028cc7c0f968a45661;|
 xetroot|nothing|zz|1||xetroot: fault 1 at line 1;
 xetroot|nothing|h1 18446744073709551615;h2 1|2||xetroot: fault 2 at line 2;
 xetroot|memory|h1 100|3||xetroot: fault 3;
@@ -134,9 +135,12 @@ fn outcome(alloc: Global, command: &str, failing: &str, input: &str) -> Result<S
 fn runs_end_with_their_status_and_write_to_their_stream(rt: HostRuntime) -> Result<(), Fail> {
     for run in with_hashes(rt.alloc(), RUNS)?.as_str().lines() {
         let mut fields = run.splitn(4, '|');
-        let (Some(command), Some(failing), Some(input), Some(expected)) =
-            (fields.next(), fields.next(), fields.next(), fields.next())
-        else {
+        let (Some(command), Some(failing), Some(input), Some(expected)) = (
+            fields.next(),
+            fields.next(),
+            fields.next(),
+            fields.next(),
+        ) else {
             return Err("a row without its fields")?;
         };
         let found = outcome(rt.alloc(), command, failing, input)?;

@@ -1,7 +1,8 @@
 //! The program's work with an allocator that refuses a request and each later one: the first, then the second, and so on,
 //! until no more are made. All memory is taken before the first write.
 
-use super::{ABC, H1, H2, H3, KINDS, Kind, THREE_PAIRS};
+use super::{ABC, KINDS, Kind};
+use crate::texts::{H1, H2, H3, THREE_PAIRS};
 use refusing_allocator::RefusingAllocator;
 use std::alloc::Global;
 use std::io::{self, Write};

@@ -1,0 +1,433 @@
+//! Devices that fail, that are interrupted, and that give or take little, at each call that reads lines.
+
+use super::texts::{NO_CHUNK, with_hashes};
+use range_lines::join::{join, root};
+use range_lines::make::make;
+use std::alloc::Global;
+use std::io::{self, ErrorKind, Read, Write};
+use std::test::Fail;
+use xet_lines::run::{run, run_with};
+use xet_merkle::plain_range::PlainRange;
+
+// A call that reads lines.
+#[derive(Clone, Copy, Debug)]
+enum Call {
+    Run,
+    RunOverPlainRanges,
+    Make,
+    Join,
+    Root,
+}
+
+const CALLS: [Call; 5] = [
+    Call::Run,
+    Call::RunOverPlainRanges,
+    Call::Make,
+    Call::Join,
+    Call::Root,
+];
+
+// A line that the call takes.
+fn line_of(call: Call) -> &'static str {
+    match call {
+        Call::Run | Call::RunOverPlainRanges | Call::Make => {
+            "+a chunk of more bytes than the forty that two reads give"
+        }
+        Call::Join | Call::Root => NO_CHUNK,
+    }
+}
+
+// The status of a call's fault, or 0.
+fn status<R: Read, W: Write>(alloc: Global, call: Call, r: &mut R, w: &mut W) -> u8 {
+    let result = match call {
+        Call::Run => run(alloc, r, w).map_err(|fault| fault.status()),
+        Call::RunOverPlainRanges => {
+            run_with::<PlainRange, _, _>(alloc, r, w).map_err(|fault| fault.status())
+        }
+        Call::Make => make(alloc, alloc, r, w).map_err(|fault| fault.status()),
+        Call::Join => join(alloc, alloc, r, w).map_err(|fault| fault.status()),
+        Call::Root => root(alloc, alloc, r, w).map_err(|fault| fault.status()),
+    };
+    result.err().unwrap_or(0)
+}
+
+// How the calls of a device go. Each is for at most so many bytes, and is interrupted so often before it is done. The call
+// of one number, from 1, goes otherwise so often before: it fails, or nothing is given or taken.
+#[derive(Clone, Copy, Debug)]
+struct Manner {
+    most: usize,
+    interruptions: u32,
+    odd_call: u32,
+    odd_times: u32,
+    odd_kind: Option<ErrorKind>,
+}
+
+const EVEN: Manner = Manner {
+    most: 20,
+    interruptions: 0,
+    odd_call: 0,
+    odd_times: 0,
+    odd_kind: None,
+};
+
+const SLOW: Manner = Manner {
+    most: 1,
+    interruptions: 16,
+    odd_call: 0,
+    odd_times: 0,
+    odd_kind: None,
+};
+
+fn odd(odd_call: u32, odd_times: u32, odd_kind: Option<ErrorKind>) -> Manner {
+    Manner {
+        most: 20,
+        interruptions: 0,
+        odd_call,
+        odd_times,
+        odd_kind,
+    }
+}
+
+// A device, the number of its calls, and of those that were done; and how often the open one went wrong.
+#[derive(Clone, Copy)]
+struct Device {
+    manner: Manner,
+    calls: u32,
+    done: u32,
+    wrong: u32,
+}
+
+impl Device {
+    fn new(manner: Manner) -> Self {
+        Device {
+            manner,
+            calls: 0,
+            done: 0,
+            wrong: 0,
+        }
+    }
+
+    // The most bytes that the next call is for.
+    fn call(&mut self) -> io::Result<usize> {
+        let manner = self.manner;
+        let is_odd = self.done.saturating_add(1) == manner.odd_call;
+        let times = if is_odd {
+            manner.odd_times
+        } else {
+            manner.interruptions
+        };
+        self.calls = self.calls.saturating_add(1);
+        if self.wrong >= times {
+            self.done = self.done.saturating_add(1);
+            self.wrong = 0;
+            return Ok(manner.most);
+        }
+        self.wrong = self.wrong.saturating_add(1);
+        if !is_odd {
+            return Err(io::Error::from(ErrorKind::Interrupted));
+        }
+        match manner.odd_kind {
+            Some(kind) => Err(io::Error::from(kind)),
+            None => Ok(0),
+        }
+    }
+}
+
+// A reader of a text, and the most bytes that it was asked for.
+#[derive(Drop)]
+struct Input<'a> {
+    text: &'a [u8],
+    device: Device,
+    largest: usize,
+}
+
+impl Read for Input<'_> {
+    fn read(&mut self, buf: &mut [u8]) -> io::Result<usize> {
+        self.largest = self.largest.max(buf.len());
+        let most = self.device.call()?;
+        let len = self.text.len().min(buf.len()).min(most);
+        let (front, rest) = self.text.split_at(len);
+        buf[..len].copy_from_slice(front);
+        self.text = rest;
+        Ok(len)
+    }
+}
+
+// A writer that keeps what it takes.
+#[derive(Drop)]
+struct Output {
+    bytes: Vec<u8>,
+    device: Device,
+    flush: Device,
+}
+
+impl Write for Output {
+    fn write(&mut self, buf: &[u8]) -> io::Result<usize> {
+        let len = self.device.call()?.min(buf.len());
+        self.bytes.extend_from_slice(&buf[..len])?;
+        Ok(len)
+    }
+
+    fn flush(&mut self) -> io::Result<()> {
+        let _most = self.flush.call()?;
+        Ok(())
+    }
+}
+
+// How the reads, the writes and the flush of a run go.
+#[derive(Clone, Copy, Debug)]
+struct Manners {
+    read: Manner,
+    write: Manner,
+    flush: Manner,
+}
+
+const ALL_EVEN: Manners = Manners {
+    read: EVEN,
+    write: EVEN,
+    flush: EVEN,
+};
+
+const ALL_SLOW: Manners = Manners {
+    read: SLOW,
+    write: SLOW,
+    flush: SLOW,
+};
+
+// What a run did: its status, the numbers of its reads, writes and flushes, the most bytes that were read at once, and what
+// it wrote.
+#[derive(Drop)]
+struct Outcome {
+    status: u8,
+    calls: (u32, u32, u32),
+    largest: usize,
+    written: Vec<u8>,
+}
+
+fn outcome_of(alloc: Global, call: Call, text: &[u8], manners: Manners) -> Outcome {
+    let mut r = Input {
+        text,
+        device: Device::new(manners.read),
+        largest: 0,
+    };
+    let mut w = Output {
+        bytes: Vec::new(alloc),
+        device: Device::new(manners.write),
+        flush: Device::new(manners.flush),
+    };
+    let status = status(alloc, call, &mut r, &mut w);
+    let Output {
+        bytes,
+        device,
+        flush,
+    } = w;
+    Outcome {
+        status,
+        calls: (r.device.calls, device.calls, flush.calls),
+        largest: r.largest,
+        written: bytes,
+    }
+}
+
+// The place of a device in a run.
+#[derive(Clone, Copy, Debug)]
+enum Place {
+    Read,
+    Write,
+    Flush,
+}
+
+// Calls that go wrong, by their number. The run has more reads and writes than three, and one flush.
+const PLACES: [(Place, u32); 5] = [
+    (Place::Read, 1),
+    (Place::Read, 3),
+    (Place::Write, 1),
+    (Place::Write, 3),
+    (Place::Flush, 1),
+];
+
+// The manners of a run where one place has this.
+fn manners_with(place: Place, manner: Manner) -> Manners {
+    let mut manners = ALL_EVEN;
+    match place {
+        Place::Read => manners.read = manner,
+        Place::Write => manners.write = manner,
+        Place::Flush => manners.flush = manner,
+    }
+    manners
+}
+
+// Whether a run without a fault goes like an even one, but for so many more calls at a place.
+fn is_borne(even: &Outcome, late: &Outcome, place: Place, times: u32) -> bool {
+    let (mut reads, mut writes, mut flushes) = even.calls;
+    match place {
+        Place::Read => reads = reads.saturating_add(times),
+        Place::Write => writes = writes.saturating_add(times),
+        Place::Flush => flushes = flushes.saturating_add(times),
+    }
+    late.status == 0 && late.calls == (reads, writes, flushes) && late.written == even.written
+}
+
+// Whether a run has the fault of a place, at which the calls before the odd one were done, and which makes no call after it.
+fn is_fault(even: &Outcome, failed: &Outcome, place: Place, manner: Manner) -> bool {
+    let done = manner.odd_call.saturating_sub(1);
+    let calls = done.saturating_add(manner.odd_times);
+    let (reads, writes, _) = even.calls;
+    let (status, expected, len) = match place {
+        Place::Read => (4, (calls, 0, 0), 0),
+        Place::Write => (
+            5,
+            (reads, calls, 0),
+            manner.most.saturating_mul(done as usize),
+        ),
+        Place::Flush => (5, (reads, writes, calls), even.written.len()),
+    };
+    failed.status == status
+        && failed.calls == expected
+        && failed.written.len() == len
+        && even.written.starts_with(&failed.written)
+}
+
+#[test]
+fn each_call_is_made_once_and_repeated_sixteen_times_where_it_is_interrupted(rt: HostRuntime) {
+    let interrupted = Some(ErrorKind::Interrupted);
+    for call in CALLS {
+        let text = line_of(call).as_bytes();
+        let even = outcome_of(rt.alloc(), call, text, ALL_EVEN);
+        // The last read finds the end.
+        let reads = (text.len().div_ceil(20) as u32).saturating_add(1);
+        let writes = even.written.len().div_ceil(20) as u32;
+        assert_eq!(rt; even.status, 0, "{call:?}");
+        assert_eq!(rt; even.calls, (reads, writes, 1), "{call:?}");
+        assert_eq!(rt; even.largest, 65536, "{call:?}");
+        for (place, odd_call) in PLACES {
+            for times in [1, 15, 16] {
+                let manners = manners_with(place, odd(odd_call, times, interrupted));
+                let late = outcome_of(rt.alloc(), call, text, manners);
+                assert!(rt;
+                    is_borne(&even, &late, place, times),
+                    "{call:?} {place:?} {times}"
+                );
+            }
+            let manner = odd(odd_call, 17, interrupted);
+            let failed = outcome_of(rt.alloc(), call, text, manners_with(place, manner));
+            assert!(rt;
+                is_fault(&even, &failed, place, manner),
+                "{call:?} {place:?}"
+            );
+        }
+        let slow = outcome_of(rt.alloc(), call, text, ALL_SLOW);
+        assert!(rt;
+            slow.status == 0 && slow.written == even.written,
+            "{call:?}"
+        );
+    }
+}
+
+// Kinds of errors that end a run at once.
+const LASTING: [ErrorKind; 11] = [
+    ErrorKind::Other,
+    ErrorKind::WouldBlock,
+    ErrorKind::TimedOut,
+    ErrorKind::UnexpectedEof,
+    ErrorKind::BrokenPipe,
+    ErrorKind::ConnectionReset,
+    ErrorKind::InvalidInput,
+    ErrorKind::InvalidData,
+    ErrorKind::WriteZero,
+    ErrorKind::OutOfMemory,
+    ErrorKind::StorageFull,
+];
+
+#[test]
+fn no_call_follows_an_error_that_lasts_or_a_write_that_takes_nothing(rt: HostRuntime) {
+    for call in CALLS {
+        let text = line_of(call).as_bytes();
+        let even = outcome_of(rt.alloc(), call, text, ALL_EVEN);
+        for (place, odd_call) in PLACES {
+            for kind in LASTING {
+                let manner = odd(odd_call, 1, Some(kind));
+                let failed = outcome_of(rt.alloc(), call, text, manners_with(place, manner));
+                assert!(rt;
+                    is_fault(&even, &failed, place, manner),
+                    "{call:?} {place:?} {kind:?}"
+                );
+            }
+        }
+        for odd_call in [1, 3] {
+            let manner = odd(odd_call, 1, None);
+            let failed = outcome_of(rt.alloc(), call, text, manners_with(Place::Write, manner));
+            assert!(rt;
+                is_fault(&even, &failed, Place::Write, manner),
+                "{call:?} {odd_call}"
+            );
+        }
+    }
+}
+
+#[test]
+fn a_failed_write_leaves_a_beginning(rt: HostRuntime) {
+    for call in CALLS {
+        let text = line_of(call).as_bytes();
+        let mut manners = manners_with(Place::Write, SLOW);
+        let even = outcome_of(rt.alloc(), call, text, manners);
+        for odd_call in 1..=even.written.len() as u32 {
+            manners.write.odd_call = odd_call;
+            manners.write.odd_times = 17;
+            let failed = outcome_of(rt.alloc(), call, text, manners);
+            let done = odd_call as usize - 1;
+            assert!(rt;
+                failed.status == 5 && failed.written.len() == done,
+                "{call:?} {done}"
+            );
+            assert!(rt;
+                even.written.starts_with(&failed.written),
+                "{call:?} {done}"
+            );
+        }
+    }
+}
+
+#[test]
+fn the_first_end_of_the_input_is_its_end(rt: HostRuntime) -> Result<(), Fail> {
+    for call in CALLS {
+        let line = line_of(call);
+        let lines = format!(in rt.alloc(); "{line}\n{line}\n{line}\n")?;
+        let mut manner = odd(2, 1, None);
+        manner.most = line.len().saturating_add(1);
+        let manners = manners_with(Place::Read, manner);
+        let ended = outcome_of(rt.alloc(), call, lines.as_bytes(), manners);
+        let single = outcome_of(rt.alloc(), call, line.as_bytes(), ALL_EVEN);
+        assert_eq!(rt; ended.status, 0, "{call:?}");
+        assert_eq!(rt; ended.calls.0, 2, "{call:?}");
+        assert!(rt; ended.written == single.written, "{call:?}");
+    }
+    Ok(())
+}
+
+#[test]
+fn a_failed_read_is_a_fault_unless_a_line_before_it_is_faulty(rt: HostRuntime) -> Result<(), Fail> {
+    let mut read = odd(1, 1, Some(ErrorKind::Other));
+    read.most = usize::MAX;
+    for (lines, status) in [
+        ("", 4),
+        ("zz\n", 1),
+        ("zz", 4),
+        ("h1 100\n", 4),
+        ("h1 100\n--\n!", 4),
+        ("h1 100\n!\n--", 1),
+        ("h1 100\n@0\nh2 200\n", 6),
+        ("@1\nh1 100\n", 4),
+    ] {
+        let input = with_hashes(rt.alloc(), lines)?;
+        // All lines come with one read.
+        read.odd_call = if lines.is_empty() { 1 } else { 2 };
+        let manners = manners_with(Place::Read, read);
+        for call in [Call::Run, Call::RunOverPlainRanges] {
+            let failed = outcome_of(rt.alloc(), call, input.as_bytes(), manners);
+            assert_eq!(rt; failed.status, status, "{call:?} {lines}");
+            assert!(rt; failed.written.is_empty(), "{call:?} {lines}");
+        }
+    }
+    Ok(())
+}
