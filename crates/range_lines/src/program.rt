@@ -78,18 +78,18 @@ fn perform<R: Read, W: Write>(
     ensures unwritten { IfSome result (λ done. IfErr done (λ fault. fault ≢ RangeFault.Write →
         Keeps (W.contents w.old) (W.contents w.new))) }
 {
-    Some(match Request::read(args) {
+    match Request::read(args) {
         Ok(Request::Word(word)) => match word.as_str() {
-            "make" => make(alloc, json, r, w),
-            "join" => join(alloc, json, r, w),
-            "root" => root(alloc, json, r, w),
-            _ => return None,
+            "make" => Some(make(alloc, json, r, w)),
+            "join" => Some(join(alloc, json, r, w)),
+            "root" => Some(root(alloc, json, r, w)),
+            _ => None,
         },
-        Ok(Request::Help) => write_text(w, HELP),
-        Ok(Request::Version) => write_text(w, VERSION),
-        Ok(Request::Nothing | Request::Unknown) => return None,
-        Err(_) => Err(RangeFault::Memory),
-    })
+        Ok(Request::Help) => Some(write_text(w, HELP)),
+        Ok(Request::Version) => Some(write_text(w, VERSION)),
+        Ok(Request::Nothing | Request::Unknown) => None,
+        Err(_) => Some(Err(RangeFault::Memory)),
+    }
 }
 
 fn write_text<W: Write>(w: &mut W, text: &str) -> Result<(), RangeFault>

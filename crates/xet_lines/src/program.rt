@@ -1,6 +1,6 @@
 //! The program `xetroot` over its arguments and devices.
 
-ghost use Rattle.std.specs.Prelude.{◌≡◌, ◌≢◌, ◌≤◌, ◌++◌, List, ℕ, IfOk, IfErr, IfSome};
+ghost use Rattle.std.specs.Prelude.{◌≡◌, ◌≢◌, ◌≤◌, ◌++◌, List, ℕ, IfErr, IfNone, IfSome, IsOkAnd, OnOk};
 ghost use Rattle.std.specs.Io.KnownBytes.{Appends, Keeps};
 ghost use Rattle.std.specs.Vec.Iter.{into_iter_len};
 ghost use Rattle.xet_lines.specs.Answer.{IsAnswer, IsFaultOf};
@@ -46,22 +46,17 @@ pub fn program<R: Read, W: Write, E: Write>(
     w: &mut W,
     errors: &mut E,
 ) -> u8
-    ensures answer { IfOk args (λ args. into_iter_len args ≤ 1 → result ≡ 0 → IfSome (R.remaining r.old) (λ text.
-        (output : List ℕ) × IsAnswer text output × Appends (W.contents w.old) (W.contents w.new) output)) }
+    // With no argument, what was written is the answer to the whole input.
+    ensures answer { IsOkAnd args (λ args. into_iter_len args ≤ 1) → result ≡ 0 → IfSome (R.remaining r.old) (λ text.
+        (output : List ℕ) × IsAnswer text output × Appends (W.contents w.old) (W.contents w.new) output) }
     ensures fault { result ≢ 0 → result ≢ WRONG_ARGUMENT → IfSome (R.remaining r.old) (λ text.
         (fault : Fault) × (result ≡ status_of fault) × IsFaultOf text fault) }
     ensures unwritten { result ≢ 0 → result ≢ 5 → Keeps (W.contents w.old) (W.contents w.new) }
     ensures silent { result ≡ 0 → Keeps (E.contents errors.old) (E.contents errors.new) }
 {
-    let result = match Request::read(args) {
-        Ok(Request::Nothing) => run(alloc, r, w),
-        Ok(Request::Help) => write_text(w, HELP),
-        Ok(Request::Version) => write_text(w, VERSION),
-        Ok(Request::Word(_) | Request::Unknown) => {
-            print_line(errors, "xetroot: expected no argument, --help or --version");
-            return WRONG_ARGUMENT;
-        }
-        Err(_) => Err(Fault::Memory),
+    let Some(result) = perform(alloc, args, r, w) else {
+        print_line(errors, "xetroot: expected no argument, --help or --version");
+        return WRONG_ARGUMENT;
     };
     match result {
         Ok(()) => 0,
@@ -69,6 +64,31 @@ pub fn program<R: Read, W: Write, E: Write>(
             print_line(errors, fault);
             fault.status()
         }
+    }
+}
+
+// Does what the arguments ask for. None where they are wrong.
+fn perform<R: Read, W: Write>(
+    alloc: impl Allocator,
+    args: io::Result<Args>,
+    r: &mut R,
+    w: &mut W,
+) -> Option<Result<(), Fault>>
+    ensures answer { IsOkAnd args (λ args. into_iter_len args ≤ 1) → IfSome result (λ done. OnOk done (
+        IfSome (R.remaining r.old) (λ text.
+        (output : List ℕ) × IsAnswer text output × Appends (W.contents w.old) (W.contents w.new) output))) }
+    ensures fault { IfSome result (λ done. IfErr done (λ fault.
+        IfSome (R.remaining r.old) (λ text. IsFaultOf text fault))) }
+    ensures unwritten { IfSome result (λ done. IfErr done (λ fault. fault ≢ Fault.Write →
+        Keeps (W.contents w.old) (W.contents w.new))) }
+    ensures none { IfNone result (Keeps (W.contents w.old) (W.contents w.new)) }
+{
+    match Request::read(args) {
+        Ok(Request::Nothing) => Some(run(alloc, r, w)),
+        Ok(Request::Help) => Some(write_text(w, HELP)),
+        Ok(Request::Version) => Some(write_text(w, VERSION)),
+        Ok(Request::Word(_) | Request::Unknown) => None,
+        Err(_) => Some(Err(Fault::Memory)),
     }
 }
 

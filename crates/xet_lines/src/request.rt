@@ -1,6 +1,6 @@
 //! What a program is asked for by its arguments, and how it tells that it can't do it.
 
-ghost use Rattle.std.specs.Prelude.{◌≡◌, ◌≤◌, IfOk};
+ghost use Rattle.std.specs.Prelude.{◌≡◌, ◌≤◌, IfOk, IsOkAnd};
 ghost use Rattle.std.specs.Vec.Iter.{into_iter_len};
 ghost use Rattle.xet_lines.specs.declared.request.Request.TheVariants.{Nothing};
 
@@ -35,7 +35,7 @@ pub enum Request {
 impl Request {
     /// What some arguments ask for, of which the first is the program's name. It fails where memory was refused to them.
     pub fn read(args: io::Result<Args>) -> Result<Request, AllocError>
-        ensures nothing { IfOk args (λ args. into_iter_len args ≤ 1 → IfOk result (λ request. request ≡ Nothing)) }
+        ensures nothing { IsOkAnd args (λ args. into_iter_len args ≤ 1) → IfOk result (λ request. request ≡ Nothing) }
     {
         let mut args = match args {
             Ok(args) => args,
