@@ -146,12 +146,13 @@ fn separators_change_nothing(rt: HostRuntime) -> Result<(), Fail> {
 }
 
 // Of 20,000 pairs of size 1, whose hashes have the words i, 0, 0 and i modulo 4.
-const MANY_PAIRS: &str = "xorb 951ddfa7a459b95ea55bb6cf4cc2d4329fd1b2520abe09727bf118a687459d2c
+pub(crate) const MANY_PAIRS: &str =
+    "xorb 951ddfa7a459b95ea55bb6cf4cc2d4329fd1b2520abe09727bf118a687459d2c
 file c5b91c43e27f1d0785ce40a29b7baee822db7f5136611cbc2eaf04a3ac6d4004
 ";
 
 // The lines of those of them whose numbers are from one to below another.
-fn push_lines(lines: &mut String, numbers: Range<u64>) -> Result<(), Fail> {
+pub(crate) fn push_lines(lines: &mut String, numbers: Range<u64>) -> Result<(), Fail> {
     for i in numbers {
         let hash = DataHash::from([i, 0, 0, i % 4]);
         writeln!(lines, "{hash} 1")?;
@@ -165,7 +166,7 @@ fn long_ranges_are_answered_as_a_whole(rt: HostRuntime) -> Result<(), Fail> {
     push_lines(&mut in_order, 0..20000)?;
     let mut in_reverse = String::new(rt.alloc());
     writeln!(in_reverse, "@10000")?;
-    push_lines(&mut in_reverse, 4500..20000)?;
+    push_lines(&mut in_reverse, 10000..20000)?;
     writeln!(in_reverse, "@0")?;
     push_lines(&mut in_reverse, 0..10000)?;
     for input in [in_order, in_reverse] {
@@ -246,15 +247,26 @@ fn names_the_first_faulty_line(rt: HostRuntime) -> Result<(), Fail> {
     Ok(())
 }
 
+// The numbers of lines that faults are printed with.
+pub(crate) const LINES: [u64; 9] = [1, 9, 10, 99, 100, 101, 1000, 65536, u64::MAX];
+
 #[test]
 fn faults_print_their_status_and_line(rt: HostRuntime) -> Result<(), Fail> {
+    for line in LINES {
+        for (fault, status) in [
+            (Fault::BadLine(line), 1),
+            (Fault::Sizes(line), 2),
+            (Fault::Overlap(line), 6),
+        ] {
+            let text = format!(in rt.alloc(); "xetroot: fault {status} at line {line}")?;
+            assert_eq!(rt; fault.to_string(rt.alloc())?, text);
+            assert_eq!(rt; fault.status(), status);
+        }
+    }
     for (fault, text, status) in [
-        (Fault::BadLine(7), "xetroot: fault 1 at line 7", 1),
-        (Fault::Sizes(12), "xetroot: fault 2 at line 12", 2),
         (Fault::Memory, "xetroot: fault 3", 3),
         (Fault::Read, "xetroot: fault 4", 4),
         (Fault::Write, "xetroot: fault 5", 5),
-        (Fault::Overlap(3), "xetroot: fault 6 at line 3", 6),
         (Fault::Gap, "xetroot: fault 7", 7),
     ] {
         assert_eq!(rt; fault.to_string(rt.alloc())?.as_str(), text);

@@ -2,6 +2,7 @@
 
 mod no_memory;
 
+use super::lines::{LINES, MANY_PAIRS, push_lines};
 use super::texts::{NO_CHUNK, NO_PAIR, THREE_PAIRS, with_hashes};
 use range_lines::fault::RangeFault;
 use range_lines::join::{join, root};
@@ -350,26 +351,57 @@ fn sizes_of_all_ranges_fit(rt: HostRuntime) -> Result<(), Fail> {
 }
 
 #[test]
+fn the_range_of_many_pairs_has_their_root(rt: HostRuntime) -> Result<(), Fail> {
+    let mut pairs = String::new(rt.alloc());
+    push_lines(&mut pairs, 0..20_000)?;
+    let made = output_of(rt.alloc(), Command::Make, pairs.as_bytes())?;
+    let root = output_of(rt.alloc(), Command::Root, made.as_bytes())?;
+    assert_eq!(rt; root.as_str(), MANY_PAIRS);
+    Ok(())
+}
+
+#[test]
+fn many_ranges_are_joined(rt: HostRuntime) -> Result<(), Fail> {
+    let mut ranges = String::new(rt.alloc());
+    for _ in 0..20_000 {
+        writeln!(ranges, "{NO_CHUNK}")?;
+    }
+    let joined = output_of(rt.alloc(), Command::Join, ranges.as_bytes())?;
+    assert_eq!(rt; joined.as_str().trim_end(), NO_CHUNK);
+    Ok(())
+}
+
+// Whether a fault has a status, and prints it as told.
+fn prints(alloc: Global, fault: RangeFault, status: u8, end: &str) -> Result<bool, Fail> {
+    let text = format!(in alloc; "xetrange: fault {status}{end}")?;
+    Ok(fault.status() == status && fault.to_string(alloc)? == text)
+}
+
+#[test]
 fn faults_print_their_status_line_and_rule(rt: HostRuntime) -> Result<(), Fail> {
-    for (fault, text, status) in [
-        (RangeFault::BadLine(7), "xetrange: fault 1 at line 7", 1),
-        (RangeFault::Sizes(12), "xetrange: fault 2 at line 12", 2),
-        (RangeFault::Memory, "xetrange: fault 3", 3),
-        (RangeFault::Read, "xetrange: fault 4", 4),
-        (RangeFault::Write, "xetrange: fault 5", 5),
-        (
-            RangeFault::BadRange(3, None),
-            "xetrange: fault 8 at line 3",
-            8,
-        ),
-        (
-            RangeFault::BadRange(3, Some(13)),
-            "xetrange: fault 8 at line 3: rule 13",
-            8,
-        ),
-    ] {
-        assert_eq!(rt; format!(in rt.alloc(); "{fault}")?.as_str(), text);
-        assert_eq!(rt; fault.status(), status);
+    let alloc = rt.alloc();
+    assert!(rt; prints(alloc, RangeFault::Memory, 3, "")?);
+    assert!(rt; prints(alloc, RangeFault::Read, 4, "")?);
+    assert!(rt; prints(alloc, RangeFault::Write, 5, "")?);
+    for line in LINES {
+        let end = format!(in alloc; " at line {line}")?;
+        assert!(rt;
+            prints(alloc, RangeFault::BadLine(line), 1, end.as_str())?,
+            "{line}"
+        );
+        assert!(rt;
+            prints(alloc, RangeFault::Sizes(line), 2, end.as_str())?,
+            "{line}"
+        );
+        assert!(rt;
+            prints(alloc, RangeFault::BadRange(line, None), 8, end.as_str())?,
+            "{line}"
+        );
+        for rule in 1..=13 {
+            let end = format!(in alloc; " at line {line}: rule {rule}")?;
+            let fault = RangeFault::BadRange(line, Some(rule));
+            assert!(rt; prints(alloc, fault, 8, end.as_str())?, "{line} {rule}");
+        }
     }
     Ok(())
 }

@@ -1,7 +1,7 @@
 //! Calls of a session that are refused a request for memory and each later one: the first, then the second, and so on, until
 //! no more are made. Afterwards all answers are as if the refused call hadn't been made.
 
-use super::{Call, SESSIONS, answers, nodes};
+use super::{Call, SESSIONS, answers, node, nodes};
 use refusing_allocator::RefusingAllocator;
 use std::alloc::Global;
 use std::test::Fail;
@@ -80,4 +80,41 @@ fn calls_are_refused_with_each_request(rt: HostRuntime) -> Result<(), Fail> {
     let refusing: Refusing = RefusingAllocator::new(rt.alloc(), u32::MAX);
     calls_are_refused::<MerkleHashSubtree<&Refusing>>(rt.alloc(), &refusing)?;
     calls_are_refused::<PlainRange<&Refusing>>(rt.alloc(), &refusing)
+}
+
+// Whether a session answers the calls that take no memory while each request is refused, without a chunk and with one.
+fn answers_without_memory<'a, C: ChunkRange<Alloc = &'a Refusing>>(
+    refusing: &'a Refusing,
+) -> Result<bool, Fail> {
+    let chunk = [node(1, 100)];
+    refusing.grant(0);
+    let mut session: SessionOf<C> = SessionOf::new(refusing)?;
+    let is_empty = session.put(2, &[]) == Ok(0) && session.range(0).is_none() && !session.taken(2);
+    let has_asked = refusing.has_refused();
+    refusing.grant(u32::MAX);
+    let is_put = session.put(2, &chunk) == Ok(1);
+    refusing.grant(0);
+    let has_chunk = session.put(2, &[]) == Ok(0) && session.taken(2) && !session.taken(3);
+    let has_range = session.range(0).is_some_and(|(first, _)| first == 2);
+    let is_refused = session.put(2, &chunk) == Err(SessionFault::Overlap)
+        && session.root(1) == Err(SessionFault::Gap)
+        && session.finish(1) == Err(SessionFault::Gap);
+    Ok(
+        is_empty
+            && is_put
+            && has_chunk
+            && has_range
+            && is_refused
+            && session.range(1).is_none()
+            && !has_asked
+            && !refusing.has_refused(),
+    )
+}
+
+#[test]
+fn calls_that_take_no_memory_answer_without_it(rt: HostRuntime) -> Result<(), Fail> {
+    let refusing: Refusing = RefusingAllocator::new(rt.alloc(), 0);
+    assert!(rt; answers_without_memory::<MerkleHashSubtree<&Refusing>>(&refusing)?);
+    assert!(rt; answers_without_memory::<PlainRange<&Refusing>>(&refusing)?);
+    Ok(())
 }
