@@ -192,22 +192,19 @@ fn a_session_of_one_chunk_has_its_file_hash(rt: HostRuntime) -> Result<(), Fail>
 #[test]
 fn a_session_of_three_chunks_lends_one_range(rt: HostRuntime) -> Result<(), Fail> {
     let chunks = [node(1, 100), node(2, 200), node(3, 300)];
+    let [first, second, third] = chunks;
     let mut subtrees: Session = SessionOf::new(rt.alloc())?;
+    assert_eq!(rt; subtrees.put(2, &[third]), Ok(1));
+    assert_eq!(rt; subtrees.put(0, &[first, second]), Ok(2));
     let mut plain: SessionOf<PlainRange> = SessionOf::new(rt.alloc())?;
-    for (first, part) in [(2, &chunks[2..]), (0, &chunks[..2])] {
-        assert_eq!(rt; subtrees.put(first, part), Ok(part.len() as u64));
-        assert_eq!(rt; plain.put(first, part), Ok(part.len() as u64));
-    }
-    let subtree = MerkleHashSubtree::from_chunks(rt.alloc(), false, &chunks, false)?;
-    assert!(rt;
-        subtrees
-            .range(0)
-            .is_some_and(|(first, range)| first == 0 && *range == subtree)
-    );
-    assert!(rt;
-        plain.range(0).is_some_and(|(first, range)| first == 0
-            && range.chunks() == chunks.as_slice())
-    );
+    assert_eq!(rt; plain.put(2, &[third]), Ok(1));
+    assert_eq!(rt; plain.put(0, &[first, second]), Ok(2));
+    let expected = MerkleHashSubtree::from_chunks(rt.alloc(), false, &chunks, false)?;
+    let (Some((0, subtree)), Some((0, kept))) = (subtrees.range(0), plain.range(0)) else {
+        return Err("no range at position 0")?;
+    };
+    assert!(rt; *subtree == expected);
+    assert_eq!(rt; kept.chunks(), chunks.as_slice());
     assert!(rt; subtrees.range(1).is_none() && plain.range(1).is_none());
     Ok(())
 }

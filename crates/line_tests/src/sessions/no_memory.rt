@@ -95,7 +95,7 @@ fn answers_without_memory<'a, C: ChunkRange<Alloc = &'a Refusing>>(
     let is_put = session.put(2, &chunk) == Ok(1);
     refusing.grant(0);
     let has_chunk = session.put(2, &[]) == Ok(0) && session.taken(2) && !session.taken(3);
-    let has_range = session.range(0).is_some_and(|(first, _)| first == 2);
+    let has_range = matches!(session.range(0), Some((2, _)));
     let is_refused = session.put(2, &chunk) == Err(SessionFault::Overlap)
         && session.root(1) == Err(SessionFault::Gap)
         && session.finish(1) == Err(SessionFault::Gap);
