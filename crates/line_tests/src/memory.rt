@@ -9,63 +9,70 @@ use xet_hash::data_hash::DataHash;
 use xet_lines::run::{run, run_with};
 use xet_merkle::plain_range::PlainRange;
 
-// An allocator that hands its requests on, and counts them and the bytes that are held.
-struct Counting {
-    inner: Global,
+// Counts of requests for memory, and of the bytes that are held.
+#[derive(Drop)]
+struct Counts {
     requests: Cell<u32>,
     largest: Cell<usize>,
     held: Cell<usize>,
     most_held: Cell<usize>,
 }
 
-impl Drop for Counting {
-    fn drop(self) {
-        let Self {
-            inner: _,
-            requests: _,
-            largest: _,
-            held: _,
-            most_held: _,
-        } = self;
+impl Counts {
+    fn add(&self, size: usize) {
+        let held = self.held.get().saturating_add(size);
+        self.requests.set(self.requests.get().saturating_add(1));
+        self.largest.set(self.largest.get().max(size));
+        self.held.set(held);
+        self.most_held.set(self.most_held.get().max(held));
     }
 }
 
-impl Counting {
-    fn new(inner: Global) -> Self {
-        Counting {
+// An allocator that hands its requests on and counts them.
+struct CountingAllocator<B: Allocator> {
+    inner: B,
+    counts: Counts,
+}
+
+impl<B: Allocator> CountingAllocator<B> {
+    fn new(inner: B) -> Self {
+        CountingAllocator {
             inner,
-            requests: Cell::new(0),
-            largest: Cell::new(0),
-            held: Cell::new(0),
-            most_held: Cell::new(0),
+            counts: Counts {
+                requests: Cell::new(0),
+                largest: Cell::new(0),
+                held: Cell::new(0),
+                most_held: Cell::new(0),
+            },
         }
     }
 }
 
-// Counts a request.
-fn count(counting: &Counting, size: usize) {
-    let held = counting.held.get().saturating_add(size);
-    counting
-        .requests
-        .set(counting.requests.get().saturating_add(1));
-    counting.largest.set(counting.largest.get().max(size));
-    counting.held.set(held);
-    counting.most_held.set(counting.most_held.get().max(held));
+impl<B: Allocator> Drop for CountingAllocator<B> {
+    fn drop(self) {
+        let Self {
+            inner: _,
+            counts: _,
+        } = self;
+    }
 }
 
-unsafe impl Allocator for Counting {
-    ghost dealloc_token = { λ heap ty ptr. Global.Allocator.dealloc_token heap.inner ty ptr };
+unsafe impl<B: Allocator> Allocator for CountingAllocator<B> {
+    ghost dealloc_token = { λ heap ty ptr. B.dealloc_token heap.inner ty ptr };
 
     fn allocate(&self, size: usize, align: usize) -> Result<*mut u8, AllocError> {
-        count(self, size);
+        self.counts.add(size);
         self.inner.allocate(size, align)
     }
 
     unsafe fn deallocate(&self, ptr: *mut u8, size: usize, align: usize) {
-        self.held.set(self.held.get().saturating_sub(size));
+        let held = &self.counts.held;
+        held.set(held.get().saturating_sub(size));
         self.inner.deallocate(ptr, size, align);
     }
 }
+
+type Counting = CountingAllocator<Global>;
 
 // A call that reads pairs.
 #[derive(Clone, Copy, Debug)]
@@ -108,28 +115,25 @@ fn pairs(alloc: Global, count: u64, step: u64) -> Result<String, Fail> {
     Ok(lines)
 }
 
+// The number of requests of a call on so many of some lines.
+fn requests_of(alloc: Global, call: Call, lines: &str, count: usize) -> Result<u32, Fail> {
+    let len = count.saturating_mul(LINE_LEN);
+    let input = lines.as_bytes().get(..len).ok_or("few lines")?;
+    Ok(memory_of(alloc, call, input)?.counts.requests.get())
+}
+
 #[test]
 fn a_list_has_4096_pairs(rt: HostRuntime) -> Result<(), Fail> {
+    let alloc = rt.alloc();
     // The first alone is a natural cut, so the pairs have one level.
-    let lines = pairs(rt.alloc(), 4097, u64::MAX)?;
+    let pairs = pairs(alloc, 4097, u64::MAX)?;
     for call in [Call::Run, Call::RunOverPlainRanges, Call::Make] {
-        let mut requests = [0; 3];
-        for (place, count) in [2049, 4096, 4097].iter().enumerate() {
-            let input = lines
-                .as_bytes()
-                .get(..LINE_LEN * *count)
-                .ok_or("few lines")?;
-            let counting = memory_of(rt.alloc(), call, input)?;
-            if let Some(slot) = requests.get_mut(place) {
-                *slot = counting.requests.get();
-            }
-        }
-        let [some, full, more] = requests;
-        // The list is ended before one more pair, which takes more than a request to grow it would.
-        assert!(rt;
-            some == full && full.saturating_add(1) < more,
-            "{call:?} {some} {full} {more}"
-        );
+        let half = requests_of(alloc, call, pairs.as_str(), 2049)?;
+        let full = requests_of(alloc, call, pairs.as_str(), 4096)?;
+        let more = requests_of(alloc, call, pairs.as_str(), 4097)?;
+        // One more pair ends the list, which takes more than a request to grow it would.
+        assert_eq!(rt; half, full, "{call:?}");
+        assert!(rt; full.saturating_add(1) < more, "{call:?} {full} {more}");
     }
     Ok(())
 }
@@ -139,13 +143,13 @@ fn runs_hold_one_list_where_stable_points_come_up(rt: HostRuntime) -> Result<(),
     let lines = pairs(rt.alloc(), 20_000, 4)?;
     for call in [Call::Run, Call::Make] {
         let counting = memory_of(rt.alloc(), call, lines.as_bytes())?;
-        assert_eq!(rt; counting.largest.get(), LIST_LEN, "{call:?}");
-        assert!(rt;
-            counting.most_held.get() < 2 * LIST_LEN,
-            "{call:?} {}",
-            counting.most_held.get()
+        let (largest, most_held) = (
+            counting.counts.largest.get(),
+            counting.counts.most_held.get(),
         );
-        assert_eq!(rt; counting.held.get(), 0, "{call:?}");
+        assert_eq!(rt; largest, LIST_LEN, "{call:?}");
+        assert!(rt; most_held < 2 * LIST_LEN, "{call:?} {most_held}");
+        assert_eq!(rt; counting.counts.held.get(), 0, "{call:?}");
     }
     Ok(())
 }
