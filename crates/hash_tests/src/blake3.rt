@@ -193,77 +193,25 @@ fn two_pieces_are_hashed_as_their_whole(rt: HostRuntime) {
     }
 }
 
-// Lengths of messages, and their hashes under the key 0, 1, .., 31.
-const HASHES: [(usize, &str); 17] = [
-    (
-        0,
-        "73492b19995d71cdb1e9d74decc09809eb732f1b00bc95c27cb15f9dd4d6478f",
-    ),
-    (
-        1,
-        "d08b45c6b127ee94f3f8527a0b82a5f80be1695a0eaec6022e772c0eb95a7e8b",
-    ),
-    (
-        63,
-        "e471df92f6f7dee100138af7da29695906b0dc34ccde2142a730dd4ebcbc09cc",
-    ),
-    (
-        64,
-        "cfaf838ff320e0d87301dcba02b1a4bb397d65119f57403df2817a51d4025f9b",
-    ),
-    (
-        65,
-        "d8a45528bfa93a0d9b7bf4c840b68f64af0b9ad3d0bbd6c1421c2a4cf1cdf3b4",
-    ),
-    (
-        127,
-        "85f533d496cd9c62af45735983026a3f343afd1b3d8ef440991180f9945e46d6",
-    ),
-    (
-        128,
-        "fe43a847dfccdfa5f070664fb8b51d7b906341ff81ac4adafbf6a3ffac564def",
-    ),
-    (
-        1023,
-        "da1f18069871512af22af9f13dc005800dfd52c55f42753b5ae718086fe2ee44",
-    ),
-    (
-        1024,
-        "f45a9249a627fdf1fcf13c0e6376f6a9a9b2056d6e1b5693a4b119a3453665f9",
-    ),
-    (
-        1025,
-        "82223147a9b804a0c3f9a921b8d8aee250d1a51bb76be72152e6d5e8f27349b3",
-    ),
-    (
-        2048,
-        "636bfa717d4f9fc3e59da9b2e5cce6a2b78eb70469c0fce49da38b5419892423",
-    ),
-    (
-        2049,
-        "5442eec85e3fd173dcff07c39cd8cff9689f17224471e655618ed728cf03b056",
-    ),
-    (
-        3072,
-        "66315151ac08f5cdf077f76e1b5f584a4da7b48a75036de5729be38dac835fb7",
-    ),
-    (
-        3073,
-        "66eabf3a0a1a262221ee9eed633621a5065e4e73d098277c7de4162559edb9b4",
-    ),
-    (
-        4096,
-        "e8c6e859e0480c4b062457defd04d2f4303b6cc280a0fe080ec5c4346a171937",
-    ),
-    (
-        5120,
-        "8bb4f2ab4db1d207713b4240105ec14d57452bc53073c480f8377279fa959a95",
-    ),
-    (
-        31744,
-        "55253f057bce59e7811fea47ac0e72751ca12c40c4a5b8f3c42e54daa5073272",
-    ),
-];
+// Each row has the length of a message and its hash under the key 0, 1, .., 31.
+const HASHES: &str = "0 73492b19995d71cdb1e9d74decc09809eb732f1b00bc95c27cb15f9dd4d6478f
+1 d08b45c6b127ee94f3f8527a0b82a5f80be1695a0eaec6022e772c0eb95a7e8b
+63 e471df92f6f7dee100138af7da29695906b0dc34ccde2142a730dd4ebcbc09cc
+64 cfaf838ff320e0d87301dcba02b1a4bb397d65119f57403df2817a51d4025f9b
+65 d8a45528bfa93a0d9b7bf4c840b68f64af0b9ad3d0bbd6c1421c2a4cf1cdf3b4
+127 85f533d496cd9c62af45735983026a3f343afd1b3d8ef440991180f9945e46d6
+128 fe43a847dfccdfa5f070664fb8b51d7b906341ff81ac4adafbf6a3ffac564def
+1023 da1f18069871512af22af9f13dc005800dfd52c55f42753b5ae718086fe2ee44
+1024 f45a9249a627fdf1fcf13c0e6376f6a9a9b2056d6e1b5693a4b119a3453665f9
+1025 82223147a9b804a0c3f9a921b8d8aee250d1a51bb76be72152e6d5e8f27349b3
+2048 636bfa717d4f9fc3e59da9b2e5cce6a2b78eb70469c0fce49da38b5419892423
+2049 5442eec85e3fd173dcff07c39cd8cff9689f17224471e655618ed728cf03b056
+3072 66315151ac08f5cdf077f76e1b5f584a4da7b48a75036de5729be38dac835fb7
+3073 66eabf3a0a1a262221ee9eed633621a5065e4e73d098277c7de4162559edb9b4
+4096 e8c6e859e0480c4b062457defd04d2f4303b6cc280a0fe080ec5c4346a171937
+5120 8bb4f2ab4db1d207713b4240105ec14d57452bc53073c480f8377279fa959a95
+31744 55253f057bce59e7811fea47ac0e72751ca12c40c4a5b8f3c42e54daa5073272
+";
 
 // The hash of a message that is fed in pieces of these two lengths in turn.
 fn hash_in_pieces(key: &[u8; 32], message: &[u8], first: usize, second: usize) -> [u8; 32] {
@@ -287,14 +235,16 @@ fn has_the_known_hashes(rt: HostRuntime) -> Result<(), Fail> {
         *byte = number;
     }
     let message = message::<31744>();
-    for (length, hash) in HASHES {
-        let message = &message[..length];
+    for row in HASHES.lines() {
+        let (length, hash) = row.split_once(' ').ok_or("no hash")?;
+        let message = message.get(..length.parse()?).ok_or("too long")?;
         let text = hex::encode(rt.alloc(), keyed_hash(&key, message))?;
         assert_eq!(rt; text.as_str(), hash);
-        for (first, second) in [(length, length), (1, 1), (1, 1024)] {
+        for (first, second) in [(message.len(), message.len()), (1, 1), (1, 1024)] {
             let text = hex::encode(rt.alloc(), hash_in_pieces(&key, message, first, second))?;
             assert_eq!(rt; text.as_str(), hash);
         }
     }
+    assert_eq!(rt; HASHES.lines().count(), 17);
     Ok(())
 }

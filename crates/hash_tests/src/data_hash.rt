@@ -35,79 +35,49 @@ fn has_one_value_in_each_form(rt: HostRuntime) {
     assert!(rt; hash != MerkleHash::default());
 }
 
+// Each row has a text, and whether it is read as the hash.
+const READ_TEXTS: &str = "d6834b04843aaf16f29903e2428a99be635099f9ea5056cc4e95e7ec8a41509f true
+D6834B04843AAF16F29903E2428A99BE635099F9EA5056CC4E95E7EC8A41509F true
+d6834b04843aaf16f29903e2428a99be635099f9ea5056cc4e95e7ec8a41509 false
+d6834b04843aaf16f29903e2428a99be635099f9ea5056cc4e95e7ec8a41509f0 false
+é834b04843aaf16f29903e2428a99be635099f9ea5056cc4e95e7ec8a41509f false
++6834b04843aaf16f29903e2428a99be635099f9ea5056cc4e95e7ec8a41509f false
+ false
+";
+
 #[test]
-fn reads_64_hex_digits(rt: HostRuntime) {
+fn reads_64_hex_digits(rt: HostRuntime) -> Result<(), Fail> {
     let hash = DataHash::from(BYTES);
-    for (text, is_read) in [
-        (TEXT, true),
-        (
-            "D6834B04843AAF16F29903E2428A99BE635099F9EA5056CC4E95E7EC8A41509F",
-            true,
-        ),
-        (
-            "d6834b04843aaf16f29903e2428a99be635099f9ea5056cc4e95e7ec8a41509",
-            false,
-        ),
-        (
-            "d6834b04843aaf16f29903e2428a99be635099f9ea5056cc4e95e7ec8a41509f0",
-            false,
-        ),
-        (
-            "é834b04843aaf16f29903e2428a99be635099f9ea5056cc4e95e7ec8a41509f",
-            false,
-        ),
-        (
-            "+6834b04843aaf16f29903e2428a99be635099f9ea5056cc4e95e7ec8a41509f",
-            false,
-        ),
-        ("", false),
-    ] {
-        assert_eq!(rt;
-            DataHash::from_hex(text).ok(),
-            is_read.then_some(hash),
-            "{text}"
-        );
+    for row in READ_TEXTS.lines() {
+        let (text, is_read) = row.split_once(' ').ok_or("no answer")?;
+        let expected = if is_read == "true" { Some(hash) } else { None };
+        assert_eq!(rt; DataHash::from_hex(text).ok(), expected, "{text}");
         let of_bytes = DataHash::from_hex_digits(text.as_bytes()).ok();
-        assert_eq!(rt; of_bytes, is_read.then_some(hash), "{text}");
+        assert_eq!(rt; of_bytes, expected, "{text}");
     }
     assert!(rt; DataHash::from_hex_digits(&[0xFF; 64]).is_err());
+    Ok(())
 }
 
 #[test]
 fn prints_the_text_alone(rt: HostRuntime) -> Result<(), Fail> {
-    let alloc = rt.alloc();
     let hash = DataHash::from(BYTES);
-    for printed in [
-        format!(in alloc; "{hash}")?,
-        format!(in alloc; "{hash:>80}")?,
-        format!(in alloc; "{hash:#.3}")?,
-        format!(in alloc; "{hash:?}")?,
-        format!(in alloc; "{hash:#?}")?,
-        format!(in alloc; "{hash:+?}")?,
-        format!(in alloc; "{hash:080?}")?,
-        format!(in alloc; "{hash:<80?}")?,
-        format!(in alloc; "{hash:>80?}")?,
-        format!(in alloc; "{hash:*^#80?}")?,
-        format!(in alloc; "{hash:.3?}")?,
-        format!(in alloc; "{hash:1?}")?,
-    ] {
-        assert_eq!(rt; printed.as_str(), TEXT);
+    let printed = format!(in rt.alloc();
+        "{hash} {hash:>80} {hash:#.3} {hash:?} {hash:#?} {hash:+?} {hash:080?} {hash:<80?} {hash:>80?} {hash:*^#80?} {hash:.3?} {hash:1?}"
+    )?;
+    assert_eq!(rt; printed.split(' ').count(), 12);
+    for word in printed.split(' ') {
+        assert_eq!(rt; word, TEXT);
     }
-    let refused = format!(in alloc; "{DataHashHexParseError}")?;
+    let refused = format!(in rt.alloc(); "{DataHashHexParseError}")?;
     assert_eq!(rt; refused.as_str(), "Invalid hex input for DataHash");
     Ok(())
 }
 
 #[test]
 fn hashes_under_its_keys(rt: HostRuntime) -> Result<(), Fail> {
-    let first = "cfc5d07f6f03c29bbf424132963fe08d19a37d5757aaf520bf08119f05cd56d6";
-    let second = "c3e67584b5c4fc2a89837ec39e40f2c8a6bb0b2987ac94cd4b31e5fbdd210a72";
     let line = b"cfc5d07f6f03c29bbf424132963fe08d19a37d5757aaf520bf08119f05cd56d6 : 100\n";
     for (hash, text) in [
-        (
-            DataHash::from_hex(first)?.hmac(DataHash::from_hex(second)?),
-            "9cb37f73951e7bd6d139f1ca83c6a60db18b413b391e2ea0552d9731140289ae",
-        ),
         (
             compute_data_hash(b""),
             "e0f2cf784e7e5f10c34f84af150e9a5ff9664216debad915364d741049870f67",
@@ -115,6 +85,10 @@ fn hashes_under_its_keys(rt: HostRuntime) -> Result<(), Fail> {
         (
             compute_data_hash(b"abc"),
             "a8803506f7aff014f19aa9e9b79dc6455c49672570f96156071329698dd0284e",
+        ),
+        (
+            compute_data_hash(&[0, 1, 2, 3]),
+            "43cc9f121b2ff9204410bc692230858b366126254819f9699ea18effa99950d9",
         ),
         (
             compute_internal_node_hash(b""),
@@ -152,66 +126,44 @@ fn feeds_word_zero_to_a_hash_function(rt: HostRuntime) {
     assert_eq!(rt; of_hash.finish(), of_word.finish());
 }
 
+// The hashes of the seeds from 1 on.
+const DRAWN: &str = "cfc5d07f6f03c29bbf424132963fe08d19a37d5757aaf520bf08119f05cd56d6
+c3e67584b5c4fc2a89837ec39e40f2c8a6bb0b2987ac94cd4b31e5fbdd210a72
+0d2beb91b9196929a5ddec9f6e306924ddf4a24268e3e59fd8464738d525af37
+adf8773496a9b7319b2e50dc98093f344053b17d8ad37100b9c07d9805988784
+4ac202caf347fc1e9c874b1ef6a1c5e619141eb775a6f43f0f0124ccd0060d9e
+b3b28636f65c149ea52eb1f94669466f70f033b54cea792824c696ba6ef3c389
+0e2c1a002aae913d2c0fc8ddfa4e9e14b7b311b3b0d458726d5d9f6a6318013c
+";
+
 #[test]
 fn draws_from_a_seed(rt: HostRuntime) -> Result<(), Fail> {
-    for (seed, text) in [
-        (
-            1,
-            "cfc5d07f6f03c29bbf424132963fe08d19a37d5757aaf520bf08119f05cd56d6",
-        ),
-        (
-            2,
-            "c3e67584b5c4fc2a89837ec39e40f2c8a6bb0b2987ac94cd4b31e5fbdd210a72",
-        ),
-        (
-            3,
-            "0d2beb91b9196929a5ddec9f6e306924ddf4a24268e3e59fd8464738d525af37",
-        ),
-        (
-            4,
-            "adf8773496a9b7319b2e50dc98093f344053b17d8ad37100b9c07d9805988784",
-        ),
-        (
-            5,
-            "4ac202caf347fc1e9c874b1ef6a1c5e619141eb775a6f43f0f0124ccd0060d9e",
-        ),
-        (
-            6,
-            "b3b28636f65c149ea52eb1f94669466f70f033b54cea792824c696ba6ef3c389",
-        ),
-        (
-            7,
-            "0e2c1a002aae913d2c0fc8ddfa4e9e14b7b311b3b0d458726d5d9f6a6318013c",
-        ),
-    ] {
+    let mut seed = 0u64;
+    for text in DRAWN.lines() {
+        seed = seed.saturating_add(1);
         assert_eq!(rt; DataHash::random_from_seed(seed), DataHash::from_hex(text)?);
     }
+    assert_eq!(rt; seed, 7);
     Ok(())
 }
 
+// Each row has a hash, a key, and the hash under that key.
+const HMACS: &str =
+    "0000000000000000000000000000000000000000000000000000000000000000 0000000000000000000000000000000000000000000000000000000000000000 638a6bc391964a85939d48f008e8bdbae6a7975e7ca2d87a3ce2492f4e4d8a4c
+0000000000000000000000000000000000000000000000000000000000000000 0101010101010101010101010101010101010101010101010101010101010101 2a21456b606047d464649f6b2853966dc39ee1c64edcd78f8ef619f840cbd044
+0101010101010101010101010101010101010101010101010101010101010101 0000000000000000000000000000000000000000000000000000000000000000 1ddc94a3b2b678434378a847fdcdfa15480c992d8dedd72a20e552f78645add7
+cfc5d07f6f03c29bbf424132963fe08d19a37d5757aaf520bf08119f05cd56d6 c3e67584b5c4fc2a89837ec39e40f2c8a6bb0b2987ac94cd4b31e5fbdd210a72 9cb37f73951e7bd6d139f1ca83c6a60db18b413b391e2ea0552d9731140289ae
+";
+
 #[test]
 fn the_hash_and_the_key_of_hmac_both_count(rt: HostRuntime) -> Result<(), Fail> {
-    let bytes = [1u8; 32];
-    let zero = DataHash::default();
-    let ones = DataHash::try_from(bytes.as_slice())?;
-    assert_eq!(rt; ones.to_vec(rt.alloc())?.as_slice(), bytes.as_slice());
-    for (hash, text) in [
-        (
-            zero.hmac(zero),
-            "638a6bc391964a85939d48f008e8bdbae6a7975e7ca2d87a3ce2492f4e4d8a4c",
-        ),
-        (
-            zero.hmac(ones),
-            "2a21456b606047d464649f6b2853966dc39ee1c64edcd78f8ef619f840cbd044",
-        ),
-        (
-            ones.hmac(zero),
-            "1ddc94a3b2b678434378a847fdcdfa15480c992d8dedd72a20e552f78645add7",
-        ),
-    ] {
-        assert_eq!(rt; hash, DataHash::from_hex(text)?);
+    for row in HMACS.lines() {
+        let columns: Vec<&str> = row.split(' ').collect(rt.alloc())?;
+        let [hash, key, expected] = columns.as_slice() else {
+            return Err("a row lacks a column")?;
+        };
+        let found = DataHash::from_hex(hash)?.hmac(DataHash::from_hex(key)?);
+        assert_eq!(rt; found, DataHash::from_hex(expected)?, "{row}");
     }
-    assert_ne!(rt; zero.hmac(zero), zero.hmac(ones));
-    assert_ne!(rt; zero.hmac(zero), ones.hmac(zero));
     Ok(())
 }

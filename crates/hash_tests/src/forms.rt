@@ -1,19 +1,18 @@
 //! Texts, bytes and JSON of a hash in memory of their own, and back.
 
 use serde_json::Value;
+use std::alloc::Global;
 use std::fmt;
 use std::test::Fail;
-use xet_hash::data_hash::{DataHash, DataHashBytesParseError, HashTextError, compute_data_hash};
+use xet_hash::data_hash::{DataHash, DataHashBytesParseError, HashTextError};
 
-// A hash in three of its forms.
+// A hash in two of its forms.
 const BYTES: [u8; 32] = [
     22, 175, 58, 132, 4, 75, 131, 214, 190, 153, 138, 66, 226, 3, 153, 242, 204, 86, 80, 234, 249,
     153, 80, 99, 159, 80, 65, 138, 236, 231, 149, 78,
 ];
 
 const HEX: &str = "d6834b04843aaf16f29903e2428a99be635099f9ea5056cc4e95e7ec8a41509f";
-
-const BASE64: &str = "Fq86hARLg9a-mYpC4gOZ8sxWUOr5mVBjn1BBiuznlU4";
 
 // Prints a hash by its `LowerHex`, which `{:x}` does at integers alone.
 #[derive(Drop)]
@@ -39,50 +38,57 @@ fn takes_32_bytes(rt: HostRuntime) -> Result<(), Fail> {
 }
 
 #[test]
-fn writes_hex(rt: HostRuntime) -> Result<(), Fail> {
-    let alloc = rt.alloc();
+fn writes_hex_under_every_flag(rt: HostRuntime) -> Result<(), Fail> {
     let hash = DataHash::from(BYTES);
-    assert_eq!(rt; hash.hex(alloc)?.as_str(), HEX);
-    let lower_hex = LowerHexOf(hash);
-    assert_eq!(rt; format!(in alloc; "{lower_hex}")?.as_str(), HEX);
-    assert_eq!(rt; format!(in alloc; "{lower_hex:#80}")?.as_str(), HEX);
+    assert_eq!(rt; hash.hex(rt.alloc())?.as_str(), HEX);
+    let hex = LowerHexOf(hash);
+    let printed = format!(in rt.alloc();
+        "{hex} {hex:>80} {hex:#.3} {hex:#} {hex:#80} {hex:+} {hex:080} {hex:<80} {hex:*^#80} {hex:.3} {hex:1}"
+    )?;
+    assert_eq!(rt; printed.split(' ').count(), 11);
+    for word in printed.split(' ') {
+        assert_eq!(rt; word, HEX);
+    }
     Ok(())
+}
+
+// Each row has a base64 text and the hex text of its hash, or a dash where no hash has the text.
+const BASE64_TEXTS: &str =
+    "Fq86hARLg9a-mYpC4gOZ8sxWUOr5mVBjn1BBiuznlU4 d6834b04843aaf16f29903e2428a99be635099f9ea5056cc4e95e7ec8a41509f
+AAAAAAAAAAAAAAAAAAAAAAAAAAAAAAAAAAAAAAAAAAA 0000000000000000000000000000000000000000000000000000000000000000
+__________________________________________8 ffffffffffffffffffffffffffffffffffffffffffffffffffffffffffffffff
+IPkvGxKfzEOLhTAiabwQRGn5GUglJmE22VCZqf-OoZ4 43cc9f121b2ff9204410bc692230858b366126254819f9699ea18effa99950d9
+AAAAAAAAAAAAAAAAAAAAAAAAAAAAAAAAAAAAAAAAAAB -
+Fq86hARLg9a-mYpC4gOZ8sxWUOr5mVBjn1BBiuznlU4= -
+Fq86hARLg9a+mYpC4gOZ8sxWUOr5mVBjn1BBiuznlU4 -
+AAAAAAAAAAAAAAAAAAAAAAAAAAAAAAAAAAAAAAAAAA -
+AAAAAAAAAAAAAAAAAAAAAAAAAAAAAAAAAAAAAAAAAAAAAA -
+ -
+";
+
+// The hex text of the hash that a base64 text is read as, or a dash. Out of memory is an error.
+fn read_base64(alloc: Global, text: &str) -> Result<String, Fail> {
+    match DataHash::from_base64(alloc, text) {
+        Ok(hash) => Ok(hash.hex(alloc)?),
+        Err(HashTextError::Bytes(_)) => Ok(format!(in alloc; "-")?),
+        Err(HashTextError::OutOfMemory) => Err("out of memory")?,
+    }
 }
 
 #[test]
 fn reads_what_base64_writes(rt: HostRuntime) -> Result<(), Fail> {
     let alloc = rt.alloc();
-    for (hash, text) in [
-        (DataHash::from(BYTES), BASE64),
-        (
-            DataHash::default(),
-            "AAAAAAAAAAAAAAAAAAAAAAAAAAAAAAAAAAAAAAAAAAA",
-        ),
-        (
-            DataHash::marker(),
-            "__________________________________________8",
-        ),
-        (
-            compute_data_hash(&[0, 1, 2, 3]),
-            "IPkvGxKfzEOLhTAiabwQRGn5GUglJmE22VCZqf-OoZ4",
-        ),
-    ] {
-        assert_eq!(rt; hash.base64(alloc)?.as_str(), text);
-        assert_eq!(rt; DataHash::from_base64(alloc, text).ok(), Some(hash));
+    for row in BASE64_TEXTS.lines() {
+        let (text, hex) = row.split_once(' ').ok_or("no hash")?;
+        assert_eq!(rt; read_base64(alloc, text)?.as_str(), hex, "{text}");
+        if let Ok(hash) = DataHash::from_hex(hex) {
+            assert_eq!(rt; hash.base64(alloc)?.as_str(), text);
+        }
     }
-    for text in [
-        "AAAAAAAAAAAAAAAAAAAAAAAAAAAAAAAAAAAAAAAAAAB",
-        "Fq86hARLg9a-mYpC4gOZ8sxWUOr5mVBjn1BBiuznlU4=",
-        "Fq86hARLg9a+mYpC4gOZ8sxWUOr5mVBjn1BBiuznlU4",
-        "AAAAAAAAAAAAAAAAAAAAAAAAAAAAAAAAAAAAAAAA",
-        "AAAAAAAAAAAAAAAAAAAAAAAAAAAAAAAAAAAAAAAAAAAAAA",
-        "",
-    ] {
-        let is_refused = match DataHash::from_base64(alloc, text) {
-            Err(HashTextError::Bytes(_)) => true,
-            Ok(_) | Err(HashTextError::OutOfMemory) => false,
-        };
-        assert!(rt; is_refused, "{text}");
+    for seed in 0..512 {
+        let hash = DataHash::random_from_seed(seed);
+        let read = read_base64(alloc, hash.base64(alloc)?.as_str())?;
+        assert_eq!(rt; read.as_str(), hash.hex(alloc)?.as_str(), "{seed}");
     }
     Ok(())
 }

@@ -1,115 +1,175 @@
 //! The writer that hashes what it hands on: each call of it is one call of the inner writer, whose answer is the
-//! answer.
+//! answer, and `write_all` is as many as it takes.
 
 use rand_core::{Rng, SeedableRng};
 use rand_xoshiro::Xoshiro256PlusPlus;
-use std::alloc::Global;
+use std::alloc::{AllocError, Global};
+use std::fmt::Write as _;
 use std::io::{self, ErrorKind, Write};
+use std::str::Lines;
 use std::test::Fail;
 use xet_hash::data_hash::{DataHash, HashedWrite, compute_data_hash};
 
-// A writer that keeps what it is given and what it answers to each call. It takes at most so many bytes of a slice, or
-// fails each time.
+// Calls of one writer in turn: each with the length of its slice, how many bytes are taken, and the answer, of an error its
+// kind, its code and its text. The rows after it that begin with `>` are the calls of the inner writer, each with the length
+// of its slice, and the answer: a number, the code of an error, or a word for an error without one.
+const CALLS: &str = "write 6 6 6
+> write 6 6
+write 0 0 0
+> write 0 0
+flush 0 0 0
+> flush 0 0
+write 10000 10000 10000
+> write 10000 10000
+flush 0 0 StorageFull Some(28) No space left on device (os error 28)
+> flush 0 code:28
+write 10000 5000 5000
+> write 10000 5000
+write 1048576 0 Interrupted Some(4) Interrupted system call (os error 4)
+> write 1048576 code:4
+write 1048576 65537 65537
+> write 1048576 65537
+flush 0 0 Interrupted Some(4) Interrupted system call (os error 4)
+> flush 0 code:4
+write 10000 0 BrokenPipe Some(32) Broken pipe (os error 32)
+> write 10000 code:32
+write 6 0 0
+> write 6 0
+write 1048576 0 Other None it is full
+> write 1048576 other
+flush 0 0 Other None it is full
+> flush 0 other
+write 1048576 1048576 1048576
+> write 1048576 1048576
+write_all 0 0 0
+write_all 1048576 1048576 0
+> write 1048576 1048576
+write_all 6 6 0
+> write 6 code:4
+> write 6 code:4
+> write 6 3
+> write 3 code:4
+> write 3 2
+> write 1 1
+write_all 6 0 WriteZero None write zero
+> write 6 0
+write_all 10000 4097 WriteZero None write zero
+> write 10000 code:4
+> write 10000 4097
+> write 5903 0
+write_all 6 3 StorageFull Some(28) No space left on device (os error 28)
+> write 6 3
+> write 3 code:28
+write_all 10000 5000 Other None it is full
+> write 10000 5000
+> write 5000 code:4
+> write 5000 other
+flush 0 0 0
+> flush 0 0
+write 6 4 4
+> write 6 4
+";
+
+// The answer that an inner call is told to give.
+fn told_answer(answer: &str) -> io::Result<usize> {
+    if let Some(code) = answer.strip_prefix("code:") {
+        return Err(io::Error::from_raw_os_error(code.parse().unwrap_or(0)));
+    }
+    match answer.parse() {
+        Ok(taken) => Ok(taken),
+        Err(_) => Err(io::Error::other("it is full")),
+    }
+}
+
+// A writer that answers as the rows tell, and keeps the calls of it and what they are given.
 #[derive(Drop)]
 struct Recorder {
-    most: Result<usize, ErrorKind>,
+    rows: Lines<'static>,
+    calls: String,
     given: Vec<u8>,
-    // How many bytes each call of `write` had, and its answer.
-    writes: Vec<(usize, Result<usize, ErrorKind>)>,
-    flushes: u32,
 }
 
 impl Recorder {
-    fn new(alloc: Global, most: Result<usize, ErrorKind>) -> Recorder {
-        Recorder {
-            most,
-            given: Vec::new(alloc),
-            writes: Vec::new(alloc),
-            flushes: 0,
-        }
+    // Keeps a call, and gives its answer.
+    fn answer(&mut self, name: &str, slice: &[u8]) -> io::Result<usize> {
+        let row = self.rows.find(|row| row.starts_with('>')).unwrap_or("");
+        let (_, answer) = row.rsplit_once(' ').unwrap_or(("", row));
+        writeln!(self.calls, "> {name} {} {answer}", slice.len())?;
+        self.given.extend_from_slice(slice)?;
+        told_answer(answer)
     }
 }
 
 impl Write for Recorder {
     fn write(&mut self, slice: &[u8]) -> io::Result<usize> {
-        let answer = self.most.map(|most| most.min(slice.len()));
-        self.given.extend_from_slice(slice)?;
-        self.writes.push((slice.len(), answer))?;
-        Ok(answer?)
+        self.answer("write", slice)
     }
 
     fn flush(&mut self) -> io::Result<()> {
-        self.flushes = self.flushes.saturating_add(1);
-        self.most?;
+        self.answer("flush", &[])?;
         Ok(())
     }
 }
 
-// What a recorder takes of a slice, or the kind of error that it fails with.
-const ANSWERS: [Result<usize, ErrorKind>; 8] = [
-    Ok(usize::MAX),
-    Ok(5000),
-    Ok(4096),
-    Ok(4),
-    Ok(0),
-    Err(ErrorKind::Interrupted),
-    Err(ErrorKind::StorageFull),
-    Err(ErrorKind::Other),
-];
-
-// Whether a write is one inner write and has its answer, and the hash is that of what was taken.
-fn is_one_inner_write(
-    alloc: Global,
-    slice: &[u8],
-    most: Result<usize, ErrorKind>,
-) -> Result<bool, Fail> {
-    let expected = most.map(|most| most.min(slice.len()));
-    let mut writer = HashedWrite::new(Recorder::new(alloc, most));
-    let answer = writer.write(slice).map_err(|error| error.kind());
-    let taken = slice.get(..expected.unwrap_or(0)).ok_or("too many")?;
-    let has_hash = writer.hash() == compute_data_hash(taken);
-    let Recorder { given, writes, .. } = writer.into_inner();
-    Ok(
-        answer == expected
-            && has_hash
-            && writes.as_slice() == [(slice.len(), expected)].as_slice()
-            && given.as_slice() == slice,
-    )
-}
-
-#[test]
-fn a_write_is_one_inner_write_and_has_its_answer(rt: HostRuntime) -> Result<(), Fail> {
-    let mut message = [0u8; 10_000];
-    Xoshiro256PlusPlus::seed_from_u64(14).fill_bytes(&mut message);
-    for slice in [&message[..6], &message] {
-        for most in ANSWERS {
-            assert!(rt;
-                is_one_inner_write(rt.alloc(), slice, most)?,
-                "{}, {most:?}",
-                slice.len()
-            );
+// What a call answers.
+fn called(writer: &mut HashedWrite<Recorder>, name: &str, slice: &[u8]) -> io::Result<usize> {
+    match name {
+        "write" => writer.write(slice),
+        "flush" => {
+            writer.flush()?;
+            Ok(0)
+        }
+        _ => {
+            writer.write_all(slice)?;
+            Ok(0)
         }
     }
-    Ok(())
 }
 
-// Whether a flush is one inner flush and has its answer.
-fn is_one_inner_flush(alloc: Global, most: Result<usize, ErrorKind>) -> bool {
-    let mut writer = HashedWrite::new(Recorder::new(alloc, most));
-    let answer = writer.flush().map_err(|error| error.kind());
-    let Recorder {
-        writes,
-        flushes,
-        ..
-    } = writer.into_inner();
-    answer == most.map(|_| ()) && flushes == 1 && writes.is_empty()
+// An answer as a row has it.
+fn printed(alloc: Global, answer: io::Result<usize>) -> Result<String, AllocError> {
+    match answer {
+        Ok(taken) => format!(in alloc; "{taken}"),
+        Err(error) => format!(in alloc; "{:?} {:?} {error}", error.kind(), error.raw_os_error()),
+    }
 }
 
 #[test]
-fn a_flush_is_one_inner_flush_and_has_its_answer(rt: HostRuntime) {
-    for most in ANSWERS {
-        assert!(rt; is_one_inner_flush(rt.alloc(), most), "{most:?}");
+fn calls_are_handed_on_and_what_is_taken_is_hashed(rt: HostRuntime) -> Result<(), Fail> {
+    let alloc = rt.alloc();
+    let mut message = Vec::from_elem(alloc, 0u8, 1 << 20)?;
+    Xoshiro256PlusPlus::seed_from_u64(14).fill_bytes(message.as_mut_slice());
+    let mut writer = HashedWrite::new(Recorder {
+        rows: CALLS.lines(),
+        calls: String::new(alloc),
+        given: Vec::new(alloc),
+    });
+    let mut calls = String::new(alloc);
+    let mut given = Vec::new(alloc);
+    let mut taken = Vec::new(alloc);
+    let mut slice = message.as_slice();
+    for row in CALLS.lines() {
+        let columns: Vec<&str> = row.splitn(4, ' ').collect(alloc)?;
+        let [first, second, third, last] = columns.as_slice() else {
+            return Err("a row lacks a column")?;
+        };
+        if *first == ">" {
+            // The slice of an inner call is an end of that of the call.
+            let before = slice.len().saturating_sub(third.parse()?);
+            given.extend_from_slice(slice.get(before..).unwrap_or(slice))?;
+            writeln!(calls, "{row}")?;
+        } else {
+            slice = message.get(..second.parse()?).ok_or("no such slice")?;
+            let answer = called(&mut writer, first, slice);
+            assert_eq!(rt; printed(alloc, answer)?.as_str(), *last, "{row}");
+            taken.extend_from_slice(slice.get(..third.parse()?).ok_or("too many")?)?;
+            assert_eq!(rt; writer.hash(), compute_data_hash(taken.as_slice()), "{row}");
+        }
     }
+    let recorder = writer.into_inner();
+    assert_eq!(rt; recorder.calls.as_str(), calls.as_str());
+    assert!(rt; recorder.given.as_slice() == given.as_slice());
+    Ok(())
 }
 
 // The hash of a message that is written in pieces of a length. An error where other bytes are handed on.
@@ -188,10 +248,12 @@ fn short_writes_are_hashed_one_after_another(rt: HostRuntime) -> Result<(), Fail
 
 #[test]
 fn a_writer_that_fails_midway_has_what_is_hashed(rt: HostRuntime) {
-    let mut writer = HashedWrite::new(Narrow::new(rt.alloc(), 4));
-    let answer = writer.write_all(b"abcdef").map_err(|error| error.kind());
-    assert_eq!(rt; answer, Err(ErrorKind::StorageFull));
-    assert_eq!(rt; writer.hash(), compute_data_hash(b"abcd"));
-    let Narrow { taken, .. } = writer.into_inner();
-    assert_eq!(rt; taken.as_slice(), b"abcd".as_slice());
+    for text in ["abc", "abcd"] {
+        let mut writer = HashedWrite::new(Narrow::new(rt.alloc(), text.len()));
+        let answer = writer.write_all(b"abcdef").map_err(|error| error.kind());
+        assert_eq!(rt; answer, Err(ErrorKind::StorageFull));
+        assert_eq!(rt; writer.hash(), compute_data_hash(text.as_bytes()));
+        let Narrow { taken, .. } = writer.into_inner();
+        assert_eq!(rt; taken.as_slice(), text.as_bytes());
+    }
 }

@@ -34,6 +34,7 @@ fn begins_at_zero_and_hands_numbers_on(rt: HostRuntime) {
         0xFEDCBA0987654321
     );
     assert_eq!(rt; fed(7, &DataHash::from([1, 2, 3, 4])), 1);
+    assert_eq!(rt; fed(7, &12345u64), 12345);
 }
 
 #[test]

@@ -178,16 +178,18 @@ fn writes<Key: U64HashExtractable + Hash + Eq>(
     map.get(key) == Some(&"value3") && map.get_mut(lacking).is_none()
 }
 
-// Fills the place of a key that isn't there, and then changes what it has.
+// Fills the place of a key that isn't there, twice, and then changes what it has.
 fn enters<Key: U64HashExtractable + Hash + Eq + Copy>(
     map: &mut Texts<Key>,
     key: Key,
 ) -> Result<bool, AllocError> {
-    map.entry(key).or_insert("value4")?;
+    let filled = *map.entry(key).or_insert("value4")?;
+    map.remove(&key);
+    let refilled = *map.entry(key).or_insert_with(|| "value6")?;
     map.entry(key)
         .and_modify(|value| *value = "value5")
-        .or_insert_with(|| "value6")?;
-    Ok(map.get(&key) == Some(&"value5"))
+        .or_insert_with(|| "value7")?;
+    Ok(filled == "value4" && refilled == "value6" && map.get(&key) == Some(&"value5"))
 }
 
 // Removes a key that isn't there, and the two that are.
