@@ -1,9 +1,10 @@
 use range_lines::fault::RangeFault;
 use range_lines::join::{join, root};
 use range_lines::make::make;
-use std::alloc::AllocError;
+use serde_json::Value;
+use std::alloc::{AllocError, Global};
 use std::fmt::{self, Write as _};
-use std::hash::{Hash, Hasher as _};
+use std::hash::{BuildHasher, Hash, Hasher as _};
 use std::io;
 use std::test::Fail;
 use xet_hash::blake3::{Hasher, keyed_hash};
@@ -11,8 +12,12 @@ use xet_hash::data_hash::{
     DATA_KEY, DataHash, HashedWrite, compute_data_hash, compute_internal_node_hash,
 };
 use xet_hash::passthrough_hasher::{U64DirectHasher, U64HashExtractable};
+use xet_merkle::CoreError;
 use xet_merkle::aggregated_hashes::Node;
+use xet_merkle::chunk_range::ChunkRange;
+use xet_merkle::merge_tree::MergeTree;
 use xet_merkle::merkle_hash_subtree::{MerkleHashSubtree, find_stable_end, find_stable_start};
+use xet_merkle::plain_range::PlainRange;
 
 // Three chunks, each with its seed.
 fn chunks() -> [Node; 3] {
@@ -27,6 +32,40 @@ fn a_subtree_goes_to_json(rt: HostRuntime) -> Result<(), Fail> {
     assert!(rt; subtree == before);
     let value = answer?;
     assert!(rt; MerkleHashSubtree::from_json(rt.alloc(), &value)? == subtree);
+    Ok(())
+}
+
+// The text of the closed subtree of no chunks.
+const NO_CHUNKS: &str = r#"{"at_end":true,"at_start":true,"levels":[[0,0]],"nodes":[]}"#;
+
+#[test]
+fn no_chunks_have_their_json_text(rt: HostRuntime) -> Result<(), Fail> {
+    let closed = MerkleHashSubtree::from_chunks(rt.alloc(), true, &[], true)?;
+    let text = closed.to_json(rt.alloc())?.to_string(rt.alloc())?;
+    assert_eq!(rt; text.as_str(), NO_CHUNKS);
+    Ok(())
+}
+
+// A tree of ten ranges of a chunk each and one of none, each joined with all before it.
+fn tree(alloc: Global, is_left: bool) -> Result<MergeTree<PlainRange>, CoreError> {
+    let mut tree = MergeTree::Leaf(PlainRange::from_chunks(alloc, false, &[], false)?);
+    for seed in 0..10 {
+        let chunk = (DataHash::random_from_seed(seed), 1);
+        let leaf = MergeTree::Leaf(PlainRange::from_chunks(alloc, false, &[chunk], false)?);
+        let (left, right) = if is_left { (tree, leaf) } else { (leaf, tree) };
+        tree = MergeTree::Join(Box::new(alloc, left)?, Box::new(alloc, right)?);
+    }
+    Ok(tree)
+}
+
+#[test]
+fn trees_of_ranges_are_run(rt: HostRuntime) -> Result<(), Fail> {
+    for (is_left, seed) in [(true, 0), (false, 9)] {
+        let joined = tree(rt.alloc(), is_left)?.run()?;
+        let first = (DataHash::random_from_seed(seed), 1);
+        assert_eq!(rt; joined.chunks().first(), Some(&first));
+        assert_eq!(rt; joined.total_size(), 10);
+    }
     Ok(())
 }
 
@@ -89,31 +128,65 @@ fn ranges_are_made_and_joined(rt: HostRuntime) -> Result<(), Fail> {
     Ok(())
 }
 
+// Prints a hash by its `LowerHex`.
+#[derive(Drop)]
+struct LowerHexOf(DataHash);
+
+impl fmt::Display for LowerHexOf {
+    fn fmt<W: fmt::Write>(&self, f: &mut fmt::Formatter<W>) -> fmt::Result {
+        fmt::LowerHex::fmt(&self.0, f)
+    }
+}
+
+const ABC: &str = "a8803506f7aff014f19aa9e9b79dc6455c49672570f96156071329698dd0284e";
+
 #[test]
-fn hashes_take_no_memory(rt: HostRuntime) -> Result<(), Fail> {
-    let hash = compute_data_hash(b"abc");
-    let mut hasher = Hasher::new_keyed(&DATA_KEY);
-    hasher.update(b"abc");
-    assert_eq!(rt; DataHash::from(hasher.finalize()), hash);
-    assert_eq!(rt; DataHash::from(keyed_hash(&DATA_KEY, b"abc")), hash);
-    let mut writer = HashedWrite::new(Nowhere);
-    io::Write::write_all(&mut writer, b"abc")?;
-    assert_eq!(rt; writer.hash(), hash);
-    assert_ne!(rt; compute_internal_node_hash(b"abc"), hash);
+fn forms_of_hashes_take_no_memory(rt: HostRuntime) -> Result<(), Fail> {
+    let hash = DataHash::from_hex(ABC)?;
     assert_eq!(rt;
         DataHash::from_hex_digits(&hash.hex_digits()).ok(),
         Some(hash)
     );
-    assert_eq!(rt; DataHash::from_slice(&hash.as_bytes()).ok(), Some(hash));
+    let bytes = hash.as_bytes();
+    assert_eq!(rt; DataHash::from_slice(&bytes).ok(), Some(hash));
+    assert_eq!(rt; DataHash::try_from(bytes.as_slice()).ok(), Some(hash));
     assert_eq!(rt; DataHash::from(hash.words()), hash);
+    assert!(rt; DataHash::from_json(&Value::Null).is_err());
     assert!(rt; DataHash::default() < hash && hash < DataHash::marker());
     assert_eq!(rt; DataHash::marker() % 4, 3);
+    let hex = LowerHexOf(hash);
+    write!(Unread, "{hash} {hash:?} {hex}")?;
+    Ok(())
+}
+
+#[test]
+fn hashes_take_no_memory(rt: HostRuntime) -> Result<(), Fail> {
+    let hash = compute_data_hash(b"abc");
+    assert_eq!(rt; hash, DataHash::from_hex(ABC)?);
+    assert_eq!(rt; DataHash::from(keyed_hash(&DATA_KEY, b"abc")), hash);
+    assert_ne!(rt; compute_internal_node_hash(b"abc"), hash);
     assert_ne!(rt; hash.hmac(hash), DataHash::random_from_seed(1));
     let mut state = U64DirectHasher::<DataHash>::default();
     hash.hash(&mut state);
     assert_eq!(rt; state.finish(), hash.u64_hash_value());
-    write!(Unread, "{hash} {hash:?}")?;
+    assert_eq!(rt; state.build_hasher().finish(), 0);
     assert_eq!(rt; find_stable_start(&chunks()), None);
     assert_eq!(rt; find_stable_end(&chunks()), None);
+    Ok(())
+}
+
+#[test]
+fn messages_take_no_memory(rt: HostRuntime) -> Result<(), Fail> {
+    let hash = DataHash::from_hex(ABC)?;
+    let mut hasher = Hasher::new_keyed(&DATA_KEY);
+    hasher.update(b"abc");
+    assert!(rt; hasher.has_room(1) && hasher.count() == 3);
+    assert_eq!(rt; DataHash::from(hasher.finalize()), hash);
+    let mut writer = HashedWrite::new(Nowhere);
+    io::Write::write_all(&mut writer, b"ab")?;
+    assert_eq!(rt; io::Write::write(&mut writer, b"c")?, 1);
+    io::Write::flush(&mut writer)?;
+    assert_eq!(rt; writer.hash(), hash);
+    let Nowhere = writer.into_inner();
     Ok(())
 }

@@ -147,7 +147,7 @@ fn calls_are_handed_on_and_what_is_taken_is_hashed(rt: HostRuntime) -> Result<()
     let mut calls = String::new(alloc);
     let mut given = Vec::new(alloc);
     let mut taken = Vec::new(alloc);
-    let mut slice = message.as_slice();
+    let mut length = 0usize;
     for row in CALLS.lines() {
         let columns: Vec<&str> = row.splitn(4, ' ').collect(alloc)?;
         let [first, second, third, last] = columns.as_slice() else {
@@ -155,11 +155,12 @@ fn calls_are_handed_on_and_what_is_taken_is_hashed(rt: HostRuntime) -> Result<()
         };
         if *first == ">" {
             // The slice of an inner call is an end of that of the call.
-            let before = slice.len().saturating_sub(third.parse()?);
-            given.extend_from_slice(slice.get(before..).unwrap_or(slice))?;
+            let before = length.saturating_sub(third.parse()?);
+            given.extend_from_slice(message.get(before..length).ok_or("no such end")?)?;
             writeln!(calls, "{row}")?;
         } else {
-            slice = message.get(..second.parse()?).ok_or("no such slice")?;
+            length = second.parse()?;
+            let slice = message.get(..length).ok_or("no such slice")?;
             let answer = called(&mut writer, first, slice);
             assert_eq!(rt; printed(alloc, answer)?.as_str(), *last, "{row}");
             taken.extend_from_slice(slice.get(..third.parse()?).ok_or("too many")?)?;

@@ -1,6 +1,7 @@
 //! The hashes of the crate `xet-core-structures` for thirteen lists of chunks, and of longer lists.
 
 use std::alloc::{AllocError, Global};
+use std::fmt::Write;
 use std::test::Fail;
 use xet_hash::data_hash::{DataHash, MerkleHash, compute_internal_node_hash};
 use xet_merkle::CoreError;
@@ -169,12 +170,21 @@ fn a_root_is_that_of_the_parents_of_groups(rt: HostRuntime) -> Result<(), Fail> 
 
 #[test]
 fn a_groups_text_has_a_line_for_each_node(rt: HostRuntime) -> Result<(), Fail> {
+    let alloc = rt.alloc();
     let (hash, _) = chunk("1")?;
-    for size in [0, 1, 100, u64::MAX] {
-        let text = format!(in rt.alloc(); "{hash} : {size}\n{hash} : 0\n")?;
-        let parent = compute_internal_node_hash(text.as_bytes());
-        let root = xorb_hash(rt.alloc(), &[(hash, size), (hash, 0)]);
-        assert_eq!(rt; root, Ok(parent), "{size}");
+    // Three natural cuts are a group, and a node after them is one of its own.
+    let zeros = [(MerkleHash::default(), 0); 3];
+    let [zero, _, _] = zeros;
+    let first = (xorb_hash(alloc, &zeros)?, 0);
+    for (size, length) in [(100, 71), (0, 69), (u64::MAX, 88)] {
+        let mut text = format!(in alloc; "{hash} : {size}\n")?;
+        assert_eq!(rt; text.len(), length);
+        let alone = (compute_internal_node_hash(text.as_bytes()), size);
+        let root = xorb_hash(alloc, &[zero, zero, zero, (hash, size)])?;
+        assert_eq!(rt; root, xorb_hash(alloc, &[first, alone])?, "{size}");
+        write!(text, "{hash} : 0\n")?;
+        let root = xorb_hash(alloc, &[(hash, size), (hash, 0)])?;
+        assert_eq!(rt; root, compute_internal_node_hash(text.as_bytes()), "{size}");
     }
     Ok(())
 }

@@ -13,14 +13,16 @@ mod merging;
 mod shapes;
 mod texts;
 
-use crate::support::{EACH_FOURTH, drawn_list, has_counts, with_cuts};
+use crate::support::{EACH_FOURTH, MARKS, drawn_list, has_counts, with_cuts};
 use rand_core::SeedableRng;
 use rand_xoshiro::Xoshiro256PlusPlus;
 use std::test::Fail;
 use xet_hash::data_hash::MerkleHash;
 use xet_merkle::CoreError;
 use xet_merkle::aggregated_hashes::xorb_hash;
+use xet_merkle::chunk_range::ChunkRange;
 use xet_merkle::merkle_hash_subtree::{MerkleHashSubtree, find_stable_end, find_stable_start};
+use xet_merkle::plain_range::PlainRange;
 
 #[test]
 fn stable_points_need_gaps_from_three_to_seven(rt: HostRuntime) {
@@ -86,15 +88,16 @@ fn has_the_nodes_of_either_side(rt: HostRuntime) -> Result<(), Fail> {
 }
 
 #[test]
-fn a_closed_subtree_has_the_root_of_its_list(rt: HostRuntime) -> Result<(), Fail> {
+fn closed_ranges_have_the_root_of_their_list(rt: HostRuntime) -> Result<(), Fail> {
     let nodes = with_cuts::<28>(&EACH_FOURTH);
     for chunks in [nodes.as_slice(), &nodes[..1], &[]] {
         let root = xorb_hash(rt.alloc(), chunks)?;
-        let closed = MerkleHashSubtree::from_chunks(rt.alloc(), true, chunks, true)?;
-        assert_eq!(rt; closed.final_hash(), Some(root));
-        for (at_start, at_end) in [(false, true), (true, false), (false, false)] {
-            let open = MerkleHashSubtree::from_chunks(rt.alloc(), at_start, chunks, at_end)?;
-            assert_eq!(rt; open.final_hash(), None);
+        for (at_start, at_end) in MARKS {
+            let expected = (at_start && at_end).then_some(root);
+            let subtree = MerkleHashSubtree::from_chunks(rt.alloc(), at_start, chunks, at_end)?;
+            assert_eq!(rt; subtree.final_hash(), expected);
+            let plain = PlainRange::from_chunks(rt.alloc(), at_start, chunks, at_end)?;
+            assert_eq!(rt; [subtree.root()?, plain.root()?], [expected; 2]);
         }
     }
     Ok(())
@@ -137,7 +140,7 @@ fn no_level_keeps_more_nodes_than_the_list_has(rt: HostRuntime) -> Result<(), Fa
     let mut generator = Xoshiro256PlusPlus::seed_from_u64(6);
     for count in [20usize, 50, 100, 200] {
         let nodes = drawn_list(&mut generator, rt.alloc(), count as u64)?;
-        for (at_start, at_end) in [(false, false), (false, true), (true, false), (true, true)] {
+        for (at_start, at_end) in MARKS {
             let subtree = MerkleHashSubtree::from_chunks(
                 rt.alloc(),
                 at_start,

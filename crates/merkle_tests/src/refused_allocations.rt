@@ -88,7 +88,9 @@ pub enum Call {
     MapFromArray,
     MapTryClone,
     MapInsert,
-    MapEntry,
+    OrInsert,
+    OrInsertWith,
+    VacantInsert,
     XorbHash,
     FileHash,
     FileHashWithSalt,
@@ -110,6 +112,7 @@ pub enum Call {
     RangesFromTheStart,
     SubtreesFromStrangers,
     NoPairs,
+    OnePair,
     TwoValuesOfOneKey,
     BracketingsOfSubtrees,
     BracketingsOfPlainRanges,
@@ -135,7 +138,7 @@ const OF_CHUNKS: [(Call, u64); 15] = [
 ];
 
 // The calls that have values of their own.
-const OF_OWN_VALUES: [Call; 10] = [
+const OF_OWN_VALUES: [Call; 12] = [
     Call::Hex,
     Call::Base64,
     Call::ToVec,
@@ -145,16 +148,19 @@ const OF_OWN_VALUES: [Call; 10] = [
     Call::MapFromArray,
     Call::MapTryClone,
     Call::MapInsert,
-    Call::MapEntry,
+    Call::OrInsert,
+    Call::OrInsertWith,
+    Call::VacantInsert,
 ];
 
 // The worked examples.
-const EXAMPLES: [Call; 8] = [
+const EXAMPLES: [Call; 9] = [
     Call::ThreePairs,
     Call::OpenRanges,
     Call::RangesFromTheStart,
     Call::SubtreesFromStrangers,
     Call::NoPairs,
+    Call::OnePair,
     Call::TwoValuesOfOneKey,
     Call::BracketingsOfSubtrees,
     Call::BracketingsOfPlainRanges,
@@ -174,7 +180,9 @@ fn attempt(
         Call::MapWithCapacity | Call::MapFromPairs | Call::MapFromArray | Call::MapTryClone => {
             maps::make(call, alloc, granted)?
         }
-        Call::MapInsert | Call::MapEntry => maps::fill(call, alloc, granted),
+        Call::MapInsert | Call::OrInsert | Call::OrInsertWith | Call::VacantInsert => {
+            maps::fill(call, alloc, granted)
+        }
         Call::XorbHash | Call::FileHash | Call::FileHashWithSalt => {
             hashes::of_chunks(call, alloc, granted, chunks)?
         }
@@ -199,6 +207,7 @@ fn attempt(
         | Call::RangesFromTheStart
         | Call::SubtreesFromStrangers
         | Call::NoPairs
+        | Call::OnePair
         | Call::TwoValuesOfOneKey
         | Call::BracketingsOfSubtrees
         | Call::BracketingsOfPlainRanges => examples::attempt(call, alloc, granted, chunks.alloc)?,

@@ -62,6 +62,9 @@ pub fn with_cuts<const N: usize>(cuts: &[u64]) -> [Node; N] {
     nodes
 }
 
+/// The JSON text of the closed subtree of no pairs.
+pub const NO_PAIRS: &str = "{\"at_end\":true,\"at_start\":true,\"levels\":[[0,0]],\"nodes\":[]}";
+
 /// Natural cuts that stand at each fourth node.
 pub const EACH_FOURTH: [u64; 7] = [3, 7, 11, 15, 19, 23, 27];
 

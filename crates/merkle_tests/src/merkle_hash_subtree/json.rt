@@ -1,6 +1,6 @@
 //! The JSON form of subtrees: its text, what is read back, and the least broken rule of what isn't a subtree's.
 
-use crate::support::{EACH_FOURTH, MARKS, drawn_list, read_json, two_levels, with_cuts};
+use crate::support::{EACH_FOURTH, MARKS, NO_PAIRS, drawn_list, read_json, two_levels, with_cuts};
 use rand_core::SeedableRng;
 use rand_xoshiro::Xoshiro256PlusPlus;
 use serde_json::Value;
@@ -14,8 +14,6 @@ use xet_merkle::merkle_hash_subtree::MerkleHashSubtree;
 const ONE: &str =
     "{\"at_end\":false,\"at_start\":true,\"levels\":[[1,0]],\"nodes\":[{\"hash\":\"cfc5d07f6f03c29bbf424132963fe08d19a37d5757aaf520bf08119f05cd56d6\",\"size\":100}]}";
 
-const NONE: &str = "{\"at_end\":true,\"at_start\":true,\"levels\":[[0,0]],\"nodes\":[]}";
-
 #[test]
 fn subtrees_print_as_their_marks_counts_and_nodes(rt: HostRuntime) -> Result<(), Fail> {
     let chunk = (DataHash::random_from_seed(1), 100);
@@ -27,7 +25,7 @@ fn subtrees_print_as_their_marks_counts_and_nodes(rt: HostRuntime) -> Result<(),
     let none = MerkleHashSubtree::from_chunks(rt.alloc(), true, &[], true)?;
     assert_eq!(rt;
         none.to_json(rt.alloc())?.to_string(rt.alloc())?.as_str(),
-        NONE
+        NO_PAIRS
     );
     Ok(())
 }
@@ -167,7 +165,7 @@ fn sides_from_strangers_are_looked_at(rt: HostRuntime) -> Result<(), Fail> {
 
 #[test]
 fn proper_fronts_of_a_text_are_no_json(rt: HostRuntime) -> Result<(), Fail> {
-    for text in [ONE, NONE] {
+    for text in [ONE, NO_PAIRS] {
         for len in 0..text.len() {
             let front = text.get(..len).ok_or("no boundary")?;
             assert!(rt; Value::from_str(rt.alloc(), front).is_err(), "{len}");
@@ -227,7 +225,7 @@ fn texts_nested_deep_are_refused(rt: HostRuntime) -> Result<(), Fail> {
         deep.push(']')?;
     }
     assert!(rt; is_refused(rt.alloc(), deep.as_str()));
-    let inside = NONE.replace(rt.alloc(), "[]", deep.as_str())?;
+    let inside = NO_PAIRS.replace(rt.alloc(), "[]", deep.as_str())?;
     assert!(rt; is_refused(rt.alloc(), inside.as_str()));
     let mut objects = String::new(rt.alloc());
     for _ in 0..100_000 {

@@ -3,7 +3,7 @@
 use super::ranges::Kind;
 use super::{Call, Outcome, Refusing, outcome_of};
 use crate::merge_tree::{BRACKETINGS, four_ranges, tree};
-use crate::support::{EACH_FOURTH, has_counts, two_levels, with_cuts};
+use crate::support::{EACH_FOURTH, MARKS, NO_PAIRS, has_counts, two_levels, with_cuts};
 use serde_json::Value;
 use std::alloc::Global;
 use std::test::Fail;
@@ -28,7 +28,8 @@ pub fn attempt(
         Call::OpenRanges => open_ranges(alloc),
         Call::RangesFromTheStart => ranges_from_the_start(alloc),
         Call::SubtreesFromStrangers => subtrees_from_strangers(alloc, &values),
-        Call::NoPairs => no_pairs(alloc),
+        Call::NoPairs => no_pairs(alloc, memory),
+        Call::OnePair => one_pair(alloc),
         Call::TwoValuesOfOneKey => two_values_of_one_key(alloc),
         Call::BracketingsOfSubtrees => bracketings::<MerkleHashSubtree<&Refusing>>(alloc, memory),
         _ => bracketings::<PlainRange<&Refusing>>(alloc, memory),
@@ -147,19 +148,33 @@ fn subtrees_from_strangers(alloc: &Refusing, values: &[Value; 3]) -> Result<bool
     )
 }
 
-// Whether the subtree of no pairs has no node, and is refused a range that is marked at its start.
-fn no_pairs(alloc: &Refusing) -> Result<bool, CoreError> {
+// Whether the subtree of no pairs has no node and its text, and is refused a range that is marked at its start.
+fn no_pairs(alloc: &Refusing, memory: Global) -> Result<bool, CoreError> {
     let closed = MerkleHashSubtree::from_chunks(alloc, true, &[], true)?;
+    let text = closed.to_json(memory)?.to_string(memory)?;
     let begun = MerkleHashSubtree::from_chunks(alloc, true, &[], false)?;
     let mut open = MerkleHashSubtree::from_chunks(alloc, false, &[], false)?;
     let before = open.try_clone()?;
     Ok(
         has_counts(&closed, &[(0, 0)])
             && closed.final_hash() == Some(DataHash::default())
+            && text.as_str() == NO_PAIRS
             && begun.final_hash().is_none()
             && open.merge_into(&begun) == Err(CoreError::InvalidArguments)
             && open == before,
     )
+}
+
+// Whether the subtree of one pair has its root as the final hash where both ends are marked, and else none.
+fn one_pair(alloc: &Refusing) -> Result<bool, CoreError> {
+    let hash = DataHash::random_from_seed(1);
+    for (at_start, at_end) in MARKS {
+        let one = MerkleHashSubtree::from_chunks(alloc, at_start, &[(hash, 100)], at_end)?;
+        if one.final_hash() != (at_start && at_end).then_some(hash) {
+            return Ok(false);
+        }
+    }
+    Ok(true)
 }
 
 // Whether a map keeps the last of two values of a key, and gives the first one back.

@@ -3,7 +3,7 @@
 use super::{Call, Outcome, Refusing, outcome_of};
 use std::alloc::AllocError;
 use std::test::Fail;
-use xet_hash::passthrough_hashmap::PassThroughHashMap;
+use xet_hash::passthrough_hashmap::{Entry, PassThroughHashMap};
 use xet_merkle::CoreError;
 
 /// A map of the numbers from 0 on, each with itself as its value.
@@ -49,14 +49,20 @@ pub fn make(call: Call, alloc: &Refusing, granted: u32) -> Result<Outcome, Fail>
     Ok(outcome_of(answer, has_numbers(&eight, 8)))
 }
 
-// Puts a number into a map, through its entry or not.
-fn put(call: Call, map: &mut Numbers<'_>, number: u64) -> Result<(), AllocError> {
-    if call == Call::MapEntry {
-        map.entry(number).or_insert(number)?;
-    } else {
-        map.insert(number, number)?;
+// Puts a number that isn't there into a map, through its place or not, and answers the value there.
+fn put(call: Call, map: &mut Numbers<'_>, number: u64) -> Result<u64, AllocError> {
+    match call {
+        Call::OrInsert => Ok(*map.entry(number).or_insert(number)?),
+        Call::OrInsertWith => Ok(*map.entry(number).or_insert_with(|| number)?),
+        Call::VacantInsert => match map.entry(number) {
+            Entry::Vacant(place) => Ok(*place.insert(number)?),
+            Entry::Occupied(_) => Ok(u64::MAX),
+        },
+        _ => {
+            map.insert(number, number)?;
+            Ok(number)
+        }
     }
-    Ok(())
 }
 
 /// Tries to put the numbers up to 99 into a map. After a refusal it should have the numbers before the refused one.
@@ -64,8 +70,12 @@ pub fn fill(call: Call, alloc: &Refusing, granted: u32) -> Outcome {
     let mut map = PassThroughHashMap::new(alloc);
     alloc.grant(granted);
     for number in 0..100 {
-        if put(call, &mut map, number).is_err() {
-            return outcome_of(Err(CoreError::OutOfMemory), has_numbers(&map, number));
+        match put(call, &mut map, number) {
+            Ok(value) if value == number => {}
+            Ok(_) => return Outcome::Wrong,
+            Err(AllocError) => {
+                return outcome_of(Err(CoreError::OutOfMemory), has_numbers(&map, number));
+            }
         }
     }
     outcome_of(Ok(has_numbers(&map, 100)), true)

@@ -12,6 +12,7 @@ use xet_merkle::CoreError;
 use xet_merkle::aggregated_hashes::{Node, file_hash, file_hash_with_salt, xorb_hash};
 use xet_merkle::chunk_range::ChunkRange;
 use xet_merkle::merkle_hash_subtree::{MerkleHashSubtree, find_stable_end, find_stable_start};
+use xet_merkle::plain_range::PlainRange;
 
 // The root of some pairs, and their file hash without a salt and under one of zeros.
 fn hashes(alloc: &Refusing, pairs: &[Node]) -> Result<[MerkleHash; 3], CoreError> {
@@ -57,14 +58,17 @@ fn show_what_they_are<'a>(
 }
 
 #[test]
-fn looking_at_subtrees_takes_no_memory(rt: HostRuntime) -> Result<(), Fail> {
+fn looking_at_ranges_takes_no_memory(rt: HostRuntime) -> Result<(), Fail> {
     let nodes = with_cuts::<28>(&EACH_FOURTH);
     let root = xorb_hash(rt.alloc(), &nodes)?;
     let alloc = refusing(rt.alloc());
     let open = MerkleHashSubtree::from_chunks(&alloc, false, &nodes[..24], false)?;
     let closed = MerkleHashSubtree::from_chunks(&alloc, true, &nodes, true)?;
+    let plain = PlainRange::from_chunks(&alloc, true, &nodes, false)?;
     alloc.grant(0);
     assert!(rt; show_what_they_are(&open, &closed, root));
+    assert_eq!(rt; plain.root(), Ok(None));
+    assert!(rt; plain.at_start() && !plain.at_end() && plain.chunks() == nodes.as_slice());
     assert_eq!(rt; find_stable_start(open.left(0)), None);
     assert_eq!(rt; find_stable_end(&nodes), Some(24));
     assert!(rt; !alloc.has_refused());
