@@ -142,11 +142,11 @@ fn answers<C: ChunkRange, H: KeptHashes<C::Alloc>>(
 #[test]
 fn sessions_answer_as_other_implementations_do(rt: HostRuntime) -> Result<(), Fail> {
     for calls in SESSIONS {
-        let mut subtrees: Session = SessionOf::new(rt.alloc())?;
+        let mut subtrees: Session = SessionOf::new(rt.alloc());
         answers(rt.alloc(), &mut subtrees, calls, true)?;
-        let mut plain: SessionOf<PlainRange> = SessionOf::new(rt.alloc())?;
+        let mut plain: SessionOf<PlainRange> = SessionOf::new(rt.alloc());
         answers(rt.alloc(), &mut plain, calls, true)?;
-        let mut without: SessionOf<MerkleHashSubtree, NoHashes> = SessionOf::new(rt.alloc())?;
+        let mut without: SessionOf<MerkleHashSubtree, NoHashes> = SessionOf::new(rt.alloc());
         answers(rt.alloc(), &mut without, calls, false)?;
     }
     Ok(())
@@ -156,7 +156,7 @@ fn sessions_answer_as_other_implementations_do(rt: HostRuntime) -> Result<(), Fa
 fn chunks_are_put_in_any_order(rt: HostRuntime) -> Result<(), Fail> {
     let alloc = rt.alloc();
     let (first, second, third) = (node(1, 100), node(2, 200), node(3, 300));
-    let mut session: Session = SessionOf::new(alloc)?;
+    let mut session: Session = SessionOf::new(alloc);
     assert_eq!(rt; session.put(2, &[third]), Ok(1));
     assert_eq!(rt; session.put(0, &[first, second]), Ok(2));
     assert_eq!(rt; session.put(1, &[third]), Err(SessionFault::Overlap));
@@ -172,7 +172,7 @@ fn chunks_are_put_in_any_order(rt: HostRuntime) -> Result<(), Fail> {
 // Whether a session of one chunk, which leaves no room for another's size, has the chunk's file hash.
 fn is_of_one_chunk<C: ChunkRange<Alloc = Global>>(alloc: Global) -> Result<bool, Fail> {
     let chunk = [node(1, MAX)];
-    let mut session: SessionOf<C> = SessionOf::new(alloc)?;
+    let mut session: SessionOf<C> = SessionOf::new(alloc);
     let answers = [
         session.put(0, &chunk),
         session.put(5, &[node(2, 1)]),
@@ -193,10 +193,10 @@ fn a_session_of_one_chunk_has_its_file_hash(rt: HostRuntime) -> Result<(), Fail>
 fn a_session_of_three_chunks_lends_one_range(rt: HostRuntime) -> Result<(), Fail> {
     let chunks = [node(1, 100), node(2, 200), node(3, 300)];
     let [first, second, third] = chunks;
-    let mut subtrees: Session = SessionOf::new(rt.alloc())?;
+    let mut subtrees: Session = SessionOf::new(rt.alloc());
     assert_eq!(rt; subtrees.put(2, &[third]), Ok(1));
     assert_eq!(rt; subtrees.put(0, &[first, second]), Ok(2));
-    let mut plain: SessionOf<PlainRange> = SessionOf::new(rt.alloc())?;
+    let mut plain: SessionOf<PlainRange> = SessionOf::new(rt.alloc());
     assert_eq!(rt; plain.put(2, &[third]), Ok(1));
     assert_eq!(rt; plain.put(0, &[first, second]), Ok(2));
     let expected = MerkleHashSubtree::from_chunks(rt.alloc(), false, &chunks, false)?;
@@ -213,7 +213,7 @@ fn a_session_of_three_chunks_lends_one_range(rt: HostRuntime) -> Result<(), Fail
 fn a_session_lends_the_ranges_of_its_runs(rt: HostRuntime) -> Result<(), Fail> {
     let all = [node(1, 100), node(2, 200), node(3, 300), node(4, 400)];
     let chunks = &all[..];
-    let mut session: Session = SessionOf::new(rt.alloc())?;
+    let mut session: Session = SessionOf::new(rt.alloc());
     assert_eq!(rt; session.put(2, &chunks[2..3]), Ok(1));
     assert_eq!(rt; session.put(7, &chunks[3..]), Ok(1));
     assert_eq!(rt; session.put(0, &chunks[..2]), Ok(2));

@@ -66,7 +66,7 @@ impl<C: ChunkRange> Ranges<C> {
         ensures counted { IfOk result (λ ranges. ranges.count ≡ 0) }
     {
         Ok(Ranges {
-            session: SessionOf::new(alloc.clone()?)?,
+            session: SessionOf::new_in(alloc.clone()?)?,
             range: Vec::new(alloc),
             first: 0,
             next: 0,

@@ -126,7 +126,7 @@ fn agrees<C: ChunkRange<Alloc = Global>>(alloc: Global, seed: u64) -> Result<boo
         taken: BTreeSet::new(alloc),
         seen: BTreeSet::new(alloc),
     };
-    let mut session: SessionOf<C> = SessionOf::new(alloc)?;
+    let mut session: SessionOf<C> = SessionOf::new(alloc);
     for (begin, end) in pieces.values() {
         let is_early = session.finish(total) == Err(SessionFault::Gap);
         let expected = plain.put(*begin, part(&numbers, *begin, *end))?;

@@ -42,7 +42,7 @@ fn is_refused_with_each_request<'a, C: ChunkRange<Alloc = &'a Refusing>>(
     };
     for granted in 0..500 {
         refusing.grant(u32::MAX);
-        let mut session: SessionOf<C> = SessionOf::new(refusing)?;
+        let mut session: SessionOf<C> = SessionOf::new_in(refusing)?;
         answers(alloc, &mut session, before, true)?;
         refusing.grant(granted);
         let fault = fault_of(alloc, &mut session, call)?;
@@ -88,7 +88,7 @@ fn answers_without_memory<'a, C: ChunkRange<Alloc = &'a Refusing>>(
 ) -> Result<bool, Fail> {
     let chunk = [node(1, 100)];
     refusing.grant(0);
-    let mut session: SessionOf<C> = SessionOf::new(refusing)?;
+    let mut session: SessionOf<C> = SessionOf::new_in(refusing)?;
     let is_empty = session.put(2, &[]) == Ok(0) && session.range(0).is_none() && !session.taken(2);
     let has_asked = refusing.has_refused();
     refusing.grant(u32::MAX);
