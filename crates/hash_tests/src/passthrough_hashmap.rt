@@ -356,7 +356,7 @@ fn fills<Key: U64HashExtractable + Hash + Eq + Copy>(
     }
 }
 
-// Reads the value 2 at the occupied place of a key, and writes there twice.
+// Reads the value 2 at the occupied place of a key, and writes there three times.
 fn overwrites<Key: U64HashExtractable + Hash + Eq + Copy>(
     map: &mut PassThroughHashMap<Key, u32>,
     key: Key,
@@ -364,11 +364,43 @@ fn overwrites<Key: U64HashExtractable + Hash + Eq + Copy>(
     match map.entry(key) {
         Entry::Occupied(mut place) => {
             let was_two = *place.key() == key && *place.get() == 2 && place.insert(3) == 2;
+            *place.get_mut() = 5;
+            let is_five = *place.get() == 5;
             *place.into_mut() = 4;
-            was_two
+            was_two && is_five
         }
         Entry::Vacant(_) => false,
     }
+}
+
+// Fills the places of three keys that aren't there, by a default, by what is made of the key, and as an occupied place, and
+// fills the last one again; what was filled once stays with the first two calls.
+fn fills_in_other_ways<Key: U64HashExtractable + Hash + Eq + Copy>(
+    map: &mut PassThroughHashMap<Key, u64>,
+    [first, second, third]: [Key; 3],
+) -> Result<bool, AllocError> {
+    let is_default = *map.entry(first).or_default()? == 0;
+    *map.entry(first).or_default()? = 7;
+    let is_made = *map
+        .entry(second)
+        .or_insert_with_key(U64HashExtractable::u64_hash_value)?
+        == second.u64_hash_value();
+    let stays = *map.entry(first).or_insert_with_key(|_| 8)? == 7;
+    let is_filled = match map.entry(third) {
+        Entry::Vacant(place) => *place.insert_entry(9)?.get() == 9,
+        Entry::Occupied(_) => false,
+    };
+    let mut place = map.entry(third).insert_entry(10)?;
+    let is_filled_again = *place.get() == 10 && *place.key() == third;
+    *place.get_mut() = 11;
+    Ok(
+        is_default
+            && is_made
+            && stays
+            && is_filled
+            && is_filled_again
+            && map.get(&third) == Some(&11),
+    )
 }
 
 // What the place of a key gives back as it is emptied, or the key alone where it is vacant.
@@ -415,6 +447,8 @@ fn places_are_read_filled_and_emptied(rt: HostRuntime) -> Result<(), Fail> {
     assert!(rt; changes_at_places(rt.alloc(), hashes())?);
     assert!(rt; changes_at_places(rt.alloc(), NUMBERS)?);
     assert!(rt; changes_at_places(rt.alloc(), NAMES)?);
+    assert!(rt; fills_in_other_ways(&mut PassThroughHashMap::new(rt.alloc()), hashes())?);
+    assert!(rt; fills_in_other_ways(&mut PassThroughHashMap::new(rt.alloc()), NAMES)?);
     Ok(())
 }
 

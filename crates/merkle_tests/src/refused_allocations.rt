@@ -90,7 +90,11 @@ pub enum Call {
     MapInsert,
     OrInsert,
     OrInsertWith,
+    OrInsertWithKey,
+    OrDefault,
+    InsertEntry,
     VacantInsert,
+    VacantInsertEntry,
     XorbHash,
     FileHash,
     FileHashWithSalt,
@@ -138,7 +142,7 @@ const OF_CHUNKS: [(Call, u64); 15] = [
 ];
 
 // The calls that have values of their own.
-const OF_OWN_VALUES: [Call; 12] = [
+const OF_OWN_VALUES: [Call; 16] = [
     Call::Hex,
     Call::Base64,
     Call::ToVec,
@@ -150,7 +154,11 @@ const OF_OWN_VALUES: [Call; 12] = [
     Call::MapInsert,
     Call::OrInsert,
     Call::OrInsertWith,
+    Call::OrInsertWithKey,
+    Call::OrDefault,
+    Call::InsertEntry,
     Call::VacantInsert,
+    Call::VacantInsertEntry,
 ];
 
 // The worked examples.
@@ -180,9 +188,14 @@ fn attempt(
         Call::MapWithCapacity | Call::MapFromPairs | Call::MapFromArray | Call::MapTryClone => {
             maps::make(call, alloc, granted)?
         }
-        Call::MapInsert | Call::OrInsert | Call::OrInsertWith | Call::VacantInsert => {
-            maps::fill(call, alloc, granted)
-        }
+        Call::MapInsert
+        | Call::OrInsert
+        | Call::OrInsertWith
+        | Call::OrInsertWithKey
+        | Call::OrDefault
+        | Call::InsertEntry
+        | Call::VacantInsert
+        | Call::VacantInsertEntry => maps::fill(call, alloc, granted),
         Call::XorbHash | Call::FileHash | Call::FileHashWithSalt => {
             hashes::of_chunks(call, alloc, granted, chunks)?
         }

@@ -40,6 +40,10 @@ module _ {K V A : Type 0} where
     pub same_key : entry_key new ≡ entry_key old
     pub after : (entry_map new).now ≡ entries
 
+-- the place whose value is w now
+abbrev pub with_value : {K V A : Type 0} → (K → K → Bool) → OccupiedEntry K V A → V → OccupiedEntry K V A
+with_value eq place w = record place { map = record place.map { now = set_value (eq place.key) place.map.now w } }
+
 -- `filled` is the place at whose key `value` was put, in the same map
 module _ {K V A : Type 0} (eq : K → K → Bool) where
   pub record IsFilled (place : Entry K V A) (value : V) (filled : OccupiedEntry K V A) : Type 0 where
@@ -75,10 +79,6 @@ module _ (K V A : RattleType) (extracted : ExtractableMembers K.Denot) (hashed :
     stays_if_refused filled =
         RestsIfErr map_type (entry_map place) (λ occupied. (entry_map (Occupied occupied)).ghost_name) filled (λ left. left ≡ (entry_map place).now)
 
-  -- the place whose value is w now
-  abbrev pub with_value : OccupiedEntry K.Denot V.Denot A.Denot → V.Denot → OccupiedEntry K.Denot V.Denot A.Denot
-  with_value place w = record place { map = record place.map { now = set_value (hashed.eq place.key) place.map.now w } }
-
   -- once the borrow ends, the last value behind r was written at the place's key, which has a value
   abbrev pub writes_in_place : MutBor (OccupiedEntry K.Denot V.Denot A.Denot) → MutBor V.Denot → Fml
-  writes_in_place place r = Lends place_type V place r (with_value place.now)
+  writes_in_place place r = Lends place_type V place r (with_value hashed.eq place.now)

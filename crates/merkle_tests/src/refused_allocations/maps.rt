@@ -54,8 +54,19 @@ fn put(call: Call, map: &mut Numbers<'_>, number: u64) -> Result<u64, AllocError
     match call {
         Call::OrInsert => Ok(*map.entry(number).or_insert(number)?),
         Call::OrInsertWith => Ok(*map.entry(number).or_insert_with(|| number)?),
+        Call::OrInsertWithKey => Ok(*map.entry(number).or_insert_with_key(|key| *key)?),
+        Call::OrDefault => {
+            let value = map.entry(number).or_default()?;
+            *value = number;
+            Ok(*value)
+        }
+        Call::InsertEntry => Ok(*map.entry(number).insert_entry(number)?.get()),
         Call::VacantInsert => match map.entry(number) {
             Entry::Vacant(place) => Ok(*place.insert(number)?),
+            Entry::Occupied(_) => Ok(u64::MAX),
+        },
+        Call::VacantInsertEntry => match map.entry(number) {
+            Entry::Vacant(place) => Ok(*place.insert_entry(number)?.get()),
             Entry::Occupied(_) => Ok(u64::MAX),
         },
         _ => {

@@ -7,7 +7,7 @@ ghost use Rattle.std.specs.Map.{set_value};
 ghost use Rattle.std.specs.Map.Calls.{ModifiesValue};
 ghost use Rattle.std.specs.Option.{UnwrapsOrElse};
 ghost use Rattle.passthrough_map.specs.FiniteMap.{key_at, Removes, Sets};
-ghost use Rattle.passthrough_map.specs.Entry.{Occupied, Vacant, entry_map, entry_key, entry_value, writes_there, writes_in_place, puts_there, stays_if_refused, IsLive, IsFilled, IsPlaceAfter};
+ghost use Rattle.passthrough_map.specs.Entry.{Occupied, Vacant, entry_map, entry_key, entry_value, with_value, writes_there, writes_in_place, puts_there, stays_if_refused, IsLive, IsFilled, IsPlaceAfter};
 
 use super::{Entry, OccupiedEntry, VacantEntry};
 use crate::passthrough_hasher::U64HashExtractable;
@@ -171,6 +171,7 @@ impl<'a, Key: U64HashExtractable + Hash + Eq, Val, A: Allocator> OccupiedEntry<'
         requires { IsLive Key.eq (Occupied self.old) }
         ensures* written { sem 𝓛 (writes_in_place Key.row Val.row A.row Key.U64HashExtractable Key.Hash A.Allocator self.entry result) }
         ensures value { entry_value Key.eq (Occupied self.old) ≡ Some result.now }
+        ensures live { (value : Val) → IsLive Key.eq (Occupied (with_value Key.eq self.old value)) }
     {
         let key = self.key;
         self.map.get_mut(&key).unwrap()
