@@ -160,18 +160,22 @@ pub(crate) fn push_lines(lines: &mut String, numbers: Range<u64>) -> Result<(), 
     Ok(())
 }
 
+// Of the first 9000 of them.
+const FEWER_PAIRS: &str = "xorb 1fa8c4f5d2b1ecb1ed7ec711894bcfaaa0c225182391131bc4f8c2b740f58ac0
+file 05fe8458ce220b994314c014b404ea97b6b86ef0ed06b74ab4c4b60cf2bc1beb
+";
+
 #[test]
 fn long_ranges_are_answered_as_a_whole(rt: HostRuntime) -> Result<(), Fail> {
     let mut in_order = String::new(rt.alloc());
-    push_lines(&mut in_order, 0..20000)?;
+    push_lines(&mut in_order, 0..20_000)?;
+    assert!(rt; answers(rt.alloc(), in_order.as_bytes(), Ok(MANY_PAIRS)));
     let mut in_reverse = String::new(rt.alloc());
-    writeln!(in_reverse, "@10000")?;
-    push_lines(&mut in_reverse, 10000..20000)?;
+    writeln!(in_reverse, "@4500")?;
+    push_lines(&mut in_reverse, 4500..9000)?;
     writeln!(in_reverse, "@0")?;
-    push_lines(&mut in_reverse, 0..10000)?;
-    for input in [in_order, in_reverse] {
-        assert!(rt; answers(rt.alloc(), input.as_bytes(), Ok(MANY_PAIRS)));
-    }
+    push_lines(&mut in_reverse, 0..4500)?;
+    assert!(rt; answers(rt.alloc(), in_reverse.as_bytes(), Ok(FEWER_PAIRS)));
     Ok(())
 }
 

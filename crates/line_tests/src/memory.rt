@@ -32,11 +32,6 @@ fn are_enough(alloc: Global, call: Call, mut input: &[u8], granted: u32) -> bool
     }
 }
 
-// The number of requests of a call.
-fn requests_of(alloc: Global, call: Call, input: &[u8]) -> Option<u32> {
-    (0..1000).find(|granted| are_enough(alloc, call, input, *granted))
-}
-
 // The lines of so many pairs, of which the first alone is a natural cut, so that they have one level.
 fn pairs(alloc: Global, count: u64) -> Result<String, Fail> {
     let mut lines = String::new(alloc);
@@ -49,21 +44,21 @@ fn pairs(alloc: Global, count: u64) -> Result<String, Fail> {
 
 #[test]
 fn a_list_has_4096_pairs(rt: HostRuntime) -> Result<(), Fail> {
-    let (half, full) = (pairs(rt.alloc(), 2049)?, pairs(rt.alloc(), 4096)?);
-    let more = pairs(rt.alloc(), 4097)?;
-    for call in [Call::Run, Call::RunOverPlainRanges, Call::Make] {
-        let requests = requests_of(rt.alloc(), call, full.as_bytes()).ok_or("more than 1000")?;
-        // A list takes as many requests to grow to 2049 pairs as to 4096.
-        assert_eq!(rt;
-            requests_of(rt.alloc(), call, half.as_bytes()),
-            Some(requests),
+    let (full, more) = (pairs(rt.alloc(), 4096)?, pairs(rt.alloc(), 4097)?);
+    // The requests by which a list grows to 4096 pairs and they are joined. One pair more ends the list, which takes more
+    // than the one request that growth would.
+    for (call, requests) in [
+        (Call::Run, 25),
+        (Call::RunOverPlainRanges, 15),
+        (Call::Make, 15),
+    ] {
+        assert!(rt;
+            are_enough(rt.alloc(), call, full.as_bytes(), requests),
             "{call:?}"
         );
-        // One pair more ends the list, which takes more than a request to grow it would.
-        let granted = requests.saturating_add(1);
         assert!(rt;
-            !are_enough(rt.alloc(), call, more.as_bytes(), granted),
-            "{call:?} {granted}"
+            !are_enough(rt.alloc(), call, more.as_bytes(), requests + 1),
+            "{call:?}"
         );
     }
     Ok(())
