@@ -75,20 +75,26 @@ fn read_base64(alloc: Global, text: &str) -> Result<String, Fail> {
     }
 }
 
+// Whether a base64 text is read as the hash of a hex text, which has it, or as none.
+fn reads_back(alloc: Global, text: &str, hex: &str) -> Result<bool, Fail> {
+    let is_read = read_base64(alloc, text)?.as_str() == hex;
+    match DataHash::from_hex(hex) {
+        Ok(hash) => Ok(is_read && hash.base64(alloc)?.as_str() == text),
+        Err(_) => Ok(is_read),
+    }
+}
+
 #[test]
 fn reads_what_base64_writes(rt: HostRuntime) -> Result<(), Fail> {
     let alloc = rt.alloc();
     for row in BASE64_TEXTS.lines() {
         let (text, hex) = row.split_once(' ').ok_or("no hash")?;
-        assert_eq!(rt; read_base64(alloc, text)?.as_str(), hex, "{text}");
-        if let Ok(hash) = DataHash::from_hex(hex) {
-            assert_eq!(rt; hash.base64(alloc)?.as_str(), text);
-        }
+        assert!(rt; reads_back(alloc, text, hex)?, "{row}");
     }
     for seed in 0..512 {
         let hash = DataHash::random_from_seed(seed);
-        let read = read_base64(alloc, hash.base64(alloc)?.as_str())?;
-        assert_eq!(rt; read.as_str(), hash.hex(alloc)?.as_str(), "{seed}");
+        let (text, hex) = (hash.base64(alloc)?, hash.hex(alloc)?);
+        assert!(rt; reads_back(alloc, text.as_str(), hex.as_str())?, "{seed}");
     }
     Ok(())
 }

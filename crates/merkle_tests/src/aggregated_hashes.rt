@@ -1,44 +1,12 @@
-//! The hashes of the crate `xet-core-structures` for thirteen lists of chunks, and of longer lists.
+//! The hashes of the crate `xet-core-structures` for thirteen lists of chunks, the parents of groups and their texts.
 
-use std::alloc::{AllocError, Global};
+use crate::support::{reference_chunk, reference_list};
+use std::alloc::Global;
 use std::fmt::Write;
 use std::test::Fail;
 use xet_hash::data_hash::{DataHash, MerkleHash, compute_internal_node_hash};
 use xet_merkle::CoreError;
 use xet_merkle::aggregated_hashes::{Node, file_hash, file_hash_with_salt, xorb_hash};
-
-// The chunks that the lists are made of, each with its number, its hash, and its size in bytes.
-const CHUNKS: &str = "0 0000000000000000000000000000000000000000000000000000000000000000 0
-1 cfc5d07f6f03c29bbf424132963fe08d19a37d5757aaf520bf08119f05cd56d6 100
-2 c3e67584b5c4fc2a89837ec39e40f2c8a6bb0b2987ac94cd4b31e5fbdd210a72 200
-3 0d2beb91b9196929a5ddec9f6e306924ddf4a24268e3e59fd8464738d525af37 300
-4 adf8773496a9b7319b2e50dc98093f344053b17d8ad37100b9c07d9805988784 400
-5 4ac202caf347fc1e9c874b1ef6a1c5e619141eb775a6f43f0f0124ccd0060d9e 500
-6 b3b28636f65c149ea52eb1f94669466f70f033b54cea792824c696ba6ef3c389 600
-7 0e2c1a002aae913d2c0fc8ddfa4e9e14b7b311b3b0d458726d5d9f6a6318013c 700
-";
-
-fn chunk(number: &str) -> Result<Node, Fail> {
-    for row in CHUNKS.lines() {
-        let mut columns = row.split(' ');
-        if columns.next() == Some(number) {
-            let hash = DataHash::from_hex(columns.next().ok_or("no hash")?)?;
-            return Ok((hash, columns.next().ok_or("no size")?.parse()?));
-        }
-    }
-    Err("no such chunk")?
-}
-
-// The chunks of which the numbers stand in a word, with a comma between two; `-` is no chunk.
-fn list(alloc: Global, numbers: &str) -> Result<Vec<Node>, Fail> {
-    let mut nodes = Vec::new(alloc);
-    for number in numbers.split(',') {
-        if number != "-" {
-            nodes.push(chunk(number)?)?;
-        }
-    }
-    Ok(nodes)
-}
 
 // A salt, and the hash under it.
 fn salted(alloc: Global, nodes: &[Node], salt: &str) -> Result<String, Fail> {
@@ -48,7 +16,7 @@ fn salted(alloc: Global, nodes: &[Node], salt: &str) -> Result<String, Fail> {
 
 // The row of a list and two salts.
 fn row_of(alloc: Global, numbers: &str, salts: (&str, &str)) -> Result<String, Fail> {
-    let nodes = list(alloc, numbers)?;
+    let nodes = reference_list(alloc, numbers)?;
     let nodes = nodes.as_slice();
     let root = xorb_hash(alloc, nodes)?;
     let file = file_hash(alloc, nodes)?;
@@ -90,59 +58,6 @@ const REFERENCES: &str =
 0,1,2,3,4,5,6,7 f62abe77e3fb9c954fe52b0028027ddc90c064c45951a4fd2211d87e5c0011db d1b068be5bbdb38992269e8efe61f601881e39f7a7585fd76883cc6ea5c23b44 6fb1cc393b130809e39c8073f96d9726364080a345a5af4978ab491e7d25faac eebe56be63552edcc6da65ff79f79262f83866236dd869f08a900674fc936ad3 9a251cb6ea998277ec94eeba84850ca3b1a01b66719043938c9695f72457abb1 8adf902c706ff117e38e10bbd076d5f139aaf6704159652d189d1350ac24b407
 ";
 
-// Where natural cuts stand in a list.
-#[derive(Clone, Copy, Debug)]
-enum Cuts {
-    EachFourth,
-    None,
-    All,
-}
-
-// As many nodes of size 1 as asked for, each with its number as first word.
-fn numbered(alloc: Global, count: u64, cuts: Cuts) -> Result<Vec<Node>, AllocError> {
-    let mut nodes = Vec::new(alloc);
-    for i in 0..count {
-        let is_cut = match cuts {
-            Cuts::EachFourth => i % 4 == 3,
-            Cuts::None => false,
-            Cuts::All => true,
-        };
-        nodes.push((MerkleHash::from([i, 0, 0, u64::from(!is_cut)]), 1))?;
-    }
-    Ok(nodes)
-}
-
-#[test]
-fn hold_for_longer_lists(rt: HostRuntime) -> Result<(), Fail> {
-    for (count, cuts, root) in [
-        (
-            28,
-            Cuts::EachFourth,
-            "b1026a806e25e14a5a9d00c9400b8b5b92e81027e1c574046edb37f500fcdeae",
-        ),
-        // Groups of nine.
-        (
-            1000,
-            Cuts::None,
-            "57b8c4f35a46f3aa852fd11c0982fc63e516b770a0262fc05003bdda513b24cf",
-        ),
-        // Groups of three.
-        (
-            10,
-            Cuts::All,
-            "267290865ec50d15a40c85a0a3a576930d9997fcc5ecfb744ba1ed6d300aeeeb",
-        ),
-    ] {
-        let nodes = numbered(rt.alloc(), count, cuts)?;
-        assert_eq!(rt;
-            xorb_hash(rt.alloc(), nodes.as_slice()),
-            Ok(DataHash::from_hex(root)?),
-            "{count}, {cuts:?}"
-        );
-    }
-    Ok(())
-}
-
 // Each row has the numbers of a list's chunks, and the hash and the size of the parent of each of its groups.
 const PARENTS: &str = "1,1,1,1 89f2ada89ff8c96763c6b25010e6dd76a4c05b1466207633ea559acf2093211b 400
 0,1,0,1 f04f4d4245ec66bda7bd6f962f5344d27c7e73c5405e7c83bf61814037633e71 100 fe536ba64afae22e992334c62335987cb8ae79e55f32806d473d7619a83ce721 100
@@ -154,7 +69,7 @@ fn a_root_is_that_of_the_parents_of_groups(rt: HostRuntime) -> Result<(), Fail> 
     for row in PARENTS.lines() {
         let columns: Vec<&str> = row.split(' ').collect(rt.alloc())?;
         if let [numbers, columns @ ..] = columns.as_slice() {
-            let nodes = list(rt.alloc(), numbers)?;
+            let nodes = reference_list(rt.alloc(), numbers)?;
             let mut parents = Vec::new(rt.alloc());
             for parent in columns.chunks(2) {
                 if let [hash, size] = parent {
@@ -171,7 +86,7 @@ fn a_root_is_that_of_the_parents_of_groups(rt: HostRuntime) -> Result<(), Fail> 
 #[test]
 fn a_groups_text_has_a_line_for_each_node(rt: HostRuntime) -> Result<(), Fail> {
     let alloc = rt.alloc();
-    let (hash, _) = chunk("1")?;
+    let (hash, _) = reference_chunk("1")?;
     // Three natural cuts are a group, and a node after them is one of its own.
     let zeros = [(MerkleHash::default(), 0); 3];
     let [zero, _, _] = zeros;
@@ -201,8 +116,8 @@ fn are_refused(alloc: Global, nodes: &[Node]) -> (bool, bool) {
 
 #[test]
 fn refuse_sizes_past_u64(rt: HostRuntime) -> Result<(), Fail> {
-    let (first, _) = chunk("1")?;
-    let (second, _) = chunk("2")?;
+    let (first, _) = reference_chunk("1")?;
+    let (second, _) = reference_chunk("2")?;
     for (size, next, refused) in [
         (u64::MAX, 0, false),
         (u64::MAX, 1, true),

@@ -13,7 +13,9 @@ mod merging;
 mod shapes;
 mod texts;
 
-use crate::support::{EACH_FOURTH, MARKS, drawn_list, has_counts, with_cuts};
+use crate::support::{
+    EACH_FOURTH, MARKS, drawn_list, has_told_counts, told_nodes, told_ranges, with_cuts,
+};
 use rand_core::SeedableRng;
 use rand_xoshiro::Xoshiro256PlusPlus;
 use std::test::Fail;
@@ -24,49 +26,56 @@ use xet_merkle::chunk_range::ChunkRange;
 use xet_merkle::merkle_hash_subtree::{MerkleHashSubtree, find_stable_end, find_stable_start};
 use xet_merkle::plain_range::PlainRange;
 
+// Each row has the nodes of a list, and its first and its last stable point.
+const STABLE_POINTS: &str = "...|...|...|...|...| 8 16
+...|...|...|...| 8 12
+|..|..| 4 4
+|......|......| 8 8
+|.......|.......| - -
+|.|.| - -
+..|..|...|........|.|..| 6 6
+ - -
+";
+
 #[test]
-fn stable_points_need_gaps_from_three_to_seven(rt: HostRuntime) {
-    let twenty = with_cuts::<20>(&EACH_FOURTH);
-    let shortest = with_cuts::<7>(&[0, 3, 6]);
-    let longest = with_cuts::<15>(&[0, 7, 14]);
-    let too_long = with_cuts::<17>(&[0, 8, 16]);
-    let too_short = with_cuts::<5>(&[0, 2, 4]);
-    let one_fits = with_cuts::<24>(&[2, 5, 9, 18, 20, 23]);
-    for (nodes, start, end) in [
-        (twenty.as_slice(), Some(8), Some(16)),
-        (&twenty[..16], Some(8), Some(12)),
-        (&shortest, Some(4), Some(4)),
-        (&longest, Some(8), Some(8)),
-        (&too_long, None, None),
-        (&too_short, None, None),
-        (&one_fits, Some(6), Some(6)),
-        (&[], None, None),
-    ] {
-        assert_eq!(rt; find_stable_start(nodes), start);
-        assert_eq!(rt; find_stable_end(nodes), end);
+fn stable_points_need_gaps_from_three_to_seven(rt: HostRuntime) -> Result<(), Fail> {
+    for row in STABLE_POINTS.lines() {
+        let (text, places) = row.split_once(' ').ok_or("no places")?;
+        let nodes = told_nodes(rt.alloc(), text)?;
+        let found = match (find_stable_start(&nodes), find_stable_end(&nodes)) {
+            (Some(start), Some(end)) => format!(in rt.alloc(); "{start} {end}")?,
+            (start, end) => {
+                assert!(rt; start.is_none() && end.is_none(), "{row}");
+                format!(in rt.alloc(); "- -")?
+            }
+        };
+        assert_eq!(rt; found.as_str(), places, "{text}");
     }
+    Ok(())
 }
+
+// Each row has a list with the marks of its ends, and how many left and right nodes each level of its subtree has.
+const KEPT: &str = "(...|...|...|...|...|) 8,4 2,0
+(...|...|...|...|...|...|) 8,4 3,0
+[...|...|...|...|...|...|...|) 0,4 6,0
+(...|...|...|...|) 16,0
+(|..|..|) 7,0
+[|..|..|) 0,3 1,0
+(|..|..|] 4,0 1,0
+[] 0,0
+";
 
 #[test]
 fn keeps_what_stands_outside_the_stable_points(rt: HostRuntime) -> Result<(), Fail> {
-    let nodes = with_cuts::<28>(&EACH_FOURTH);
-    let shortest = with_cuts::<7>(&[0, 3, 6]);
-    for (at_start, chunks, at_end, counts) in [
-        (false, &nodes[..20], false, [(8, 4), (2, 0)].as_slice()),
-        (false, &nodes[..24], false, &[(8, 4), (3, 0)]),
-        (true, &nodes, false, &[(0, 4), (6, 0)]),
-        (false, &nodes[..16], false, &[(16, 0)]),
-        (false, &shortest, false, &[(7, 0)]),
-        (true, &shortest, false, &[(0, 3), (1, 0)]),
-        (false, &shortest, true, &[(4, 0), (1, 0)]),
-        (true, &[], true, &[(0, 0)]),
-    ] {
-        let subtree = MerkleHashSubtree::from_chunks(rt.alloc(), at_start, chunks, at_end)?;
-        assert!(rt; has_counts(&subtree, counts));
-        assert_eq!(rt; subtree.at_start(), at_start);
-        assert_eq!(rt; subtree.at_end(), at_end);
-        assert_eq!(rt; subtree.total_size(), chunks.len() as u64);
-        assert!(rt; subtree == subtree.try_clone()?);
+    for row in KEPT.lines() {
+        let (text, counts) = row.split_once(' ').ok_or("no counts")?;
+        let ranges = told_ranges(rt.alloc(), text)?;
+        let subtree = ranges.first().ok_or("no range")?;
+        assert!(rt; has_told_counts(rt.alloc(), subtree, counts)?, "{row}");
+        assert_eq!(rt; subtree.at_start(), text.starts_with('['));
+        assert_eq!(rt; subtree.at_end(), text.ends_with(']'));
+        assert_eq!(rt; subtree.total_size(), text.len().saturating_sub(2) as u64);
+        assert!(rt; *subtree == subtree.try_clone()?);
     }
     Ok(())
 }

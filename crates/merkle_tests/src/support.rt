@@ -129,6 +129,40 @@ pub fn numbered_list(alloc: Global, number: u64) -> Result<Vec<Node>, AllocError
     Ok(nodes)
 }
 
+// The chunks that the reference lists are made of, each with its number, its hash, and its size in bytes.
+const CHUNKS: &str = "0 0000000000000000000000000000000000000000000000000000000000000000 0
+1 cfc5d07f6f03c29bbf424132963fe08d19a37d5757aaf520bf08119f05cd56d6 100
+2 c3e67584b5c4fc2a89837ec39e40f2c8a6bb0b2987ac94cd4b31e5fbdd210a72 200
+3 0d2beb91b9196929a5ddec9f6e306924ddf4a24268e3e59fd8464738d525af37 300
+4 adf8773496a9b7319b2e50dc98093f344053b17d8ad37100b9c07d9805988784 400
+5 4ac202caf347fc1e9c874b1ef6a1c5e619141eb775a6f43f0f0124ccd0060d9e 500
+6 b3b28636f65c149ea52eb1f94669466f70f033b54cea792824c696ba6ef3c389 600
+7 0e2c1a002aae913d2c0fc8ddfa4e9e14b7b311b3b0d458726d5d9f6a6318013c 700
+";
+
+/// The reference chunk of a number.
+pub fn reference_chunk(number: &str) -> Result<Node, Fail> {
+    for row in CHUNKS.lines() {
+        let mut columns = row.split(' ');
+        if columns.next() == Some(number) {
+            let hash = DataHash::from_hex(columns.next().ok_or("no hash")?)?;
+            return Ok((hash, columns.next().ok_or("no size")?.parse()?));
+        }
+    }
+    Err("no such chunk")?
+}
+
+/// The reference chunks whose numbers stand in a word, with a comma between two; `-` is no chunk.
+pub fn reference_list(alloc: Global, numbers: &str) -> Result<Vec<Node>, Fail> {
+    let mut nodes = Vec::new(alloc);
+    for number in numbers.split(',') {
+        if number != "-" {
+            nodes.push(reference_chunk(number)?)?;
+        }
+    }
+    Ok(nodes)
+}
+
 // Adds the 32 bytes of each node's hash, and the 8 of its size from the lowest up.
 fn push_nodes(bytes: &mut Vec<u8>, nodes: &[Node]) -> Result<(), AllocError> {
     for (hash, size) in nodes {
@@ -178,6 +212,68 @@ pub fn ranges(
     }
     ranges.push(MerkleHashSubtree::from_chunks(alloc, at_start, rest, at_end)?)?;
     Ok(ranges)
+}
+
+// The node that a letter stands for, with its number as first word.
+fn node(number: u64, letter: char) -> Node {
+    let size = match letter {
+        '+' => u64::MAX,
+        'o' => 0,
+        _ => 1,
+    };
+    let last = u64::from(letter != '|');
+    (MerkleHash::from([number, 0, 0, last]), size)
+}
+
+// The nodes of all ranges, and how many each range but the last has.
+fn nodes_and_lengths(alloc: Global, text: &str) -> Result<(Vec<Node>, Vec<usize>), AllocError> {
+    let mut nodes = Vec::new(alloc);
+    let mut lengths = Vec::new(alloc);
+    let mut length = 0usize;
+    for letter in text.chars() {
+        match letter {
+            '[' | '(' | ']' | ')' => {}
+            '/' => {
+                lengths.push(length)?;
+                length = 0;
+            }
+            _ => {
+                nodes.push(node(nodes.len() as u64, letter))?;
+                length = length.saturating_add(1);
+            }
+        }
+    }
+    Ok((nodes, lengths))
+}
+
+/// The ranges that a text tells. `[` and `]` mark the list's start and end, `(` and `)` don't; a `/` stands between two
+/// ranges. Each other letter is a node: `|` a natural cut of size 1, and those that are none `.` of size 1, `+` of the
+/// largest size and `o` of size 0.
+pub fn told_ranges(alloc: Global, text: &str) -> Result<Vec<MerkleHashSubtree>, CoreError> {
+    let marks = (text.starts_with('['), text.ends_with(']'));
+    let (nodes, lengths) = nodes_and_lengths(alloc, text)?;
+    ranges(alloc, nodes.as_slice(), lengths.as_slice(), marks)
+}
+
+/// The nodes that a text tells, as [`told_ranges`] reads them.
+pub fn told_nodes(alloc: Global, text: &str) -> Result<Vec<Node>, AllocError> {
+    let (nodes, _) = nodes_and_lengths(alloc, text)?;
+    Ok(nodes)
+}
+
+/// Whether each level of a subtree has as many left and right nodes as a text tells: a word for each level, with a comma
+/// between two numbers.
+pub fn has_told_counts(
+    alloc: Global,
+    subtree: &MerkleHashSubtree,
+    text: &str,
+) -> Result<bool, Fail> {
+    let mut counts = Vec::new(alloc);
+    for word in text.split(' ') {
+        let (left, right) = word.split_once(',').ok_or("no two counts")?;
+        counts.push((left.parse()?, right.parse()?))?;
+    }
+    Ok(has_counts(subtree, counts.as_slice()))
 }
 
 /// Merges the range at a place into the one before it.

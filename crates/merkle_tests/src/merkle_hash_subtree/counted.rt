@@ -1,8 +1,11 @@
-//! How many parents a merge hashes: worked examples, another maker of hashes, and the bounds.
+//! How many parents a merge hashes: short ranges, another maker of hashes, and the bounds.
 
 ghost use Rattle.std.specs.Prelude.{◌≡◌, [], ◌∷◌, length};
 
-use crate::support::{EACH_FOURTH, drawn_list, drawn_nodes, has_counts, read_json, with_cuts};
+use crate::support::{
+    EACH_FOURTH, drawn_list, drawn_nodes, has_counts, has_told_counts, read_json, reference_list,
+    with_cuts,
+};
 use rand_core::{Rng, SeedableRng};
 use rand_xoshiro::Xoshiro256PlusPlus;
 use std::alloc::{AllocError, Global};
@@ -14,53 +17,27 @@ use xet_merkle::aggregated_hashes::Node;
 use xet_merkle::merkle_hash_subtree::MerkleHashSubtree;
 use xet_merkle::parent_maker::{ParentHashes, ParentMaker};
 
-#[test]
-fn an_open_range_hashes_what_completes_stable_points(rt: HostRuntime) -> Result<(), Fail> {
-    let alloc = rt.alloc();
-    let nodes = with_cuts::<28>(&EACH_FOURTH);
-    let (first, rest) = nodes.split_at(4);
-    let (second, third) = rest.split_at(20);
-    let mut first = MerkleHashSubtree::from_chunks(alloc, true, first, false)?;
-    let mut twenty = MerkleHashSubtree::from_chunks(alloc, false, second, false)?;
-    let four = MerkleHashSubtree::from_chunks(alloc, false, third, false)?;
-    assert_eq!(rt; twenty.merge_into_counted(&four)?, 1);
-    assert_eq!(rt; first.merge_into_counted(&twenty)?, 3);
-    assert!(rt; first == MerkleHashSubtree::from_chunks(alloc, true, &nodes, false)?);
-    Ok(())
-}
+// Each row has the numbers of the reference chunks of two ranges, how many parents their merge hashes, the root, and how
+// many left and right nodes each level then has.
+const MERGES: &str =
+    "0,1,0 1 3 e1755c85be07fd6b7a8d7becc85e6d8c5f507f2a3d38b316bcb6f97855e72188 0,0 0,0 1,0
+1 1,1,1 1 89f2ada89ff8c96763c6b25010e6dd76a4c05b1466207633ea559acf2093211b 0,0 1,0
+- - 0 0000000000000000000000000000000000000000000000000000000000000000 0,0
+";
 
 #[test]
 fn short_ranges_hash_each_level(rt: HostRuntime) -> Result<(), Fail> {
-    let one = [(DataHash::random_from_seed(1), 100)];
-    let nil = (MerkleHash::default(), 0);
-    let zeros = [nil, one[0], nil];
-    for (left, right, count, counts, root) in [
-        (
-            zeros.as_slice(),
-            one.as_slice(),
-            3,
-            [(0, 0), (0, 0), (1, 0)].as_slice(),
-            "e1755c85be07fd6b7a8d7becc85e6d8c5f507f2a3d38b316bcb6f97855e72188",
-        ),
-        (
-            &one,
-            &[one[0]; 3],
-            1,
-            &[(0, 0), (1, 0)],
-            "89f2ada89ff8c96763c6b25010e6dd76a4c05b1466207633ea559acf2093211b",
-        ),
-        (
-            &[],
-            &[],
-            0,
-            &[(0, 0)],
-            "0000000000000000000000000000000000000000000000000000000000000000",
-        ),
-    ] {
-        let mut subtree = MerkleHashSubtree::from_chunks(rt.alloc(), true, left, false)?;
-        let right = MerkleHashSubtree::from_chunks(rt.alloc(), false, right, true)?;
-        assert_eq!(rt; subtree.merge_into_counted(&right)?, count);
-        assert!(rt; has_counts(&subtree, counts), "{count}");
+    let alloc = rt.alloc();
+    for row in MERGES.lines() {
+        let columns: Vec<&str> = row.splitn(5, ' ').collect(alloc)?;
+        let [left, right, count, root, counts] = columns.as_slice() else {
+            return Err("a row lacks a column")?;
+        };
+        let (left, right) = (reference_list(alloc, left)?, reference_list(alloc, right)?);
+        let mut subtree = MerkleHashSubtree::from_chunks(alloc, true, left.as_slice(), false)?;
+        let right = MerkleHashSubtree::from_chunks(alloc, false, right.as_slice(), true)?;
+        assert_eq!(rt; subtree.merge_into_counted(&right)?, count.parse()?);
+        assert!(rt; has_told_counts(alloc, &subtree, counts)?, "{row}");
         assert_eq!(rt; subtree.final_hash(), Some(DataHash::from_hex(root)?));
     }
     Ok(())

@@ -1,6 +1,6 @@
 //! The JSON form of subtrees: its text, what is read back, and the least broken rule of what isn't a subtree's.
 
-use crate::support::{EACH_FOURTH, MARKS, NO_PAIRS, drawn_list, read_json, two_levels, with_cuts};
+use crate::support::{EACH_FOURTH, MARKS, NO_PAIRS, drawn_list, read_json, with_cuts};
 use rand_core::SeedableRng;
 use rand_xoshiro::Xoshiro256PlusPlus;
 use serde_json::Value;
@@ -138,32 +138,6 @@ fn empty_sides_and_further_members_are_read(rt: HostRuntime) -> Result<(), Fail>
 }
 
 #[test]
-fn sides_from_strangers_are_looked_at(rt: HostRuntime) -> Result<(), Fail> {
-    let nodes = with_cuts::<28>(&EACH_FOURTH);
-    let (nodes, _) = nodes.split_at(24);
-    let whole = MerkleHashSubtree::from_chunks(rt.alloc(), false, nodes, false)?;
-    let (first, last) = nodes.split_at(8);
-    let (_, right) = last.split_at(12);
-    let value = two_levels(rt.alloc(), first, right, whole.left(1))?;
-    assert!(rt; MerkleHashSubtree::from_json(rt.alloc(), &value)? == whole);
-    // A stable point among the left nodes.
-    let mut longer = Vec::new(rt.alloc());
-    longer.extend_from_slice(first)?;
-    longer.extend_from_slice(last.split_at(8).1)?;
-    let (twenty, _) = nodes.split_at(20);
-    let open = MerkleHashSubtree::from_chunks(rt.alloc(), false, twenty, false)?;
-    let value = two_levels(rt.alloc(), longer.as_slice(), &[], open.left(1))?;
-    let refusal = MerkleHashSubtree::from_json(rt.alloc(), &value).err();
-    assert_eq!(rt; refusal, Some(CoreError::InvalidJson(12)));
-    // Right nodes without a natural cut.
-    let plain = with_cuts::<4>(&[]);
-    let value = two_levels(rt.alloc(), first, &plain, whole.left(1))?;
-    let refusal = MerkleHashSubtree::from_json(rt.alloc(), &value).err();
-    assert_eq!(rt; refusal, Some(CoreError::InvalidJson(13)));
-    Ok(())
-}
-
-#[test]
 fn proper_fronts_of_a_text_are_no_json(rt: HostRuntime) -> Result<(), Fail> {
     for text in [ONE, NO_PAIRS] {
         for len in 0..text.len() {
@@ -175,26 +149,22 @@ fn proper_fronts_of_a_text_are_no_json(rt: HostRuntime) -> Result<(), Fail> {
     Ok(())
 }
 
+// Each row has the rule that a text breaks where it lacks a member, and the member.
+const MEMBERS: &str = r#"2 "at_end":false,
+2 "at_start":true,
+2 "levels":[[1,0]],
+2 ,"nodes":[{"hash":"cfc5d07f6f03c29bbf424132963fe08d19a37d5757aaf520bf08119f05cd56d6","size":100}]
+3 "hash":"cfc5d07f6f03c29bbf424132963fe08d19a37d5757aaf520bf08119f05cd56d6",
+3 ,"size":100
+"#;
+
 #[test]
 fn each_member_has_to_be_there(rt: HostRuntime) -> Result<(), Fail> {
-    for (member, rule) in [
-        (r#""at_end":false,"#, 2),
-        (r#""at_start":true,"#, 2),
-        (r#""levels":[[1,0]],"#, 2),
-        (
-            r#","nodes":[{"hash":"cfc5d07f6f03c29bbf424132963fe08d19a37d5757aaf520bf08119f05cd56d6","size":100}]"#,
-            2,
-        ),
-        (
-            r#""hash":"cfc5d07f6f03c29bbf424132963fe08d19a37d5757aaf520bf08119f05cd56d6","#,
-            3,
-        ),
-        (r#","size":100"#, 3),
-    ] {
+    for row in MEMBERS.lines() {
+        let (rule, member) = row.split_once(' ').ok_or("no rule")?;
         let text = ONE.replace(rt.alloc(), member, "")?;
         assert!(rt; text.len() < ONE.len(), "{member}");
-        let refusal = read_json(rt.alloc(), text.as_str())?.err();
-        assert_eq!(rt; refusal, Some(CoreError::InvalidJson(rule)), "{member}");
+        assert!(rt; breaks_rule(rt.alloc(), rule, text.as_str())?, "{member}");
     }
     Ok(())
 }

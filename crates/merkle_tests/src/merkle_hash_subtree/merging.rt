@@ -1,28 +1,18 @@
-//! Merging the subtrees of adjacent ranges: worked examples, refusals, and the roots of lists that are split
+//! Merging the subtrees of adjacent ranges: bracketings, refusals, and the roots of lists that are split
 //! at many places.
 
 use crate::support::{
     EACH_FOURTH, MARKS, drawn_lengths, drawn_list, has_counts, merge_into_previous, ranges,
-    with_cuts,
+    reference_list, with_cuts,
 };
 use rand_core::{Rng, SeedableRng};
 use rand_xoshiro::Xoshiro256PlusPlus;
-use std::alloc::{AllocError, Global};
+use std::alloc::Global;
 use std::test::Fail;
 use xet_hash::data_hash::{DataHash, MerkleHash};
 use xet_merkle::CoreError;
 use xet_merkle::aggregated_hashes::{Node, xorb_hash};
 use xet_merkle::merkle_hash_subtree::{MerkleHashSubtree, find_stable_end, find_stable_start};
-
-// The merged subtree of two ranges, which both stay.
-fn joined(
-    left: &MerkleHashSubtree,
-    right: &MerkleHashSubtree,
-) -> Result<MerkleHashSubtree, CoreError> {
-    let mut merged = left.try_clone()?;
-    merged.merge_into(right)?;
-    Ok(merged)
-}
 
 // Whether the merged ranges of a list have the root of the whole.
 fn merge_to_root(alloc: Global, nodes: &[Node], lengths: &[usize]) -> Result<bool, CoreError> {
@@ -40,41 +30,6 @@ fn ranges_are_joined_to_the_root_of_the_whole(rt: HostRuntime) -> Result<(), Fai
     file.merge_into(&MerkleHashSubtree::from_chunks(alloc, false, second, false)?)?;
     file.merge_into(&MerkleHashSubtree::from_chunks(alloc, false, &[], true)?)?;
     assert_eq!(rt; file.final_hash(), Some(xorb_hash(alloc, &all)?));
-    Ok(())
-}
-
-#[test]
-fn an_open_range_takes_in_its_neighbours(rt: HostRuntime) -> Result<(), Fail> {
-    let nodes = with_cuts::<28>(&EACH_FOURTH);
-    let (nodes, _) = nodes.split_at(24);
-    let whole = MerkleHashSubtree::from_chunks(rt.alloc(), false, nodes, false)?;
-    let (first, last) = nodes.split_at(20);
-    let twenty = MerkleHashSubtree::from_chunks(rt.alloc(), false, first, false)?;
-    let after = MerkleHashSubtree::from_chunks(rt.alloc(), false, last, false)?;
-    let merged = joined(&twenty, &after)?;
-    assert!(rt; has_counts(&merged, &[(8, 4), (3, 0)]));
-    assert!(rt; merged == whole);
-    let (first, last) = nodes.split_at(4);
-    let before = MerkleHashSubtree::from_chunks(rt.alloc(), false, first, false)?;
-    let twenty = MerkleHashSubtree::from_chunks(rt.alloc(), false, last, false)?;
-    assert!(rt; joined(&before, &twenty)? == whole);
-    Ok(())
-}
-
-#[test]
-fn a_range_at_the_start_takes_in_a_merged_one(rt: HostRuntime) -> Result<(), Fail> {
-    let nodes = with_cuts::<28>(&EACH_FOURTH);
-    let (first, rest) = nodes.split_at(4);
-    let (second, third) = rest.split_at(20);
-    let first = MerkleHashSubtree::from_chunks(rt.alloc(), true, first, false)?;
-    let twenty = MerkleHashSubtree::from_chunks(rt.alloc(), false, second, false)?;
-    let four = MerkleHashSubtree::from_chunks(rt.alloc(), false, third, false)?;
-    let merged = joined(&first, &joined(&twenty, &four)?)?;
-    assert!(rt; has_counts(&merged, &[(0, 4), (6, 0)]));
-    assert!(rt; merged == MerkleHashSubtree::from_chunks(rt.alloc(), true, &nodes, false)?);
-    let end = MerkleHashSubtree::from_chunks(rt.alloc(), false, &[], true)?;
-    let root = xorb_hash(rt.alloc(), &nodes)?;
-    assert_eq!(rt; joined(&merged, &end)?.final_hash(), Some(root));
     Ok(())
 }
 
@@ -314,52 +269,24 @@ fn long_drawn_lists_merge_to_their_root_at_stable_points(rt: HostRuntime) -> Res
     Ok(())
 }
 
-// The nodes of the reference lists: the default hash of size 0, and the hashes of the seeds from 1 on, with a
-// size of 100 for each number.
-fn reference_nodes(alloc: Global, numbers: &[u64]) -> Result<Vec<Node>, AllocError> {
-    let mut nodes = Vec::new(alloc);
-    for number in numbers {
-        let hash = if *number == 0 {
-            MerkleHash::default()
-        } else {
-            DataHash::random_from_seed(*number)
-        };
-        nodes.push((hash, number.saturating_mul(100)))?;
-    }
-    Ok(nodes)
-}
+// Each row has the numbers of a list's chunks and its root.
+const REFERENCES: &str = "1,2,3 71ec1275fca074724e2dd666921b3277c7cee603e4d025bcab2d4050015be2bc
+1,2,1,2,3,4 52c826f99507aa05d0b45e9837fa1709e0485425cfbcb1e80db3905cf98b3ee9
+0,1,2,3,4,5,6,7 f62abe77e3fb9c954fe52b0028027ddc90c064c45951a4fd2211d87e5c0011db
+0,1,2,3,4,5,6,7,1,1,1,1 e7fc30b73ec9930593f80fe777b334e9d3bb73e45e6a79fa5784b2603446158b
+0,0,1,1,2,2,3,3,4,4,5,5,6,6,7,7 636c65db520ec16e8166f9ec7a0cf9f74b26369077ac60160ec0221c86bc9f77
+";
 
 #[test]
 fn reference_lists_merge_to_their_root_at_each_split(rt: HostRuntime) -> Result<(), Fail> {
-    let lists: [(&[u64], &str); 5] = [
-        (
-            &[1, 2, 3],
-            "71ec1275fca074724e2dd666921b3277c7cee603e4d025bcab2d4050015be2bc",
-        ),
-        (
-            &[1, 2, 1, 2, 3, 4],
-            "52c826f99507aa05d0b45e9837fa1709e0485425cfbcb1e80db3905cf98b3ee9",
-        ),
-        (
-            &[0, 1, 2, 3, 4, 5, 6, 7],
-            "f62abe77e3fb9c954fe52b0028027ddc90c064c45951a4fd2211d87e5c0011db",
-        ),
-        (
-            &[0, 1, 2, 3, 4, 5, 6, 7, 1, 1, 1, 1],
-            "e7fc30b73ec9930593f80fe777b334e9d3bb73e45e6a79fa5784b2603446158b",
-        ),
-        (
-            &[0, 0, 1, 1, 2, 2, 3, 3, 4, 4, 5, 5, 6, 6, 7, 7],
-            "636c65db520ec16e8166f9ec7a0cf9f74b26369077ac60160ec0221c86bc9f77",
-        ),
-    ];
-    for (numbers, root) in lists {
-        let nodes = reference_nodes(rt.alloc(), numbers)?;
+    for row in REFERENCES.lines() {
+        let (numbers, root) = row.split_once(' ').ok_or("no root")?;
+        let nodes = reference_list(rt.alloc(), numbers)?;
         let root = Some(DataHash::from_hex(root)?);
-        for first in 0..numbers.len().saturating_add(1) {
+        for first in 0..=nodes.len() {
             let ranges = ranges(rt.alloc(), nodes.as_slice(), &[first], (true, true))?;
             let merged = MerkleHashSubtree::merge(rt.alloc(), ranges.as_slice())?;
-            assert_eq!(rt; merged.final_hash(), root, "{numbers:?}, {first}");
+            assert_eq!(rt; merged.final_hash(), root, "{numbers}, {first}");
         }
     }
     Ok(())

@@ -1,52 +1,9 @@
 //! The compact JSON texts of canonical subtrees and of merged ones, of lists whose natural cuts are told, beside
 //! texts that were made without this code.
 
-use crate::support::{merge_into_previous, ranges, read_json};
-use std::alloc::{AllocError, Global};
+use crate::support::{merge_into_previous, read_json, told_ranges};
+use std::alloc::Global;
 use std::test::Fail;
-use xet_hash::data_hash::MerkleHash;
-use xet_merkle::CoreError;
-use xet_merkle::aggregated_hashes::Node;
-use xet_merkle::merkle_hash_subtree::MerkleHashSubtree;
-
-// The node that a letter stands for, with its number as first word.
-fn node(number: u64, letter: char) -> Node {
-    let size = match letter {
-        '+' => u64::MAX,
-        'o' => 0,
-        _ => 1,
-    };
-    let last = u64::from(letter != '|');
-    (MerkleHash::from([number, 0, 0, last]), size)
-}
-
-// The nodes of all ranges, and how many each range but the last has.
-fn nodes_and_lengths(alloc: Global, text: &str) -> Result<(Vec<Node>, Vec<usize>), AllocError> {
-    let mut nodes = Vec::new(alloc);
-    let mut lengths = Vec::new(alloc);
-    let mut length = 0usize;
-    for letter in text.chars() {
-        match letter {
-            '[' | '(' | ']' | ')' => {}
-            '/' => {
-                lengths.push(length)?;
-                length = 0;
-            }
-            _ => {
-                nodes.push(node(nodes.len() as u64, letter))?;
-                length = length.saturating_add(1);
-            }
-        }
-    }
-    Ok((nodes, lengths))
-}
-
-// The ranges that a row tells.
-fn told_ranges(alloc: Global, text: &str) -> Result<Vec<MerkleHashSubtree>, CoreError> {
-    let marks = (text.starts_with('['), text.ends_with(']'));
-    let (nodes, lengths) = nodes_and_lengths(alloc, text)?;
-    ranges(alloc, nodes.as_slice(), lengths.as_slice(), marks)
-}
 
 // The text of the subtree that a row's ranges are merged to. An error where that isn't read back as the subtree.
 fn merged_text(alloc: Global, ranges: &str, places: &str) -> Result<String, Fail> {
@@ -79,10 +36,8 @@ fn subtrees_have_the_texts_of_the_definition(rt: HostRuntime) -> Result<(), Fail
     Ok(())
 }
 
-// Each row has ranges in a row, the places at which two of them are merged, one after another, and the text of the
-// subtree that is left. `[` and `]` mark the list's start and end, `(` and `)` don't; a `/` stands between two ranges.
-// Each other letter is a node: `|` a natural cut of size 1, and those that are none `.` of size 1, `+` of the largest
-// size and `o` of size 0.
+// Each row has ranges, the places at which two of them are merged, one after another, and the text of the subtree that is
+// left.
 const ROWS: &str =
     r#"(...|...|...|...|...|) - {"at_end":false,"at_start":false,"levels":[[8,4],[2,0]],"nodes":[{"hash":"0000000000000000000000000000000000000000000000000000000000000001","size":1},{"hash":"0000000000000001000000000000000000000000000000000000000000000001","size":1},{"hash":"0000000000000002000000000000000000000000000000000000000000000001","size":1},{"hash":"0000000000000003000000000000000000000000000000000000000000000000","size":1},{"hash":"0000000000000004000000000000000000000000000000000000000000000001","size":1},{"hash":"0000000000000005000000000000000000000000000000000000000000000001","size":1},{"hash":"0000000000000006000000000000000000000000000000000000000000000001","size":1},{"hash":"0000000000000007000000000000000000000000000000000000000000000000","size":1},{"hash":"c766feb0be4b62597c1be56c1aa297274545e8e94fcc313313ccfb684e123649","size":4},{"hash":"ce79d67ad718dac0b301672e7f29024f181900ce3c6becb11e085604932e7ac0","size":4},{"hash":"0000000000000010000000000000000000000000000000000000000000000001","size":1},{"hash":"0000000000000011000000000000000000000000000000000000000000000001","size":1},{"hash":"0000000000000012000000000000000000000000000000000000000000000001","size":1},{"hash":"0000000000000013000000000000000000000000000000000000000000000000","size":1}]}
 (...|...|...|...|...|/...|) 1 {"at_end":false,"at_start":false,"levels":[[8,4],[3,0]],"nodes":[{"hash":"0000000000000000000000000000000000000000000000000000000000000001","size":1},{"hash":"0000000000000001000000000000000000000000000000000000000000000001","size":1},{"hash":"0000000000000002000000000000000000000000000000000000000000000001","size":1},{"hash":"0000000000000003000000000000000000000000000000000000000000000000","size":1},{"hash":"0000000000000004000000000000000000000000000000000000000000000001","size":1},{"hash":"0000000000000005000000000000000000000000000000000000000000000001","size":1},{"hash":"0000000000000006000000000000000000000000000000000000000000000001","size":1},{"hash":"0000000000000007000000000000000000000000000000000000000000000000","size":1},{"hash":"c766feb0be4b62597c1be56c1aa297274545e8e94fcc313313ccfb684e123649","size":4},{"hash":"ce79d67ad718dac0b301672e7f29024f181900ce3c6becb11e085604932e7ac0","size":4},{"hash":"9be3facbaae4494a9a611ede3da9f8841fa048519e0124dd2694e5605c29b2a8","size":4},{"hash":"0000000000000014000000000000000000000000000000000000000000000001","size":1},{"hash":"0000000000000015000000000000000000000000000000000000000000000001","size":1},{"hash":"0000000000000016000000000000000000000000000000000000000000000001","size":1},{"hash":"0000000000000017000000000000000000000000000000000000000000000000","size":1}]}

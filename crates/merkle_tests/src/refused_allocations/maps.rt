@@ -49,6 +49,15 @@ pub fn make(call: Call, alloc: &Refusing, granted: u32) -> Result<Outcome, Fail>
     Ok(outcome_of(answer, has_numbers(&eight, 8)))
 }
 
+// Puts a number that isn't there into a map, at its vacant place, and answers the value there.
+fn put_at_vacant(call: Call, map: &mut Numbers<'_>, number: u64) -> Result<u64, AllocError> {
+    match map.entry(number) {
+        Entry::Vacant(place) if call == Call::VacantInsert => Ok(*place.insert(number)?),
+        Entry::Vacant(place) => Ok(*place.insert_entry(number)?.get()),
+        Entry::Occupied(_) => Ok(u64::MAX),
+    }
+}
+
 // Puts a number that isn't there into a map, through its place or not, and answers the value there.
 fn put(call: Call, map: &mut Numbers<'_>, number: u64) -> Result<u64, AllocError> {
     match call {
@@ -57,18 +66,13 @@ fn put(call: Call, map: &mut Numbers<'_>, number: u64) -> Result<u64, AllocError
         Call::OrInsertWithKey => Ok(*map.entry(number).or_insert_with_key(|key| *key)?),
         Call::OrDefault => {
             let value = map.entry(number).or_default()?;
-            *value = number;
+            if *value == 0 {
+                *value = number;
+            }
             Ok(*value)
         }
         Call::InsertEntry => Ok(*map.entry(number).insert_entry(number)?.get()),
-        Call::VacantInsert => match map.entry(number) {
-            Entry::Vacant(place) => Ok(*place.insert(number)?),
-            Entry::Occupied(_) => Ok(u64::MAX),
-        },
-        Call::VacantInsertEntry => match map.entry(number) {
-            Entry::Vacant(place) => Ok(*place.insert_entry(number)?.get()),
-            Entry::Occupied(_) => Ok(u64::MAX),
-        },
+        Call::VacantInsert | Call::VacantInsertEntry => put_at_vacant(call, map, number),
         _ => {
             map.insert(number, number)?;
             Ok(number)

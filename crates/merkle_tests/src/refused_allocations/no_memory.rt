@@ -98,11 +98,14 @@ fn is_changed(map: &mut Numbers<'_>) -> bool {
     if let Some(value) = map.get_mut(&6) {
         *value = 60;
     }
+    if let Entry::Occupied(mut place) = map.entry(5) {
+        *place.get_mut() = 50;
+    }
     let taken = match map.entry(5) {
         Entry::Occupied(place) => Some(place.remove()),
         Entry::Vacant(_) => None,
     };
-    taken == Some(5)
+    taken == Some(50)
         && map.remove(&7) == Some(7)
         && map.remove_entry(&6) == Some((6, 60))
         && map.remove(&6).is_none()
