@@ -288,6 +288,11 @@ fn is_fault(even: &Outcome, failed: &Outcome, place: Place, manner: Manner) -> b
         && even.written.starts_with(&failed.written)
 }
 
+// How many calls move some bytes, at 20 bytes a call.
+fn calls_for(bytes: &[u8]) -> u32 {
+    u32::try_from(bytes.len().div_ceil(20)).unwrap_or(u32::MAX)
+}
+
 #[test]
 fn each_call_is_made_once_and_repeated_sixteen_times_where_it_is_interrupted(rt: HostRuntime) {
     let interrupted = Some(ErrorKind::Interrupted);
@@ -295,8 +300,8 @@ fn each_call_is_made_once_and_repeated_sixteen_times_where_it_is_interrupted(rt:
         let text = line_of(call).as_bytes();
         let even = outcome_of(rt.alloc(), call, text, ALL_EVEN);
         // The last read finds the end.
-        let reads = (text.len().div_ceil(20) as u32).saturating_add(1);
-        let writes = even.written.len().div_ceil(20) as u32;
+        let reads = calls_for(text).saturating_add(1);
+        let writes = calls_for(&even.written);
         assert_eq!(rt; even.status, 0, "{call:?}");
         assert_eq!(rt; even.calls, (reads, writes, 1), "{call:?}");
         assert_eq!(rt; even.largest, 65536, "{call:?}");
@@ -371,11 +376,10 @@ fn a_failed_write_leaves_a_beginning(rt: HostRuntime) {
         let text = line_of(call).as_bytes();
         let mut manners = manners_with(Place::Write, SLOW);
         let even = outcome_of(rt.alloc(), call, text, manners);
-        for odd_call in 1..=even.written.len() as u32 {
-            manners.write.odd_call = odd_call;
+        for done in 0..even.written.len() {
+            manners.write.odd_call = u32::try_from(done).unwrap_or(u32::MAX).saturating_add(1);
             manners.write.odd_times = 17;
             let failed = outcome_of(rt.alloc(), call, text, manners);
-            let done = odd_call as usize - 1;
             assert!(rt;
                 failed.status == 5 && failed.written.len() == done,
                 "{call:?} {done}"
