@@ -14,10 +14,9 @@ use xet_hash::data_hash::{
 use xet_hash::passthrough_hasher::{U64DirectHasher, U64HashExtractable};
 use xet_merkle::CoreError;
 use xet_merkle::aggregated_hashes::Node;
-use xet_merkle::chunk_range::ChunkRange;
-use xet_merkle::merge_tree::MergeTree;
-use xet_merkle::merkle_hash_subtree::{MerkleHashSubtree, find_stable_end, find_stable_start};
-use xet_merkle::plain_range::PlainRange;
+use xet_merkle::merkle_hash_subtree::{
+    ChunkRange, MergeTree, MerkleHashSubtree, PlainRange, find_stable_end, find_stable_start,
+};
 
 // Three chunks, each with its seed.
 fn chunks() -> [Node; 3] {

@@ -14,8 +14,8 @@ use std::test::Fail;
 use xet_hash::data_hash::{DataHash, MerkleHash};
 use xet_merkle::CoreError;
 use xet_merkle::aggregated_hashes::Node;
-use xet_merkle::merkle_hash_subtree::MerkleHashSubtree;
-use xet_merkle::parent_maker::{ParentHashes, ParentMaker};
+use xet_merkle::merkle_hash_subtree::{MerkleHashSubtree, ParentMaker};
+use xet_merkle::parent_maker::ParentHashes;
 
 // Each row has the numbers of the reference chunks of two ranges, how many parents their merge hashes, the root, and how
 // many left and right nodes each level then has.
