@@ -56,9 +56,9 @@ fn status<R: Read, W: Write>(alloc: Global, call: Call, r: &mut R, w: &mut W) ->
 #[derive(Clone, Copy, Debug)]
 struct Manner {
     most: usize,
-    interruptions: u32,
-    odd_call: u32,
-    odd_times: u32,
+    interruptions: usize,
+    odd_call: usize,
+    odd_times: usize,
     odd_kind: Option<ErrorKind>,
 }
 
@@ -78,7 +78,7 @@ const SLOW: Manner = Manner {
     odd_kind: None,
 };
 
-fn odd(odd_call: u32, odd_times: u32, odd_kind: Option<ErrorKind>) -> Manner {
+fn odd(odd_call: usize, odd_times: usize, odd_kind: Option<ErrorKind>) -> Manner {
     Manner {
         most: 20,
         interruptions: 0,
@@ -92,9 +92,9 @@ fn odd(odd_call: u32, odd_times: u32, odd_kind: Option<ErrorKind>) -> Manner {
 #[derive(Clone, Copy)]
 struct Device {
     manner: Manner,
-    calls: u32,
-    done: u32,
-    wrong: u32,
+    calls: usize,
+    done: usize,
+    wrong: usize,
 }
 
 impl Device {
@@ -199,7 +199,7 @@ const ALL_SLOW: Manners = Manners {
 #[derive(Drop)]
 struct Outcome {
     status: u8,
-    calls: (u32, u32, u32),
+    calls: (usize, usize, usize),
     largest: usize,
     written: Vec<u8>,
 }
@@ -238,7 +238,7 @@ enum Place {
 }
 
 // Calls that go wrong, by their number. The run has more reads and writes than three, and one flush.
-const PLACES: [(Place, u32); 5] = [
+const PLACES: [(Place, usize); 5] = [
     (Place::Read, 1),
     (Place::Read, 3),
     (Place::Write, 1),
@@ -258,7 +258,7 @@ fn manners_with(place: Place, manner: Manner) -> Manners {
 }
 
 // Whether a run without a fault goes like an even one, but for so many more calls at a place.
-fn is_borne(even: &Outcome, late: &Outcome, place: Place, times: u32) -> bool {
+fn is_borne(even: &Outcome, late: &Outcome, place: Place, times: usize) -> bool {
     let (mut reads, mut writes, mut flushes) = even.calls;
     match place {
         Place::Read => reads = reads.saturating_add(times),
@@ -275,22 +275,13 @@ fn is_fault(even: &Outcome, failed: &Outcome, place: Place, manner: Manner) -> b
     let (reads, writes, _) = even.calls;
     let (status, expected, len) = match place {
         Place::Read => (4, (calls, 0, 0), 0),
-        Place::Write => (
-            5,
-            (reads, calls, 0),
-            manner.most.saturating_mul(done as usize),
-        ),
+        Place::Write => (5, (reads, calls, 0), manner.most.saturating_mul(done)),
         Place::Flush => (5, (reads, writes, calls), even.written.len()),
     };
     failed.status == status
         && failed.calls == expected
         && failed.written.len() == len
         && even.written.starts_with(&failed.written)
-}
-
-// How many calls move some bytes, at 20 bytes a call.
-fn calls_for(bytes: &[u8]) -> u32 {
-    u32::try_from(bytes.len().div_ceil(20)).unwrap_or(u32::MAX)
 }
 
 #[test]
@@ -300,8 +291,8 @@ fn each_call_is_made_once_and_repeated_sixteen_times_where_it_is_interrupted(rt:
         let text = line_of(call).as_bytes();
         let even = outcome_of(rt.alloc(), call, text, ALL_EVEN);
         // The last read finds the end.
-        let reads = calls_for(text).saturating_add(1);
-        let writes = calls_for(&even.written);
+        let reads = text.len().div_ceil(20).saturating_add(1);
+        let writes = even.written.len().div_ceil(20);
         assert_eq!(rt; even.status, 0, "{call:?}");
         assert_eq!(rt; even.calls, (reads, writes, 1), "{call:?}");
         assert_eq!(rt; even.largest, 65536, "{call:?}");
@@ -376,10 +367,11 @@ fn a_failed_write_leaves_a_beginning(rt: HostRuntime) {
         let text = line_of(call).as_bytes();
         let mut manners = manners_with(Place::Write, SLOW);
         let even = outcome_of(rt.alloc(), call, text, manners);
-        for done in 0..even.written.len() {
-            manners.write.odd_call = u32::try_from(done).unwrap_or(u32::MAX).saturating_add(1);
+        for odd_call in 1..=even.written.len() {
+            manners.write.odd_call = odd_call;
             manners.write.odd_times = 17;
             let failed = outcome_of(rt.alloc(), call, text, manners);
+            let done = odd_call - 1;
             assert!(rt;
                 failed.status == 5 && failed.written.len() == done,
                 "{call:?} {done}"
