@@ -1,6 +1,6 @@
-use range_lines::fault::RangeFault;
-use range_lines::join::{join, root};
-use range_lines::make::make;
+use xetrange_text::fault::RangeFault;
+use xetrange_text::join::{join, root};
+use xetrange_text::make::make;
 use serde_json::Value;
 use std::alloc::{AllocError, Global};
 use std::fmt::{self, Write as _};

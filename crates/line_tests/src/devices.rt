@@ -1,12 +1,12 @@
 //! Devices that fail, that are interrupted, and that give or take little, at each call that reads lines.
 
 use super::texts::{NO_CHUNK, with_hashes};
-use range_lines::join::{join, root};
-use range_lines::make::make;
+use xetrange_text::join::{join, root};
+use xetrange_text::make::make;
 use std::alloc::Global;
 use std::io::{self, ErrorKind, Read, Write};
 use std::test::Fail;
-use xet_lines::run::{run, run_with};
+use xetroot_text::run::{run, run_with};
 use xet_merkle::plain_range::PlainRange;
 
 // A call that reads lines.

@@ -1,6 +1,8 @@
-//! Tests of `upload_session`, `xet_lines` and `range_lines`: what sessions, `xetroot` and `xetrange` answer, devices that
+//! Tests of `upload_session`, `xetroot_text` and `xetrange_text`: what sessions, `xetroot` and `xetrange` answer, devices that
 //! fail, and requests for memory that are refused.
 #![tactic(auto)]
+
+pub mod laws;
 
 #[cfg(test)]
 mod devices;

@@ -1,12 +1,12 @@
 //! The lists in which pairs are kept before they are joined, told by the requests for memory.
 
-use range_lines::make::make;
+use xetrange_text::make::make;
 use refusing_allocator::RefusingAllocator;
 use std::alloc::Global;
 use std::io::Write;
 use std::test::Fail;
 use xet_hash::data_hash::DataHash;
-use xet_lines::run::{run, run_with};
+use xetroot_text::run::{run, run_with};
 use xet_merkle::plain_range::PlainRange;
 
 // A call that reads pairs.

@@ -121,9 +121,9 @@ fn outcome(alloc: Global, command: &str, failing: &str, input: &str) -> Result<S
         fails: failing == "errors",
     };
     let status = if command.starts_with("xetroot") {
-        xet_lines::program::program(&refusing, args, &mut r, &mut w, &mut errors)
+        xetroot_text::program::program(&refusing, args, &mut r, &mut w, &mut errors)
     } else {
-        range_lines::program::program(&refusing, alloc, args, &mut r, &mut w, &mut errors)
+        xetrange_text::program::program(&refusing, alloc, args, &mut r, &mut w, &mut errors)
     };
     let (Output { bytes, .. }, Output { bytes: lines, .. }) = (w, errors);
     let (output, printed) = (String::from_utf8(bytes)?, String::from_utf8(lines)?);

@@ -1,7 +1,7 @@
 //! The program `xetrange`: ranges of a file that are made apart and joined without their chunks.
 #![tactic(auto)]
 
-use range_lines::program::program;
+use xetrange_text::program::program;
 use std::env;
 use std::process::ExitCode;
 

@@ -3,7 +3,7 @@
 
 use std::env;
 use std::process::ExitCode;
-use xet_lines::program::program;
+use xetroot_text::program::program;
 
 fn main(rt: HostRuntime) -> ExitCode {
     let args = env::args(&rt);

@@ -7,8 +7,8 @@ use refusing_allocator::RefusingAllocator;
 use std::alloc::Global;
 use std::io::{self, Write};
 use std::test::Fail;
-use xet_lines::fault::Fault;
-use xet_lines::run::{run, run_with};
+use xetroot_text::fault::Fault;
+use xetroot_text::run::{run, run_with};
 use xet_merkle::plain_range::PlainRange;
 
 type Refusing = RefusingAllocator<Global>;

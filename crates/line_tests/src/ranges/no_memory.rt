@@ -2,7 +2,7 @@
 //! made. JSON values take their memory elsewhere.
 
 use super::{COMMANDS, Command, fourth_cuts, output_of, run_command};
-use range_lines::fault::RangeFault;
+use xetrange_text::fault::RangeFault;
 use refusing_allocator::RefusingAllocator;
 use std::alloc::Global;
 use std::test::Fail;

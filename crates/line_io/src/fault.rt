@@ -1,0 +1,92 @@
+//! Why an input has no answer.
+
+ghost use Rattle.std.specs.Prelude.{◌≡◌};
+ghost use Rattle.line_io.specs.Faults.{fault_at};
+ghost use Rattle.line_io.specs.declared.fault.AnswerFault.TheVariants.{Answer, Input, Write};
+ghost use Rattle.line_io.specs.declared.fault.Refusal.TheVariants.{Memory};
+
+use crate::devices::WriteFailed;
+use std::alloc::{AllocError, AllocFailed};
+
+/// Why a line isn't taken, or lines aren't answered.
+#[derive(Clone, Copy, Debug, PartialEq, Eq)]
+pub enum Refusal<F> {
+    /// They are faulty.
+    Faulty(F),
+    /// An allocation was refused.
+    Memory,
+}
+
+impl<F> From<AllocError> for Refusal<F> {
+    ghost from_gives = { λ _ refusal. refusal ≡ Memory };
+
+    fn from(_error: AllocError) -> Refusal<F> {
+        Refusal::Memory
+    }
+}
+
+impl<F, T: Drop> From<AllocFailed<T>> for Refusal<F> {
+    ghost from_gives = { λ _ refusal. refusal ≡ Memory };
+
+    fn from(_error: AllocFailed<T>) -> Refusal<F> {
+        Refusal::Memory
+    }
+}
+
+/// Why the lines of an input weren't taken.
+#[derive(Clone, Copy, Debug, PartialEq, Eq)]
+pub enum InputFault<F> {
+    /// The first faulty line has this number, from 1, and is faulty so.
+    Line(u64, F),
+    /// An allocation was refused.
+    Memory,
+    /// A read failed.
+    Read,
+}
+
+impl<F> InputFault<F> {
+    // The fault where the line of this number isn't taken.
+    pub(crate) fn at_line(number: u64, refusal: Refusal<F>) -> Self
+        ensures { result ≡ fault_at number refusal }
+    {
+        match refusal {
+            Refusal::Faulty(fault) => InputFault::Line(number, fault),
+            Refusal::Memory => InputFault::Memory,
+        }
+    }
+}
+
+/// Why an input has no answer. `F` is the fault of a line, and `T` that of lines of which none is faulty.
+#[derive(Clone, Copy, Debug, PartialEq, Eq)]
+pub enum AnswerFault<F, T> {
+    /// The lines weren't taken.
+    Input(InputFault<F>),
+    /// They were, and have no answer.
+    Answer(Refusal<T>),
+    /// A write or the flush failed, or a write took nothing.
+    Write,
+}
+
+impl<F, T> From<InputFault<F>> for AnswerFault<F, T> {
+    ghost from_gives = { λ of fault. fault ≡ Input of };
+
+    fn from(of: InputFault<F>) -> AnswerFault<F, T> {
+        AnswerFault::Input(of)
+    }
+}
+
+impl<F, T> From<Refusal<T>> for AnswerFault<F, T> {
+    ghost from_gives = { λ of fault. fault ≡ Answer of };
+
+    fn from(of: Refusal<T>) -> AnswerFault<F, T> {
+        AnswerFault::Answer(of)
+    }
+}
+
+impl<F, T> From<WriteFailed> for AnswerFault<F, T> {
+    ghost from_gives = { λ _ fault. fault ≡ Write };
+
+    fn from(_error: WriteFailed) -> AnswerFault<F, T> {
+        AnswerFault::Write
+    }
+}

@@ -1,0 +1,65 @@
+//! What a program is asked for by its arguments, and how it tells that it can't do it.
+
+ghost use Rattle.std.specs.Prelude.{◌≡◌, ◌≤◌, IfOk, IsOkAnd};
+ghost use Rattle.std.specs.Vec.Iter.{into_iter_len};
+ghost use Rattle.line_io.specs.declared.request.Request.TheVariants.{Nothing};
+
+use crate::devices::write_all;
+use arrayvec::ArrayString;
+use std::alloc::AllocError;
+use std::env::Args;
+use std::fmt::{self, Write as _};
+use std::io::{self, ErrorKind, Write};
+
+/// The status after a wrong argument, as `sysexits.h` has it.
+pub const WRONG_ARGUMENT: u8 = 64;
+
+// The most bytes of a line on standard error.
+const MAX_LINE_LEN: usize = 100;
+
+/// What a program is asked for.
+#[derive(Debug, PartialEq, Eq, Drop)]
+pub enum Request {
+    /// No word follows the program's name.
+    Nothing,
+    /// The word is `-h` or `--help`.
+    Help,
+    /// The word is `--version`.
+    Version,
+    /// Another word.
+    Word(String),
+    /// Several words, or one that isn't UTF-8.
+    Unknown,
+}
+
+impl Request {
+    /// What some arguments ask for, of which the first is the program's name. It fails where memory was refused to them.
+    pub fn read(args: io::Result<Args>) -> Result<Request, AllocError>
+        ensures nothing { IsOkAnd args (λ args. into_iter_len args ≤ 1) → IfOk result (λ request. request ≡ Nothing) }
+    {
+        let mut args = match args {
+            Ok(args) => args,
+            Err(error) if error.kind() == ErrorKind::OutOfMemory => return Err(AllocError),
+            Err(_) => return Ok(Request::Unknown),
+        };
+        let _program = args.next();
+        let Some(word) = args.next() else {
+            return Ok(Request::Nothing);
+        };
+        if args.next().is_some() {
+            return Ok(Request::Unknown);
+        }
+        Ok(match word.as_str() {
+            "-h" | "--help" => Request::Help,
+            "--version" => Request::Version,
+            _ => Request::Word(word),
+        })
+    }
+}
+
+/// Writes a text and a newline in one piece, at most 100 bytes. Where that can't be done, the status still tells it.
+pub fn print_line<W: Write>(w: &mut W, text: impl fmt::Display + Drop) {
+    let mut line: ArrayString<MAX_LINE_LEN> = ArrayString::new();
+    let _ = writeln!(line, "{text}");
+    let _ = write_all(w, line.as_str().as_bytes());
+}

@@ -1,0 +1,67 @@
+//! What takes the lines of an input, and what answers them, as interfaces.
+
+ghost use Rattle.std.specs.Prelude.{ℕ, ◌+◌, ◌<◌, ◌≤◌, List, [], ◌∷◌, ◌++◌, length, IfErr, IfOk, OnOk};
+ghost use Rattle.std.specs.List.{concat};
+ghost use Rattle.line_io.specs.Faults.{IfFaulty};
+ghost use Rattle.line_io.specs.Lines.{NoNewline, byte_limit, content, lines_of};
+
+use crate::fault::Refusal;
+use std::convert::AsSlice;
+
+/// Takes the lines of an input one after another, each as its bytes come. What a line may say is an implementation's own.
+pub trait TakeLines: Drop {
+    /// Why a line is faulty.
+    type Fault: Drop;
+
+    // It has taken some lines, which are whole and good, and these bytes of the line after them, without a newline.
+    ghost has_taken: { Self → List (List ℕ) → List ℕ → Type 0 };
+
+    // The fault of a line after good ones.
+    ghost is_fault: { List (List ℕ) → List ℕ → Self.Fault → Type 0 };
+
+    /// Takes more bytes of the open line. They have no newline.
+    fn extend_line(&mut self, bytes: &[u8]) -> Result<(), Refusal<Self::Fault>>
+        requires { NoNewline bytes.now }
+        ensures taken { OnOk result ((before : List (List ℕ)) (line : List ℕ) → has_taken self.old before line →
+            has_taken self.new before (line ++ bytes.now)) }
+        ensures fault { IfErr result (λ refusal. (before : List (List ℕ)) (line rest : List ℕ) →
+            length (concat before) + length (line ++ bytes.now) ≤ byte_limit → has_taken self.old before line →
+            IfFaulty refusal (is_fault before ((line ++ bytes.now) ++ rest))) };
+
+    /// Ends the open line.
+    fn end_line(&mut self) -> Result<(), Refusal<Self::Fault>>
+        ensures taken { OnOk result ((before : List (List ℕ)) (line : List ℕ) →
+            length (concat before) + length line ≤ byte_limit → has_taken self.old before (content line) →
+            has_taken self.new (before ++ line ∷ []) []) }
+        ensures fault { IfErr result (λ refusal. (before : List (List ℕ)) (line : List ℕ) →
+            length (concat before) + length line ≤ byte_limit → has_taken self.old before (content line) →
+            IfFaulty refusal (is_fault before line)) };
+
+    /// The fault of the open line where the first byte past the limit of an input stands in it.
+    fn past_limit(&self) -> Self::Fault
+        ensures { (before : List (List ℕ)) (line rest : List ℕ) →
+            byte_limit < length (concat before) + length (line ++ rest) → has_taken self.now before line →
+            is_fault before (line ++ rest) result };
+}
+
+/// Answers an input of whose lines none is faulty.
+pub trait AnswerLines<L: TakeLines>: Drop {
+    /// The bytes of an answer.
+    type Output: AsSlice<u8> + Drop;
+
+    /// Why such an input has no answer.
+    type Fault: Drop;
+
+    // The answer to a text.
+    ghost is_answer: { List ℕ → List ℕ → Type 0 };
+
+    // Why a text has none.
+    ghost is_fault: { List ℕ → Self.Fault → Type 0 };
+
+    /// The answer, once all lines were taken.
+    fn answer(self, lines: L) -> Result<Self::Output, Refusal<Self::Fault>>
+        ensures answer { IfOk result (λ output. (text : List ℕ) → L.has_taken lines (lines_of text) [] →
+            is_answer text (Self.Output.items output)) }
+        ensures fault { IfErr result (λ refusal. (text : List ℕ) → L.has_taken lines (lines_of text) [] →
+            IfFaulty refusal (is_fault text)) };
+}

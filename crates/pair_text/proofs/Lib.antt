@@ -1,0 +1,4 @@
+pub mod PairLines
+pub mod LineMeaning
+pub mod LongLines
+pub mod GoodPairs

@@ -1,0 +1,5 @@
+pub mod Lines
+pub mod LineSays
+pub mod Output
+pub mod PairText
+pub mod Open

@@ -1,0 +1,88 @@
+//! Lines of pairs, taken as what they say.
+
+ghost use Rattle.std.specs.Prelude.{ℕ, ◌+◌, ◌<◌, ◌≤◌, ◌⊎◌, List, [], ◌∷◌, ◌++◌, length, IfErr, OnOk};
+ghost use Rattle.std.specs.List.{concat};
+ghost use Rattle.line_io.specs.Faults.{IfFaulty};
+ghost use Rattle.line_io.specs.Lines.{byte_limit, content};
+ghost use Rattle.pair_text.specs.LineSays.{Says, SaysNothing};
+ghost use Rattle.pair_text.specs.Open.{HasTaken};
+
+use crate::line::Line;
+use crate::open_line::OpenLine;
+use line_io::fault::Refusal;
+use line_io::take_lines::TakeLines;
+
+/// Takes what the lines of an input say, one after another.
+pub trait TakeSaid: Drop {
+    /// Why a line is faulty.
+    type Fault: Drop;
+
+    // What was said stands for some lines, which are good.
+    ghost stands_for: { Self → List (List ℕ) → Type 0 };
+
+    // The fault of a line after good ones.
+    ghost is_fault: { List (List ℕ) → List ℕ → Self.Fault → Type 0 };
+
+    /// Takes what the next line says.
+    fn take(&mut self, said: Line) -> Result<(), Refusal<Self::Fault>>
+        ensures taken { OnOk result ((before : List (List ℕ)) (line : List ℕ) →
+            length (concat before) + length line ≤ byte_limit → Says (content line) said → stands_for self.old before →
+            stands_for self.new (before ++ line ∷ [])) }
+        ensures fault { IfErr result (λ refusal. (before : List (List ℕ)) (line : List ℕ) →
+            length (concat before) + length line ≤ byte_limit → Says (content line) said → stands_for self.old before →
+            IfFaulty refusal (is_fault before line)) };
+
+    /// The fault of a next line that says nothing, or in which the first byte past the limit of an input stands.
+    fn bad(&self) -> Self::Fault
+        ensures { (before : List (List ℕ)) (line : List ℕ) → stands_for self.now before →
+            (byte_limit < length (concat before) + length line) ⊎ SaysNothing line → is_fault before line result };
+}
+
+/// The lines so far, as what they say, and the open line in fixed room.
+#[derive(Drop)]
+pub struct SaidLines<T: TakeSaid> {
+    /// What has taken the lines that are whole.
+    pub said: T,
+    line: OpenLine,
+}
+
+impl<T: TakeSaid> SaidLines<T> {
+    /// No line yet.
+    pub fn new(said: T) -> Self
+        requires { T.stands_for said [] }
+        ensures { HasTaken T.stands_for result [] [] }
+    {
+        SaidLines {
+            said,
+            line: OpenLine::new(),
+        }
+    }
+}
+
+impl<T: TakeSaid> TakeLines for SaidLines<T> {
+    type Fault = T::Fault;
+
+    ghost has_taken = { HasTaken T.stands_for };
+
+    ghost is_fault = { T.is_fault };
+
+    fn extend_line(&mut self, bytes: &[u8]) -> Result<(), Refusal<T::Fault>> {
+        let Ok(()) = self.line.extend(bytes) else {
+            return Err(Refusal::Faulty(self.said.bad()));
+        };
+        Ok(())
+    }
+
+    fn end_line(&mut self) -> Result<(), Refusal<T::Fault>> {
+        let Some(said) = self.line.says() else {
+            return Err(Refusal::Faulty(self.said.bad()));
+        };
+        self.said.take(said)?;
+        self.line = OpenLine::new();
+        Ok(())
+    }
+
+    fn past_limit(&self) -> T::Fault {
+        self.said.bad()
+    }
+}

@@ -1,5 +1,0 @@
-use Rattle.std.specs.Io.KnownBytes.{Keeps}
-use Rattle.xet_lines.proofs.devices.flush.Given as goal
-
-abbrev pub invariant-repeats : goal.invariant-repeats
-invariant-repeats g l = Keeps (g.W.Write.contents l.fn.w) (g.W.Write.contents l.w)

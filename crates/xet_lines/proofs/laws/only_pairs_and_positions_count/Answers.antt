@@ -1,8 +1,0 @@
-use Rattle.xet_lines.proofs.Separators.{same-pairs, separator-anywhere}
-use Rattle.xet_lines.proofs.laws.only_pairs_and_positions_count.Goals as goal
-
-pub returns-clause-pairs : goal.returns-clause-pairs
-returns-clause-pairs c = same-pairs
-
-pub returns-clause-separators : goal.returns-clause-separators
-returns-clause-separators c = separator-anywhere

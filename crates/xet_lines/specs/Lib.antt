@@ -1,6 +1,0 @@
-pub mod Status
-pub mod Lines
-pub mod Reading
-pub mod Answer
-pub mod WithoutPositions
-pub mod Steps

@@ -1,5 +1,0 @@
-pub mod LineSays
-pub mod Open
-pub mod Positions
-pub mod Ranges
-pub mod Taken

@@ -1,0 +1,5 @@
+pub mod Depth
+pub mod OneLine
+pub mod MergedRanges
+pub mod Faults
+pub mod Cutting

@@ -1,0 +1,40 @@
+-- The numbers of the faults, and the fault that each want of an answer is.
+use Rattle.std.specs.Prelude.{ℕ}
+use Rattle.std.specs.declared.convert.lends.Infallible.{Infallible}
+use Rattle.line_io.specs.declared.fault.AnswerFault.{AnswerFault}
+use Rattle.line_io.specs.declared.fault.AnswerFault.TheVariants.{Input, Answer, Write as write_failed}
+use Rattle.line_io.specs.declared.fault.InputFault.TheVariants.{Line, Memory as input_memory, Read as read_failed}
+use Rattle.pair_text.specs.declared.pair_fault.PairFault.{PairFault}
+use Rattle.pair_text.specs.declared.pair_fault.PairFault.TheVariants.{Bad as bad_pair, Sizes as pair_sizes}
+use Rattle.xetrange_text.specs.declared.fault.RangeFault.{RangeFault}
+use Rattle.xetrange_text.specs.declared.fault.RangeFault.TheVariants.{BadLine, Sizes, Memory, Read, Write, BadRange}
+use Rattle.xetrange_text.specs.declared.fault.LineFault.{LineFault}
+use Rattle.xetrange_text.specs.declared.fault.LineFault.TheVariants.{Bad, Sizes as passes_sizes, NoRange}
+
+-- the number of a fault
+abbrev pub status_of : RangeFault → ℕ
+status_of (BadLine number) = 1
+status_of (Sizes number) = 2
+status_of Memory = 3
+status_of Read = 4
+status_of Write = 5
+status_of (BadRange number rule) = 8
+
+-- why an input of pairs has no answer, as a fault
+abbrev pub make_fault_of : AnswerFault PairFault Infallible → RangeFault
+make_fault_of (Input (Line number bad_pair)) = BadLine number
+make_fault_of (Input (Line number pair_sizes)) = Sizes number
+make_fault_of (Input input_memory) = Memory
+make_fault_of (Input read_failed) = Read
+make_fault_of (Answer refusal) = Memory
+make_fault_of write_failed = Write
+
+-- why an input of ranges has no answer, as a fault
+abbrev pub range_fault_of : AnswerFault LineFault Infallible → RangeFault
+range_fault_of (Input (Line number Bad)) = BadLine number
+range_fault_of (Input (Line number passes_sizes)) = Sizes number
+range_fault_of (Input (Line number (NoRange rule))) = BadRange number rule
+range_fault_of (Input input_memory) = Memory
+range_fault_of (Input read_failed) = Read
+range_fault_of (Answer refusal) = Memory
+range_fault_of write_failed = Write

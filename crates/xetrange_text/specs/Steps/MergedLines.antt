@@ -1,0 +1,12 @@
+-- What lines of ranges have said so far, which private contracts and proofs speak of.
+use Rattle.std.specs.Prelude.{◌≡◌, ℕ, List}
+use Rattle.xet_merkle.specs.Subtree.{Subtree}
+use Rattle.line_io.specs.Lines.{NoNewline}
+use Rattle.xetrange_text.specs.declared.merged_lines.MergedLines.{MergedLines}
+use Rattle.xetrange_text.specs.Ranges.{AreRanges, AreMerged}
+
+module _ {A : Type 0} where
+  -- lines of ranges were taken, and the beginning of a line
+  abbrev pub HasTaken : MergedLines A → List (List ℕ) → List ℕ → Type 0
+  HasTaken lines before line =
+      (ranges : List Subtree) × AreRanges before ranges × AreMerged ranges lines.merged × (lines.line.items ≡ line) × NoNewline line

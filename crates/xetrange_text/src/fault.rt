@@ -1,0 +1,126 @@
+//! Why a call ends without an answer.
+
+ghost use Rattle.std.specs.Prelude.{◌≡◌};
+ghost use Rattle.xetrange_text.specs.Status.{make_fault_of, range_fault_of, status_of};
+ghost use Rattle.xetrange_text.specs.declared.fault.RangeFault.TheVariants.{Memory, Write};
+
+use line_io::devices::WriteFailed;
+use line_io::fault::{AnswerFault, InputFault};
+use pair_text::pair_fault::PairFault;
+use std::alloc::AllocError;
+use std::convert::Infallible;
+use std::fmt;
+
+/// Why a line of a range is faulty, after lines that aren't.
+#[derive(Clone, Copy, Debug, PartialEq, Eq)]
+pub enum LineFault {
+    /// The first byte past the limit of an input stands in it.
+    Bad,
+    /// With it the sizes pass `u64::MAX`.
+    Sizes,
+    /// It says no range, with the least rule that its value breaks.
+    NoRange(Option<u8>),
+}
+
+/// Why [`make`](crate::make::make), [`join`](crate::join::join) or [`root`](crate::join::root) was refused.
+#[derive(Clone, Copy, Debug, PartialEq, Eq)]
+pub enum RangeFault {
+    /// The first faulty line, of this number from 1, is bad: byte number 2^40 + 1 of the input stands in it, or, for
+    /// `make`, it is no pair, chunk or separator.
+    BadLine(u64),
+    /// The first faulty line, of this number from 1, isn't bad, and with it the sizes pass `u64::MAX`.
+    Sizes(u64),
+    /// An allocation was refused.
+    Memory,
+    /// A read failed.
+    Read,
+    /// A write or the flush failed, or a write took nothing.
+    Write,
+    /// The first faulty line, of this number from 1, is no JSON text of a subtree that is open at both ends. The second
+    /// number is the least of the rules 1 to 13 of
+    /// [`from_json`](xet_merkle::merkle_hash_subtree::MerkleHashSubtree::from_json) that its value breaks; it is lacking
+    /// where the line is no JSON text, or that of a subtree with a mark.
+    BadRange(u64, Option<u8>),
+}
+
+impl RangeFault {
+    /// The number of the fault, from 1 to 5 or 8, which is the program's exit status.
+    pub fn status(&self) -> u8
+        ensures { result ≡ status_of self.now }
+    {
+        match self {
+            RangeFault::BadLine(_) => 1,
+            RangeFault::Sizes(_) => 2,
+            RangeFault::Memory => 3,
+            RangeFault::Read => 4,
+            RangeFault::Write => 5,
+            RangeFault::BadRange(..) => 8,
+        }
+    }
+}
+
+impl fmt::Display for RangeFault {
+    fn fmt<W: fmt::Write>(&self, f: &mut fmt::Formatter<W>) -> fmt::Result {
+        let status = self.status();
+        match self {
+            RangeFault::BadLine(line)
+            | RangeFault::Sizes(line)
+            | RangeFault::BadRange(line, None) => {
+                write!(f, "xetrange: fault {status} at line {line}")
+            }
+            RangeFault::BadRange(line, Some(rule)) => {
+                write!(f, "xetrange: fault {status} at line {line}: rule {rule}")
+            }
+            RangeFault::Memory | RangeFault::Read | RangeFault::Write => {
+                write!(f, "xetrange: fault {status}")
+            }
+        }
+    }
+}
+
+impl From<AllocError> for RangeFault {
+    ghost from_gives = { λ _ fault. fault ≡ Memory };
+
+    fn from(_error: AllocError) -> RangeFault {
+        RangeFault::Memory
+    }
+}
+
+impl From<AnswerFault<PairFault, Infallible>> for RangeFault {
+    ghost from_gives = { λ of fault. fault ≡ make_fault_of of };
+
+    fn from(of: AnswerFault<PairFault, Infallible>) -> RangeFault {
+        match of {
+            AnswerFault::Input(InputFault::Line(line, PairFault::Bad)) => RangeFault::BadLine(line),
+            AnswerFault::Input(InputFault::Line(line, PairFault::Sizes)) => RangeFault::Sizes(line),
+            AnswerFault::Input(InputFault::Memory) | AnswerFault::Answer(_) => RangeFault::Memory,
+            AnswerFault::Input(InputFault::Read) => RangeFault::Read,
+            AnswerFault::Write => RangeFault::Write,
+        }
+    }
+}
+
+impl From<AnswerFault<LineFault, Infallible>> for RangeFault {
+    ghost from_gives = { λ of fault. fault ≡ range_fault_of of };
+
+    fn from(of: AnswerFault<LineFault, Infallible>) -> RangeFault {
+        match of {
+            AnswerFault::Input(InputFault::Line(line, LineFault::Bad)) => RangeFault::BadLine(line),
+            AnswerFault::Input(InputFault::Line(line, LineFault::Sizes)) => RangeFault::Sizes(line),
+            AnswerFault::Input(InputFault::Line(line, LineFault::NoRange(rule))) => {
+                RangeFault::BadRange(line, rule)
+            }
+            AnswerFault::Input(InputFault::Memory) | AnswerFault::Answer(_) => RangeFault::Memory,
+            AnswerFault::Input(InputFault::Read) => RangeFault::Read,
+            AnswerFault::Write => RangeFault::Write,
+        }
+    }
+}
+
+impl From<WriteFailed> for RangeFault {
+    ghost from_gives = { λ _ fault. fault ≡ Write };
+
+    fn from(_error: WriteFailed) -> RangeFault {
+        RangeFault::Write
+    }
+}

@@ -1,0 +1,98 @@
+//! Ranges merged to one, and to the hashes of the whole.
+
+ghost use Rattle.std.specs.Prelude.{⊥};
+ghost use Rattle.line_io.specs.Answers.{AnswersInput};
+ghost use Rattle.xetrange_text.specs.Answers.{IsJoinedOf, IsRangeFaultOf, IsRootOf};
+
+use crate::fault::RangeFault;
+use crate::merged_lines::{MergedLines, close};
+use crate::range_line::write_range;
+use arrayvec::ArrayVec;
+use line_io::answer_lines::answer_lines;
+use line_io::fault::Refusal;
+use line_io::take_lines::AnswerLines;
+use pair_text::output::{OUTPUT_LEN, output};
+use std::alloc::{Allocator, Global};
+use std::convert::Infallible;
+use std::io::{Read, Write};
+
+/// Reads lines to the end of `r`, each the JSON text of a subtree that is open at both ends, and then writes that of the
+/// subtree that these make together in order, open at both ends too, and a newline to `w`, and flushes it.
+///
+/// It keeps the merged subtree and one line whole with what it says; the subtrees and the line take their memory of
+/// `alloc`, and JSON values and the text that is written take theirs of `json`. An input has at most 2^40 bytes. A fault is
+/// as [`RangeFault`] says. After `Write` a beginning of the output was written, and after the others nothing. How much of
+/// the input was read after a fault isn't said.
+pub fn join<R: Read, W: Write>(
+    alloc: impl Allocator,
+    json: Global,
+    r: &mut R,
+    w: &mut W,
+) -> Result<(), RangeFault>
+    ensures { AnswersInput IsJoinedOf IsRangeFaultOf RangeFault.Write
+        (R.remaining r.old) (R.remaining r.new) (W.contents w.old) (W.contents w.new) result }
+{
+    let lines = MergedLines::new(&alloc, json)?;
+    Ok(answer_lines(lines, JoinedRange { json }, r, w)?)
+}
+
+/// Reads the lines that [`join`] reads, and writes the root and the file hash of what the subtree stands for that they are
+/// joined to, once both of its ends are marked: the two lines that [`xetroot_text::run::run`] writes.
+///
+/// What it keeps, its faults and what was written after one are as for [`join`].
+pub fn root<R: Read, W: Write>(
+    alloc: impl Allocator,
+    json: Global,
+    r: &mut R,
+    w: &mut W,
+) -> Result<(), RangeFault>
+    ensures { AnswersInput IsRootOf IsRangeFaultOf RangeFault.Write
+        (R.remaining r.old) (R.remaining r.new) (W.contents w.old) (W.contents w.new) result }
+{
+    let lines = MergedLines::new(&alloc, json)?;
+    Ok(answer_lines(lines, RootAndFile { alloc: &alloc }, r, w)?)
+}
+
+// The line of the range that all ranges make together, which takes its memory of `json`.
+#[derive(Drop)]
+struct JoinedRange {
+    json: Global,
+}
+
+impl<A: Allocator + Clone> AnswerLines<MergedLines<A>> for JoinedRange {
+    type Output = Vec<u8>;
+
+    type Fault = Infallible;
+
+    ghost is_answer = { IsJoinedOf };
+
+    ghost is_fault = { λ _ _. ⊥ };
+
+    fn answer(self, lines: MergedLines<A>) -> Result<Vec<u8>, Refusal<Infallible>> {
+        Ok(write_range(self.json, &lines.merged)?)
+    }
+}
+
+// The root and the file hash of the range that all ranges make together.
+#[derive(Drop)]
+struct RootAndFile<A: Allocator + Clone> {
+    alloc: A,
+}
+
+impl<A: Allocator + Clone> AnswerLines<MergedLines<A>> for RootAndFile<A> {
+    type Output = ArrayVec<u8, OUTPUT_LEN>;
+
+    type Fault = Infallible;
+
+    ghost is_answer = { IsRootOf };
+
+    ghost is_fault = { λ _ _. ⊥ };
+
+    fn answer(
+        self,
+        lines: MergedLines<A>,
+    ) -> Result<ArrayVec<u8, OUTPUT_LEN>, Refusal<Infallible>> {
+        let (root, file) = close(self.alloc, &lines.merged)?;
+        Ok(output(&root, &file))
+    }
+}

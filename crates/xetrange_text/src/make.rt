@@ -1,0 +1,61 @@
+//! The range of some pairs.
+
+ghost use Rattle.std.specs.Prelude.{⊥};
+ghost use Rattle.line_io.specs.Answers.{AnswersInput};
+ghost use Rattle.xetrange_text.specs.Answers.{IsMadeOf, IsMakeFaultOf};
+
+use crate::chunks::Chunks;
+use crate::fault::RangeFault;
+use crate::range_line::write_range;
+use line_io::answer_lines::answer_lines;
+use line_io::fault::Refusal;
+use line_io::take_lines::AnswerLines;
+use pair_text::said_lines::SaidLines;
+use std::alloc::{Allocator, Global};
+use std::convert::Infallible;
+use std::io::{Read, Write};
+use xet_merkle::merkle_hash_subtree::MerkleHashSubtree;
+
+/// Reads lines to the end of `r`, each a pair, a chunk or `--`, and then writes the compact JSON text of the subtree of the
+/// pairs that they say, open at both ends, and a newline to `w`, and flushes it.
+///
+/// It keeps a subtree, which is small where stable points come up, at most 4096 pairs after it, and of the open line no
+/// more than the longest pair line has; they take their memory of `alloc`, and the text and its value take theirs of `json`.
+/// An input has at most 2^40 bytes. A fault is as [`RangeFault`] says. After `Write` a beginning of the output was written,
+/// and after the others nothing. How much of the input was read after a fault isn't said.
+pub fn make<R: Read, W: Write>(
+    alloc: impl Allocator,
+    json: Global,
+    r: &mut R,
+    w: &mut W,
+) -> Result<(), RangeFault>
+    ensures { AnswersInput IsMadeOf IsMakeFaultOf RangeFault.Write
+        (R.remaining r.old) (R.remaining r.new) (W.contents w.old) (W.contents w.new) result }
+{
+    let lines = SaidLines::new(Chunks::<MerkleHashSubtree<_>>::new(&alloc)?);
+    Ok(answer_lines(lines, MadeRange { json }, r, w)?)
+}
+
+// The line of the range of all pairs, which takes its memory of `json`.
+#[derive(Drop)]
+struct MadeRange {
+    json: Global,
+}
+
+impl<A: Allocator + Clone> AnswerLines<SaidLines<Chunks<MerkleHashSubtree<A>>>> for MadeRange {
+    type Output = Vec<u8>;
+
+    type Fault = Infallible;
+
+    ghost is_answer = { IsMadeOf };
+
+    ghost is_fault = { λ _ _. ⊥ };
+
+    fn answer(
+        self,
+        lines: SaidLines<Chunks<MerkleHashSubtree<A>>>,
+    ) -> Result<Vec<u8>, Refusal<Infallible>> {
+        let range = lines.said.into_range()?;
+        Ok(write_range(self.json, &range)?)
+    }
+}

@@ -1,0 +1,99 @@
+//! The program `xetrange` over its arguments and devices.
+
+ghost use Rattle.std.specs.Prelude.{◌≡◌, ◌≢◌, IfErr, IfNone, IfSome};
+ghost use Rattle.std.specs.Io.KnownBytes.{Keeps};
+ghost use Rattle.xetrange_text.specs.Status.{status_of};
+ghost use Rattle.xetrange_text.specs.declared.fault.RangeFault.{RangeFault};
+
+use crate::fault::RangeFault;
+use crate::join::{join, root};
+use crate::make::make;
+use line_io::devices::write_all;
+use line_io::request::{Request, WRONG_ARGUMENT, print_line};
+use std::alloc::{Allocator, Global};
+use std::env::Args;
+use std::io::{self, Read, Write};
+
+const HELP: &str = "\
+Usage: xetrange make|join|root
+
+Ranges of a file's chunks, made apart and joined without their chunks. Each reads
+standard input and writes standard output.
+
+  make    pairs, chunks and `--`, as xetroot reads them: the line of their range
+  join    lines of ranges, in order: the line of the range that they make together
+  root    lines of ranges, in order: the two lines that xetroot writes of the whole
+
+A fault goes to standard error with its number, which is the exit status: 1 a bad
+line, 2 sizes that pass 2^64 - 1, 3 out of memory, 4 a failed read, 5 a failed
+write, 8 a line that is no range. The status is 64 after a wrong argument.
+
+  -h, --help    prints this text
+  --version     prints the version of xet-core-structures whose ranges these are
+";
+
+const VERSION: &str = "xetrange 1.5.2\n";
+
+/// Does what the arguments ask for, and answers the exit status: 0, that of a fault, or 64 after a wrong argument.
+///
+/// With the one argument `make`, `join` or `root` it does what the call of this name does, with `--help` or `--version` it
+/// writes a text to `w`. What the status is for goes to `errors` as one line.
+pub fn program<R: Read, W: Write, E: Write>(
+    alloc: impl Allocator,
+    json: Global,
+    args: io::Result<Args>,
+    r: &mut R,
+    w: &mut W,
+    errors: &mut E,
+) -> u8
+    ensures status { result ≢ 0 → result ≢ WRONG_ARGUMENT → (fault : RangeFault) × (result ≡ status_of fault) }
+    ensures unwritten { result ≢ 0 → result ≢ 5 → Keeps (W.contents w.old) (W.contents w.new) }
+    ensures silent { result ≡ 0 → Keeps (E.contents errors.old) (E.contents errors.new) }
+{
+    let Some(result) = perform(alloc, json, args, r, w) else {
+        print_line(
+            errors,
+            "xetrange: expected make, join, root, --help or --version",
+        );
+        return WRONG_ARGUMENT;
+    };
+    match result {
+        Ok(()) => 0,
+        Err(fault) => {
+            print_line(errors, fault);
+            fault.status()
+        }
+    }
+}
+
+// Does what the arguments ask for. None where they are wrong.
+fn perform<R: Read, W: Write>(
+    alloc: impl Allocator,
+    json: Global,
+    args: io::Result<Args>,
+    r: &mut R,
+    w: &mut W,
+) -> Option<Result<(), RangeFault>>
+    ensures none { IfNone result (Keeps (W.contents w.old) (W.contents w.new)) }
+    ensures unwritten { IfSome result (λ done. IfErr done (λ fault. fault ≢ RangeFault.Write →
+        Keeps (W.contents w.old) (W.contents w.new))) }
+{
+    match Request::read(args) {
+        Ok(Request::Word(word)) => match word.as_str() {
+            "make" => Some(make(alloc, json, r, w)),
+            "join" => Some(join(alloc, json, r, w)),
+            "root" => Some(root(alloc, json, r, w)),
+            _ => None,
+        },
+        Ok(Request::Help) => Some(write_text(w, HELP)),
+        Ok(Request::Version) => Some(write_text(w, VERSION)),
+        Ok(Request::Nothing | Request::Unknown) => None,
+        Err(_) => Some(Err(RangeFault::Memory)),
+    }
+}
+
+fn write_text<W: Write>(w: &mut W, text: &str) -> Result<(), RangeFault>
+    ensures { IfErr result (λ fault. fault ≡ RangeFault.Write) }
+{
+    Ok(write_all(w, text.as_bytes())?)
+}

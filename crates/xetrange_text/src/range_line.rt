@@ -1,0 +1,63 @@
+//! The line of a range.
+
+ghost use Rattle.std.specs.Prelude.{IfOk, IfErr};
+ghost use Rattle.line_io.specs.Faults.{IfFaulty};
+ghost use Rattle.xetrange_text.specs.Answers.{IsNoRange};
+ghost use Rattle.xetrange_text.specs.Ranges.{IsOpen, IsRangeLine, SaysRange};
+
+use crate::fault::LineFault;
+use line_io::fault::Refusal;
+use serde_json::Value;
+use std::alloc::{AllocError, Allocator, Global};
+use xet_merkle::error::CoreError;
+use xet_merkle::laws::all_bracketings_agree;
+use xet_merkle::merkle_hash_subtree::MerkleHashSubtree;
+
+/// The line that is written of a range that is open at both ends: its compact JSON text and a newline.
+///
+/// It fails where an allocation is refused.
+pub fn write_range<A: Allocator>(
+    json: Global,
+    range: &MerkleHashSubtree<A>,
+) -> Result<Vec<u8>, AllocError>
+    ensures line { IfOk result (λ line. IsOpen range.now → IsRangeLine line.items range.now) }
+{
+    let Ok(value) = range.to_json(json) else {
+        return Err(AllocError);
+    };
+    // A law of the JSON values of subtrees, for the clause `line`.
+    all_bracketings_agree();
+    let mut line = value.to_vec(json)?;
+    line.push(b'\n')?;
+    Ok(line)
+}
+
+/// The range that a line says, which is handed in without its newline.
+///
+/// It fails with [`LineFault::NoRange`] where it says none, and with [`Refusal::Memory`] where an allocation is refused,
+/// which may come in the place of a rule.
+pub fn read_range<A: Allocator + Clone>(
+    alloc: A,
+    json: Global,
+    line: &[u8],
+) -> Result<MerkleHashSubtree<A>, Refusal<LineFault>>
+    ensures says { IfOk result (SaysRange line.now) }
+    ensures fault { IfErr result (λ refusal. IfFaulty refusal (IsNoRange line.now)) }
+{
+    let value = match Value::from_slice(json, line) {
+        Ok(value) => value,
+        Err(error) if error.is_memory() => return Err(Refusal::Memory),
+        Err(_) => return Err(Refusal::Faulty(LineFault::NoRange(None))),
+    };
+    let range = match MerkleHashSubtree::from_json(alloc, &value) {
+        Ok(range) => range,
+        Err(CoreError::InvalidJson(rule)) => {
+            return Err(Refusal::Faulty(LineFault::NoRange(Some(rule))));
+        }
+        Err(_) => return Err(Refusal::Memory),
+    };
+    if range.at_start() || range.at_end() {
+        return Err(Refusal::Faulty(LineFault::NoRange(None)));
+    }
+    Ok(range)
+}

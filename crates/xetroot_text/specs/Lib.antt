@@ -1,0 +1,4 @@
+pub mod Status
+pub mod Answer
+pub mod WithoutPositions
+pub mod Steps

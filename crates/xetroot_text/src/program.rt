@@ -1,0 +1,99 @@
+//! The program `xetroot` over its arguments and devices.
+
+ghost use Rattle.std.specs.Prelude.{◌≡◌, ◌≢◌, ◌≤◌, ◌++◌, List, ℕ, IfErr, IfNone, IfSome, IsOkAnd, OnOk};
+ghost use Rattle.std.specs.Io.KnownBytes.{Appends, Keeps};
+ghost use Rattle.std.specs.Vec.Iter.{into_iter_len};
+ghost use Rattle.xetroot_text.specs.Answer.{IsAnswer, IsFaultOf};
+ghost use Rattle.xetroot_text.specs.Status.{status_of};
+
+use crate::fault::Fault;
+use crate::run::run;
+use line_io::devices::write_all;
+use line_io::request::{Request, WRONG_ARGUMENT, print_line};
+use std::alloc::Allocator;
+use std::env::Args;
+use std::io::{self, Read, Write};
+
+const HELP: &str = "\
+Usage: xetroot
+
+The root and the file hash of the pairs and chunks in the lines of standard input,
+as `xorb <hex>` and `file <hex>` on standard output. A line is
+
+  <64 hex digits> <size>    a pair
+  +<bytes>                  a chunk, whose pair is its hash and its size
+  @<position>               the position of the next pair
+  --                        the end of a range, which changes nothing
+
+A fault goes to standard error with its number, which is the exit status: 1 a bad
+line, 2 sizes that pass 2^64 - 1, 3 out of memory, 4 a failed read, 5 a failed write,
+6 a position that is taken, 7 a gap. The status is 64 after a wrong argument.
+
+  -h, --help    prints this text
+  --version     prints the version of xet-core-structures whose hashes these are
+";
+
+const VERSION: &str = "xetroot 1.5.2\n";
+
+/// Does what the arguments ask for, and answers the exit status: 0, that of a fault, or 64 after a wrong argument.
+///
+/// With no argument it does what [`run`] does, with `--help` or `--version` it writes a text to `w`. What the status is for
+/// goes to `errors` as one line.
+pub fn program<R: Read, W: Write, E: Write>(
+    alloc: impl Allocator,
+    args: io::Result<Args>,
+    r: &mut R,
+    w: &mut W,
+    errors: &mut E,
+) -> u8
+    // With no argument, what was written is the answer to the whole input.
+    ensures answer { IsOkAnd args (λ args. into_iter_len args ≤ 1) → result ≡ 0 → IfSome (R.remaining r.old) (λ text.
+        (output : List ℕ) × IsAnswer text output × Appends (W.contents w.old) (W.contents w.new) output) }
+    ensures fault { result ≢ 0 → result ≢ WRONG_ARGUMENT → IfSome (R.remaining r.old) (λ text.
+        (fault : Fault) × (result ≡ status_of fault) × IsFaultOf text fault) }
+    ensures unwritten { result ≢ 0 → result ≢ 5 → Keeps (W.contents w.old) (W.contents w.new) }
+    ensures silent { result ≡ 0 → Keeps (E.contents errors.old) (E.contents errors.new) }
+{
+    let Some(result) = perform(alloc, args, r, w) else {
+        print_line(errors, "xetroot: expected no argument, --help or --version");
+        return WRONG_ARGUMENT;
+    };
+    match result {
+        Ok(()) => 0,
+        Err(fault) => {
+            print_line(errors, fault);
+            fault.status()
+        }
+    }
+}
+
+// Does what the arguments ask for. None where they are wrong.
+fn perform<R: Read, W: Write>(
+    alloc: impl Allocator,
+    args: io::Result<Args>,
+    r: &mut R,
+    w: &mut W,
+) -> Option<Result<(), Fault>>
+    ensures answer { IsOkAnd args (λ args. into_iter_len args ≤ 1) → IfSome result (λ done. OnOk done (
+        IfSome (R.remaining r.old) (λ text.
+        (output : List ℕ) × IsAnswer text output × Appends (W.contents w.old) (W.contents w.new) output))) }
+    ensures fault { IfSome result (λ done. IfErr done (λ fault.
+        IfSome (R.remaining r.old) (λ text. IsFaultOf text fault))) }
+    ensures unwritten { IfSome result (λ done. IfErr done (λ fault. fault ≢ Fault.Write →
+        Keeps (W.contents w.old) (W.contents w.new))) }
+    ensures none { IfNone result (Keeps (W.contents w.old) (W.contents w.new)) }
+{
+    match Request::read(args) {
+        Ok(Request::Nothing) => Some(run(alloc, r, w)),
+        Ok(Request::Help) => Some(write_text(w, HELP)),
+        Ok(Request::Version) => Some(write_text(w, VERSION)),
+        Ok(Request::Word(_) | Request::Unknown) => None,
+        Err(_) => Some(Err(Fault::Memory)),
+    }
+}
+
+fn write_text<W: Write>(w: &mut W, text: &str) -> Result<(), Fault>
+    ensures { IfErr result (λ fault. fault ≡ Fault.Write) }
+{
+    Ok(write_all(w, text.as_bytes())?)
+}
