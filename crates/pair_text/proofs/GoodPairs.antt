@@ -1,5 +1,5 @@
 -- What good lines of pairs say, as lines come after them.
-use Rattle.std.proofs.Common.{◌≡◌, ℕ, ◌+◌, ◌^◌, ◌<◌, ◌≤◌, List, [], ◌∷◌, ◌++◌, length, codes, subst, ap, inl, inr, arith, append-nil, length-append}
+use Rattle.std.proofs.Common.{ℕ, ◌+◌, ◌^◌, ◌<◌, ◌≤◌, List, [], ◌∷◌, ◌++◌, length, codes, decimal, subst, ap, inl, inr, arith, append-nil, length-append}
 use Rattle.std.specs.List.{concat}
 use Rattle.std.proofs.lemmas.List.Sums.{sum_by-append}
 use Rattle.xet_merkle.specs.Groups.{Node}
@@ -12,7 +12,10 @@ use Rattle.pair_text.specs.PairText.Say.{no_line, separator, pair}
 
 -- a line that says a pair has a byte
 pub pair-some : (line : List ℕ) (node : Node) → SaysPair (content line) node → 0 < length line
-pair-some [] node (inl pair) = let long = pair.are_digits.0 in let all = ap length pair.parts in absurd (omega (arith, long, all, length-append pair.digits (codes " " ++ _)))
+pair-some [] node (inl is) =
+    let long = is.are_digits.0 in
+    let parts = ap length is.parts in
+    absurd (omega (arith, long, parts, length-append (is.digits ++ codes " ") (decimal node.1), length-append is.digits (codes " ")))
 pair-some [] node (inr chunk) = let clash : ⊥ = cc (chunk.1) in absurd clash
 pair-some (byte ∷ line) node says = omega arith
 

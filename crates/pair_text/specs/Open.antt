@@ -22,5 +22,5 @@ abbrev pub IsOverlong : List ℕ → Type 0
 IsOverlong line = (NoPlus line × (85 < length line)) ⊎ (2 ^ 64 ≤ length line)
 
 -- good lines were taken, and the beginning of a line
-abbrev pub HasTaken : {T : Type 0} → (T → List (List ℕ) → Type 0) → SaidLines T → List (List ℕ) → List ℕ → Type 0
+abbrev pub HasTaken : {T F : Type 0} → (T → List (List ℕ) → Type 0) → SaidLines T F → List (List ℕ) → List ℕ → Type 0
 HasTaken stands_for lines before line = stands_for lines.said before × IsOpenLine lines.line line × NoNewline line

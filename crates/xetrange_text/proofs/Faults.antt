@@ -1,5 +1,16 @@
--- Why an input has no answer is a fault of its text.
-use Rattle.std.proofs.Common.{◌≡◌, ℕ, List, refl}
+-- What a line is refused for, and why an input has no answer, are faults of its text.
+use Rattle.std.proofs.Common.{◌≡◌, ℕ, ◌+◌, ◌^◌, ◌≤◌, List, length, refl, sym, subst, arith}
+use Rattle.std.specs.List.{concat}
+use Rattle.xet_merkle.specs.Groups.{Node}
+use Rattle.xet_merkle.specs.Roots.{total_size}
+use Rattle.xet_merkle.specs.Subtree.{Subtree}
+use Rattle.line_io.specs.Lines.{byte_limit, content}
+use Rattle.line_io.specs.declared.fault.Refusal.{Refusal}
+use Rattle.line_io.specs.declared.fault.Refusal.TheVariants.{Faulty, Memory as out_of_memory}
+use Rattle.pair_text.specs.Lines.{SaysPair}
+use Rattle.pair_text.specs.PairText.{AreGood}
+use Rattle.pair_text.proofs.GoodPairs.{not_bad}
+use Rattle.xetrange_text.specs.Ranges.{AreRanges}
 use Rattle.std.specs.declared.convert.lends.Infallible.{Infallible}
 use Rattle.line_io.specs.Faults as line_io
 use Rattle.line_io.specs.declared.fault.AnswerFault.{AnswerFault}
@@ -12,7 +23,25 @@ use Rattle.xetrange_text.specs.declared.fault.RangeFault.TheVariants.{Write}
 use Rattle.xetrange_text.specs.declared.fault.LineFault.{LineFault}
 use Rattle.xetrange_text.specs.declared.fault.LineFault.TheVariants.{Bad, Sizes, NoRange}
 use Rattle.xetrange_text.specs.Status.{make_fault_of, range_fault_of}
-use Rattle.xetrange_text.specs.Answers.{IsLineFault, IsMakeFaultOf, IsRangeFaultOf}
+use Rattle.xetrange_text.specs.Answers.{IsLineFault, IsNoRange, IsMakeFaultOf, IsRangeFaultOf}
+
+-- a line whose pair is refused
+pub IsLineFault-sizes : (before : List (List ℕ)) (pairs : List Node) (line : List ℕ) (node : Node) (refusal : Refusal PairFault)
+    → length (concat before) + length line ≤ byte_limit → AreGood before pairs → SaysPair (content line) node
+    → line_io.IfFaulty refusal (λ fault. (fault ≡ pair_sizes) × (2 ^ 64 ≤ total_size pairs + node.1))
+    → line_io.IfFaulty refusal (pair_text.IsLineFault before line)
+IsLineFault-sizes before pairs line node (Faulty fault) within good says (is, past) =
+    subst (pair_text.IsLineFault before line) (sym is) (pairs, good, not_bad before pairs line good within node says, (node, says, past))
+IsLineFault-sizes before pairs line node out_of_memory within good says h = tt
+
+-- a line that says no range
+pub IsLineFault-no_range : (before : List (List ℕ)) (ranges : List Subtree) (line : List ℕ) (refusal : Refusal LineFault)
+    → length (concat before) + length line ≤ byte_limit → AreRanges before ranges
+    → line_io.IfFaulty refusal (IsNoRange (content line)) → line_io.IfFaulty refusal (IsLineFault before line)
+IsLineFault-no_range before ranges line (Faulty (NoRange rule)) within good is = (ranges, good, (λ past. omega (arith, within, past)), is)
+IsLineFault-no_range before ranges line (Faulty Bad) within good is = absurd is
+IsLineFault-no_range before ranges line (Faulty Sizes) within good is = absurd is
+IsLineFault-no_range before ranges line out_of_memory within good is = tt
 
 pub make-fault : (text : List ℕ) (of : AnswerFault PairFault Infallible) → line_io.IsFaultOf pair_text.IsLineFault (λ _ _. ⊥) text of
     → IsMakeFaultOf text (make_fault_of of)

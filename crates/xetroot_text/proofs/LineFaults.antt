@@ -1,9 +1,9 @@
 -- What the fault of a line after good ones is of the whole text.
 use Rattle.std.proofs.Common.{◌≡◌, ℕ, ◌+◌, ◌≤◌, List, length, refl, inr}
 use Rattle.std.specs.List.{concat}
-use Rattle.upload_session.specs.Session.{Placed}
+use Rattle.upload_session.specs.Session.{Placed, IsWhole}
 use Rattle.xet_merkle.specs.Groups.{Node}
-use Rattle.line_io.specs.Lines.{byte_limit, content}
+use Rattle.line_io.specs.Lines.{byte_limit, content, lines_of}
 use Rattle.line_io.specs.Faults as line_io
 use Rattle.line_io.specs.declared.fault.AnswerFault.{AnswerFault}
 use Rattle.line_io.specs.declared.fault.AnswerFault.TheVariants.{Input, Answer, Write as write_failed}
@@ -36,6 +36,12 @@ pub IsLineFault-refused : (before : List (List ℕ)) (pairs : List Placed) (next
     → line_io.IfFaulty refusal (IsPairFault pairs next node) → line_io.IfFaulty refusal (IsLineFault before line)
 IsLineFault-refused before pairs next line node (Faulty fault) within good says is = IsLineFault-pair before pairs next line node fault within good says is
 IsLineFault-refused before pairs next line node out_of_memory within good says is = tt
+
+-- good lines without the positions below their number have a gap
+pub gap-refused : (text : List ℕ) (pairs : List Placed) (next : ℕ) (refusal : Refusal NoWhole) → AreGood (lines_of text) pairs next
+    → line_io.IfFaulty refusal (λ _. ¬ (IsWhole (length pairs) pairs)) → line_io.IfFaulty refusal (λ _. HasGap text)
+gap-refused text pairs next (Faulty gap) good not_whole = (pairs, next, good, not_whole)
+gap-refused text pairs next out_of_memory good h = tt
 
 -- why an input has no answer is a fault of its text
 pub IsFaultOf-input : (text : List ℕ) (of : AnswerFault LineFault NoWhole) → line_io.IsFaultOf IsLineFault (λ text _. HasGap text) text of

@@ -186,20 +186,26 @@ no_faulty text number fault pairs next good (before, line, after, lines, _, make
     not-good before line after fault pairs next makes (subst (λ l. AreGood l pairs next) lines good)
 
 -- a line has one fault
-line-fault-unique : (before : List (List ℕ)) (line : List ℕ) (a b : LineFault) → IsLineFault before line a → IsLineFault before line b → a ≡ b
-line-fault-unique before line Bad Bad h k = refl
-line-fault-unique before line overlaps overlaps h k = refl
-line-fault-unique before line passes_sizes passes_sizes h k = refl
-line-fault-unique before line Bad overlaps (pairs, next, good, bad) (others, last, also, fine, _) =
-    absurd (fine (subst (λ n. IsBad before n line) (good-unique before pairs others next last good also).1 bad))
-line-fault-unique before line Bad passes_sizes (pairs, next, good, bad) (others, last, also, fine, _) =
-    absurd (fine (subst (λ n. IsBad before n line) (good-unique before pairs others next last good also).1 bad))
-line-fault-unique before line overlaps Bad h k = sym (line-fault-unique before line Bad overlaps k h)
-line-fault-unique before line passes_sizes Bad h k = sym (line-fault-unique before line Bad passes_sizes k h)
-line-fault-unique before line overlaps passes_sizes (pairs, next, good, _, taken) (others, last, also, _, free, _) =
-    let (same, at) = good-unique before pairs others next last good also in
-    absurd (free (subst (λ n. Overlaps others n line) at (subst (λ l. Overlaps l next line) same taken)))
-line-fault-unique before line passes_sizes overlaps h k = sym (line-fault-unique before line overlaps passes_sizes k h)
+module _ (before : List (List ℕ)) (line : List ℕ) where
+  bad-alone : (others : List Placed) (last : ℕ) → IsLineFault before line Bad → AreGood before others last → ¬ (IsBad before last line) → ⊥
+  bad-alone others last (pairs, next, good, bad) also fine =
+      fine (subst (λ n. IsBad before n line) (good-unique before pairs others next last good also).1 bad)
+
+  overlap-alone : (others : List Placed) (last : ℕ) → IsLineFault before line overlaps → AreGood before others last → ¬ (Overlaps others last line) → ⊥
+  overlap-alone others last (pairs, next, good, _, taken) also free =
+      let (same, at) = good-unique before pairs others next last good also in
+      free (subst (λ n. Overlaps others n line) at (subst (λ l. Overlaps l next line) same taken))
+
+  line-fault-unique : (a b : LineFault) → IsLineFault before line a → IsLineFault before line b → a ≡ b
+  line-fault-unique Bad Bad h k = refl
+  line-fault-unique overlaps overlaps h k = refl
+  line-fault-unique passes_sizes passes_sizes h k = refl
+  line-fault-unique Bad overlaps h (others, last, also, fine, _) = absurd (bad-alone others last h also fine)
+  line-fault-unique Bad passes_sizes h (others, last, also, fine, _, _) = absurd (bad-alone others last h also fine)
+  line-fault-unique overlaps Bad (others, last, also, fine, _) k = absurd (bad-alone others last k also fine)
+  line-fault-unique passes_sizes Bad (others, last, also, fine, _, _) k = absurd (bad-alone others last k also fine)
+  line-fault-unique overlaps passes_sizes h (others, last, also, _, free, _) = absurd (overlap-alone others last h also free)
+  line-fault-unique passes_sizes overlaps (others, last, also, _, free, _) k = absurd (overlap-alone others last k also free)
 
 -- one text has one first faulty line
 first-fault-unique : (text : List ℕ) (n m : ℕ) (a b : LineFault) → HasFault IsLineFault text n a → HasFault IsLineFault text m b → (n ≡ m) × (a ≡ b)

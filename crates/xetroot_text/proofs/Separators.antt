@@ -16,8 +16,8 @@ use Rattle.xetroot_text.proofs.OneAnswer.{Follows, good-unique, say-first, say-s
 
 pub same-pairs : (text other output : List ℕ) (pairs : List Placed) (next last : ℕ) → AreGood (lines_of text) pairs next → AreGood (lines_of other) pairs last
     → IsAnswer text output → IsAnswer other output
-same-pairs text other output pairs next last good also (all, last, whole, is_whole, is) =
-    let (same, _) = good-unique (lines_of text) all pairs last next whole good in (
+same-pairs text other output pairs next last good also (all, end, whole, is_whole, is) =
+    let (same, _) = good-unique (lines_of text) all pairs end next whole good in (
       pairs,
       last,
       also,

@@ -41,7 +41,7 @@ module _ {C A : Type 0} (kept : chunk_range.Ghosts C A) where
   -- what is kept is some pairs, and the next one has a position
   abbrev pub StandForPairs : Gathered C → List Placed → ℕ → Type 0
   StandForPairs placed pairs next =
-      StandForPlaced placed.session placed.range placed.first placed.next placed.total pairs × (placed.next ≡ next)
+      StandForPlaced placed.session placed.range placed.first next placed.total pairs × (placed.next ≡ next)
 
   -- it is what some good lines say
   abbrev pub StandForLines : Gathered C → List (List ℕ) → Type 0

@@ -1,5 +1,4 @@
 use Rattle.std.proofs.Common.{inr}
-use Rattle.std.proofs.lemmas.Result.{err_from_is_err_and}
 use Rattle.line_io.specs.Lines.{content}
 use Rattle.pair_text.proofs.said_lines.SaidLinesTakeLines.end_line.Goals as goal
 

@@ -1,4 +1,4 @@
-use Rattle.std.proofs.Common.{◌++◌, inl, inr, arith, append_assoc, sym, subst}
+use Rattle.std.proofs.Common.{◌++◌, inl, inr, arith}
 use Rattle.line_io.proofs.Lines.{NoNewline-append}
 use Rattle.pair_text.proofs.LongLines.{SaysNothing-long}
 use Rattle.pair_text.proofs.said_lines.SaidLinesTakeLines.extend_line.Goals as goal

@@ -1,21 +1,17 @@
-use Rattle.std.proofs.Common.{arith, eqb-true, eq-eqb, Err, inr, refl, sym, ap, subst, ◌∙◌}
+use Rattle.std.proofs.Common.{arith, eqb-true, eq-eqb, Err, sym, ap, subst, ◌∙◌}
 use Rattle.upload_session.specs.Session.{Placed, IsWhole}
 use Rattle.std.proofs.lemmas.List.{length-map}
 use Rattle.xetroot_text.specs.Steps.PlacedPairs.{Gathered, StandForPairs}
 use Rattle.xetroot_text.proofs.Placing.{stands-all}
 use Rattle.xetroot_text.proofs.placed_pairs.PlacedPairs.hashes.Goals as goal
 
-pub returns-in-Err-Gap-clause-fault : goal.returns-in-Err-Gap-clause-fault
-returns-in-Err-Gap-clause-fault g c = inr (
-  refl,
-  λ pairs next held whole.
-      let all = subst (λ s. StandForPairs g.C.ChunkRange s pairs next) (sym c.self.view_is)
-      (c.in_ok-end_range.ensures.same pairs next held) in
-      let none = ap (λ (s : Gathered _). s.range) c.self.view_is ∙ c.in_ok-end_range.ensures.none in
-      let count = ap (λ (s : Gathered _). s.count) c.self.view_is ∙ c.end_range.ensures.kept.1 in
-      let stands = stands-all g.C.ChunkRange _ _ _ _ _ pairs all.0 none in
-      c.root.ensures.gap (c.in-Err-Gap.is ∙ ap Err c.in-Err-Gap.field-0-is) pairs stands (subst (λ n. IsWhole n pairs) (sym count) whole),
-)
+pub returns-in-Err-Gap-clause-gap : goal.returns-in-Err-Gap-clause-gap
+returns-in-Err-Gap-clause-gap g c = λ pairs next held whole.
+    let all = subst (λ s. StandForPairs g.C.ChunkRange s pairs next) (sym c.self.view_is) (c.in_ok-end_range.ensures.same pairs next held) in
+    let none = ap (λ (s : Gathered _). s.range) c.self.view_is ∙ c.in_ok-end_range.ensures.none in
+    let count = ap (λ (s : Gathered _). s.count) c.self.view_is ∙ c.end_range.ensures.kept.1 in
+    let stands = stands-all g.C.ChunkRange _ _ _ _ _ pairs all.0 none in
+    c.root.ensures.gap (c.in-Err-Gap.is ∙ ap Err c.in-Err-Gap.field-0-is) pairs stands (subst (λ n. IsWhole n pairs) (sym count) whole)
 
 pub returns-clause-whole : goal.returns-clause-whole
 returns-clause-whole g c = λ pairs next held.

@@ -13,30 +13,19 @@ returns-then-taken-clause-fault g c = λ pairs next held.
     let (hold, at) = subst (λ s. StandForPairs g.C.ChunkRange s pairs next) (sym c.self.view_is) held in
     let low : c.self.inside.next + 1 < 2 ^ 64 = grind (arith, common_steps) in
     let taken = taken-held g.C.ChunkRange _ _ _ _ _ pairs hold in (
-      refl,
       omega (arith, low, at),
       taken ∙ ap (is_taken hold.before) (sym at) ∙ sym (c.taken.ensures hold.before hold.ended) ∙ c.if-taken.true,
     )
 
--- a sum that is refused
-refused : (r : Option ℕ) (P : Type 0) (v : ℕ) (fault given : Fault) → SomeIff r P v → Err fault ≡ ok_or r given → (fault ≡ given) × ¬ P
-refused None P v fault given sums is = let same : fault ≡ given = cc in (same, sums)
-refused (Some x) P v fault given sums is = cc is
-
-pub returns-in_err-total-clause-fault : goal.returns-in_err-total-clause-fault
-returns-in_err-total-clause-fault g c =
-    let p = err_from_is_err_and c.from_residual-in_err-total.result c.from_residual-in_err-total.ensures.1 in
-    let (is, past) = refused _ _ _ _ _ c.checked_add-2.ensures c.in_err-total.ensures.value in
-    rw (p.1, p.2) (λ pairs next held.
+pub returns-in_default-checked_add-clause-fault : goal.returns-in_default-checked_add-clause-fault
+returns-in_default-checked_add-clause-fault g c = λ pairs next held.
     let (hold, at) = subst (λ s. StandForPairs g.C.ChunkRange s pairs next) (sym c.self.view_is) held in
     let low : c.self.inside.next + 1 < 2 ^ 64 = grind (arith, common_steps) in
-    let taken = taken-held g.C.ChunkRange _ _ _ _ _ pairs hold in
-    subst (IsPairFault c.args.number pairs next c.args.pair) (sym is) (
-      refl,
+    let taken = taken-held g.C.ChunkRange _ _ _ _ _ pairs hold in (
       omega (arith, low, at),
       (λ t. false≢true (sym c.if-taken.false ∙ c.taken.ensures hold.before hold.ended ∙ ap (is_taken hold.before) at ∙ sym taken ∙ t)),
-      let total = hold.total_is in grind (arith, past, total),
-    ))
+      let total = hold.total_is in grind (arith, common_steps, total),
+    )
 
 pub returns-clause-free : goal.returns-clause-free
 returns-clause-free g c = λ pairs next held.
@@ -55,12 +44,12 @@ returns-clause-pushed g c = λ pairs next held.
     let free = false_from_ne_true (is_taken pairs next) (returns-clause-free g c pairs next held).1 in
     let old = c.self.view_is in
     let new = c.self-2.view_is in
-    let after : c.in_ok-next.next ≡ inside.next + 1 = grind (arith, common_steps) in
-    let total : c.in_ok-total.total ≡ inside.total + c.args.pair.1 = grind (arith, common_steps) in
+    let after : c.in-Some.next ≡ inside.next + 1 = grind (arith, common_steps) in
+    let total : c.in-Some-checked_add.total ≡ inside.total + c.args.pair.1 = grind (arith, common_steps) in
     StandForPairs-push g.C.ChunkRange
     (record { session = inside.session; range = inside.range.items; first = inside.first; next = inside.next; count = inside.count; total = inside.total })
     pairs next room free c.args.pair c.push.new.self.items
-    c.in_ok-next.next c.in_ok-total.total c.in_ok-push.ensures.items after total (grind (arith, common_steps)) (grind (arith, common_steps))
+    c.in-Some.next c.in-Some-checked_add.total c.in_ok-push.ensures.items after total (grind (arith, common_steps)) (grind (arith, common_steps))
 
 pub invariant_of-self-2 : goal.invariant_of-self-2
 invariant_of-self-2 g c =
@@ -74,12 +63,12 @@ invariant_of-self-2 g c =
     (c.in_ok-make_room.ensures.same pairs next held) in
     let taken = taken-held g.C.ChunkRange _ _ _ _ _ pairs hold in
     let free = taken ∙ sym (c.taken.ensures hold.before hold.ended) ∙ c.if-taken.false in
-    let after : c.in_ok-next.next ≡ inside.next + 1 = grind (arith, common_steps) in
-    let total : c.in_ok-total.total ≡ inside.total + c.args.pair.1 = grind (arith, common_steps) in
+    let after : c.in-Some.next ≡ inside.next + 1 = grind (arith, common_steps) in
+    let total : c.in-Some-checked_add.total ≡ inside.total + c.args.pair.1 = grind (arith, common_steps) in
     let (made, is) = StandForPairs-push g.C.ChunkRange
     (record { session = inside.session; range = inside.range.items; first = inside.first; next = inside.next; count = inside.count; total = inside.total })
     pairs next room free c.args.pair c.push.new.self.items
-    c.in_ok-next.next c.in_ok-total.total c.in_ok-push.ensures.items after total (grind (arith, common_steps)) (grind (arith, common_steps)) in (
+    c.in-Some.next c.in-Some-checked_add.total c.in_ok-push.ensures.items after total (grind (arith, common_steps)) (grind (arith, common_steps)) in (
       place pairs next (c.args.pair ∷ []),
-      subst (λ n. StandForPlaced g.C.ChunkRange inside.session c.push.new.self.items inside.first n c.in_ok-total.total (place pairs next (c.args.pair ∷ []))) (sym is) made,
+      subst (λ n. StandForPlaced g.C.ChunkRange inside.session c.push.new.self.items inside.first n c.in-Some-checked_add.total (place pairs next (c.args.pair ∷ []))) (sym is) made,
     )
