@@ -11,7 +11,6 @@ use Rattle.pair_text.specs.Lines.{SaysPair}
 use Rattle.pair_text.specs.PairText.{AreGood}
 use Rattle.pair_text.proofs.GoodPairs.{not_bad}
 use Rattle.xetrange_text.specs.Ranges.{AreRanges}
-use Rattle.std.specs.declared.convert.lends.Infallible.{Infallible}
 use Rattle.line_io.specs.Faults as line_io
 use Rattle.line_io.specs.declared.fault.AnswerFault.{AnswerFault}
 use Rattle.line_io.specs.declared.fault.AnswerFault.TheVariants.{Input, Answer, Write as write_failed}
@@ -43,16 +42,16 @@ IsLineFault-no_range before ranges line (Faulty Bad) within good is = absurd is
 IsLineFault-no_range before ranges line (Faulty Sizes) within good is = absurd is
 IsLineFault-no_range before ranges line out_of_memory within good is = tt
 
-pub make-fault : (text : List ℕ) (of : AnswerFault PairFault Infallible) → line_io.IsFaultOf pair_text.IsLineFault (λ _ _. ⊥) text of
+pub make-fault : {T : Type 0} (is_text_fault : List ℕ → T → Type 0) (text : List ℕ) (of : AnswerFault PairFault T) → line_io.IsFaultOf pair_text.IsLineFault is_text_fault text of
     → IsMakeFaultOf text (make_fault_of of)
-make-fault text (Input (Line number bad_pair)) faulty = faulty
-make-fault text (Input (Line number pair_sizes)) faulty = faulty
-make-fault text (Input input_memory) faulty = tt
-make-fault text (Input read_failed) faulty = tt
-make-fault text (Answer refusal) faulty = tt
-make-fault text write_failed faulty = tt
+make-fault is_text_fault text (Input (Line number bad_pair)) faulty = faulty
+make-fault is_text_fault text (Input (Line number pair_sizes)) faulty = faulty
+make-fault is_text_fault text (Input input_memory) faulty = tt
+make-fault is_text_fault text (Input read_failed) faulty = tt
+make-fault is_text_fault text (Answer refusal) faulty = tt
+make-fault is_text_fault text write_failed faulty = tt
 
-pub make-write : (of : AnswerFault PairFault Infallible) → make_fault_of of ≡ Write → of ≡ write_failed
+pub make-write : {T : Type 0} (of : AnswerFault PairFault T) → make_fault_of of ≡ Write → of ≡ write_failed
 make-write (Input (Line number bad_pair)) is = cc is
 make-write (Input (Line number pair_sizes)) is = cc is
 make-write (Input input_memory) is = cc is
@@ -60,17 +59,17 @@ make-write (Input read_failed) is = cc is
 make-write (Answer refusal) is = cc is
 make-write write_failed is = refl
 
-pub range-fault : (text : List ℕ) (of : AnswerFault LineFault Infallible) → line_io.IsFaultOf IsLineFault (λ _ _. ⊥) text of
+pub range-fault : {T : Type 0} (is_text_fault : List ℕ → T → Type 0) (text : List ℕ) (of : AnswerFault LineFault T) → line_io.IsFaultOf IsLineFault is_text_fault text of
     → IsRangeFaultOf text (range_fault_of of)
-range-fault text (Input (Line number Bad)) faulty = faulty
-range-fault text (Input (Line number Sizes)) faulty = faulty
-range-fault text (Input (Line number (NoRange rule))) faulty = faulty
-range-fault text (Input input_memory) faulty = tt
-range-fault text (Input read_failed) faulty = tt
-range-fault text (Answer refusal) faulty = tt
-range-fault text write_failed faulty = tt
+range-fault is_text_fault text (Input (Line number Bad)) faulty = faulty
+range-fault is_text_fault text (Input (Line number Sizes)) faulty = faulty
+range-fault is_text_fault text (Input (Line number (NoRange rule))) faulty = faulty
+range-fault is_text_fault text (Input input_memory) faulty = tt
+range-fault is_text_fault text (Input read_failed) faulty = tt
+range-fault is_text_fault text (Answer refusal) faulty = tt
+range-fault is_text_fault text write_failed faulty = tt
 
-pub range-write : (of : AnswerFault LineFault Infallible) → range_fault_of of ≡ Write → of ≡ write_failed
+pub range-write : {T : Type 0} (of : AnswerFault LineFault T) → range_fault_of of ≡ Write → of ≡ write_failed
 range-write (Input (Line number Bad)) is = cc is
 range-write (Input (Line number Sizes)) is = cc is
 range-write (Input (Line number (NoRange rule))) is = cc is

@@ -1,6 +1,5 @@
 -- The numbers of the faults, and the fault that each want of an answer is.
 use Rattle.std.specs.Prelude.{ℕ}
-use Rattle.std.specs.declared.convert.lends.Infallible.{Infallible}
 use Rattle.line_io.specs.declared.fault.AnswerFault.{AnswerFault}
 use Rattle.line_io.specs.declared.fault.AnswerFault.TheVariants.{Input, Answer, Write as write_failed}
 use Rattle.line_io.specs.declared.fault.InputFault.TheVariants.{Line, Memory as input_memory, Read as read_failed}
@@ -21,7 +20,7 @@ status_of Write = 5
 status_of (BadRange number rule) = 8
 
 -- why an input of pairs has no answer, as a fault
-abbrev pub make_fault_of : AnswerFault PairFault Infallible → RangeFault
+abbrev pub make_fault_of : {T : Type 0} → AnswerFault PairFault T → RangeFault
 make_fault_of (Input (Line number bad_pair)) = BadLine number
 make_fault_of (Input (Line number pair_sizes)) = Sizes number
 make_fault_of (Input input_memory) = Memory
@@ -30,7 +29,7 @@ make_fault_of (Answer refusal) = Memory
 make_fault_of write_failed = Write
 
 -- why an input of ranges has no answer, as a fault
-abbrev pub range_fault_of : AnswerFault LineFault Infallible → RangeFault
+abbrev pub range_fault_of : {T : Type 0} → AnswerFault LineFault T → RangeFault
 range_fault_of (Input (Line number Bad)) = BadLine number
 range_fault_of (Input (Line number passes_sizes)) = Sizes number
 range_fault_of (Input (Line number (NoRange rule))) = BadRange number rule

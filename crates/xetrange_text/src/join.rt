@@ -1,6 +1,5 @@
 //! Ranges merged to one, and to the hashes of the whole.
 
-ghost use Rattle.std.specs.Prelude.{⊥};
 ghost use Rattle.line_io.specs.Answers.{AnswersInput};
 ghost use Rattle.xetrange_text.specs.Answers.{IsJoinedOf, IsRangeFaultOf, IsRootOf};
 

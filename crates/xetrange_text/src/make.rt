@@ -1,6 +1,5 @@
 //! The range of some pairs.
 
-ghost use Rattle.std.specs.Prelude.{⊥};
 ghost use Rattle.line_io.specs.Answers.{AnswersInput};
 ghost use Rattle.xetrange_text.specs.Answers.{IsMadeOf, IsMakeFaultOf};
 
@@ -32,7 +31,20 @@ pub fn make<R: Read, W: Write>(
     ensures { AnswersInput IsMadeOf IsMakeFaultOf RangeFault.Write
         (R.remaining r.old) (R.remaining r.new) (W.contents w.old) (W.contents w.new) result }
 {
-    let lines = SaidLines::new(Chunks::<MerkleHashSubtree<_>>::new(&alloc)?);
+    make_in(&alloc, json, r, w)
+}
+
+// Does what `make` does, with an allocator that can be cloned.
+fn make_in<A: Allocator + Clone, R: Read, W: Write>(
+    alloc: A,
+    json: Global,
+    r: &mut R,
+    w: &mut W,
+) -> Result<(), RangeFault>
+    ensures { AnswersInput IsMadeOf IsMakeFaultOf RangeFault.Write
+        (R.remaining r.old) (R.remaining r.new) (W.contents w.old) (W.contents w.new) result }
+{
+    let lines = SaidLines::new(Chunks::<MerkleHashSubtree<A>>::new(alloc)?);
     Ok(answer_lines(lines, MadeRange { json }, r, w)?)
 }
 

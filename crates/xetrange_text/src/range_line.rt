@@ -20,12 +20,12 @@ pub fn write_range<A: Allocator>(
     json: Global,
     range: &MerkleHashSubtree<A>,
 ) -> Result<Vec<u8>, AllocError>
-    ensures line { IfOk result (λ line. IsOpen range.now → IsRangeLine line.items range.now) }
+    ensures { IfOk result (λ line. IsOpen range.now → IsRangeLine line.items range.now) }
 {
     let Ok(value) = range.to_json(json) else {
         return Err(AllocError);
     };
-    // A law of the JSON values of subtrees, for the clause `line`.
+    // A law of the JSON values of subtrees, for the contract.
     all_bracketings_agree();
     let mut line = value.to_vec(json)?;
     line.push(b'\n')?;

@@ -11,4 +11,4 @@ pub returns-in_err-answer_lines : goal.returns-in_err-answer_lines
 returns-in_err-answer_lines g c =
     let p = err_from_is_err_and c.from_residual-in_err-answer_lines.result c.from_residual-in_err-answer_lines.ensures.1 in
     let of = c.in_err-answer_lines.field-0.0 in
-    rw (p.1, p.2) (AnswersInput-err range_fault_of IsRangeFaultOf Write of c.in_err-answer_lines.ensures (λ text faulty. range-fault text of faulty) (range-write of) (λ is. ap range_fault_of is))
+    rw (p.1, p.2) (AnswersInput-err range_fault_of IsRangeFaultOf Write of c.in_err-answer_lines.ensures (λ text faulty. range-fault (λ _ _. ⊥) text of faulty) (range-write of) (λ is. ap range_fault_of is))

@@ -9,8 +9,8 @@ use Rattle.xetrange_text.specs.Ranges.{IsTextOf}
 use Rattle.xetrange_text.proofs.Depth.{subtree_depth}
 use Rattle.xetrange_text.proofs.range_line.write_range.Goals as goal
 
-pub returns-clause-line : goal.returns-clause-line
-returns-clause-line g c = λ is_open.
+pub returns : goal.returns
+returns g c = λ is_open.
     let range = c.args.range.now in
     let is = c.in-Ok.ensures.json in
     let plain = ap has_float is ∙ c.all_bracketings_agree.ensures.no_float range in

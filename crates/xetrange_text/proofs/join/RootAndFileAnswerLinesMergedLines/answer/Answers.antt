@@ -1,5 +1,5 @@
 use Rattle.std.proofs.Common.{flat_map}
-use Rattle.xetrange_text.proofs.join.RootAndFileAnswerLines.answer.Goals as goal
+use Rattle.xetrange_text.proofs.join.RootAndFileAnswerLinesMergedLines.answer.Goals as goal
 
 pub returns-clause-answer : goal.returns-clause-answer
 returns-clause-answer g c = λ text (ranges, good, merged, _, _).

@@ -1,14 +1,18 @@
-use Rattle.std.proofs.Common.{ap}
+use Rattle.std.proofs.Common.{[], ap}
 use Rattle.std.proofs.lemmas.Result.{err_from_is_err_and}
 use Rattle.line_io.proofs.Answering.{AnswersInput-err}
 use Rattle.xetrange_text.specs.declared.fault.RangeFault.TheVariants.{Write}
 use Rattle.xetrange_text.specs.Status.{make_fault_of}
 use Rattle.xetrange_text.specs.Answers.{IsMakeFaultOf}
+use Rattle.pair_text.proofs.GoodPairs.{AreGood-none}
 use Rattle.xetrange_text.proofs.Faults.{make-fault, make-write}
-use Rattle.xetrange_text.proofs.make.make.Goals as goal
+use Rattle.xetrange_text.proofs.make.make_in.Goals as goal
+
+pub new-lines-requires : goal.new-lines-requires
+new-lines-requires g c = ([], c.in_ok-new.ensures, AreGood-none)
 
 pub returns-in_err-answer_lines : goal.returns-in_err-answer_lines
 returns-in_err-answer_lines g c =
     let p = err_from_is_err_and c.from_residual-in_err-answer_lines.result c.from_residual-in_err-answer_lines.ensures.1 in
     let of = c.in_err-answer_lines.field-0.0 in
-    rw (p.1, p.2) (AnswersInput-err make_fault_of IsMakeFaultOf Write of c.in_err-answer_lines.ensures (λ text faulty. make-fault text of faulty) (make-write of) (λ is. ap make_fault_of is))
+    rw (p.1, p.2) (AnswersInput-err make_fault_of IsMakeFaultOf Write of c.in_err-answer_lines.ensures (λ text faulty. make-fault (λ _ _. ⊥) text of faulty) (make-write of) (λ is. ap make_fault_of is))
