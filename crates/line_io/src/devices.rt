@@ -17,7 +17,7 @@ pub struct ReadFailed;
 pub struct WriteFailed;
 
 /// Reads some bytes, and none only at the end of the input.
-pub fn read<R: Read>(r: &mut R, buffer: &mut [u8]) -> Result<usize, ReadFailed>
+pub(crate) fn read<R: Read>(r: &mut R, buffer: &mut [u8]) -> Result<usize, ReadFailed>
     ensures bound { IfOk result (λ n. n ≤ length buffer.new) }
     ensures bytes { IfOk result (λ n. Consumes (R.remaining r.old) (R.remaining r.new) (take n buffer.new)) }
     ensures end { IfOk result (λ n. n ≡ 0 → 0 < length buffer.new → IsAtEnd (R.remaining r.new)) }

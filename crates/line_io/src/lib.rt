@@ -5,6 +5,6 @@
 pub mod answer_lines;
 pub mod devices;
 pub mod fault;
-pub mod reading;
+mod reading;
 pub mod request;
 pub mod take_lines;

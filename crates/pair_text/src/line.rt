@@ -26,7 +26,7 @@ const SEPARATOR: &[u8; 2] = b"--";
 const DIGITS_LEN: usize = 64;
 
 /// What a line without a chunk says; the line is handed in without its newline. None where it says nothing.
-pub fn parse(line: &[u8]) -> Option<Line>
+pub(crate) fn parse(line: &[u8]) -> Option<Line>
     ensures says { IfSome result (Says line.now) }
     ensures no_separator { IfNone result (¬ (IsSeparator line.now)) }
     ensures no_position { IfNone result ((position : ℕ) → ¬ (IsPositionLine line.now position)) }

@@ -1,4 +1,4 @@
--- The numbers of the faults, and the fault that each want of an answer is.
+-- The numbers of the faults, and why an input has no answer as one of them.
 use Rattle.std.specs.Prelude.{ℕ}
 use Rattle.line_io.specs.declared.fault.AnswerFault.{AnswerFault}
 use Rattle.line_io.specs.declared.fault.AnswerFault.TheVariants.{Input, Answer, Write as write_failed}
