@@ -1,6 +1,3 @@
-use xetrange_text::fault::RangeFault;
-use xetrange_text::join::{join, root};
-use xetrange_text::make::make;
 use serde_json::Value;
 use std::alloc::{AllocError, Global};
 use std::fmt::{self, Write as _};
@@ -17,6 +14,9 @@ use xet_merkle::aggregated_hashes::Node;
 use xet_merkle::merkle_hash_subtree::{
     ChunkRange, MergeTree, MerkleHashSubtree, PlainRange, find_stable_end, find_stable_start,
 };
+use xetrange_text::fault::RangeFault;
+use xetrange_text::join::{join, root};
+use xetrange_text::make::make;
 
 // Three chunks, each with its seed.
 fn chunks() -> [Node; 3] {

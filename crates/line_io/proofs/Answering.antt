@@ -1,5 +1,5 @@
 -- The contract of a call that answers an input, with faults of another type.
-use Rattle.std.proofs.Common.{◌≡◌, ℕ, List, Option, Some, None, IfSome, Err, refl, sym, ◌∙◌}
+use Rattle.std.proofs.Common.{◌≡◌, ℕ, List, Option, Some, None, IfSome, Err}
 use Rattle.line_io.specs.Answers.{AnswersInput}
 
 -- what holds of a text holds in another form

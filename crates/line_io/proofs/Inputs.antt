@@ -1,5 +1,5 @@
 -- What is known of a whole input from what was read of it.
-use Rattle.std.proofs.Common.{◌≡◌, ℕ, List, ◌++◌, sym, subst, Option, Some, None, IfSome}
+use Rattle.std.proofs.Common.{ℕ, List, ◌++◌, sym, subst, Option, Some, None, IfSome}
 use Rattle.std.specs.Io.KnownBytes.{Consumes}
 
 -- what holds however the input goes on holds of the input

@@ -1,13 +1,13 @@
 //! Devices that fail, that are interrupted, and that give or take little, at each call that reads lines.
 
 use super::texts::{NO_CHUNK, with_hashes};
-use xetrange_text::join::{join, root};
-use xetrange_text::make::make;
 use std::alloc::Global;
 use std::io::{self, ErrorKind, Read, Write};
 use std::test::Fail;
-use xetroot_text::run::{run, run_with};
 use xet_merkle::plain_range::PlainRange;
+use xetrange_text::join::{join, root};
+use xetrange_text::make::make;
+use xetroot_text::run::{run, run_with};
 
 // A call that reads lines.
 #[derive(Clone, Copy, Debug)]

@@ -2,12 +2,11 @@
 //! fail, and requests for memory that are refused.
 #![tactic(auto)]
 
-pub mod laws;
-
 #[cfg(test)]
 mod devices;
 #[cfg(test)]
 mod kept_hashes;
+pub mod laws;
 #[cfg(test)]
 mod lines;
 #[cfg(test)]

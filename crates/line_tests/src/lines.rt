@@ -8,9 +8,9 @@ use std::io::{Read, Write};
 use std::ops::Range;
 use std::test::Fail;
 use xet_hash::data_hash::DataHash;
+use xet_merkle::plain_range::PlainRange;
 use xetroot_text::fault::Fault;
 use xetroot_text::run::{run, run_with};
-use xet_merkle::plain_range::PlainRange;
 
 const ONE_PAIR: &str = "xorb cfc5d07f6f03c29bbf424132963fe08d19a37d5757aaf520bf08119f05cd56d6
 file 8e16257caa3fe079d484d872a8975264b2ff683b0d6db9028cc7c0f968a45661

@@ -1,13 +1,13 @@
 //! The lists in which pairs are kept before they are joined, told by the requests for memory.
 
-use xetrange_text::make::make;
 use refusing_allocator::RefusingAllocator;
 use std::alloc::Global;
 use std::io::Write;
 use std::test::Fail;
 use xet_hash::data_hash::DataHash;
-use xetroot_text::run::{run, run_with};
 use xet_merkle::plain_range::PlainRange;
+use xetrange_text::make::make;
+use xetroot_text::run::{run, run_with};
 
 // A call that reads pairs.
 #[derive(Clone, Copy, Debug)]

@@ -4,13 +4,13 @@ mod no_memory;
 
 use super::lines::{LINES, MANY_PAIRS, push_lines};
 use super::texts::{NO_CHUNK, NO_PAIR, THREE_PAIRS, with_hashes};
-use xetrange_text::fault::RangeFault;
-use xetrange_text::join::{join, root};
-use xetrange_text::make::make;
 use std::alloc::{Allocator, Global};
 use std::io::{Read, Write};
 use std::test::Fail;
 use xet_hash::data_hash::DataHash;
+use xetrange_text::fault::RangeFault;
+use xetrange_text::join::{join, root};
+use xetrange_text::make::make;
 use xetroot_text::run::run;
 
 #[derive(Clone, Copy, Debug)]

@@ -1,9 +1,9 @@
 //! The program `xetrange`: ranges of a file that are made apart and joined without their chunks.
 #![tactic(auto)]
 
-use xetrange_text::program::program;
 use std::env;
 use std::process::ExitCode;
+use xetrange_text::program::program;
 
 fn main(rt: HostRuntime) -> ExitCode {
     let (alloc, args) = (rt.alloc(), env::args(&rt));

@@ -1,6 +1,5 @@
 -- A text in which no line names a position: the order of its lines is that of positions.
 use Rattle.std.proofs.Common.{arith, ◌≡◌, inl, inr, ◌+◌, ◌-◌, ◌^◌, ◌<◌, ◌≤◌, ◌↔◌, ℕ, false, List, [], ◌∷◌, ◌++◌, length, refl, sym, ap, subst, ◌∙◌, append-nil, append_assoc}
-use Rattle.std.specs.List.{concat}
 use Rattle.std.proofs.lemmas.Bool.{false≢true}
 use Rattle.std.proofs.lemmas.List.{length-map}
 use Rattle.xet_merkle.specs.Groups.{Node}
@@ -8,18 +7,15 @@ use Rattle.xet_merkle.specs.Roots.{total_size}
 use Rattle.upload_session.specs.Session.{Placed, IsWhole, chunks_of, is_taken, place, placed_from}
 use Rattle.upload_session.proofs.Placing.{chunks-placed, place-front, placed_from-append, placed_from-below}
 use Rattle.line_io.specs.Lines.{content, lines_of}
-use Rattle.line_io.specs.Faults.{HasFault}
 use Rattle.pair_text.specs.Lines.{IsPositionLine}
 use Rattle.pair_text.specs.Output.{IsOutput}
 use Rattle.pair_text.specs.PairText as pair_text
 use Rattle.pair_text.specs.PairText.{NoPositions}
 use Rattle.pair_text.specs.PairText.Say.{no_line as said_none, separator as said_separator, pair as said_pair}
-use Rattle.pair_text.specs.declared.pair_fault.PairFault.TheVariants.{Bad as bad_pair, Sizes as pair_sizes}
 use Rattle.pair_text.proofs.GoodPairs as pairs_of
 use Rattle.xetroot_text.specs.declared.fault.Fault.{Fault}
 use Rattle.xetroot_text.specs.declared.fault.Fault.TheVariants.{BadLine, Sizes, Memory, Read, Write, Overlap, Gap}
-use Rattle.xetroot_text.specs.declared.fault.LineFault.TheVariants.{Bad, Overlap as overlaps, Sizes as passes_sizes}
-use Rattle.xetroot_text.specs.Answer.{Say, TakeOtherPositions, AreGood, IsBad, IsLineFault, IsAnswer, IsFaultOf}
+use Rattle.xetroot_text.specs.Answer.{Say, TakeOtherPositions, AreGood, IsBad, IsAnswer, IsFaultOf}
 use Rattle.xetroot_text.specs.Answer.Say.{no_line, separator, position, pair}
 use Rattle.xetroot_text.specs.WithoutPositions as without
 use Rattle.xetroot_text.proofs.GoodLines.{TakeOtherPositions-more, AreGood-few}

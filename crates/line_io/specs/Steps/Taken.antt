@@ -4,7 +4,7 @@ use Rattle.std.specs.List.{concat}
 use Rattle.line_io.specs.declared.reading.Reading.{Reading}
 use Rattle.line_io.specs.Lines.{NoNewline, lines_of, byte_limit}
 
--- the lines that some bytes begin with, which are whole, and the open line of this number behind them
+-- the lines that some bytes begin with, which are whole, and the open line of this number after them
 pub record StandsAt (text : List ℕ) (before : List (List ℕ)) (number : ℕ) (line : List ℕ) : Type 0 where
   pub lines : (rest : List ℕ) → lines_of (text ++ rest) ≡ before ++ lines_of (line ++ rest)
   pub bytes : length text ≡ length (concat before) + length line

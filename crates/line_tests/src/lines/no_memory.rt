@@ -7,9 +7,9 @@ use refusing_allocator::RefusingAllocator;
 use std::alloc::Global;
 use std::io::{self, Write};
 use std::test::Fail;
+use xet_merkle::plain_range::PlainRange;
 use xetroot_text::fault::Fault;
 use xetroot_text::run::{run, run_with};
-use xet_merkle::plain_range::PlainRange;
 
 type Refusing = RefusingAllocator<Global>;
 

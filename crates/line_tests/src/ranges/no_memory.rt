@@ -2,10 +2,10 @@
 //! made. JSON values take their memory elsewhere.
 
 use super::{COMMANDS, Command, fourth_cuts, output_of, run_command};
-use xetrange_text::fault::RangeFault;
 use refusing_allocator::RefusingAllocator;
 use std::alloc::Global;
 use std::test::Fail;
+use xetrange_text::fault::RangeFault;
 
 // Whether a command is out of memory exactly where one of its requests is refused, which happens, and then writes nothing.
 fn is_refused_with_each_request(alloc: Global, command: Command, input: &[u8]) -> bool {

@@ -89,7 +89,7 @@ fn part<T>(list: &[T], begin: u64, end: u64) -> &[T] {
     list.get(begin as usize..end).unwrap_or_default()
 }
 
-// Whether the ranges of a session begin where positions are taken behind one that isn't, and nowhere else.
+// Whether the ranges of a session begin where positions are taken after one that isn't, and nowhere else.
 fn has_runs<C: ChunkRange, H: KeptHashes<C::Alloc>>(
     session: &SessionOf<C, H>,
     plain: &Plain,

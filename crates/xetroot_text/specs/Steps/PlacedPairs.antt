@@ -1,12 +1,10 @@
 -- The pairs that are kept by position, which private contracts and proofs speak of.
-use Rattle.std.specs.Prelude.{◌≡◌, ℕ, ◌+◌, ◌-◌, ◌^◌, ◌<◌, ◌≤◌, false, IsTrue, List, [], ◌∷◌, ◌++◌, length}
-use Rattle.std.specs.List.{concat}
+use Rattle.std.specs.Prelude.{◌≡◌, ℕ, ◌+◌, ◌-◌, ◌^◌, ◌<◌, ◌≤◌, false, IsTrue, List, [], ◌∷◌, length}
 use Rattle.xet_merkle.specs.Groups.{Node}
 use Rattle.xet_merkle.specs.Roots.{total_size}
 use Rattle.xet_merkle.specs.declared.chunk_range.ChunkRange as chunk_range
 use Rattle.upload_session.specs.Session.{Placed, Parts, SessionStands, chunks_of, is_taken, overlaps, place}
 use Rattle.upload_session.specs.declared.kept_hashes.NoHashes.{NoHashes}
-use Rattle.line_io.specs.Lines.{byte_limit}
 use Rattle.xetroot_text.specs.declared.fault.LineFault.{LineFault}
 use Rattle.xetroot_text.specs.declared.fault.LineFault.TheVariants.{Bad, Overlap, Sizes}
 use Rattle.xetroot_text.specs.Answer.{AreGood}

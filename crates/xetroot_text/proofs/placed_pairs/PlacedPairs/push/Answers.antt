@@ -1,10 +1,8 @@
-use Rattle.std.proofs.Common.{arith, ℕ, Option, None, Some, SomeIff, Err, ok_or, ◌≡◌, ◌+◌, ◌^◌, ◌<◌, [], ◌∷◌, refl, sym, ap, subst, ◌∙◌}
+use Rattle.std.proofs.Common.{arith, ◌≡◌, ◌+◌, ◌^◌, ◌<◌, [], ◌∷◌, refl, sym, ap, subst, ◌∙◌}
 use Rattle.std.proofs.lemmas.Bool.{false≢true, false_from_ne_true}
 use Rattle.std.proofs.lemmas.Grind.{common_steps}
-use Rattle.std.proofs.lemmas.Result.{err_from_is_err_and}
 use Rattle.upload_session.specs.Session.{is_taken, place}
-use Rattle.xetroot_text.specs.declared.fault.Fault.{Fault}
-use Rattle.xetroot_text.specs.Steps.PlacedPairs.{StandForPlaced, StandForPairs, IsPairFault}
+use Rattle.xetroot_text.specs.Steps.PlacedPairs.{StandForPlaced, StandForPairs}
 use Rattle.xetroot_text.proofs.Placing.{taken-held, StandForPairs-push}
 use Rattle.xetroot_text.proofs.placed_pairs.PlacedPairs.push.Goals as goal
 
