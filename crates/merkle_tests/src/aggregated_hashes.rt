@@ -1,9 +1,9 @@
 //! The hashes of the crate `xet-core-structures` for thirteen lists of chunks, the parents of groups and their texts.
 
-use crate::support::{reference_chunk, reference_list};
 use std::alloc::Global;
 use std::fmt::Write;
 use std::test::Fail;
+use test_support::{reference_chunk, reference_list};
 use xet_hash::data_hash::{DataHash, MerkleHash, compute_internal_node_hash};
 use xet_merkle::CoreError;
 use xet_merkle::aggregated_hashes::{Node, file_hash, file_hash_with_salt, xorb_hash};

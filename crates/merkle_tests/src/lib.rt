@@ -1,5 +1,4 @@
-//! Tests of `xet_merkle`, by values from outside: the hashes of the crate `xet-core-structures`, and worked examples;
-//! with them the calls of it and of the crates below that take memory, each of whose requests is refused.
+//! Tests of `xet_merkle`, by values from outside: the hashes of the crate `xet-core-structures`, and worked examples.
 #![tactic(auto)]
 
 #[cfg(test)]
@@ -10,7 +9,3 @@ mod error;
 mod merge_tree;
 #[cfg(test)]
 mod merkle_hash_subtree;
-#[cfg(test)]
-mod refused_allocations;
-#[cfg(test)]
-mod support;

@@ -3,11 +3,12 @@
 ghost use Rattle.std.specs.Prelude.{◌≡◌};
 ghost use Rattle.xet_merkle.specs.Roots.{total_size};
 
-use crate::support::{EACH_FOURTH, MARKS, drawn_nodes, ranges, with_cuts};
 use rand_core::{Rng, SeedableRng};
 use rand_xoshiro::Xoshiro256PlusPlus;
 use std::alloc::{AllocError, Global};
 use std::test::Fail;
+use test_support::trees::{BRACKETINGS, four_ranges, join, tree};
+use test_support::{EACH_FOURTH, MARKS, drawn_nodes, ranges, with_cuts};
 use xet_hash::data_hash::{DataHash, MerkleHash};
 use xet_merkle::CoreError;
 use xet_merkle::aggregated_hashes::{Node, xorb_hash};
@@ -72,70 +73,12 @@ impl ChunkRange for CountedRange {
     }
 }
 
-fn join<R: ChunkRange>(
-    alloc: Global,
-    left: MergeTree<R>,
-    right: MergeTree<R>,
-) -> Result<MergeTree<R>, AllocError> {
-    Ok(MergeTree::Join(Box::new(alloc, left)?, Box::new(alloc, right)?))
-}
-
-/// The tree of a bracketing: a point stands for the next range, a plus joins the last two trees.
-pub fn tree<R: ChunkRange>(
-    alloc: Global,
-    bracketing: &str,
-    ranges: Vec<R>,
-) -> Result<Option<MergeTree<R>>, AllocError> {
-    let mut ranges = ranges.into_iter();
-    let mut trees: Vec<MergeTree<R>> = Vec::new(alloc);
-    for step in bracketing.bytes() {
-        if step == b'.' {
-            let Some(range) = ranges.next() else {
-                return Ok(None);
-            };
-            trees.push(MergeTree::Leaf(range))?;
-        } else {
-            let (Some(right), Some(left)) = (trees.pop(), trees.pop()) else {
-                return Ok(None);
-            };
-            trees.push(join(alloc, left, right)?)?;
-        }
-    }
-    Ok(trees.pop())
-}
-
-/// The nodes 0 to 3, 4 to 23, 24 to 27 and none, of 28 of which each fourth is a natural cut; the first range is marked
-/// at its start, the last at its end.
-pub fn four_ranges<R: ChunkRange>(alloc: Global, of_ranges: R::Alloc) -> Result<Vec<R>, CoreError>
-where
-    R::Alloc: Copy,
-{
-    let nodes = with_cuts::<28>(&EACH_FOURTH);
-    let (first, others) = nodes.as_slice().split_at(4);
-    let (second, third) = others.split_at(20);
-    let mut ranges = Vec::new(alloc);
-    ranges.push(R::from_chunks(of_ranges, true, first, false)?)?;
-    ranges.push(R::from_chunks(of_ranges, false, second, false)?)?;
-    ranges.push(R::from_chunks(of_ranges, false, third, false)?)?;
-    ranges.push(R::from_chunks(of_ranges, false, &[], true)?)?;
-    Ok(ranges)
-}
-
 fn run<R: ChunkRange<Alloc = Global>>(alloc: Global, bracketing: &str) -> Result<R, CoreError> {
     match tree(alloc, bracketing, four_ranges(alloc, alloc)?)? {
         Some(tree) => Ok(tree.run()?),
         None => Err(CoreError::InvalidArguments),
     }
 }
-
-/// The five bracketings of four ranges, and how deep their joins go.
-pub const BRACKETINGS: [(&str, u32); 5] = [
-    ("..+.+.+", 3),
-    ("...++.+", 3),
-    ("..+..++", 2),
-    ("...+.++", 3),
-    ("....+++", 3),
-];
 
 #[test]
 fn each_bracketing_gives_one_subtree(rt: HostRuntime) -> Result<(), Fail> {

@@ -13,12 +13,12 @@ mod merging;
 mod shapes;
 mod texts;
 
-use crate::support::{
-    EACH_FOURTH, MARKS, drawn_list, has_told_counts, told_nodes, told_ranges, with_cuts,
-};
 use rand_core::SeedableRng;
 use rand_xoshiro::Xoshiro256PlusPlus;
 use std::test::Fail;
+use test_support::{
+    EACH_FOURTH, MARKS, drawn_list, has_told_counts, told_nodes, told_ranges, with_cuts,
+};
 use xet_hash::data_hash::MerkleHash;
 use xet_merkle::CoreError;
 use xet_merkle::aggregated_hashes::xorb_hash;

@@ -1,9 +1,9 @@
 //! Nodes appended to what is kept of a range, one after another.
 
-use crate::support::drawn_nodes;
 use rand_core::SeedableRng;
 use rand_xoshiro::Xoshiro256PlusPlus;
 use std::test::Fail;
+use test_support::drawn_nodes;
 use xet_merkle::merkle_hash_subtree::MerkleHashSubtree;
 
 #[test]

@@ -1,10 +1,10 @@
 //! The stable points of drawn lists, where other drawn nodes stand before or after the list.
 
-use crate::support::drawn_list;
 use rand_core::{Rng, SeedableRng};
 use rand_xoshiro::Xoshiro256PlusPlus;
 use std::alloc::{AllocError, Global};
 use std::test::Fail;
+use test_support::drawn_list;
 use xet_merkle::aggregated_hashes::Node;
 use xet_merkle::merkle_hash_subtree::{find_stable_end, find_stable_start};
 

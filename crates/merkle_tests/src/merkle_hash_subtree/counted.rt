@@ -2,15 +2,15 @@
 
 ghost use Rattle.std.specs.Prelude.{◌≡◌, [], ◌∷◌, length};
 
-use crate::support::{
-    EACH_FOURTH, drawn_list, drawn_nodes, has_counts, has_told_counts, read_json, reference_list,
-    with_cuts,
-};
 use rand_core::{Rng, SeedableRng};
 use rand_xoshiro::Xoshiro256PlusPlus;
 use std::alloc::{AllocError, Global};
 use std::fmt::Write;
 use std::test::Fail;
+use test_support::{
+    EACH_FOURTH, drawn_list, drawn_nodes, has_counts, has_told_counts, read_json, reference_list,
+    with_cuts,
+};
 use xet_hash::data_hash::{DataHash, MerkleHash};
 use xet_merkle::CoreError;
 use xet_merkle::aggregated_hashes::Node;

@@ -1,8 +1,8 @@
 //! Merging subtrees that were read back and came from no list. What the merged ones print as was computed without
 //! this code.
 
-use crate::support::{has_counts, read_json};
 use std::test::Fail;
+use test_support::{has_counts, read_json};
 use xet_hash::data_hash::DataHash;
 use xet_merkle::CoreError;
 use xet_merkle::merkle_hash_subtree::MerkleHashSubtree;

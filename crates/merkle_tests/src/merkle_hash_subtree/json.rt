@@ -1,11 +1,11 @@
 //! The JSON form of subtrees: its text, what is read back, and the least broken rule of what isn't a subtree's.
 
-use crate::support::{EACH_FOURTH, MARKS, NO_PAIRS, drawn_list, read_json, with_cuts};
 use rand_core::SeedableRng;
 use rand_xoshiro::Xoshiro256PlusPlus;
 use serde_json::Value;
 use std::alloc::Global;
 use std::test::Fail;
+use test_support::{EACH_FOURTH, MARKS, NO_PAIRS, drawn_list, read_json, with_cuts};
 use xet_hash::data_hash::DataHash;
 use xet_merkle::CoreError;
 use xet_merkle::aggregated_hashes::xorb_hash;

@@ -1,13 +1,13 @@
 //! The JSON values of 300 drawn subtrees, changed at drawn places, beside the least rule that each of them breaks,
 //! which was computed without this code.
 
-use crate::support::{MARKS, numbered_list, with_cut};
 use rand_core::{Rng, SeedableRng};
 use rand_xoshiro::Xoshiro256PlusPlus;
 use serde_json::Value;
 use std::alloc::{AllocError, Global};
 use std::fmt::Write;
 use std::test::Fail;
+use test_support::{MARKS, numbered_list, with_cut};
 use xet_merkle::CoreError;
 use xet_merkle::aggregated_hashes::Node;
 use xet_merkle::merkle_hash_subtree::MerkleHashSubtree;

@@ -1,8 +1,8 @@
 //! The canonical subtrees of 300 drawn lists, beside values that were computed apart from this code, by the
 //! definition, from the whole list at every level.
 
-use crate::support::{MARKS, numbered_list, summary};
 use std::test::Fail;
+use test_support::{MARKS, numbered_list, summary};
 use xet_merkle::merkle_hash_subtree::MerkleHashSubtree;
 
 #[test]

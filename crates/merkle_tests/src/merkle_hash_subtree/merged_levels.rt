@@ -1,11 +1,11 @@
 //! The subtrees of 300 drawn lists, merged from drawn ranges two by two in drawn orders, beside values that
 //! were computed apart from this code, by the definition, from the whole list at every level.
 
-use crate::support::{MARKS, drawn_lengths, merge_into_previous, numbered_list, ranges, summary};
 use rand_core::{Rng, SeedableRng};
 use rand_xoshiro::Xoshiro256PlusPlus;
 use std::alloc::Global;
 use std::test::Fail;
+use test_support::{MARKS, drawn_lengths, merge_into_previous, numbered_list, ranges, summary};
 use xet_merkle::CoreError;
 use xet_merkle::merkle_hash_subtree::MerkleHashSubtree;
 

@@ -1,14 +1,14 @@
 //! Merging the subtrees of adjacent ranges: bracketings, refusals, and the roots of lists that are split
 //! at many places.
 
-use crate::support::{
-    EACH_FOURTH, MARKS, drawn_lengths, drawn_list, has_counts, merge_into_previous, ranges,
-    reference_list, with_cuts,
-};
 use rand_core::{Rng, SeedableRng};
 use rand_xoshiro::Xoshiro256PlusPlus;
 use std::alloc::Global;
 use std::test::Fail;
+use test_support::{
+    EACH_FOURTH, MARKS, drawn_lengths, drawn_list, has_counts, merge_into_previous, ranges,
+    reference_list, with_cuts,
+};
 use xet_hash::data_hash::{DataHash, MerkleHash};
 use xet_merkle::CoreError;
 use xet_merkle::aggregated_hashes::{Node, xorb_hash};

@@ -2,9 +2,9 @@
 
 ghost use Rattle.std.specs.Prelude.{◌≡◌, [], ◌∷◌, length};
 
-use crate::support::{has_counts, with_cuts};
 use std::alloc::Global;
 use std::test::Fail;
+use test_support::{has_counts, with_cuts};
 use xet_hash::data_hash::{DataHash, MerkleHash};
 use xet_merkle::CoreError;
 use xet_merkle::aggregated_hashes::{Node, xorb_hash};

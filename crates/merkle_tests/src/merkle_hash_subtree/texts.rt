@@ -1,9 +1,9 @@
 //! The compact JSON texts of canonical subtrees and of merged ones, of lists whose natural cuts are told, beside
 //! texts that were made without this code.
 
-use crate::support::{merge_into_previous, read_json, told_ranges};
 use std::alloc::Global;
 use std::test::Fail;
+use test_support::{merge_into_previous, read_json, told_ranges};
 
 // The text of the subtree that a row's ranges are merged to. An error where that isn't read back as the subtree.
 fn merged_text(alloc: Global, ranges: &str, places: &str) -> Result<String, Fail> {

@@ -2,11 +2,11 @@
 
 use super::ranges::Kind;
 use super::{Call, Outcome, Refusing, outcome_of};
-use crate::merge_tree::{BRACKETINGS, four_ranges, tree};
-use crate::support::{EACH_FOURTH, MARKS, NO_PAIRS, has_counts, two_levels, with_cuts};
 use serde_json::Value;
 use std::alloc::Global;
 use std::test::Fail;
+use test_support::trees::{BRACKETINGS, four_ranges, tree};
+use test_support::{EACH_FOURTH, MARKS, NO_PAIRS, has_counts, two_levels, with_cuts};
 use xet_hash::data_hash::DataHash;
 use xet_hash::passthrough_hashmap::PassThroughHashMap;
 use xet_merkle::CoreError;

@@ -1,5 +1,5 @@
 //! Calls with an allocator that refuses a request and each later one: the first request that a call makes, then the
-//! second, and so on, until the call makes no more. A call that is refused a request answers want of memory, and all
+//! second, and so on, until the call makes no more. A call that is refused a request is out of memory, and all
 //! that was lent to it equals a copy that was made before. What calls of `serde_json::Value` take of the global
 //! allocator stands in the crate `global_refusals`.
 
@@ -9,12 +9,12 @@ mod maps;
 mod no_memory;
 mod ranges;
 
-use crate::support::{MARKS, drawn_list, drawn_nodes};
 use rand_core::SeedableRng;
 use rand_xoshiro::Xoshiro256PlusPlus;
 use refusing_allocator::RefusingAllocator;
 use std::alloc::Global;
 use std::test::Fail;
+use test_support::{MARKS, drawn_list, drawn_nodes};
 use xet_merkle::CoreError;
 use xet_merkle::aggregated_hashes::Node;
 use xet_merkle::merkle_hash_subtree::MerkleHashSubtree;
@@ -59,7 +59,7 @@ impl<'a> Chunks<'a> {
 /// What a call comes to that is granted some requests alone.
 #[derive(Clone, Copy, Debug, PartialEq, Eq)]
 pub enum Outcome {
-    /// It answered want of memory, and all that was lent to it is as it was.
+    /// It was out of memory, and all that was lent to it is as it was.
     Refused,
     /// It answered what it should.
     Answered,

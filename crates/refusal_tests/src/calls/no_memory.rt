@@ -3,9 +3,9 @@
 
 use super::maps::{EIGHT, Numbers, has_numbers};
 use super::{Refusing, refusing};
-use crate::support::{EACH_FOURTH, has_counts, with_cuts};
 use std::collections::HashMap;
 use std::test::Fail;
+use test_support::{EACH_FOURTH, has_counts, with_cuts};
 use xet_hash::data_hash::{DataHash, MerkleHash};
 use xet_hash::passthrough_hashmap::{Entry, PassThroughHashMap};
 use xet_merkle::CoreError;

@@ -1,5 +1,8 @@
-//! What several files of tests share: drawn nodes and lists, lists whose natural cuts are told, ranges, and what is
+//! What tests of several crates share: drawn nodes and lists, lists whose natural cuts are told, ranges, and what is
 //! read of subtrees.
+#![tactic(auto)]
+
+pub mod trees;
 
 use rand_core::{Rng, SeedableRng};
 use rand_xoshiro::Xoshiro256PlusPlus;

@@ -1,0 +1,67 @@
+//! Trees of merges by their bracketings.
+
+use crate::{EACH_FOURTH, with_cuts};
+use std::alloc::{AllocError, Global};
+use xet_merkle::CoreError;
+use xet_merkle::aggregated_hashes::Node;
+use xet_merkle::chunk_range::ChunkRange;
+use xet_merkle::merge_tree::MergeTree;
+
+/// The five bracketings of four ranges, and how deep their joins go.
+pub const BRACKETINGS: [(&str, u32); 5] = [
+    ("..+.+.+", 3),
+    ("...++.+", 3),
+    ("..+..++", 2),
+    ("...+.++", 3),
+    ("....+++", 3),
+];
+
+/// The tree that joins two.
+pub fn join<R: ChunkRange>(
+    alloc: Global,
+    left: MergeTree<R>,
+    right: MergeTree<R>,
+) -> Result<MergeTree<R>, AllocError> {
+    Ok(MergeTree::Join(Box::new(alloc, left)?, Box::new(alloc, right)?))
+}
+
+/// The tree of a bracketing: a point stands for the next range, a plus joins the last two trees.
+pub fn tree<R: ChunkRange>(
+    alloc: Global,
+    bracketing: &str,
+    ranges: Vec<R>,
+) -> Result<Option<MergeTree<R>>, AllocError> {
+    let mut ranges = ranges.into_iter();
+    let mut trees: Vec<MergeTree<R>> = Vec::new(alloc);
+    for step in bracketing.bytes() {
+        if step == b'.' {
+            let Some(range) = ranges.next() else {
+                return Ok(None);
+            };
+            trees.push(MergeTree::Leaf(range))?;
+        } else {
+            let (Some(right), Some(left)) = (trees.pop(), trees.pop()) else {
+                return Ok(None);
+            };
+            trees.push(join(alloc, left, right)?)?;
+        }
+    }
+    Ok(trees.pop())
+}
+
+/// The nodes 0 to 3, 4 to 23, 24 to 27 and none, of 28 of which each fourth is a natural cut; the first range is marked
+/// at its start, the last at its end.
+pub fn four_ranges<R: ChunkRange>(alloc: Global, of_ranges: R::Alloc) -> Result<Vec<R>, CoreError>
+where
+    R::Alloc: Copy,
+{
+    let nodes = with_cuts::<28>(&EACH_FOURTH);
+    let (first, others) = nodes.as_slice().split_at(4);
+    let (second, third) = others.split_at(20);
+    let mut ranges = Vec::new(alloc);
+    ranges.push(R::from_chunks(of_ranges, true, first, false)?)?;
+    ranges.push(R::from_chunks(of_ranges, false, second, false)?)?;
+    ranges.push(R::from_chunks(of_ranges, false, third, false)?)?;
+    ranges.push(R::from_chunks(of_ranges, false, &[], true)?)?;
+    Ok(ranges)
+}
