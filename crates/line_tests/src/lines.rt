@@ -88,7 +88,7 @@ fn answers_pairs_in_lines(rt: HostRuntime) -> Result<(), Fail> {
 }
 
 #[test]
-fn position_lines_place_the_pairs_behind_them(rt: HostRuntime) -> Result<(), Fail> {
+fn position_lines_place_the_pairs_after_them(rt: HostRuntime) -> Result<(), Fail> {
     for (lines, want) in [
         ("@2\nh3 300\n@0\nh1 100\nh2 200", Ok(THREE_PAIRS)),
         (

@@ -1,4 +1,4 @@
--- What the open line holds of the line that is being read, which private contracts and proofs speak of.
+-- What is kept of the line that is being read, and what has taken the lines before it.
 use Rattle.std.specs.Prelude.{◌≡◌, ◌≢◌, ◌^◌, ◌<◌, ◌≤◌, ◌⊎◌, List, [], ◌∷◌, ◌++◌, ℕ, length, codes}
 use Rattle.xet_hash.specs.Blake3Hasher.{Holds}
 use Rattle.xet_hash.specs.Hash.{data_key}

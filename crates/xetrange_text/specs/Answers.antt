@@ -38,7 +38,7 @@ abbrev pub IsJoinedOf : List ℕ → List ℕ → Type 0
 IsJoinedOf text output =
     (ranges : List Subtree) × (merged : Subtree) × AreRanges (lines_of text) ranges × AreMerged ranges merged × IsRangeLine output merged
 
--- `root`: two lines, which wherever the ranges are the canonical subtrees of lists tell the root of the joined list, and
+-- `root`: two lines, which wherever the ranges are the canonical subtrees of lists tell the root of the concatenated list, and
 -- its file hash under the salt of 32 zero bytes
 pub record IsRootOf (text output : List ℕ) : Type 0 where
   pub ranges : List Subtree

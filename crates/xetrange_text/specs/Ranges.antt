@@ -44,7 +44,7 @@ pub record IsRangeLine (line : List ℕ) (range : Subtree) : Type 0 where
   pub says : SaysRange (compact_text (subtree_json range)) range
 
 -- adjacent ranges are merged to one that is open at both ends: it has the sum of their sizes, and is the canonical subtree
--- of the joined list wherever they are those of lists
+-- of the concatenated list wherever they are those of lists
 pub record AreMerged (ranges : List Subtree) (merged : Subtree) : Type 0 where
   pub is_open : IsOpen merged
   pub size : levels_size merged.levels ≡ ranges_size ranges
