@@ -41,7 +41,7 @@ const NO_CHUNKS: &str = r#"{"at_end":true,"at_start":true,"levels":[[0,0]],"node
 fn no_chunks_have_their_json_text(rt: HostRuntime) -> Result<(), Fail> {
     let closed = MerkleHashSubtree::from_chunks(rt.alloc(), true, &[], true)?;
     let text = closed.to_json(rt.alloc())?.to_string(rt.alloc())?;
-    assert_eq!(rt; text.as_str(), NO_CHUNKS);
+    assert!(rt; text.as_str() == NO_CHUNKS);
     Ok(())
 }
 
@@ -62,8 +62,8 @@ fn trees_of_ranges_are_run(rt: HostRuntime) -> Result<(), Fail> {
     for (is_left, seed) in [(true, 0), (false, 9)] {
         let joined = tree(rt.alloc(), is_left)?.run()?;
         let first = (DataHash::random_from_seed(seed), 1);
-        assert_eq!(rt; joined.chunks().first(), Some(&first));
-        assert_eq!(rt; joined.total_size(), 10);
+        assert!(rt; joined.chunks().first() == Some(&first));
+        assert!(rt; joined.total_size() == 10);
     }
     Ok(())
 }
@@ -118,10 +118,10 @@ fn ranges_are_made_and_joined(rt: HostRuntime) -> Result<(), Fail> {
             _ => root(alloc, alloc, &mut ranges, &mut writer),
         };
         if result == Err(RangeFault::Memory) {
-            assert_eq!(rt; writer.hash(), unwritten);
+            assert!(rt; writer.hash() == unwritten);
             return Err(Fail::from(AllocError));
         }
-        assert_eq!(rt; result, Ok(()));
+        assert!(rt; result == Ok(()));
         assert_ne!(rt; writer.hash(), unwritten);
     }
     Ok(())
@@ -142,17 +142,14 @@ const ABC: &str = "a8803506f7aff014f19aa9e9b79dc6455c49672570f96156071329698dd02
 #[test]
 fn forms_of_hashes_take_no_memory(rt: HostRuntime) -> Result<(), Fail> {
     let hash = DataHash::from_hex(ABC)?;
-    assert_eq!(rt;
-        DataHash::from_hex_digits(&hash.hex_digits()).ok(),
-        Some(hash)
-    );
+    assert!(rt; DataHash::from_hex_digits(&hash.hex_digits()).ok() == Some(hash));
     let bytes = hash.as_bytes();
-    assert_eq!(rt; DataHash::from_slice(&bytes).ok(), Some(hash));
-    assert_eq!(rt; DataHash::try_from(bytes.as_slice()).ok(), Some(hash));
-    assert_eq!(rt; DataHash::from(hash.words()), hash);
+    assert!(rt; DataHash::from_slice(&bytes).ok() == Some(hash));
+    assert!(rt; DataHash::try_from(bytes.as_slice()).ok() == Some(hash));
+    assert!(rt; DataHash::from(hash.words()) == hash);
     assert!(rt; DataHash::from_json(&Value::Null).is_err());
     assert!(rt; DataHash::default() < hash && hash < DataHash::marker());
-    assert_eq!(rt; DataHash::marker() % 4, 3);
+    assert!(rt; DataHash::marker() % 4 == 3);
     let hex = LowerHexOf(hash);
     write!(Unread, "{hash} {hash:?} {hex}")?;
     Ok(())
@@ -161,16 +158,16 @@ fn forms_of_hashes_take_no_memory(rt: HostRuntime) -> Result<(), Fail> {
 #[test]
 fn hashes_take_no_memory(rt: HostRuntime) -> Result<(), Fail> {
     let hash = compute_data_hash(b"abc");
-    assert_eq!(rt; hash, DataHash::from_hex(ABC)?);
-    assert_eq!(rt; DataHash::from(keyed_hash(&DATA_KEY, b"abc")), hash);
+    assert!(rt; hash == DataHash::from_hex(ABC)?);
+    assert!(rt; DataHash::from(keyed_hash(&DATA_KEY, b"abc")) == hash);
     assert_ne!(rt; compute_internal_node_hash(b"abc"), hash);
     assert_ne!(rt; hash.hmac(hash), DataHash::random_from_seed(1));
     let mut state = U64DirectHasher::<DataHash>::default();
     hash.hash(&mut state);
-    assert_eq!(rt; state.finish(), hash.u64_hash_value());
-    assert_eq!(rt; state.build_hasher().finish(), 0);
-    assert_eq!(rt; find_stable_start(&chunks()), None);
-    assert_eq!(rt; find_stable_end(&chunks()), None);
+    assert!(rt; state.finish() == hash.u64_hash_value());
+    assert!(rt; state.build_hasher().finish() == 0);
+    assert!(rt; find_stable_start(&chunks()).is_none());
+    assert!(rt; find_stable_end(&chunks()).is_none());
     Ok(())
 }
 
@@ -180,12 +177,12 @@ fn messages_take_no_memory(rt: HostRuntime) -> Result<(), Fail> {
     let mut hasher = Hasher::new_keyed(&DATA_KEY);
     hasher.update(b"abc");
     assert!(rt; hasher.has_room(1) && hasher.count() == 3);
-    assert_eq!(rt; DataHash::from(hasher.finalize()), hash);
+    assert!(rt; DataHash::from(hasher.finalize()) == hash);
     let mut writer = HashedWrite::new(Nowhere);
     io::Write::write_all(&mut writer, b"ab")?;
-    assert_eq!(rt; io::Write::write(&mut writer, b"c")?, 1);
+    assert!(rt; io::Write::write(&mut writer, b"c")? == 1);
     io::Write::flush(&mut writer)?;
-    assert_eq!(rt; writer.hash(), hash);
+    assert!(rt; writer.hash() == hash);
     let Nowhere = writer.into_inner();
     Ok(())
 }

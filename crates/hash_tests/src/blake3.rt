@@ -165,14 +165,14 @@ fn agrees_with_a_plain_reference(rt: HostRuntime) -> Result<(), Fail> {
     ] {
         let message = &message[..length];
         let hash = reference(&KEY, message);
-        assert_eq!(rt; keyed_hash(&KEY, message), hash, "{length}");
+        assert!(rt; keyed_hash(&KEY, message) == hash, "{length}");
         let mut hasher = Hasher::new_keyed(&KEY);
         for byte in message {
             if hasher.has_room(1) {
                 hasher.update(&[*byte]);
             }
         }
-        assert_eq!(rt; hasher.finalize(), hash, "{length}");
+        assert!(rt; hasher.finalize() == hash, "{length}");
     }
     Ok(())
 }
@@ -181,7 +181,7 @@ fn agrees_with_a_plain_reference(rt: HostRuntime) -> Result<(), Fail> {
 fn two_pieces_are_hashed_as_their_whole(rt: HostRuntime) {
     let message = message::<2049>();
     let hash = reference(&KEY, &message);
-    assert_eq!(rt; keyed_hash(&KEY, &message), hash);
+    assert!(rt; keyed_hash(&KEY, &message) == hash);
     for place in [1023, 1024, 1025] {
         let (first, second) = message.split_at(place);
         let mut hasher = Hasher::new_keyed(&KEY);
@@ -189,7 +189,7 @@ fn two_pieces_are_hashed_as_their_whole(rt: HostRuntime) {
             assert!(rt; hasher.has_room(piece.len()));
             hasher.update(piece);
         }
-        assert_eq!(rt; hasher.finalize(), hash, "{place}");
+        assert!(rt; hasher.finalize() == hash, "{place}");
     }
 }
 
@@ -239,12 +239,12 @@ fn has_the_known_hashes(rt: HostRuntime) -> Result<(), Fail> {
         let (length, hash) = row.split_once(' ').ok_or("no hash")?;
         let message = message.get(..length.parse()?).ok_or("too long")?;
         let text = hex::encode(rt.alloc(), keyed_hash(&key, message))?;
-        assert_eq!(rt; text.as_str(), hash);
+        assert!(rt; text.as_str() == hash);
         for (first, second) in [(message.len(), message.len()), (1, 1), (1, 1024)] {
             let text = hex::encode(rt.alloc(), hash_in_pieces(&key, message, first, second))?;
-            assert_eq!(rt; text.as_str(), hash);
+            assert!(rt; text.as_str() == hash);
         }
     }
-    assert_eq!(rt; HASHES.lines().count(), 17);
+    assert!(rt; HASHES.lines().count() == 17);
     Ok(())
 }

@@ -163,13 +163,16 @@ fn calls_are_handed_on_and_what_is_taken_is_hashed(rt: HostRuntime) -> Result<()
             length = second.parse()?;
             let slice = message.get(..length).ok_or("no such slice")?;
             let answer = called(&mut writer, first, slice);
-            assert_eq!(rt; printed(alloc, answer)?.as_str(), *last, "{row}");
+            assert!(rt; printed(alloc, answer)?.as_str() == *last, "{row}");
             taken.extend_from_slice(slice.get(..third.parse()?).ok_or("too many")?)?;
-            assert_eq!(rt; writer.hash(), compute_data_hash(taken.as_slice()), "{row}");
+            assert!(rt;
+                writer.hash() == compute_data_hash(taken.as_slice()),
+                "{row}"
+            );
         }
     }
     let recorder = writer.into_inner();
-    assert_eq!(rt; recorder.calls.as_str(), calls.as_str());
+    assert!(rt; recorder.calls.as_str() == calls.as_str());
     assert!(rt; recorder.given.as_slice() == given.as_slice());
     Ok(())
 }
@@ -195,10 +198,10 @@ fn drawn_bytes_are_hashed_and_handed_on(rt: HostRuntime) -> Result<(), Fail> {
     Xoshiro256PlusPlus::seed_from_u64(13).fill_bytes(&mut message);
     let hash = "bbd96a1fac984cb7e9dba7f6755195d59d9bb115e45cff0f96c3cd211560b0fc";
     let hash = DataHash::from_hex(hash)?;
-    assert_eq!(rt; compute_data_hash(&message), hash);
+    assert!(rt; compute_data_hash(&message) == hash);
     for length in [1, 10, 64, 300] {
         let in_pieces = hash_in_pieces(rt.alloc(), &message, length)?;
-        assert_eq!(rt; in_pieces, hash, "{length}");
+        assert!(rt; in_pieces == hash, "{length}");
     }
     Ok(())
 }
@@ -240,11 +243,11 @@ fn short_writes_are_hashed_one_after_another(rt: HostRuntime) -> Result<(), Fail
     let mut message = [0u8; 1025];
     Xoshiro256PlusPlus::seed_from_u64(12).fill_bytes(&mut message);
     let mut writer = HashedWrite::new(Narrow::new(rt.alloc(), 1025));
-    assert_eq!(rt; writer.hash(), compute_data_hash(b""));
+    assert!(rt; writer.hash() == compute_data_hash(b""));
     writer.write_all(&message)?;
-    assert_eq!(rt; writer.hash(), compute_data_hash(&message));
+    assert!(rt; writer.hash() == compute_data_hash(&message));
     let Narrow { taken, .. } = writer.into_inner();
-    assert_eq!(rt; taken.as_slice(), message.as_slice());
+    assert!(rt; taken.as_slice() == message.as_slice());
     Ok(())
 }
 
@@ -253,9 +256,9 @@ fn a_writer_that_fails_midway_has_what_is_hashed(rt: HostRuntime) {
     for text in ["abc", "abcd"] {
         let mut writer = HashedWrite::new(Narrow::new(rt.alloc(), text.len()));
         let answer = writer.write_all(b"abcdef").map_err(|error| error.kind());
-        assert_eq!(rt; answer, Err(ErrorKind::StorageFull));
-        assert_eq!(rt; writer.hash(), compute_data_hash(text.as_bytes()));
+        assert!(rt; answer == Err(ErrorKind::StorageFull));
+        assert!(rt; writer.hash() == compute_data_hash(text.as_bytes()));
         let Narrow { taken, .. } = writer.into_inner();
-        assert_eq!(rt; taken.as_slice(), text.as_bytes());
+        assert!(rt; taken.as_slice() == text.as_bytes());
     }
 }

@@ -297,10 +297,10 @@ fn new_maps_have_no_entries(rt: HostRuntime) -> Result<(), Fail> {
 #[test]
 fn a_map_of_pairs_has_each_of_them(rt: HostRuntime) -> Result<(), Fail> {
     let map = PassThroughHashMap::from_pairs(rt.alloc(), [(12345u64, "first"), (67890, "second")])?;
-    assert_eq!(rt; map.len(), 2);
-    assert_eq!(rt; map.get(&12345), Some(&"first"));
-    assert_eq!(rt; map.get(&67890), Some(&"second"));
-    assert_eq!(rt; map.get(&1), None);
+    assert!(rt; map.len() == 2);
+    assert!(rt; map.get(&12345) == Some(&"first"));
+    assert!(rt; map.get(&67890) == Some(&"second"));
+    assert!(rt; map.get(&1).is_none());
     Ok(())
 }
 
@@ -311,9 +311,9 @@ fn the_last_value_of_a_key_wins(rt: HostRuntime) -> Result<(), Fail> {
         PassThroughHashMap::from_array(rt.alloc(), pairs)?,
         PassThroughHashMap::from_pairs(rt.alloc(), pairs)?,
     ] {
-        assert_eq!(rt; map.len(), 2);
-        assert_eq!(rt; map.get(&1), Some(&30));
-        assert_eq!(rt; map.get(&2), Some(&20));
+        assert!(rt; map.len() == 2);
+        assert!(rt; map.get(&1) == Some(&30));
+        assert!(rt; map.get(&2) == Some(&20));
     }
     let keys = hashes();
     let [first, second, _] = hashes();
@@ -331,9 +331,9 @@ fn the_first_of_equal_keys_stays(rt: HostRuntime) -> Result<(), Fail> {
         PassThroughHashMap::from_array(rt.alloc(), pairs)?,
         PassThroughHashMap::from_pairs(rt.alloc(), pairs)?,
     ] {
-        assert_eq!(rt; map.len(), 1);
+        assert!(rt; map.len() == 1);
         for (key, value) in map {
-            assert_eq!(rt; (key.label, value), (1, 3));
+            assert!(rt; (key.label, value) == (1, 3));
         }
     }
     Ok(())
@@ -345,10 +345,10 @@ fn a_copy_has_the_same_entries(rt: HostRuntime) -> Result<(), Fail> {
     let mut of_hashes = PassThroughHashMap::from_array(rt.alloc(), [(first, 10u8), (second, 20)])?;
     let copy = of_hashes.try_clone()?;
     of_hashes.clear();
-    assert_eq!(rt; copy.len(), 2);
-    assert_eq!(rt; copy.get(&second), Some(&20));
+    assert!(rt; copy.len() == 2);
+    assert!(rt; copy.get(&second) == Some(&20));
     let of_numbers = PassThroughHashMap::from_array(rt.alloc(), [(12345u64, 10u8), (67890, 20)])?;
-    assert_eq!(rt; of_numbers.try_clone()?.get(&12345), Some(&10));
+    assert!(rt; of_numbers.try_clone()?.get(&12345) == Some(&10));
     Ok(())
 }
 
@@ -493,7 +493,7 @@ fn has_what_was_written_through_references(rt: HostRuntime) -> Result<(), Fail> 
     write_one_inside(&mut map, 67890)?;
     write_one_at_place(&mut map, 1)?;
     for key in NUMBERS {
-        assert_eq!(rt; map.get(&key), Some(&1));
+        assert!(rt; map.get(&key) == Some(&1));
     }
     Ok(())
 }

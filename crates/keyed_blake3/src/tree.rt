@@ -81,6 +81,7 @@ fn add_chunk_chaining_value(
 // What a message's blocks before its last one have made: the chaining value of the open chunk, and those of
 // the subtrees on its left, which wait for what is on their right.
 #[derive(Drop)]
+#[repr(C)]
 pub(crate) struct Tree {
     pub(crate) key: [u32; 8],
     pub(crate) chaining_value: [u32; 8],

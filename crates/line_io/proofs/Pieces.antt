@@ -4,11 +4,11 @@ use Rattle.std.proofs.Common.{get_or, take, drop}
 use Rattle.std.proofs.lemmas.List.{take-append-drop, drop_more}
 use Rattle.std.specs.List.{concat}
 use Rattle.line_io.specs.Lines.{newline, NoNewline, lines_of, byte_limit}
-use Rattle.line_io.specs.Faults.{HasFault, IfFaulty, IfLine, fault_at}
+use Rattle.line_io.specs.Faults.{HasFault, IfFaulty, IfLine}
 use Rattle.line_io.specs.declared.fault.Refusal.{Refusal}
 use Rattle.line_io.specs.declared.fault.Refusal.TheVariants.{Faulty, Memory}
 use Rattle.line_io.specs.declared.fault.InputFault.{InputFault}
-use Rattle.line_io.specs.Steps.Taken.{StandsAt}
+use Rattle.line_io.specs.Steps.Taken.{StandsAt, fault_at}
 use Rattle.line_io.proofs.Lines.{concat-push, lines_of-whole, lines_of-last, FirstLine-next, FirstLine-open, NoNewline-append}
 
 -- ---- where a reading stands

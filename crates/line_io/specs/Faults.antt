@@ -19,11 +19,6 @@ IfLine (Line number fault) P = P number fault
 IfLine Memory P = Unit {0}
 IfLine Read P = Unit {0}
 
--- the fault where the line of a number is refused
-abbrev pub fault_at : {F : Type 0} → ℕ → Refusal F → InputFault F
-fault_at number (Faulty fault) = Line number fault
-fault_at number out_of_memory = Memory
-
 -- the first faulty line of a text has this number, from 1, and this fault: the lines before it are good
 abbrev pub HasFault : {F : Type 0} → (List (List ℕ) → List ℕ → F → Type 0) → List ℕ → ℕ → F → Type 0
 HasFault is_fault text number fault = (before : List (List ℕ)) × (line : List ℕ) × (after : List (List ℕ))

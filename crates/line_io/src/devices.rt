@@ -10,7 +10,7 @@ const MAX_REPEATS: u32 = 16;
 
 /// The error of [`read`]: a read failed, or was interrupted 17 times in a row.
 #[derive(Clone, Copy, Debug, PartialEq, Eq)]
-pub struct ReadFailed;
+pub(crate) struct ReadFailed;
 
 /// The error of [`write_all`]: a write or the flush failed, was interrupted 17 times in a row, or took nothing.
 #[derive(Clone, Copy, Debug, PartialEq, Eq)]

@@ -1,7 +1,7 @@
 //! Why an input has no answer.
 
 ghost use Rattle.std.specs.Prelude.{◌≡◌};
-ghost use Rattle.line_io.specs.Faults.{fault_at};
+ghost use Rattle.line_io.specs.Steps.Taken.{fault_at};
 ghost use Rattle.line_io.specs.declared.fault.AnswerFault.TheVariants.{Answer, Input, Write};
 ghost use Rattle.line_io.specs.declared.fault.Refusal.TheVariants.{Memory};
 

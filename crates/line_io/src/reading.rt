@@ -1,9 +1,9 @@
 //! The reading of an input, piece by piece, and its lines.
 
-ghost use Rattle.std.specs.Prelude.{◌≡◌, ◌+◌, ◌^◌, ◌≤◌, ℕ, List, [], ◌∷◌, ◌++◌, length, IfSome, IfNone, IfOk, IfErr, OnOk};
+ghost use Rattle.std.specs.Prelude.{◌≡◌, ◌+◌, ◌≤◌, ℕ, List, [], ◌∷◌, ◌++◌, length, IfSome, IfNone, IfOk, IfErr, OnOk};
 ghost use Rattle.std.specs.Io.KnownBytes.{IsAtEnd};
 ghost use Rattle.line_io.specs.Faults.{HasFault, IfLine};
-ghost use Rattle.line_io.specs.Lines.{NoNewline, lines_of, newline};
+ghost use Rattle.line_io.specs.Lines.{NoNewline, byte_limit, lines_of, newline};
 
 use crate::devices::read;
 use crate::fault::InputFault;
@@ -103,9 +103,9 @@ impl<L: TakeLines> Reading<L> {
 
     // Takes a piece in which no byte is past the limit.
     fn take_within(&mut self, piece: &[u8]) -> Result<(), InputFault<L::Fault>>
-        ensures taken { OnOk result ((text : List ℕ) → length text + length piece.now ≤ 2 ^ 40 →
+        ensures taken { OnOk result ((text : List ℕ) → length text + length piece.now ≤ byte_limit →
             IsTaken L.has_taken self.old text → IsTaken L.has_taken self.new (text ++ piece.now)) }
-        ensures fault { IfErr result (λ fault. (text rest : List ℕ) → length text + length piece.now ≤ 2 ^ 40 →
+        ensures fault { IfErr result (λ fault. (text rest : List ℕ) → length text + length piece.now ≤ byte_limit →
             IsTaken L.has_taken self.old text → IfLine fault (HasFault L.is_fault (text ++ piece.now ++ rest))) }
     {
         let mut rest = piece;
@@ -120,9 +120,9 @@ impl<L: TakeLines> Reading<L> {
     // Takes bytes without a newline.
     fn extend_line(&mut self, bytes: &[u8]) -> Result<(), InputFault<L::Fault>>
         requires { NoNewline bytes.now }
-        ensures taken { OnOk result ((text : List ℕ) → length text + length bytes.now ≤ 2 ^ 40 →
+        ensures taken { OnOk result ((text : List ℕ) → length text + length bytes.now ≤ byte_limit →
             IsTaken L.has_taken self.old text → IsTaken L.has_taken self.new (text ++ bytes.now)) }
-        ensures fault { IfErr result (λ fault. (text rest : List ℕ) → length text + length bytes.now ≤ 2 ^ 40 →
+        ensures fault { IfErr result (λ fault. (text rest : List ℕ) → length text + length bytes.now ≤ byte_limit →
             IsTaken L.has_taken self.old text → IfLine fault (HasFault L.is_fault (text ++ bytes.now ++ rest))) }
     {
         if bytes.is_empty() {
@@ -138,10 +138,10 @@ impl<L: TakeLines> Reading<L> {
 
     // Takes a newline.
     fn end_line(&mut self) -> Result<(), InputFault<L::Fault>>
-        ensures taken { OnOk result ((text : List ℕ) → length text + 1 ≤ 2 ^ 40 →
+        ensures taken { OnOk result ((text : List ℕ) → length text + 1 ≤ byte_limit →
             IsTaken L.has_taken self.old text → IsTaken L.has_taken self.new (text ++ newline ∷ [])) }
         ensures fault { IfErr result (λ fault. (text rest : List ℕ) →
-            length text + 1 ≤ 2 ^ 40 → IsTaken L.has_taken self.old text →
+            length text + 1 ≤ byte_limit → IsTaken L.has_taken self.old text →
             IfLine fault (HasFault L.is_fault (text ++ newline ∷ rest))) }
     {
         if let Err(refusal) = self.lines.end_line() {

@@ -1,9 +1,9 @@
 //! Devices that fail, that are interrupted, and that give or take little, at each call that reads lines.
 
-use super::texts::{NO_CHUNK, with_hashes};
 use std::alloc::Global;
 use std::io::{self, ErrorKind, Read, Write};
 use std::test::Fail;
+use test_support::texts::{NO_CHUNK, lines_of_row, two_fields};
 use xet_merkle::plain_range::PlainRange;
 use xetrange_text::join::{join, root};
 use xetrange_text::make::make;
@@ -293,9 +293,8 @@ fn each_call_is_made_once_and_repeated_sixteen_times_where_it_is_interrupted(rt:
         // The last read finds the end.
         let reads = text.len().div_ceil(20).saturating_add(1);
         let writes = even.written.len().div_ceil(20);
-        assert_eq!(rt; even.status, 0, "{call:?}");
-        assert_eq!(rt; even.calls, (reads, writes, 1), "{call:?}");
-        assert_eq!(rt; even.largest, 65536, "{call:?}");
+        let is_even = even.status == 0 && even.calls == (reads, writes, 1);
+        assert!(rt; is_even && even.largest == 65536, "{call:?}");
         for (place, odd_call) in PLACES {
             for times in [1, 15, 16] {
                 let manners = manners_with(place, odd(odd_call, times, interrupted));
@@ -372,12 +371,9 @@ fn a_failed_write_leaves_a_beginning(rt: HostRuntime) {
             manners.write.odd_times = 17;
             let failed = outcome_of(rt.alloc(), call, text, manners);
             let done = odd_call - 1;
+            let is_beginning = even.written.starts_with(&failed.written);
             assert!(rt;
-                failed.status == 5 && failed.written.len() == done,
-                "{call:?} {done}"
-            );
-            assert!(rt;
-                even.written.starts_with(&failed.written),
+                failed.status == 5 && failed.written.len() == done && is_beginning,
                 "{call:?} {done}"
             );
         }
@@ -394,35 +390,40 @@ fn the_first_end_of_the_input_is_its_end(rt: HostRuntime) -> Result<(), Fail> {
         let manners = manners_with(Place::Read, manner);
         let ended = outcome_of(rt.alloc(), call, lines.as_bytes(), manners);
         let single = outcome_of(rt.alloc(), call, line.as_bytes(), ALL_EVEN);
-        assert_eq!(rt; ended.status, 0, "{call:?}");
-        assert_eq!(rt; ended.calls.0, 2, "{call:?}");
-        assert!(rt; ended.written == single.written, "{call:?}");
+        assert!(rt;
+            ended.status == 0 && ended.calls.0 == 2 && ended.written == single.written,
+            "{call:?}"
+        );
     }
     Ok(())
 }
+
+// Lines before a read that fails, each after the status of the run.
+const BEFORE_A_FAILURE: &str = "4|
+1|zz;
+4|zz
+4|h1 100;
+4|h1 100;--;!
+1|h1 100;!;--
+6|h1 100;@0;h2 200;
+4|@1;h1 100;";
 
 #[test]
 fn a_failed_read_is_a_fault_unless_a_line_before_it_is_faulty(rt: HostRuntime) -> Result<(), Fail> {
     let mut read = odd(1, 1, Some(ErrorKind::Other));
     read.most = usize::MAX;
-    for (lines, status) in [
-        ("", 4),
-        ("zz\n", 1),
-        ("zz", 4),
-        ("h1 100\n", 4),
-        ("h1 100\n--\n!", 4),
-        ("h1 100\n!\n--", 1),
-        ("h1 100\n@0\nh2 200\n", 6),
-        ("@1\nh1 100\n", 4),
-    ] {
-        let input = with_hashes(rt.alloc(), lines)?;
+    for row in BEFORE_A_FAILURE.lines() {
+        let (status, lines) = two_fields(row, '|')?;
+        let (status, input) = (status.parse()?, lines_of_row(rt.alloc(), lines)?);
         // All lines come with one read.
         read.odd_call = if lines.is_empty() { 1 } else { 2 };
         let manners = manners_with(Place::Read, read);
         for call in [Call::Run, Call::RunOverPlainRanges] {
             let failed = outcome_of(rt.alloc(), call, input.as_bytes(), manners);
-            assert_eq!(rt; failed.status, status, "{call:?} {lines}");
-            assert!(rt; failed.written.is_empty(), "{call:?} {lines}");
+            assert!(rt;
+                failed.status == status && failed.written.is_empty(),
+                "{call:?} {row}"
+            );
         }
     }
     Ok(())

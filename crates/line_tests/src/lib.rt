@@ -1,5 +1,5 @@
 //! Tests of `upload_session`, `xetroot_text` and `xetrange_text`: what sessions, `xetroot` and `xetrange` answer, devices that
-//! fail, and requests for memory that are refused.
+//! fail, and how many requests for memory lists make.
 #![tactic(auto)]
 
 #[cfg(test)]
@@ -17,5 +17,3 @@ mod programs;
 mod ranges;
 #[cfg(test)]
 mod sessions;
-#[cfg(test)]
-mod texts;

@@ -1,12 +1,12 @@
 //! What the program answers to whole inputs, and what it prints of faults.
 
-mod no_memory;
-
-use super::texts::{H1, H2, H3, NO_PAIR, THREE_PAIRS, with_hashes};
 use std::alloc::Global;
 use std::io::{Read, Write};
 use std::ops::Range;
 use std::test::Fail;
+use test_support::texts::{
+    ABC, H1, H2, H3, NO_PAIR, THREE_PAIRS, lines_of_row, two_fields, with_hashes,
+};
 use xet_hash::data_hash::DataHash;
 use xet_merkle::plain_range::PlainRange;
 use xetroot_text::fault::Fault;
@@ -49,80 +49,85 @@ fn run_over<R: Read, W: Write>(
     }
 }
 
-// Whether a run writes a text and nothing else, or has a fault and writes nothing, over either kind of range.
-fn answers(alloc: Global, input: &[u8], want: Result<&str, Fault>) -> bool {
+// Whether a run writes a text and nothing else, or has the fault of a text and writes nothing, over either kind of range.
+fn answers(alloc: Global, input: &[u8], expected: &str) -> Result<bool, Fail> {
     for kind in KINDS {
         let mut reader = input;
         let mut output = Vec::new(alloc);
-        let result = run_over(alloc, kind, &mut reader, &mut output);
-        let (answer, text) = match want {
-            Ok(text) => (Ok(()), text),
-            Err(fault) => (Err(fault), ""),
-        };
-        if result != answer || output.as_slice() != text.as_bytes() {
-            return false;
+        if let Err(fault) = run_over(alloc, kind, &mut reader, &mut output) {
+            output.extend_from_slice(fault.to_string(alloc)?.as_bytes())?;
+        }
+        if output.as_slice() != expected.as_bytes() {
+            return Ok(false);
         }
     }
-    true
+    Ok(true)
 }
+
+// The answer of a name, or the fault of a text.
+fn answer_of(expected: &str) -> &str {
+    match expected {
+        "no pair" => NO_PAIR,
+        "one pair" => ONE_PAIR,
+        "three pairs" => THREE_PAIRS,
+        "four equal pairs" => FOUR_EQUAL_PAIRS,
+        "two pairs twice" => TWO_PAIRS_TWICE,
+        fault => fault,
+    }
+}
+
+// Fails unless the lines of each row are answered as its end says.
+fn are_answered(alloc: Global, rows: &str) -> Result<(), Fail> {
+    for row in rows.lines() {
+        let (lines, expected) = two_fields(row, '|')?;
+        let input = lines_of_row(alloc, lines)?;
+        if !answers(alloc, input.as_bytes(), answer_of(expected))? {
+            return Err(String::from_str(alloc, row)?)?;
+        }
+    }
+    Ok(())
+}
+
+const PAIRS: &str = "|no pair
+--|no pair
+h1 100|one pair
+h1 100;h1 100;h1 100;h1 100|four equal pairs
+h1 100;h2 200;h1 100;h2 200|two pairs twice
+h1 100;h2 200;h3 300;|three pairs
+--;--;h1 100;--;h2 200;h3 300;--|three pairs";
 
 #[test]
 fn answers_pairs_in_lines(rt: HostRuntime) -> Result<(), Fail> {
     let upper = with_hashes(rt.alloc(), "h1 100")?
         .as_str()
         .to_ascii_uppercase(rt.alloc())?;
-    assert!(rt; answers(rt.alloc(), upper.as_bytes(), Ok(ONE_PAIR)));
-    for (lines, want) in [
-        ("", NO_PAIR),
-        ("--", NO_PAIR),
-        ("h1 100", ONE_PAIR),
-        ("h1 100\nh1 100\nh1 100\nh1 100", FOUR_EQUAL_PAIRS),
-        ("h1 100\nh2 200\nh1 100\nh2 200", TWO_PAIRS_TWICE),
-        ("h1 100\nh2 200\nh3 300\n", THREE_PAIRS),
-        ("--\n--\nh1 100\n--\nh2 200\nh3 300\n--", THREE_PAIRS),
-    ] {
-        let input = with_hashes(rt.alloc(), lines)?;
-        assert!(rt; answers(rt.alloc(), input.as_bytes(), Ok(want)), "{lines}");
-    }
-    Ok(())
+    assert!(rt; answers(rt.alloc(), upper.as_bytes(), ONE_PAIR)?);
+    are_answered(rt.alloc(), PAIRS)
 }
+
+const POSITIONS: &str = "@2;h3 300;@0;h1 100;h2 200|three pairs
+@0;h1 100;@1;h2 200;@7;@2;h3 300;@1|three pairs
+@2;h1 100;h2 200;@0;--;h1 100;--;h2 200|two pairs twice
+@5|no pair
+@1;h1 100|xetroot: fault 7
+h1 100;@0;h2 200|xetroot: fault 6 at line 3
+@1;h2 200;@0;h1 100;h3 300|xetroot: fault 6 at line 5
+h1 18446744073709551615;@0;h2 1|xetroot: fault 6 at line 3
+h1 18446744073709551615;@7;h2 1|xetroot: fault 2 at line 3
+@01|xetroot: fault 1 at line 1
+@|xetroot: fault 1 at line 1
+@+1|xetroot: fault 1 at line 1
+@ 1|xetroot: fault 1 at line 1
+@18446744073709551616|xetroot: fault 1 at line 1
+@18446744073709551615;h1 100|xetroot: fault 1 at line 2
+@18446744073709551615;+abc|xetroot: fault 1 at line 2
+@18446744073709551614;h1 100|xetroot: fault 7
+@18446744073709551614;h1 100;h2 200|xetroot: fault 1 at line 3
+@1;h1 100;!|xetroot: fault 1 at line 3";
 
 #[test]
 fn position_lines_place_the_pairs_after_them(rt: HostRuntime) -> Result<(), Fail> {
-    for (lines, want) in [
-        ("@2\nh3 300\n@0\nh1 100\nh2 200", Ok(THREE_PAIRS)),
-        (
-            "@0\nh1 100\n@1\nh2 200\n@7\n@2\nh3 300\n@1",
-            Ok(THREE_PAIRS),
-        ),
-        (
-            "@2\nh1 100\nh2 200\n@0\n--\nh1 100\n--\nh2 200",
-            Ok(TWO_PAIRS_TWICE),
-        ),
-        ("@5", Ok(NO_PAIR)),
-        ("@1\nh1 100", Err(Fault::Gap)),
-        ("h1 100\n@0\nh2 200", Err(Fault::Overlap(3))),
-        ("@1\nh2 200\n@0\nh1 100\nh3 300", Err(Fault::Overlap(5))),
-        ("h1 18446744073709551615\n@0\nh2 1", Err(Fault::Overlap(3))),
-        ("h1 18446744073709551615\n@7\nh2 1", Err(Fault::Sizes(3))),
-        ("@01", Err(Fault::BadLine(1))),
-        ("@", Err(Fault::BadLine(1))),
-        ("@+1", Err(Fault::BadLine(1))),
-        ("@ 1", Err(Fault::BadLine(1))),
-        ("@18446744073709551616", Err(Fault::BadLine(1))),
-        ("@18446744073709551615\nh1 100", Err(Fault::BadLine(2))),
-        ("@18446744073709551615\n+abc", Err(Fault::BadLine(2))),
-        ("@18446744073709551614\nh1 100", Err(Fault::Gap)),
-        (
-            "@18446744073709551614\nh1 100\nh2 200",
-            Err(Fault::BadLine(3)),
-        ),
-        ("@1\nh1 100\n!", Err(Fault::BadLine(3))),
-    ] {
-        let input = with_hashes(rt.alloc(), lines)?;
-        assert!(rt; answers(rt.alloc(), input.as_bytes(), want), "{lines}");
-    }
-    Ok(())
+    are_answered(rt.alloc(), POSITIONS)
 }
 
 #[test]
@@ -135,7 +140,7 @@ fn separators_change_nothing(rt: HostRuntime) -> Result<(), Fail> {
                         "{first}{H1} 100\n{second}{H2} 200\n{third}{H3} 300\n{last}"
                     )?;
                     assert!(rt;
-                        answers(rt.alloc(), input.as_bytes(), Ok(THREE_PAIRS)),
+                        answers(rt.alloc(), input.as_bytes(), THREE_PAIRS)?,
                         "{input}"
                     );
                 }
@@ -169,19 +174,15 @@ file 05fe8458ce220b994314c014b404ea97b6b86ef0ed06b74ab4c4b60cf2bc1beb
 fn long_ranges_are_answered_as_a_whole(rt: HostRuntime) -> Result<(), Fail> {
     let mut in_order = String::new(rt.alloc());
     push_lines(&mut in_order, 0..20_000)?;
-    assert!(rt; answers(rt.alloc(), in_order.as_bytes(), Ok(MANY_PAIRS)));
+    assert!(rt; answers(rt.alloc(), in_order.as_bytes(), MANY_PAIRS)?);
     let mut in_reverse = String::new(rt.alloc());
     writeln!(in_reverse, "@4500")?;
     push_lines(&mut in_reverse, 4500..9000)?;
     writeln!(in_reverse, "@0")?;
     push_lines(&mut in_reverse, 0..4500)?;
-    assert!(rt; answers(rt.alloc(), in_reverse.as_bytes(), Ok(FEWER_PAIRS)));
+    assert!(rt; answers(rt.alloc(), in_reverse.as_bytes(), FEWER_PAIRS)?);
     Ok(())
 }
-
-const ABC: &str = "xorb a8803506f7aff014f19aa9e9b79dc6455c49672570f96156071329698dd0284e
-file 55b9df318a7c45f470d57b04d8ca79a15b0637ffe94b25041a58d00c3528afff
-";
 
 const NO_BYTES: &str = "xorb e0f2cf784e7e5f10c34f84af150e9a5ff9664216debad915364d741049870f67
 file c5b8746ae7e55c74d71e80fd99d34bf9a2c5666c690f1c113dec6d292790488a
@@ -210,71 +211,53 @@ fn answers_chunks_in_lines(rt: HostRuntime) -> Result<(), Fail> {
         (mixed.as_bytes(), PAIR_AND_CHUNKS),
         (long.as_slice(), LONG_CHUNK),
     ] {
-        assert!(rt; answers(rt.alloc(), input, Ok(want)));
+        assert!(rt; answers(rt.alloc(), input, want)?);
     }
     Ok(())
 }
 
+const FAULTY: &str = "h1 0100|xetroot: fault 1 at line 1
+h1 18446744073709551616|xetroot: fault 1 at line 1
+h1 +1|xetroot: fault 1 at line 1
+h1 |xetroot: fault 1 at line 1
+h1  1|xetroot: fault 1 at line 1
+h1 1 |xetroot: fault 1 at line 1
+h1 1\r;|xetroot: fault 1 at line 1
+h1|xetroot: fault 1 at line 1
+h10 1|xetroot: fault 1 at line 1
+h1 1;;--|xetroot: fault 1 at line 2
+h1 1;--;-;|xetroot: fault 1 at line 3
+h1 000000000000000000000000000000000000000000001;|xetroot: fault 1 at line 1
+h1 18446744073709551615;h2 1|xetroot: fault 2 at line 2
+h1 18446744073709551615;--;h2 1;!|xetroot: fault 2 at line 3";
+
 #[test]
 fn names_the_first_faulty_line(rt: HostRuntime) -> Result<(), Fail> {
-    for (after, fault) in [
-        (" 0100", Fault::BadLine(1)),
-        (" 18446744073709551616", Fault::BadLine(1)),
-        (" +1", Fault::BadLine(1)),
-        (" ", Fault::BadLine(1)),
-        ("  1", Fault::BadLine(1)),
-        (" 1 ", Fault::BadLine(1)),
-        (" 1\r\n", Fault::BadLine(1)),
-        ("", Fault::BadLine(1)),
-        ("0 1", Fault::BadLine(1)),
-        (" 1\n\n--", Fault::BadLine(2)),
-        (" 1\n--\n-\n", Fault::BadLine(3)),
-        (
-            " 000000000000000000000000000000000000000000001\n",
-            Fault::BadLine(1),
-        ),
-        (
-            " 18446744073709551615\nc3e67584b5c4fc2a89837ec39e40f2c8a6bb0b2987ac94cd4b31e5fbdd210a72 1",
-            Fault::Sizes(2),
-        ),
-        (
-            " 18446744073709551615\n--\nc3e67584b5c4fc2a89837ec39e40f2c8a6bb0b2987ac94cd4b31e5fbdd210a72 1\n!",
-            Fault::Sizes(3),
-        ),
-    ] {
-        let input = format!(in rt.alloc(); "{H1}{after}")?;
-        assert!(rt;
-            answers(rt.alloc(), input.as_bytes(), Err(fault)),
-            "{after}"
-        );
-    }
-    Ok(())
+    are_answered(rt.alloc(), FAULTY)
 }
 
 // The numbers of lines that faults are printed with.
 pub(crate) const LINES: [u64; 9] = [1, 9, 10, 99, 100, 101, 1000, 65536, u64::MAX];
 
+// Whether a fault has a status, and prints it as told.
+fn prints(alloc: Global, fault: Fault, status: u8, end: &str) -> Result<bool, Fail> {
+    let text = format!(in alloc; "xetroot: fault {status}{end}")?;
+    Ok(fault.status() == status && fault.to_string(alloc)? == text)
+}
+
 #[test]
 fn faults_print_their_status_and_line(rt: HostRuntime) -> Result<(), Fail> {
+    let alloc = rt.alloc();
     for line in LINES {
-        for (fault, status) in [
-            (Fault::BadLine(line), 1),
-            (Fault::Sizes(line), 2),
-            (Fault::Overlap(line), 6),
-        ] {
-            let text = format!(in rt.alloc(); "xetroot: fault {status} at line {line}")?;
-            assert_eq!(rt; fault.to_string(rt.alloc())?, text);
-            assert_eq!(rt; fault.status(), status);
-        }
+        let end = format!(in alloc; " at line {line}")?;
+        let are_right = prints(alloc, Fault::BadLine(line), 1, end.as_str())?
+            && prints(alloc, Fault::Sizes(line), 2, end.as_str())?
+            && prints(alloc, Fault::Overlap(line), 6, end.as_str())?;
+        assert!(rt; are_right, "{line}");
     }
-    for (fault, text, status) in [
-        (Fault::Memory, "xetroot: fault 3", 3),
-        (Fault::Read, "xetroot: fault 4", 4),
-        (Fault::Write, "xetroot: fault 5", 5),
-        (Fault::Gap, "xetroot: fault 7", 7),
-    ] {
-        assert_eq!(rt; fault.to_string(rt.alloc())?.as_str(), text);
-        assert_eq!(rt; fault.status(), status);
-    }
+    assert!(rt; prints(alloc, Fault::Memory, 3, "")?);
+    assert!(rt; prints(alloc, Fault::Read, 4, "")?);
+    assert!(rt; prints(alloc, Fault::Write, 5, "")?);
+    assert!(rt; prints(alloc, Fault::Gap, 7, "")?);
     Ok(())
 }

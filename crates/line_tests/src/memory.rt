@@ -17,16 +17,18 @@ enum Call {
     Make,
 }
 
-type Refusing = RefusingAllocator<Global>;
-
 // Whether so many requests are enough for a call.
 fn are_enough(alloc: Global, call: Call, mut input: &[u8], granted: u32) -> bool {
-    let refusing: Refusing = RefusingAllocator::new(alloc, granted);
+    let refusing: RefusingAllocator<Global> = RefusingAllocator::new(alloc, granted);
     let mut output = Vec::new(alloc);
     match call {
         Call::Run => run(&refusing, &mut input, &mut output).is_ok(),
         Call::RunOverPlainRanges => {
-            run_with::<PlainRange<&Refusing>, _, _>(&refusing, &mut input, &mut output).is_ok()
+            run_with::<PlainRange<&RefusingAllocator<Global>>, _, _>(
+                &refusing,
+                &mut input,
+                &mut output,
+            ).is_ok()
         }
         Call::Make => make(&refusing, alloc, &mut input, &mut output).is_ok(),
     }

@@ -1,11 +1,11 @@
 //! Runs of both programs over arguments and devices: the status, and the text on each stream.
 
-use super::texts::with_hashes;
 use refusing_allocator::RefusingAllocator;
 use std::alloc::Global;
 use std::env::Args;
 use std::io::{self, ErrorKind, Read, Write};
 use std::test::Fail;
+use test_support::texts::{four_fields, with_hashes};
 
 // The words of a command, what fails in the run, standard input, the status, standard output and standard error. A newline
 // is written `;`.
@@ -134,17 +134,12 @@ fn outcome(alloc: Global, command: &str, failing: &str, input: &str) -> Result<S
 #[test]
 fn runs_end_with_their_status_and_write_to_their_stream(rt: HostRuntime) -> Result<(), Fail> {
     for run in with_hashes(rt.alloc(), RUNS)?.as_str().lines() {
-        let mut fields = run.splitn(4, '|');
-        let (Some(command), Some(failing), Some(input), Some(expected)) = (
-            fields.next(),
-            fields.next(),
-            fields.next(),
-            fields.next(),
-        ) else {
-            return Err("a row without its fields")?;
-        };
+        let (command, failing, input, expected) = four_fields(run, '|')?;
         let found = outcome(rt.alloc(), command, failing, input)?;
-        assert_eq!(rt; found.as_str(), expected, "{command}, {failing}, {input}");
+        assert!(rt;
+            found.as_str() == expected,
+            "{command}, {failing}, {input}: {found}"
+        );
     }
     Ok(())
 }

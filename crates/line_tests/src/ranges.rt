@@ -1,12 +1,10 @@
 //! What `make`, `join` and `root` answer, and what they print of faults.
 
-mod no_memory;
-
 use super::lines::{LINES, MANY_PAIRS, push_lines};
-use super::texts::{NO_CHUNK, NO_PAIR, THREE_PAIRS, with_hashes};
 use std::alloc::{Allocator, Global};
 use std::io::{Read, Write};
 use std::test::Fail;
+use test_support::texts::{NO_CHUNK, NO_PAIR, THREE_PAIRS, lines_of_row, two_fields, with_hashes};
 use xet_hash::data_hash::DataHash;
 use xetrange_text::fault::RangeFault;
 use xetrange_text::join::{join, root};
@@ -46,32 +44,23 @@ fn output_of(alloc: Global, command: Command, input: &[u8]) -> Result<String, Fa
     Ok(String::from_utf8(output).unwrap_or(String::new(alloc)))
 }
 
-// Whether a command has a fault and writes nothing.
-fn is_refused(alloc: Global, command: Command, input: &[u8], fault: RangeFault) -> bool {
-    let (mut reader, mut output) = (input, Vec::new(alloc));
-    let result = run_command(command, alloc, alloc, &mut reader, &mut output);
-    result == Err(fault) && output.is_empty()
-}
+// Lines, each with the range that `make` writes of them.
+const MADE: &str = r#"|{"at_end":false,"at_start":false,"levels":[[0,0]],"nodes":[]}
+--;--|{"at_end":false,"at_start":false,"levels":[[0,0]],"nodes":[]}
+h1 100|{"at_end":false,"at_start":false,"levels":[[1,0]],"nodes":[{"hash":"h1","size":100}]}
+h1 100;--;h2 200;|{"at_end":false,"at_start":false,"levels":[[2,0]],"nodes":[{"hash":"h1","size":100},{"hash":"h2","size":200}]}"#;
 
 #[test]
 fn make_writes_the_compact_json_of_an_open_subtree(rt: HostRuntime) -> Result<(), Fail> {
-    for (lines, json) in [
-        ("", NO_CHUNK),
-        ("--\n--", NO_CHUNK),
-        (
-            "h1 100",
-            r#"{"at_end":false,"at_start":false,"levels":[[1,0]],"nodes":[{"hash":"h1","size":100}]}"#,
-        ),
-        (
-            "h1 100\n--\nh2 200\n",
-            r#"{"at_end":false,"at_start":false,"levels":[[2,0]],"nodes":[{"hash":"h1","size":100},{"hash":"h2","size":200}]}"#,
-        ),
-    ] {
-        let input = with_hashes(rt.alloc(), lines)?;
-        let mut want = with_hashes(rt.alloc(), json)?;
-        want.push('\n')?;
+    for row in MADE.lines() {
+        let (lines, json) = two_fields(row, '|')?;
+        let input = lines_of_row(rt.alloc(), lines)?;
         let output = output_of(rt.alloc(), Command::Make, input.as_bytes())?;
-        assert_eq!(rt; output, want, "{lines}");
+        let expected = with_hashes(rt.alloc(), json)?;
+        assert!(rt;
+            output.as_str().strip_suffix('\n') == Some(expected.as_str()),
+            "{row}"
+        );
     }
     Ok(())
 }
@@ -79,15 +68,9 @@ fn make_writes_the_compact_json_of_an_open_subtree(rt: HostRuntime) -> Result<()
 #[test]
 fn no_input_is_the_empty_range(rt: HostRuntime) -> Result<(), Fail> {
     let joined = output_of(rt.alloc(), Command::Join, b"")?;
-    assert_eq!(rt; joined.as_str().trim_end(), NO_CHUNK);
-    assert_eq!(rt;
-        output_of(rt.alloc(), Command::Root, b"")?.as_str(),
-        NO_PAIR
-    );
-    assert_eq!(rt;
-        output_of(rt.alloc(), Command::Root, joined.as_bytes())?.as_str(),
-        NO_PAIR
-    );
+    assert!(rt; joined.as_str().trim_end() == NO_CHUNK);
+    assert!(rt; output_of(rt.alloc(), Command::Root, b"")?.as_str() == NO_PAIR);
+    assert!(rt; output_of(rt.alloc(), Command::Root, joined.as_bytes())?.as_str() == NO_PAIR);
     Ok(())
 }
 
@@ -122,28 +105,26 @@ fn agrees_at_each_cut(alloc: Global, text: &[u8]) -> Result<bool, Fail> {
     Ok(true)
 }
 
+// Texts that are cut at each line end.
+const TEXTS: &str = "
+--;
+h1 100;
+h1 100;h2 200;h3 300;
+--;--;h1 100;--;h2 200;h3 300;--
+h1 100;h1 100;h1 100;h1 100;
+h1 100;h2 200;h1 100;h2 200
++abc;
+h1 100;+;+abc;";
+
 #[test]
 fn the_root_of_pieces_is_that_of_the_whole(rt: HostRuntime) -> Result<(), Fail> {
-    for lines in [
-        "",
-        "--\n",
-        "h1 100\n",
-        "h1 100\nh2 200\nh3 300\n",
-        "--\n--\nh1 100\n--\nh2 200\nh3 300\n--",
-        "h1 100\nh1 100\nh1 100\nh1 100\n",
-        "h1 100\nh2 200\nh1 100\nh2 200",
-        "+abc\n",
-        "h1 100\n+\n+abc\n",
-    ] {
-        let text = with_hashes(rt.alloc(), lines)?;
-        assert!(rt; agrees_at_each_cut(rt.alloc(), text.as_bytes())?, "{lines}");
+    for row in TEXTS.lines() {
+        let text = lines_of_row(rt.alloc(), row)?;
+        assert!(rt; agrees_at_each_cut(rt.alloc(), text.as_bytes())?, "{row}");
     }
     let whole = with_hashes(rt.alloc(), "h1 100\nh2 200\nh3 300\n")?;
     let made = output_of(rt.alloc(), Command::Make, whole.as_bytes())?;
-    assert_eq!(rt;
-        output_of(rt.alloc(), Command::Root, made.as_bytes())?.as_str(),
-        THREE_PAIRS
-    );
+    assert!(rt; output_of(rt.alloc(), Command::Root, made.as_bytes())?.as_str() == THREE_PAIRS);
     Ok(())
 }
 
@@ -199,155 +180,95 @@ fn ranges_on_which_the_rust_goes_wrong_are_joined_under_all_bracketings(
     Ok(())
 }
 
-#[test]
-fn make_names_the_first_faulty_line(rt: HostRuntime) -> Result<(), Fail> {
-    for (lines, fault) in [
-        ("@0", RangeFault::BadLine(1)),
-        ("h1 100\n@1\n!", RangeFault::BadLine(2)),
-        ("h1 0100", RangeFault::BadLine(1)),
-        ("h1 100\n\nh2 200", RangeFault::BadLine(2)),
-        ("h1 18446744073709551615\n--\nh2 1\n!", RangeFault::Sizes(3)),
-        (NO_CHUNK, RangeFault::BadLine(1)),
-    ] {
-        let input = with_hashes(rt.alloc(), lines)?;
-        assert!(rt;
-            is_refused(rt.alloc(), Command::Make, input.as_bytes(), fault),
-            "{lines}"
-        );
+// Fails unless a command refuses the lines of each row with the fault at its end, and writes nothing.
+fn are_refused(alloc: Global, command: Command, rows: &str) -> Result<(), Fail> {
+    for row in rows.lines() {
+        let (lines, fault) = two_fields(row, '|')?;
+        let input = lines_of_row(alloc, lines)?;
+        let (mut reader, mut output) = (input.as_bytes(), Vec::new(alloc));
+        let result = run_command(command, alloc, alloc, &mut reader, &mut output);
+        let text = match result {
+            Ok(()) => String::new(alloc),
+            Err(error) => error.to_string(alloc)?,
+        };
+        if text.as_str() != fault || !output.is_empty() {
+            return Err(format!(in alloc; "{row}: {text}")?)?;
+        }
     }
     Ok(())
 }
 
-// Values that say no subtree, or one with a mark, each with the least rule that it breaks.
-const FORGED: [(&str, Option<u8>); 21] = [
-    ("", None),
-    (" ", None),
-    ("--", None),
-    (r#"{"at_end":false"#, None),
-    (
-        r#"{"at_end":true,"at_start":true,"levels":[[0,0]],"nodes":[]}"#,
-        None,
-    ),
-    (
-        r#"{"at_end":false,"at_start":true,"levels":[[0,0]],"nodes":[]}"#,
-        None,
-    ),
-    (
-        r#"{"at_end":true,"at_start":false,"levels":[[0,0]],"nodes":[]}"#,
-        None,
-    ),
-    ("{}{}", None),
-    ("[]", Some(1)),
-    ("{}", Some(2)),
-    (
-        r#"{"at_end":false,"at_start":false,"levels":[[1,0]],"nodes":[{"hash":"h1","size":-1}]}"#,
-        Some(3),
-    ),
-    (
-        r#"{"at_end":false,"at_start":false,"levels":[[1]],"nodes":[{"hash":"h1","size":1}]}"#,
-        Some(4),
-    ),
-    (
-        r#"{"at_end":false,"at_start":false,"levels":[],"nodes":[]}"#,
-        Some(5),
-    ),
-    (
-        r#"{"at_end":false,"at_start":false,"levels":[[1,0]],"nodes":[]}"#,
-        Some(6),
-    ),
-    (
-        r#"{"at_end":false,"at_start":false,"levels":[[2,0]],"nodes":[{"hash":"h1","size":18446744073709551615},{"hash":"h2","size":1}]}"#,
-        Some(7),
-    ),
-    (
-        r#"{"at_end":false,"at_start":false,"levels":[[0,1]],"nodes":[{"hash":"h1","size":1}]}"#,
-        Some(8),
-    ),
-    (
-        r#"{"at_end":false,"at_start":true,"levels":[[1,0],[1,0]],"nodes":[{"hash":"h1","size":1},{"hash":"h2","size":1}]}"#,
-        Some(9),
-    ),
-    (
-        r#"{"at_end":true,"at_start":true,"levels":[[2,0]],"nodes":[{"hash":"h1","size":1},{"hash":"h2","size":1}]}"#,
-        Some(10),
-    ),
-    (
-        r#"{"at_end":false,"at_start":false,"levels":[[0,0],[0,0]],"nodes":[]}"#,
-        Some(11),
-    ),
-    (
-        r#"{"at_end":false,"at_start":false,"levels":[[1,0],[1,0]],"nodes":[{"hash":"h1","size":1},{"hash":"h2","size":1}]}"#,
-        Some(12),
-    ),
-    (
-        r#"{"at_end":false,"at_start":true,"levels":[[0,0],[1,0]],"nodes":[{"hash":"h1","size":1}]}"#,
-        Some(13),
-    ),
-];
+const FAULTY: &str = r#"@0|xetrange: fault 1 at line 1
+h1 100;@1;!|xetrange: fault 1 at line 2
+h1 0100|xetrange: fault 1 at line 1
+h1 100;;h2 200|xetrange: fault 1 at line 2
+h1 18446744073709551615;--;h2 1;!|xetrange: fault 2 at line 3
+{"at_end":false,"at_start":false,"levels":[[0,0]],"nodes":[]}|xetrange: fault 1 at line 1"#;
+
+#[test]
+fn make_names_the_first_faulty_line(rt: HostRuntime) -> Result<(), Fail> {
+    are_refused(rt.alloc(), Command::Make, FAULTY)
+}
+
+// Fails unless `join` and `root` refuse the lines of each row so.
+fn are_no_ranges(alloc: Global, rows: &str) -> Result<(), Fail> {
+    are_refused(alloc, Command::Join, rows)?;
+    are_refused(alloc, Command::Root, rows)
+}
+
+// Values that say no subtree, or one with a mark, each after the least rule that it breaks.
+const FORGED: &str = r#"|
+| 
+|--
+|{"at_end":false
+|{"at_end":true,"at_start":true,"levels":[[0,0]],"nodes":[]}
+|{"at_end":false,"at_start":true,"levels":[[0,0]],"nodes":[]}
+|{"at_end":true,"at_start":false,"levels":[[0,0]],"nodes":[]}
+|{}{}
+: rule 1|[]
+: rule 2|{}
+: rule 3|{"at_end":false,"at_start":false,"levels":[[1,0]],"nodes":[{"hash":"h1","size":-1}]}
+: rule 4|{"at_end":false,"at_start":false,"levels":[[1]],"nodes":[{"hash":"h1","size":1}]}
+: rule 5|{"at_end":false,"at_start":false,"levels":[],"nodes":[]}
+: rule 6|{"at_end":false,"at_start":false,"levels":[[1,0]],"nodes":[]}
+: rule 7|{"at_end":false,"at_start":false,"levels":[[2,0]],"nodes":[{"hash":"h1","size":18446744073709551615},{"hash":"h2","size":1}]}
+: rule 8|{"at_end":false,"at_start":false,"levels":[[0,1]],"nodes":[{"hash":"h1","size":1}]}
+: rule 9|{"at_end":false,"at_start":true,"levels":[[1,0],[1,0]],"nodes":[{"hash":"h1","size":1},{"hash":"h2","size":1}]}
+: rule 10|{"at_end":true,"at_start":true,"levels":[[2,0]],"nodes":[{"hash":"h1","size":1},{"hash":"h2","size":1}]}
+: rule 11|{"at_end":false,"at_start":false,"levels":[[0,0],[0,0]],"nodes":[]}
+: rule 12|{"at_end":false,"at_start":false,"levels":[[1,0],[1,0]],"nodes":[{"hash":"h1","size":1},{"hash":"h2","size":1}]}
+: rule 13|{"at_end":false,"at_start":true,"levels":[[0,0],[1,0]],"nodes":[{"hash":"h1","size":1}]}"#;
 
 #[test]
 fn lines_from_strangers_are_refused_by_their_least_rule(rt: HostRuntime) -> Result<(), Fail> {
-    for (line, rule) in FORGED {
-        let line = with_hashes(rt.alloc(), line)?;
-        let input = format!(in rt.alloc(); "{NO_CHUNK}\n{line}\n{NO_CHUNK}\n")?;
-        for command in [Command::Join, Command::Root] {
-            assert!(rt;
-                is_refused(
-                    rt.alloc(),
-                    command,
-                    input.as_bytes(),
-                    RangeFault::BadRange(2, rule)
-                ),
-                "{line} {rule:?}"
-            );
-        }
+    let alloc = rt.alloc();
+    for row in FORGED.lines() {
+        let (rule, line) = two_fields(row, '|')?;
+        let row = format!(in alloc;
+            "{NO_CHUNK};{line};{NO_CHUNK};|xetrange: fault 8 at line 2{rule}"
+        )?;
+        are_no_ranges(alloc, row.as_str())?;
     }
     for command in [Command::Join, Command::Root] {
-        assert!(rt;
-            is_refused(
-                rt.alloc(),
-                command,
-                b"\xff\n",
-                RangeFault::BadRange(1, None)
-            )
-        );
+        let (mut reader, mut output) = (b"\xff\n".as_slice(), Vec::new(alloc));
+        let result = run_command(command, alloc, alloc, &mut reader, &mut output);
+        assert!(rt; result == Err(RangeFault::BadRange(1, None)) && output.is_empty());
     }
     Ok(())
 }
 
 #[test]
 fn two_subtrees_on_a_line_are_no_range(rt: HostRuntime) -> Result<(), Fail> {
-    let input = format!(in rt.alloc(); "{NO_CHUNK}{NO_CHUNK}\n")?;
-    for command in [Command::Join, Command::Root] {
-        assert!(rt;
-            is_refused(
-                rt.alloc(),
-                command,
-                input.as_bytes(),
-                RangeFault::BadRange(1, None)
-            )
-        );
-    }
-    Ok(())
+    let row = format!(in rt.alloc(); "{NO_CHUNK}{NO_CHUNK};|xetrange: fault 8 at line 1")?;
+    are_no_ranges(rt.alloc(), row.as_str())
 }
+
+const TOO_LARGE: &str =
+    r#"{"at_end":false,"at_start":false,"levels":[[1,0]],"nodes":[{"hash":"h1","size":18446744073709551615}]};{"at_end":false,"at_start":false,"levels":[[0,0]],"nodes":[]};{"at_end":false,"at_start":false,"levels":[[1,0]],"nodes":[{"hash":"h2","size":1}]};!|xetrange: fault 2 at line 3"#;
 
 #[test]
 fn sizes_of_all_ranges_fit(rt: HostRuntime) -> Result<(), Fail> {
-    let most = output_of(
-        rt.alloc(),
-        Command::Make,
-        with_hashes(rt.alloc(), "h1 18446744073709551615")?.as_bytes(),
-    )?;
-    let one = output_of(
-        rt.alloc(),
-        Command::Make,
-        with_hashes(rt.alloc(), "h2 1")?.as_bytes(),
-    )?;
-    let input = format!(in rt.alloc(); "{most}{NO_CHUNK}\n{one}!")?;
-    for command in [Command::Join, Command::Root] {
-        assert!(rt; is_refused(rt.alloc(), command, input.as_bytes(), RangeFault::Sizes(3)));
-    }
-    Ok(())
+    are_no_ranges(rt.alloc(), TOO_LARGE)
 }
 
 #[test]
@@ -356,7 +277,7 @@ fn the_range_of_many_pairs_has_their_root(rt: HostRuntime) -> Result<(), Fail> {
     push_lines(&mut pairs, 0..20_000)?;
     let made = output_of(rt.alloc(), Command::Make, pairs.as_bytes())?;
     let root = output_of(rt.alloc(), Command::Root, made.as_bytes())?;
-    assert_eq!(rt; root.as_str(), MANY_PAIRS);
+    assert!(rt; root.as_str() == MANY_PAIRS);
     Ok(())
 }
 
@@ -367,7 +288,7 @@ fn many_ranges_are_joined(rt: HostRuntime) -> Result<(), Fail> {
         writeln!(ranges, "{NO_CHUNK}")?;
     }
     let joined = output_of(rt.alloc(), Command::Join, ranges.as_bytes())?;
-    assert_eq!(rt; joined.as_str().trim_end(), NO_CHUNK);
+    assert!(rt; joined.as_str().trim_end() == NO_CHUNK);
     Ok(())
 }
 
@@ -385,18 +306,10 @@ fn faults_print_their_status_line_and_rule(rt: HostRuntime) -> Result<(), Fail> 
     assert!(rt; prints(alloc, RangeFault::Write, 5, "")?);
     for line in LINES {
         let end = format!(in alloc; " at line {line}")?;
-        assert!(rt;
-            prints(alloc, RangeFault::BadLine(line), 1, end.as_str())?,
-            "{line}"
-        );
-        assert!(rt;
-            prints(alloc, RangeFault::Sizes(line), 2, end.as_str())?,
-            "{line}"
-        );
-        assert!(rt;
-            prints(alloc, RangeFault::BadRange(line, None), 8, end.as_str())?,
-            "{line}"
-        );
+        let are_right = prints(alloc, RangeFault::BadLine(line), 1, end.as_str())?
+            && prints(alloc, RangeFault::Sizes(line), 2, end.as_str())?
+            && prints(alloc, RangeFault::BadRange(line, None), 8, end.as_str())?;
+        assert!(rt; are_right, "{line}");
         for rule in 1..=13 {
             let end = format!(in alloc; " at line {line}: rule {rule}")?;
             let fault = RangeFault::BadRange(line, Some(rule));

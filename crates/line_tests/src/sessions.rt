@@ -1,11 +1,12 @@
 //! Sessions that show what no contract says: worked examples with the answers of other implementations, and printed texts.
 
 mod drawn;
-mod no_memory;
 
 use std::alloc::Global;
+use std::fmt::Display;
 use std::test::Fail;
 use std::vec::Vec;
+use test_support::texts::{four_fields, two_fields};
 use upload_session::kept_hashes::{KeptHashes, NoHashes};
 use upload_session::session::{Session, SessionOf};
 use upload_session::session_fault::SessionFault;
@@ -15,139 +16,87 @@ use xet_merkle::chunk_range::ChunkRange;
 use xet_merkle::merkle_hash_subtree::MerkleHashSubtree;
 use xet_merkle::plain_range::PlainRange;
 
-const MAX: u64 = u64::MAX;
-
-// A call of a session, and its answer.
-#[derive(Clone, Copy, Debug)]
-enum Call<'a> {
-    // The first position, and of each chunk the seed of its hash and its size.
-    Put(u64, &'a [(u64, u64)], Result<u64, SessionFault>),
-    Finish(u64, Result<&'a str, SessionFault>),
-    Root(u64, Result<&'a str, SessionFault>),
-}
-
-use Call::{Finish, Put, Root};
-
-// Some sessions, each from its beginning.
-const SESSIONS: [&[Call<'static>]; 9] = [
-    &[
-        Put(2, &[(3, 300)], Ok(1)),
-        Put(0, &[(1, 100), (2, 200)], Ok(2)),
-        Finish(
-            3,
-            Ok("54e55dccc6653c612bdb5576c5d3cb34bb31bc4e100248abccf4c908b3ef7715"),
-        ),
-        Root(
-            3,
-            Ok("71ec1275fca074724e2dd666921b3277c7cee603e4d025bcab2d4050015be2bc"),
-        ),
-    ],
-    &[
-        Put(0, &[(1, 100), (1, 100)], Ok(1)),
-        Put(2, &[(1, 100), (1, 100)], Ok(0)),
-        Finish(
-            4,
-            Ok("2cdba690d0e09563596e0cda626d43eb4c96ef1e994fe72d9b2f5a83cfcd36dd"),
-        ),
-    ],
-    &[Put(MAX, &[(1, 100)], Err(SessionFault::Positions))],
-    &[
-        Put(MAX - 1, &[(1, 100)], Ok(1)),
-        Put(MAX - 1, &[(1, 100), (2, 200)], Err(SessionFault::Overlap)),
-    ],
-    &[
-        Put(1, &[(1, 100)], Ok(1)),
-        Finish(1, Err(SessionFault::Gap)),
-        Finish(2, Err(SessionFault::Gap)),
-    ],
-    &[
-        Put(2, &[(1, 100), (2, 200)], Ok(2)),
-        Put(0, &[(1, 100), (2, 200)], Ok(0)),
-        Finish(
-            4,
-            Ok("284ea045e5a579e99c21ec597c20de1fc0c09e7168162aac00db8f61b3d82dbb"),
-        ),
-        Finish(3, Err(SessionFault::Gap)),
-        Put(3, &[(3, 300)], Err(SessionFault::Overlap)),
-    ],
-    &[
-        Finish(
-            0,
-            Ok("0000000000000000000000000000000000000000000000000000000000000000"),
-        ),
-        Finish(1, Err(SessionFault::Gap)),
-    ],
-    // No chunk is placed wherever it would be.
-    &[
-        Put(0, &[(1, 100)], Ok(1)),
-        Put(0, &[], Ok(0)),
-        Put(MAX, &[], Ok(0)),
-    ],
-    // Positions are told of before sizes, and a position that is taken before both.
-    &[
-        Put(MAX - 1, &[(1, MAX)], Ok(1)),
-        Put(MAX, &[(2, 1)], Err(SessionFault::Positions)),
-        Put(
-            MAX - 2,
-            &[(2, 1), (2, 1), (2, 1)],
-            Err(SessionFault::Overlap),
-        ),
-    ],
-];
+// Sessions, each a row of calls with `;` between two. A call has its word, the first position or the total, the seed of the
+// hash and the size of each chunk, and what it should answer. The last three: a chunk leaves no room for another's
+// size; no chunk is placed wherever it would be; positions are told of before sizes, and a position that is taken before both.
+const SESSIONS: &str =
+    "put 2 3:300 1;put 0 1:100,2:200 2;finish 3 - 54e55dccc6653c612bdb5576c5d3cb34bb31bc4e100248abccf4c908b3ef7715;root 3 - 71ec1275fca074724e2dd666921b3277c7cee603e4d025bcab2d4050015be2bc
+put 0 1:100,1:100 1;put 2 1:100,1:100 0;finish 4 - 2cdba690d0e09563596e0cda626d43eb4c96ef1e994fe72d9b2f5a83cfcd36dd
+put 18446744073709551615 1:100 Positions
+put 18446744073709551614 1:100 1;put 18446744073709551614 1:100,2:200 Overlap
+put 1 1:100 1;finish 1 - Gap;finish 2 - Gap
+put 2 1:100,2:200 2;put 0 1:100,2:200 0;finish 4 - 284ea045e5a579e99c21ec597c20de1fc0c09e7168162aac00db8f61b3d82dbb;finish 3 - Gap;put 3 3:300 Overlap
+finish 0 - 0000000000000000000000000000000000000000000000000000000000000000;finish 1 - Gap
+put 0 1:18446744073709551615 1;put 5 2:1 Sizes;put 0 - 0;finish 1 - 8e16257caa3fe079d484d872a8975264b2ff683b0d6db9028cc7c0f968a45661
+put 0 1:100 1;put 0 - 0;put 18446744073709551615 - 0
+put 18446744073709551614 1:18446744073709551615 1;put 18446744073709551615 2:1 Positions;put 18446744073709551613 2:1,2:1,2:1 Overlap";
 
 // A chunk whose hash is drawn from a seed.
 fn node(seed: u64, size: u64) -> Node {
     (DataHash::random_from_seed(seed), size)
 }
 
-fn nodes(alloc: Global, seeds: &[(u64, u64)]) -> Result<Vec<Node>, Fail> {
+// The chunks of a call; `-` is none.
+fn nodes(alloc: Global, chunks: &str) -> Result<Vec<Node>, Fail> {
     let mut nodes = Vec::new(alloc);
-    for (seed, size) in seeds {
-        nodes.push(node(*seed, *size))?;
+    for chunk in chunks.split(',') {
+        if chunk != "-" {
+            let (seed, size) = two_fields(chunk, ':')?;
+            nodes.push(node(seed.parse()?, size.parse()?))?;
+        }
     }
     Ok(nodes)
 }
 
-fn hash(text: Result<&str, SessionFault>) -> Result<Result<DataHash, SessionFault>, Fail> {
-    Ok(match text {
-        Ok(text) => Ok(DataHash::from_hex(text)?),
-        Err(fault) => Err(fault),
-    })
+// An answer, or the name of a fault.
+fn text_of<T: Display + Drop>(
+    alloc: Global,
+    answer: Result<T, SessionFault>,
+) -> Result<String, Fail> {
+    match answer {
+        Ok(value) => Ok(format!(in alloc; "{value}")?),
+        Err(fault) => Ok(format!(in alloc; "{fault:?}")?),
+    }
 }
 
-// Fails where a call of a session isn't answered as told; whether the number of new hashes is told, too.
+// Whether the calls of a row are answered as told; whether the number of new hashes is told, too.
 fn answers<C: ChunkRange, H: KeptHashes<C::Alloc>>(
     alloc: Global,
     session: &mut SessionOf<C, H>,
-    calls: &[Call<'_>],
+    row: &str,
     counts: bool,
-) -> Result<(), Fail> {
-    for call in calls {
-        let is_right = match call {
-            Put(first, seeds, expected) => {
-                let chunks = nodes(alloc, seeds)?;
-                let answer = session.put(*first, &chunks);
-                answer == *expected || (!counts && answer.is_ok() && expected.is_ok())
-            }
-            Finish(total, expected) => session.finish(*total) == hash(*expected)?,
-            Root(total, expected) => session.root(*total) == hash(*expected)?,
+) -> Result<bool, Fail> {
+    for call in row.split(';') {
+        let (word, number, chunks, expected) = four_fields(call, ' ')?;
+        let number = number.parse()?;
+        let answer = match word {
+            "put" => text_of(alloc, session.put(number, &nodes(alloc, chunks)?))?,
+            "finish" => text_of(alloc, session.finish(number))?,
+            _ => text_of(alloc, session.root(number))?,
         };
-        if !is_right {
-            return Err(format!(in alloc; "{call:?}")?)?;
+        let is_count = word == "put" && is_number(answer.as_str()) && is_number(expected);
+        if answer.as_str() != expected && (counts || !is_count) {
+            return Ok(false);
         }
     }
-    Ok(())
+    Ok(true)
+}
+
+fn is_number(text: &str) -> bool {
+    text.parse::<u64>().is_ok()
 }
 
 #[test]
 fn sessions_answer_as_other_implementations_do(rt: HostRuntime) -> Result<(), Fail> {
-    for calls in SESSIONS {
-        let mut subtrees: Session = SessionOf::new(rt.alloc());
-        answers(rt.alloc(), &mut subtrees, calls, true)?;
-        let mut plain: SessionOf<PlainRange> = SessionOf::new(rt.alloc());
-        answers(rt.alloc(), &mut plain, calls, true)?;
-        let mut without: SessionOf<MerkleHashSubtree, NoHashes> = SessionOf::new(rt.alloc());
-        answers(rt.alloc(), &mut without, calls, false)?;
+    let alloc = rt.alloc();
+    for row in SESSIONS.lines() {
+        let mut subtrees: Session = SessionOf::new(alloc);
+        let mut plain: SessionOf<PlainRange> = SessionOf::new(alloc);
+        let mut without: SessionOf<MerkleHashSubtree, NoHashes> = SessionOf::new(alloc);
+        let is_right = answers(alloc, &mut subtrees, row, true)?
+            && answers(alloc, &mut plain, row, true)?
+            && answers(alloc, &mut without, row, false)?;
+        assert!(rt; is_right, "{row}");
     }
     Ok(())
 }
@@ -157,81 +106,64 @@ fn chunks_are_put_in_any_order(rt: HostRuntime) -> Result<(), Fail> {
     let alloc = rt.alloc();
     let (first, second, third) = (node(1, 100), node(2, 200), node(3, 300));
     let mut session: Session = SessionOf::new(alloc);
-    assert_eq!(rt; session.put(2, &[third]), Ok(1));
-    assert_eq!(rt; session.put(0, &[first, second]), Ok(2));
-    assert_eq!(rt; session.put(1, &[third]), Err(SessionFault::Overlap));
+    assert!(rt; session.put(2, &[third]) == Ok(1));
+    assert!(rt; session.put(0, &[first, second]) == Ok(2));
+    assert!(rt; session.put(1, &[third]) == Err(SessionFault::Overlap));
     assert!(rt; session.taken(2) && !session.taken(3));
-    assert_eq!(rt; session.put(4, &[third]), Ok(0));
-    assert_eq!(rt; session.finish(4), Err(SessionFault::Gap));
-    assert_eq!(rt; session.put(3, &[first]), Ok(0));
+    assert!(rt; session.put(4, &[third]) == Ok(0));
+    assert!(rt; session.finish(4) == Err(SessionFault::Gap));
+    assert!(rt; session.put(3, &[first]) == Ok(0));
     let file = [first, second, third, first, third];
-    assert_eq!(rt; session.finish(5), Ok(file_hash(alloc, &file)?));
+    assert!(rt; session.finish(5) == Ok(file_hash(alloc, &file)?));
     Ok(())
 }
 
-// Whether a session of one chunk, which leaves no room for another's size, has the chunk's file hash.
-fn is_of_one_chunk<C: ChunkRange<Alloc = Global>>(alloc: Global) -> Result<bool, Fail> {
-    let chunk = [node(1, MAX)];
-    let mut session: SessionOf<C> = SessionOf::new(alloc);
-    let answers = [
-        session.put(0, &chunk),
-        session.put(5, &[node(2, 1)]),
-        session.put(0, &[]),
-    ];
-    let file = session.finish(1);
-    Ok(answers == [Ok(1), Err(SessionFault::Sizes), Ok(0)] && file == Ok(file_hash(alloc, &chunk)?))
-}
-
-#[test]
-fn a_session_of_one_chunk_has_its_file_hash(rt: HostRuntime) -> Result<(), Fail> {
-    assert!(rt; is_of_one_chunk::<MerkleHashSubtree>(rt.alloc())?);
-    assert!(rt; is_of_one_chunk::<PlainRange>(rt.alloc())?);
-    Ok(())
+// Whether a range of a session is the subtree of some chunks, from a position on.
+fn lends(
+    alloc: Global,
+    session: &Session,
+    i: usize,
+    first: u64,
+    chunks: &str,
+) -> Result<bool, Fail> {
+    let chunks = nodes(alloc, chunks)?;
+    let subtree = MerkleHashSubtree::from_chunks(alloc, false, &chunks, false)?;
+    Ok(match session.range(i) {
+        Some((position, range)) => position == first && *range == subtree,
+        None => false,
+    })
 }
 
 #[test]
 fn a_session_of_three_chunks_lends_one_range(rt: HostRuntime) -> Result<(), Fail> {
-    let chunks = [node(1, 100), node(2, 200), node(3, 300)];
-    let [first, second, third] = chunks;
-    let mut subtrees: Session = SessionOf::new(rt.alloc());
-    assert_eq!(rt; subtrees.put(2, &[third]), Ok(1));
-    assert_eq!(rt; subtrees.put(0, &[first, second]), Ok(2));
-    let mut plain: SessionOf<PlainRange> = SessionOf::new(rt.alloc());
-    assert_eq!(rt; plain.put(2, &[third]), Ok(1));
-    assert_eq!(rt; plain.put(0, &[first, second]), Ok(2));
-    let expected = MerkleHashSubtree::from_chunks(rt.alloc(), false, &chunks, false)?;
-    let (Some((0, subtree)), Some((0, kept))) = (subtrees.range(0), plain.range(0)) else {
+    let alloc = rt.alloc();
+    let puts = "put 2 3:300 1;put 0 1:100,2:200 2";
+    let mut subtrees: Session = SessionOf::new(alloc);
+    let mut plain: SessionOf<PlainRange> = SessionOf::new(alloc);
+    assert!(rt; answers(alloc, &mut subtrees, puts, true)?);
+    assert!(rt; answers(alloc, &mut plain, puts, true)?);
+    assert!(rt; lends(alloc, &subtrees, 0, 0, "1:100,2:200,3:300")?);
+    assert!(rt; subtrees.range(1).is_none() && plain.range(1).is_none());
+    let Some((0, kept)) = plain.range(0) else {
         return Err("no range at position 0")?;
     };
-    assert!(rt; *subtree == expected);
-    assert_eq!(rt; kept.chunks(), chunks.as_slice());
-    assert!(rt; subtrees.range(1).is_none() && plain.range(1).is_none());
+    assert!(rt; kept.chunks() == nodes(alloc, "1:100,2:200,3:300")?.as_slice());
     Ok(())
 }
 
 #[test]
 fn a_session_lends_the_ranges_of_its_runs(rt: HostRuntime) -> Result<(), Fail> {
-    let all = [node(1, 100), node(2, 200), node(3, 300), node(4, 400)];
-    let chunks = &all[..];
-    let mut session: Session = SessionOf::new(rt.alloc());
-    assert_eq!(rt; session.put(2, &chunks[2..3]), Ok(1));
-    assert_eq!(rt; session.put(7, &chunks[3..]), Ok(1));
-    assert_eq!(rt; session.put(0, &chunks[..2]), Ok(2));
-    let expected = [(0, &chunks[..3]), (7, &chunks[3..])];
-    for (i, (first, chunks)) in expected.iter().enumerate() {
-        let Some((position, range)) = session.range(i) else {
-            return Err("no range")?;
-        };
-        assert_eq!(rt; position, *first);
-        let subtree = MerkleHashSubtree::from_chunks(rt.alloc(), false, chunks, false)?;
-        assert!(rt; *range == subtree);
+    let alloc = rt.alloc();
+    let puts = "put 2 3:300 1;put 7 4:400 1;put 0 1:100,2:200 2";
+    let mut session: Session = SessionOf::new(alloc);
+    assert!(rt; answers(alloc, &mut session, puts, true)?);
+    assert!(rt; lends(alloc, &session, 0, 0, "1:100,2:200,3:300")?);
+    assert!(rt; lends(alloc, &session, 1, 7, "4:400")? && session.range(2).is_none());
+    for position in 0..9 {
+        let is_taken = position < 3 || position == 7;
+        assert!(rt; session.taken(position) == is_taken, "{position}");
     }
-    assert!(rt; session.range(2).is_none());
-    let taken = [true, true, true, false, false, false, false, true, false];
-    for (position, expected) in (0..).zip(taken) {
-        assert_eq!(rt; session.taken(position), expected);
-    }
-    assert!(rt; !session.taken(MAX));
+    assert!(rt; !session.taken(u64::MAX));
     Ok(())
 }
 
@@ -248,7 +180,7 @@ fn faults_print_what_was_wrong(rt: HostRuntime) -> Result<(), Fail> {
         ),
     ];
     for (fault, text) in &texts {
-        assert_eq!(rt; format!(in rt.alloc(); "{fault}")?.as_str(), *text);
+        assert!(rt; format!(in rt.alloc(); "{fault}")?.as_str() == *text);
     }
     Ok(())
 }

@@ -88,10 +88,7 @@ fn each_bracketing_gives_one_subtree(rt: HostRuntime) -> Result<(), Fail> {
     for (bracketing, _) in BRACKETINGS {
         let merged: MerkleHashSubtree = run(rt.alloc(), bracketing)?;
         assert!(rt; merged == whole, "{bracketing}");
-        assert_eq!(rt;
-            merged.to_json(rt.alloc())?.to_string(rt.alloc())?.as_str(),
-            text.as_str()
-        );
+        assert!(rt; merged.to_json(rt.alloc())?.to_string(rt.alloc())?.as_str() == text.as_str());
     }
     Ok(())
 }
@@ -101,13 +98,16 @@ fn ranges_of_each_kind_have_the_root(rt: HostRuntime) -> Result<(), Fail> {
     let root = Some(xorb_hash(rt.alloc(), &with_cuts::<28>(&EACH_FOURTH))?);
     for (bracketing, depth) in BRACKETINGS {
         let counted: CountedRange = run(rt.alloc(), bracketing)?;
-        assert_eq!(rt; (counted.joins, counted.depth), (3, depth), "{bracketing}");
-        assert_eq!(rt; counted.root()?, root);
+        assert!(rt;
+            (counted.joins, counted.depth) == (3, depth),
+            "{bracketing}"
+        );
+        assert!(rt; counted.root()? == root);
         let plain: PlainRange = run(rt.alloc(), bracketing)?;
-        assert_eq!(rt; plain.chunks().len(), 28);
-        assert_eq!(rt; plain.root()?, root);
+        assert!(rt; plain.chunks().len() == 28);
+        assert!(rt; plain.root()? == root);
         let subtree: MerkleHashSubtree = run(rt.alloc(), bracketing)?;
-        assert_eq!(rt; subtree.root()?, root);
+        assert!(rt; subtree.root()? == root);
     }
     Ok(())
 }
@@ -249,9 +249,12 @@ fn balanced(alloc: Global, height: u32) -> Result<MergeTree<CountedRange>, CoreE
 fn trees_of_great_depth_are_run(rt: HostRuntime) -> Result<(), Fail> {
     for is_left in [true, false] {
         let range = leaning(rt.alloc(), 100_000, is_left)?.run()?;
-        assert_eq!(rt; (range.joins, range.depth), (100_000, 100_000), "{is_left}");
+        assert!(rt;
+            (range.joins, range.depth) == (100_000, 100_000),
+            "{is_left}"
+        );
     }
     let range = balanced(rt.alloc(), 17)?.run()?;
-    assert_eq!(rt; (range.joins, range.depth), (131_071, 17));
+    assert!(rt; (range.joins, range.depth) == (131_071, 17));
     Ok(())
 }

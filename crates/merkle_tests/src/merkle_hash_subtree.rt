@@ -49,7 +49,7 @@ fn stable_points_need_gaps_from_three_to_seven(rt: HostRuntime) -> Result<(), Fa
                 format!(in rt.alloc(); "- -")?
             }
         };
-        assert_eq!(rt; found.as_str(), places, "{text}");
+        assert!(rt; found.as_str() == places, "{text}");
     }
     Ok(())
 }
@@ -72,9 +72,9 @@ fn keeps_what_stands_outside_the_stable_points(rt: HostRuntime) -> Result<(), Fa
         let ranges = told_ranges(rt.alloc(), text)?;
         let subtree = ranges.first().ok_or("no range")?;
         assert!(rt; has_told_counts(rt.alloc(), subtree, counts)?, "{row}");
-        assert_eq!(rt; subtree.at_start(), text.starts_with('['));
-        assert_eq!(rt; subtree.at_end(), text.ends_with(']'));
-        assert_eq!(rt; subtree.total_size(), text.len().saturating_sub(2) as u64);
+        assert!(rt; subtree.at_start() == text.starts_with('['));
+        assert!(rt; subtree.at_end() == text.ends_with(']'));
+        assert!(rt; subtree.total_size() == text.len().saturating_sub(2) as u64);
         assert!(rt; *subtree == subtree.try_clone()?);
     }
     Ok(())
@@ -104,9 +104,9 @@ fn closed_ranges_have_the_root_of_their_list(rt: HostRuntime) -> Result<(), Fail
         for (at_start, at_end) in MARKS {
             let expected = (at_start && at_end).then_some(root);
             let subtree = MerkleHashSubtree::from_chunks(rt.alloc(), at_start, chunks, at_end)?;
-            assert_eq!(rt; subtree.final_hash(), expected);
+            assert!(rt; subtree.final_hash() == expected);
             let plain = PlainRange::from_chunks(rt.alloc(), at_start, chunks, at_end)?;
-            assert_eq!(rt; [subtree.root()?, plain.root()?], [expected; 2]);
+            assert!(rt; [subtree.root()?, plain.root()?] == [expected; 2]);
         }
     }
     Ok(())
@@ -121,14 +121,14 @@ fn sizes_stay_below_two_to_the_64(rt: HostRuntime) -> Result<(), Fail> {
         &[(hash, u64::MAX), (hash, 0)],
         true,
     )?;
-    assert_eq!(rt; fits.total_size(), u64::MAX);
+    assert!(rt; fits.total_size() == u64::MAX);
     let refused = MerkleHashSubtree::from_chunks(
         rt.alloc(),
         false,
         &[(hash, u64::MAX), (hash, 1)],
         true,
     );
-    assert_eq!(rt; refused.err(), Some(CoreError::SizeOverflow));
+    assert!(rt; refused.err() == Some(CoreError::SizeOverflow));
     Ok(())
 }
 
@@ -139,7 +139,7 @@ fn drawn_lists_have_their_root_on_top(rt: HostRuntime) -> Result<(), Fail> {
         let nodes = drawn_list(&mut generator, rt.alloc(), count)?;
         let root = xorb_hash(rt.alloc(), nodes.as_slice())?;
         let closed = MerkleHashSubtree::from_chunks(rt.alloc(), true, nodes.as_slice(), true)?;
-        assert_eq!(rt; closed.final_hash(), Some(root), "{count}");
+        assert!(rt; closed.final_hash() == Some(root), "{count}");
     }
     Ok(())
 }

@@ -6,7 +6,7 @@ use Rattle.line_io.specs.Lines.{NoNewline, content}
 use Rattle.line_io.proofs.Lines.{not_newline, length-content}
 use Rattle.pair_text.specs.Lines.{IsChunkLine}
 use Rattle.pair_text.specs.LineSays.{SaysNothing}
-use Rattle.pair_text.specs.Open.{NoPlus}
+use Rattle.pair_text.specs.Steps.Open.{NoPlus}
 
 NoPlus-content : (line more : List ℕ) → NoNewline line → 0 < length line → NoPlus line → NoPlus (content (line ++ more))
 NoPlus-content [] more h some plus = absurd (omega arith)
@@ -39,8 +39,3 @@ SaysNothing-long line more h plus long =
         | inr chunk ↦ NoPlus-no_chunk (content (line ++ more)) node (NoPlus-content line more h (omega arith) plus) chunk
       ],
     )
-
--- two facts of no answer
-pub IfNone-both : {A P Q R : Type 0} (o : Option A) → IfNone o P → IfNone o Q → (P → Q → R) → IfNone o R
-IfNone-both None p q h = h p q
-IfNone-both (Some x) p q h = tt

@@ -2,4 +2,4 @@ pub mod Lines
 pub mod LineSays
 pub mod Output
 pub mod PairText
-pub mod Open
+pub mod Steps

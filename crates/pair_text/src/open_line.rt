@@ -29,7 +29,7 @@ pub enum OpenLine {
 pub struct Overlong;
 
 impl OpenLine {
-    ghost use Rattle.pair_text.specs.Open.{IsOpenLine, IsOverlong};
+    ghost use Rattle.pair_text.specs.Steps.Open.{IsOpenLine, IsOverlong};
 
     /// A line without a byte.
     pub fn new() -> Self

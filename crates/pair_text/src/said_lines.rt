@@ -5,7 +5,6 @@ ghost use Rattle.std.specs.List.{concat};
 ghost use Rattle.line_io.specs.Faults.{IfFaulty};
 ghost use Rattle.line_io.specs.Lines.{byte_limit, content};
 ghost use Rattle.pair_text.specs.LineSays.{Says, SaysNothing};
-ghost use Rattle.pair_text.specs.Open.{HasTaken};
 
 use crate::line::Line;
 use crate::open_line::OpenLine;
@@ -50,7 +49,7 @@ impl<T: TakeSaid> SaidLines<T> {
     /// No line yet.
     pub fn new(said: T) -> Self
         requires { T.stands_for said [] }
-        ensures { HasTaken T.stands_for result [] [] }
+        ensures { ⟦<SaidLines<T> as TakeLines>⟧.has_taken result [] [] }
     {
         SaidLines {
             said,
@@ -61,6 +60,8 @@ impl<T: TakeSaid> SaidLines<T> {
 
 impl<T: TakeSaid> TakeLines for SaidLines<T> {
     type Fault = T::Fault;
+
+    ghost use Rattle.pair_text.specs.Steps.Open.{HasTaken};
 
     ghost has_taken = { HasTaken T.stands_for };
 

@@ -5,13 +5,17 @@
 
 mod examples;
 mod hashes;
+mod lines;
 mod maps;
 mod no_memory;
 mod ranges;
+mod sessions;
 
+use lines::OF_LINES;
 use rand_core::SeedableRng;
 use rand_xoshiro::Xoshiro256PlusPlus;
 use refusing_allocator::RefusingAllocator;
+use sessions::OF_SESSIONS;
 use std::alloc::Global;
 use std::test::Fail;
 use test_support::{MARKS, drawn_list, drawn_nodes};
@@ -38,6 +42,16 @@ pub struct Chunks<'a> {
 }
 
 impl<'a> Chunks<'a> {
+    /// No chunks, for a call that has values of its own.
+    pub fn none(alloc: Global) -> Chunks<'a> {
+        Chunks {
+            alloc,
+            at_start: false,
+            nodes: &[],
+            at_end: false,
+        }
+    }
+
     /// The first chunks, as many as told, and the others.
     pub fn split(&self, len: usize) -> [Chunks<'a>; 2] {
         let (first, second) = self.nodes.split_at(len.min(self.nodes.len()));
@@ -57,7 +71,7 @@ impl<'a> Chunks<'a> {
 }
 
 /// What a call comes to that is granted some requests alone.
-#[derive(Clone, Copy, Debug, PartialEq, Eq)]
+#[derive(Clone, Copy)]
 pub enum Outcome {
     /// It was out of memory, and all that was lent to it is as it was.
     Refused,
@@ -67,17 +81,25 @@ pub enum Outcome {
     Wrong,
 }
 
-/// What a call comes to: whether its answer is right, or all that was lent to it is the same.
-pub fn outcome_of(answer: Result<bool, CoreError>, is_same: bool) -> Outcome {
-    match answer {
-        Ok(true) => Outcome::Answered,
-        Err(CoreError::OutOfMemory) if is_same => Outcome::Refused,
+impl Outcome {
+    /// The same, unless something after the call isn't as it should be.
+    pub fn if_so(self, is_right: bool) -> Outcome {
+        if is_right { self } else { Outcome::Wrong }
+    }
+}
+
+/// What a call comes to, since which its allocator was granted nothing: whether its answer is right, or all that was lent to
+/// it is the same. It is out of memory exactly where a request was refused.
+pub fn outcome_of(alloc: &Refusing, answer: Result<bool, CoreError>, is_same: bool) -> Outcome {
+    match (answer, alloc.has_refused()) {
+        (Ok(true), false) => Outcome::Answered,
+        (Err(CoreError::OutOfMemory), true) if is_same => Outcome::Refused,
         _ => Outcome::Wrong,
     }
 }
 
 /// The calls that take memory of an allocator that they are given, and the worked examples that do.
-#[derive(Clone, Copy, Debug, PartialEq, Eq)]
+#[derive(Clone, Copy)]
 pub enum Call {
     Hex,
     Base64,
@@ -120,6 +142,11 @@ pub enum Call {
     TwoValuesOfOneKey,
     BracketingsOfSubtrees,
     BracketingsOfPlainRanges,
+    KeepHashes,
+    // The row of a session, and that of a call that answers lines.
+    SessionOfSubtrees(&'static str),
+    SessionOfPlainRanges(&'static str),
+    OfLines(&'static str),
 }
 
 // The calls that have a list of chunks to work on, each with the seed of the list. `Append` has lists of its own.
@@ -142,7 +169,7 @@ const OF_CHUNKS: [(Call, u64); 15] = [
 ];
 
 // The calls that have values of their own.
-const OF_OWN_VALUES: [Call; 16] = [
+const OF_OWN_VALUES: [Call; 17] = [
     Call::Hex,
     Call::Base64,
     Call::ToVec,
@@ -159,6 +186,7 @@ const OF_OWN_VALUES: [Call; 16] = [
     Call::InsertEntry,
     Call::VacantInsert,
     Call::VacantInsertEntry,
+    Call::KeepHashes,
 ];
 
 // The worked examples.
@@ -224,6 +252,14 @@ fn attempt(
         | Call::TwoValuesOfOneKey
         | Call::BracketingsOfSubtrees
         | Call::BracketingsOfPlainRanges => examples::attempt(call, alloc, granted, chunks.alloc)?,
+        Call::KeepHashes => sessions::keep_hashes(alloc, granted, chunks.alloc)?,
+        Call::SessionOfSubtrees(row) => {
+            sessions::attempt::<MerkleHashSubtree<&Refusing>>(alloc, granted, chunks.alloc, row)?
+        }
+        Call::SessionOfPlainRanges(row) => {
+            sessions::attempt::<PlainRange<&Refusing>>(alloc, granted, chunks.alloc, row)?
+        }
+        Call::OfLines(row) => lines::attempt(alloc, granted, chunks.alloc, row)?,
     })
 }
 
@@ -233,14 +269,10 @@ const MOST_REQUESTS: u32 = 500;
 // Whether a call is out of memory exactly where one of its requests is refused, which happens, and is right each time.
 fn is_refused_with_each_request(call: Call, chunks: &Chunks<'_>) -> Result<bool, Fail> {
     for granted in 0..MOST_REQUESTS {
-        let refusing = refusing(chunks.alloc);
-        match (
-            attempt(call, &refusing, granted, chunks)?,
-            refusing.has_refused(),
-        ) {
-            (Outcome::Refused, true) => {}
-            (Outcome::Answered, false) => return Ok(0 < granted),
-            _ => return Ok(false),
+        match attempt(call, &refusing(chunks.alloc), granted, chunks)? {
+            Outcome::Refused => {}
+            Outcome::Answered => return Ok(0 < granted),
+            Outcome::Wrong => return Ok(false),
         }
     }
     Ok(false)
@@ -248,12 +280,12 @@ fn is_refused_with_each_request(call: Call, chunks: &Chunks<'_>) -> Result<bool,
 
 #[test]
 fn calls_on_chunks_are_refused_with_each_request(rt: HostRuntime) -> Result<(), Fail> {
-    for (call, seed) in OF_CHUNKS {
-        let mut generator = Xoshiro256PlusPlus::seed_from_u64(seed);
+    for (number, (call, seed)) in OF_CHUNKS.iter().enumerate() {
+        let mut generator = Xoshiro256PlusPlus::seed_from_u64(*seed);
         let nodes = drawn_list(&mut generator, rt.alloc(), 200)?;
         for (at_start, at_end) in MARKS {
             // The root of a range is asked for where both ends are marked.
-            if call == Call::RootOfPlain && !(at_start && at_end) {
+            if matches!(call, Call::RootOfPlain) && !(at_start && at_end) {
                 continue;
             }
             let chunks = Chunks {
@@ -263,8 +295,8 @@ fn calls_on_chunks_are_refused_with_each_request(rt: HostRuntime) -> Result<(), 
                 at_end,
             };
             assert!(rt;
-                is_refused_with_each_request(call, &chunks)?,
-                "{call:?}, {at_start}, {at_end}"
+                is_refused_with_each_request(*call, &chunks)?,
+                "call {number} of the table, {at_start}, {at_end}"
             );
         }
     }
@@ -273,15 +305,9 @@ fn calls_on_chunks_are_refused_with_each_request(rt: HostRuntime) -> Result<(), 
 
 // Fails unless each of some calls, which have values of their own, is refused with each request.
 fn are_refused_with_each_request(alloc: Global, calls: &[Call]) -> Result<(), Fail> {
-    let chunks = Chunks {
-        alloc,
-        at_start: false,
-        nodes: &[],
-        at_end: false,
-    };
-    for call in calls {
-        if !is_refused_with_each_request(*call, &chunks)? {
-            return Err(format!(in alloc; "{call:?}")?)?;
+    for (number, call) in calls.iter().enumerate() {
+        if !is_refused_with_each_request(*call, &Chunks::none(alloc))? {
+            return Err(format!(in alloc; "call {number} of its table")?)?;
         }
     }
     Ok(())
@@ -295,6 +321,33 @@ fn calls_on_values_of_their_own_are_refused_with_each_request(rt: HostRuntime) -
 #[test]
 fn worked_examples_are_refused_with_each_request(rt: HostRuntime) -> Result<(), Fail> {
     are_refused_with_each_request(rt.alloc(), &EXAMPLES)
+}
+
+#[test]
+fn calls_of_sessions_are_refused_with_each_request(rt: HostRuntime) -> Result<(), Fail> {
+    for row in OF_SESSIONS.lines() {
+        for call in [
+            Call::SessionOfSubtrees(row),
+            Call::SessionOfPlainRanges(row),
+        ] {
+            assert!(rt;
+                is_refused_with_each_request(call, &Chunks::none(rt.alloc()))?,
+                "{row}"
+            );
+        }
+    }
+    Ok(())
+}
+
+#[test]
+fn calls_that_answer_lines_are_refused_with_each_request(rt: HostRuntime) -> Result<(), Fail> {
+    for row in OF_LINES.lines() {
+        assert!(rt;
+            is_refused_with_each_request(Call::OfLines(row), &Chunks::none(rt.alloc()))?,
+            "{row}"
+        );
+    }
+    Ok(())
 }
 
 #[test]

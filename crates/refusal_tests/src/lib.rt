@@ -1,5 +1,5 @@
-//! Tests of the calls of `xet_hash`, `passthrough_map` and `xet_merkle` that take memory of an allocator that they are given,
-//! with each of their requests refused in turn, and of those that take none.
+//! Tests of the calls of all crates that take memory of an allocator that they are given, with each of their requests refused
+//! in turn, and of those that take none.
 #![tactic(auto)]
 
 #[cfg(test)]

@@ -2,6 +2,7 @@
 //! read of subtrees.
 #![tactic(auto)]
 
+pub mod texts;
 pub mod trees;
 
 use rand_core::{Rng, SeedableRng};

@@ -5,7 +5,7 @@ use Rattle.std.proofs.lemmas.List.{append-nil}
 use Rattle.std.proofs.lemmas.List.Elements.{filter-append}
 use Rattle.xet_merkle.specs.Groups.{Node}
 use Rattle.upload_session.specs.Session.{Placed, Put, placed_from, place, overlaps, ArePlaced}
-use Rattle.upload_session.proofs.Placing.{before, behind, any-placed, before-all, before-none, behind-all, behind-none, placed_from-append, placed_from-below, placed_from-from}
+use Rattle.upload_session.proofs.Placing.{before, after, any-placed, before-all, before-none, after-all, after-none, placed_from-append, placed_from-below, placed_from-from}
 use Rattle.upload_session.proofs.Positions.{neither, overlaps-run}
 
 -- what is kept of what is kept
@@ -33,12 +33,12 @@ between first other p = not (nat_lt p.0 first) && nat_lt p.0 other
 -- chunks before others
 module _ (placed : List Placed) (first other : ℕ) (chunks more : List Node) (apart : first + length chunks ≤ other) where
   abbrev both : List Placed
-  both = filter (before first) placed ++ placed_from first chunks ++ filter (between first other) placed ++ placed_from other more ++ filter (behind other) placed
+  both = filter (before first) placed ++ placed_from first chunks ++ filter (between first other) placed ++ placed_from other more ++ filter (after other) placed
 
   later : place (place placed first chunks) other more ≡ both
   later =
       let front = filter (before first) placed in
-      let back = filter (behind first) placed in
+      let back = filter (after first) placed in
       let new = placed_from first chunks in
       let below = placed_from-below other first chunks apart in
       let low : filter (before other) (front ++ new ++ back) ≡ front ++ new ++ filter (between first other) placed =
@@ -47,21 +47,21 @@ module _ (placed : List Placed) (first other : ℕ) (chunks more : List Node) (a
       ∙ ap (λ l. l ++ filter (before other) new ++ filter (before other) back)
       (twice (before first) (before other) (before first) (λ p. grind (arith, apart)) placed)
       ∙ ap (λ l. front ++ l ++ filter (before other) back) (before-all other new below)
-      ∙ ap (λ l. front ++ new ++ l) (twice (behind first) (before other) (between first other) (λ p. refl) placed) in
-      let high : filter (behind other) (front ++ new ++ back) ≡ filter (behind other) placed =
-      filter-append (behind other) (front ++ new) back
-      ∙ ap (λ l. l ++ filter (behind other) back) (filter-append (behind other) front new)
-      ∙ ap (λ l. l ++ filter (behind other) new ++ filter (behind other) back)
-      (twice (before first) (behind other) (λ _. false) (λ p. grind (arith, apart)) placed ∙ nothing placed)
-      ∙ ap (λ l. l ++ filter (behind other) back) (behind-none other new below)
-      ∙ twice (behind first) (behind other) (behind other) (λ p. grind (arith, apart)) placed in
-      ap (λ l. l ++ placed_from other more ++ filter (behind other) (front ++ new ++ back)) low
+      ∙ ap (λ l. front ++ new ++ l) (twice (after first) (before other) (between first other) (λ p. refl) placed) in
+      let high : filter (after other) (front ++ new ++ back) ≡ filter (after other) placed =
+      filter-append (after other) (front ++ new) back
+      ∙ ap (λ l. l ++ filter (after other) back) (filter-append (after other) front new)
+      ∙ ap (λ l. l ++ filter (after other) new ++ filter (after other) back)
+      (twice (before first) (after other) (λ _. false) (λ p. grind (arith, apart)) placed ∙ nothing placed)
+      ∙ ap (λ l. l ++ filter (after other) back) (after-none other new below)
+      ∙ twice (after first) (after other) (after other) (λ p. grind (arith, apart)) placed in
+      ap (λ l. l ++ placed_from other more ++ filter (after other) (front ++ new ++ back)) low
       ∙ ap (λ l. front ++ new ++ filter (between first other) placed ++ placed_from other more ++ l) high
 
   sooner : place (place placed other more) first chunks ≡ both
   sooner =
       let front = filter (before other) placed in
-      let back = filter (behind other) placed in
+      let back = filter (after other) placed in
       let new = placed_from other more in
       let from = placed_from-from first other more (omega (arith, apart)) in
       let low : filter (before first) (front ++ new ++ back) ≡ filter (before first) placed =
@@ -71,16 +71,16 @@ module _ (placed : List Placed) (first other : ℕ) (chunks more : List Node) (a
       (twice (before other) (before first) (before first) (λ p. grind (arith, apart)) placed)
       ∙ ap (λ l. filter (before first) placed ++ l ++ filter (before first) back) (before-none first new from)
       ∙ ap (λ l. filter (before first) placed ++ [] ++ l)
-      (twice (behind other) (before first) (λ _. false) (λ p. grind (arith, apart)) placed ∙ nothing placed)
+      (twice (after other) (before first) (λ _. false) (λ p. grind (arith, apart)) placed ∙ nothing placed)
       ∙ ap (λ l. l ++ []) (append-nil (filter (before first) placed)) ∙ append-nil (filter (before first) placed) in
-      let high : filter (behind first) (front ++ new ++ back) ≡ filter (between first other) placed ++ new ++ back =
-      filter-append (behind first) (front ++ new) back
-      ∙ ap (λ l. l ++ filter (behind first) back) (filter-append (behind first) front new)
-      ∙ ap (λ l. l ++ filter (behind first) new ++ filter (behind first) back)
-      (twice (before other) (behind first) (between first other) (λ p. grind (arith, apart)) placed)
-      ∙ ap (λ l. filter (between first other) placed ++ l ++ filter (behind first) back) (behind-all first new from)
-      ∙ ap (λ l. filter (between first other) placed ++ new ++ l) (twice (behind other) (behind first) (behind other) (λ p. grind (arith, apart)) placed) in
-      ap (λ l. l ++ placed_from first chunks ++ filter (behind first) (front ++ new ++ back)) low
+      let high : filter (after first) (front ++ new ++ back) ≡ filter (between first other) placed ++ new ++ back =
+      filter-append (after first) (front ++ new) back
+      ∙ ap (λ l. l ++ filter (after first) back) (filter-append (after first) front new)
+      ∙ ap (λ l. l ++ filter (after first) new ++ filter (after first) back)
+      (twice (before other) (after first) (between first other) (λ p. grind (arith, apart)) placed)
+      ∙ ap (λ l. filter (between first other) placed ++ l ++ filter (after first) back) (after-all first new from)
+      ∙ ap (λ l. filter (between first other) placed ++ new ++ l) (twice (after other) (after first) (after other) (λ p. grind (arith, apart)) placed) in
+      ap (λ l. l ++ placed_from first chunks ++ filter (after first) (front ++ new ++ back)) low
       ∙ ap (λ l. filter (before first) placed ++ placed_from first chunks ++ l) high
       ∙ sym (append_assoc (filter (before first) placed ++ placed_from first chunks) (filter (between first other) placed ++ new) back)
       ∙ ap (λ l. l ++ back) (sym (append_assoc (filter (before first) placed ++ placed_from first chunks) (filter (between first other) placed) new))
@@ -134,15 +134,15 @@ none-between (p ∷ placed) first count free =
     ap (λ b. cond b (p ∷ filter (between first (first + count)) placed) (filter (between first (first + count)) placed)) {y = false} (grind (arith, one))
     ∙ none-between placed first count others
 
--- and those behind the first are behind them all
-all-behind : (placed : List Placed) (first count : ℕ) → overlaps placed first count ≡ false
-    → filter (behind first) placed ≡ filter (behind (first + count)) placed
-all-behind [] first count free = refl
-all-behind (p ∷ placed) first count free =
+-- and those after the first of them are after them all
+all-after : (placed : List Placed) (first count : ℕ) → overlaps placed first count ≡ false
+    → filter (after first) placed ≡ filter (after (first + count)) placed
+all-after [] first count free = refl
+all-after (p ∷ placed) first count free =
     let (one, others) = neither (nat_lt first (p.0 + 1) && nat_lt p.0 (first + count)) (overlaps placed first count) free in
-    let same : behind first p ≡ behind (first + count) p = grind (arith, one) in
-    ap (λ b. cond b (p ∷ filter (behind first) placed) (filter (behind first) placed)) same
-    ∙ ap (λ l. cond (behind (first + count) p) (p ∷ l) l) (all-behind placed first count others)
+    let same : after first p ≡ after (first + count) p = grind (arith, one) in
+    ap (λ b. cond b (p ∷ filter (after first) placed) (filter (after first) placed)) same
+    ∙ ap (λ l. cond (after (first + count) p) (p ∷ l) l) (all-after placed first count others)
 
 pub in_parts : (placed : List Placed) (first : ℕ) (chunks more : List Node) → overlaps placed first (length chunks) ≡ false
     → place (place placed first chunks) (first + length chunks) more ≡ place placed first (chunks ++ more)
@@ -150,8 +150,8 @@ in_parts placed first chunks more free =
     let other = first + length chunks in
     let front = filter (before first) placed ++ placed_from first chunks in
     later placed first other chunks more (omega arith)
-    ∙ ap (λ l. front ++ l ++ placed_from other more ++ filter (behind other) placed) (none-between placed first (length chunks) free)
-    ∙ ap (λ l. l ++ placed_from other more ++ filter (behind other) placed) (append-nil front)
-    ∙ ap (λ l. l ++ filter (behind other) placed) (append_assoc (filter (before first) placed) (placed_from first chunks) (placed_from other more))
-    ∙ ap (λ l. filter (before first) placed ++ l ++ filter (behind other) placed) (sym (placed_from-append first chunks more))
-    ∙ ap (λ l. filter (before first) placed ++ placed_from first (chunks ++ more) ++ l) (sym (all-behind placed first (length chunks) free))
+    ∙ ap (λ l. front ++ l ++ placed_from other more ++ filter (after other) placed) (none-between placed first (length chunks) free)
+    ∙ ap (λ l. l ++ placed_from other more ++ filter (after other) placed) (append-nil front)
+    ∙ ap (λ l. l ++ filter (after other) placed) (append_assoc (filter (before first) placed) (placed_from first chunks) (placed_from other more))
+    ∙ ap (λ l. filter (before first) placed ++ l ++ filter (after other) placed) (sym (placed_from-append first chunks more))
+    ∙ ap (λ l. filter (before first) placed ++ placed_from first (chunks ++ more) ++ l) (sym (all-after placed first (length chunks) free))

@@ -5,6 +5,6 @@ pub mod Joining
 pub mod Neighbours
 pub mod Placing
 pub mod Positions
-pub mod Results
+pub mod Refusals
 pub mod SortedEntries
 pub mod Whole

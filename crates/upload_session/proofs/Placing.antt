@@ -52,48 +52,48 @@ module _ (first : ℕ) where
   abbrev pub before : Placed → Bool
   before p = nat_lt p.0 first
 
-  abbrev pub behind : Placed → Bool
-  behind p = not (nat_lt p.0 first)
+  abbrev pub after : Placed → Bool
+  after p = not (nat_lt p.0 first)
 
-  -- which are before and behind, where all are
+  -- which of them are before the first and which after, where all are
   pub before-all : (placed : List Placed) → AreBelow first placed → filter before placed ≡ placed
   before-all placed below =
       filter-all before placed (All-weaker (λ (p : Placed). p.0 < first) (λ (p : Placed). before p ≡ true) (λ p h. grind (arith, h)) placed below)
 
-  pub behind-none : (placed : List Placed) → AreBelow first placed → filter behind placed ≡ []
-  behind-none placed below =
-      filter-none behind placed (All-weaker (λ (p : Placed). p.0 < first) (λ (p : Placed). behind p ≡ false) (λ p h. grind (arith, h)) placed below)
+  pub after-none : (placed : List Placed) → AreBelow first placed → filter after placed ≡ []
+  after-none placed below =
+      filter-none after placed (All-weaker (λ (p : Placed). p.0 < first) (λ (p : Placed). after p ≡ false) (λ p h. grind (arith, h)) placed below)
 
   pub before-none : (placed : List Placed) → AreFrom first placed → filter before placed ≡ []
   before-none placed from =
       filter-none before placed (All-weaker (λ (p : Placed). first ≤ p.0) (λ (p : Placed). before p ≡ false) (λ p h. grind (arith, h)) placed from)
 
-  pub behind-all : (placed : List Placed) → AreFrom first placed → filter behind placed ≡ placed
-  behind-all placed from =
-      filter-all behind placed (All-weaker (λ (p : Placed). first ≤ p.0) (λ (p : Placed). behind p ≡ true) (λ p h. grind (arith, h)) placed from)
+  pub after-all : (placed : List Placed) → AreFrom first placed → filter after placed ≡ placed
+  after-all placed from =
+      filter-all after placed (All-weaker (λ (p : Placed). first ≤ p.0) (λ (p : Placed). after p ≡ true) (λ p h. grind (arith, h)) placed from)
 
   pub place-front : (front back : List Placed) (chunks : List Node) → AreBelow first front
       → place (front ++ back) first chunks ≡ front ++ place back first chunks
   place-front front back chunks below =
-      ap (λ l. l ++ placed_from first chunks ++ filter behind (front ++ back))
+      ap (λ l. l ++ placed_from first chunks ++ filter after (front ++ back))
       (filter-append before front back ∙ ap (λ l. l ++ filter before back) (before-all front below))
       ∙ ap (λ l. front ++ filter before back ++ placed_from first chunks ++ l)
-      (filter-append behind front back ∙ ap (λ l. l ++ filter behind back) (behind-none front below))
-      ∙ ap (λ l. l ++ filter behind back) (append_assoc front (filter before back) (placed_from first chunks))
-      ∙ append_assoc front (filter before back ++ placed_from first chunks) (filter behind back)
+      (filter-append after front back ∙ ap (λ l. l ++ filter after back) (after-none front below))
+      ∙ ap (λ l. l ++ filter after back) (append_assoc front (filter before back) (placed_from first chunks))
+      ∙ append_assoc front (filter before back ++ placed_from first chunks) (filter after back)
 
   pub place-back : (back : List Placed) (chunks : List Node) → AreFrom first back → place back first chunks ≡ placed_from first chunks ++ back
   place-back back chunks from =
-      ap (λ l. l ++ placed_from first chunks ++ filter behind back) (before-none back from)
-      ∙ ap (λ l. placed_from first chunks ++ l) (behind-all back from)
+      ap (λ l. l ++ placed_from first chunks ++ filter after back) (before-none back from)
+      ∙ ap (λ l. placed_from first chunks ++ l) (after-all back from)
 
   pub place-from : (bound : ℕ) (placed : List Placed) (chunks : List Node) → bound ≤ first → AreFrom bound placed → AreFrom bound (place placed first chunks)
   place-from bound placed chunks low from =
-      All-append (λ (p : Placed). bound ≤ p.0) (filter before placed ++ placed_from first chunks) (filter behind placed)
+      All-append (λ (p : Placed). bound ≤ p.0) (filter before placed ++ placed_from first chunks) (filter after placed)
       (All-append (λ (p : Placed). bound ≤ p.0) (filter before placed) (placed_from first chunks)
       (All-filter before (λ (p : Placed). bound ≤ p.0) placed from)
       (placed_from-from bound first chunks low))
-      (All-filter behind (λ (p : Placed). bound ≤ p.0) placed from)
+      (All-filter after (λ (p : Placed). bound ≤ p.0) placed from)
 
 -- the sizes of all chunks add up
 size-placed : (placed : List Placed) → total_size (chunks_of placed) ≡ sum_by (λ p. p.1.1) placed
@@ -108,12 +108,12 @@ pub place-size : (placed : List Placed) (first : ℕ) (chunks : List Node)
 place-size placed first chunks =
     let size = λ (p : Placed). p.1.1 in
     let front = filter (before first) placed in
-    let back = filter (behind first) placed in
+    let back = filter (after first) placed in
     let new = placed_from first chunks in
     let all = size-placed (place placed first chunks) in
     let outer = sum_by-append size (front ++ new) back in
     let inner = sum_by-append size front new in
-    let both = sum_by-filter_both (before first) (behind first) (λ p. refl) size placed in
+    let both = sum_by-filter_both (before first) (after first) (λ p. refl) size placed in
     let news : total_size chunks ≡ sum_by size new = sym (ap total_size (chunks-placed first chunks)) ∙ size-placed new in
     let olds = size-placed placed in
     omega (arith, all, outer, inner, both, news, olds)
@@ -158,7 +158,7 @@ pub any-placed : (has : Placed → Bool) (placed : List Placed) (first : ℕ) (c
     → list_any has (place placed first chunks) ≡ (list_any has placed || list_any has (placed_from first chunks))
 any-placed has placed first chunks =
     let front = filter (before first) placed in
-    let back = filter (behind first) placed in
+    let back = filter (after first) placed in
     let new = placed_from first chunks in
     list_any-append has (front ++ new) back
     ∙ ap (λ b. b || list_any has back) (list_any-append has front new)
@@ -194,12 +194,12 @@ place-none (p ∷ placed) first (apart, rise) = choose (place-none placed first 
         (All-cons (λ (p : Placed). first ≤ p.0) p placed near
         (All-weaker (λ (other : Placed). p.0 + 1 ≤ other.0) (λ (other : Placed). first ≤ other.0) (λ other h. omega (arith, h, near)) placed apart))
 
-pub rises-behind : (first : ℕ) (chunks : List Node) (others : List Placed) → AreFrom (first + length chunks) others → Rises others
+pub rises-after : (first : ℕ) (chunks : List Node) (others : List Placed) → AreFrom (first + length chunks) others → Rises others
     → Rises (placed_from first chunks ++ others)
-rises-behind first [] others apart rise = rise
-rises-behind first (chunk ∷ chunks) others apart rise = (
+rises-after first [] others apart rise = rise
+rises-after first (chunk ∷ chunks) others apart rise = (
   All-append (λ (p : Placed). first + 1 ≤ p.0) (placed_from (first + 1) chunks) others (placed_from-from (first + 1) (first + 1) chunks (omega arith))
       (All-weaker (λ (p : Placed). first + length (chunk ∷ chunks) ≤ p.0) (λ (p : Placed). first + 1 ≤ p.0) (λ p h. omega (arith, h)) others apart),
-  rises-behind (first + 1) chunks others
+  rises-after (first + 1) chunks others
       (All-weaker (λ (p : Placed). first + length (chunk ∷ chunks) ≤ p.0) (λ (p : Placed). (first + 1) + length chunks ≤ p.0) (λ p h. omega (arith, h)) others apart) rise,
 )

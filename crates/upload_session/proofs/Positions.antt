@@ -8,8 +8,9 @@ use Rattle.std.proofs.lemmas.Bool.{true≢false}
 use Rattle.std.proofs.lemmas.List.Elements.{All-nil, All-cons, All-head, All-tail, All-weaker}
 use Rattle.std.proofs.lemmas.List.Folds.{list_any-append, list_any_none}
 use Rattle.xet_merkle.specs.Groups.{Node}
-use Rattle.upload_session.specs.Session.{Placed, Run, placed_from, is_taken, overlaps, AreFrom, StandFor}
-use Rattle.upload_session.proofs.Placing.{Rises, rises-behind}
+use Rattle.xet_merkle.specs.declared.chunk_range.ChunkRange as chunk_range
+use Rattle.upload_session.specs.Session.{Placed, PlacedRun, placed_from, is_taken, overlaps, AreFrom, StandFor}
+use Rattle.upload_session.proofs.Placing.{Rises, rises-after}
 
 -- what holds of all holds of each
 pub holds_of_last : {X : Type 0} (P : X → Type 0) (front : List X) (last : X) (back : List X) → All P (front ++ last ∷ back) → P last
@@ -35,8 +36,8 @@ one_more : (start first count many more : ℕ) → 0 < count → 0 < many → mo
 one_more start first count many more some others is = grind (arith, some, others, is)
 
 -- whether a run has one of some adjacent positions
-abbrev pub meets : {C : Type 0} → ℕ → ℕ → Run C → Bool
-meets first count run = nat_lt first run.1.0 && nat_lt run.0 (first + count)
+abbrev pub meets : {C : Type 0} → ℕ → ℕ → PlacedRun C → Bool
+meets first count run = nat_lt first run.1.end && nat_lt run.0 (first + count)
 
 module _ (first count : ℕ) (some : 0 < count) where
   pub overlaps-run : (start : ℕ) (chunks : List Node) → 0 < length chunks
@@ -47,8 +48,8 @@ module _ (first count : ℕ) (some : 0 < count) where
       ap (λ b. (nat_lt first (start + 1) && nat_lt start (first + count)) || b) (overlaps-run (start + 1) (next ∷ chunks) (omega arith))
       ∙ one_more start first count (length (next ∷ chunks)) (length (chunk ∷ next ∷ chunks)) some (omega arith) (omega arith)
 
-  module _ {C : Type 0} (stands : C → List Node → Type 0) (start end : C → Bool) where
-    pub overlaps-runs : (runs : List (Run C)) (placed : List Placed) → StandFor stands start end runs placed
+  module _ {C A : Type 0} (kind : chunk_range.Ghosts C A) where
+    pub overlaps-runs : (runs : List (PlacedRun C)) (placed : List Placed) → StandFor kind runs placed
         → overlaps placed first count ≡ list_any (meets first count) runs
     overlaps-runs [] placed none = ap (λ (l : List Placed). overlaps l first count) none
     overlaps-runs (run ∷ runs) placed (chunks, others, is, of_run, apart, rest) =
@@ -58,7 +59,7 @@ module _ (first count : ℕ) (some : 0 < count) where
         (overlaps-run run.0 chunks of_run.0 ∙ ap (λ n. nat_lt first n && nat_lt run.0 (first + count)) (sym of_run.1))
         ∙ ap (λ b. meets first count run || b) (overlaps-runs runs others rest)
 
-module _ {C : Type 0} (stands : C → List Node → Type 0) (start end : C → Bool) where
+module _ {C A : Type 0} (kind : chunk_range.Ghosts C A) where
   -- runs begin where their positions do
   first-from : (bound first : ℕ) (chunks : List Node) (others : List Placed) → 0 < length chunks
       → AreFrom bound (placed_from first chunks ++ others) → bound ≤ first
@@ -72,31 +73,31 @@ module _ {C : Type 0} (stands : C → List Node → Type 0) (start end : C → B
   others-from bound first (chunk ∷ chunks) others from =
       others-from bound (first + 1) chunks others (All-tail (λ (p : Placed). bound ≤ p.0) (first, chunk) (placed_from (first + 1) chunks ++ others) from)
 
-  pub runs-from : (bound : ℕ) (runs : List (Run C)) (placed : List Placed) → StandFor stands start end runs placed → AreFrom bound placed
-      → All (λ (run : Run C). bound ≤ run.0) runs
-  runs-from bound [] placed none from = All-nil (λ (run : Run C). bound ≤ run.0)
+  pub runs-from : (bound : ℕ) (runs : List (PlacedRun C)) (placed : List Placed) → StandFor kind runs placed → AreFrom bound placed
+      → All (λ (run : PlacedRun C). bound ≤ run.0) runs
+  runs-from bound [] placed none from = All-nil (λ (run : PlacedRun C). bound ≤ run.0)
   runs-from bound (run ∷ runs) placed (chunks, others, is, of_run, apart, rest) from =
       let pieces = subst (λ (l : List Placed). AreFrom bound l) is from in
-      All-cons (λ (run : Run C). bound ≤ run.0) run runs (first-from bound run.0 chunks others of_run.0 pieces)
+      All-cons (λ (run : PlacedRun C). bound ≤ run.0) run runs (first-from bound run.0 chunks others of_run.0 pieces)
       (runs-from bound runs others rest (others-from bound run.0 chunks others pieces))
 
   -- the runs in front of one end before it
-  fronts_end : (front : List (Run C)) (last : Run C) (back : List (Run C)) (placed : List Placed)
-      → StandFor stands start end (front ++ last ∷ back) placed → All (λ (run : Run C). run.1.0 < last.0) front
-  fronts_end [] last back placed stand = All-nil (λ (run : Run C). run.1.0 < last.0)
+  fronts_end : (front : List (PlacedRun C)) (last : PlacedRun C) (back : List (PlacedRun C)) (placed : List Placed)
+      → StandFor kind (front ++ last ∷ back) placed → All (λ (run : PlacedRun C). run.1.end < last.0) front
+  fronts_end [] last back placed stand = All-nil (λ (run : PlacedRun C). run.1.end < last.0)
   fronts_end (run ∷ front) last back placed (chunks, others, is, of_run, apart, rest) =
-      let far = holds_of_last (λ (next : Run C). run.1.0 + 1 ≤ next.0) front last back (runs-from (run.1.0 + 1) (front ++ last ∷ back) others rest apart) in
-      All-cons (λ (run : Run C). run.1.0 < last.0) run front (omega (arith, far)) (fronts_end front last back others rest)
+      let far = holds_of_last (λ (next : PlacedRun C). run.1.end + 1 ≤ next.0) front last back (runs-from (run.1.end + 1) (front ++ last ∷ back) others rest apart) in
+      All-cons (λ (run : PlacedRun C). run.1.end < last.0) run front (omega (arith, far)) (fronts_end front last back others rest)
 
-  pub taken-runs : (runs : List (Run C)) (placed : List Placed) (position : ℕ) → StandFor stands start end runs placed
+  pub taken-runs : (runs : List (PlacedRun C)) (placed : List Placed) (position : ℕ) → StandFor kind runs placed
       → is_taken placed position ≡ list_any (meets position 1) runs
-  taken-runs runs placed position stand = taken-overlaps placed position ∙ overlaps-runs position 1 (omega arith) stands start end runs placed stand
+  taken-runs runs placed position stand = taken-overlaps placed position ∙ overlaps-runs position 1 (omega arith) kind runs placed stand
 
   -- only the last run that begins at a position or before it can have it
-  pub taken-last : (front : List (Run C)) (last : Run C) (back : List (Run C)) (placed : List Placed) (position : ℕ)
-      → StandFor stands start end (front ++ last ∷ back) placed → last.0 ≤ position → All (λ (run : Run C). position < run.0) back
-      → is_taken placed position ≡ nat_lt position last.1.0
-  taken-last front last back placed position stand begun behind =
+  pub taken-last : (front : List (PlacedRun C)) (last : PlacedRun C) (back : List (PlacedRun C)) (placed : List Placed) (position : ℕ)
+      → StandFor kind (front ++ last ∷ back) placed → last.0 ≤ position → All (λ (run : PlacedRun C). position < run.0) back
+      → is_taken placed position ≡ nat_lt position last.1.end
+  taken-last front last back placed position stand begun after =
       let ended = fronts_end front last back placed stand in
       let has = meets position 1 in
       taken-runs (front ++ last ∷ back) placed position stand
@@ -104,19 +105,19 @@ module _ {C : Type 0} (stands : C → List Node → Type 0) (start end : C → B
       ∙ ap (λ b. b || list_any has (last ∷ back))
       (list_any_none has front (λ k d inside. let ends = ended k d inside in grind (arith, ends, begun)))
       ∙ ap (λ b. has last || b)
-      (list_any_none has back (λ k d inside. let begins = behind k d inside in grind (arith, begins)))
-      ∙ only (nat_lt position last.1.0) (nat_lt last.0 (position + 1)) (grind (arith, begun))
+      (list_any_none has back (λ k d inside. let begins = after k d inside in grind (arith, begins)))
+      ∙ only (nat_lt position last.1.end) (nat_lt last.0 (position + 1)) (grind (arith, begun))
     where
       only : (a b : Bool) → b ≡ true → ((a && b) || false) ≡ a
       only true true h = refl
       only true false h = absurd (true≢false (sym h))
       only false b h = refl
 
-  pub taken-none : (runs : List (Run C)) (placed : List Placed) (position : ℕ)
-      → StandFor stands start end runs placed → All (λ (run : Run C). position < run.0) runs → is_taken placed position ≡ false
-  taken-none runs placed position stand behind =
+  pub taken-none : (runs : List (PlacedRun C)) (placed : List Placed) (position : ℕ)
+      → StandFor kind runs placed → All (λ (run : PlacedRun C). position < run.0) runs → is_taken placed position ≡ false
+  taken-none runs placed position stand after =
       taken-runs runs placed position stand
-      ∙ list_any_none (meets position 1) runs (λ k d inside. let begins = behind k d inside in grind (arith, begins))
+      ∙ list_any_none (meets position 1) runs (λ k d inside. let begins = after k d inside in grind (arith, begins))
 
 -- where a position is taken, one of those from it on is
 pub overlaps-more : (placed : List Placed) (first count : ℕ) → 0 < count → is_taken placed first ≡ true → overlaps placed first count ≡ true
@@ -134,8 +135,8 @@ overlaps-more (p ∷ placed) first count some taken = choose (overlaps-more plac
         ap (λ b. (nat_lt first (p.0 + 1) && nat_lt p.0 (first + count)) || b) (more h)
         ∙ or-true (nat_lt first (p.0 + 1) && nat_lt p.0 (first + count))
 
--- the runs that begin at a position or behind it
-abbrev pub from : {C : Type 0} → ℕ → List (Run C) → List (Run C)
+-- the runs that begin at a position or after it
+abbrev pub from : {C : Type 0} → ℕ → List (PlacedRun C) → List (PlacedRun C)
 from first runs = entries_between nat_cmp (Included first) Unbounded runs
 
 -- where neither of two holds
@@ -153,11 +154,11 @@ begins_from : (first n : ℕ) → is_le (nat_cmp first n) ≡ true → first ≤
 begins_from first n h = grind (arith, h)
 
 module _ {C : Type 0} (first count : ℕ) where
-  not_begun : (run : Run C) → meets first 1 run ≡ false → run.0 < first → meets first count run ≡ false
+  not_begun : (run : PlacedRun C) → meets first 1 run ≡ false → run.0 < first → meets first count run ≡ false
   not_begun run free begins = grind (arith, free, begins)
 
-  -- where no run has the first position, and none begins behind it, none has any
-  pub overlap-none : (runs : List (Run C)) → from first runs ≡ [] → list_any (meets first 1) runs ≡ false → list_any (meets first count) runs ≡ false
+  -- where no run has the first position, and none begins after it, none has any
+  pub overlap-none : (runs : List (PlacedRun C)) → from first runs ≡ [] → list_any (meets first 1) runs ≡ false → list_any (meets first count) runs ≡ false
   overlap-none [] none free = refl
   overlap-none (run ∷ runs) none free = choose (overlap-none runs) (neither (meets first 1 run) (list_any (meets first 1) runs) free) (is_le (nat_cmp first run.0)) refl none
     where
@@ -169,26 +170,26 @@ module _ {C : Type 0} (first count : ℕ) where
       choose rest (one, others) false far h =
           both (meets first count run) (list_any (meets first count) runs) (not_begun run one (begins_before first run.0 far)) (rest h others)
 
-  module _ (stands : C → List Node → Type 0) (start end : C → Bool) where
-    -- otherwise the first that begins behind it has one, or none does
-    pub overlap-next : (runs : List (Run C)) (placed : List Placed) (next : Run C) (more : List (Run C)) → StandFor stands start end runs placed
+  module _ {A : Type 0} (kind : chunk_range.Ghosts C A) where
+    -- otherwise the first that begins after it has one, or none does
+    pub overlap-next : (runs : List (PlacedRun C)) (placed : List Placed) (next : PlacedRun C) (more : List (PlacedRun C)) → StandFor kind runs placed
         → from first runs ≡ next ∷ more → list_any (meets first 1) runs ≡ false → list_any (meets first count) runs ≡ nat_lt (next.0 - first) count
     overlap-next [] placed next more stand is free = absurd (omega (arith, ap length is))
     overlap-next (run ∷ runs) placed next more (chunks, others, _, of_run, apart, stand) is free =
         choose (λ is free. overlap-next runs others next more stand is free)
         (neither (meets first 1 run) (list_any (meets first 1) runs) free) (is_le (nat_cmp first run.0)) refl is
       where
-        begins : run.0 < run.1.0
+        begins : run.0 < run.1.end
         begins = omega (arith, of_run.0, of_run.1)
 
-        farther : All (λ (other : Run C). run.1.0 + 1 ≤ other.0) runs
-        farther = runs-from stands start end (run.1.0 + 1) runs others stand apart
+        farther : All (λ (other : PlacedRun C). run.1.end + 1 ≤ other.0) runs
+        farther = runs-from kind (run.1.end + 1) runs others stand apart
 
         at : first ≤ run.0 → (b : Bool) → nat_lt (run.0 - first) count ≡ b → list_any (meets first count) (run ∷ runs) ≡ b
         at near true inside = ap (λ b. b || list_any (meets first count) runs) {y = true} (grind (arith, near, inside, begins))
-        at near false behind =
-            both (meets first count run) (list_any (meets first count) runs) (grind (arith, near, behind))
-            (list_any_none (meets first count) runs (λ k d inside. let far = farther k d inside in grind (arith, far, near, behind, begins)))
+        at near false outside =
+            both (meets first count run) (list_any (meets first count) runs) (grind (arith, near, outside))
+            (list_any_none (meets first count) runs (λ k d inside. let far = farther k d inside in grind (arith, far, near, outside, begins)))
 
         choose : (from first runs ≡ next ∷ more → list_any (meets first 1) runs ≡ false → list_any (meets first count) runs ≡ nat_lt (next.0 - first) count)
             → (meets first 1 run ≡ false) × (list_any (meets first 1) runs ≡ false)
@@ -196,19 +197,19 @@ module _ {C : Type 0} (first count : ℕ) where
             → list_any (meets first count) (run ∷ runs) ≡ nat_lt (next.0 - first) count
         choose rest (one, free) true near h =
             at (begins_from first run.0 near) (nat_lt (run.0 - first) count) refl
-            ∙ ap (λ (runs : List (Run C)). nat_lt ((get_or runs 0 run).0 - first) count) {y = next ∷ more} h
+            ∙ ap (λ (runs : List (PlacedRun C)). nat_lt ((get_or runs 0 run).0 - first) count) {y = next ∷ more} h
         choose rest (one, free) false far h =
             ap (λ b. b || list_any (meets first count) runs) (not_begun run one (begins_before first run.0 far)) ∙ rest h free
 
 -- the positions rise
-pub stand-rises : {C : Type 0} (stands : C → List Node → Type 0) (start end : C → Bool) (runs : List (Run C)) (placed : List Placed)
-    → StandFor stands start end runs placed → Rises placed
-stand-rises stands start end [] placed none = subst (λ l. Rises l) (sym none) tt
-stand-rises stands start end (run ∷ runs) placed (chunks, others, is, of_run, apart, rest) =
+pub stand-rises : {C A : Type 0} (kind : chunk_range.Ghosts C A) (runs : List (PlacedRun C)) (placed : List Placed)
+    → StandFor kind runs placed → Rises placed
+stand-rises kind [] placed none = subst (λ l. Rises l) (sym none) tt
+stand-rises kind (run ∷ runs) placed (chunks, others, is, of_run, apart, rest) =
     subst (λ l. Rises l) (sym is)
-    (rises-behind run.0 chunks others
-    (All-weaker (λ (p : Placed). run.1.0 + 1 ≤ p.0) (λ (p : Placed). run.0 + length chunks ≤ p.0) (λ p h. let ends = of_run.1 in omega (arith, h, ends)) others apart)
-    (stand-rises stands start end runs others rest))
+    (rises-after run.0 chunks others
+    (All-weaker (λ (p : Placed). run.1.end + 1 ≤ p.0) (λ (p : Placed). run.0 + length chunks ≤ p.0) (λ p h. let ends = of_run.1 in omega (arith, h, ends)) others apart)
+    (stand-rises kind runs others rest))
 
 -- no position is one of none
 pub overlaps-none : (placed : List Placed) (first : ℕ) → overlaps placed first 0 ≡ false

@@ -108,14 +108,14 @@ module _ {X : Type 0} (k : ℕ) where
   pub remove-at : (front back : List (ℕ × X)) (x : X) → AllBelow front → remove_entry (test k) (front ++ (k, x) ∷ back) ≡ front ++ back
   remove-at front back x low = remove-below front ((k, x) ∷ back) low ∙ ap (λ o. front ++ cond (is_eq o) back ((k, x) ∷ remove_entry (test k) back)) (at k)
 
-  -- entries in order are cut behind the last one at the number or before it
-  behind-all : (e : ℕ × X) (entries : List (ℕ × X)) → k < e.0 → All (λ (n : ℕ). nat_cmp e.0 n ≡ Less) (keys_of entries)
+  -- entries in order are cut after the last one at the number or before it
+  all-above : (e : ℕ × X) (entries : List (ℕ × X)) → k < e.0 → All (λ (n : ℕ). nat_cmp e.0 n ≡ Less) (keys_of entries)
       → All (λ (e : ℕ × X). k < e.0) entries
-  behind-all e [] begins after = All-nil (λ (e : ℕ × X). k < e.0)
-  behind-all e (next ∷ entries) begins after =
+  all-above e [] begins after = All-nil (λ (e : ℕ × X). k < e.0)
+  all-above e (next ∷ entries) begins after =
       All-cons (λ (e : ℕ × X). k < e.0) next entries
       (less_of k e.0 next.0 begins (All-head (λ (n : ℕ). nat_cmp e.0 n ≡ Less) next.0 (keys_of entries) after))
-      (behind-all e entries begins (All-tail (λ (n : ℕ). nat_cmp e.0 n ≡ Less) next.0 (keys_of entries) after))
+      (all-above e entries begins (All-tail (λ (n : ℕ). nat_cmp e.0 n ≡ Less) next.0 (keys_of entries) after))
 
   abbrev pub IsCut : List (ℕ × X) → Type 0
   IsCut entries = (back : List (ℕ × X)) × (entries ≡ upto entries ++ back)
@@ -129,7 +129,7 @@ module _ {X : Type 0} (k : ℕ) where
       choose others true past =
           let begins : k < e.0 = grind (arith, past) in
           let all = All-cons (λ (e : ℕ × X). k < e.0) e entries begins
-          (behind-all e entries begins (All-after_first nat_cmp e.0 (keys_of entries) sorted)) in
+          (all-above e entries begins (All-after_first nat_cmp e.0 (keys_of entries) sorted)) in
           let none = upto-above (e ∷ entries) all in (
             e ∷ entries,
             ap (λ (l : List (ℕ × X)). l ++ e ∷ entries) (sym none),
@@ -138,10 +138,10 @@ module _ {X : Type 0} (k : ℕ) where
           )
       choose others false not_past =
           let begins : e.0 ≤ k = grind (arith, not_past) in
-          let (back, is, low, behind) = others in
+          let (back, is, low, high) = others in
           let one : upto (e ∷ entries) ≡ e ∷ upto entries = ap (λ b. cond b (e ∷ upto entries) (upto entries)) (near k e.0 begins) in (
             back,
             ap (λ (l : List (ℕ × X)). e ∷ l) is ∙ ap (λ (l : List (ℕ × X)). l ++ back) (sym one),
             subst (λ (l : List (ℕ × X)). All (λ (e : ℕ × X). e.0 ≤ k) l) (sym one) (All-cons (λ (e : ℕ × X). e.0 ≤ k) e (upto entries) begins low),
-            behind,
+            high,
           )

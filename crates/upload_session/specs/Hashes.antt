@@ -22,9 +22,11 @@ is_among hashes hash = list_any (hash_eq hash) hashes
 
 -- `all` has what either has, and no more
 abbrev pub AreBoth : List Hash → List Hash → List Hash → Type 0
-AreBoth first second all = (hash : Hash) → is_among all hash ≡ (is_among first hash || is_among second hash)
+AreBoth first second all =
+    (hash : Hash) → is_among all hash ≡ (is_among first hash || is_among second hash)
 
 -- `new` has each hash of `hashes` once that isn't among the known ones
 pub record AreNew (known hashes new : List Hash) : Type 0 where
   pub each_once : IsDistinct hash_eq new
-  pub among : (hash : Hash) → is_among new hash ≡ (is_among hashes hash && not (is_among known hash))
+  pub among : (hash : Hash)
+      → is_among new hash ≡ (is_among hashes hash && not (is_among known hash))

@@ -3,7 +3,10 @@ use Rattle.std.specs.Prelude.{◌≡◌, ℕ, ◌+◌, ◌<◌, ◌≤◌, Bool,
 use Rattle.std.specs.List.{list_any}
 use Rattle.xet_merkle.specs.Groups.{Node}
 use Rattle.xet_merkle.specs.Roots.{total_size}
-use Rattle.upload_session.specs.Hashes.{Hash, hashes_of}
+use Rattle.xet_merkle.specs.declared.chunk_range.ChunkRange as chunk_range
+use Rattle.upload_session.specs.declared.kept_hashes.KeptHashes as kept_hashes
+use Rattle.upload_session.specs.declared.runs.Run.{Run}
+use Rattle.upload_session.specs.Hashes.{hashes_of}
 
 -- a chunk at a position
 abbrev pub Placed : Type 0
@@ -14,10 +17,11 @@ abbrev pub placed_from : ℕ → List Node → List Placed
 placed_from first [] = []
 placed_from first (chunk ∷ chunks) = (first, chunk) ∷ placed_from (first + 1) chunks
 
--- the chunks placed, with more of them at adjacent positions: those before, the new ones, and those behind
+-- the chunks placed, with more of them at adjacent positions: those before, the new ones, and those after
 abbrev pub place : List Placed → ℕ → List Node → List Placed
 place placed first chunks =
-    filter (λ p. nat_lt p.0 first) placed ++ placed_from first chunks ++ filter (λ p. not (nat_lt p.0 first)) placed
+    filter (λ p. nat_lt p.0 first) placed ++ placed_from first chunks
+    ++ filter (λ p. not (nat_lt p.0 first)) placed
 
 -- the chunks by position
 abbrev pub chunks_of : List Placed → List Node
@@ -29,54 +33,55 @@ is_taken placed position = list_any (λ p. nat_eq p.0 position) placed
 
 -- whether one of some adjacent positions is taken
 abbrev pub overlaps : List Placed → ℕ → ℕ → Bool
-overlaps placed first count = list_any (λ p. nat_lt first (p.0 + 1) && nat_lt p.0 (first + count)) placed
+overlaps placed first count =
+    list_any (λ p. nat_lt first (p.0 + 1) && nat_lt p.0 (first + count)) placed
 
 -- some chunks at adjacent positions from the first one on
 abbrev pub Put : Type 0
 Put = ℕ × List Node
 
--- chunks that puts have placed, the last one first: each put had one chunk at least, and no position that was taken
+-- chunks that puts have placed, the last put first: each had one chunk at least, and no position that was taken
 abbrev pub ArePlaced : List Put → List Placed → Type 0
 ArePlaced [] placed = placed ≡ []
 ArePlaced (put ∷ earlier) placed =
-    (before : List Placed) × ArePlaced earlier before × (0 < length put.1) × (overlaps before put.0 (length put.1) ≡ false)
-    × (placed ≡ place before put.0 put.1)
+    (before : List Placed) × ArePlaced earlier before × (0 < length put.1)
+    × (overlaps before put.0 (length put.1) ≡ false) × (placed ≡ place before put.0 put.1)
 
 -- the positions taken are exactly those below a number
 abbrev pub IsWhole : ℕ → List Placed → Type 0
 IsWhole total placed = (placed ≡ placed_from 0 (chunks_of placed)) × (length placed ≡ total)
 
--- each position is at a bound or behind it
+-- each position is at a bound or after it
 abbrev pub AreFrom : ℕ → List Placed → Type 0
 AreFrom bound placed = All (λ p. bound ≤ p.0) placed
 
--- what is kept of a run of adjacent positions: the first one, the one behind the last, and a range
-abbrev pub Run : Type 0 → Type 0
-Run C = ℕ × (ℕ × C)
+-- a run of adjacent positions that are taken, at the first of them
+abbrev pub PlacedRun : Type 0 → Type 0
+PlacedRun C = ℕ × Run C
 
-module _ {C : Type 0} (stands : C → List Node → Type 0) (start end : C → Bool) where
+module _ {C A : Type 0} (kind : chunk_range.Ghosts C A) where
   -- a run stands for chunks, one at least, by a range that is open at both ends
-  abbrev pub IsRunOf : List Node → Run C → Type 0
+  abbrev pub IsRunOf : List Node → PlacedRun C → Type 0
   IsRunOf chunks run =
-      (0 < length chunks) × (run.1.0 ≡ run.0 + length chunks) × stands run.1.1 chunks
-      × (start run.1.1 ≡ false) × (end run.1.1 ≡ false)
+      (0 < length chunks) × (run.1.end ≡ run.0 + length chunks) × kind.stands run.1.range chunks
+      × (kind.start run.1.range ≡ false) × (kind.end run.1.range ≡ false)
 
   -- the runs stand for chunks by their positions, which rise: each for all that are adjacent
-  abbrev pub StandFor : List (Run C) → List Placed → Type 0
+  abbrev pub StandFor : List (PlacedRun C) → List Placed → Type 0
   StandFor [] placed = placed ≡ []
   StandFor (run ∷ runs) placed =
       (chunks : List Node) × (others : List Placed) × (placed ≡ placed_from run.0 chunks ++ others)
-      × IsRunOf chunks run × AreFrom (run.1.0 + 1) others × StandFor runs others
+      × IsRunOf chunks run × AreFrom (run.1.end + 1) others × StandFor runs others
 
 -- a session as contracts see it: its runs, what it keeps of hashes, and the sum of all sizes
 pub record Parts (C H : Type 0) : Type 0 where
-  pub runs : List (Run C)
+  pub runs : List (PlacedRun C)
   pub kept : H
   pub size : ℕ
 
 -- a session stands for chunks by their positions, and knows their hashes
-module _ {C H : Type 0} (stands : C → List Node → Type 0) (start end : C → Bool) (knows : H → List Hash → Type 0) where
+module _ {C H A : Type 0} (kind : chunk_range.Ghosts C A) (hashes : kept_hashes.Ghosts H A) where
   abbrev pub SessionStands : Parts C H → List Placed → Type 0
   SessionStands session placed =
-      StandFor stands start end session.runs placed × knows session.kept (hashes_of (chunks_of placed))
+      StandFor kind session.runs placed × hashes.knows session.kept (hashes_of (chunks_of placed))
       × (session.size ≡ total_size (chunks_of placed))

@@ -30,12 +30,13 @@ pub trait KeptHashes<A: Allocator>: Drop {
             knows self.old known → tells known (hashes_of chunks.now) new.items) }
         ensures kept { OnOk result ((known all : List Hash) →
             knows self.old known → AreBoth known (hashes_of chunks.now) all → knows self.new all) }
-        ensures refused { OnErr result ((known : List Hash) → knows self.old known → knows self.new known) };
+        ensures refused { OnErr result ((known : List Hash) →
+            knows self.old known → knows self.new known) };
 
     /// Gives up the hashes that [`KeptHashes::keep`] told as new, and knows what it knew before. It takes no memory.
     fn give_up(&mut self, new: &[MerkleHash])
-        ensures { (known hashes all : List Hash) → AreBoth known hashes all → tells known hashes new.now →
-            knows self.old all → knows self.new known };
+        ensures { (known hashes all : List Hash) → AreBoth known hashes all →
+            tells known hashes new.now → knows self.old all → knows self.new known };
 }
 
 /// All hashes, each once, in a map for deduplication.
@@ -45,16 +46,21 @@ pub struct SeenHashes<A: Allocator = Global> {
 }
 
 impl<A: Allocator + Clone> SeenHashes<A> {
-    // Keeps the hashes of some chunks, and lists those that are new, each once. Where it is refused, what it kept is listed.
+    // Keeps the hashes of some chunks, and lists those that are new, each once. Where it is refused, it has listed what it
+    // kept.
     fn keep_into(&mut self, chunks: &[Node], new: &mut Vec<MerkleHash, A>) -> Result<(), AllocError>
         requires { new.old.items ≡ [] }
         ensures kept { OnOk result ((hash : Hash) → is_some (value_at hash_eq self.new.hashes hash)
-            ≡ (is_some (value_at hash_eq self.old.hashes hash) || is_among (hashes_of chunks.now) hash)) }
+            ≡ (is_some (value_at hash_eq self.old.hashes hash)
+            || is_among (hashes_of chunks.now) hash)) }
         ensures each_once { OnOk result (IsDistinct hash_eq new.new.items) }
         ensures among { OnOk result ((hash : Hash) → is_among new.new.items hash
-            ≡ (is_among (hashes_of chunks.now) hash && not (is_some (value_at hash_eq self.old.hashes hash)))) }
-        ensures refused { OnErr result ((hash : Hash) → is_some (value_at hash_eq self.old.hashes hash)
-            ≡ (is_some (value_at hash_eq self.new.hashes hash) && not (is_among new.new.items hash))) }
+            ≡ (is_among (hashes_of chunks.now) hash
+            && not (is_some (value_at hash_eq self.old.hashes hash)))) }
+        ensures refused { OnErr result ((hash : Hash) →
+            is_some (value_at hash_eq self.old.hashes hash)
+            ≡ (is_some (value_at hash_eq self.new.hashes hash)
+            && not (is_among new.new.items hash))) }
     {
         'chunks: for (hash, _) in chunks {
             if !self.hashes.contains_key(hash) {
@@ -77,7 +83,8 @@ impl<A: Allocator + Clone> SeenHashes<A> {
 }
 
 impl<A: Allocator + Clone> KeptHashes<A> for SeenHashes<A> {
-    ghost knows = { λ seen known. (hash : Hash) → is_some (value_at hash_eq seen.hashes hash) ≡ is_among known hash };
+    ghost knows = { λ seen known. (hash : Hash) →
+        is_some (value_at hash_eq seen.hashes hash) ≡ is_among known hash };
 
     ghost tells = { AreNew };
 

@@ -9,13 +9,15 @@ ghost use Rattle.upload_session.specs.Session.{Placed, Put, place, overlaps, Are
 /// doesn't matter.
 pub fn puts_may_change_places()
     ensures { (later earlier : List Put) (first second : Put) (placed : List Placed) →
-        ArePlaced (later ++ first ∷ second ∷ earlier) placed → ArePlaced (later ++ second ∷ first ∷ earlier) placed }
+        ArePlaced (later ++ first ∷ second ∷ earlier) placed →
+        ArePlaced (later ++ second ∷ first ∷ earlier) placed }
 {}
 
-/// Chunks may be put in parts: some, and then others at the positions behind them, come to stand where all would that are
+/// Chunks may be put in parts: some, and then others at the positions after them, come to stand where all would that are
 /// put at once.
 pub fn puts_may_come_in_parts()
     ensures { (placed : List Placed) (first : ℕ) (chunks more : List Node) →
         overlaps placed first (length chunks) ≡ false →
-        place (place placed first chunks) (first + length chunks) more ≡ place placed first (chunks ++ more) }
+        place (place placed first chunks) (first + length chunks) more
+        ≡ place placed first (chunks ++ more) }
 {}

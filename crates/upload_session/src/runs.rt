@@ -2,7 +2,7 @@
 
 ghost use Rattle.std.specs.Prelude.{◌≡◌, ◌+◌, ◌^◌, ◌<◌, List, ℕ, [], false, length, option_map, slice_get, IfOk, IfErr, IfSome, IfNone, OnOk, OnErr};
 ghost use Rattle.xet_merkle.specs.Groups.{Node};
-ghost use Rattle.upload_session.specs.Steps.{EndsAt, NoneEndsAt, IsWithNext};
+ghost use Rattle.upload_session.specs.Steps.Neighbours.{EndsAt, NoneEndsAt, IsWithNext};
 ghost use Rattle.upload_session.specs.Session.{Placed, place, chunks_of, is_taken, overlaps, IsWhole, StandFor};
 
 use crate::session_fault::SessionFault;
@@ -12,8 +12,14 @@ use xet_merkle::CoreError;
 use xet_merkle::aggregated_hashes::Node;
 use xet_merkle::chunk_range::ChunkRange;
 
-// The position behind the last one of a run, and the range of its chunks.
-type Run<C> = (u64, C);
+// What is kept of adjacent positions that are taken.
+#[derive(Drop)]
+struct Run<C> {
+    // The position after the last one.
+    end: u64,
+    // The range of the chunks.
+    range: C,
+}
 
 /// The runs of adjacent positions that are taken, each with one range of its chunks, which is open at both ends.
 #[derive(Drop)]
@@ -25,9 +31,9 @@ pub struct Runs<C: ChunkRange> {
 
 impl<C: ChunkRange> Model for Runs<C> {
     ghost use Rattle.std.specs.Prelude.{List};
-    ghost use Rattle.upload_session.specs.Session.{Run};
+    ghost use Rattle.upload_session.specs.Session.{PlacedRun};
 
-    ghost Value = { List (Run C) };
+    ghost Value = { List (PlacedRun C) };
 
     ghost view = { λ stored. stored.runs.entries };
 }
@@ -50,11 +56,11 @@ impl<C: ChunkRange> Runs<C> {
 
     /// Whether a position is taken. It takes no memory.
     pub fn taken(&self, position: u64) -> bool
-        ensures { (placed : List Placed) → StandFor C.stands C.start C.end self.now placed →
+        ensures { (placed : List Placed) → StandFor C.ChunkRange self.now placed →
             result ≡ is_taken placed position }
     {
         match self.runs.range(..=position).next_back() {
-            Some((_, (end, _))) => position < *end,
+            Some((_, run)) => position < run.end,
             None => false,
         }
     }
@@ -62,7 +68,7 @@ impl<C: ChunkRange> Runs<C> {
     /// Whether one of some adjacent positions is taken. It takes no memory.
     pub fn overlap(&self, first: u64, count: u64) -> bool
         requires { 0 < count }
-        ensures { (placed : List Placed) → StandFor C.stands C.start C.end self.now placed →
+        ensures { (placed : List Placed) → StandFor C.ChunkRange self.now placed →
             result ≡ overlaps placed first count }
     {
         if self.taken(first) {
@@ -74,88 +80,98 @@ impl<C: ChunkRange> Runs<C> {
         }
     }
 
+    /// How many runs there are. It takes no memory.
+    pub fn len(&self) -> usize
+        ensures { result ≡ length self.now }
+    {
+        self.runs.len()
+    }
+
     /// The first position and the range of a run, by its number in rising order from 0. It takes no memory.
     pub fn nth(&self, i: usize) -> Option<(u64, &C)>
         ensures { option_map {U = ℕ × C} (λ shown. (shown.0, shown.1.now)) result
-            ≡ option_map {U = ℕ × C} (λ run. (run.0, run.1.1)) (slice_get self.now i) }
+            ≡ option_map {U = ℕ × C} (λ run. (run.0, run.1.range)) (slice_get self.now i) }
     {
-        let (first, (_, range)) = self.runs.iter().nth(i)?;
-        Some((*first, range))
+        let (first, run) = self.runs.iter().nth(i)?;
+        Some((*first, &run.range))
     }
 
     /// The range of all chunks, or `None` where there is none. It fails with [`SessionFault::Gap`] where the positions taken
     /// aren't exactly those below a total, and takes no memory.
-    pub fn whole(&self, total: u64) -> Result<Option<&C>, SessionFault>
-        ensures whole { OnOk result ((placed : List Placed) → StandFor C.stands C.start C.end self.now placed →
-            IsWhole total placed) }
-        ensures gap { OnErr result ((placed : List Placed) → StandFor C.stands C.start C.end self.now placed →
+    pub fn whole_range(&self, total: u64) -> Result<Option<&C>, SessionFault>
+        ensures whole { OnOk result ((placed : List Placed) →
+            StandFor C.ChunkRange self.now placed → IsWhole total placed) }
+        ensures gap { OnErr result ((placed : List Placed) → StandFor C.ChunkRange self.now placed →
             ¬ IsWhole total placed) }
         ensures errors { IfErr result (λ e. e ≡ SessionFault.Gap) }
-        ensures none { (placed : List Placed) → StandFor C.stands C.start C.end self.now placed →
+        ensures none { (placed : List Placed) → StandFor C.ChunkRange self.now placed →
             IfOk result (λ whole. IfNone whole (placed ≡ [])) }
-        ensures range { (placed : List Placed) → StandFor C.stands C.start C.end self.now placed →
-            IfOk result (λ whole. IfSome whole (λ range. C.stands range.now (chunks_of placed))) }
+        ensures range { (placed : List Placed) → StandFor C.ChunkRange self.now placed →
+            IfOk result (λ whole. IfSome whole (λ range.
+            C.stands range.now (chunks_of placed) × (0 < length (chunks_of placed)))) }
     {
-        let Some((first, (end, range))) = self.runs.first_key_value() else {
+        let Some((first, run)) = self.runs.first_key_value() else {
             return if total == 0 {
                 Ok(None)
             } else {
                 Err(SessionFault::Gap)
             };
         };
-        if 0 < *first || *end != total || 1 < self.runs.len() {
+        if 0 < *first || run.end != total || 1 < self.runs.len() {
             return Err(SessionFault::Gap);
         }
-        Ok(Some(range))
+        Ok(Some(&run.range))
     }
 
     /// Places chunks, one at least, at adjacent positions that aren't taken. After a refusal nothing has changed.
     pub fn place(&mut self, first: u64, chunks: &[Node]) -> Result<(), CoreError>
         requires { first + length chunks.now < 2 ^ 64 }
-        ensures placed { OnOk result ((placed : List Placed) → StandFor C.stands C.start C.end self.old placed →
-            0 < length chunks.now → overlaps placed first (length chunks.now) ≡ false →
-            StandFor C.stands C.start C.end self.new (place placed first chunks.now)) }
+        ensures placed { OnOk result ((placed : List Placed) →
+            StandFor C.ChunkRange self.old placed → 0 < length chunks.now →
+            overlaps placed first (length chunks.now) ≡ false →
+            StandFor C.ChunkRange self.new (place placed first chunks.now)) }
         ensures unchanged { OnErr result (self.new ≡ self.old) }
     {
-        let behind = first + chunks.len() as u64;
-        let (end, range) = self.with_next(chunks, behind)?;
-        match self.ending_at(first) {
+        let after = first + chunks.len() as u64;
+        let made = self.make_run(chunks, after)?;
+        match self.run_before(first) {
             Some(start) => {
                 if let Some(run) = self.runs.get_mut(&start) {
-                    run.1.join(&range)?;
-                    run.0 = end;
+                    run.range.join(&made.range)?;
+                    run.end = made.end;
                 }
             }
             None => {
-                self.runs.insert(first, (end, range))?;
+                self.runs.insert(first, made)?;
             }
         }
-        self.runs.remove(&behind);
+        self.runs.remove(&after);
         Ok(())
     }
 
-    // The range of some chunks and of the run that begins behind them, where there is one, and the position behind both.
-    fn with_next(&self, chunks: &[Node], behind: u64) -> Result<Run<C>, CoreError>
-        ensures { IfOk result (IsWithNext C.stands C.start C.end self.now behind chunks.now) }
+    // The run of some chunks before a position, and of the run that begins there, where there is one.
+    fn make_run(&self, chunks: &[Node], after: u64) -> Result<Run<C>, CoreError>
+        ensures { IfOk result (IsWithNext C.ChunkRange self.now after chunks.now) }
     {
         let alloc = self.alloc.clone()?;
         let mut range = C::from_chunks(alloc, false, chunks, false)?;
-        match self.runs.get(&behind) {
-            Some((end, next)) => {
-                range.join(next)?;
-                Ok((*end, range))
+        let end = match self.runs.get(&after) {
+            Some(next) => {
+                range.join(&next.range)?;
+                next.end
             }
-            None => Ok((behind, range)),
-        }
+            None => after,
+        };
+        Ok(Run { end, range })
     }
 
     // The first position of the run that ends just before a position.
-    fn ending_at(&self, position: u64) -> Option<u64>
+    fn run_before(&self, position: u64) -> Option<u64>
         ensures some { IfSome result (λ begin. EndsAt self.now position begin) }
         ensures none { IfNone result (NoneEndsAt self.now position) }
     {
         match self.runs.range(..=position).next_back() {
-            Some((start, (end, _))) if *end == position => Some(*start),
+            Some((start, run)) if run.end == position => Some(*start),
             _ => None,
         }
     }

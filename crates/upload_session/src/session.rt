@@ -13,8 +13,8 @@ use std::alloc::{AllocError, Global};
 use std::marker::Model;
 use xet_hash::data_hash::MerkleHash;
 use xet_merkle::CoreError;
-use xet_merkle::aggregated_hashes::{Node, file_hash_of_root};
-use xet_merkle::chunk_range::ChunkRange;
+use xet_merkle::aggregated_hashes::Node;
+use xet_merkle::chunk_range::{ChunkRange, hashes_of_open};
 use xet_merkle::merkle_hash_subtree::MerkleHashSubtree;
 
 /// A session over subtrees, which keeps all hashes.
@@ -36,7 +36,11 @@ impl<C: ChunkRange, H> Model for SessionOf<C, H> {
 
     ghost Value = { Parts C H };
 
-    ghost view = { λ stored. record { runs = stored.runs; kept = stored.kept; size = stored.size } };
+    ghost view = { λ stored. record {
+      runs = stored.runs;
+      kept = stored.kept;
+      size = stored.size;
+    } };
 }
 
 impl<C: ChunkRange<Alloc = Global>, H: KeptHashes<Global>> SessionOf<C, H> {
@@ -44,7 +48,7 @@ impl<C: ChunkRange<Alloc = Global>, H: KeptHashes<Global>> SessionOf<C, H> {
     ///
     /// [`SessionOf::new_in`] is the call for other allocators.
     pub fn new(alloc: Global) -> Self
-        ensures { SessionStands C.stands C.start C.end H.knows result [] }
+        ensures { SessionStands C.ChunkRange H.KeptHashes result [] }
     {
         Self::from_parts(Runs::new(alloc, alloc), H::new(alloc))
     }
@@ -54,7 +58,8 @@ impl<C: ChunkRange, H: KeptHashes<C::Alloc>> SessionOf<C, H> {
     /// A session without chunks, which takes its memory of `alloc`. It fails where `alloc` can't be cloned, and takes no
     /// memory but what that takes. At the global allocator, [`SessionOf::new`] has no `Result`.
     pub fn new_in(alloc: C::Alloc) -> Result<Self, AllocError>
-        ensures empty { IfOk result (λ session. SessionStands C.stands C.start C.end H.knows session []) }
+        ensures empty { IfOk result (λ session.
+            SessionStands C.ChunkRange H.KeptHashes session []) }
         ensures succeeds { ((a : C.Alloc) → C.Alloc.is_infallible a) → IsOk result }
     {
         let kept = H::new(alloc.clone()?);
@@ -65,7 +70,7 @@ impl<C: ChunkRange, H: KeptHashes<C::Alloc>> SessionOf<C, H> {
     fn from_parts(runs: Runs<C>, kept: H) -> Self
         requires none { runs ≡ [] }
         requires knows { H.knows kept [] }
-        ensures { SessionStands C.stands C.start C.end H.knows result [] }
+        ensures { SessionStands C.ChunkRange H.KeptHashes result [] }
     {
         SessionOf {
             runs,
@@ -76,17 +81,24 @@ impl<C: ChunkRange, H: KeptHashes<C::Alloc>> SessionOf<C, H> {
 
     /// Whether a position is taken. It takes no memory.
     pub fn taken(&self, position: u64) -> bool
-        ensures { (placed : List Placed) → SessionStands C.stands C.start C.end H.knows self.now placed →
+        ensures { (placed : List Placed) → SessionStands C.ChunkRange H.KeptHashes self.now placed →
             result ≡ is_taken placed position }
     {
         self.runs.taken(position)
+    }
+
+    /// How many runs of adjacent positions are taken. It takes no memory.
+    pub fn num_runs(&self) -> usize
+        ensures { result ≡ length self.now.runs }
+    {
+        self.runs.len()
     }
 
     /// The first position and the range of a run of adjacent positions that are taken, by the run's number in rising order
     /// from 0; `None` past the last one. It takes no memory, and time in proportion to the number.
     pub fn range(&self, i: usize) -> Option<(u64, &C)>
         ensures { option_map {U = ℕ × C} (λ shown. (shown.0, shown.1.now)) result
-            ≡ option_map {U = ℕ × C} (λ run. (run.0, run.1.1)) (slice_get self.now.runs i) }
+            ≡ option_map {U = ℕ × C} (λ run. (run.0, run.1.range)) (slice_get self.now.runs i) }
     {
         self.runs.nth(i)
     }
@@ -99,26 +111,35 @@ impl<C: ChunkRange, H: KeptHashes<C::Alloc>> SessionOf<C, H> {
     /// to more than `u64::MAX` bytes, and with [`SessionFault::Memory`] where an allocation is refused. After a refusal
     /// the session stands for the same chunks, and its ranges are as they were.
     pub fn put(&mut self, first: u64, chunks: &[Node]) -> Result<u64, SessionFault>
-        ensures placed { OnOk result ((placed : List Placed) → SessionStands C.stands C.start C.end H.knows self.old placed →
-            SessionStands C.stands C.start C.end H.knows self.new (place placed first chunks.now)) }
+        ensures placed { OnOk result ((placed : List Placed) →
+            SessionStands C.ChunkRange H.KeptHashes self.old placed →
+            SessionStands C.ChunkRange H.KeptHashes self.new (place placed first chunks.now)) }
         ensures new { IfOk result (λ count. (placed : List Placed) →
-            SessionStands C.stands C.start C.end H.knows self.old placed → 0 < length chunks.now →
-            (new : List Hash) × H.tells (hashes_of (chunks_of placed)) (hashes_of chunks.now) new × (count ≡ length new)) }
+            SessionStands C.ChunkRange H.KeptHashes self.old placed → 0 < length chunks.now →
+            (new : List Hash) × H.tells (hashes_of (chunks_of placed)) (hashes_of chunks.now) new
+            × (count ≡ length new)) }
         ensures nothing { length chunks.now ≡ 0 → (result ≡ Ok 0) × (self.new ≡ self.old) }
-        ensures overlap { (placed : List Placed) → SessionStands C.stands C.start C.end H.knows self.old placed →
-            (IsErrOf result SessionFault.Overlap ↔ IsTrue (overlaps placed first (length chunks.now))) }
-        ensures positions { (placed : List Placed) → SessionStands C.stands C.start C.end H.knows self.old placed →
-            (IsErrOf result SessionFault.Positions ↔ (¬ IsTrue (overlaps placed first (length chunks.now))
+        ensures overlap { (placed : List Placed) →
+            SessionStands C.ChunkRange H.KeptHashes self.old placed →
+            (IsErrOf result SessionFault.Overlap
+            ↔ IsTrue (overlaps placed first (length chunks.now))) }
+        ensures positions { (placed : List Placed) →
+            SessionStands C.ChunkRange H.KeptHashes self.old placed →
+            (IsErrOf result SessionFault.Positions
+            ↔ (¬ IsTrue (overlaps placed first (length chunks.now))
             × (2 ^ 64 ≤ first + length chunks.now))) }
-        ensures sizes { (placed : List Placed) → SessionStands C.stands C.start C.end H.knows self.old placed →
-            (IsErrOf result SessionFault.Sizes ↔ (¬ IsTrue (overlaps placed first (length chunks.now))
+        ensures sizes { (placed : List Placed) →
+            SessionStands C.ChunkRange H.KeptHashes self.old placed →
+            (IsErrOf result SessionFault.Sizes
+            ↔ (¬ IsTrue (overlaps placed first (length chunks.now))
             × (first + length chunks.now < 2 ^ 64)
             × (2 ^ 64 ≤ total_size (chunks_of placed) + total_size chunks.now))) }
-        ensures errors { IfErr result (λ e. (e ≡ SessionFault.Overlap) ⊎ ((e ≡ SessionFault.Positions)
+        ensures errors { IfErr result (λ e.
+            (e ≡ SessionFault.Overlap) ⊎ ((e ≡ SessionFault.Positions)
             ⊎ ((e ≡ SessionFault.Sizes) ⊎ (e ≡ SessionFault.Memory)))) }
         ensures refused { OnErr result ((placed : List Placed) →
-            SessionStands C.stands C.start C.end H.knows self.old placed →
-            SessionStands C.stands C.start C.end H.knows self.new placed) }
+            SessionStands C.ChunkRange H.KeptHashes self.old placed →
+            SessionStands C.ChunkRange H.KeptHashes self.new placed) }
         ensures unchanged { OnErr result (self.new.runs ≡ self.old.runs) }
     {
         let (count, size) = (chunks.len() as u64, self.size);
@@ -138,48 +159,66 @@ impl<C: ChunkRange, H: KeptHashes<C::Alloc>> SessionOf<C, H> {
             }
             Err(error) => {
                 self.kept.give_up(&new);
-                Err(want_of_memory(error))
+                Err(out_of_memory(error))
             }
         }
     }
 
-    /// The root of all chunks by position.
+    /// The root and the file hash of all chunks by position, the latter without a salt, which is that under 32 zero bytes.
     ///
     /// It fails with [`SessionFault::Gap`] where the positions taken aren't exactly those from 0 to `total` - 1, before
     /// anything is allocated, and with [`SessionFault::Memory`] where an allocation is refused.
-    pub fn root(&self, total: u64) -> Result<MerkleHash, SessionFault>
-        ensures root { IfOk result (λ root. (placed : List Placed) →
-            SessionStands C.stands C.start C.end H.knows self.now placed → IsRoot (chunks_of placed) root) }
+    pub fn hashes(&self, total: u64) -> Result<(MerkleHash, MerkleHash), SessionFault>
+        ensures root { IfOk result (λ hashes. (placed : List Placed) →
+            SessionStands C.ChunkRange H.KeptHashes self.now placed →
+            IsRoot (chunks_of placed) hashes.0) }
+        ensures file { IfOk result (λ hashes. (placed : List Placed) →
+            SessionStands C.ChunkRange H.KeptHashes self.now placed →
+            IsFileHash (chunks_of placed) (replicate 32 0) hashes.1) }
         ensures whole { ¬ IsErrOf result SessionFault.Gap → (placed : List Placed) →
-            SessionStands C.stands C.start C.end H.knows self.now placed → IsWhole total placed }
+            SessionStands C.ChunkRange H.KeptHashes self.now placed → IsWhole total placed }
         ensures gap { IsErrOf result SessionFault.Gap → (placed : List Placed) →
-            SessionStands C.stands C.start C.end H.knows self.now placed → ¬ IsWhole total placed }
+            SessionStands C.ChunkRange H.KeptHashes self.now placed → ¬ IsWhole total placed }
         ensures errors { IfErr result (λ e. (e ≡ SessionFault.Gap) ⊎ (e ≡ SessionFault.Memory)) }
     {
-        let whole = self.runs.whole(total)?;
-        close(self.runs.allocator(), whole).map_err(want_of_memory)
+        let whole = self.runs.whole_range(total)?;
+        hashes_of_open(self.runs.allocator(), whole).map_err(out_of_memory)
+    }
+
+    /// The root of all chunks by position. It fails as [`SessionOf::hashes`] does.
+    pub fn root(&self, total: u64) -> Result<MerkleHash, SessionFault>
+        ensures root { IfOk result (λ root. (placed : List Placed) →
+            SessionStands C.ChunkRange H.KeptHashes self.now placed →
+            IsRoot (chunks_of placed) root) }
+        ensures whole { ¬ IsErrOf result SessionFault.Gap → (placed : List Placed) →
+            SessionStands C.ChunkRange H.KeptHashes self.now placed → IsWhole total placed }
+        ensures gap { IsErrOf result SessionFault.Gap → (placed : List Placed) →
+            SessionStands C.ChunkRange H.KeptHashes self.now placed → ¬ IsWhole total placed }
+        ensures errors { IfErr result (λ e. (e ≡ SessionFault.Gap) ⊎ (e ≡ SessionFault.Memory)) }
+    {
+        Ok(self.hashes(total)?.0)
     }
 
     /// The file hash of all chunks by position, without a salt, which is that under 32 zero bytes. It fails as
-    /// [`SessionOf::root`] does.
+    /// [`SessionOf::hashes`] does.
     pub fn finish(&self, total: u64) -> Result<MerkleHash, SessionFault>
         ensures file { IfOk result (λ file. (placed : List Placed) →
-            SessionStands C.stands C.start C.end H.knows self.now placed →
+            SessionStands C.ChunkRange H.KeptHashes self.now placed →
             IsFileHash (chunks_of placed) (replicate 32 0) file) }
         ensures whole { ¬ IsErrOf result SessionFault.Gap → (placed : List Placed) →
-            SessionStands C.stands C.start C.end H.knows self.now placed → IsWhole total placed }
+            SessionStands C.ChunkRange H.KeptHashes self.now placed → IsWhole total placed }
         ensures gap { IsErrOf result SessionFault.Gap → (placed : List Placed) →
-            SessionStands C.stands C.start C.end H.knows self.now placed → ¬ IsWhole total placed }
+            SessionStands C.ChunkRange H.KeptHashes self.now placed → ¬ IsWhole total placed }
         ensures errors { IfErr result (λ e. (e ≡ SessionFault.Gap) ⊎ (e ≡ SessionFault.Memory)) }
     {
-        let root = self.root(total)?;
-        Ok(file_hash_of_root(root, total == 0, &[0; 32]))
+        Ok(self.hashes(total)?.1)
     }
 }
 
 // A size and those of some chunks, where they add up to at most `u64::MAX`.
 fn add_sizes(size: u64, chunks: &[Node]) -> Option<u64>
-    ensures { SomeIff result (size + total_size chunks.now < 2 ^ 64) (size + total_size chunks.now) }
+    ensures { SomeIff result (size + total_size chunks.now < 2 ^ 64)
+        (size + total_size chunks.now) }
 {
     let mut sum = size;
     for (_, size) in chunks {
@@ -188,24 +227,9 @@ fn add_sizes(size: u64, chunks: &[Node]) -> Option<u64>
     Some(sum)
 }
 
-// The root of the chunks of a range that is open at both ends, or of no chunk.
-fn close<C: ChunkRange>(alloc: &C::Alloc, range: Option<&C>) -> Result<MerkleHash, CoreError>
-    ensures none { IfNone range.entry (IfOk result (IsRoot [])) }
-    ensures some { IfSome range.entry (λ range. (chunks : List Node) → C.stands range.now chunks →
-        IfOk result (IsRoot chunks)) }
-{
-    let mut all = C::from_chunks(alloc.clone()?, true, &[], false)?;
-    if let Some(range) = range {
-        all.join(range)?;
-    }
-    let end = C::from_chunks(alloc.clone()?, false, &[], true)?;
-    all.join(&end)?;
-    Ok(all.root()?.unwrap())
-}
-
-// The fault of calls on ranges, which only want of memory refuses: a run's range is open at both ends, and sizes were
-// tested.
-fn want_of_memory(_error: CoreError) -> SessionFault
+// The fault of calls on ranges that run out of memory: nothing else refuses them, since a run's range is open at both ends,
+// and sizes were tested.
+fn out_of_memory(_error: CoreError) -> SessionFault
     ensures { result ≡ SessionFault.Memory }
 {
     SessionFault::Memory

@@ -32,8 +32,8 @@ pub const DATA_KEY: [u8; 32] = [
     155, 235, 43, 88, 180, 208, 176, 75, 147, 173, 242, 41,
 ];
 
-// The key of a hash over the texts of other hashes.
-const INTERNAL_KEY: [u8; 32] = [
+/// The key of [`compute_internal_node_hash`], as [`DATA_KEY`] is that of chunks. This item is this port's own.
+pub const INTERNAL_KEY: [u8; 32] = [
     1, 126, 197, 199, 165, 71, 41, 150, 253, 148, 102, 102, 180, 138, 2, 230, 93, 221, 83, 111, 55,
     199, 109, 210, 248, 99, 82, 230, 74, 83, 113, 63,
 ];

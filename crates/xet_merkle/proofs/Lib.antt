@@ -1,5 +1,5 @@
 pub mod Lists
-pub mod Groups
+pub mod Grouping
 pub mod Roots
 pub mod StablePoints
 pub mod Canonical

@@ -1,8 +1,9 @@
 pub mod Sides
-pub mod Join
+pub mod LevelMerge
 pub mod Kept
 pub mod LevelByLevel
 pub mod Ranges
 pub mod Bounds
+pub mod Adjacent
 pub mod Bracketing
 pub mod Appending

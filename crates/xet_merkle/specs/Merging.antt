@@ -1,39 +1,45 @@
 -- Merging the subtrees of adjacent ranges of chunks (module `merklehash::merkle_hash_subtree` of the crate
 -- `xet-core-structures`).
-use Rattle.std.specs.Prelude.{◌≡◌, ℕ, ◌+◌, Bool, true, false, List, [], ◌∷◌, ◌++◌}
+use Rattle.std.specs.Prelude.{◌≡◌, ℕ, ◌+◌, Bool, true, false, List, [], ◌∷◌, ◌++◌, Result}
 use Rattle.std.specs.List.{AllZip}
 use Rattle.xet_merkle.specs.Groups.{Node}
-use Rattle.xet_merkle.specs.Ranges.{AreApart, total_of}
+use Rattle.xet_merkle.specs.declared.error.CoreError.{CoreError}
+use Rattle.xet_merkle.specs.Ranges.{NoMarkBetween, Refusals, total_of}
 use Rattle.xet_merkle.specs.Levels.{levels_size}
 use Rattle.xet_merkle.specs.Canonical.{IsCanonicalBy}
 use Rattle.xet_merkle.specs.Subtree.{Subtree, IsCanonical}
 
--- two subtrees are merged to a third: no mark stands between them, and the third has their outer marks, the
--- sum of their sizes, and is the canonical subtree of the joined list wherever they are those of two lists
-pub record IsMerged (front back merged : Subtree) : Type 0 where
+-- a subtree spans two others: no mark stands between these, and it has their outer marks and the sum of their sizes
+pub record Spans (front back merged : Subtree) : Type 0 where
   pub no_end : front.at_end ≡ false
   pub no_start : back.at_start ≡ false
   pub start : merged.at_start ≡ front.at_start
   pub end : merged.at_end ≡ back.at_end
   pub size : levels_size merged.levels ≡ levels_size front.levels + levels_size back.levels
+
+-- two subtrees are merged to a third, which spans them and is the canonical subtree of the concatenated list wherever they are
+-- those of two lists
+pub record IsMerged (front back merged : Subtree) : Type 0 where
+  pub spans : Spans front back merged
   pub canonical : (first second : List Node) → IsCanonical front first → IsCanonical back second → IsCanonical merged (first ++ second)
 
 -- the same where parents are made as told, and so many were made for it: the work of both lists and these are the work
--- of the joined list
+-- of the concatenated list
 pub record IsMergedBy (make : List Node → Node) (made : ℕ) (front back merged : Subtree) : Type 0 where
-  pub no_end : front.at_end ≡ false
-  pub no_start : back.at_start ≡ false
-  pub start : merged.at_start ≡ front.at_start
-  pub end : merged.at_end ≡ back.at_end
-  pub size : levels_size merged.levels ≡ levels_size front.levels + levels_size back.levels
+  pub spans : Spans front back merged
   pub canonical : (first second : List Node) (work_first work_second : ℕ) →
       IsCanonicalBy make front.at_start front.at_end first front.levels work_first →
       IsCanonicalBy make back.at_start back.at_end second back.levels work_second →
       IsCanonicalBy make merged.at_start merged.at_end (first ++ second) merged.levels (made + (work_first + work_second))
 
--- no mark stands between adjacent ranges
-abbrev pub NoMarkBetween : List Subtree → Type 0
-NoMarkBetween = AreApart (λ range. range.at_start) (λ range. range.at_end)
+-- what a merge of two subtrees fails with
+abbrev pub MergeRefusals : {T : Type 0} → Subtree → Subtree → Result T CoreError → Type 0
+MergeRefusals front back result =
+    Refusals ((front.at_end ≡ false) × (back.at_start ≡ false)) (levels_size front.levels + levels_size back.levels) result
+
+-- no mark stands between adjacent subtrees
+abbrev pub NoMarkBetweenSubtrees : List Subtree → Type 0
+NoMarkBetweenSubtrees = NoMarkBetween (λ range. range.at_start) (λ range. range.at_end)
 
 -- the start mark of the first range, and the end mark of the last; no ranges have both
 abbrev pub start_mark : List Subtree → Bool

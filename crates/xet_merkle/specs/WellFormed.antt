@@ -13,7 +13,7 @@ use Rattle.xet_merkle.specs.Subtree.{Subtree}
 abbrev pub IsLeftSide : List Node → Type 0
 IsLeftSide left = EndsStable left × NoStable left
 
--- what may stay on the right below the top where the end isn't marked: nodes that begin as those behind a last
+-- what may stay on the right below the top where the end isn't marked: nodes that begin as those after a last
 -- stable point do
 abbrev pub IsRightSide : List Node → Type 0
 IsRightSide right = BeginsStable right × ((cut : Node) → Cut cut → NoStable (cut ∷ right))

@@ -1,11 +1,13 @@
 //! What merging promises, as an interface that other representations of a range can meet.
 
-ghost use Rattle.std.specs.Prelude.{◌≡◌, ℕ, ◌+◌, ◌^◌, ◌≤◌, ◌⊎◌, ◌↔◌, Bool, List, ◌++◌, IfOk, IfErr, OnOk, OnErr, IfSome, IsSome, IsErrOf, IsTrue};
+ghost use Rattle.std.specs.Prelude.{◌≡◌, ℕ, ◌+◌, ◌^◌, ◌<◌, ◌≤◌, ◌⊎◌, ◌↔◌, Bool, false, List, [], ◌++◌, length, replicate, IfOk, IfErr, OnOk, OnErr, IfSome, IfNone, IsSome, IsErrOf, IsTrue};
 ghost use Rattle.xet_merkle.specs.Groups.{Node};
-ghost use Rattle.xet_merkle.specs.Roots.{total_size, IsRoot};
+ghost use Rattle.xet_merkle.specs.Roots.{total_size, IsRoot, IsFileHash};
+ghost use Rattle.xet_merkle.specs.Ranges.{Refusals};
 
-use crate::aggregated_hashes::Node;
+use crate::aggregated_hashes::file_hash_of_root;
 use crate::error::CoreError;
+use crate::groups::Node;
 use std::alloc::Allocator;
 use xet_hash::data_hash::MerkleHash;
 
@@ -65,18 +67,15 @@ pub trait ChunkRange: Drop {
     /// It fails with [`CoreError::InvalidArguments`] where this range is marked at its end or the other at its start,
     /// also where either is empty; then with [`CoreError::SizeOverflow`] where the sizes of both add up to more than
     /// `u64::MAX`; and with [`CoreError::OutOfMemory`] where an allocation is refused. After a refusal it is as it was.
-    fn join(&mut self, right: &Self) -> Result<(), CoreError>
-        ensures stands { OnOk result ((front back : List Node) →
-            stands self.old front → stands right.now back → stands self.new (front ++ back)) }
+    fn join(&mut self, back: &Self) -> Result<(), CoreError>
+        ensures stands { OnOk result ((first second : List Node) →
+            stands self.old first → stands back.now second → stands self.new (first ++ second)) }
         ensures start { OnOk result (start self.new ≡ start self.old) }
-        ensures end { OnOk result (end self.new ≡ end right.now) }
-        ensures total { OnOk result (total self.new ≡ total self.old + total right.now) }
+        ensures end { OnOk result (end self.new ≡ end back.now) }
+        ensures total { OnOk result (total self.new ≡ total self.old + total back.now) }
         ensures unchanged { OnErr result (self.new ≡ self.old) }
-        ensures arguments { IsErrOf result CoreError.InvalidArguments ↔ (IsTrue (end self.old) ⊎ IsTrue (start right.now)) }
-        ensures overflow { IsErrOf result CoreError.SizeOverflow ↔
-            (¬ (IsTrue (end self.old) ⊎ IsTrue (start right.now)) × (2 ^ 64 ≤ total self.old + total right.now)) }
-        ensures errors { IfErr result (λ e.
-            (e ≡ CoreError.InvalidArguments) ⊎ ((e ≡ CoreError.SizeOverflow) ⊎ (e ≡ CoreError.OutOfMemory))) };
+        ensures refusals { Refusals ((end self.old ≡ false) × (start back.now ≡ false))
+            (total self.old + total back.now) result };
 
     /// The root of the list, where both of its ends are marked, and `None` where they aren't. It fails with
     /// [`CoreError::OutOfMemory`] where an allocation is refused.
@@ -84,4 +83,56 @@ pub trait ChunkRange: Drop {
         ensures marks { IfOk result (λ root. IsSome root ↔ (IsTrue (start self.now) × IsTrue (end self.now))) }
         ensures root { (chunks : List Node) → stands self.now chunks → IfOk result (λ root. IfSome root (IsRoot chunks)) }
         ensures errors { IfErr result (λ e. e ≡ CoreError.OutOfMemory) };
+}
+
+/// The root and the file hash, without a salt, of the chunks of a range, once both of its ends are marked; of no chunk where
+/// there is no range. A range is open at both ends and has a chunk at least.
+///
+/// It fails with [`CoreError::InvalidArguments`] where an end of the range is marked already, and with
+/// [`CoreError::OutOfMemory`] where an allocation is refused.
+pub fn hashes_of_open<C: ChunkRange>(
+    alloc: &C::Alloc,
+    range: Option<&C>,
+) -> Result<(MerkleHash, MerkleHash), CoreError>
+    ensures none { IfNone range.entry (IfOk result (λ hashes. IsRoot [] hashes.0 × IsFileHash [] (replicate 32 0) hashes.1)) }
+    ensures some { IfSome range.entry (λ range. (chunks : List Node) → C.stands range.now chunks → 0 < length chunks →
+        IfOk result (λ hashes. IsRoot chunks hashes.0 × IsFileHash chunks (replicate 32 0) hashes.1)) }
+    ensures arguments { IsErrOf result CoreError.InvalidArguments
+        ↔ ¬ (IfSome range.entry (λ range. (C.start range.now ≡ false) × (C.end range.now ≡ false))) }
+    ensures errors { IfErr result (λ e. (e ≡ CoreError.InvalidArguments) ⊎ (e ≡ CoreError.OutOfMemory)) }
+{
+    if !is_open(range) {
+        return Err(CoreError::InvalidArguments);
+    }
+    // Neither marks nor sizes refuse it.
+    let Ok(root) = root_of_open(alloc, range) else {
+        return Err(CoreError::OutOfMemory);
+    };
+    Ok((root, file_hash_of_root(root, range.is_none(), &[0; 32])))
+}
+
+// Whether neither end of a range is marked, where there is one.
+fn is_open<C: ChunkRange>(range: Option<&C>) -> bool
+    ensures { IsTrue result
+        ↔ IfSome range.entry (λ range. (C.start range.now ≡ false) × (C.end range.now ≡ false)) }
+{
+    match range {
+        Some(range) => !range.at_start() && !range.at_end(),
+        None => true,
+    }
+}
+
+// The root of the chunks of a range that is open at both ends, or of no chunk.
+fn root_of_open<C: ChunkRange>(alloc: &C::Alloc, range: Option<&C>) -> Result<MerkleHash, CoreError>
+    ensures none { IfNone range.entry (IfOk result (IsRoot [])) }
+    ensures some { IfSome range.entry (λ range. (chunks : List Node) → C.stands range.now chunks →
+        IfOk result (IsRoot chunks)) }
+{
+    let mut all = C::from_chunks(alloc.clone()?, true, &[], false)?;
+    if let Some(range) = range {
+        all.join(range)?;
+    }
+    let end = C::from_chunks(alloc.clone()?, false, &[], true)?;
+    all.join(&end)?;
+    Ok(all.root()?.unwrap())
 }

@@ -50,7 +50,7 @@ pub fn stable_points_are_triples()
 pub fn stable_boundaries()
     ensures inside { (before left after : List Node) →
         EndsStable left → IsGroupBoundary (before ++ left) after }
-    ensures behind_cut { (cut : Node) (left after : List Node) →
+    ensures after_cut { (cut : Node) (left after : List Node) →
         Cut cut → EndsStable (cut ∷ left) → IsGroupBoundary left after }
 {}
 
@@ -101,7 +101,7 @@ pub fn equal_subtrees()
 {}
 
 /// Merging is associative: adjacent ranges that are the canonical subtrees of lists are merged to the one
-/// canonical subtree of the joined list, whichever two are merged first.
+/// canonical subtree of the concatenated list, whichever two are merged first.
 pub fn merging_is_associative()
     ensures { (a b c ab bc left right : Subtree) (first second third : List Node) →
         IsCanonical a first → IsCanonical b second → IsCanonical c third →
@@ -110,7 +110,7 @@ pub fn merging_is_associative()
 {}
 
 /// All bracketings of one list under the same marks give one subtree and one JSON text: where each range is the canonical
-/// subtree of its chunks, `MergeTree::run` and `merge` answer a canonical subtree of the joined list, and two of those
+/// subtree of its chunks, `MergeTree::run` and `merge` answer a canonical subtree of the concatenated list, and two of those
 /// with the same marks are equal. The JSON value of a subtree has no float, so its compact text is the one that is given
 /// here.
 pub fn all_bracketings_agree()
@@ -123,7 +123,7 @@ pub fn all_bracketings_agree()
 
 /// An empty range without marks changes nothing where it is merged with the canonical subtree of a list.
 pub fn empty_range_is_neutral()
-    ensures behind { (range empty merged : Subtree) (nodes : List Node) →
+    ensures after { (range empty merged : Subtree) (nodes : List Node) →
         IsCanonical range nodes → IsCanonical empty [] → empty.at_end ≡ false → IsMerged range empty merged → merged ≡ range }
     ensures before { (range empty merged : Subtree) (nodes : List Node) →
         IsCanonical range nodes → IsCanonical empty [] → empty.at_start ≡ false → IsMerged empty range merged → merged ≡ range }

@@ -2,9 +2,11 @@
 //! after the module `merklehash` of the crate `xet-core-structures` 1.5.2.
 #![tactic(auto)]
 
+mod adjacent;
 pub mod aggregated_hashes;
 pub mod chunk_range;
 pub mod error;
+mod groups;
 pub mod laws;
 pub mod merge_tree;
 pub mod merkle_hash_subtree;

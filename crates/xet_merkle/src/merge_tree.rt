@@ -4,10 +4,12 @@ ghost use Rattle.std.specs.Prelude.{◌≡◌, ℕ, ◌+◌, ◌-◌, ◌^◌, �
 ghost use Rattle.std.specs.List.{AllZip};
 ghost use Rattle.xet_merkle.specs.Groups.{Node};
 ghost use Rattle.xet_merkle.specs.MergeTree.{leaves, first_leaf, last_leaf};
-ghost use Rattle.xet_merkle.specs.Ranges.{AreApart, total_of};
-ghost use Rattle.xet_merkle.specs.Steps.Bracketing.{entries, entries_after, IsPassed, depth, AreBegun, TurnsTo, IsBegun, Follow, Follows, refusal};
+ghost use Rattle.xet_merkle.specs.Ranges.{NoMarkBetween, Refusals, total_of};
+ghost use Rattle.xet_merkle.specs.Steps.Adjacent.{IsPassed};
+ghost use Rattle.xet_merkle.specs.Steps.Bracketing.{entries, depth, AreBegun, TurnsTo, IsBegun, Follow};
 ghost use Rattle.xet_merkle.specs.Steps.RangeMerging.{JoinsTo};
 
+use crate::adjacent::Passed;
 use crate::chunk_range::ChunkRange;
 use crate::error::CoreError;
 use std::alloc::Global;
@@ -44,70 +46,6 @@ fn turn<R: ChunkRange>(left: Box<MergeTree<R>>, right: Box<MergeTree<R>>) -> Tur
         MergeTree::Leaf(range) => Turned::Taken(range, Box::into_inner(left)),
         joined => Turned::Lowered(joined),
     }
-}
-
-// What is known of the leaves that were passed.
-#[derive(Clone, Copy)]
-struct Passed {
-    // The end mark of the last one.
-    last_end: Option<bool>,
-    // Whether no mark stands between two of them.
-    are_apart: bool,
-    // The sum of their sizes, where it is at most `u64::MAX`.
-    total: Option<u64>,
-}
-
-impl Passed {
-    fn new() -> Self
-        ensures { result ≡ record { last_end = None; are_apart = true; total = Some 0 } }
-    {
-        Passed {
-            last_end: None,
-            are_apart: true,
-            total: Some(0),
-        }
-    }
-
-    // Passes a leaf.
-    fn pass<R: ChunkRange>(self, range: &R) -> Self
-        ensures { (ranges : List R) → IsPassed R.start R.end R.total self ranges → IsPassed R.start R.end R.total result (ranges ++ range.now ∷ []) }
-    {
-        Passed {
-            last_end: Some(range.at_end()),
-            are_apart: still_apart(self.are_apart, self.last_end, range.at_start()),
-            total: added(self.total, range.total_size()),
-        }
-    }
-
-    // Why ranges of which this is known can't be joined.
-    fn refusal(self) -> Option<CoreError>
-        ensures { result ≡ refusal self.are_apart self.total }
-    {
-        if !self.are_apart {
-            Some(CoreError::InvalidArguments)
-        } else if self.total.is_none() {
-            Some(CoreError::SizeOverflow)
-        } else {
-            None
-        }
-    }
-}
-
-// Whether no mark stands between ranges, the last of which has that end mark, if there is one, and one more.
-fn still_apart(are_apart: bool, last_end: Option<bool>, at_start: bool) -> bool
-    ensures { IsTrue result ↔ (IsTrue are_apart × Follows last_end at_start) }
-{
-    match last_end {
-        None => are_apart,
-        Some(last_end) => are_apart && !last_end && !at_start,
-    }
-}
-
-// A sum of sizes, if it is at most `u64::MAX`, with one more.
-fn added(total: Option<u64>, size: u64) -> Option<u64>
-    ensures { (sum : ℕ) → SomeIff total (sum < 2 ^ 64) sum → SomeIff result (sum + size < 2 ^ 64) (sum + size) }
-{
-    total?.checked_add(size)
 }
 
 // The leaves that were taken from a tree, each with the number of joins that begin with it.
@@ -213,7 +151,7 @@ fn take_apart<R: ChunkRange>(alloc: Global, tree: MergeTree<R>) -> (Option<Order
 fn join_entries<R: ChunkRange>(alloc: Global, entries: Vec<(usize, R)>) -> Result<R, CoreError>
     requires begun { AreBegun entries.items 0 }
     requires one { depth entries.items 0 ≡ 1 }
-    requires apart { AreApart R.start R.end (map (λ entry. entry.1) entries.items) }
+    requires marks { NoMarkBetween R.start R.end (map (λ entry. entry.1) entries.items) }
     requires fits { total_of R.total (map (λ entry. entry.1) entries.items) < 2 ^ 64 }
     ensures joined { IfOk result (λ range. JoinsTo R.stands R.start R.end R.total (map (λ entry. entry.1) entries.items) (range ∷ [])) }
     ensures errors { IfErr result (λ e. e ≡ CoreError.OutOfMemory) }
@@ -245,11 +183,7 @@ impl<R: ChunkRange> MergeTree<R> {
         ensures start { IfOk result (λ range. R.start range ≡ R.start (first_leaf self)) }
         ensures end { IfOk result (λ range. R.end range ≡ R.end (last_leaf self)) }
         ensures total { IfOk result (λ range. R.total range ≡ total_of R.total (leaves self)) }
-        ensures arguments { IsErrOf result CoreError.InvalidArguments ↔ ¬ (AreApart R.start R.end (leaves self)) }
-        ensures overflow { IsErrOf result CoreError.SizeOverflow ↔
-            (AreApart R.start R.end (leaves self) × (2 ^ 64 ≤ total_of R.total (leaves self))) }
-        ensures errors { IfErr result (λ e.
-            (e ≡ CoreError.InvalidArguments) ⊎ ((e ≡ CoreError.SizeOverflow) ⊎ (e ≡ CoreError.OutOfMemory))) }
+        ensures refusals { Refusals (NoMarkBetween R.start R.end (leaves self)) (total_of R.total (leaves self)) result }
     {
         match self {
             MergeTree::Leaf(range) => match Passed::new().pass(&range).refusal() {

@@ -13,7 +13,7 @@
 //! A node is a hash and a size. It is a natural cut where word 3 of its hash is a multiple of 4. A group ends at
 //! the first natural cut at its indices 2 to 8, else at its ninth node, else at the list's end. A natural cut at
 //! index 0 or 1 of a group ends nothing. So with other nodes before a range its groups may be others, and with
-//! other nodes behind it its last one.
+//! other nodes after it its last one.
 //!
 //! # Stable points
 //!
@@ -26,22 +26,22 @@
 //!                    ^                   the stable point, b + 1
 //! ```
 //!
-//! A group ends there, whatever nodes stand before the list and behind it. Look at the group that has a, wherever
-//! it begins. If a has index 2 or more in it, the group ends at a, so the next one begins right behind a. In that
+//! A group ends there, whatever nodes stand before the list and after it. Look at the group that has a, wherever
+//! it begins. If a has index 2 or more in it, the group ends at a, so the next one begins right after a. In that
 //! one b has index 2 to 6 and is the first natural cut, so it ends at b. If a has index 0 or 1 in its group, a
 //! ends nothing. Then b has index 3 to 8 in the same group, and no natural cut stands between the two, so the
 //! group ends at b. The nodes before the list decide which of the two it is, and no more; and nothing was said of
-//! the nodes behind b. The same holds of a list that begins right behind a, since b then has index 2 to 6 in its
-//! first group. And by the same argument the group behind b ends at c. The law is
+//! the nodes after b. The same holds of a list that begins right after a, since b then has index 2 to 6 in its
+//! first group. And by the same argument the group after b ends at c. The law is
 //! [`stable_boundaries`](crate::laws::stable_boundaries); `proofs/StablePoints/Boundaries.antt` shows that all
 //! groups of the nodes before such a place are full.
 //!
 //! # What a subtree keeps
 //!
-//! A list is marked at its start where no chunk comes before it, and at its end where none comes behind it. A
+//! A list is marked at its start where no chunk comes before it, and at its end where none comes after it. A
 //! level of at least two nodes is split into left, middle and right. The middle begins at the first stable point,
 //! or at the start where that is marked. It ends at the last stable point of the nodes from its beginning on, or
-//! at the end where that is marked. Whatever nodes may stand before and behind, groups end at these two places, so
+//! at the end where that is marked. Whatever nodes may stand before and after, groups end at these two places, so
 //! the groups of the middle are groups of the whole list. Their parents are the nodes of the next level, and the
 //! middle itself isn't needed again: it is collapsed.
 //!
@@ -68,7 +68,7 @@
 //!     both           self's left         all                                               other's right
 //!     self alone     self's left         those before the last stable point, where         the others
 //!                                        a natural cut is put in front of them
-//!     other alone    the others          those behind the first stable point               other's right
+//!     other alone    the others          those after the first stable point               other's right
 //!     neither        what is kept of this level and those above is the canonical subtree of the nodes in sight
 //! ```
 //!
@@ -80,10 +80,10 @@
 //!
 //! What merely stays isn't touched. Below its top `self` keeps the left nodes of each level where they are. And where
 //! `other` isn't marked at its end and has no level above, and the carry and its nodes bring up no stable point, these
-//! go behind the nodes that `self` has in sight, and nothing is collapsed there or above. The last 14 nodes of `self`
-//! tell it, since the third natural cut of a stable point stands at most 14 nodes behind the first.
-//! `specs/Steps/Joining.antt` says this as a relation. `proofs/Merging/Join.antt` proves that the canonical
-//! subtrees of two lists are joined to that of the joined list.
+//! go after the nodes that `self` has in sight, and nothing is collapsed there or above. The last 14 nodes of `self`
+//! tell it, since the third natural cut of a stable point stands at most 14 nodes after the first.
+//! `specs/Steps/LevelMerging.antt` says this as a relation. `proofs/Merging/LevelMerge.antt` proves that the canonical
+//! subtrees of two lists are merged to that of both lists, one after the other.
 //!
 //! # An example
 //!
@@ -109,7 +109,7 @@
 //!                             3       R
 //! ```
 //!
-//! - b c: at level 0 `self` alone is collapsed. In sight are 20 to 27, behind a natural cut put in front. The last
+//! - b c: at level 0 `self` alone is collapsed. In sight are 20 to 27, after a natural cut put in front. The last
 //!   stable point is after 23, so 20 to 23 become G5, and 24 to 27 stay on the right. At level 1 neither is
 //!   collapsed. G3, G4 and G5 are in sight, without a stable point, and are the top.
 //! - a (b c): at level 0 `other` alone is collapsed, and `self` is marked at its start, so all in sight, 0 to 11,
@@ -129,10 +129,10 @@
 //! is no `debug_chunks`; `at_start`, `at_end`, `total_size` and equality are this port's own.
 
 mod collapse;
-mod join;
 mod json_parts;
 mod level_rules;
 mod levels;
+mod merge_levels;
 mod sides;
 mod split;
 mod stable_points;

@@ -4,7 +4,7 @@ ghost use Rattle.std.specs.Prelude.{◌≡◌, ℕ, ◌+◌, ◌^◌, ◌<◌, �
 ghost use Rattle.xet_merkle.specs.Groups.{Node};
 ghost use Rattle.xet_merkle.specs.Roots.{total_size, parent_hash};
 
-use crate::aggregated_hashes::{Node, parent_hash};
+use crate::groups::{Node, parent_hash};
 use std::marker::Model;
 use xet_hash::data_hash::MerkleHash;
 

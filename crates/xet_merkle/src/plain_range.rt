@@ -4,9 +4,10 @@ ghost use Rattle.std.specs.Prelude.{◌≡◌, ◌^◌, ◌<◌};
 ghost use Rattle.xet_merkle.specs.Roots.{total_size};
 ghost use Rattle.xet_merkle.specs.PlainRange.{Plain, IsSizeOf};
 
-use crate::aggregated_hashes::{Node, total_size, xorb_hash};
+use crate::aggregated_hashes::xorb_hash;
 use crate::chunk_range::ChunkRange;
 use crate::error::CoreError;
+use crate::groups::{Node, total_size};
 use std::alloc::{Allocator, Global};
 use std::marker::Model;
 use xet_hash::data_hash::MerkleHash;
@@ -78,15 +79,15 @@ impl<A: Allocator + Clone> ChunkRange for PlainRange<A> {
         self.total_size
     }
 
-    fn join(&mut self, right: &Self) -> Result<(), CoreError> {
-        if self.at_end || right.at_start {
+    fn join(&mut self, back: &Self) -> Result<(), CoreError> {
+        if self.at_end || back.at_start {
             return Err(CoreError::InvalidArguments);
         }
-        let Some(total_size) = self.total_size.checked_add(right.total_size) else {
+        let Some(total_size) = self.total_size.checked_add(back.total_size) else {
             return Err(CoreError::SizeOverflow);
         };
-        self.chunks.extend_from_slice(&right.chunks)?;
-        self.at_end = right.at_end;
+        self.chunks.extend_from_slice(&back.chunks)?;
+        self.at_end = back.at_end;
         self.total_size = total_size;
         Ok(())
     }

@@ -22,7 +22,8 @@ use Rattle.xetrange_text.specs.declared.fault.RangeFault.TheVariants.{Write}
 use Rattle.xetrange_text.specs.declared.fault.LineFault.{LineFault}
 use Rattle.xetrange_text.specs.declared.fault.LineFault.TheVariants.{Bad, Sizes, NoRange}
 use Rattle.xetrange_text.specs.Status.{make_fault_of, range_fault_of}
-use Rattle.xetrange_text.specs.Answers.{IsLineFault, IsNoRange, IsMakeFaultOf, IsRangeFaultOf}
+use Rattle.xetrange_text.specs.Answers.{IsLineFault, IsMakeFaultOf, IsRangeFaultOf}
+use Rattle.xetrange_text.specs.Steps.MergedLines.{IsNoRange}
 
 -- a line whose pair is refused
 pub IsLineFault-sizes : (before : List (List ℕ)) (pairs : List Node) (line : List ℕ) (node : Node) (refusal : Refusal PairFault)

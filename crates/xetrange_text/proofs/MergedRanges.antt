@@ -1,18 +1,14 @@
 -- What lines of ranges are merged to.
-use Rattle.std.proofs.Common.{◌≡◌, ℕ, ◌+◌, ◌^◌, ◌<◌, ◌≤◌, ◌↔◌, Bool, false, List, [], ◌∷◌, ◌++◌, length, map, flat_map, refl, sym, ap, subst, ◌∙◌, inl, inr, arith, append-nil, append_assoc, length-append}
+use Rattle.std.proofs.Common.{◌≡◌, ℕ, ◌+◌, ◌^◌, ◌<◌, ◌≤◌, Bool, false, List, [], ◌∷◌, ◌++◌, length, flat_map, refl, sym, ap, subst, ◌∙◌, inl, inr, arith, append-nil, append_assoc}
 use Rattle.std.specs.List.{AllZip, concat}
 use Rattle.std.proofs.lemmas.List.Sums.{sum_by-append}
-use Rattle.std.proofs.lemmas.Bool.{false≢true, cases_lt}
-use Rattle.std.specs.Prelude.{Result, Ok, IsErrOf, IsTrue, ◌⊎◌}
+use Rattle.std.proofs.lemmas.Bool.{cases_lt}
+use Rattle.std.specs.Prelude.{Result, Ok}
 use Rattle.xet_merkle.specs.declared.error.CoreError.{CoreError}
-use Rattle.xet_merkle.specs.declared.error.CoreError.TheVariants.{SizeOverflow}
-use Rattle.std.proofs.lemmas.List.{length-map}
-use Rattle.xet_merkle.specs.Groups.{Node, Groups}
-use Rattle.xet_merkle.specs.Levels.{Level, levels_size, node_count}
-use Rattle.xet_merkle.specs.Canonical.{IsCanonicalBy}
-use Rattle.xet_merkle.specs.Canonical.IsCanonicalBy.{whole, collapsed}
+use Rattle.xet_merkle.specs.Groups.{Node}
+use Rattle.xet_merkle.specs.Levels.{levels_size}
 use Rattle.xet_merkle.specs.Subtree.{Subtree, IsCanonical}
-use Rattle.xet_merkle.specs.Merging.{AreCanonical, IsMerged, ranges_size}
+use Rattle.xet_merkle.specs.Merging.{AreCanonical, IsMerged, MergeRefusals, ranges_size}
 use Rattle.line_io.specs.Lines.{byte_limit, content}
 use Rattle.line_io.proofs.Lines.{concat-push}
 use Rattle.xetrange_text.specs.Ranges.{IsOpen, SaysRange, AreRanges, AreMerged}
@@ -66,8 +62,8 @@ module _ (before : List (List ℕ)) (ranges : List Subtree) (joined range more :
 
   pub AreMerged-push : range.at_end ≡ false → AreMerged (ranges ++ range ∷ []) more
   AreMerged-push is_open = record {
-    is_open = (merged.start ∙ are_merged.is_open.0, merged.end ∙ is_open);
-    size = omega (arith, merged.size, are_merged.size, size-push ranges range);
+    is_open = (merged.spans.start ∙ are_merged.is_open.0, merged.spans.end ∙ is_open);
+    size = omega (arith, merged.spans.size, are_merged.size, size-push ranges range);
     canonical = λ all zip.
         let (lists, list, is, front, last) = zip-last IsCanonical ranges range all zip in
         subst (IsCanonical more) (sym (ap (flat_map (λ l. l)) is ∙ flat-push lists list))
@@ -76,34 +72,11 @@ module _ (before : List (List ℕ)) (ranges : List Subtree) (joined range more :
 
 -- a merge that succeeds has sizes that fit
 pub sizes_fit : (ranges : List Subtree) (joined range : Subtree) (r : Result (Unit {0}) CoreError) (more : Subtree) → AreMerged ranges joined
-    → IsMerged joined range more → r ≡ Ok tt
-    → (IsErrOf r SizeOverflow ↔ (¬ (IsTrue joined.at_end ⊎ IsTrue range.at_start) × (2 ^ 64 ≤ levels_size joined.levels + levels_size range.levels)))
-    → ranges_size ranges + levels_size range.levels < 2 ^ 64
-sizes_fit ranges joined range r more are_merged merged ok overflow =
+    → IsMerged joined range more → r ≡ Ok tt → MergeRefusals joined range r → ranges_size ranges + levels_size range.levels < 2 ^ 64
+sizes_fit ranges joined range r more are_merged merged ok refusals =
     elim (cases_lt (ranges_size ranges + levels_size range.levels) (2 ^ 64)) [
       | inl fits ↦ fits
       | inr past ↦
-          let marks : ¬ (IsTrue joined.at_end ⊎ IsTrue range.at_start) = λ marked. elim marked [
-            | inl end ↦ false≢true (sym merged.no_end ∙ end)
-            | inr start ↦ false≢true (sym merged.no_start ∙ start)
-          ] in
-          let refused = overflow.1 (marks, omega (arith, past, are_merged.size)) in
+          let refused = refusals.overflow.1 ((merged.spans.no_end, merged.spans.no_start), omega (arith, past, are_merged.size)) in
           let clash : ⊥ = cc (ok, refused) in absurd clash
     ]
-
--- ---- no chunk
-
-pub no_node : (make : List Node → Node) (at_start at_end : Bool) (nodes : List Node) (levels : List Level) (work : ℕ)
-    → IsCanonicalBy make at_start at_end nodes levels work → (node_count levels ≡ 0) ↔ (length nodes ≡ 0)
-no_node make at_start at_end nodes levels work (whole none) = ((λ h. omega (arith, h)), (λ h. omega (arith, h)))
-no_node make at_start at_end nodes (level ∷ levels) work (collapsed {left = left} {middle = middle} {right = right} {groups = groups} split cut rest) = (
-  (λ h. absurd (
-      let none = (no_node make at_start at_end (map make groups) levels _ rest).0 (omega (arith, h)) in
-      let empty = no_group groups middle cut (omega (arith, none, length-map groups make)) in
-      omega (arith, h, empty, split.several, ap length split.parts, length-append left (middle ++ right), length-append middle right))),
-  (λ h. absurd (omega (arith, h, split.several))),
-)
-  where
-    no_group : (groups : List (List Node)) (middle : List Node) → Groups middle groups → length groups ≡ 0 → length middle ≡ 0
-    no_group [] middle cut none = sym (ap length cut.joined)
-    no_group (group ∷ groups) middle cut none = absurd (omega (arith, none))

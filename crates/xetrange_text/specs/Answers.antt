@@ -65,12 +65,6 @@ IsLineFault before line (NoRange rule) =
 IsLineFault before line passes_sizes =
     (ranges : List Subtree) × AreRanges before ranges × ¬ (IsPast before line) × PassesSizes ranges line
 
--- a line's content is refused for what it says
-abbrev pub IsNoRange : List ℕ → LineFault → Type 0
-IsNoRange text (NoRange rule) = SaysNoRange text rule
-IsNoRange text Bad = ⊥
-IsNoRange text passes_sizes = ⊥
-
 -- the faults of `join` and `root`: the first faulty line decides
 abbrev pub IsRangeFaultOf : List ℕ → RangeFault → Type 0
 IsRangeFaultOf text (BadLine number) = HasFault IsLineFault text number Bad

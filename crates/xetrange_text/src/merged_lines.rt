@@ -1,6 +1,6 @@
 //! Lines of ranges, merged in order.
 
-ghost use Rattle.std.specs.Prelude.{ℕ, List, [], replicate, IfOk};
+ghost use Rattle.std.specs.Prelude.{◌≡◌, ℕ, ◌<◌, List, [], length, replicate, IfOk, IfSome, IfNone};
 ghost use Rattle.xet_merkle.specs.Groups.{Node};
 ghost use Rattle.xet_merkle.specs.Roots.{IsRoot, IsFileHash};
 ghost use Rattle.xet_merkle.specs.Subtree.{IsCanonical};
@@ -13,7 +13,7 @@ use line_io::fault::Refusal;
 use line_io::take_lines::TakeLines;
 use std::alloc::{AllocError, Allocator, Global};
 use xet_hash::data_hash::MerkleHash;
-use xet_merkle::aggregated_hashes::file_hash_of_root;
+use xet_merkle::chunk_range::hashes_of_open;
 use xet_merkle::error::CoreError;
 use xet_merkle::merkle_hash_subtree::MerkleHashSubtree;
 
@@ -81,24 +81,17 @@ pub fn close<A: Allocator + Clone>(
     ensures file { IfOk result (λ hashes. (chunks : List Node) → IsCanonical merged.now chunks →
         IsFileHash chunks (replicate 32 0) hashes.1) }
 {
-    let Ok(root) = closed_root(alloc, merged) else {
+    let Ok(hashes) = hashes_of_open(&alloc, with_chunks(merged)) else {
         return Err(AllocError);
     };
-    Ok((
-        root,
-        file_hash_of_root(root, merged.num_nodes() == 0, &[0; 32]),
-    ))
+    Ok(hashes)
 }
 
-// The root of a range that is open at both ends, once both are marked.
-fn closed_root<A: Allocator + Clone>(
-    alloc: A,
-    merged: &MerkleHashSubtree<A>,
-) -> Result<MerkleHash, CoreError>
-    ensures { IfOk result (λ root. (chunks : List Node) → IsCanonical merged.now chunks → IsRoot chunks root) }
+// A range, where it has a chunk.
+fn with_chunks<A: Allocator + Clone>(range: &MerkleHashSubtree<A>) -> Option<&MerkleHashSubtree<A>>
+    ensures none { IfNone result ((chunks : List Node) → IsCanonical range.now chunks → length chunks ≡ 0) }
+    ensures some { IfSome result (λ same. (same.now ≡ range.now)
+        × ((chunks : List Node) → IsCanonical range.now chunks → 0 < length chunks)) }
 {
-    let mut all = MerkleHashSubtree::from_chunks(alloc.clone()?, true, &[], false)?;
-    all.merge_into(merged)?;
-    all.merge_into(&MerkleHashSubtree::from_chunks(alloc, false, &[], true)?)?;
-    Ok(all.final_hash().unwrap())
+    if range.is_empty() { None } else { Some(range) }
 }

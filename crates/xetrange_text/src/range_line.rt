@@ -2,7 +2,7 @@
 
 ghost use Rattle.std.specs.Prelude.{IfOk, IfErr};
 ghost use Rattle.line_io.specs.Faults.{IfFaulty};
-ghost use Rattle.xetrange_text.specs.Answers.{IsNoRange};
+ghost use Rattle.xetrange_text.specs.Steps.MergedLines.{IsNoRange};
 ghost use Rattle.xetrange_text.specs.Ranges.{IsOpen, IsRangeLine, SaysRange};
 
 use crate::fault::LineFault;

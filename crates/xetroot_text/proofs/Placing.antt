@@ -13,7 +13,7 @@ use Rattle.upload_session.proofs.Placing.{any-placed, place-size}
 use Rattle.upload_session.proofs.Positions.{taken-overlaps}
 use Rattle.upload_session.proofs.Exchanging.{in_parts}
 use Rattle.xet_merkle.specs.declared.chunk_range.ChunkRange as chunk_range
-use Rattle.xetroot_text.specs.Steps.PlacedPairs.{Gathered, StandAmong, StandForPlaced, StandForPairs}
+use Rattle.xetroot_text.specs.Steps.PlacedPairs.{Gathered, no_hashes, StandAmong, StandForPlaced, StandForPairs}
 
 -- adjacent positions don't take one after them
 pub taken-after : (first : ℕ) (chunks : List Node) (position : ℕ) → first + length chunks ≤ position → is_taken (placed_from first chunks) position ≡ false
@@ -60,12 +60,12 @@ more-among before first (p ∷ more) pairs pair (apart, is) free =
       ap (λ l. place l (first + length range) (pair ∷ [])) is ∙ in_parts before first range (pair ∷ []) apart,
     )
 
-module _ {C A : Type 0} (kept : chunk_range.Ghosts C A) where
+module _ {C A : Type 0} (kind : chunk_range.Ghosts C A) where
   abbrev StandIn : Parts C NoHashes → List Node → ℕ → ℕ → ℕ → List Placed → Type 0
-  StandIn = StandForPlaced kept
+  StandIn = StandForPlaced kind
 
   abbrev Stands : Parts C NoHashes → List Placed → Type 0
-  Stands = SessionStands kept.stands kept.start kept.end (λ _ _. Unit {0})
+  Stands = SessionStands kind no_hashes
 
   module _ (session : Parts C NoHashes) (range : List Node) (first next total : ℕ) (pairs : List Placed) (h : StandIn session range first next total pairs) where
     -- only what is ended can have the next position
@@ -162,7 +162,7 @@ module _ {C A : Type 0} (kept : chunk_range.Ghosts C A) where
       ]
 
   -- ranges with a pair more
-  pub StandForPairs-push : (ranges : Gathered C) (pairs : List Placed) (next : ℕ) → StandForPairs kept ranges pairs next → is_taken pairs next ≡ false
+  pub StandForPairs-push : (ranges : Gathered C) (pairs : List Placed) (next : ℕ) → StandForPairs kind ranges pairs next → is_taken pairs next ≡ false
       → (pair : Node) (items : List Node) (after total : ℕ) → items ≡ ranges.range ++ pair ∷ [] → after ≡ ranges.next + 1 → total ≡ ranges.total + pair.1
       → after < 2 ^ 64 → total < 2 ^ 64
       → StandIn ranges.session items ranges.first (next + 1) total (place pairs next (pair ∷ [])) × (after ≡ next + 1)

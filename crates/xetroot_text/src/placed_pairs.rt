@@ -15,7 +15,7 @@ use upload_session::kept_hashes::NoHashes;
 use upload_session::session::SessionOf;
 use upload_session::session_fault::SessionFault;
 use xet_hash::data_hash::MerkleHash;
-use xet_merkle::aggregated_hashes::{Node, file_hash_of_root};
+use xet_merkle::aggregated_hashes::Node;
 use xet_merkle::chunk_range::ChunkRange;
 
 // The most pairs of a range; a longer one is put in several.
@@ -58,7 +58,8 @@ impl<C: ChunkRange> Model for PlacedPairs<C> {
     } };
 
     ghost invariant = { λ stored. (pairs : List Placed)
-        × StandForPlaced C.ChunkRange stored.session stored.range.items stored.first stored.next stored.total pairs };
+        × StandForPlaced C.ChunkRange stored.session stored.range.items stored.first stored.next
+        stored.total pairs };
 }
 
 impl<C: ChunkRange> PlacedPairs<C> {
@@ -85,14 +86,18 @@ impl<C: ChunkRange> PlacedPairs<C> {
     /// it is taken, then with [`LineFault::Sizes`] where all sizes add up to more than `u64::MAX` bytes, and with
     /// [`Refusal::Memory`] where an allocation is refused.
     pub fn push(&mut self, pair: Node) -> Result<(), Refusal<LineFault>>
-        ensures pushed { OnOk result ((pairs : List Placed) (next : ℕ) → StandForPairs C.ChunkRange self.old pairs next →
+        ensures pushed { OnOk result ((pairs : List Placed) (next : ℕ) →
+            StandForPairs C.ChunkRange self.old pairs next →
             StandForPairs C.ChunkRange self.new (place pairs next (pair ∷ [])) (next + 1)) }
-        ensures counted { OnOk result (self.old.count < 2 ^ 64 - 1 → self.new.count ≡ self.old.count + 1) }
-        ensures free { OnOk result ((pairs : List Placed) (next : ℕ) → StandForPairs C.ChunkRange self.old pairs next →
+        ensures counted { OnOk result (self.old.count < 2 ^ 64 - 1 →
+            self.new.count ≡ self.old.count + 1) }
+        ensures free { OnOk result ((pairs : List Placed) (next : ℕ) →
+            StandForPairs C.ChunkRange self.old pairs next →
             (next < 2 ^ 64 - 1) × ¬ (IsTrue (is_taken pairs next))) }
         ensures few { OnOk result (length self.new.range ≤ MAX_RANGE_LEN) }
         ensures fault { IfErr result (λ refusal. (pairs : List Placed) (next : ℕ) →
-            StandForPairs C.ChunkRange self.old pairs next → IfFaulty refusal (IsPairFault pairs next pair)) }
+            StandForPairs C.ChunkRange self.old pairs next →
+            IfFaulty refusal (IsPairFault pairs next pair)) }
     {
         let Some(next) = self.next.checked_add(1) else {
             return Err(Refusal::Faulty(LineFault::Bad));
@@ -113,7 +118,8 @@ impl<C: ChunkRange> PlacedPairs<C> {
 
     /// Names the position of the next pair, which ends the open range where that is another one.
     pub fn go_to(&mut self, position: u64) -> Result<(), AllocError>
-        ensures same { OnOk result ((pairs : List Placed) (next : ℕ) → StandForPairs C.ChunkRange self.old pairs next →
+        ensures same { OnOk result ((pairs : List Placed) (next : ℕ) →
+            StandForPairs C.ChunkRange self.old pairs next →
             StandForPairs C.ChunkRange self.new pairs position) }
         ensures counted { self.new.count ≡ self.old.count }
     {
@@ -128,7 +134,8 @@ impl<C: ChunkRange> PlacedPairs<C> {
 
     // Ends the open range where it is full.
     fn make_room(&mut self) -> Result<(), AllocError>
-        ensures same { OnOk result ((pairs : List Placed) (next : ℕ) → StandForPairs C.ChunkRange self.old pairs next →
+        ensures same { OnOk result ((pairs : List Placed) (next : ℕ) →
+            StandForPairs C.ChunkRange self.old pairs next →
             StandForPairs C.ChunkRange self.new pairs next) }
         ensures kept { (self.new.next ≡ self.old.next) × (self.new.count ≡ self.old.count)
             × (self.new.total ≡ self.old.total) }
@@ -142,7 +149,8 @@ impl<C: ChunkRange> PlacedPairs<C> {
 
     // Ends the open range, so that the next one has no pair yet.
     fn end_range(&mut self) -> Result<(), AllocError>
-        ensures same { OnOk result ((pairs : List Placed) (next : ℕ) → StandForPairs C.ChunkRange self.old pairs next →
+        ensures same { OnOk result ((pairs : List Placed) (next : ℕ) →
+            StandForPairs C.ChunkRange self.old pairs next →
             StandForPairs C.ChunkRange self.new pairs next) }
         ensures kept { (self.new.next ≡ self.old.next) × (self.new.count ≡ self.old.count)
             × (self.new.total ≡ self.old.total) }
@@ -161,22 +169,23 @@ impl<C: ChunkRange> PlacedPairs<C> {
     /// It fails with [`Gap`] where the positions taken aren't those below the number of pairs, and with
     /// [`Refusal::Memory`] where an allocation is refused.
     pub fn hashes(mut self) -> Result<(MerkleHash, MerkleHash), Refusal<Gap>>
-        ensures whole { OnOk result ((pairs : List Placed) (next : ℕ) → StandForPairs C.ChunkRange self pairs next →
-            IsWhole self.count pairs) }
-        ensures root { IfOk result (λ hashes. (pairs : List Placed) (next : ℕ) → StandForPairs C.ChunkRange self pairs next →
-            IsRoot (chunks_of pairs) hashes.0) }
-        ensures file { IfOk result (λ hashes. (pairs : List Placed) (next : ℕ) → StandForPairs C.ChunkRange self pairs next →
+        ensures whole { OnOk result ((pairs : List Placed) (next : ℕ) →
+            StandForPairs C.ChunkRange self pairs next → IsWhole self.count pairs) }
+        ensures root { IfOk result (λ hashes. (pairs : List Placed) (next : ℕ) →
+            StandForPairs C.ChunkRange self pairs next → IsRoot (chunks_of pairs) hashes.0) }
+        ensures file { IfOk result (λ hashes. (pairs : List Placed) (next : ℕ) →
+            StandForPairs C.ChunkRange self pairs next →
             IsFileHash (chunks_of pairs) (replicate 32 0) hashes.1) }
-        ensures gap { IfErr result (λ refusal. (pairs : List Placed) (next : ℕ) → StandForPairs C.ChunkRange self pairs next →
+        ensures gap { IfErr result (λ refusal. (pairs : List Placed) (next : ℕ) →
+            StandForPairs C.ChunkRange self pairs next →
             IfFaulty refusal (λ _. ¬ (IsWhole self.count pairs))) }
     {
         self.end_range()?;
-        let root = match self.session.root(self.count) {
-            Ok(root) => root,
-            Err(SessionFault::Gap) => return Err(Refusal::Faulty(Gap)),
-            Err(_) => return Err(Refusal::Memory),
-        };
-        Ok((root, file_hash_of_root(root, self.count == 0, &[0; 32])))
+        match self.session.hashes(self.count) {
+            Ok(hashes) => Ok(hashes),
+            Err(SessionFault::Gap) => Err(Refusal::Faulty(Gap)),
+            Err(_) => Err(Refusal::Memory),
+        }
     }
 }
 

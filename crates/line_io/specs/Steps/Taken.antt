@@ -1,6 +1,10 @@
 -- Where a reading of an input stands, which private contracts and proofs speak of.
 use Rattle.std.specs.Prelude.{◌≡◌, ◌↔◌, ℕ, ◌+◌, ◌<◌, ◌≤◌, IsTrue, List, ◌++◌, length}
 use Rattle.std.specs.List.{concat}
+use Rattle.line_io.specs.declared.fault.InputFault.{InputFault}
+use Rattle.line_io.specs.declared.fault.InputFault.TheVariants.{Line, Memory}
+use Rattle.line_io.specs.declared.fault.Refusal.{Refusal}
+use Rattle.line_io.specs.declared.fault.Refusal.TheVariants.{Faulty, Memory as out_of_memory}
 use Rattle.line_io.specs.declared.reading.Reading.{Reading}
 use Rattle.line_io.specs.Lines.{NoNewline, lines_of, byte_limit}
 
@@ -21,3 +25,8 @@ pub record IsTaken {L F : Type 0} (has_taken : L → List (List ℕ) → List �
   pub begun : IsTrue reading.begun ↔ (0 < length line)
   pub count_is : reading.count ≡ length text
   pub within : length text ≤ byte_limit
+
+-- the fault where the line of a number is refused
+abbrev pub fault_at : {F : Type 0} → ℕ → Refusal F → InputFault F
+fault_at number (Faulty fault) = Line number fault
+fault_at number out_of_memory = Memory

@@ -182,9 +182,9 @@ fn changed_values_break_the_rules_that_they_should(rt: HostRuntime) -> Result<()
     for (number, rule) in RULES.split_whitespace().enumerate() {
         let (text, printed) = drawn_texts(rt.alloc(), number as u64)?;
         let broken = broken_rule(rt.alloc(), text.as_str(), printed.as_str())?;
-        assert_eq!(rt; broken, Some(rule.parse()?), "{number}");
+        assert!(rt; broken == Some(rule.parse()?), "{number}");
     }
-    assert_eq!(rt; RULES.split_whitespace().count(), 300);
+    assert!(rt; RULES.split_whitespace().count() == 300);
     Ok(())
 }
 

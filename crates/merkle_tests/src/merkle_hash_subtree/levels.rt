@@ -13,9 +13,9 @@ fn levels_are_those_of_whole_lists(rt: HostRuntime) -> Result<(), Fail> {
         let chunks = chunks.as_slice();
         let subtree = MerkleHashSubtree::from_chunks(rt.alloc(), at_start, chunks, at_end)?;
         let summary = summary(rt.alloc(), &subtree)?;
-        assert_eq!(rt; summary.as_str(), expected, "{number}");
+        assert!(rt; summary.as_str() == expected, "{number}");
     }
-    assert_eq!(rt; SUMMARIES.lines().count(), 300);
+    assert!(rt; SUMMARIES.lines().count() == 300);
     Ok(())
 }
 

@@ -39,9 +39,9 @@ fn merged_summary(alloc: Global, number: u64) -> Result<String, Fail> {
 fn merged_levels_are_those_of_whole_lists(rt: HostRuntime) -> Result<(), Fail> {
     for (number, expected) in SUMMARIES.lines().enumerate() {
         let summary = merged_summary(rt.alloc(), number as u64)?;
-        assert_eq!(rt; summary.as_str(), expected, "{number}");
+        assert!(rt; summary.as_str() == expected, "{number}");
     }
-    assert_eq!(rt; SUMMARIES.lines().count(), 300);
+    assert!(rt; SUMMARIES.lines().count() == 300);
     Ok(())
 }
 

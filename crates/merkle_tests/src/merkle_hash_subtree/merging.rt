@@ -29,7 +29,7 @@ fn ranges_are_joined_to_the_root_of_the_whole(rt: HostRuntime) -> Result<(), Fai
     let mut file = MerkleHashSubtree::from_chunks(alloc, true, first, false)?;
     file.merge_into(&MerkleHashSubtree::from_chunks(alloc, false, second, false)?)?;
     file.merge_into(&MerkleHashSubtree::from_chunks(alloc, false, &[], true)?)?;
-    assert_eq!(rt; file.final_hash(), Some(xorb_hash(alloc, &all)?));
+    assert!(rt; file.final_hash() == Some(xorb_hash(alloc, &all)?));
     Ok(())
 }
 
@@ -38,7 +38,7 @@ fn each_bracketing_gives_the_same_subtree(rt: HostRuntime) -> Result<(), Fail> {
     let nodes = with_cuts::<28>(&EACH_FOURTH);
     let whole = MerkleHashSubtree::from_chunks(rt.alloc(), true, &nodes, true)?;
     let root = "b1026a806e25e14a5a9d00c9400b8b5b92e81027e1c574046edb37f500fcdeae";
-    assert_eq!(rt; whole.final_hash(), Some(DataHash::from_hex(root)?));
+    assert!(rt; whole.final_hash() == Some(DataHash::from_hex(root)?));
     // Four ranges a, b, c and d, and the places at which two are merged, one after another.
     for (bracketing, places) in [
         ("((a b) c) d", [1, 1, 1]),
@@ -48,11 +48,11 @@ fn each_bracketing_gives_the_same_subtree(rt: HostRuntime) -> Result<(), Fail> {
         ("a (b (c d))", [3, 2, 1]),
     ] {
         let mut ranges = ranges(rt.alloc(), &nodes, &[4, 20, 4], (true, true))?;
-        assert_eq!(rt; ranges.len(), 4);
+        assert!(rt; ranges.len() == 4);
         for place in places {
             merge_into_previous(&mut ranges, place)?;
         }
-        assert_eq!(rt; ranges.len(), 1, "{bracketing}");
+        assert!(rt; ranges.len() == 1, "{bracketing}");
         assert!(rt; ranges.first() == Some(&whole), "{bracketing}");
     }
     Ok(())
@@ -63,7 +63,7 @@ fn no_ranges_are_the_closed_empty_list(rt: HostRuntime) -> Result<(), Fail> {
     let merged = MerkleHashSubtree::merge(rt.alloc(), &[])?;
     assert!(rt; has_counts(&merged, &[(0, 0)]));
     assert!(rt; merged == MerkleHashSubtree::from_chunks(rt.alloc(), true, &[], true)?);
-    assert_eq!(rt; merged.final_hash(), Some(MerkleHash::default()));
+    assert!(rt; merged.final_hash() == Some(MerkleHash::default()));
     Ok(())
 }
 
@@ -76,7 +76,7 @@ fn one_range_is_copied_whatever_its_marks(rt: HostRuntime) -> Result<(), Fail> {
         let ranges = [range];
         let merged = MerkleHashSubtree::merge(rt.alloc(), &ranges)?;
         assert!(rt; merged == ranges[0], "{at_start}, {at_end}");
-        assert_eq!(rt; merged.final_hash(), is_closed.then_some(hash));
+        assert!(rt; merged.final_hash() == is_closed.then_some(hash));
     }
     Ok(())
 }
@@ -163,9 +163,8 @@ fn all_marks_are_looked_at_before_all_sizes(rt: HostRuntime) -> Result<(), Fail>
             largest(rt.alloc(), third_marks, third_empty)?,
         ];
         let answer = MerkleHashSubtree::merge(rt.alloc(), &ranges);
-        assert_eq!(rt;
-            answer.err(),
-            Some(expected),
+        assert!(rt;
+            answer.err() == Some(expected),
             "{third_marks:?}, {third_empty}"
         );
     }
@@ -201,7 +200,7 @@ fn joint_sizes_stay_below_two_to_the_64(rt: HostRuntime) -> Result<(), Fail> {
             Some(CoreError::SizeOverflow)
         };
         let refusal = joint_refusal(rt.alloc(), size, next)?;
-        assert_eq!(rt; refusal, expected, "{size} and {next}");
+        assert!(rt; refusal == expected, "{size} and {next}");
     }
     Ok(())
 }
@@ -286,7 +285,7 @@ fn reference_lists_merge_to_their_root_at_each_split(rt: HostRuntime) -> Result<
         for first in 0..=nodes.len() {
             let ranges = ranges(rt.alloc(), nodes.as_slice(), &[first], (true, true))?;
             let merged = MerkleHashSubtree::merge(rt.alloc(), ranges.as_slice())?;
-            assert_eq!(rt; merged.final_hash(), root, "{numbers}, {first}");
+            assert!(rt; merged.final_hash() == root, "{numbers}, {first}");
         }
     }
     Ok(())

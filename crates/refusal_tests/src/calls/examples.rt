@@ -34,7 +34,7 @@ pub fn attempt(
         Call::BracketingsOfSubtrees => bracketings::<MerkleHashSubtree<&Refusing>>(alloc, memory),
         _ => bracketings::<PlainRange<&Refusing>>(alloc, memory),
     };
-    Ok(outcome_of(answer, values == strangers(memory)?))
+    Ok(outcome_of(alloc, answer, values == strangers(memory)?))
 }
 
 const ROOT: &str = "71ec1275fca074724e2dd666921b3277c7cee603e4d025bcab2d4050015be2bc";

@@ -34,7 +34,7 @@ pub fn attempt(call: Call, alloc: &Refusing, granted: u32) -> Result<Outcome, Fa
     let hash = DataHash::from_slice(&BYTES)?;
     alloc.grant(granted);
     let answer = has_form(call, alloc, &hash);
-    Ok(outcome_of(answer, hash.as_bytes() == BYTES))
+    Ok(outcome_of(alloc, answer, hash.as_bytes() == BYTES))
 }
 
 const SALT: [u8; 32] = [7; 32];
@@ -57,5 +57,5 @@ pub fn of_chunks(
     let expected = hash(call, alloc, chunks.nodes)?;
     alloc.grant(granted);
     let answer = hash(call, alloc, chunks.nodes);
-    Ok(outcome_of(answer.map(|hash| hash == expected), true))
+    Ok(outcome_of(alloc, answer.map(|hash| hash == expected), true))
 }

@@ -46,13 +46,13 @@ pub fn make(call: Call, alloc: &Refusing, granted: u32) -> Result<Outcome, Fail>
     let eight = PassThroughHashMap::from_array(alloc, EIGHT)?;
     alloc.grant(granted);
     let answer = is_made(call, alloc, &eight);
-    Ok(outcome_of(answer, has_numbers(&eight, 8)))
+    Ok(outcome_of(alloc, answer, has_numbers(&eight, 8)))
 }
 
 // Puts a number that isn't there into a map, at its vacant place, and answers the value there.
 fn put_at_vacant(call: Call, map: &mut Numbers<'_>, number: u64) -> Result<u64, AllocError> {
     match map.entry(number) {
-        Entry::Vacant(place) if call == Call::VacantInsert => Ok(*place.insert(number)?),
+        Entry::Vacant(place) if matches!(call, Call::VacantInsert) => Ok(*place.insert(number)?),
         Entry::Vacant(place) => Ok(*place.insert_entry(number)?.get()),
         Entry::Occupied(_) => Ok(u64::MAX),
     }
@@ -89,9 +89,13 @@ pub fn fill(call: Call, alloc: &Refusing, granted: u32) -> Outcome {
             Ok(value) if value == number => {}
             Ok(_) => return Outcome::Wrong,
             Err(AllocError) => {
-                return outcome_of(Err(CoreError::OutOfMemory), has_numbers(&map, number));
+                return outcome_of(
+                    alloc,
+                    Err(CoreError::OutOfMemory),
+                    has_numbers(&map, number),
+                );
             }
         }
     }
-    outcome_of(Ok(has_numbers(&map, 100)), true)
+    outcome_of(alloc, Ok(has_numbers(&map, 100)), true)
 }

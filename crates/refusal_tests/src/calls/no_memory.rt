@@ -5,7 +5,9 @@ use super::maps::{EIGHT, Numbers, has_numbers};
 use super::{Refusing, refusing};
 use std::collections::HashMap;
 use std::test::Fail;
-use test_support::{EACH_FOURTH, has_counts, with_cuts};
+use test_support::{EACH_FOURTH, has_counts, reference_chunk, with_cuts};
+use upload_session::session::SessionOf;
+use upload_session::session_fault::SessionFault;
 use xet_hash::data_hash::{DataHash, MerkleHash};
 use xet_hash::passthrough_hashmap::{Entry, PassThroughHashMap};
 use xet_merkle::CoreError;
@@ -31,8 +33,8 @@ fn hashes_of_at_most_one_pair_take_no_memory(rt: HostRuntime) -> Result<(), Fail
     let file = DataHash::from_hex(file)?;
     let alloc = refusing(rt.alloc());
     alloc.grant(0);
-    assert_eq!(rt; hashes(&alloc, &[]), Ok([DataHash::default(); 3]));
-    assert_eq!(rt; hashes(&alloc, &[(root, u64::MAX)]), Ok([root, file, file]));
+    assert!(rt; hashes(&alloc, &[]) == Ok([DataHash::default(); 3]));
+    assert!(rt; hashes(&alloc, &[(root, u64::MAX)]) == Ok([root, file, file]));
     assert!(rt; !alloc.has_refused());
     Ok(())
 }
@@ -67,10 +69,10 @@ fn looking_at_ranges_takes_no_memory(rt: HostRuntime) -> Result<(), Fail> {
     let plain = PlainRange::from_chunks(&alloc, true, &nodes, false)?;
     alloc.grant(0);
     assert!(rt; show_what_they_are(&open, &closed, root));
-    assert_eq!(rt; plain.root(), Ok(None));
+    assert!(rt; plain.root() == Ok(None));
     assert!(rt; plain.at_start() && !plain.at_end() && plain.chunks() == nodes.as_slice());
-    assert_eq!(rt; find_stable_start(open.left(0)), None);
-    assert_eq!(rt; find_stable_end(&nodes), Some(24));
+    assert!(rt; find_stable_start(open.left(0)).is_none());
+    assert!(rt; find_stable_end(&nodes) == Some(24));
     assert!(rt; !alloc.has_refused());
     Ok(())
 }
@@ -123,12 +125,41 @@ fn maps_are_read_and_emptied_without_memory(rt: HostRuntime) -> Result<(), Fail>
     assert!(rt; is_read(&map));
     assert!(rt; is_changed(&mut map));
     let inner: HashMap<u64, u64, _, &Refusing> = map.into();
-    assert_eq!(rt; inner.len(), 4);
+    assert!(rt; inner.len() == 4);
     let mut map: Numbers<'_> = PassThroughHashMap::from(inner);
-    assert_eq!(rt; map.get(&1), Some(&1));
+    assert!(rt; map.get(&1) == Some(&1));
     map.clear();
     assert!(rt; map.is_empty());
-    assert_eq!(rt; map.into_iter().count(), 0);
+    assert!(rt; map.into_iter().count() == 0);
     assert!(rt; !alloc.has_refused());
+    Ok(())
+}
+
+// Whether a session answers the calls that take no memory while each request is refused, without a chunk and with one.
+fn answers_without_memory<'a, R: ChunkRange<Alloc = &'a Refusing>>(
+    alloc: &'a Refusing,
+) -> Result<bool, Fail> {
+    let chunk = [reference_chunk("1")?];
+    alloc.grant(0);
+    let mut session: SessionOf<R> = SessionOf::new_in(alloc)?;
+    let is_empty = session.put(2, &[]) == Ok(0) && session.range(0).is_none() && !session.taken(2);
+    let has_asked = alloc.has_refused();
+    alloc.grant(u32::MAX);
+    let is_put = session.put(2, &chunk) == Ok(1);
+    alloc.grant(0);
+    let has_chunk = session.put(2, &[]) == Ok(0) && session.taken(2) && !session.taken(3);
+    let has_range = matches!(session.range(0), Some((2, _))) && session.range(1).is_none();
+    let is_refused = session.put(2, &chunk) == Err(SessionFault::Overlap)
+        && session.root(1) == Err(SessionFault::Gap)
+        && session.finish(1) == Err(SessionFault::Gap);
+    let is_right = is_empty && is_put && has_chunk && has_range && is_refused;
+    Ok(is_right && !has_asked && !alloc.has_refused())
+}
+
+#[test]
+fn sessions_answer_what_takes_no_memory_without_it(rt: HostRuntime) -> Result<(), Fail> {
+    let alloc = refusing(rt.alloc());
+    assert!(rt; answers_without_memory::<MerkleHashSubtree<&Refusing>>(&alloc)?);
+    assert!(rt; answers_without_memory::<PlainRange<&Refusing>>(&alloc)?);
     Ok(())
 }

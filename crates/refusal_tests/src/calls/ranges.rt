@@ -20,13 +20,14 @@ fn subtree<'a>(
 
 // What a call comes to that should answer a subtree: whether it does, or all that was lent to it is the same.
 fn subtree_outcome<'a>(
+    alloc: &Refusing,
     answer: Result<MerkleHashSubtree<&'a Refusing>, CoreError>,
     expected: &MerkleHashSubtree<&'a Refusing>,
     is_same: bool,
 ) -> Outcome {
     match answer {
-        Ok(subtree) => outcome_of(Ok(subtree == *expected), is_same),
-        Err(error) => outcome_of(Err(error), is_same),
+        Ok(subtree) => outcome_of(alloc, Ok(subtree == *expected), is_same),
+        Err(error) => outcome_of(alloc, Err(error), is_same),
     }
 }
 
@@ -35,7 +36,7 @@ pub fn from_chunks(alloc: &Refusing, granted: u32, chunks: &Chunks<'_>) -> Resul
     let expected = subtree(alloc, chunks)?;
     alloc.grant(granted);
     let answer = subtree(alloc, chunks);
-    Ok(subtree_outcome(answer, &expected, true))
+    Ok(subtree_outcome(alloc, answer, &expected, true))
 }
 
 /// Tries to copy the subtree of some chunks.
@@ -44,7 +45,7 @@ pub fn try_clone(alloc: &Refusing, granted: u32, chunks: &Chunks<'_>) -> Result<
     let before = subtree.try_clone()?;
     alloc.grant(granted);
     let answer = subtree.try_clone();
-    Ok(subtree_outcome(answer, &before, subtree == before))
+    Ok(subtree_outcome(alloc, answer, &before, subtree == before))
 }
 
 // Whether a call merges a range into the one before it and tells the count of parents, where it tells one.
@@ -80,7 +81,7 @@ pub fn merge_into(
     let answer = merges(call, &mut left, &right, count);
     let is_merged = left == merged;
     let is_same = left == left_before && right == right_before;
-    Ok(outcome_of(answer.map(|is_right| is_right && is_merged), is_same))
+    Ok(outcome_of(alloc, answer.map(|is_right| is_right && is_merged), is_same))
 }
 
 /// Tries to merge the subtrees of three parts of some chunks.
@@ -100,7 +101,7 @@ pub fn merge(alloc: &Refusing, granted: u32, chunks: &Chunks<'_>) -> Result<Outc
     ];
     alloc.grant(granted);
     let answer = MerkleHashSubtree::merge(alloc, &ranges);
-    Ok(subtree_outcome(answer, &expected, ranges == before))
+    Ok(subtree_outcome(alloc, answer, &expected, ranges == before))
 }
 
 /// A kind of range of which two can be compared.
@@ -146,8 +147,8 @@ pub fn join<'a, R: Kind<Alloc = &'a Refusing>>(
     let answer = left.join(&right);
     let is_same = left.equals(&left_before) && right.equals(&right_before);
     match answer {
-        Ok(()) => Ok(outcome_of(Ok(left.equals(&expected)), is_same)),
-        Err(error) => Ok(outcome_of(Err(error), is_same)),
+        Ok(()) => Ok(outcome_of(alloc, Ok(left.equals(&expected)), is_same)),
+        Err(error) => Ok(outcome_of(alloc, Err(error), is_same)),
     }
 }
 
@@ -163,8 +164,8 @@ pub fn root<'a, R: Kind<Alloc = &'a Refusing>>(
     let answer = range.root();
     let is_same = range.equals(&before);
     match answer {
-        Ok(root) => Ok(outcome_of(Ok(root == Some(expected)), is_same)),
-        Err(error) => Ok(outcome_of(Err(error), is_same)),
+        Ok(root) => Ok(outcome_of(alloc, Ok(root == Some(expected)), is_same)),
+        Err(error) => Ok(outcome_of(alloc, Err(error), is_same)),
     }
 }
 
@@ -189,8 +190,8 @@ pub fn run<'a, R: Kind<Alloc = &'a Refusing>>(
     let expected: R = range(alloc, chunks)?;
     alloc.grant(granted);
     match tree.run() {
-        Ok(joined) => Ok(outcome_of(Ok(joined.equals(&expected)), true)),
-        Err(error) => Ok(outcome_of(Err(error), true)),
+        Ok(joined) => Ok(outcome_of(alloc, Ok(joined.equals(&expected)), true)),
+        Err(error) => Ok(outcome_of(alloc, Err(error), true)),
     }
 }
 
@@ -201,5 +202,5 @@ pub fn from_json(alloc: &Refusing, granted: u32, chunks: &Chunks<'_>) -> Result<
     let before = expected.to_json(chunks.alloc)?;
     alloc.grant(granted);
     let answer = MerkleHashSubtree::from_json(alloc, &value);
-    Ok(subtree_outcome(answer, &expected, value == before))
+    Ok(subtree_outcome(alloc, answer, &expected, value == before))
 }

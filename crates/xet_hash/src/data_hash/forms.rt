@@ -60,7 +60,22 @@ impl DataHash {
         ensures refused { IfErr result (λ e. e ≢ HashTextError.OutOfMemory
             → (words : List ℕ) → IsHash words → base64_text words ≢ text.now) }
     {
-        match URL_SAFE_NO_PAD.decode(alloc, text.as_bytes()) {
+        DataHash::from_base64_characters(alloc, text.as_bytes())
+    }
+
+    /// [`DataHash::from_base64`] for bytes that may not be UTF-8.
+    ///
+    /// This call is this port's own.
+    pub fn from_base64_characters<A: Allocator>(
+        alloc: A,
+        text: &[u8],
+    ) -> Result<DataHash, HashTextError>
+        ensures is_hash { IfOk result IsHash }
+        ensures value { IfOk result (λ hash. base64_text hash ≡ text.now) }
+        ensures refused { IfErr result (λ e. e ≢ HashTextError.OutOfMemory
+            → (words : List ℕ) → IsHash words → base64_text words ≢ text.now) }
+    {
+        match URL_SAFE_NO_PAD.decode(alloc, text) {
             Ok(bytes) => Ok(DataHash::from_slice(&bytes)?),
             Err(DecodeAllocError::OutOfMemory) => Err(HashTextError::OutOfMemory),
             Err(DecodeAllocError::DecodeError(_)) => {

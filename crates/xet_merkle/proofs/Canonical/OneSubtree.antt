@@ -9,7 +9,7 @@ use Rattle.xet_merkle.specs.Roots.IsRootBy.{no_node, one_node, of_parents}
 use Rattle.xet_merkle.specs.Levels.{Level, top_nodes, hash_of_first, top_hash}
 use Rattle.xet_merkle.specs.Canonical.{IsSplit, IsCanonicalBy}
 use Rattle.xet_merkle.specs.Canonical.IsCanonicalBy.{whole, collapsed}
-use Rattle.xet_merkle.proofs.Groups.OneCutting.{Groups-unique, Groups-exist}
+use Rattle.xet_merkle.proofs.Grouping.OneCutting.{Groups-unique, Groups-exist}
 use Rattle.xet_merkle.proofs.Roots.OneRoot.{Groups-few}
 use Rattle.xet_merkle.proofs.Canonical.Splits.{split_or_none, same_split, middle_within, closed_split}
 

@@ -74,14 +74,14 @@ IsFlat-from_sum [] (node ∷ nodes) sum = absurd (omega arith)
 IsFlat-from_sum (count ∷ counts) nodes sum =
     let all = sum_by-cons (λ (c : ℕ × ℕ). c.0 + c.1) count counts in
     let n = length nodes - count.1 - count.0 in
-    let behind = drop count.0 nodes in
-    let inner = take n behind in
-    let len_behind = length-drop count.0 nodes in
-    let len_inner = length-take n behind in
+    let after = drop count.0 nodes in
+    let inner = take n after in
+    let len_after = length-drop count.0 nodes in
+    let len_inner = length-take n after in
     let len_right = length-drop (length nodes - count.1) nodes in
     let len_left = length-take count.0 nodes in
     let rest = IsFlat-from_sum counts inner (omega arith) in
-    let right : drop n behind ≡ drop (length nodes - count.1) nodes =
+    let right : drop n after ≡ drop (length nodes - count.1) nodes =
     drop_twice count.0 n nodes ∙ ap (λ (k : ℕ). drop k nodes) (let same : count.0 + n ≡ length nodes - count.1 = omega arith in same) in
     let count_is : count ≡ count_of (record { left = take count.0 nodes; right = drop (length nodes - count.1) nodes }) =
     λ i. ((let left_len : count.0 ≡ length (take count.0 nodes) = omega arith in left_len) i, (let right_len : count.1 ≡ length (drop (length nodes - count.1) nodes) = omega arith in right_len) i) in
@@ -89,7 +89,7 @@ IsFlat-from_sum (count ∷ counts) nodes sum =
       counts_are = ap (λ (c : ℕ × ℕ). c ∷ counts) count_is ∙ ap (λ (l : List (ℕ × ℕ)). count_of (record { left = take count.0 nodes; right = drop (length nodes - count.1) nodes }) ∷ l) rest.counts_are;
       nodes_are =
           sym (take-append-drop count.0 nodes)
-          ∙ ap (λ (l : List Node). take count.0 nodes ++ l) (sym (take-append-drop n behind) ∙ ap (λ (l : List Node). l ++ drop n behind) rest.nodes_are
+          ∙ ap (λ (l : List Node). take count.0 nodes ++ l) (sym (take-append-drop n after) ∙ ap (λ (l : List Node). l ++ drop n after) rest.nodes_are
           ∙ ap (λ (l : List Node). flat_nodes (levels_of counts inner) ++ l) right)
           ∙ sym (flat-more (record { left = take count.0 nodes; right = drop (length nodes - count.1) nodes }) (levels_of counts inner));
     }

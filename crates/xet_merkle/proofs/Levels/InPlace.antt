@@ -2,7 +2,7 @@
 use Rattle.std.proofs.Common.{◌≡◌, Bool, ℕ, zero, suc, ◌+◌, ◌<◌, ◌≤◌, List, [], ◌∷◌, ◌++◌, length, set, get_or, take, drop, refl, ap, arith}
 use Rattle.xet_merkle.specs.Groups.{Node}
 use Rattle.xet_merkle.specs.Levels.{Level, left_at}
-use Rattle.xet_merkle.specs.Steps.Joining.{HaveSides, lowest_with, with_inner}
+use Rattle.xet_merkle.specs.Steps.LevelMerging.{HaveSides, lowest_with, with_inner}
 
 -- levels of which the lowest have other right nodes
 abbrev pub put : List (List Node) → List Level → List Level
@@ -31,7 +31,7 @@ lowest_with-more [] right (level ∷ levels) within = refl
 lowest_with-more (first ∷ rights) right (level ∷ levels) within =
     ap (λ (l : List Level). record { left = level.left; right = first } ∷ l) (lowest_with-more rights right levels (omega arith))
 
--- ---- nodes put behind those towards the right operand
+-- ---- nodes put after those towards the back operand
 
 pub with_inner-top : (levels : List Level) (at : ℕ) (more : List Node) (d : Level) → at + 1 ≡ length levels →
     set levels at (record { left = (get_or levels at d).left ++ more; right = (get_or levels at d).right }) ≡ take at levels ++ with_inner (drop at levels) more

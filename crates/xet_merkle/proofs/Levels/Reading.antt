@@ -3,7 +3,7 @@ use Rattle.std.proofs.Common.{◌≡◌, ℕ, zero, suc, ◌+◌, ◌<◌, ◌�
 use Rattle.std.proofs.lemmas.List.{take_more}
 use Rattle.xet_merkle.specs.Groups.{Node}
 use Rattle.xet_merkle.specs.Levels.{Level, no_level, left_at, right_at, top_of, below_top, top_nodes, node_count}
-use Rattle.xet_merkle.specs.Steps.Joining.{operand, above}
+use Rattle.xet_merkle.specs.Steps.LevelMerging.{operand, above}
 
 pub left_at-some : (levels : List Level) (i : ℕ) (d : Level) → i < length levels → (get_or levels i d).left ≡ left_at levels i
 left_at-some [] i d within = absurd (omega arith)

@@ -3,7 +3,7 @@ use Rattle.std.proofs.Common.{◌≡◌, ◌<◌, Bool, true, false, List, [], �
 use Rattle.std.specs.List.{AllByRecursion as Each}
 use Rattle.xet_merkle.specs.Levels.{Level, below_top, top_of}
 use Rattle.xet_merkle.specs.WellFormed.{Rule8, Rule9, Rule10, Rule11, Rule12, Rule13, IsWellFormed}
-use Rattle.xet_merkle.specs.Steps.Joining.{IsLeftUnder, IsRightUnder, HaveSides}
+use Rattle.xet_merkle.specs.Steps.LevelMerging.{IsLeftUnder, IsRightUnder, HaveSides}
 
 -- ---- from rules to sides
 

@@ -37,7 +37,7 @@ pub record LastPlace {A : Type 0} (P : List A → List A → Type 0) (nodes : Li
   pub here : P left right
   pub last : (l r : List A) → nodes ≡ l ++ r → P l r → length l ≤ length left
 
--- what holds of the places of a list behind its first node
+-- what holds of the places of a list after its first node
 at_rest : {A : Type 0} (P : AtPlaces A) (x : A) (xs : List A) → (P [] (x ∷ xs) → ⊥) → NoPlace (λ l r. P (x ∷ l) r) xs → NoPlace P (x ∷ xs)
 at_rest P x xs not_here none [] r e h = not_here (subst (P []) (sym e) h)
 at_rest P x xs not_here none (y ∷ l) r e h =

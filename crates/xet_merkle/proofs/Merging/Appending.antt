@@ -1,4 +1,4 @@
--- A left operand whose levels stay: nodes that bring up no stable point go behind what it has of its first level, and
+-- A front operand whose levels stay: nodes that bring up no stable point go after what it has of its first level, and
 -- above it nothing is collapsed.
 use Rattle.std.proofs.Common.{◌≡◌, ◌≤◌, Bool, true, false, List, [], ◌∷◌, ◌++◌, length, refl, sym, ap, subst, ◌∙◌, inl, inr, arith, append_assoc, append-nil, length-append}
 use Rattle.xet_merkle.specs.Groups.{Node, Groups}
@@ -6,14 +6,14 @@ use Rattle.xet_merkle.specs.StablePoints.{EndsStable}
 use Rattle.xet_merkle.specs.Levels.{Level, no_level, left_at}
 use Rattle.xet_merkle.specs.Canonical.{IsLow}
 use Rattle.xet_merkle.specs.Steps.StableScan.{AddsNoStable}
-use Rattle.xet_merkle.specs.Steps.Joining.{HaveSides, operand, inner_nodes, with_inner, NoSplit, IsJoin}
-use Rattle.xet_merkle.specs.Steps.Joining.IsJoinSplit.{left_alone}
-use Rattle.xet_merkle.specs.Steps.Joining.IsJoin.{appended, step}
+use Rattle.xet_merkle.specs.Steps.LevelMerging.{HaveSides, operand, inner_nodes, with_inner, NoSplit, IsLevelMerge}
+use Rattle.xet_merkle.specs.Steps.LevelMerging.IsMergeSplit.{left_alone}
+use Rattle.xet_merkle.specs.Steps.LevelMerging.IsLevelMerge.{appended, step}
 use Rattle.xet_merkle.proofs.Levels.Reading.{operand-one}
 use Rattle.xet_merkle.proofs.StablePoints.CutPlaces.{EndsStable-append}
 use Rattle.xet_merkle.proofs.StablePoints.Scan.{stable_ends, begins_in_front, BeginsStable-append}
 use Rattle.xet_merkle.proofs.StablePoints.Search.{last_stable}
-use Rattle.xet_merkle.proofs.StablePoints.Appending.{none_behind_cut}
+use Rattle.xet_merkle.proofs.StablePoints.Appending.{none_after_cut}
 
 -- ---- no split comes up
 
@@ -57,35 +57,35 @@ module _ (make : List Node → Node) (at_start : Bool) where
   whole_top : (top : Level) (nodes : List Node) → top.right ≡ [] → top.left ≡ nodes → record { left = nodes; right = [] } ∷ [] ≡ top ∷ []
   whole_top top nodes none all = λ i. record { left = sym all i; right = sym none i } ∷ []
 
-  -- all levels, where nothing is put behind
-  kept : (xs : List Level) → HaveSides at_start false xs → IsJoin make at_start false xs [] (no_level ∷ []) xs 0
+  -- all levels, where nothing is put after
+  kept : (xs : List Level) → HaveSides at_start false xs → IsLevelMerge make at_start false xs [] (no_level ∷ []) xs 0
   kept [] sides = absurd sides
   kept (top ∷ []) sides =
       let same = append-nil top.left in
-      subst (λ (l : List Level). IsJoin make at_start false (top ∷ []) [] (no_level ∷ []) l 0) (whole_top top (top.left ++ []) sides (sym same))
+      subst (λ (l : List Level). IsLevelMerge make at_start false (top ∷ []) [] (no_level ∷ []) l 0) (whole_top top (top.left ++ []) sides (sym same))
       (appended refl (subst (NoSplit at_start false) (sym same)))
   kept (x ∷ next ∷ xs) sides =
       step {left = x.left} {middle = []} {right = x.right} {groups = []} (left_alone refl (append-nil x.right) (inr (refl, sides.1.1))) no_groups (kept (next ∷ xs) sides.2)
 
   -- and where nodes are
   appended_levels : (xs : List Level) (carry : List Node) (y : Level) → HaveSides at_start false xs → AddsNoStable (inner_nodes xs) (carry ++ y.left) →
-      IsJoin make at_start false xs carry (y ∷ []) (with_inner xs (carry ++ y.left)) 0
+      IsLevelMerge make at_start false xs carry (y ∷ []) (with_inner xs (carry ++ y.left)) 0
   appended_levels [] carry y sides adds = absurd sides
   appended_levels (top ∷ []) carry y sides adds =
       let more = carry ++ y.left in
-      subst (λ (l : List Level). IsJoin make at_start false (top ∷ []) carry (y ∷ []) l 0) (λ i. record { left = top.left ++ more; right = sym sides i } ∷ [])
+      subst (λ (l : List Level). IsLevelMerge make at_start false (top ∷ []) carry (y ∷ []) l 0) (λ i. record { left = top.left ++ more; right = sym sides i } ∷ [])
       (appended refl (no_split_appended at_start top.left more adds))
   appended_levels (x ∷ next ∷ xs) carry y sides adds =
       step {left = x.left} {middle = []} {right = x.right ++ (carry ++ y.left)} {groups = []}
-      (left_alone refl refl (inr (refl, none_behind_cut x.right (carry ++ y.left) adds sides.1.1))) no_groups (kept (next ∷ xs) sides.2)
+      (left_alone refl refl (inr (refl, none_after_cut x.right (carry ++ y.left) adds sides.1.1))) no_groups (kept (next ∷ xs) sides.2)
 
-pub joined_behind : (make : List Node → Node) (at_start at_end : Bool) (xs : List Level) (carry : List Node) (ys : List Level) → HaveSides at_start false xs →
-    at_end ≡ false → length ys ≤ 1 → AddsNoStable (inner_nodes xs) (carry ++ left_at ys 0) → IsJoin make at_start at_end xs carry (operand ys) (with_inner xs (carry ++ left_at ys 0)) 0
-joined_behind make at_start at_end xs carry ys sides unmarked few adds =
+pub level_merge_after : (make : List Node → Node) (at_start at_end : Bool) (xs : List Level) (carry : List Node) (ys : List Level) → HaveSides at_start false xs →
+    at_end ≡ false → length ys ≤ 1 → AddsNoStable (inner_nodes xs) (carry ++ left_at ys 0) → IsLevelMerge make at_start at_end xs carry (operand ys) (with_inner xs (carry ++ left_at ys 0)) 0
+level_merge_after make at_start at_end xs carry ys sides unmarked few adds =
     let one = operand-one ys few in
     let y = one.0 in
-    let here : IsJoin make at_start false xs carry (y ∷ []) (with_inner xs (carry ++ y.left)) 0 =
+    let here : IsLevelMerge make at_start false xs carry (y ∷ []) (with_inner xs (carry ++ y.left)) 0 =
     appended_levels make at_start xs carry y sides (subst (λ (l : List Node). AddsNoStable (inner_nodes xs) (carry ++ l)) (sym one.2) adds) in
-    subst (λ (e : Bool). IsJoin make at_start e xs carry (operand ys) (with_inner xs (carry ++ left_at ys 0)) 0) (sym unmarked)
-    (subst (λ (l : List Node). IsJoin make at_start false xs carry (operand ys) (with_inner xs (carry ++ l)) 0) one.2
-    (subst (λ (l : List Level). IsJoin make at_start false xs carry l (with_inner xs (carry ++ y.left)) 0) (sym one.1) here))
+    subst (λ (e : Bool). IsLevelMerge make at_start e xs carry (operand ys) (with_inner xs (carry ++ left_at ys 0)) 0) (sym unmarked)
+    (subst (λ (l : List Node). IsLevelMerge make at_start false xs carry (operand ys) (with_inner xs (carry ++ l)) 0) one.2
+    (subst (λ (l : List Level). IsLevelMerge make at_start false xs carry l (with_inner xs (carry ++ y.left)) 0) (sym one.1) here))

@@ -1,13 +1,13 @@
--- How many parents are made where two subtrees are joined, and how many levels they have.
+-- How many parents are made where two subtrees are merged, and how many levels they have.
 use Rattle.std.proofs.Common.{ℕ, ◌+◌, ◌*◌, ◌≤◌, Bool, List, [], ◌∷◌, ◌++◌, length, ap, arith, length-append}
 use Rattle.std.proofs.lemmas.List.{length-map}
 use Rattle.xet_merkle.specs.Groups.{Node}
 use Rattle.xet_merkle.specs.Levels.{Level, node_count}
 use Rattle.xet_merkle.specs.Canonical.{IsCanonicalBy}
 use Rattle.xet_merkle.specs.Canonical.IsCanonicalBy.{whole, collapsed}
-use Rattle.xet_merkle.specs.Steps.Joining.{above, between, IsJoinSplit, IsJoin}
-use Rattle.xet_merkle.specs.Steps.Joining.IsJoinSplit.{both, left_alone, right_alone}
-use Rattle.xet_merkle.specs.Steps.Joining.IsJoin.{all_in_sight, appended, step}
+use Rattle.xet_merkle.specs.Steps.LevelMerging.{above, between, IsMergeSplit, IsLevelMerge}
+use Rattle.xet_merkle.specs.Steps.LevelMerging.IsMergeSplit.{both, left_alone, right_alone}
+use Rattle.xet_merkle.specs.Steps.LevelMerging.IsLevelMerge.{all_in_sight, appended, step}
 use Rattle.xet_merkle.proofs.Roots.OneRoot.{Groups-few}
 use Rattle.xet_merkle.proofs.Canonical.Bounds.{few_nodes}
 
@@ -26,7 +26,7 @@ between_few (x ∷ next ∷ xs) carry (y ∷ next' ∷ ys) = omega (arith, lengt
 
 module _ (make : List Node → Node) (at_start at_end : Bool) where
   -- what is collapsed is in sight, and an operand has a level less above
-  pub middle_few : {xs ys : List Level} {seen left middle right : List Node} → IsJoinSplit at_start at_end xs ys seen left middle right → length middle ≤ length seen
+  pub middle_few : {xs ys : List Level} {seen left middle right : List Node} → IsMergeSplit at_start at_end xs ys seen left middle right → length middle ≤ length seen
   middle_few (both left_is seen right_is) = let len = ap length seen in omega arith
   middle_few {middle = middle} {right = right} (left_alone left_is seen high) = let len = ap length seen in omega (arith, length-append middle right)
   middle_few {left = left} {middle = middle} (right_alone seen low right_is) = let len = ap length seen in omega (arith, length-append left middle)
@@ -41,16 +41,16 @@ module _ (make : List Node → Node) (at_start at_end : Bool) where
       let len = ap length split.parts in
       omega (arith, length-map groups make, length-append left (middle ++ right), length-append middle right)
 
-  -- the work of a join, likewise
-  pub join_work : {xs ys levels : List Level} {carry : List Node} {work : ℕ} → IsJoin make at_start at_end xs carry ys levels work →
+  -- the work of a merge, likewise
+  pub merge_work : {xs ys levels : List Level} {carry : List Node} {work : ℕ} → IsLevelMerge make at_start at_end xs carry ys levels work →
       2 * work + 2 ≤ node_count xs + (length carry + node_count ys) + 2 * length levels
-  join_work (all_in_sight {x} {y} {carry} canonical) =
+  merge_work (all_in_sight {x} {y} {carry} canonical) =
       let rest = canonical_work canonical in
       let few = between_few (x ∷ []) carry (y ∷ []) in
       omega arith
-  join_work (appended unmarked none) = omega arith
-  join_work (step {xs = xs} {ys = ys} {carry = carry} {middle = middle} {groups = groups} split cutting rest) =
-      let above_work = join_work rest in
+  merge_work (appended unmarked none) = omega arith
+  merge_work (step {xs = xs} {ys = ys} {carry = carry} {middle = middle} {groups = groups} split cutting rest) =
+      let above_work = merge_work rest in
       let few = Groups-few middle groups cutting in
       let within = middle_few split in
       let seen = between_few xs carry ys in
@@ -58,7 +58,7 @@ module _ (make : List Node → Node) (at_start at_end : Bool) where
 
   -- nodes, levels and parents together never grow
   pub step_room : {xs ys : List Level} (carry : List Node) {left middle right : List Node} (parents : List Node) →
-      IsJoinSplit at_start at_end xs ys (between xs carry ys) left middle right → 3 * length parents ≤ length middle + 2 →
+      IsMergeSplit at_start at_end xs ys (between xs carry ys) left middle right → 3 * length parents ≤ length middle + 2 →
       (length parents + length parents) + ((node_count (above xs) + length (above xs)) + (node_count (above ys) + length (above ys)))
       ≤ length carry + ((node_count xs + length xs) + (node_count ys + length ys))
   step_room carry parents (both {x} {next_x} {y} {next_y} {xs} {ys} left_is seen right_is) few =
@@ -75,7 +75,7 @@ module _ (make : List Node → Node) (at_start at_end : Bool) where
       omega arith
 
   -- what is collapsed and what stays were nodes of the operands or carried
-  step_count : {xs ys : List Level} (carry : List Node) {left middle right : List Node} → IsJoinSplit at_start at_end xs ys (between xs carry ys) left middle right →
+  step_count : {xs ys : List Level} (carry : List Node) {left middle right : List Node} → IsMergeSplit at_start at_end xs ys (between xs carry ys) left middle right →
       (length left + length right) + (length middle + (node_count (above xs) + node_count (above ys))) ≤ node_count xs + (length carry + node_count ys)
   step_count carry (both {x} {next_x} {y} {next_y} {xs} {ys} left_is seen right_is) =
       let len = ap length seen in
@@ -91,15 +91,15 @@ module _ (make : List Node → Node) (at_start at_end : Bool) where
       let len_right = ap length right_is in
       omega (arith, length-append x.left (carry ++ y.left), length-append carry y.left, length-append left middle)
 
-  -- a join has at most as many nodes as the operands
-  pub join_count : {xs ys levels : List Level} {carry : List Node} {work : ℕ} → IsJoin make at_start at_end xs carry ys levels work →
+  -- a merge has at most as many nodes as the operands
+  pub merge_count : {xs ys levels : List Level} {carry : List Node} {work : ℕ} → IsLevelMerge make at_start at_end xs carry ys levels work →
       node_count levels ≤ node_count xs + (length carry + node_count ys)
-  join_count (all_in_sight {x} {y} {carry} canonical) =
+  merge_count (all_in_sight {x} {y} {carry} canonical) =
       let few = few_nodes make at_start at_end canonical in
       omega (arith, length-append x.left (carry ++ y.left), length-append carry y.left)
-  join_count (appended {x} {y} {carry} unmarked none) = omega (arith, length-append x.left (carry ++ y.left), length-append carry y.left)
-  join_count (step {xs = xs} {ys = ys} {carry = carry} {middle = middle} {groups = groups} split cutting rest) =
-      let above_count = join_count rest in
+  merge_count (appended {x} {y} {carry} unmarked none) = omega (arith, length-append x.left (carry ++ y.left), length-append carry y.left)
+  merge_count (step {xs = xs} {ys = ys} {carry = carry} {middle = middle} {groups = groups} split cutting rest) =
+      let above_count = merge_count rest in
       let few = Groups-few middle groups cutting in
       let here = step_count carry split in
       omega (arith, length-map groups make)

@@ -1,94 +1,14 @@
--- The leaves of a bracketing, passed one after another, and joined from the last to the first.
-use Rattle.std.proofs.Common.{◌≡◌, ℕ, zero, suc, ◌+◌, ◌-◌, ◌^◌, ◌<◌, ◌≤◌, ◌↔◌, ◌⊎◌, inl, inr, Bool, true, false, IsTrue, Option, Some, None, List, [], ◌∷◌, ◌++◌, length, refl, sym, ap, subst, ◌∙◌, arith, append_assoc, length-append}
-use Rattle.std.specs.Prelude.{SomeIff, IfSome, IsErrOf, Err, map, Box}
+-- The leaves of a bracketing, taken one after another, and joined from the last to the first.
+use Rattle.std.proofs.Common.{◌≡◌, ℕ, zero, suc, ◌+◌, ◌-◌, ◌<◌, ◌≤◌, ◌↔◌, Bool, Option, Some, None, List, [], ◌∷◌, ◌++◌, length, refl, sym, ap, subst, ◌∙◌, arith, append_assoc, length-append}
+use Rattle.std.specs.Prelude.{IfSome, map, Box}
 use Rattle.std.specs.declared.alloc.Global.{Global}
-use Rattle.std.proofs.lemmas.Bool.{cases_lt, false≢true}
 use Rattle.std.proofs.lemmas.List.{map-append}
-use Rattle.xet_merkle.specs.declared.error.CoreError.{CoreError}
-use Rattle.xet_merkle.specs.declared.error.CoreError.TheVariants.{InvalidArguments, SizeOverflow, OutOfMemory}
-use Rattle.std.proofs.lemmas.List.Sums.{sum_by-append, sum_by-cons}
 use Rattle.xet_merkle.specs.declared.merge_tree.MergeTree.{MergeTree}
 use Rattle.xet_merkle.specs.declared.merge_tree.MergeTree.TheVariants.{Leaf, Join'}
-use Rattle.xet_merkle.specs.declared.merge_tree.Passed.{Passed}
 use Rattle.xet_merkle.specs.MergeTree.{leaves, first_leaf, last_leaf}
-use Rattle.xet_merkle.specs.Ranges.{AreApart, total_of}
-use Rattle.xet_merkle.specs.Steps.Bracketing.{entries, entries_after, IsPassed, depth, AreBegun, IsBegun, Follow, Follows, refusal, lefts}
+use Rattle.xet_merkle.specs.Steps.Bracketing.{entries, entries_after, depth, AreBegun, IsBegun, Follow, lefts}
 use Rattle.xet_merkle.specs.Steps.RangeMerging.{start_of_first, end_of_last}
-
-not_less : (m n : ℕ) → (m < n → ⊥) → n ≤ m
-not_less m n none = elim (cases_lt m n) [ inl less ↦ absurd (none less) | inr more ↦ more ]
-
--- ---- what is known of the leaves
-
-module _ {R : Type 0} (start end : R → Bool) (total : R → ℕ) where
-  pub end_of_last-push : (ranges : List R) (range : R) → end_of_last end (ranges ++ range ∷ []) ≡ Some (end range)
-  end_of_last-push [] range = refl
-  end_of_last-push (first ∷ []) range = refl
-  end_of_last-push (first ∷ next ∷ ranges) range = end_of_last-push (next ∷ ranges) range
-
-  apart_push : (ranges : List R) (range : R) → AreApart start end ranges → Follows (end_of_last end ranges) (start range) → AreApart start end (ranges ++ range ∷ [])
-  apart_push [] range apart follows = tt
-  apart_push (first ∷ []) range apart follows = (follows.0, follows.1, tt)
-  apart_push (first ∷ next ∷ ranges) range apart follows = (apart.0, apart.1, apart_push (next ∷ ranges) range apart.2 follows)
-
-  apart_front : (ranges : List R) (range : R) → AreApart start end (ranges ++ range ∷ []) → AreApart start end ranges × Follows (end_of_last end ranges) (start range)
-  apart_front [] range apart = (tt, tt)
-  apart_front (first ∷ []) range apart = (tt, (apart.0, apart.1))
-  apart_front (first ∷ next ∷ ranges) range apart =
-      let rest = apart_front (next ∷ ranges) range apart.2 in
-      ((apart.0, apart.1, rest.0), rest.1)
-
-  pub IsPassed-none : IsPassed start end total (record { last_end = None; are_apart = true; total = Some 0 }) []
-  IsPassed-none = record { last = refl; apart = (λ _. tt, λ _. refl); sum = (omega arith, refl) }
-
-  pub IsPassed-push : (passed : Passed) (ranges : List R) (range : R) → IsPassed start end total passed ranges → (are_apart : Bool) →
-      IsTrue are_apart ↔ (IsTrue passed.are_apart × Follows passed.last_end (start range)) → (sum : Option ℕ) →
-      ((n : ℕ) → SomeIff passed.total (n < 2 ^ 64) n → SomeIff sum (n + total range < 2 ^ 64) (n + total range)) →
-      IsPassed start end total (record { last_end = Some (end range); are_apart = are_apart; total = sum }) (ranges ++ range ∷ [])
-  IsPassed-push passed ranges range h are_apart apart sum adds = record {
-    last = sym (end_of_last-push ranges range);
-    apart = (
-      λ is. let both = apart.0 is in apart_push ranges range (h.apart.0 both.0) (subst (λ (e : Option Bool). Follows e (start range)) h.last both.1),
-      λ all. let parts = apart_front ranges range all in apart.1 (h.apart.1 parts.0, subst (λ (e : Option Bool). Follows e (start range)) (sym h.last) parts.1),
-    );
-    sum =
-        let whole : total_of total (ranges ++ range ∷ []) ≡ total_of total ranges + total range =
-        sum_by-append total ranges (range ∷ []) ∙ (let one = sum_by-cons total range [] in omega arith) in
-        subst (λ (n : ℕ). SomeIff sum (n < 2 ^ 64) n) (sym whole) (adds (total_of total ranges) h.sum);
-  }
-
-  pub apart_allowed : (passed : Passed) (ranges : List R) → IsPassed start end total passed ranges → refusal passed.are_apart passed.total ≡ None →
-      AreApart start end ranges × (total_of total ranges < 2 ^ 64)
-  apart_allowed passed ranges h none = allowed passed.are_apart passed.total none h.apart h.sum where
-    allowed : (are_apart : Bool) (sum : Option ℕ) → refusal are_apart sum ≡ None → IsTrue are_apart ↔ AreApart start end ranges →
-        SomeIff sum (total_of total ranges < 2 ^ 64) (total_of total ranges) → AreApart start end ranges × (total_of total ranges < 2 ^ 64)
-    allowed false sum e apart fits = let clash : ⊥ = cc in absurd clash
-    allowed true None e apart fits = let clash : ⊥ = cc in absurd clash
-    allowed true (Some n) e apart fits = (apart.0 refl, fits.0)
-
-  pub refused : {T : Type 0} (passed : Passed) (ranges : List R) (error : CoreError) → IsPassed start end total passed ranges → refusal passed.are_apart passed.total ≡ Some error →
-      (IsErrOf {T = T} (Err error) InvalidArguments ↔ (AreApart start end ranges → ⊥))
-      × (IsErrOf {T = T} (Err error) SizeOverflow ↔ (AreApart start end ranges × (2 ^ 64 ≤ total_of total ranges)))
-      × ((error ≡ InvalidArguments) ⊎ ((error ≡ SizeOverflow) ⊎ (error ≡ OutOfMemory)))
-  refused {T} passed ranges error h some = refuses passed.are_apart passed.total some h.apart h.sum where
-    refuses : (are_apart : Bool) (sum : Option ℕ) → refusal are_apart sum ≡ Some error → IsTrue are_apart ↔ AreApart start end ranges →
-        SomeIff sum (total_of total ranges < 2 ^ 64) (total_of total ranges) →
-        (IsErrOf {T = T} (Err error) InvalidArguments ↔ (AreApart start end ranges → ⊥))
-        × (IsErrOf {T = T} (Err error) SizeOverflow ↔ (AreApart start end ranges × (2 ^ 64 ≤ total_of total ranges)))
-        × ((error ≡ InvalidArguments) ⊎ ((error ≡ SizeOverflow) ⊎ (error ≡ OutOfMemory)))
-    refuses false sum e apart fits =
-        let is : error ≡ InvalidArguments = cc in (
-          (λ _ all. false≢true (apart.1 all), λ _. ap Err is),
-          (λ other. let clash : ⊥ = cc in absurd clash, λ all. absurd (false≢true (apart.1 all.0))),
-          inl is,
-        )
-    refuses true None e apart fits =
-        let is : error ≡ SizeOverflow = cc in (
-          (λ other. let clash : ⊥ = cc in absurd clash, λ none. absurd (none (apart.0 refl))),
-          (λ _. (apart.0 refl, not_less (total_of total ranges) (2 ^ 64) fits), λ _. ap Err is),
-          inr (inl is),
-        )
-    refuses true (Some n) e apart fits = let clash : ⊥ = cc in absurd clash
+use Rattle.xet_merkle.proofs.Merging.Adjacent.{end_of_last-push}
 
 -- ---- what is begun
 

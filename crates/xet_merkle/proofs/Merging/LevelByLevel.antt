@@ -1,6 +1,6 @@
--- Joining level by level: what stands below what is left of the operands, and what the whole is.
+-- Merging level by level: what stands below what is left of the operands, and what the whole is.
 use Rattle.std.proofs.lemmas.List.{length-map}
-use Rattle.xet_merkle.proofs.Merging.Bounds.{join_count}
+use Rattle.xet_merkle.proofs.Merging.Bounds.{merge_count}
 use Rattle.std.proofs.Common.{◌≡◌, ℕ, ◌+◌, ◌<◌, ◌≤◌, ◌^◌, Bool, true, false, List, [], ◌∷◌, ◌++◌, length, map, take, drop, refl, sym, ap, subst, ◌∙◌, arith, append_assoc}
 use Rattle.xet_merkle.specs.Groups.{Node}
 use Rattle.xet_merkle.specs.Roots.{total_size, parent_by, parent}
@@ -9,22 +9,22 @@ use Rattle.xet_merkle.specs.Levels.{Level, right_at, top_nodes, node_count, leve
 use Rattle.xet_merkle.specs.Subtree.{Subtree}
 use Rattle.xet_merkle.specs.Merging.{IsMerged, IsMergedBy}
 use Rattle.xet_merkle.specs.WellFormed.{IsWellFormed}
-use Rattle.xet_merkle.specs.Steps.Joining.{HaveSides, operand, above, between, lowest_with, IsLowBefore, IsJoinSplit, IsJoin}
-use Rattle.xet_merkle.specs.Steps.Joining.IsJoinSplit.{both, left_alone, right_alone}
-use Rattle.xet_merkle.specs.Steps.Joining.IsJoin.{all_in_sight, step}
+use Rattle.xet_merkle.specs.Steps.LevelMerging.{HaveSides, operand, above, between, lowest_with, IsLowBefore, IsMergeSplit, IsLevelMerge}
+use Rattle.xet_merkle.specs.Steps.LevelMerging.IsMergeSplit.{both, left_alone, right_alone}
+use Rattle.xet_merkle.specs.Steps.LevelMerging.IsLevelMerge.{all_in_sight, step}
 use Rattle.xet_merkle.specs.Canonical.{IsCanonicalBy}
-use Rattle.xet_merkle.specs.Steps.Building.{AreOperands, JoinBelow, IsStored}
+use Rattle.xet_merkle.specs.Steps.Building.{AreOperands, MergeBelow, IsStored}
 use Rattle.xet_merkle.proofs.Levels.Flat.{total_size-append}
 use Rattle.xet_merkle.proofs.Levels.Sides.{well_formed_sides, well_formed_from_sides}
 use Rattle.xet_merkle.proofs.Levels.InPlace.{put, put-in_front}
 use Rattle.xet_merkle.proofs.Levels.Reading.{operand-one, operand-longer, operand-right}
-use Rattle.xet_merkle.proofs.Merging.Join.{join, right_above}
-use Rattle.xet_merkle.proofs.Merging.Kept.{joined_sides, joined_top, joined_one, joined_size}
+use Rattle.xet_merkle.proofs.Merging.LevelMerge.{level_merge, right_above}
+use Rattle.xet_merkle.proofs.Merging.Kept.{level_merge_sides, level_merge_top, level_merge_one, level_merge_size}
 
 -- ---- lengths and sizes
 
 module _ (at_start at_end : Bool) where
-  pub step_size : {xs ys : List Level} (carry : List Node) {left middle right : List Node} → IsJoinSplit at_start at_end xs ys (between xs carry ys) left middle right →
+  pub step_size : {xs ys : List Level} (carry : List Node) {left middle right : List Node} → IsMergeSplit at_start at_end xs ys (between xs carry ys) left middle right →
       levels_size (above xs) + (total_size middle + levels_size (above ys)) ≤ levels_size xs + (total_size carry + levels_size ys)
   step_size carry (both {x = x} {y = y} left_is seen right_is) =
       let size = ap total_size seen in
@@ -36,64 +36,64 @@ module _ (at_start at_end : Bool) where
       let size = ap total_size seen in
       omega (arith, total_size-append x.left (carry ++ y.left), total_size-append carry y.left, total_size-append left middle)
 
--- what is collapsed where the right operand alone has levels above
+-- what is collapsed where the back operand alone has levels above
 pub split_before : (at_start at_end : Bool) (xs ys : List Level) (carry seen left middle : List Node) {right : List Node} → length xs ≤ 1 → 1 < length ys →
     seen ≡ between (operand xs) carry (operand ys) → seen ≡ left ++ middle → IsLowBefore at_start left middle → right ≡ right_at ys 0 →
-    IsJoinSplit at_start at_end (operand xs) (operand ys) (between (operand xs) carry (operand ys)) left middle right
+    IsMergeSplit at_start at_end (operand xs) (operand ys) (between (operand xs) carry (operand ys)) left middle right
 split_before at_start at_end xs ys carry seen left middle {right} few more seen_is parts low right_is =
     let one = operand-one xs few in
-    subst (λ (l : List Node). IsJoinSplit at_start at_end (operand xs) (operand ys) l left middle right) seen_is
-    (subst (λ (l : List Level). IsJoinSplit at_start at_end l (operand ys) seen left middle right) (sym one.1)
+    subst (λ (l : List Node). IsMergeSplit at_start at_end (operand xs) (operand ys) l left middle right) seen_is
+    (subst (λ (l : List Level). IsMergeSplit at_start at_end l (operand ys) seen left middle right) (sym one.1)
     (right_above at_start at_end seen left middle right one.0 (operand ys) (operand-longer ys more) parts low (right_is ∙ operand-right ys)))
 
 module _ (make : List Node → Node) (at_start at_end : Bool) (xs ys : List Level) (first : List Node) where
   -- ---- levels
 
-  pub join_step : (levels : List Level) (done : ℕ) (rest_x rest_y : List Level) (carry left middle right parents : List Node) →
-      JoinBelow make at_start at_end xs first ys levels done rest_x carry rest_y →
-      IsJoinSplit at_start at_end rest_x rest_y (between rest_x carry rest_y) left middle right → AreParents make middle parents →
-      JoinBelow make at_start at_end xs first ys (levels ++ record { left = left; right = right } ∷ []) (done + length parents) (above rest_x) parents (above rest_y)
-  join_step levels done rest_x rest_y carry left middle right parents h split made =
+  pub merge_step : (levels : List Level) (done : ℕ) (rest_x rest_y : List Level) (carry left middle right parents : List Node) →
+      MergeBelow make at_start at_end xs first ys levels done rest_x carry rest_y →
+      IsMergeSplit at_start at_end rest_x rest_y (between rest_x carry rest_y) left middle right → AreParents make middle parents →
+      MergeBelow make at_start at_end xs first ys (levels ++ record { left = left; right = right } ∷ []) (done + length parents) (above rest_x) parents (above rest_y)
+  merge_step levels done rest_x rest_y carry left middle right parents h split made =
       let level : Level = record { left = left; right = right } in
-      λ top work joined.
-      let rest : IsJoin make at_start at_end (above rest_x) (map make made.0) (above rest_y) top work =
-      subst (λ (l : List Node). IsJoin make at_start at_end (above rest_x) l (above rest_y) top work) made.2 joined in
+      λ top work merged.
+      let rest : IsLevelMerge make at_start at_end (above rest_x) (map make made.0) (above rest_y) top work =
+      subst (λ (l : List Node). IsLevelMerge make at_start at_end (above rest_x) l (above rest_y) top work) made.2 merged in
       let len = ap length made.2 in
       let sum : done + (length made.0 + work) ≡ (done + length parents) + work = omega (arith, length-map made.0 make) in
-      subst (λ (n : ℕ). IsJoin make at_start at_end xs first ys ((levels ++ level ∷ []) ++ top) n) sum
-      (subst (λ (l : List Level). IsJoin make at_start at_end xs first ys l (done + (length made.0 + work))) (sym (append_assoc levels (level ∷ []) top))
+      subst (λ (n : ℕ). IsLevelMerge make at_start at_end xs first ys ((levels ++ level ∷ []) ++ top) n) sum
+      (subst (λ (l : List Level). IsLevelMerge make at_start at_end xs first ys l (done + (length made.0 + work))) (sym (append_assoc levels (level ∷ []) top))
       (h (level ∷ top) (length made.0 + work) (step split made.1 rest)))
 
   -- where neither operand has levels above, all nodes are in sight
-  pub join_all : (levels : List Level) (done : ℕ) (x : Level) (rest_y : List Level) (carry : List Node) → 0 < length rest_y →
-      ¬ (1 < length rest_y) → JoinBelow make at_start at_end xs first ys levels done (x ∷ []) carry rest_y → (top : List Level) (work : ℕ) →
-      IsCanonicalBy make at_start at_end (between (x ∷ []) carry rest_y) top work → IsJoin make at_start at_end xs first ys (levels ++ top) (done + work)
-  join_all levels done x [] carry some_y one_y h = absurd (omega arith)
-  join_all levels done x (y ∷ next ∷ rest_y) carry some_y one_y h = absurd (one_y (omega arith))
-  join_all levels done x (y ∷ []) carry some_y one_y h = λ top work canonical. h top work (all_in_sight canonical)
+  pub merge_all : (levels : List Level) (done : ℕ) (x : Level) (rest_y : List Level) (carry : List Node) → 0 < length rest_y →
+      ¬ (1 < length rest_y) → MergeBelow make at_start at_end xs first ys levels done (x ∷ []) carry rest_y → (top : List Level) (work : ℕ) →
+      IsCanonicalBy make at_start at_end (between (x ∷ []) carry rest_y) top work → IsLevelMerge make at_start at_end xs first ys (levels ++ top) (done + work)
+  merge_all levels done x [] carry some_y one_y h = absurd (omega arith)
+  merge_all levels done x (y ∷ next ∷ rest_y) carry some_y one_y h = absurd (one_y (omega arith))
+  merge_all levels done x (y ∷ []) carry some_y one_y h = λ top work canonical. h top work (all_in_sight canonical)
 
--- a left operand's levels joined in place: the lowest have other right nodes, and the others are the join of what is left
-pub joined_in_place : (make : List Node → Node) (at_start at_end : Bool) (xs ys rest_y : List Level) (lists : List (List Node)) (carry : List Node) (others changed : List Level) (done work : ℕ) →
-    JoinBelow make at_start at_end xs [] ys (lowest_with lists xs) done (drop (length lists) xs) carry rest_y → length lists ≤ length xs →
-    changed ≡ take (length lists) xs ++ others → IsJoin make at_start at_end (drop (length lists) xs) carry rest_y others work →
-    IsJoin make at_start at_end xs [] ys (put lists changed) (done + work)
-joined_in_place make at_start at_end xs ys rest_y lists carry others changed done work below within changed_is joined =
-    subst (λ (l : List Level). IsJoin make at_start at_end xs [] ys l (done + work)) (sym (ap (put lists) changed_is ∙ put-in_front lists xs others within)) (below others work joined)
+-- a front operand's levels merged in place: the lowest have other right nodes, and the others are the merge of what is left
+pub level_merge_in_place : (make : List Node → Node) (at_start at_end : Bool) (xs ys rest_y : List Level) (lists : List (List Node)) (carry : List Node) (others changed : List Level) (done work : ℕ) →
+    MergeBelow make at_start at_end xs [] ys (lowest_with lists xs) done (drop (length lists) xs) carry rest_y → length lists ≤ length xs →
+    changed ≡ take (length lists) xs ++ others → IsLevelMerge make at_start at_end (drop (length lists) xs) carry rest_y others work →
+    IsLevelMerge make at_start at_end xs [] ys (put lists changed) (done + work)
+level_merge_in_place make at_start at_end xs ys rest_y lists carry others changed done work below within changed_is merged =
+    subst (λ (l : List Level). IsLevelMerge make at_start at_end xs [] ys l (done + work)) (sym (ap (put lists) changed_is ∙ put-in_front lists xs others within)) (below others work merged)
 
--- ---- what is joined is well formed
+-- ---- what is merged is well formed
 
-module _ (hash : List Node → List ℕ) (at_start at_end : Bool) (xs ys levels : List Level) (work : ℕ) (h : IsJoin (parent_by hash) at_start at_end xs [] ys levels work)
+module _ (hash : List Node → List ℕ) (at_start at_end : Bool) (xs ys levels : List Level) (work : ℕ) (h : IsLevelMerge (parent_by hash) at_start at_end xs [] ys levels work)
     (operands : AreOperands at_start at_end xs ys) where
-  join_size : levels_size levels ≡ levels_size xs + levels_size ys
-  join_size = let joined = joined_size hash at_start at_end h operands.sides_x operands.sides_y in omega arith
+  merge_size : levels_size levels ≡ levels_size xs + levels_size ys
+  merge_size = let merged = level_merge_size hash at_start at_end h operands.sides_x operands.sides_y in omega arith
 
   one_at_top : at_start ≡ true → at_end ≡ true → length (top_nodes levels) ≤ 1
-  one_at_top start end = joined_one (parent_by hash)
-      (subst (λ (e : Bool). IsJoin (parent_by hash) true e xs [] ys levels work) end (subst (λ (s : Bool). IsJoin (parent_by hash) s at_end xs [] ys levels work) start h))
+  one_at_top start end = level_merge_one (parent_by hash)
+      (subst (λ (e : Bool). IsLevelMerge (parent_by hash) true e xs [] ys levels work) end (subst (λ (s : Bool). IsLevelMerge (parent_by hash) s at_end xs [] ys levels work) start h))
 
-  join_well_formed : IsWellFormed (record { at_start = at_start; at_end = at_end; levels = levels })
-  join_well_formed = well_formed_from_sides at_start at_end levels (joined_sides (parent_by hash) at_start at_end h operands.sides_x operands.sides_y) one_at_top
-      (joined_top (parent_by hash) at_start at_end h operands.sides_x operands.sides_y operands.top_x operands.top_y)
+  merge_well_formed : IsWellFormed (record { at_start = at_start; at_end = at_end; levels = levels })
+  merge_well_formed = well_formed_from_sides at_start at_end levels (level_merge_sides (parent_by hash) at_start at_end h operands.sides_x operands.sides_y) one_at_top
+      (level_merge_top (parent_by hash) at_start at_end h operands.sides_x operands.sides_y operands.top_x operands.top_y)
 
 -- two subtrees that a mark doesn't stand between
 module _ (front back : Subtree) (x : IsWellFormed front) (y : IsWellFormed back) (no_end : front.at_end ≡ false) (no_start : back.at_start ≡ false) where
@@ -105,13 +105,13 @@ module _ (front back : Subtree) (x : IsWellFormed front) (y : IsWellFormed back)
     top_y = y.rule_11;
   }
 
-  -- and levels that theirs are joined to
-  module _ (hash : List Node → List ℕ) (levels : List Level) (work : ℕ) (joined : IsJoin (parent_by hash) front.at_start back.at_end front.levels [] back.levels levels work) where
+  -- and levels that theirs are merged to
+  module _ (hash : List Node → List ℕ) (levels : List Level) (work : ℕ) (merged : IsLevelMerge (parent_by hash) front.at_start back.at_end front.levels [] back.levels levels work) where
     pub merged_size : levels_size levels ≡ levels_size front.levels + levels_size back.levels
-    merged_size = join_size hash front.at_start back.at_end front.levels back.levels levels work joined operands
+    merged_size = merge_size hash front.at_start back.at_end front.levels back.levels levels work merged operands
 
     pub merged_well_formed : IsWellFormed (record { at_start = front.at_start; at_end = back.at_end; levels = levels })
-    merged_well_formed = join_well_formed hash front.at_start back.at_end front.levels back.levels levels work joined operands
+    merged_well_formed = merge_well_formed hash front.at_start back.at_end front.levels back.levels levels work merged operands
 
     pub merged_stored : (size : ℕ) → size ≡ levels_size front.levels + levels_size back.levels → size < 2 ^ 64 → node_count front.levels + node_count back.levels < 2 ^ 64 →
         IsStored front.at_start back.at_end levels size
@@ -119,18 +119,14 @@ module _ (front back : Subtree) (x : IsWellFormed front) (y : IsWellFormed back)
       well_formed = merged_well_formed;
       size_is = size_is ∙ sym merged_size;
       fits = fits;
-      few = let count = join_count (parent_by hash) front.at_start back.at_end joined in omega arith;
+      few = let count = merge_count (parent_by hash) front.at_start back.at_end merged in omega arith;
     }
 
     pub merged_by : IsMergedBy (parent_by hash) work front back (record { at_start = front.at_start; at_end = back.at_end; levels = levels })
     merged_by = record {
-      no_end = no_end;
-      no_start = no_start;
-      start = refl;
-      end = refl;
-      size = merged_size;
+      spans = record { no_end = no_end; no_start = no_start; start = refl; end = refl; size = merged_size };
       canonical = λ first second work_first work_second h k.
-          join (parent_by hash) front.at_start back.at_end joined first second work_first work_second
+          level_merge (parent_by hash) front.at_start back.at_end merged first second work_first work_second
           (subst (λ (e : Bool). IsCanonicalBy (parent_by hash) front.at_start e first front.levels work_first) no_end h)
           (subst (λ (s : Bool). IsCanonicalBy (parent_by hash) s back.at_end second back.levels work_second) no_start k);
     }
@@ -138,10 +134,6 @@ module _ (front back : Subtree) (x : IsWellFormed front) (y : IsWellFormed back)
 -- what is merged under the parents' own hashes is merged
 pub merged_plainly : (count : ℕ) (front back merged : Subtree) → IsMergedBy parent count front back merged → IsMerged front back merged
 merged_plainly count front back merged h = record {
-  no_end = h.no_end;
-  no_start = h.no_start;
-  start = h.start;
-  end = h.end;
-  size = h.size;
+  spans = h.spans;
   canonical = λ first second x y. (count + (x.0 + y.0), h.canonical first second x.0 y.0 x.1 y.1);
 }

@@ -7,8 +7,8 @@ use Rattle.xet_merkle.specs.Roots.{parent}
 use Rattle.xet_merkle.specs.Levels.{levels_size}
 use Rattle.xet_merkle.specs.Canonical.{IsCanonicalBy}
 use Rattle.xet_merkle.specs.Subtree.{Subtree, IsCanonical}
-use Rattle.xet_merkle.specs.Merging.{IsMerged, NoMarkBetween, end_mark, ranges_size, AreCanonical}
-use Rattle.xet_merkle.specs.Ranges.{AreApart, total_of}
+use Rattle.xet_merkle.specs.Merging.{IsMerged, NoMarkBetweenSubtrees, end_mark, ranges_size, AreCanonical}
+use Rattle.xet_merkle.specs.Ranges.{NoMarkBetween, total_of}
 use Rattle.xet_merkle.specs.Steps.RangeMerging.{JoinsTo, start_of_first, end_of_last}
 use Rattle.xet_merkle.specs.Steps.SubtreeMerging.{MergesTo}
 use Rattle.xet_merkle.proofs.Canonical.OneSubtree.{IsCanonicalBy-unique}
@@ -16,25 +16,25 @@ use Rattle.xet_merkle.proofs.Canonical.OneSubtree.{IsCanonicalBy-unique}
 -- ---- ranges of any kind, joined one after another
 
 module _ {R : Type 0} (stands : R → List Node → Type 0) (start end : R → Bool) (total : R → ℕ) where
-  pub JoinsTo-all : (ranges : List R) → AreApart start end ranges → JoinsTo stands start end total ranges ranges
-  JoinsTo-all ranges apart = record { apart = apart; first = refl; last = refl; sum = refl; lists = λ lists all. (lists, all, refl) }
+  pub JoinsTo-all : (ranges : List R) → NoMarkBetween start end ranges → JoinsTo stands start end total ranges ranges
+  JoinsTo-all ranges marks = record { marks = marks; first = refl; last = refl; sum = refl; lists = λ lists all. (lists, all, refl) }
 
-  pub apart_at : (before after : List R) (a b : R) → AreApart start end (before ++ a ∷ b ∷ after) → (end a ≡ false) × (start b ≡ false)
-  apart_at [] after a b apart = (apart.0, apart.1)
-  apart_at (x ∷ []) after a b apart = (apart.2.0, apart.2.1)
-  apart_at (x ∷ y ∷ before) after a b apart = apart_at (y ∷ before) after a b apart.2
+  pub unmarked_at : (before after : List R) (a b : R) → NoMarkBetween start end (before ++ a ∷ b ∷ after) → (end a ≡ false) × (start b ≡ false)
+  unmarked_at [] after a b marks = (marks.0, marks.1)
+  unmarked_at (x ∷ []) after a b marks = (marks.2.0, marks.2.1)
+  unmarked_at (x ∷ y ∷ before) after a b marks = unmarked_at (y ∷ before) after a b marks.2
 
   pub total_at : (before after : List R) (a b : R) → total a + total b ≤ total_of total (before ++ a ∷ b ∷ after)
   total_at before after a b = omega (arith, sum_by-append total before (a ∷ b ∷ after), sum_by-cons total a (b ∷ after), sum_by-cons total b after)
 
   module _ (a b ab : R) (same_start : start ab ≡ start a) (same_end : end ab ≡ end b) (sum : total ab ≡ total a + total b)
       (joined : (front back : List Node) → stands a front → stands b back → stands ab (front ++ back)) where
-    join_apart : (before after : List R) → AreApart start end (before ++ a ∷ b ∷ after) → AreApart start end (before ++ ab ∷ after)
-    join_apart [] [] apart = tt
-    join_apart [] (c ∷ after) apart = (same_end ∙ apart.2.0, apart.2.1, apart.2.2)
-    join_apart (x ∷ []) [] apart = (apart.0, same_start ∙ apart.1, tt)
-    join_apart (x ∷ []) (c ∷ after) apart = (apart.0, same_start ∙ apart.1, (same_end ∙ apart.2.2.0, apart.2.2.1, apart.2.2.2))
-    join_apart (x ∷ y ∷ before) after apart = (apart.0, apart.1, join_apart (y ∷ before) after apart.2)
+    join_unmarked : (before after : List R) → NoMarkBetween start end (before ++ a ∷ b ∷ after) → NoMarkBetween start end (before ++ ab ∷ after)
+    join_unmarked [] [] marks = tt
+    join_unmarked [] (c ∷ after) marks = (same_end ∙ marks.2.0, marks.2.1, marks.2.2)
+    join_unmarked (x ∷ []) [] marks = (marks.0, same_start ∙ marks.1, tt)
+    join_unmarked (x ∷ []) (c ∷ after) marks = (marks.0, same_start ∙ marks.1, (same_end ∙ marks.2.2.0, marks.2.2.1, marks.2.2.2))
+    join_unmarked (x ∷ y ∷ before) after marks = (marks.0, marks.1, join_unmarked (y ∷ before) after marks.2)
 
     join_first : (before after : List R) → start_of_first start (before ++ ab ∷ after) ≡ start_of_first start (before ++ a ∷ b ∷ after)
     join_first [] after = ap Some same_start
@@ -60,7 +60,7 @@ module _ {R : Type 0} (stands : R → List Node → Type 0) (start end : R → B
 
     pub JoinsTo-join : (ranges before after : List R) → JoinsTo stands start end total ranges (before ++ a ∷ b ∷ after) → JoinsTo stands start end total ranges (before ++ ab ∷ after)
     JoinsTo-join ranges before after h = record {
-      apart = join_apart before after h.apart;
+      marks = join_unmarked before after h.marks;
       first = join_first before after ∙ h.first;
       last = join_last before after ∙ h.last;
       sum = let so_far = h.sum in omega (arith, sum_by-append total before (ab ∷ after), sum_by-append total before (a ∷ b ∷ after), sum_by-cons total ab after, sum_by-cons total a (b ∷ after), sum_by-cons total b after);
@@ -80,19 +80,19 @@ module _ {R : Type 0} (stands : R → List Node → Type 0) (start end : R → B
 
 -- ranges that are joined to one on either side
 module _ {R : Type 0} (stands : R → List Node → Type 0) (start end : R → Bool) (total : R → ℕ) where
-  apart_between : (front back : List R) → AreApart start end (front ++ back) → (e s : Bool) → end_of_last end front ≡ Some e → start_of_first start back ≡ Some s →
+  unmarked_between : (front back : List R) → NoMarkBetween start end (front ++ back) → (e s : Bool) → end_of_last end front ≡ Some e → start_of_first start back ≡ Some s →
       (e ≡ false) × (s ≡ false)
-  apart_between [] back apart e s last first = let clash : ⊥ = cc in absurd clash
-  apart_between (x ∷ []) [] apart e s last first = let clash : ⊥ = cc in absurd clash
-  apart_between (x ∷ []) (y ∷ back) apart e s last first =
-      ((let same : e ≡ end x = cc in same) ∙ apart.0, (let same : s ≡ start y = cc in same) ∙ apart.1)
-  apart_between (x ∷ y ∷ front) back apart e s last first = apart_between (y ∷ front) back apart.2 e s last first
+  unmarked_between [] back marks e s last first = let clash : ⊥ = cc in absurd clash
+  unmarked_between (x ∷ []) [] marks e s last first = let clash : ⊥ = cc in absurd clash
+  unmarked_between (x ∷ []) (y ∷ back) marks e s last first =
+      ((let same : e ≡ end x = cc in same) ∙ marks.0, (let same : s ≡ start y = cc in same) ∙ marks.1)
+  unmarked_between (x ∷ y ∷ front) back marks e s last first = unmarked_between (y ∷ front) back marks.2 e s last first
 
-  pub apart_parts : (front back : List R) → AreApart start end (front ++ back) → AreApart start end front × AreApart start end back
-  apart_parts [] back apart = (tt, apart)
-  apart_parts (x ∷ []) [] apart = (tt, tt)
-  apart_parts (x ∷ []) (y ∷ back) apart = (tt, apart.2)
-  apart_parts (x ∷ y ∷ front) back apart = let rest = apart_parts (y ∷ front) back apart.2 in ((apart.0, apart.1, rest.0), rest.1)
+  pub unmarked_parts : (front back : List R) → NoMarkBetween start end (front ++ back) → NoMarkBetween start end front × NoMarkBetween start end back
+  unmarked_parts [] back marks = (tt, marks)
+  unmarked_parts (x ∷ []) [] marks = (tt, tt)
+  unmarked_parts (x ∷ []) (y ∷ back) marks = (tt, marks.2)
+  unmarked_parts (x ∷ y ∷ front) back marks = let rest = unmarked_parts (y ∷ front) back marks.2 in ((marks.0, marks.1, rest.0), rest.1)
 
   start_of_append : (front back : List R) (s : Bool) → start_of_first start front ≡ Some s → start_of_first start (front ++ back) ≡ Some s
   start_of_append [] back s first = let clash : ⊥ = cc in absurd clash
@@ -112,11 +112,11 @@ module _ {R : Type 0} (stands : R → List Node → Type 0) (start end : R → B
       let rest = zip_parts front back lists all.1 in
       (list ∷ rest.0, rest.1, (all.0, rest.2), rest.3, ap (λ (l : List Node). list ++ l) rest.4 ∙ sym (append_assoc list (flat_map (λ list. list) rest.0) (flat_map (λ list. list) rest.1)))
 
-  pub JoinsTo-both : (front back : List R) (a b : R) → AreApart start end (front ++ back) → JoinsTo stands start end total front (a ∷ []) → JoinsTo stands start end total back (b ∷ []) →
+  pub JoinsTo-both : (front back : List R) (a b : R) → NoMarkBetween start end (front ++ back) → JoinsTo stands start end total front (a ∷ []) → JoinsTo stands start end total back (b ∷ []) →
       JoinsTo stands start end total (front ++ back) (a ∷ b ∷ [])
-  JoinsTo-both front back a b apart x y =
-      let between = apart_between front back apart (end a) (start b) (sym x.last) (sym y.first) in record {
-        apart = (between.0, between.1, tt);
+  JoinsTo-both front back a b marks x y =
+      let between = unmarked_between front back marks (end a) (start b) (sym x.last) (sym y.first) in record {
+        marks = (between.0, between.1, tt);
         first = sym (start_of_append front back (start a) (sym x.first));
         last = sym (end_of_append front back (end b) (sym y.last));
         sum = let first = x.sum in let second = y.sum in omega (arith, sum_by-append total front back, sum_by-cons total a (b ∷ []), sum_by-cons total a [], sum_by-cons total b []);
@@ -141,8 +141,8 @@ end_of range = range.at_end
 abbrev size_of : Subtree → ℕ
 size_of range = levels_size range.levels
 
-pub parts_apart : (front back : List Subtree) → NoMarkBetween (front ++ back) → NoMarkBetween front × NoMarkBetween back
-parts_apart front back = apart_parts IsCanonical start_of end_of size_of front back
+pub parts_unmarked : (front back : List Subtree) → NoMarkBetweenSubtrees (front ++ back) → NoMarkBetweenSubtrees front × NoMarkBetweenSubtrees back
+parts_unmarked front back = unmarked_parts IsCanonical start_of end_of size_of front back
 
 pub parts_size : (front back : List Subtree) → ranges_size (front ++ back) ≡ ranges_size front + ranges_size back
 parts_size front back = sum_by-append size_of front back
@@ -153,12 +153,12 @@ size_of_one range = omega (arith, sum_by-cons size_of range [])
 pub MergesTo-all : (range : Subtree) → MergesTo (range ∷ []) (range ∷ [])
 MergesTo-all range = JoinsTo-all IsCanonical start_of end_of size_of (range ∷ []) tt
 
-pub MergesTo-both : (front back : List Subtree) (a b : Subtree) → NoMarkBetween (front ++ back) → MergesTo front (a ∷ []) → MergesTo back (b ∷ []) → MergesTo (front ++ back) (a ∷ b ∷ [])
-MergesTo-both front back a b apart x y = JoinsTo-both IsCanonical start_of end_of size_of front back a b apart x y
+pub MergesTo-both : (front back : List Subtree) (a b : Subtree) → NoMarkBetweenSubtrees (front ++ back) → MergesTo front (a ∷ []) → MergesTo back (b ∷ []) → MergesTo (front ++ back) (a ∷ b ∷ [])
+MergesTo-both front back a b marks x y = JoinsTo-both IsCanonical start_of end_of size_of front back a b marks x y
 
 pub MergesTo-merged : (ranges : List Subtree) (front back merged : Subtree) → MergesTo ranges (front ∷ back ∷ []) → IsMerged front back merged → MergesTo ranges (merged ∷ [])
 MergesTo-merged ranges front back merged so_far h =
-    JoinsTo-join IsCanonical start_of end_of size_of front back merged h.start h.end h.size h.canonical ranges [] [] so_far
+    JoinsTo-join IsCanonical start_of end_of size_of front back merged h.spans.start h.spans.end h.spans.size h.canonical ranges [] [] so_far
 
 pub MergesTo-one : (ranges : List Subtree) (merged : Subtree) → MergesTo ranges (merged ∷ []) → (lists : List (List Node)) → AreCanonical ranges lists →
     IsCanonical merged (flat_map (λ (list : List Node). list) lists)
@@ -189,12 +189,12 @@ pub associative : (a b c ab bc left right : Subtree) (first second third : List 
 associative a b c ab bc left right first second third x y z x_y xy_z y_z x_yz =
     let here = subst (IsCanonical left) (append_assoc first second third) (xy_z.canonical (first ++ second) third (x_y.canonical first second x y) z) in
     let there = x_yz.canonical first (second ++ third) x (y_z.canonical second third y z) in
-    (same_canonical left right (first ++ (second ++ third)) (xy_z.start ∙ x_y.start ∙ sym x_yz.start) (xy_z.end ∙ sym y_z.end ∙ sym x_yz.end) here there, here)
+    (same_canonical left right (first ++ (second ++ third)) (xy_z.spans.start ∙ x_y.spans.start ∙ sym x_yz.spans.start) (xy_z.spans.end ∙ sym y_z.spans.end ∙ sym x_yz.spans.end) here there, here)
 
-pub neutral_behind : (range empty merged : Subtree) (nodes : List Node) → IsCanonical range nodes → IsCanonical empty [] → empty.at_end ≡ false → IsMerged range empty merged → merged ≡ range
-neutral_behind range empty merged nodes x none no_end h =
-    same_canonical merged range nodes h.start (h.end ∙ no_end ∙ sym h.no_end) (subst (IsCanonical merged) (append-nil nodes) (h.canonical nodes [] x none)) x
+pub neutral_after : (range empty merged : Subtree) (nodes : List Node) → IsCanonical range nodes → IsCanonical empty [] → empty.at_end ≡ false → IsMerged range empty merged → merged ≡ range
+neutral_after range empty merged nodes x none no_end h =
+    same_canonical merged range nodes h.spans.start (h.spans.end ∙ no_end ∙ sym h.spans.no_end) (subst (IsCanonical merged) (append-nil nodes) (h.canonical nodes [] x none)) x
 
 pub neutral_before : (range empty merged : Subtree) (nodes : List Node) → IsCanonical range nodes → IsCanonical empty [] → empty.at_start ≡ false → IsMerged empty range merged → merged ≡ range
 neutral_before range empty merged nodes x none no_start h =
-    same_canonical merged range nodes (h.start ∙ no_start ∙ sym h.no_start) h.end (h.canonical [] nodes none x) x
+    same_canonical merged range nodes (h.spans.start ∙ no_start ∙ sym h.spans.no_start) h.spans.end (h.canonical [] nodes none x) x

@@ -1,20 +1,20 @@
 -- What stays on either side of a level below the top: a first stable point is known by the nodes before it and the
--- beginning of those behind it, a last one by the end of the nodes before it and those behind it.
+-- beginning of those after it, a last one by the end of the nodes before it and those after it.
 use Rattle.std.proofs.Common.{◌≡◌, ◌<◌, Bool, true, false, List, [], ◌∷◌, ◌++◌, length, sym, ap, subst, ◌∙◌, inl, arith, append_assoc, length-append}
 use Rattle.xet_merkle.specs.Groups.{Node, Cut, EndsWithCut}
 use Rattle.xet_merkle.specs.StablePoints.{EndsStable, BeginsStable, NoStable, IsFirstStable, IsLastStable}
 use Rattle.xet_merkle.specs.Canonical.{IsLow, IsHigh}
-use Rattle.xet_merkle.specs.Steps.Joining.{IsLeftUnder, IsRightUnder}
+use Rattle.xet_merkle.specs.Steps.LevelMerging.{IsLeftUnder, IsRightUnder}
 use Rattle.xet_merkle.proofs.Lists.Places.{meets}
 use Rattle.xet_merkle.proofs.Lists.Places.Meets.{same, earlier, later}
 use Rattle.xet_merkle.proofs.StablePoints.Scan.{begins_in_front, BeginsStable-append, IsFirstStable-append}
 use Rattle.xet_merkle.proofs.Canonical.Splits.{BeginsStable-some}
-use Rattle.xet_merkle.proofs.StablePoints.CutPlaces.{back_of, EndsStable-append, swap_front, EndsWithCut-one, EndsBehind-ends}
+use Rattle.xet_merkle.proofs.StablePoints.CutPlaces.{back_of, EndsStable-append, swap_front, EndsWithCut-one, EndsAfter-ends}
 
 -- ---- beginnings and ends
 
 pub EndsStable-cut : (nodes : List Node) → EndsStable nodes → EndsWithCut nodes
-EndsStable-cut nodes h = (EndsBehind-ends nodes (inl h)).0
+EndsStable-cut nodes h = (EndsAfter-ends nodes (inl h)).0
 
 EndsWithCut-back : (front back : List Node) → 0 < length back → EndsWithCut (front ++ back) → EndsWithCut back
 EndsWithCut-back front back some h =
@@ -46,18 +46,18 @@ first_from_sides left rest ends none begins = record {
 
 -- ---- the last stable point
 
-stable_behind_one : (cut : Node) (right l r : List Node) → cut ∷ right ≡ l ++ r → EndsStable l →
+stable_after_one : (cut : Node) (right l r : List Node) → cut ∷ right ≡ l ++ r → EndsStable l →
     (more : List Node) × (l ≡ cut ∷ more) × (right ≡ more ++ r) × (0 < length more)
-stable_behind_one cut right [] r e h = let some = (EndsBehind-ends [] (inl h)).1 in absurd (omega arith)
-stable_behind_one cut right (x ∷ more) r e h =
-    let some = (EndsBehind-ends (x ∷ more) (inl h)).1 in
+stable_after_one cut right [] r e h = let some = (EndsAfter-ends [] (inl h)).1 in absurd (omega arith)
+stable_after_one cut right (x ∷ more) r e h =
+    let some = (EndsAfter-ends (x ∷ more) (inl h)).1 in
     let at : x ≡ cut = cc in
     let rest : right ≡ more ++ r = cc in
     (more, ap (λ (y : Node). y ∷ more) at, rest, omega arith)
 
 pub last_leaves_none : (middle right : List Node) → IsLastStable middle right → (cut : Node) → Cut cut → NoStable (cut ∷ right)
 last_leaves_none middle right h cut is_cut = λ l r e stable.
-    let at = stable_behind_one cut right l r e stable.ends in
+    let at = stable_after_one cut right l r e stable.ends in
     let more = at.0 in
     let ends = swap_front (cut ∷ []) middle more (EndsWithCut-one cut is_cut) (EndsStable-cut middle h.stable.ends) at.3 (subst EndsStable at.1 stable.ends) in
     let whole : middle ++ right ≡ (middle ++ more) ++ r = ap (λ (l : List Node). middle ++ l) at.2 ∙ sym (append_assoc middle more r) in
@@ -89,12 +89,12 @@ pub high_side : (at_end : Bool) (middle right : List Node) → IsHigh at_end mid
 high_side true middle right h = h
 high_side false middle right h = (h.stable.begins, last_leaves_none middle right h)
 
--- more nodes behind, and before
+-- more nodes after, and before
 pub low_before_more : (at_start : Bool) (left rest more : List Node) → IsLow at_start left rest → IsLow at_start left (rest ++ more)
 low_before_more true left rest more h = h
 low_before_more false left rest more h = IsFirstStable-append left rest more h
 
-pub high_behind_more : (at_end : Bool) (more middle right : List Node) → IsHigh at_end middle right → IsHigh at_end (more ++ middle) right
-high_behind_more true more middle right h = h
-high_behind_more false more middle right h =
+pub high_after_more : (at_end : Bool) (more middle right : List Node) → IsHigh at_end middle right → IsHigh at_end (more ++ middle) right
+high_after_more true more middle right h = h
+high_after_more false more middle right h =
     last_from_sides (more ++ middle) right (EndsStable-append more middle h.stable.ends) h.stable.begins (last_leaves_none middle right h)

@@ -8,7 +8,7 @@ use Rattle.xet_merkle.specs.Groups.{Node, Groups}
 use Rattle.xet_merkle.specs.Roots.{total_size, parent_by, parent, IsRoot, IsFileHash}
 use Rattle.xet_merkle.specs.Roots.IsRootBy.{no_node, one_node, of_parents}
 use Rattle.xet_merkle.specs.Steps.Scan.{IsFirstGroup, AreParents}
-use Rattle.xet_merkle.proofs.Groups.OneCutting.{joined_nodes, Groups-push}
+use Rattle.xet_merkle.proofs.Grouping.OneCutting.{joined_nodes, Groups-push}
 use Rattle.xet_merkle.proofs.Roots.OneRoot.{Groups-few, Groups-some}
 
 -- some parents are made and a rest is left: whatever groups the rest has, theirs complete the parents

@@ -5,7 +5,7 @@ use Rattle.xet_hash.specs.Hash.{default_hash}
 use Rattle.xet_merkle.specs.Groups.{Node, AreGroups, Groups}
 use Rattle.xet_merkle.specs.Roots.{IsRootBy}
 use Rattle.xet_merkle.specs.Roots.IsRootBy.{no_node, one_node, of_parents}
-use Rattle.xet_merkle.proofs.Groups.OneCutting.{joined_nodes, Groups-unique, Groups-exist}
+use Rattle.xet_merkle.proofs.Grouping.OneCutting.{joined_nodes, Groups-unique, Groups-exist}
 
 few_groups : (groups : List (List Node)) → AreGroups groups → 3 * length groups ≤ length (joined_nodes groups) + 2
 few_groups [] h = omega arith

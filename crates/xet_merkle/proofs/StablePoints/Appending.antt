@@ -1,10 +1,10 @@
--- Nodes put behind others that bring up no stable point. A scan shows it that begins 14 nodes before them: the third
--- natural cut of a stable point stands at most 14 nodes behind the first one.
+-- Nodes put after others that bring up no stable point. A scan shows it that begins 14 nodes before them: the third
+-- natural cut of a stable point stands at most 14 nodes after the first one.
 use Rattle.std.proofs.Common.{◌≡◌, ◌+◌, ◌<◌, ◌≤◌, ◌⊎◌, ◌&&◌, not, true, false, List, [], ◌∷◌, ◌++◌, length, refl, sym, ap, subst, ◌∙◌, inl, inr, arith, append_assoc, append-nil, length-append}
 use Rattle.std.proofs.lemmas.Bool.{cases_Bool, and_parts, and_from, cases_lt, not-true}
 use Rattle.xet_merkle.specs.Groups.{Node, is_cut, Cut}
 use Rattle.xet_merkle.specs.StablePoints.{EndsStable, BeginsStable, IsStable, NoStable}
-use Rattle.xet_merkle.specs.Steps.StableScan.{completes, next_scan, scan_behind, completes_none, AddsNoStable}
+use Rattle.xet_merkle.specs.Steps.StableScan.{completes, next_scan, scan_after, completes_none, AddsNoStable}
 use Rattle.xet_merkle.specs.declared.merkle_hash_subtree.stable_points.CutScan.{CutScan}
 use Rattle.xet_merkle.proofs.Lists.Places.{meets}
 use Rattle.xet_merkle.proofs.Lists.Places.Meets.{same, earlier, later}
@@ -12,13 +12,13 @@ use Rattle.xet_merkle.proofs.Lists.PlaceSearch.{same_place}
 use Rattle.xet_merkle.proofs.StablePoints.Scan.{place_before}
 use Rattle.xet_merkle.proofs.StablePoints.Loops.{Scanned, Scanned-push, since_more, LastSoFar-none}
 
--- ---- a scan behind some nodes
+-- ---- a scan after some nodes
 
-pub scan_behind-append : (scan : CutScan) (front back : List Node) → scan_behind scan (front ++ back) ≡ scan_behind (scan_behind scan front) back
-scan_behind-append scan [] back = refl
-scan_behind-append scan (x ∷ front) back = scan_behind-append (next_scan scan (is_cut x)) front back
+pub scan_after-append : (scan : CutScan) (front back : List Node) → scan_after scan (front ++ back) ≡ scan_after (scan_after scan front) back
+scan_after-append scan [] back = refl
+scan_after-append scan (x ∷ front) back = scan_after-append (next_scan scan (is_cut x)) front back
 
-pub completes_none-append : (scan : CutScan) (front back : List Node) → completes_none scan front ≡ true → completes_none (scan_behind scan front) back ≡ true →
+pub completes_none-append : (scan : CutScan) (front back : List Node) → completes_none scan front ≡ true → completes_none (scan_after scan front) back ≡ true →
     completes_none scan (front ++ back) ≡ true
 completes_none-append scan [] back first second = second
 completes_none-append scan (x ∷ front) back first second =
@@ -26,7 +26,7 @@ completes_none-append scan (x ∷ front) back first second =
     and_from _ _ parts.0 (completes_none-append (next_scan scan (is_cut x)) front back parts.1 second)
 
 pub completes_none-push : (scan : CutScan) (nodes : List Node) (x : Node) →
-    completes_none scan (nodes ++ x ∷ []) ≡ completes_none scan nodes && not (completes (scan_behind scan nodes) (is_cut x))
+    completes_none scan (nodes ++ x ∷ []) ≡ completes_none scan nodes && not (completes (scan_after scan nodes) (is_cut x))
 completes_none-push scan [] x = elim (cases_Bool (completes scan (is_cut x))) [
   | inl here ↦ rw here refl
   | inr not_here ↦ rw not_here refl
@@ -38,22 +38,22 @@ completes_none-push scan (y ∷ nodes) x =
       | inr not_here ↦ rw not_here rest
     ]
 
-pub since_behind : (scan : CutScan) (nodes : List Node) → (scan_behind scan nodes).since_cut ≤ scan.since_cut + length nodes
-since_behind scan [] = omega arith
-since_behind scan (x ∷ nodes) =
+pub since_after : (scan : CutScan) (nodes : List Node) → (scan_after scan nodes).since_cut ≤ scan.since_cut + length nodes
+since_after scan [] = omega arith
+since_after scan (x ∷ nodes) =
     let one = since_more scan (is_cut x) in
-    let rest = since_behind (next_scan scan (is_cut x)) nodes in
+    let rest = since_after (next_scan scan (is_cut x)) nodes in
     omega arith
 
-Scanned-behind : (more nodes : List Node) (scan : CutScan) → Scanned nodes scan → Scanned (nodes ++ more) (scan_behind scan more)
-Scanned-behind [] nodes scan h = subst (λ (l : List Node). Scanned l scan) (sym (append-nil nodes)) h
-Scanned-behind (x ∷ more) nodes scan h =
-    subst (λ (l : List Node). Scanned l (scan_behind scan (x ∷ more))) (append_assoc nodes (x ∷ []) more)
-    (Scanned-behind more (nodes ++ x ∷ []) (next_scan scan (is_cut x)) (Scanned-push nodes scan x h))
+Scanned-after : (more nodes : List Node) (scan : CutScan) → Scanned nodes scan → Scanned (nodes ++ more) (scan_after scan more)
+Scanned-after [] nodes scan h = subst (λ (l : List Node). Scanned l scan) (sym (append-nil nodes)) h
+Scanned-after (x ∷ more) nodes scan h =
+    subst (λ (l : List Node). Scanned l (scan_after scan (x ∷ more))) (append_assoc nodes (x ∷ []) more)
+    (Scanned-after more (nodes ++ x ∷ []) (next_scan scan (is_cut x)) (Scanned-push nodes scan x h))
 
 -- ---- no new stable place
 
--- each stable place of some nodes with more behind was there before
+-- each stable place of some nodes with more after was there before
 abbrev NoNew : List Node → List Node → Type 0
 NoNew nodes more = (left right : List Node) → nodes ++ more ≡ left ++ right → IsStable left right → (rest : List Node) × (nodes ≡ left ++ rest) × IsStable left rest
 
@@ -68,13 +68,13 @@ none_new (x ∷ more) nodes passed scan h none old =
     old left before.0 before.1 before.2 in
     subst (NoNew nodes) (append_assoc passed (x ∷ []) more) (none_new more nodes (passed ++ x ∷ []) (next_scan scan (is_cut x)) pushed parts.1 here)
 
-none_behind : (near more : List Node) → completes_none (scan_behind (record { has_cut = true; ends_stable = false; since_cut = 0 }) near) more ≡ true →
+none_after : (near more : List Node) → completes_none (scan_after (record { has_cut = true; ends_stable = false; since_cut = 0 }) near) more ≡ true →
     (cut : Node) → Cut cut → NoNew (cut ∷ near) more
-none_behind near more none cut is_cut =
+none_after near more none cut is_cut =
     let start : CutScan = record { has_cut = true; ends_stable = false; since_cut = 0 } in
     let first : Scanned (cut ∷ []) start = (LastSoFar-none [] true (cut ∷ []) (cut, refl, is_cut)).scanned in
-    let scanned = Scanned-behind near (cut ∷ []) start first in
-    none_new more (cut ∷ near) [] (scan_behind start near) (subst (λ (l : List Node). Scanned l (scan_behind start near)) (sym (append-nil (cut ∷ near))) scanned) none
+    let scanned = Scanned-after near (cut ∷ []) start first in
+    none_new more (cut ∷ near) [] (scan_after start near) (subst (λ (l : List Node). Scanned l (scan_after start near)) (sym (append-nil (cut ∷ near))) scanned) none
     (λ left right e stable. (right, sym (append-nil (cut ∷ near)) ∙ e, stable))
 
 -- ---- what stands 14 nodes before makes no difference
@@ -92,8 +92,8 @@ nothing_of [] few = refl
 nothing_of (x ∷ nodes) few = absurd (omega arith)
 
 -- other nodes in front of the last two natural cuts
-ends_behind : (left : List Node) (h : EndsStable left) (before : List Node) → EndsStable (before ++ h.first ∷ (h.between ++ h.last ∷ []))
-ends_behind left h before = record {
+ends_after : (left : List Node) (h : EndsStable left) (before : List Node) → EndsStable (before ++ h.first ∷ (h.between ++ h.last ∷ []))
+ends_after left h before = record {
   before = before;
   first = h.first;
   between = h.between;
@@ -111,8 +111,8 @@ module _ (near more : List Node) (none : (cut : Node) → Cut cut → NoNew (cut
   in_sight cut is_cut out tail left right left_is ends ends_here begins e =
       let whole : out ++ (near ++ more) ≡ out ++ (tail ++ right) =
       sym (append_assoc out near more) ∙ e ∙ ap (λ (l : List Node). l ++ right) left_is ∙ append_assoc out tail right in
-      let behind = (same_place out (near ++ more) out (tail ++ right) whole refl).1 in
-      let seen = none cut is_cut (cut ∷ tail) right (ap (λ (l : List Node). cut ∷ l) behind) (record { ends = ends_here; begins = begins }) in
+      let after = (same_place out (near ++ more) out (tail ++ right) whole refl).1 in
+      let seen = none cut is_cut (cut ∷ tail) right (ap (λ (l : List Node). cut ∷ l) after) (record { ends = ends_here; begins = begins }) in
       let rest = seen.0 in
       let near_is : near ≡ tail ++ rest = let here : cut ∷ near ≡ cut ∷ (tail ++ rest) = seen.1 in cc in
       (rest, ap (λ (l : List Node). out ++ l) near_is ∙ sym (append_assoc out tail rest) ∙ ap (λ (l : List Node). l ++ rest) (sym left_is), record { ends = ends; begins = seen.2.begins })
@@ -123,7 +123,7 @@ module _ (near more : List Node) (none : (cut : Node) → Cut cut → NoNew (cut
       let ends = stable.ends in
       let cuts : List Node = ends.first ∷ (ends.between ++ ends.last ∷ []) in
       let left_is : left ≡ out ++ (gap ++ cuts) = ends.parts ∙ ap (λ (l : List Node). l ++ cuts) at ∙ append_assoc out gap cuts in
-      in_sight ends.first ends.first_cut out (gap ++ cuts) left right left_is ends (ends_behind left ends (ends.first ∷ gap)) stable.begins e
+      in_sight ends.first ends.first_cut out (gap ++ cuts) left right left_is ends (ends_after left ends (ends.first ∷ gap)) stable.begins e
 
   first_in_front : (out left right : List Node) (stable : IsStable left right) → length out ≤ 1 → length stable.ends.before < length out → (out ++ near) ++ more ≡ left ++ right →
       (rest : List Node) × (out ++ near ≡ left ++ rest) × IsStable left rest
@@ -136,7 +136,7 @@ module _ (near more : List Node) (none : (cut : Node) → Cut cut → NoNew (cut
       let left_cut : left ≡ ends.first ∷ cuts = ends.parts ∙ ap (λ (l : List Node). l ++ ends.first ∷ cuts) none_before in
       let whole : x ∷ (near ++ more) ≡ ends.first ∷ (cuts ++ right) = e ∙ ap (λ (l : List Node). l ++ right) left_cut in
       let at : x ≡ ends.first = cc in
-      in_sight ends.first ends.first_cut (x ∷ []) cuts left right (left_cut ∙ ap (λ (y : Node). y ∷ cuts) (sym at)) ends (ends_behind left ends []) stable.begins e
+      in_sight ends.first ends.first_cut (x ∷ []) cuts left right (left_cut ∙ ap (λ (y : Node). y ∷ cuts) (sym at)) ends (ends_after left ends []) stable.begins e
 
   adds_none : (before : List Node) → (before ≡ []) ⊎ (14 ≤ length near) → AddsNoStable (before ++ near) more
   adds_none before enough front left right few e stable =
@@ -146,7 +146,7 @@ module _ (near more : List Node) (none : (cut : Node) → Cut cut → NoNew (cut
       let whole : (out ++ near) ++ more ≡ left ++ right = ap (λ (l : List Node). l ++ more) (append_assoc front before near) ∙ e in
       let len_left = ap length ends.parts in
       let six = ends.gap.six in
-      let six_behind = begins.gap.six in
+      let six_after = begins.gap.six in
       elim (cases_lt (length left + length begins.between) (length (front ++ (before ++ near)))) [
         | inl inside ↦
             let third : List Node = left ++ (begins.between ++ begins.first ∷ []) in
@@ -186,14 +186,14 @@ module _ (near more : List Node) (none : (cut : Node) → Cut cut → NoNew (cut
         ]
       ]
 
--- what a scan that begins behind a natural cut tells, in front of nodes that are all there are or 14
-pub adds_none_behind : (before near more : List Node) → (before ≡ []) ⊎ (14 ≤ length near) →
-    completes_none (scan_behind (record { has_cut = true; ends_stable = false; since_cut = 0 }) near) more ≡ true → AddsNoStable (before ++ near) more
-adds_none_behind before near more enough none = adds_none near more (none_behind near more none) before enough
+-- what a scan that begins after a natural cut tells, in front of nodes that are all there are or 14
+pub adds_none_after : (before near more : List Node) → (before ≡ []) ⊎ (14 ≤ length near) →
+    completes_none (scan_after (record { has_cut = true; ends_stable = false; since_cut = 0 }) near) more ≡ true → AddsNoStable (before ++ near) more
+adds_none_after before near more enough none = adds_none near more (none_after near more none) before enough
 
 -- ---- what it keeps
 
-pub none_behind_cut : (nodes more : List Node) → AddsNoStable nodes more → ((cut : Node) → Cut cut → NoStable (cut ∷ nodes)) → (cut : Node) → Cut cut → NoStable (cut ∷ (nodes ++ more))
-none_behind_cut nodes more adds none cut is_cut = λ left right e stable.
+pub none_after_cut : (nodes more : List Node) → AddsNoStable nodes more → ((cut : Node) → Cut cut → NoStable (cut ∷ nodes)) → (cut : Node) → Cut cut → NoStable (cut ∷ (nodes ++ more))
+none_after_cut nodes more adds none cut is_cut = λ left right e stable.
     let before = adds (cut ∷ []) left right (omega arith) e stable in
     none cut is_cut left before.0 before.1 before.2

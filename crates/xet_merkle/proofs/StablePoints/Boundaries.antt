@@ -3,8 +3,8 @@
 use Rattle.std.proofs.Common.{◌≡◌, ◌<◌, ◌≤◌, List, [], ◌∷◌, ◌++◌, length, refl, sym, ap, subst, ◌∙◌, inl, inr, arith, append_assoc, append-nil, length-append}
 use Rattle.xet_merkle.specs.Groups.{Node, Cut, IsGroup, IsFull, AreGroups, Groups}
 use Rattle.xet_merkle.specs.StablePoints.{EndsStable, IsGroupBoundary}
-use Rattle.xet_merkle.proofs.Groups.OneCutting.{joined_nodes, AreGroups-head}
-use Rattle.xet_merkle.proofs.StablePoints.CutPlaces.{not_both, not_among, back_of, EndsFirst, EndsBehind, FirstInFront, cut_place, after_cut, EndsFirst-from_front, EndsStable-append, behind_one, EndsBehind-ends}
+use Rattle.xet_merkle.proofs.Grouping.OneCutting.{joined_nodes, AreGroups-head}
+use Rattle.xet_merkle.proofs.StablePoints.CutPlaces.{not_both, not_among, back_of, EndsFirst, EndsAfter, FirstInFront, cut_place, after_cut, EndsFirst-from_front, EndsStable-append, after_one, EndsAfter-ends}
 
 -- each is a full group
 abbrev pub AreFull : List (List Node) → Type 0
@@ -42,10 +42,10 @@ gap_in_nine group rest h is_group nine =
     cut_is_last h.before h.first h.start (subst IsGroup h.front_parts is_group) h.first_cut
     (omega (arith, length-append h.before (h.first ∷ h.start), length-append h.start h.between))
 
--- what follows a full group ends stable behind a natural cut where the whole does
-behind_group : (group rest : List Node) → IsGroup group → IsFull group → 0 < length rest → EndsBehind (group ++ rest) → EndsBehind rest
-behind_group group rest is_group full some (inr h) = absurd (full_is_no_beginning group rest full some h)
-behind_group group rest is_group full some (inl h) = elim full.ends [
+-- what follows a full group ends stable after a natural cut where the whole does
+after_group : (group rest : List Node) → IsGroup group → IsFull group → 0 < length rest → EndsAfter (group ++ rest) → EndsAfter rest
+after_group group rest is_group full some (inr h) = absurd (full_is_no_beginning group rest full some h)
+after_group group rest is_group full some (inl h) = elim full.ends [
   | inl cut ↦ after_cut group rest cut some h
   | inr nine ↦ elim (cut_place group rest some h) [
     | inl stable ↦ inl stable
@@ -53,15 +53,15 @@ behind_group group rest is_group full some (inl h) = elim full.ends [
   ]
 ]
 
-full_groups : (groups : List (List Node)) → AreGroups groups → EndsBehind (joined_nodes groups) → AreFull groups
+full_groups : (groups : List (List Node)) → AreGroups groups → EndsAfter (joined_nodes groups) → AreFull groups
 full_groups [] h ends = tt
 full_groups (group ∷ []) h ends =
-    let whole : EndsBehind group = subst EndsBehind (append-nil group) ends in
-    let last = EndsBehind-ends group whole in
+    let whole : EndsAfter group = subst EndsAfter (append-nil group) ends in
+    let last = EndsAfter-ends group whole in
     (h, record { at_least_three = last.1; ends = inl last.0 }, tt)
 full_groups (group ∷ next ∷ groups) h ends =
     let some = (AreGroups-head next groups h.2).not_empty in
-    let rest = behind_group group (joined_nodes (next ∷ groups)) h.0 h.1 (omega (arith, length-append next (joined_nodes groups))) ends in
+    let rest = after_group group (joined_nodes (next ∷ groups)) h.0 h.1 (omega (arith, length-append next (joined_nodes groups))) ends in
     (h.0, h.1, full_groups (next ∷ groups) h.2 rest)
 
 joined-append : (groups others : List (List Node)) → joined_nodes (groups ++ others) ≡ joined_nodes groups ++ joined_nodes others
@@ -70,28 +70,28 @@ joined-append (group ∷ groups) others =
     ap (λ (l : List Node). group ++ l) (joined-append groups others) ∙ sym (append_assoc group (joined_nodes groups) (joined_nodes others))
 
 -- the groups of two parts, where the place between them is stable
-pub Groups-behind : (left right : List Node) (groups others : List (List Node)) → EndsBehind left → Groups left groups → Groups right others →
+pub Groups-after : (left right : List Node) (groups others : List (List Node)) → EndsAfter left → Groups left groups → Groups right others →
     Groups (left ++ right) (groups ++ others)
-Groups-behind left right groups others ends cutting rest = record {
+Groups-after left right groups others ends cutting rest = record {
   joined =
       joined-append groups others
       ∙ ap (λ (l : List Node). l ++ joined_nodes others) cutting.joined
       ∙ ap (λ (l : List Node). left ++ l) rest.joined;
   are_groups = AreFull-append groups others
-      (full_groups groups cutting.are_groups (subst EndsBehind (sym cutting.joined) ends))
+      (full_groups groups cutting.are_groups (subst EndsAfter (sym cutting.joined) ends))
       rest.are_groups;
 }
 
 pub Groups-at_stable : (cut : Node) (left right : List Node) (groups others : List (List Node)) → Cut cut → EndsStable (cut ∷ left) → Groups left groups → Groups right others →
     Groups (left ++ right) (groups ++ others)
-Groups-at_stable cut left right groups others is_cut ends = Groups-behind left right groups others (behind_one cut left is_cut ends)
+Groups-at_stable cut left right groups others is_cut ends = Groups-after left right groups others (after_one cut left is_cut ends)
 
 -- either form of the lemma: nodes stand before a stable end, or one natural cut does
 pub boundary_inside : (before left after : List Node) → EndsStable left → IsGroupBoundary (before ++ left) after
-boundary_inside before left after ends = λ groups others. Groups-behind (before ++ left) after groups others (inl (EndsStable-append before left ends))
+boundary_inside before left after ends = λ groups others. Groups-after (before ++ left) after groups others (inl (EndsStable-append before left ends))
 
-pub boundary_behind_cut : (cut : Node) (left after : List Node) → Cut cut → EndsStable (cut ∷ left) → IsGroupBoundary left after
-boundary_behind_cut cut left after is_cut ends = λ groups others. Groups-at_stable cut left after groups others is_cut ends
+pub boundary_after_cut : (cut : Node) (left after : List Node) → Cut cut → EndsStable (cut ∷ left) → IsGroupBoundary left after
+boundary_after_cut cut left after is_cut ends = λ groups others. Groups-at_stable cut left after groups others is_cut ends
 
 -- a stable place stays a boundary whatever nodes stand around it
 pub boundary_around : (left right : List Node) → EndsStable left → (before after : List Node) → IsGroupBoundary (before ++ left) (right ++ after)

@@ -1,4 +1,4 @@
--- Where the natural cuts of a stable end stand: lists without natural cuts, and stable ends behind a natural cut.
+-- Where the natural cuts of a stable end stand: lists without natural cuts, and stable ends after a natural cut.
 use Rattle.std.proofs.Common.{◌≡◌, ◌<◌, ◌≤◌, ◌⊎◌, List, [], ◌∷◌, ◌++◌, length, refl, sym, ap, subst, ◌∙◌, inl, inr, arith, append_assoc, append-nil, length-append}
 use Rattle.std.proofs.lemmas.Bool.{false≢true}
 use Rattle.xet_merkle.specs.Groups.{Node, Cut, NotCut, EndsWithCut}
@@ -50,8 +50,8 @@ pub record EndsFirst (nodes : List Node) : Type 0 where
   pub gap : IsStableGap between
 
 -- a list that ends stable where a natural cut stands in front of it
-abbrev pub EndsBehind : List Node → Type 0
-EndsBehind nodes = EndsStable nodes ⊎ EndsFirst nodes
+abbrev pub EndsAfter : List Node → Type 0
+EndsAfter nodes = EndsStable nodes ⊎ EndsFirst nodes
 
 -- the first natural cut of a stable end of two parts stands in the front part
 pub record FirstInFront (front back : List Node) : Type 0 where
@@ -146,14 +146,14 @@ start_is_none front back h ends =
           absurd (not_among h.start gap cut [] (NoCut-front h.start h.between h.gap.no_cut) rest ends.3)
     ]
 
--- behind a natural cut, and before one
-pub after_cut : (front back : List Node) → EndsWithCut front → 0 < length back → EndsStable (front ++ back) → EndsBehind back
+-- after a natural cut, and before one
+pub after_cut : (front back : List Node) → EndsWithCut front → 0 < length back → EndsStable (front ++ back) → EndsAfter back
 after_cut front back ends some h = elim (cut_place front back some h) [
   | inl stable ↦ inl stable
   | inr place ↦ inr (EndsFirst-from_front front back place (start_is_none front back place ends))
 ]
 
-pub before_cut : (front back : List Node) → EndsWithCut front → EndsBehind back → EndsStable (front ++ back)
+pub before_cut : (front back : List Node) → EndsWithCut front → EndsAfter back → EndsStable (front ++ back)
 before_cut front back ends (inl h) = EndsStable-append front back h
 before_cut front back ends (inr h) = record {
   before = ends.0;
@@ -177,22 +177,22 @@ pub EndsWithCut-one : (cut : Node) → Cut cut → EndsWithCut (cut ∷ [])
 EndsWithCut-one cut is_cut = ([], cut, refl, is_cut)
 
 -- the same with one natural cut in front
-pub behind_one : (cut : Node) (back : List Node) → Cut cut → EndsStable (cut ∷ back) → EndsBehind back
-behind_one cut [] is_cut h = absurd (let len = ap length h.parts in let two = h.gap.two in omega (arith, length-append h.before (h.first ∷ (h.between ++ h.last ∷ [])), length-append h.between (h.last ∷ [])))
-behind_one cut (node ∷ back) is_cut h = after_cut (cut ∷ []) (node ∷ back) (EndsWithCut-one cut is_cut) (omega arith) h
+pub after_one : (cut : Node) (back : List Node) → Cut cut → EndsStable (cut ∷ back) → EndsAfter back
+after_one cut [] is_cut h = absurd (let len = ap length h.parts in let two = h.gap.two in omega (arith, length-append h.before (h.first ∷ (h.between ++ h.last ∷ [])), length-append h.between (h.last ∷ [])))
+after_one cut (node ∷ back) is_cut h = after_cut (cut ∷ []) (node ∷ back) (EndsWithCut-one cut is_cut) (omega arith) h
 
-pub EndsStable-one : (cut : Node) (back : List Node) → Cut cut → EndsBehind back → EndsStable (cut ∷ back)
+pub EndsStable-one : (cut : Node) (back : List Node) → Cut cut → EndsAfter back → EndsStable (cut ∷ back)
 EndsStable-one cut back is_cut h = before_cut (cut ∷ []) back (EndsWithCut-one cut is_cut) h
 
 -- a stable end has a natural cut at its end, and three nodes or more
-pub EndsBehind-ends : (nodes : List Node) → EndsBehind nodes → EndsWithCut nodes × (3 ≤ length nodes)
-EndsBehind-ends nodes (inl h) =
+pub EndsAfter-ends : (nodes : List Node) → EndsAfter nodes → EndsWithCut nodes × (3 ≤ length nodes)
+EndsAfter-ends nodes (inl h) =
     let two = h.gap.two in
     let len = ap length h.parts in (
       (h.before ++ h.first ∷ h.between, h.last, h.parts ∙ sym (append_assoc h.before (h.first ∷ h.between) (h.last ∷ [])), h.last_cut),
       omega (arith, length-append h.before (h.first ∷ (h.between ++ h.last ∷ [])), length-append h.between (h.last ∷ [])),
     )
-EndsBehind-ends nodes (inr h) =
+EndsAfter-ends nodes (inr h) =
     let two = h.gap.two in
     let len = ap length h.parts in
     ((h.between, h.last, h.parts, h.last_cut), omega (arith, length-append h.between (h.last ∷ [])))

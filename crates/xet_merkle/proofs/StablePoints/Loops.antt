@@ -53,7 +53,7 @@ NoneSoFar-more nodes i scan d within no_new h =
       none = subst NoStable (sym more) (NoStable-more (take i nodes) scan.has_cut scan.ends_stable scan.since_cut node h.scanned no_new h.none);
     }
 
--- the nodes behind a head, at a node
+-- the nodes after a head, at a node
 around_head : (nodes : List Node) (i : ℕ) (d : Node) (head tail : List Node) → i < length nodes → take i nodes ≡ head ++ tail →
     nodes ≡ head ++ ((tail ++ get_or nodes i d ∷ []) ++ drop (i + 1) nodes)
 around_head nodes i d head tail within e =
@@ -87,7 +87,7 @@ NoneSoFar-all nodes i scan all h = subst NoStable (take_all i nodes all) h.none
 
 -- ---- the last stable place
 
--- the last stable place of some nodes behind a front, if there is one
+-- the last stable place of some nodes after a front, if there is one
 abbrev pub FoundLast : Option ℕ → List Node → List Node → Type 0
 FoundLast None front nodes = NoStable (front ++ nodes)
 FoundLast (Some place) front nodes = IsLastStable (front ++ take place nodes) (drop place nodes)
@@ -157,14 +157,14 @@ LastSoFar-found nodes i scan found front d within since new h =
 not_stable_one : (cut : Node) → EndsStable (cut ∷ []) → ⊥
 not_stable_one cut h = let long = (stable_ends (cut ∷ []) h).1 in omega arith
 
-pub LastSoFar-none : (nodes : List Node) (behind_cut : Bool) (front : List Node) → IsFront behind_cut front →
-    LastSoFar nodes 0 (record { has_cut = behind_cut; ends_stable = false; since_cut = 0 }) None front
+pub LastSoFar-none : (nodes : List Node) (after_cut : Bool) (front : List Node) → IsFront after_cut front →
+    LastSoFar nodes 0 (record { has_cut = after_cut; ends_stable = false; since_cut = 0 }) None front
 LastSoFar-none nodes false front h =
     subst (LastSoFar nodes 0 (record { has_cut = false; ends_stable = false; since_cut = 0 }) None) (sym h)
     (record { scanned = IsScanned-none; last = NoStable-short [] (omega arith) })
 LastSoFar-none nodes true front h =
     let cut = h.0 in
-    let behind : LastSoFar nodes 0 (record { has_cut = true; ends_stable = false; since_cut = 0 }) None (cut ∷ []) = record {
+    let after : LastSoFar nodes 0 (record { has_cut = true; ends_stable = false; since_cut = 0 }) None (cut ∷ []) = record {
       scanned = record {
         head = cut ∷ [];
         tail = [];
@@ -175,30 +175,30 @@ LastSoFar-none nodes true front h =
       };
       last = NoStable-short (cut ∷ []) (omega arith);
     } in
-    subst (LastSoFar nodes 0 (record { has_cut = true; ends_stable = false; since_cut = 0 }) None) (sym h.1) behind
+    subst (LastSoFar nodes 0 (record { has_cut = true; ends_stable = false; since_cut = 0 }) None) (sym h.1) after
 
-pub LastSoFar-last : (nodes : List Node) (i : ℕ) (scan : CutScan) (found : Option ℕ) (behind_cut : Bool) → length nodes ≤ i →
-    ((front : List Node) → IsFront behind_cut front → LastSoFar nodes i scan found front) →
-    IfSome found (λ p. (front : List Node) → IsFront behind_cut front → IsLastStable (front ++ take p nodes) (drop p nodes))
-LastSoFar-last nodes i scan None behind_cut all h = tt
-LastSoFar-last nodes i scan (Some place) behind_cut all h = λ front is_front.
+pub LastSoFar-last : (nodes : List Node) (i : ℕ) (scan : CutScan) (found : Option ℕ) (after_cut : Bool) → length nodes ≤ i →
+    ((front : List Node) → IsFront after_cut front → LastSoFar nodes i scan found front) →
+    IfSome found (λ p. (front : List Node) → IsFront after_cut front → IsLastStable (front ++ take p nodes) (drop p nodes))
+LastSoFar-last nodes i scan None after_cut all h = tt
+LastSoFar-last nodes i scan (Some place) after_cut all h = λ front is_front.
     subst (FoundLast (Some place) front) (take_all i nodes all) (h front is_front).last
 
-pub LastSoFar-no_place : (nodes : List Node) (i : ℕ) (scan : CutScan) (found : Option ℕ) (behind_cut : Bool) → length nodes ≤ i →
-    ((front : List Node) → IsFront behind_cut front → LastSoFar nodes i scan found front) →
-    IfNone found ((front : List Node) → IsFront behind_cut front → NoStable (front ++ nodes))
-LastSoFar-no_place nodes i scan (Some place) behind_cut all h = tt
-LastSoFar-no_place nodes i scan None behind_cut all h = λ front is_front.
+pub LastSoFar-no_place : (nodes : List Node) (i : ℕ) (scan : CutScan) (found : Option ℕ) (after_cut : Bool) → length nodes ≤ i →
+    ((front : List Node) → IsFront after_cut front → LastSoFar nodes i scan found front) →
+    IfNone found ((front : List Node) → IsFront after_cut front → NoStable (front ++ nodes))
+LastSoFar-no_place nodes i scan (Some place) after_cut all h = tt
+LastSoFar-no_place nodes i scan None after_cut all h = λ front is_front.
     subst (FoundLast None front) (take_all i nodes all) (h front is_front).last
 
--- behind nothing
-pub last_behind_nothing : (nodes : List Node) (found : Option ℕ) →
+-- after nothing
+pub last_after_nothing : (nodes : List Node) (found : Option ℕ) →
     IfSome found (λ p. (front : List Node) → IsFront false front → IsLastStable (front ++ take p nodes) (drop p nodes)) →
     IfSome found (λ p. IsLastStable (take p nodes) (drop p nodes))
-last_behind_nothing nodes None h = tt
-last_behind_nothing nodes (Some place) h = h [] refl
+last_after_nothing nodes None h = tt
+last_after_nothing nodes (Some place) h = h [] refl
 
-pub none_behind_nothing : (nodes : List Node) (found : Option ℕ) →
+pub none_after_nothing : (nodes : List Node) (found : Option ℕ) →
     IfNone found ((front : List Node) → IsFront false front → NoStable (front ++ nodes)) → IfNone found (NoStable nodes)
-none_behind_nothing nodes (Some place) h = tt
-none_behind_nothing nodes None h = h [] refl
+none_after_nothing nodes (Some place) h = tt
+none_after_nothing nodes None h = h [] refl

@@ -1,5 +1,5 @@
 -- A scan of a list for stable places, node by node from its start. What it keeps of the nodes so far: how many
--- stand behind the last natural cut, and whether the nodes up to that cut end stable.
+-- stand after the last natural cut, and whether the nodes up to that cut end stable.
 use Rattle.std.proofs.Common.{◌≡◌, ℕ, ◌+◌, ◌≤◌, ◌⊎◌, ◌&&◌, Bool, true, false, List, [], ◌∷◌, ◌++◌, length, refl, sym, ap, subst, ◌∙◌, inl, inr, arith, append_assoc, append-nil, length-append, leb}
 use Rattle.std.proofs.lemmas.Bool.{cases_Bool, false≢true, leb-true, leb-false, and_parts, and_cases, and_from, le-leb}
 use Rattle.std.proofs.lemmas.List.{same_from_push}
@@ -7,7 +7,7 @@ use Rattle.xet_merkle.specs.Groups.{Node, is_cut, Cut, NotCut, EndsWithCut}
 use Rattle.xet_merkle.specs.StablePoints.{IsStableGap, NoCut, EndsStable, BeginsStable, IsStable, NoStable, IsFirstStable, IsLastStable}
 use Rattle.xet_merkle.proofs.Lists.Places.{meets}
 use Rattle.xet_merkle.proofs.Lists.Places.Meets.{same, earlier, later}
-use Rattle.xet_merkle.proofs.StablePoints.CutPlaces.{NoCut-append, NoCut-front, not_among, back_of, EndsFirst, after_cut, before_cut, EndsBehind-ends}
+use Rattle.xet_merkle.proofs.StablePoints.CutPlaces.{NoCut-append, NoCut-front, not_among, back_of, EndsFirst, after_cut, before_cut, EndsAfter-ends}
 use Rattle.xet_merkle.proofs.Lists.PlaceSearch.{same_place}
 use Rattle.xet_merkle.specs.Steps.Scan.{is_stable_gap}
 
@@ -65,12 +65,12 @@ IsScanned-plain front has_cut ends_stable since node h not_cut = record {
 
 -- a head that isn't empty ends with a natural cut
 pub HeadIs-ends : (ends_stable : Bool) (head : List Node) → HeadIs true ends_stable head → EndsWithCut head
-HeadIs-ends true head h = (EndsBehind-ends head (inl h)).0
+HeadIs-ends true head h = (EndsAfter-ends head (inl h)).0
 HeadIs-ends false head h = h.0
 
-head_behind_cut : (head tail : List Node) (node : Node) → EndsWithCut head → NoCut tail → Cut node →
+head_after_cut : (head tail : List Node) (node : Node) → EndsWithCut head → NoCut tail → Cut node →
     HeadIs true (is_stable_gap (length tail)) (head ++ (tail ++ node ∷ []))
-head_behind_cut head tail node ends none cut = elim (cases_Bool (is_stable_gap (length tail))) [
+head_after_cut head tail node ends none cut = elim (cases_Bool (is_stable_gap (length tail))) [
   | inl is_gap ↦
       let range = gap_parts (length tail) is_gap in
       let first : EndsFirst (tail ++ node ∷ []) = record {
@@ -100,7 +100,7 @@ head_behind_cut head tail node ends none cut = elim (cases_Bool (is_stable_gap (
 -- a natural cut
 head_of_cut : (has_cut ends_stable : Bool) (head tail : List Node) (node : Node) → HeadIs has_cut ends_stable head → NoCut tail → Cut node →
     HeadIs true (has_cut && is_stable_gap (length tail)) (head ++ (tail ++ node ∷ []))
-head_of_cut true ends_stable head tail node h none cut = head_behind_cut head tail node (HeadIs-ends ends_stable head h) none cut
+head_of_cut true ends_stable head tail node h none cut = head_after_cut head tail node (HeadIs-ends ends_stable head h) none cut
 head_of_cut false true head tail node h none cut = absurd h
 head_of_cut false false head tail node h none cut = (
   (head ++ tail, node, sym (append_assoc head tail (node ∷ [])), cut),
@@ -123,7 +123,7 @@ IsScanned-cut front has_cut ends_stable since node h cut = record {
       (subst (HeadIs true (has_cut && is_stable_gap (length h.tail))) whole (head_of_cut has_cut ends_stable h.head h.tail node h.head_is h.no_cut cut));
 }
 
--- ---- stable places behind one more node
+-- ---- stable places after one more node
 
 -- a stable place that the nodes had before
 record OldPlace (front left : List Node) : Type 0 where
@@ -191,14 +191,14 @@ push_place front node left right e h =
       | later x gap p q ↦ place_of_rest front node left (x ∷ gap) p h.ends (subst BeginsStable q h.begins)
     ]
 
--- nodes that end with a natural cut have it behind each of their places
+-- nodes that end with a natural cut have it after each of their places
 last_in_rest : (front : List Node) (x : Node) (gap : List Node) → EndsWithCut (front ++ x ∷ gap) → NoCut (x ∷ gap) → ⊥
 last_in_rest front x gap ends none =
     let at = back_of front (x ∷ gap) ends.0 ends.1 (omega arith) ends.2 in
     not_among (x ∷ gap) at.0 ends.1 [] none at.2 ends.3
 
 pub stable_ends : (nodes : List Node) → EndsStable nodes → EndsWithCut nodes × (3 ≤ length nodes)
-stable_ends nodes h = EndsBehind-ends nodes (inl h)
+stable_ends nodes h = EndsAfter-ends nodes (inl h)
 
 -- no part that ends stable is longer than the head
 within_head : (front left rest : List Node) (has_cut ends_stable : Bool) (since : ℕ) (h : IsScanned front has_cut ends_stable since) →
@@ -243,7 +243,7 @@ module _ (front : List Node) (has_cut ends_stable : Bool) (since : ℕ) (node : 
   abbrev completing : Bool
   completing = is_cut node && (ends_stable && is_stable_gap since)
 
-  -- a new stable place is that behind the head
+  -- a new stable place is that after the head
   new_place : (left : List Node) → NewPlace front node left → (completing ≡ true) × (length left ≡ length h.head)
   new_place left new =
       let within = within_head front left new.rest has_cut ends_stable since h new.parts new.ends in
@@ -317,9 +317,9 @@ module _ (front : List Node) (has_cut ends_stable : Bool) (since : ℕ) (node : 
     ];
   }
 
--- ---- more nodes behind the first stable place
+-- ---- more nodes after the first stable place
 
--- a list with a natural cut has its first one, whatever nodes stand behind it
+-- a list with a natural cut has its first one, whatever nodes stand after it
 pub begins_in_front : (front back before : List Node) (cut : Node) (after : List Node) → front ≡ before ++ cut ∷ after → Cut cut → BeginsStable (front ++ back) → BeginsStable front
 begins_in_front front back before cut after e is_cut h = elim (meets front back h.between (h.first ∷ h.after) h.parts) [
   | same p q ↦ absurd (not_among h.between before cut after h.gap.no_cut (sym p ∙ e) is_cut)

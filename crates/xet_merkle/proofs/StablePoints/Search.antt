@@ -5,7 +5,7 @@ use Rattle.xet_merkle.specs.Groups.{Node, Cut}
 use Rattle.xet_merkle.specs.StablePoints.{NoCut, IsStableGap, EndsStable, BeginsStable, IsStable, NoStable, IsFirstStable, IsLastStable}
 use Rattle.xet_merkle.proofs.Lists.Places.{meets}
 use Rattle.xet_merkle.proofs.Lists.Places.Meets.{same, earlier, later}
-use Rattle.xet_merkle.proofs.Groups.OneCutting.{is_or_not_cut}
+use Rattle.xet_merkle.proofs.Grouping.OneCutting.{is_or_not_cut}
 use Rattle.xet_merkle.proofs.StablePoints.CutPlaces.{not_both, not_among, EndsFirst, EndsStable-append, EndsStable-one}
 use Rattle.xet_merkle.proofs.Lists.PlaceSearch.{first_place, last_place}
 
@@ -112,7 +112,7 @@ EndsFirst-decided nodes = elim (first_cut nodes) [
   | inr found ↦ EndsFirst-at nodes found.between found.first found.after found.parts found.first_cut found.no_cut
 ]
 
--- a stable end has its first natural cut at the first node, or behind it
+-- a stable end has its first natural cut at the first node, or after it
 stable_end_at : (node : Node) (nodes before : List Node) (first : Node) (between : List Node) (last : Node) →
     node ∷ nodes ≡ before ++ first ∷ (between ++ last ∷ []) → Cut first → Cut last → IsStableGap between →
     EndsStable nodes ⊎ (Cut node × EndsFirst nodes)

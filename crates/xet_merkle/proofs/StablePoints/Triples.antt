@@ -5,21 +5,21 @@ use Rattle.std.proofs.lemmas.Bool.{cases_lt}
 use Rattle.std.proofs.lemmas.List.{take-append-drop, take_at, drop_at, drop_all}
 use Rattle.xet_merkle.specs.Groups.{Node, Cut}
 use Rattle.xet_merkle.specs.StablePoints.{NoCut, EndsStable, BeginsStable, IsStable, CutAt, IsTriple}
-use Rattle.xet_merkle.proofs.Groups.OneCutting.{is_or_not_cut}
+use Rattle.xet_merkle.proofs.Grouping.OneCutting.{is_or_not_cut}
 use Rattle.xet_merkle.proofs.StablePoints.CutPlaces.{not_both}
 
 -- ---- natural cuts at indices
 
--- behind some nodes
+-- after some nodes
 CutAt-back : (front back : List Node) (i j : ℕ) → j ≡ length front + i → CutAt (front ++ back) j → CutAt back i
 CutAt-back [] back i j e h = let same : j ≡ i = omega arith in subst (CutAt back) same h
 CutAt-back (node ∷ front) back i zero e h = absurd (omega arith)
 CutAt-back (node ∷ front) back i (suc j) e h = CutAt-back front back i j (omega arith) h
 
-CutAt-behind : (front back : List Node) (i j : ℕ) → j ≡ length front + i → CutAt back i → CutAt (front ++ back) j
-CutAt-behind [] back i j e h = let same : i ≡ j = omega arith in subst (CutAt back) same h
-CutAt-behind (node ∷ front) back i zero e h = absurd (omega arith)
-CutAt-behind (node ∷ front) back i (suc j) e h = CutAt-behind front back i j (omega arith) h
+CutAt-append : (front back : List Node) (i j : ℕ) → j ≡ length front + i → CutAt back i → CutAt (front ++ back) j
+CutAt-append [] back i j e h = let same : i ≡ j = omega arith in subst (CutAt back) same h
+CutAt-append (node ∷ front) back i zero e h = absurd (omega arith)
+CutAt-append (node ∷ front) back i (suc j) e h = CutAt-append front back i j (omega arith) h
 
 no_cut_at : (nodes rest : List Node) (i : ℕ) → NoCut nodes → i < length nodes → CutAt (nodes ++ rest) i → ⊥
 no_cut_at [] rest i none within h = omega arith
@@ -72,16 +72,16 @@ module _ (before : List Node) (first : Node) (one : List Node) (second : Node) (
       IsTriple (before ++ from_first) (length before) index_b (index_b + (length two + 1))
   triple_at cut_first cut_second cut_third no_one no_two two_one six_one two_two six_two =
       let at_first = λ (i j : ℕ) (e : j ≡ length before + (1 + i)) (h : CutAt (one ++ from_second) i).
-      CutAt-behind before from_first (suc i) j (omega arith) h in
+      CutAt-append before from_first (suc i) j (omega arith) h in
       let in_first = λ (i j : ℕ) (e : j ≡ length before + (1 + i)) (h : CutAt (before ++ from_first) j).
       let inner : CutAt (one ++ from_second) i = CutAt-back before from_first (suc i) j (omega arith) h in inner in
       record {
-        cut_a = CutAt-behind before from_first zero (length before) (omega arith) cut_first;
-        cut_b = at_first (length one) index_b (omega arith) (CutAt-behind one from_second zero (length one) (omega arith) cut_second);
+        cut_a = CutAt-append before from_first zero (length before) (omega arith) cut_first;
+        cut_b = at_first (length one) index_b (omega arith) (CutAt-append one from_second zero (length one) (omega arith) cut_second);
         cut_c =
             at_first (length one + (length two + 1)) (index_b + (length two + 1)) (omega arith)
-            (CutAt-behind one from_second (suc (length two)) (length one + (length two + 1)) (omega arith)
-            (CutAt-behind two (third ∷ after) zero (length two) (omega arith) cut_third));
+            (CutAt-append one from_second (suc (length two)) (length one + (length two + 1)) (omega arith)
+            (CutAt-append two (third ∷ after) zero (length two) (omega arith) cut_third));
         three_to_b = omega arith;
         seven_to_b = omega arith;
         three_to_c = omega arith;
@@ -146,13 +146,13 @@ next_cut nodes i h none =
       no_cut = NoCut-from at.before (at.node ∷ at.after) (λ k within cut. none k (omega arith) (subst (λ (l : List Node). CutAt l k) (sym at.parts) cut));
     }
 
--- behind a node
+-- after a node
 CutAt-after : (before : List Node) (node : Node) (after : List Node) (i j : ℕ) → j ≡ length before + 1 + i → CutAt (before ++ node ∷ after) j → CutAt after i
 CutAt-after before node after i j e h =
     let inner : CutAt after i = CutAt-back before (node ∷ after) (suc i) j (omega arith) h in inner
 
 CutAt-from_after : (before : List Node) (node : Node) (after : List Node) (i j : ℕ) → j ≡ length before + 1 + i → CutAt after i → CutAt (before ++ node ∷ after) j
-CutAt-from_after before node after i j e h = CutAt-behind before (node ∷ after) (suc i) j (omega arith) h
+CutAt-from_after before node after i j e h = CutAt-append before (node ∷ after) (suc i) j (omega arith) h
 
 -- the natural cut that comes next after one
 cut_after_cut : (before : List Node) (node : Node) (after : List Node) (b : ℕ) → length before < b → CutAt (before ++ node ∷ after) b →

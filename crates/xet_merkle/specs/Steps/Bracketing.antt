@@ -1,15 +1,10 @@
 -- The leaves of a bracketing in order, each with the number of joins that begin with it, and how they are joined.
-use Rattle.std.specs.Prelude.{◌≡◌, ℕ, zero, suc, ◌+◌, ◌-◌, ◌^◌, ◌<◌, ◌≤◌, ◌↔◌, Bool, true, false, List, [], ◌∷◌, ◌++◌, Option, Some, None, SomeIff, IsTrue, length, Box}
+use Rattle.std.specs.Prelude.{◌≡◌, ℕ, zero, suc, ◌+◌, ◌-◌, ◌≤◌, List, [], ◌∷◌, ◌++◌, Option, Some, None, length, Box}
 use Rattle.std.specs.declared.alloc.Global.{Global}
-use Rattle.xet_merkle.specs.declared.error.CoreError.{CoreError}
-use Rattle.xet_merkle.specs.declared.error.CoreError.TheVariants.{InvalidArguments, SizeOverflow}
 use Rattle.xet_merkle.specs.declared.merge_tree.MergeTree.{MergeTree}
 use Rattle.xet_merkle.specs.declared.merge_tree.MergeTree.TheVariants.{Leaf, Join'}
 use Rattle.xet_merkle.specs.declared.merge_tree.Turned.{Turned}
 use Rattle.xet_merkle.specs.declared.merge_tree.Turned.TheVariants.{Taken, Lowered}
-use Rattle.xet_merkle.specs.declared.merge_tree.Passed.{Passed}
-use Rattle.xet_merkle.specs.Ranges.{AreApart, total_of}
-use Rattle.xet_merkle.specs.Steps.RangeMerging.{end_of_last}
 use Rattle.xet_merkle.specs.MergeTree.{leaves}
 
 -- the leaves of a tree, `begun` joins having begun with the first of them before
@@ -23,14 +18,8 @@ entries_after begun links (Leaf range) = (begun, range) ∷ []
 entries_after begun zero (Join' p left q right) = entries (suc begun) left ++ entries 0 right
 entries_after begun (suc links) (Join' p left q right) = entries begun left ++ entries_after 0 links right
 
--- what is known of the leaves that were passed
-pub record IsPassed {R : Type 0} (start end : R → Bool) (total : R → ℕ) (passed : Passed) (ranges : List R) : Type 0 where
-  pub last : passed.last_end ≡ end_of_last end ranges
-  pub apart : IsTrue passed.are_apart ↔ AreApart start end ranges
-  pub sum : SomeIff passed.total (total_of total ranges < 2 ^ 64) (total_of total ranges)
-
--- how many values there are once entries are joined, the last first, behind so many values; and that each join
--- finds its right operand
+-- how many values there are once entries are joined, the last first, after so many values; and that each join
+-- finds its back operand
 abbrev pub depth : {R : Type 0} → List (ℕ × R) → ℕ → ℕ
 depth [] values = values
 depth (entry ∷ more) values = depth more values - entry.0 + 1
@@ -56,17 +45,6 @@ abbrev pub Follow : {X : Type 0} → Option X → Option X → (X → X → Type
 Follow old None P = Unit {0}
 Follow None (Some new) P = ⊥
 Follow (Some old) (Some new) P = P old new
-
--- no mark stands between the last range, if there is one, and the next
-abbrev pub Follows : Option Bool → Bool → Type 0
-Follows None start = Unit {0}
-Follows (Some end) start = (end ≡ false) × (start ≡ false)
-
--- why ranges of which this is known can't be joined
-abbrev pub refusal : Bool → Option ℕ → Option CoreError
-refusal false total = Some InvalidArguments
-refusal true None = Some SizeOverflow
-refusal true (Some total) = None
 
 -- the leaves on the left of each join
 abbrev pub lefts : {R A : Type 0} → MergeTree R A → ℕ

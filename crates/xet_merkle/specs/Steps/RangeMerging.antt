@@ -2,7 +2,7 @@
 use Rattle.std.specs.Prelude.{◌≡◌, ℕ, Bool, List, [], ◌∷◌, Option, Some, None, flat_map}
 use Rattle.std.specs.List.{AllZip}
 use Rattle.xet_merkle.specs.Groups.{Node}
-use Rattle.xet_merkle.specs.Ranges.{AreApart, total_of}
+use Rattle.xet_merkle.specs.Ranges.{NoMarkBetween, total_of}
 
 -- the mark at the end of the last of some ranges
 abbrev pub end_of_last : {R : Type 0} → (R → Bool) → List R → Option Bool
@@ -17,7 +17,7 @@ start_of_first start (range ∷ ranges) = Some (start range)
 
 -- adjacent ranges are joined to others
 pub record JoinsTo {R : Type 0} (stands : R → List Node → Type 0) (start end : R → Bool) (total : R → ℕ) (ranges others : List R) : Type 0 where
-  pub apart : AreApart start end others
+  pub marks : NoMarkBetween start end others
   pub first : start_of_first start others ≡ start_of_first start ranges
   pub last : end_of_last end others ≡ end_of_last end ranges
   pub sum : total_of total others ≡ total_of total ranges

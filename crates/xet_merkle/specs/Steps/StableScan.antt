@@ -1,4 +1,4 @@
--- What a scan for stable points keeps, and what it stands behind. Private contracts and proofs speak of it;
+-- What a scan for stable points keeps, and what it stands after. Private contracts and proofs speak of it;
 -- what a reader has to believe stands in StablePoints.
 use Rattle.std.specs.Prelude.{◌≡◌, ◌+◌, ◌≤◌, Bool, true, false, not, ◌&&◌, List, [], ◌∷◌, ◌++◌, length}
 use Rattle.xet_merkle.specs.Groups.{Node, is_cut, Cut}
@@ -11,7 +11,7 @@ use Rattle.xet_merkle.specs.declared.merkle_hash_subtree.stable_points.CutScan.{
 abbrev pub completes : CutScan → Bool → Bool
 completes scan is_cut = is_cut && (scan.ends_stable && is_stable_gap scan.since_cut)
 
--- the scan behind the next node
+-- the scan after the next node
 abbrev pub next_scan : CutScan → Bool → CutScan
 next_scan scan true = record { has_cut = true; ends_stable = scan.has_cut && is_stable_gap scan.since_cut; since_cut = 0 }
 next_scan scan false = record { has_cut = scan.has_cut; ends_stable = scan.ends_stable; since_cut = scan.since_cut + 1 }
@@ -21,16 +21,16 @@ abbrev pub IsFront : Bool → List Node → Type 0
 IsFront true front = (cut : Node) × (front ≡ cut ∷ []) × Cut cut
 IsFront false front = front ≡ []
 
--- the scan behind some nodes, and whether none of them is the third natural cut of a stable point
-abbrev pub scan_behind : CutScan → List Node → CutScan
-scan_behind scan [] = scan
-scan_behind scan (node ∷ nodes) = scan_behind (next_scan scan (is_cut node)) nodes
+-- the scan after some nodes, and whether none of them is the third natural cut of a stable point
+abbrev pub scan_after : CutScan → List Node → CutScan
+scan_after scan [] = scan
+scan_after scan (node ∷ nodes) = scan_after (next_scan scan (is_cut node)) nodes
 
 abbrev pub completes_none : CutScan → List Node → Bool
 completes_none scan [] = true
 completes_none scan (node ∷ nodes) = not (completes scan (is_cut node)) && completes_none (next_scan scan (is_cut node)) nodes
 
--- more nodes behind others bring up no stable point, also where one node stands in front: each one was there before
+-- more nodes after others bring up no stable point, also where one node stands in front: each one was there before
 abbrev pub AddsNoStable : List Node → List Node → Type 0
 AddsNoStable nodes more = (front left right : List Node) → length front ≤ 1 → (front ++ nodes) ++ more ≡ left ++ right → IsStable left right →
     (rest : List Node) × (front ++ nodes ≡ left ++ rest) × IsStable left rest

@@ -9,7 +9,8 @@ ghost use Rattle.xet_merkle.specs.Steps.Scan.{AreParents};
 
 use super::levels::{LevelNodes, pushed};
 use super::split::{Split, find_split};
-use crate::aggregated_hashes::{Node, parents};
+use crate::aggregated_hashes::parents;
+use crate::groups::Node;
 use crate::parent_maker::{ParentHashes, ParentMaker};
 use std::alloc::{AllocError, Allocator};
 

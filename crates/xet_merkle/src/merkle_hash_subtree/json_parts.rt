@@ -9,8 +9,8 @@ ghost use Rattle.xet_merkle.specs.Groups.{Node};
 ghost use Rattle.xet_merkle.specs.declared.error.CoreError.TheVariants.{OutOfMemory, InvalidJson};
 ghost use Rattle.xet_merkle.specs.JsonParts.{whole, ReadsNode, ReadsCounts, HasMembers, ReadsParts, BreaksPartRule};
 
-use crate::aggregated_hashes::Node;
 use crate::error::CoreError;
+use crate::groups::Node;
 use serde_json::Value;
 use std::alloc::Allocator;
 use xet_hash::data_hash::DataHash;

@@ -4,9 +4,9 @@ ghost use Rattle.std.specs.Prelude.{◌≡◌, ◌^◌, ◌<◌, ◌≤◌, ◌-
 ghost use Rattle.xet_merkle.specs.Levels.{Level, left_at, right_at, top_of, below_top, node_count};
 ghost use Rattle.xet_merkle.specs.Subtree.{same_level};
 ghost use Rattle.xet_merkle.specs.Steps.SubtreeEquality.{same_level-per, same_level-equiv};
-ghost use Rattle.xet_merkle.specs.Steps.Joining.{operand, inner_nodes, with_inner, lowest_with};
+ghost use Rattle.xet_merkle.specs.Steps.LevelMerging.{operand, inner_nodes, with_inner, lowest_with};
 
-use crate::aggregated_hashes::Node;
+use crate::groups::Node;
 use std::alloc::{AllocError, Allocator};
 use std::marker::Model;
 
@@ -145,7 +145,7 @@ pub(super) fn below_top<A: Allocator>(levels: &[LevelNodes<A>]) -> &[LevelNodes<
     }
 }
 
-// The nodes of an operand's first level towards one on its right: all of the top, else the right ones.
+// The nodes of an operand's first level towards the back one: all of the top, else the right ones.
 pub(super) fn inner<A: Allocator>(levels: &[LevelNodes<A>]) -> &[Node]
     ensures { result.now ≡ inner_nodes (operand levels.now) }
 {
@@ -165,7 +165,7 @@ pub(super) fn above<A: Allocator>(levels: &[LevelNodes<A>]) -> &[LevelNodes<A>]
     }
 }
 
-// Puts nodes behind those that a left operand has of a level towards the right one.
+// Puts nodes after those that a front operand has of a level towards the back one.
 pub(super) fn extend_inner<A: Allocator>(
     levels: &mut Vec<LevelNodes<A>, A>,
     at: usize,

@@ -5,7 +5,7 @@ ghost use Rattle.xet_merkle.specs.StablePoints.{EndsStable, BeginsStable};
 ghost use Rattle.xet_merkle.specs.WellFormed.{IsLeftSide, IsRightSide};
 
 use super::stable_points::{ends_stable, find_stable_start, is_stable_gap, last_stable};
-use crate::aggregated_hashes::{Node, is_natural_cut};
+use crate::groups::{Node, is_natural_cut};
 
 // Whether nodes may stay on the left where the start isn't marked.
 pub(super) fn is_left_side(nodes: &[Node]) -> bool

@@ -5,7 +5,7 @@ ghost use Rattle.xet_merkle.specs.Groups.{Node};
 ghost use Rattle.xet_merkle.specs.Canonical.{IsLow, IsHigh, IsSplit};
 
 use super::stable_points::{find_stable_end, find_stable_start};
-use crate::aggregated_hashes::Node;
+use crate::groups::Node;
 
 // The nodes of a level: those that are collapsed, between those that stay on either side.
 #[derive(Clone, Copy)]

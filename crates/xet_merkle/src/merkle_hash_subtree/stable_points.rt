@@ -5,9 +5,16 @@ ghost use Rattle.std.specs.Prelude.{◌≡◌, ◌+◌, ◌<◌, ◌≤◌, ◌�
 ghost use Rattle.xet_merkle.specs.Groups.{Node};
 ghost use Rattle.xet_merkle.specs.StablePoints.{EndsStable, NoStable, IsFirstStable, IsLastStable, IsGroupBoundary};
 ghost use Rattle.xet_merkle.specs.Steps.Scan.{is_stable_gap};
-ghost use Rattle.xet_merkle.specs.Steps.StableScan.{completes, next_scan, IsFront, scan_behind, completes_none, AddsNoStable};
+ghost use Rattle.xet_merkle.specs.Steps.StableScan.{completes, next_scan, IsFront, scan_after, completes_none, AddsNoStable};
 
-use crate::aggregated_hashes::{Node, is_natural_cut};
+use crate::groups::{MAX_GROUP_LEN, MIN_GROUP_LEN, Node, is_natural_cut};
+
+// The fewest and the most nodes between two natural cuts, so that a group ends after the second one whatever nodes stand
+// before: with two or more between, it may end also a group that begins right after the first one; with six or fewer,
+// it is in reach of a group that the first one is too early to end, at index 0 or 1.
+const MIN_GAP: usize = MIN_GROUP_LEN - 1;
+
+const MAX_GAP: usize = MAX_GROUP_LEN - MIN_GROUP_LEN;
 
 // What a scan keeps of the nodes that it has passed.
 #[derive(Clone, Copy)]
@@ -16,7 +23,7 @@ struct CutScan {
     has_cut: bool,
     // Whether the nodes up to the last natural cut end 3 to 7 nodes after the natural cut before it.
     ends_stable: bool,
-    // How many nodes stand behind the last natural cut.
+    // How many nodes stand after the last natural cut.
     since_cut: usize,
 }
 
@@ -24,16 +31,16 @@ struct CutScan {
 pub(super) fn is_stable_gap(between: usize) -> bool
     ensures { result ≡ is_stable_gap between }
 {
-    (2..=6).contains(&between)
+    (MIN_GAP..=MAX_GAP).contains(&between)
 }
 
 impl CutScan {
-    // The start of a scan, behind a natural cut or behind nothing.
-    fn new(behind_cut: bool) -> Self
-        ensures { result ≡ record { has_cut = behind_cut; ends_stable = false; since_cut = 0 } }
+    // The start of a scan, after a natural cut or after nothing.
+    fn new(after_cut: bool) -> Self
+        ensures { result ≡ record { has_cut = after_cut; ends_stable = false; since_cut = 0 } }
     {
         CutScan {
-            has_cut: behind_cut,
+            has_cut: after_cut,
             ends_stable: false,
             since_cut: 0,
         }
@@ -70,7 +77,7 @@ impl CutScan {
     // Passes some nodes: whether none of them is the third natural cut of a stable point.
     fn pass_all(&mut self, nodes: &[Node]) -> bool
         requires { self.old.since_cut + length nodes.now < usize.MAX }
-        ensures scan { self.new ≡ scan_behind self.old nodes.now }
+        ensures scan { self.new ≡ scan_after self.old nodes.now }
         ensures none { result ≡ completes_none self.old nodes.now }
     {
         let mut none = true;
@@ -83,10 +90,10 @@ impl CutScan {
     }
 }
 
-// A stable point's third natural cut stands at most so many nodes behind its first one.
-const LOOK_BACK: usize = 14;
+// A stable point's third natural cut stands at most so many nodes after its first one.
+const LOOK_BACK: usize = 2 * (MAX_GAP + 1);
 
-// Whether nodes bring up no stable point where they are put behind others, in two parts. Of the others only the last
+// Whether nodes bring up no stable point where they are put after others, in two parts. Of the others only the last
 // few are looked at.
 pub(super) fn adds_no_stable(nodes: &[Node], first: &[Node], second: &[Node]) -> bool
     ensures { IsTrue result → AddsNoStable nodes.now (first.now ++ second.now) }
@@ -128,14 +135,14 @@ pub fn find_stable_start(nodes: &[Node]) -> Option<usize>
     None
 }
 
-// The last stable point of some nodes, where they stand behind a natural cut or behind nothing.
-pub(crate) fn last_stable(nodes: &[Node], behind_cut: bool) -> Option<usize>
+// The last stable point of some nodes, where they stand after a natural cut or after nothing.
+pub(crate) fn last_stable(nodes: &[Node], after_cut: bool) -> Option<usize>
     ensures bound { IfSome result (λ p. p ≤ length nodes.now) }
-    ensures last { IfSome result (λ p. (front : List Node) → IsFront behind_cut front →
+    ensures last { IfSome result (λ p. (front : List Node) → IsFront after_cut front →
         IsLastStable (front ++ take p nodes.now) (drop p nodes.now)) }
-    ensures none { IfNone result ((front : List Node) → IsFront behind_cut front → NoStable (front ++ nodes.now)) }
+    ensures none { IfNone result ((front : List Node) → IsFront after_cut front → NoStable (front ++ nodes.now)) }
 {
-    let mut scan = CutScan::new(behind_cut);
+    let mut scan = CutScan::new(after_cut);
     let mut found = None;
     'scan: for i in 0..nodes.len() {
         let is_cut = is_natural_cut(&nodes[i]);

@@ -15,8 +15,8 @@ mod merging;
 
 use super::collapse::collapse_chunks;
 use super::levels::{LevelNodes, copy_levels, count_nodes, left_at, right_at, top};
-use crate::aggregated_hashes::{Node, total_size};
 use crate::error::CoreError;
+use crate::groups::{Node, total_size};
 use std::alloc::{AllocError, Allocator, Global};
 use std::marker::Model;
 use xet_hash::data_hash::MerkleHash;

@@ -3,7 +3,15 @@ use Rattle.std.specs.Prelude.{◌≡◌, ℕ, List}
 use Rattle.xet_merkle.specs.Subtree.{Subtree}
 use Rattle.line_io.specs.Lines.{NoNewline}
 use Rattle.xetrange_text.specs.declared.merged_lines.MergedLines.{MergedLines}
-use Rattle.xetrange_text.specs.Ranges.{AreRanges, AreMerged}
+use Rattle.xetrange_text.specs.declared.fault.LineFault.{LineFault}
+use Rattle.xetrange_text.specs.declared.fault.LineFault.TheVariants.{Bad, NoRange, Sizes as passes_sizes}
+use Rattle.xetrange_text.specs.Ranges.{SaysNoRange, AreRanges, AreMerged}
+
+-- a line's content is refused for what it says
+abbrev pub IsNoRange : List ℕ → LineFault → Type 0
+IsNoRange text (NoRange rule) = SaysNoRange text rule
+IsNoRange text Bad = ⊥
+IsNoRange text passes_sizes = ⊥
 
 module _ {A : Type 0} where
   -- lines of ranges were taken, and the beginning of a line

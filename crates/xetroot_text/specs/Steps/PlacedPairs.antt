@@ -4,6 +4,7 @@ use Rattle.xet_merkle.specs.Groups.{Node}
 use Rattle.xet_merkle.specs.Roots.{total_size}
 use Rattle.xet_merkle.specs.declared.chunk_range.ChunkRange as chunk_range
 use Rattle.upload_session.specs.Session.{Placed, Parts, SessionStands, chunks_of, is_taken, overlaps, place}
+use Rattle.upload_session.specs.declared.kept_hashes.KeptHashes as kept_hashes
 use Rattle.upload_session.specs.declared.kept_hashes.NoHashes.{NoHashes}
 use Rattle.xetroot_text.specs.declared.fault.LineFault.{LineFault}
 use Rattle.xetroot_text.specs.declared.fault.LineFault.TheVariants.{Bad, Overlap, Sizes}
@@ -23,13 +24,19 @@ pub record Gathered (C : Type 0) : Type 0 where
 abbrev pub StandAmong : List Placed → ℕ → List Node → List Placed → Type 0
 StandAmong before first [] pairs = pairs ≡ before
 StandAmong before first (pair ∷ more) pairs =
-    (overlaps before first (length (pair ∷ more)) ≡ false) × (pairs ≡ place before first (pair ∷ more))
+    (overlaps before first (length (pair ∷ more)) ≡ false)
+    × (pairs ≡ place before first (pair ∷ more))
 
-module _ {C A : Type 0} (kept : chunk_range.Ghosts C A) where
+-- what `NoHashes` knows of hashes, and what it tells of them: nothing
+abbrev pub no_hashes : {A : Type 0} → kept_hashes.Ghosts NoHashes A
+no_hashes = record { knows = λ _ _. Unit {0}; tells = λ _ _ _. Unit {0} }
+
+module _ {C A : Type 0} (kind : chunk_range.Ghosts C A) where
   -- a session and the pairs of an open range are some pairs by position, where the next one has a position
-  pub record StandForPlaced (session : Parts C NoHashes) (range : List Node) (first next total : ℕ) (pairs : List Placed) : Type 0 where
+  pub record StandForPlaced (session : Parts C NoHashes) (range : List Node)
+      (first next total : ℕ) (pairs : List Placed) : Type 0 where
     pub before : List Placed
-    pub ended : SessionStands kept.stands kept.start kept.end (λ _ _. Unit {0}) session before
+    pub ended : SessionStands kind no_hashes session before
     pub among : StandAmong before first range pairs
     pub adjacent : first + length range ≡ next
     pub low : next < 2 ^ 64
@@ -39,16 +46,19 @@ module _ {C A : Type 0} (kept : chunk_range.Ghosts C A) where
   -- what is kept is some pairs, and the next one has a position
   abbrev pub StandForPairs : Gathered C → List Placed → ℕ → Type 0
   StandForPairs placed pairs next =
-      StandForPlaced placed.session placed.range placed.first next placed.total pairs × (placed.next ≡ next)
+      StandForPlaced placed.session placed.range placed.first next placed.total pairs
+      × (placed.next ≡ next)
 
   -- it is what some good lines say
   abbrev pub StandForLines : Gathered C → List (List ℕ) → Type 0
   StandForLines placed lines =
-      (pairs : List Placed) × (next : ℕ) × StandForPairs placed pairs next × (placed.count ≡ length pairs) × AreGood lines pairs next
+      (pairs : List Placed) × (next : ℕ) × StandForPairs placed pairs next
+      × (placed.count ≡ length pairs) × AreGood lines pairs next
 
 -- the fault of a pair after others, where the next position is the last or taken, or the sizes pass 2 ^ 64 - 1
 abbrev pub IsPairFault : List Placed → ℕ → Node → LineFault → Type 0
 IsPairFault pairs next pair Bad = 2 ^ 64 - 1 ≤ next
 IsPairFault pairs next pair Overlap = (next < 2 ^ 64 - 1) × IsTrue (is_taken pairs next)
 IsPairFault pairs next pair Sizes =
-    (next < 2 ^ 64 - 1) × ¬ (IsTrue (is_taken pairs next)) × (2 ^ 64 ≤ total_size (chunks_of pairs) + pair.1)
+    (next < 2 ^ 64 - 1) × ¬ (IsTrue (is_taken pairs next))
+    × (2 ^ 64 ≤ total_size (chunks_of pairs) + pair.1)

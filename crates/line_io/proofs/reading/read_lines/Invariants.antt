@@ -1,4 +1,5 @@
-use Rattle.std.proofs.Common.{ℕ, List, ◌-◌, ◌^◌}
+use Rattle.std.proofs.Common.{ℕ, List, ◌-◌}
+use Rattle.line_io.specs.Lines.{byte_limit}
 use Rattle.std.specs.Io.KnownBytes.{Consumes}
 use Rattle.line_io.specs.Steps.Taken.{IsTaken}
 use Rattle.line_io.proofs.reading.read_lines.Given as goal
@@ -8,4 +9,4 @@ invariant-pieces g l = (text : List ℕ) × IsTaken g.L.TakeLines.has_taken l.re
     × Consumes (g.R.Read.remaining l.fn.r) (g.R.Read.remaining l.r) text
 
 abbrev pub decreases-pieces : goal.decreases-pieces
-decreases-pieces g l = 2 ^ 40 - l.reading.count
+decreases-pieces g l = byte_limit - l.reading.count

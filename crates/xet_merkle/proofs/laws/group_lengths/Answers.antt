@@ -1,4 +1,4 @@
-use Rattle.xet_merkle.proofs.Groups.OneCutting.{group_length}
+use Rattle.xet_merkle.proofs.Grouping.OneCutting.{group_length}
 use Rattle.xet_merkle.proofs.laws.group_lengths.Goals as goal
 
 pub returns : goal.returns

@@ -1,4 +1,4 @@
-use Rattle.xet_merkle.proofs.Groups.OneCutting.{Groups-exist, Groups-unique}
+use Rattle.xet_merkle.proofs.Grouping.OneCutting.{Groups-exist, Groups-unique}
 use Rattle.xet_merkle.proofs.laws.one_cutting.Goals as goal
 
 pub returns-clause-exists : goal.returns-clause-exists

@@ -1,11 +1,11 @@
-use Rattle.std.proofs.Common.{◌≡◌, ◌+◌, ◌-◌, ◌<◌, [], ◌∷◌, ◌++◌, length, map, reverse, length-append, Err, sym, ap, subst, ◌∙◌, append-nil, inl, inr, arith, rules}
-use Rattle.std.proofs.lemmas.Bool.{false≢true}
+use Rattle.std.proofs.Common.{◌≡◌, ◌+◌, ◌-◌, ◌^◌, ◌<◌, [], ◌∷◌, ◌++◌, length, map, reverse, length-append, sym, ap, subst, ◌∙◌, append-nil, arith, rules}
 use Rattle.std.proofs.lemmas.List.{reverse-append}
 use Rattle.xet_merkle.specs.Steps.Bracketing.{depth, AreBegun}
 use Rattle.xet_merkle.specs.Steps.RangeMerging.{JoinsTo}
 use Rattle.xet_merkle.proofs.Json.Reading.{passed_on}
+use Rattle.xet_merkle.proofs.Merging.Adjacent.{for_memory}
 use Rattle.xet_merkle.proofs.Merging.Bracketing.{depth-append, AreBegun-append}
-use Rattle.xet_merkle.proofs.Merging.Ranges.{JoinsTo-all, JoinsTo-join, apart_at, total_at}
+use Rattle.xet_merkle.proofs.Merging.Ranges.{JoinsTo-all, JoinsTo-join, unmarked_at, total_at}
 use Rattle.xet_merkle.proofs.merge_tree.join_entries.Goals as goal
 
 pub entries-init : goal.entries-init
@@ -15,7 +15,7 @@ entries-init g c =
       begun = c.requires.begun;
       one = c.requires.one;
       joins = subst (JoinsTo g.R.ChunkRange.stands g.R.ChunkRange.start g.R.ChunkRange.end g.R.ChunkRange.total ranges) (sym (append-nil ranges))
-          (JoinsTo-all g.R.ChunkRange.stands g.R.ChunkRange.start g.R.ChunkRange.end g.R.ChunkRange.total ranges c.requires.apart);
+          (JoinsTo-all g.R.ChunkRange.stands g.R.ChunkRange.start g.R.ChunkRange.end g.R.ChunkRange.total ranges c.requires.marks);
     })
 
 pub unwrap-right-requires : goal.unwrap-right-requires
@@ -38,20 +38,13 @@ returns-in_err-join-clause-errors g c =
     let back = ap reverse taken ∙ reverse-append values (right ∷ []) in
     let joins : JoinsTo g.R.ChunkRange.stands g.R.ChunkRange.start g.R.ChunkRange.end g.R.ChunkRange.total ranges (before ++ c.begun.range ∷ right ∷ reverse values) =
     subst (λ l. JoinsTo g.R.ChunkRange.stands g.R.ChunkRange.start g.R.ChunkRange.end g.R.ChunkRange.total ranges (before ++ c.begun.range ∷ l)) back c.begun.invariant.joins in
-    let apart = apart_at g.R.ChunkRange.stands g.R.ChunkRange.start g.R.ChunkRange.end g.R.ChunkRange.total before (reverse values) c.begun.range right joins.apart in
+    let marks = unmarked_at g.R.ChunkRange.stands g.R.ChunkRange.start g.R.ChunkRange.end g.R.ChunkRange.total before (reverse values) c.begun.range right joins.marks in
     let most = total_at g.R.ChunkRange.stands g.R.ChunkRange.start g.R.ChunkRange.end g.R.ChunkRange.total before (reverse values) c.begun.range right in
     let sum = joins.sum in
     let fits = c.requires.fits in
-    passed_on _ c.from_residual.result c.in_err-join.field-0.0 c.from_residual.ensures.1 (elim c.in_err-join.ensures.errors [
-      | inl arguments ↦ elim (c.in_err-join.ensures.arguments.0 (ap Err arguments)) [
-        | inl marked ↦ absurd (false≢true (sym apart.0 ∙ marked))
-        | inr marked ↦ absurd (false≢true (sym apart.1 ∙ marked))
-      ]
-      | inr other ↦ elim other [
-        | inl overflow ↦ absurd (let past = (c.in_err-join.ensures.overflow.0 (ap Err overflow)).1 in omega arith)
-        | inr memory ↦ memory
-      ]
-    ])
+    let small : g.R.ChunkRange.total c.begun.range + g.R.ChunkRange.total right < 2 ^ 64 = omega arith in
+    passed_on _ c.from_residual.result c.in_err-join.field-0.0 c.from_residual.ensures.1
+    (for_memory marks small c.in_err-join.field-0.0 c.in_err-join.ensures.refusals)
 
 pub begun-preserved : goal.begun-preserved
 begun-preserved g c =

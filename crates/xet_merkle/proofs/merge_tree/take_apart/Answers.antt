@@ -3,7 +3,8 @@ use Rattle.std.specs.Prelude.{IfSome}
 use Rattle.xet_merkle.specs.declared.merge_tree.MergeTree.TheVariants.{Join, Join'}
 use Rattle.xet_merkle.specs.MergeTree.{leaves}
 use Rattle.xet_merkle.specs.Steps.Bracketing.{entries, entries_after, lefts}
-use Rattle.xet_merkle.proofs.Merging.Bracketing.{IsPassed-none, entries_after-none, taken_order, lowered_order, lowered_lefts}
+use Rattle.xet_merkle.proofs.Merging.Adjacent.{IsPassed-none}
+use Rattle.xet_merkle.proofs.Merging.Bracketing.{entries_after-none, taken_order, lowered_order, lowered_lefts}
 use Rattle.xet_merkle.proofs.merge_tree.take_apart.Goals as goal
 
 pub leaves-init : goal.leaves-init

@@ -1,7 +1,8 @@
 use Rattle.std.proofs.Common.{◌≡◌, List, ◌++◌}
 use Rattle.std.specs.Prelude.{IfSome}
 use Rattle.xet_merkle.specs.MergeTree.{leaves}
-use Rattle.xet_merkle.specs.Steps.Bracketing.{entries, entries_after, IsPassed, lefts}
+use Rattle.xet_merkle.specs.Steps.Adjacent.{IsPassed}
+use Rattle.xet_merkle.specs.Steps.Bracketing.{entries, entries_after, lefts}
 use Rattle.xet_merkle.proofs.merge_tree.take_apart.Given as goal
 
 abbrev pub invariant-leaves : goal.invariant-leaves

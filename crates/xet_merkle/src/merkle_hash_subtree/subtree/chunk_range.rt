@@ -5,9 +5,9 @@ ghost use Rattle.xet_merkle.specs.Levels.{levels_size};
 ghost use Rattle.xet_merkle.specs.Subtree.{IsCanonical};
 
 use super::MerkleHashSubtree;
-use crate::aggregated_hashes::Node;
 use crate::chunk_range::ChunkRange;
 use crate::error::CoreError;
+use crate::groups::Node;
 use std::alloc::Allocator;
 use xet_hash::data_hash::MerkleHash;
 
@@ -43,8 +43,8 @@ impl<A: Allocator + Clone> ChunkRange for MerkleHashSubtree<A> {
         MerkleHashSubtree::total_size(self)
     }
 
-    fn join(&mut self, right: &Self) -> Result<(), CoreError> {
-        self.merge_into(right)
+    fn join(&mut self, back: &Self) -> Result<(), CoreError> {
+        self.merge_into(back)
     }
 
     fn root(&self) -> Result<Option<MerkleHash>, CoreError> {

@@ -14,8 +14,8 @@ ghost use Rattle.xet_merkle.specs.declared.error.CoreError.TheVariants.{InvalidJ
 ghost use Rattle.xet_merkle.specs.SubtreeJson.{node_json, counts_json, subtree_object, subtree_json};
 
 use super::MerkleHashSubtree;
-use crate::aggregated_hashes::{Node, total_size};
 use crate::error::CoreError;
+use crate::groups::{Node, total_size};
 use crate::merkle_hash_subtree::json_parts::{Parts, read_parts};
 use crate::merkle_hash_subtree::level_rules::broken_rule;
 use crate::merkle_hash_subtree::levels::LevelNodes;
@@ -44,7 +44,7 @@ fn counts_to_json<A: Allocator>(
     Ok(Value::Array(values))
 }
 
-// Values with those of some nodes behind them, each with the hex text of its hash and its size.
+// Values with those of some nodes after them, each with the hex text of its hash and its size.
 fn with_nodes(alloc: Global, values: Vec<Value>, nodes: &[Node]) -> Result<Vec<Value>, AllocError>
     ensures json { IfOk result (λ all. map view all.items ≡ map view values.items ++ map node_json nodes.now) }
     ensures hashes { IfOk result (λ _. AllByRecursion (λ node. IsHash node.0) nodes.now) }
@@ -116,8 +116,8 @@ fn cut_levels<A: Allocator + Clone>(
     let mut levels = Vec::with_capacity(alloc.clone()?, counts.len())?;
     let mut rest = nodes;
     'levels: for count in counts {
-        let (left, behind) = rest.split_at(count.0);
-        let (inner, right) = behind.split_at(behind.len() - count.1);
+        let (left, after) = rest.split_at(count.0);
+        let (inner, right) = after.split_at(after.len() - count.1);
         levels.push(LevelNodes::copied(alloc.clone()?, left, right)?)?;
         rest = inner;
     }
@@ -159,6 +159,37 @@ impl<A: Allocator + Clone> MerkleHashSubtree<A> {
         hex_text_tells_hashes_apart();
         let parts = read_parts(alloc.clone()?, value)?;
         Ok(Self::from_parts(alloc, parts)?)
+    }
+
+    /// The subtree that marks and flat lists say: for each level, from the chunks up, the numbers of left and right nodes,
+    /// and in one list the left nodes of all levels by rising level, then the right nodes by falling level.
+    ///
+    /// It fails with [`CoreError::InvalidJson`] and the least broken of the rules 5 to 13 of [`Self::from_json`], and with
+    /// [`CoreError::OutOfMemory`] where an allocation is refused, which may come in the place of a rule. This call is this
+    /// port's own; it stands for `Deserialize` of the Rust crate in a binary form.
+    pub fn from_flat(
+        alloc: A,
+        at_start: bool,
+        counts: Vec<(usize, usize), A>,
+        nodes: Vec<Node, A>,
+        at_end: bool,
+    ) -> Result<Self, CoreError>
+        ensures start { IfOk result (λ subtree. subtree.at_start ≡ at_start) }
+        ensures end { IfOk result (λ subtree. subtree.at_end ≡ at_end) }
+        ensures flat { IfOk result (λ subtree. IsFlat counts.items nodes.items subtree.levels) }
+        ensures well_formed { IfOk result IsWellFormed }
+        ensures errors { IfErr result (λ e. (e ≡ CoreError.OutOfMemory) ⊎ ((rule : ℕ) × (e ≡ InvalidJson rule)
+            × BreaksValueRule at_start at_end counts.items nodes.items rule)) }
+    {
+        Self::from_parts(
+            alloc,
+            Parts {
+                at_start,
+                at_end,
+                counts,
+                nodes,
+            },
+        )
     }
 
     // The subtree of parts that keep the rules 5 to 13.

@@ -5,45 +5,31 @@ ghost use Rattle.xet_merkle.specs.Groups.{Node};
 ghost use Rattle.xet_merkle.specs.Roots.{parent_by, parent};
 ghost use Rattle.xet_merkle.specs.Levels.{levels_size, node_count};
 ghost use Rattle.xet_merkle.specs.Subtree.{Subtree, IsCanonical};
-ghost use Rattle.xet_merkle.specs.Merging.{IsMerged, IsMergedBy, NoMarkBetween, start_mark, end_mark, ranges_size, AreCanonical};
-ghost use Rattle.xet_merkle.specs.Steps.SubtreeMerging.{MergesTo};
+ghost use Rattle.xet_merkle.specs.Merging.{IsMerged, IsMergedBy, MergeRefusals, NoMarkBetweenSubtrees, start_mark, end_mark, ranges_size, AreCanonical};
+ghost use Rattle.xet_merkle.specs.Ranges.{Refusals};
+ghost use Rattle.xet_merkle.specs.Steps.SubtreeMerging.{MergesTo, RefusalOf};
 
 use super::MerkleHashSubtree;
+use crate::adjacent::Passed;
 use crate::error::CoreError;
-use crate::merkle_hash_subtree::join::join;
+use crate::merkle_hash_subtree::merge_levels::merge_levels;
 use crate::parent_maker::{ParentHashes, ParentMaker};
 use std::alloc::Allocator;
 
-// Whether no mark stands between adjacent ranges.
-fn no_mark_between<A: Allocator>(ranges: &[MerkleHashSubtree<A>]) -> bool
-    ensures { IsTrue result ↔ NoMarkBetween ranges.now }
+// Why adjacent ranges can't be merged, where there is a reason but memory.
+fn refusal<A: Allocator + Clone>(ranges: &[MerkleHashSubtree<A>]) -> Option<CoreError>
+    ensures { RefusalOf ranges.now result }
 {
-    let mut rest = ranges;
-    'marks: while let [range, next @ ..] = rest {
-        if let [other, ..] = next {
-            if range.at_end() || other.at_start() {
-                return false;
-            }
-        }
-        rest = next;
+    let mut passed = Passed::new();
+    'passing: for range in ranges {
+        passed = passed.pass(range);
     }
-    true
-}
-
-// The sum of the sizes of all ranges, where it is at most `u64::MAX`.
-fn ranges_size<A: Allocator>(ranges: &[MerkleHashSubtree<A>]) -> Option<u64>
-    ensures { SomeIff result (ranges_size ranges.now < 2 ^ 64) (ranges_size ranges.now) }
-{
-    let mut size = 0u64;
-    'sizes: for range in ranges {
-        size = size.checked_add(range.total_size())?;
-    }
-    Some(size)
+    passed.refusal()
 }
 
 impl<A: Allocator + Clone> MerkleHashSubtree<A> {
     /// Merges the subtree of the range that follows this one's into it: it becomes the canonical subtree
-    /// of the joined list, with its own start mark and the other's end mark.
+    /// of the concatenated list, with its own start mark and the other's end mark.
     ///
     /// It fails with [`CoreError::InvalidArguments`] where this range is marked at its end or the other at
     /// its start, also where either is empty; then with [`CoreError::SizeOverflow`] where the sizes of both
@@ -52,11 +38,7 @@ impl<A: Allocator + Clone> MerkleHashSubtree<A> {
     pub fn merge_into(&mut self, other: &Self) -> Result<(), CoreError>
         ensures merged { IfOk result (λ _. IsMerged self.old other.now self.new) }
         ensures unchanged { IfErr result (λ _. self.new ≡ self.old) }
-        ensures arguments { IsErrOf result CoreError.InvalidArguments ↔ (IsTrue self.old.at_end ⊎ IsTrue other.now.at_start) }
-        ensures overflow { IsErrOf result CoreError.SizeOverflow ↔
-            (¬ (IsTrue self.old.at_end ⊎ IsTrue other.now.at_start) × (2 ^ 64 ≤ levels_size self.old.levels + levels_size other.now.levels)) }
-        ensures errors { IfErr result (λ e.
-            (e ≡ CoreError.InvalidArguments) ⊎ ((e ≡ CoreError.SizeOverflow) ⊎ (e ≡ CoreError.OutOfMemory))) }
+        ensures refusals { MergeRefusals self.old other.now result }
     {
         self.merge_into_counted(other)?;
         Ok(())
@@ -73,11 +55,7 @@ impl<A: Allocator + Clone> MerkleHashSubtree<A> {
         ensures closer_bound { IfOk result (λ count.
             2 * count ≤ node_count self.old.levels + node_count other.now.levels + 2 * (length self.new.levels - 1)) }
         ensures unchanged { IfErr result (λ _. self.new ≡ self.old) }
-        ensures arguments { IsErrOf result CoreError.InvalidArguments ↔ (IsTrue self.old.at_end ⊎ IsTrue other.now.at_start) }
-        ensures overflow { IsErrOf result CoreError.SizeOverflow ↔
-            (¬ (IsTrue self.old.at_end ⊎ IsTrue other.now.at_start) × (2 ^ 64 ≤ levels_size self.old.levels + levels_size other.now.levels)) }
-        ensures errors { IfErr result (λ e.
-            (e ≡ CoreError.InvalidArguments) ⊎ ((e ≡ CoreError.SizeOverflow) ⊎ (e ≡ CoreError.OutOfMemory))) }
+        ensures refusals { MergeRefusals self.old other.now result }
     {
         Ok(self.merge_into_by(other, ParentHashes::new())?.made())
     }
@@ -95,11 +73,7 @@ impl<A: Allocator + Clone> MerkleHashSubtree<A> {
         ensures closer_bound { IfOk result (λ maker.
             2 * P.count maker ≤ node_count self.old.levels + node_count other.now.levels + 2 * (length self.new.levels - 1)) }
         ensures unchanged { IfErr result (λ _. self.new ≡ self.old) }
-        ensures arguments { IsErrOf result CoreError.InvalidArguments ↔ (IsTrue self.old.at_end ⊎ IsTrue other.now.at_start) }
-        ensures overflow { IsErrOf result CoreError.SizeOverflow ↔
-            (¬ (IsTrue self.old.at_end ⊎ IsTrue other.now.at_start) × (2 ^ 64 ≤ levels_size self.old.levels + levels_size other.now.levels)) }
-        ensures errors { IfErr result (λ e.
-            (e ≡ CoreError.InvalidArguments) ⊎ ((e ≡ CoreError.SizeOverflow) ⊎ (e ≡ CoreError.OutOfMemory))) }
+        ensures refusals { MergeRefusals self.old other.now result }
     {
         let mut maker = maker;
         if self.at_end() || other.at_start() {
@@ -113,7 +87,7 @@ impl<A: Allocator + Clone> MerkleHashSubtree<A> {
             return Err(CoreError::OutOfMemory);
         };
         let (at_start, at_end) = (self.at_start(), other.at_end());
-        join(
+        merge_levels(
             &mut self.levels,
             other.levels(),
             at_start,
@@ -125,7 +99,7 @@ impl<A: Allocator + Clone> MerkleHashSubtree<A> {
         Ok(maker)
     }
 
-    /// Merges adjacent ranges in order: the canonical subtree of the joined list, with the first range's
+    /// Merges adjacent ranges in order: the canonical subtree of the concatenated list, with the first range's
     /// start mark and the last one's end mark. Of no ranges it is the empty subtree with both marks; of one
     /// it is a copy.
     ///
@@ -140,17 +114,10 @@ impl<A: Allocator + Clone> MerkleHashSubtree<A> {
         ensures end { IfOk result (λ merged. merged.at_end ≡ end_mark ranges.now) }
         ensures size { IfOk result (λ merged. levels_size merged.levels ≡ ranges_size ranges.now) }
         ensures copy { IfOk result (λ merged. (range : Subtree) → ranges.now ≡ range ∷ [] → merged ≡ range) }
-        ensures arguments { IsErrOf result CoreError.InvalidArguments ↔ ¬ (NoMarkBetween ranges.now) }
-        ensures overflow { IsErrOf result CoreError.SizeOverflow ↔
-            (NoMarkBetween ranges.now × (2 ^ 64 ≤ ranges_size ranges.now)) }
-        ensures errors { IfErr result (λ e.
-            (e ≡ CoreError.InvalidArguments) ⊎ ((e ≡ CoreError.SizeOverflow) ⊎ (e ≡ CoreError.OutOfMemory))) }
+        ensures refusals { Refusals (NoMarkBetweenSubtrees ranges.now) (ranges_size ranges.now) result }
     {
-        if !no_mark_between(ranges) {
-            return Err(CoreError::InvalidArguments);
-        }
-        if ranges_size(ranges).is_none() {
-            return Err(CoreError::SizeOverflow);
+        if let Some(error) = refusal(ranges) {
+            return Err(error);
         }
         match ranges {
             [] => Self::from_chunks(alloc, true, &[], true),
@@ -162,7 +129,7 @@ impl<A: Allocator + Clone> MerkleHashSubtree<A> {
     // Some adjacent ranges, merged: the first half of them and the second apart, and then the two.
     fn merge_halves(alloc: A, ranges: &[MerkleHashSubtree<A>]) -> Result<Self, CoreError>
         requires some { 0 < length ranges.now }
-        requires marks { NoMarkBetween ranges.now }
+        requires marks { NoMarkBetweenSubtrees ranges.now }
         requires fits { ranges_size ranges.now < 2 ^ 64 }
         ensures merges { IfOk result (λ merged. MergesTo ranges.now (merged ∷ [])) }
         ensures errors { IfErr result (λ e. e ≡ CoreError.OutOfMemory) }

@@ -1,12 +1,26 @@
-use Rattle.std.proofs.Common.{arith, eqb-true, eq-eqb}
-use Rattle.xetrange_text.proofs.MergedRanges.{no_node}
+use Rattle.std.proofs.Common.{◌≡◌, ◌<◌, List, [], ◌∷◌, length, replicate, Option, Some, None, IfSome, IfNone, sym, subst, arith}
+use Rattle.xet_merkle.specs.Groups.{Node}
+use Rattle.xet_merkle.specs.Roots.{IsRoot, IsFileHash}
+use Rattle.xet_merkle.specs.Subtree.{Subtree, IsCanonical}
 use Rattle.xetrange_text.proofs.merged_lines.close.Goals as goal
+
+-- what holds of no chunk, where there is no range with chunks, and of its chunks where there is one, holds of a range's chunks
+of_chunks : {R : Type 0} (found : Option R) (now : R → Subtree) (merged : Subtree) (P : List Node → Type 0)
+    → IfNone found ((chunks : List Node) → IsCanonical merged chunks → length chunks ≡ 0)
+    → IfSome found (λ same. (now same ≡ merged) × ((chunks : List Node) → IsCanonical merged chunks → 0 < length chunks))
+    → IfNone found (P []) → IfSome found (λ same. (chunks : List Node) → IsCanonical (now same) chunks → 0 < length chunks → P chunks)
+    → (chunks : List Node) → IsCanonical merged chunks → P chunks
+of_chunks None now merged P none some here there [] canonical = here
+of_chunks None now merged P none some here there (chunk ∷ chunks) canonical = absurd (let empty = none (chunk ∷ chunks) canonical in omega arith)
+of_chunks (Some same) now merged P none some here there chunks canonical =
+    there chunks (subst (λ (s : Subtree). IsCanonical s chunks) (sym some.0) canonical) (some.1 chunks canonical)
+
+pub returns-clause-root : goal.returns-clause-root
+returns-clause-root g c = λ chunks canonical.
+    (of_chunks c.with_chunks.result (λ range. range.now) c.args.merged.now (λ chunks. IsRoot chunks c.in-Ok.hashes.0 × IsFileHash chunks (replicate 32 0) c.in-Ok.hashes.1)
+    c.with_chunks.ensures.none c.with_chunks.ensures.some c.in-Ok.ensures.none c.in-Ok.ensures.some chunks canonical).0
 
 pub returns-clause-file : goal.returns-clause-file
 returns-clause-file g c = λ chunks canonical.
-    let none = no_node _ _ _ chunks _ _ canonical.1 in
-    let count = c.num_nodes.ensures in
-    c.file_hash_of_root.ensures chunks (c.in-Ok.ensures chunks canonical) (
-      (λ zero. none.0 (let is = eqb-true c.num_nodes.result 0 zero in omega (arith, is, count))),
-      (λ empty. eq-eqb c.num_nodes.result 0 (let is = none.1 empty in omega (arith, is, count))),
-    )
+    (of_chunks c.with_chunks.result (λ range. range.now) c.args.merged.now (λ chunks. IsRoot chunks c.in-Ok.hashes.0 × IsFileHash chunks (replicate 32 0) c.in-Ok.hashes.1)
+    c.with_chunks.ensures.none c.with_chunks.ensures.some c.in-Ok.ensures.none c.in-Ok.ensures.some chunks canonical).1

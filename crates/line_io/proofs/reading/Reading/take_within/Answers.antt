@@ -1,6 +1,6 @@
-use Rattle.std.proofs.Common.{refl, append-nil, ◌≡◌, ◌+◌, ◌≤◌, ◌^◌, ◌∷◌, [], ◌++◌, ℕ, List, length, sym, ap, subst, ◌∙◌, arith, append_assoc, length-append}
+use Rattle.std.proofs.Common.{refl, append-nil, ◌≡◌, ◌+◌, ◌≤◌, ◌∷◌, [], ◌++◌, ℕ, List, length, sym, ap, subst, ◌∙◌, arith, append_assoc, length-append}
 use Rattle.std.proofs.lemmas.Result.{err_from_is_err_and, on_ok_weaker, IfErr-weaker}
-use Rattle.line_io.specs.Lines.{newline}
+use Rattle.line_io.specs.Lines.{byte_limit, newline}
 use Rattle.line_io.specs.Faults.{HasFault, IfLine}
 use Rattle.line_io.specs.Steps.Taken.{IsTaken}
 use Rattle.line_io.proofs.Pieces.{regrouped, piece_more}
@@ -18,7 +18,7 @@ returns-in_err-extend_line-clause-fault g c =
     let len = length-append inv.0 c.lines.rest.now in
     let len_text = length-append text inv.0 in
     let len_begun = length-append begun (newline ∷ after) in
-    let room : length (text ++ inv.0) + length begun ≤ 2 ^ 40 = omega arith in
+    let room : length (text ++ inv.0) + length begun ≤ byte_limit = omega arith in
     subst (λ (l : List ℕ). IfLine c.in_err-extend_line.field-0.0 (HasFault g.L.TakeLines.is_fault l))
     (regrouped text c.args.piece.now rest inv.0 c.lines.rest.now begun after newline inv.1 c.in-Some.ensures.found.0)
     (c.in_err-extend_line.ensures.fault (text ++ inv.0) (newline ∷ (after ++ rest)) room (inv.2 text within taken)))

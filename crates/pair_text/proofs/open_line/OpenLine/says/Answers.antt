@@ -1,7 +1,13 @@
-use Rattle.std.proofs.Common.{ℕ, List, sym, subst, ◌∙◌, inl, inr}
+use Rattle.std.proofs.Common.{ℕ, List, Option, None, Some, sym, subst, ◌∙◌, inl, inr}
+use Rattle.std.specs.Prelude.{IfNone}
 use Rattle.pair_text.specs.Lines.{IsSeparator, IsPositionLine, IsPairLine}
-use Rattle.pair_text.proofs.LongLines.{NoPlus-no_chunk, IfNone-both}
+use Rattle.pair_text.proofs.LongLines.{NoPlus-no_chunk}
 use Rattle.pair_text.proofs.open_line.OpenLine.says.Goals as goal
+
+-- two facts of no answer
+IfNone-both : {A P Q R : Type 0} (o : Option A) → IfNone o P → IfNone o Q → (P → Q → R) → IfNone o R
+IfNone-both None p q h = h p q
+IfNone-both (Some x) p q h = tt
 
 pub returns-in-Text-clause-nothing : goal.returns-in-Text-clause-nothing
 returns-in-Text-clause-nothing c =

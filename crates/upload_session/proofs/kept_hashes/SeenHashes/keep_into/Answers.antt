@@ -3,7 +3,7 @@ use Rattle.std.specs.Prelude.{is_some}
 use Rattle.xet_hash.specs.FiniteMap.{value_at}
 use Rattle.upload_session.specs.Hashes.{Hash, hash_eq, hashes_of, is_among}
 use Rattle.upload_session.proofs.Hashes.{KeepsSoFar, keeps-none, keeps-old, keeps-new, among-next, given_up, given_up-listed}
-use Rattle.upload_session.proofs.Results.{at_error}
+use Rattle.upload_session.proofs.Refusals.{at_error}
 use Rattle.upload_session.proofs.kept_hashes.SeenHashes.keep_into.Goals as goal
 use Rattle.upload_session.proofs.kept_hashes.SeenHashes.keep_into.Goals.{then-not-contains_key+in_ok-push+in_ok-insert, else-not-contains_key}
 

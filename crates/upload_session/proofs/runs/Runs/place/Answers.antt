@@ -1,14 +1,16 @@
-use Rattle.std.proofs.Common.{arith, nat_cmp, ◌≡◌, ◌+◌, ◌<◌, ℕ, length, sym, subst, ◌∙◌, ap}
+use Rattle.std.proofs.Common.{arith, nat_cmp, ◌≡◌, ◌+◌, ◌<◌, length, sym, subst, ◌∙◌, ap}
 use Rattle.std.specs.Prelude.{is_some}
 use Rattle.std.proofs.lemmas.Bool.{true≢false}
+use Rattle.std.proofs.lemmas.Option.{same_Some}
 use Rattle.std.specs.BTreeMap.{is_at, insert_entry}
 use Rattle.std.specs.Map.{lookup, remove_entry, set_value}
 use Rattle.std.proofs.lemmas.Map.Steps.{set_value_same}
-use Rattle.upload_session.proofs.AroundEntries.{left-some, left-none, left-found}
+use Rattle.upload_session.specs.declared.runs.Run.{Run}
+use Rattle.upload_session.proofs.AroundEntries.{previous-some, previous-none, previous-found}
 use Rattle.upload_session.proofs.Joining.{made-with, placed-alone, placed-joined}
-use Rattle.upload_session.proofs.Neighbours.{around}
+use Rattle.upload_session.proofs.Neighbours.{around, run_to}
 use Rattle.upload_session.proofs.Positions.{overlaps-runs}
-use Rattle.upload_session.proofs.Results.{at_error, some_is}
+use Rattle.upload_session.proofs.Refusals.{at_error}
 use Rattle.upload_session.proofs.runs.Runs.place.Goals as goal
 use Rattle.upload_session.proofs.runs.Runs.place.Goals.{in-Some, in-Some-get_mut+in_ok-join-in-Some, in_default, in-None+in_ok-insert-in-None}
 
@@ -18,53 +20,51 @@ returns-in_err-join-in-Some-clause-unchanged g c =
     let test = is_at (nat_cmp c.in-Some.start) in
     let runs = c.self.inside.runs.entries in
     at_error c.from_residual-in_err-join-in-Some.result
-    ((c.get_mut.follows.holds (run.0, c.join.new.self)).0
-    ∙ ap (λ range. set_value test runs (run.0, range)) c.in_err-join-in-Some.ensures.unchanged
+    ((c.get_mut.follows.holds (run_to run.end c.join.new.self)).0
+    ∙ ap (λ range. set_value test runs (run_to run.end range)) c.in_err-join-in-Some.ensures.unchanged
     ∙ set_value_same test runs run (sym c.in-Some-get_mut.ensures.value)
     ∙ c.self.view_is)
 
 pub returns-clause-placed : goal.returns-clause-placed
 returns-clause-placed g c = λ placed stand some free.
-    let stands = g.C.ChunkRange.stands in
-    let start = g.C.ChunkRange.start in
-    let end = g.C.ChunkRange.end in
+    let kind = g.C.ChunkRange in
     let runs = c.args.self.now in
     let first = c.args.first in
     let chunks = c.args.chunks.now in
     let count = length chunks in
-    let behind = first + count in
-    let ahead : first < behind = omega (arith, some) in
-    let at = around stands start end first count runs placed stand (sym (overlaps-runs first count some stands start end runs placed stand) ∙ free) in
-    let ready : ℕ × g.row.C.Denot = (c.in_ok-end.end, c.in_ok-end.range) in
-    let made = made-with stands start end first chunks some runs at placed stand ready c.in_ok-end.ensures in
+    let after = first + count in
+    let ahead : first < after = omega (arith, some) in
+    let at = around kind first count runs placed stand (sym (overlaps-runs first count some kind runs placed stand) ∙ free) in
+    let made = c.in_ok-made.made in
+    let of_made = made-with kind first chunks some runs at placed stand made c.in_ok-made.ensures in
     let view = c.self.view_is in
-    let test = is_at (nat_cmp behind) in
-    elim c.match-ending_at.branch [
+    let test = is_at (nat_cmp after) in
+    elim c.match-run_before.branch [
       | in-Some w ↦
           let begin = w.in-Some.start in
-          let (range, left) = left-some first behind ahead runs at begin w.in-Some.ensures.some in
-          let found = ap (λ runs. lookup (is_at (nat_cmp begin)) runs) view ∙ left-found first behind ahead runs at (begin, (first, range)) left in
+          let (last, previous) = previous-some first after ahead runs at begin w.in-Some.ensures.some in
+          let found = ap (λ runs. lookup (is_at (nat_cmp begin)) runs) view ∙ previous-found first after ahead runs at (begin, last) previous in
           elim w.match-get_mut.branch [
             | in-Some-get_mut+in_ok-join-in-Some w' ↦
-                let last : ℕ × g.row.C.Denot = (ready.0, w'.join.new.self) in
-                let kept : w'.in-Some-get_mut.run'.now.1 ≡ range = ap (λ old. old.1) (some_is (w'.in-Some-get_mut.ensures.value ∙ found)) in
+                let new : Run g.row.C.Denot = run_to made.end w'.join.new.self in
+                let same : w'.in-Some-get_mut.run'.now ≡ last = same_Some _ _ (w'.in-Some-get_mut.ensures.value ∙ found) in
                 let joined = w'.in_ok-join-in-Some.ensures in
-                placed-joined stands start end first chunks some runs at placed stand c.remove.new.self.entries ready made begin range w'.join.new.self left
-                (λ a b front back. joined.stands a b (subst (λ range. stands range a) (sym kept) front) back)
-                (joined.start ∙ ap start kept) joined.end
+                placed-joined kind first chunks some runs at placed stand c.remove.new.self.entries made of_made begin last w'.join.new.self previous
+                (λ a b front back. joined.stands a b (subst (λ (run : Run g.row.C.Denot). kind.stands run.range a) (sym same) front) back)
+                (joined.start ∙ ap (λ (run : Run g.row.C.Denot). kind.start run.range) same) joined.end
                 (c.remove.ensures.entries
                 ∙ ap (λ inside. remove_entry test inside.runs.entries) w.self-inside-is
                 ∙ ap (λ inside. remove_entry test inside.runs.entries) w'.self-inside-is
-                ∙ ap (remove_entry test) (w.get_mut.follows.holds last).0
-                ∙ ap (λ runs. remove_entry test (set_value (is_at (nat_cmp begin)) runs last)) view)
+                ∙ ap (remove_entry test) (w.get_mut.follows.holds new).0
+                ∙ ap (λ runs. remove_entry test (set_value (is_at (nat_cmp begin)) runs new)) view)
             | in_default w' ↦
                 absurd (true≢false (sym (ap is_some (w'.in_default.ensures.value ∙ found))))
           ]
       | in-None+in_ok-insert-in-None w ↦
-          placed-alone stands start end first chunks some runs at placed stand c.remove.new.self.entries ready made
-          (left-none first behind ahead runs at w.in-None.ensures.none)
+          placed-alone kind first chunks some runs at placed stand c.remove.new.self.entries made of_made
+          (previous-none first after ahead runs at w.in-None.ensures.none)
           (c.remove.ensures.entries
           ∙ ap (λ inside. remove_entry test inside.runs.entries) w.self-inside-is
           ∙ ap (remove_entry test) w.in_ok-insert-in-None.ensures.entries
-          ∙ ap (λ runs. remove_entry test (insert_entry nat_cmp runs first ready)) view)
+          ∙ ap (λ runs. remove_entry test (insert_entry nat_cmp runs first made)) view)
     ]

@@ -1,31 +1,29 @@
 use Rattle.std.proofs.Common.{◌≤◌, ◌++◌, ◌∷◌, [], List, sym, subst, ◌∙◌, ap, append_assoc}
 use Rattle.std.specs.Prelude.{All}
-use Rattle.upload_session.specs.Session.{Run, StandFor}
+use Rattle.upload_session.specs.Session.{PlacedRun, StandFor}
 use Rattle.upload_session.proofs.Positions.{holds_of_last, taken-last, taken-none}
 use Rattle.upload_session.proofs.SortedEntries.{cut}
 use Rattle.upload_session.proofs.runs.Runs.taken.Goals as goal
 
 pub returns-in-Some : goal.returns-in-Some
 returns-in-Some g c = λ placed stand.
-    let stands = g.C.ChunkRange.stands in
-    let start = g.C.ChunkRange.start in
-    let end = g.C.ChunkRange.end in
+    let kind = g.C.ChunkRange in
     let position = c.args.position in
-    let (back, is, near, behind) = cut position c.self.inside.runs.entries c.range.ensures.ordered in
+    let (back, is, near, after) = cut position c.self.inside.runs.entries c.range.ensures.ordered in
     let found = sym (c.range.ensures.between tt) ∙ c.in-Some.ensures.steps in
     let front = c.next_back.new.self in
-    let last : Run g.row.C.Denot = (c.in-Some.field-0-0.now, c.in-Some.field-0-1.now) in
-    let split = sym c.self.view_is ∙ is ∙ ap (λ (runs : List (Run g.row.C.Denot)). runs ++ back) found ∙ append_assoc front (last ∷ []) back in
-    let begins = holds_of_last (λ (run : Run g.row.C.Denot). run.0 ≤ position) front last []
-    (subst (λ (runs : List (Run g.row.C.Denot)). All (λ (run : Run g.row.C.Denot). run.0 ≤ position) runs) found near) in
-    sym (taken-last stands start end front last back placed position
-    (subst (λ (runs : List (Run g.row.C.Denot)). StandFor stands start end runs placed) split stand) begins behind)
+    let last : PlacedRun g.row.C.Denot = (c.in-Some.field-0-0.now, c.in-Some.run'.now) in
+    let split = sym c.self.view_is ∙ is ∙ ap (λ (runs : List (PlacedRun g.row.C.Denot)). runs ++ back) found ∙ append_assoc front (last ∷ []) back in
+    let begins = holds_of_last (λ (run : PlacedRun g.row.C.Denot). run.0 ≤ position) front last []
+    (subst (λ (runs : List (PlacedRun g.row.C.Denot)). All (λ (run : PlacedRun g.row.C.Denot). run.0 ≤ position) runs) found near) in
+    sym (taken-last kind front last back placed position
+    (subst (λ (runs : List (PlacedRun g.row.C.Denot)). StandFor kind runs placed) split stand) begins after)
 
 pub returns-in-None : goal.returns-in-None
 returns-in-None g c = λ placed stand.
     let position = c.args.position in
-    let (back, is, near, behind) = cut position c.self.inside.runs.entries c.range.ensures.ordered in
+    let (back, is, near, after) = cut position c.self.inside.runs.entries c.range.ensures.ordered in
     let found = sym (c.range.ensures.between tt) ∙ c.in-None.ensures.steps.0 in
-    let split = sym c.self.view_is ∙ is ∙ ap (λ (runs : List (Run g.row.C.Denot)). runs ++ back) found in
-    sym (taken-none g.C.ChunkRange.stands g.C.ChunkRange.start g.C.ChunkRange.end back placed position
-    (subst (λ (runs : List (Run g.row.C.Denot)). StandFor g.C.ChunkRange.stands g.C.ChunkRange.start g.C.ChunkRange.end runs placed) split stand) behind)
+    let split = sym c.self.view_is ∙ is ∙ ap (λ (runs : List (PlacedRun g.row.C.Denot)). runs ++ back) found in
+    sym (taken-none g.C.ChunkRange back placed position
+    (subst (λ (runs : List (PlacedRun g.row.C.Denot)). StandFor g.C.ChunkRange runs placed) split stand) after)

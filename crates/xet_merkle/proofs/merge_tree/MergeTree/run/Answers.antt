@@ -4,10 +4,12 @@ use Rattle.std.proofs.lemmas.List.Sums.{sum_by-cons}
 use Rattle.xet_merkle.specs.declared.merge_tree.MergeTree.{MergeTree}
 use Rattle.xet_merkle.specs.declared.merge_tree.Order.{Order}
 use Rattle.xet_merkle.specs.MergeTree.{leaves}
-use Rattle.xet_merkle.specs.Ranges.{AreApart, total_of}
-use Rattle.xet_merkle.specs.Steps.Bracketing.{entries, IsPassed, AreBegun, depth, refusal}
+use Rattle.xet_merkle.specs.Ranges.{NoMarkBetween, total_of}
+use Rattle.xet_merkle.specs.Steps.Adjacent.{IsPassed, refusal}
+use Rattle.xet_merkle.specs.Steps.Bracketing.{entries, AreBegun, depth}
 use Rattle.xet_merkle.specs.Steps.RangeMerging.{start_of_first, JoinsTo}
-use Rattle.xet_merkle.proofs.Merging.Bracketing.{IsPassed-none, apart_allowed, refused, depth-entries, entries-leaves, first_of_leaves, last_of_leaves}
+use Rattle.xet_merkle.proofs.Merging.Adjacent.{IsPassed-none, allowed_ranges, refused, accepted}
+use Rattle.xet_merkle.proofs.Merging.Bracketing.{depth-entries, entries-leaves, first_of_leaves, last_of_leaves}
 use Rattle.xet_merkle.proofs.Merging.Ranges.{JoinsTo-one}
 use Rattle.xet_merkle.proofs.merge_tree.MergeTree.run.Goals as goal
 
@@ -29,45 +31,29 @@ join_entries-requires g c =
     let known : IsPassed start end total passed (leaves c.args.self) = subst (λ tree. IsPassed start end total passed (leaves tree)) (sym c.in-Join.is) c.take_apart-order.ensures.passed in
     let items = taken c.args.self _ _ c.in-Some-order.order c.in-Join.is c.in-Some-order.is c.take_apart-order.ensures.order in
     let ranges = sym (ap (map (λ entry. entry.1)) items ∙ entries-leaves 0 c.args.self) in
-    let none : refusal passed.are_apart passed.total ≡ None = search rules in
-    let allowed = apart_allowed start end total passed (leaves c.args.self) known none in
+    let none : refusal passed.no_mark_between passed.total ≡ None = search rules in
+    let allowed = allowed_ranges start end total passed (leaves c.args.self) known none in
     let order = depth-entries 0 c.args.self 0 (omega arith) in
     record {
       begun = subst (λ l. AreBegun l 0) (sym items) order.1;
       one = subst (λ l. depth l 0 ≡ 1) (sym items) order.0;
-      apart = subst (AreApart start end) ranges allowed.0;
+      marks = subst (NoMarkBetween start end) ranges allowed.0;
       fits = subst (λ l. total_of total l < 2 ^ 64) ranges allowed.1;
     }
 
-pub returns-in-Some-clause-arguments : goal.returns-in-Some-clause-arguments
-returns-in-Some-clause-arguments g c =
+pub returns-in-Some-clause-refusals : goal.returns-in-Some-clause-refusals
+returns-in-Some-clause-refusals g c =
     let known : IsPassed g.R.ChunkRange.start g.R.ChunkRange.end g.R.ChunkRange.total c.pass.result (leaves c.args.self) =
     subst (λ tree. IsPassed g.R.ChunkRange.start g.R.ChunkRange.end g.R.ChunkRange.total c.pass.result (leaves tree)) (sym c.in-Leaf.is) (c.pass.ensures [] (rw c.new.ensures (IsPassed-none g.R.ChunkRange.start g.R.ChunkRange.end g.R.ChunkRange.total))) in
-    let some : refusal c.pass.result.are_apart c.pass.result.total ≡ Some c.in-Some.error = sym c.refusal.ensures ∙ c.in-Some.is in
-    (refused g.R.ChunkRange.start g.R.ChunkRange.end g.R.ChunkRange.total c.pass.result (leaves c.args.self) c.in-Some.error known some).0
+    refused g.R.ChunkRange.start g.R.ChunkRange.end g.R.ChunkRange.total c.pass.result (leaves c.args.self) c.in-Some.error known (sym c.refusal.ensures ∙ c.in-Some.is)
 
-pub returns-in-Some-clause-overflow : goal.returns-in-Some-clause-overflow
-returns-in-Some-clause-overflow g c =
+pub returns-in-None-clause-refusals : goal.returns-in-None-clause-refusals
+returns-in-None-clause-refusals g c =
     let known : IsPassed g.R.ChunkRange.start g.R.ChunkRange.end g.R.ChunkRange.total c.pass.result (leaves c.args.self) =
     subst (λ tree. IsPassed g.R.ChunkRange.start g.R.ChunkRange.end g.R.ChunkRange.total c.pass.result (leaves tree)) (sym c.in-Leaf.is) (c.pass.ensures [] (rw c.new.ensures (IsPassed-none g.R.ChunkRange.start g.R.ChunkRange.end g.R.ChunkRange.total))) in
-    let some : refusal c.pass.result.are_apart c.pass.result.total ≡ Some c.in-Some.error = sym c.refusal.ensures ∙ c.in-Some.is in
-    (refused g.R.ChunkRange.start g.R.ChunkRange.end g.R.ChunkRange.total c.pass.result (leaves c.args.self) c.in-Some.error known some).1
-
-pub returns-in-None-clause-arguments : goal.returns-in-None-clause-arguments
-returns-in-None-clause-arguments g c =
-    let known : IsPassed g.R.ChunkRange.start g.R.ChunkRange.end g.R.ChunkRange.total c.pass.result (leaves c.args.self) =
-    subst (λ tree. IsPassed g.R.ChunkRange.start g.R.ChunkRange.end g.R.ChunkRange.total c.pass.result (leaves tree)) (sym c.in-Leaf.is) (c.pass.ensures [] (rw c.new.ensures (IsPassed-none g.R.ChunkRange.start g.R.ChunkRange.end g.R.ChunkRange.total))) in
-    let none : refusal c.pass.result.are_apart c.pass.result.total ≡ None = sym c.refusal.ensures ∙ c.in-None.is in
-    let allowed = apart_allowed g.R.ChunkRange.start g.R.ChunkRange.end g.R.ChunkRange.total c.pass.result (leaves c.args.self) known none in
-    (λ error. let clash : ⊥ = cc in absurd clash, λ other. absurd (other allowed.0))
-
-pub returns-in-None-clause-overflow : goal.returns-in-None-clause-overflow
-returns-in-None-clause-overflow g c =
-    let known : IsPassed g.R.ChunkRange.start g.R.ChunkRange.end g.R.ChunkRange.total c.pass.result (leaves c.args.self) =
-    subst (λ tree. IsPassed g.R.ChunkRange.start g.R.ChunkRange.end g.R.ChunkRange.total c.pass.result (leaves tree)) (sym c.in-Leaf.is) (c.pass.ensures [] (rw c.new.ensures (IsPassed-none g.R.ChunkRange.start g.R.ChunkRange.end g.R.ChunkRange.total))) in
-    let none : refusal c.pass.result.are_apart c.pass.result.total ≡ None = sym c.refusal.ensures ∙ c.in-None.is in
-    let allowed = apart_allowed g.R.ChunkRange.start g.R.ChunkRange.end g.R.ChunkRange.total c.pass.result (leaves c.args.self) known none in
-    (λ error. let clash : ⊥ = cc in absurd clash, λ past. absurd (let less = allowed.1 in let more = past.1 in omega arith))
+    let none : refusal c.pass.result.no_mark_between c.pass.result.total ≡ None = sym c.refusal.ensures ∙ c.in-None.is in
+    let allowed = allowed_ranges g.R.ChunkRange.start g.R.ChunkRange.end g.R.ChunkRange.total c.pass.result (leaves c.args.self) known none in
+    accepted allowed.0 allowed.1 _
 
 pub returns-in_ok-join_entries-in-Join-clause-stands : goal.returns-in_ok-join_entries-in-Join-clause-stands
 returns-in_ok-join_entries-in-Join-clause-stands g c =

@@ -1,6 +1,6 @@
 use Rattle.std.proofs.Common.{◌≡◌, ◌+◌, ◌<◌, ◌++◌, length, set, take, drop, sym, subst, ◌∙◌, arith, rules}
 use Rattle.xet_merkle.specs.Levels.{Level}
-use Rattle.xet_merkle.specs.Steps.Joining.{with_inner}
+use Rattle.xet_merkle.specs.Steps.LevelMerging.{with_inner}
 use Rattle.xet_merkle.proofs.Levels.InPlace.{with_inner-top, with_inner-below}
 use Rattle.xet_merkle.proofs.merkle_hash_subtree.levels.extend_inner.Goals as goal
 

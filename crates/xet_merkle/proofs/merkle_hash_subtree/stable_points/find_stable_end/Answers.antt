@@ -1,14 +1,14 @@
 use Rattle.std.proofs.Common.{take, drop}
 use Rattle.std.proofs.lemmas.Option.{IfSome_then}
 use Rattle.xet_merkle.proofs.StablePoints.Boundaries.{boundary_around}
-use Rattle.xet_merkle.proofs.StablePoints.Loops.{last_behind_nothing, none_behind_nothing}
+use Rattle.xet_merkle.proofs.StablePoints.Loops.{last_after_nothing, none_after_nothing}
 use Rattle.xet_merkle.proofs.merkle_hash_subtree.stable_points.find_stable_end.Goals as goal
 
 pub returns-clause-last : goal.returns-clause-last
-returns-clause-last c = last_behind_nothing c.args.nodes.now c.last_stable.result c.last_stable.ensures.last
+returns-clause-last c = last_after_nothing c.args.nodes.now c.last_stable.result c.last_stable.ensures.last
 
 pub returns-clause-none : goal.returns-clause-none
-returns-clause-none c = none_behind_nothing c.args.nodes.now c.last_stable.result c.last_stable.ensures.none
+returns-clause-none c = none_after_nothing c.args.nodes.now c.last_stable.result c.last_stable.ensures.none
 
 pub returns-clause-boundary : goal.returns-clause-boundary
 returns-clause-boundary c =

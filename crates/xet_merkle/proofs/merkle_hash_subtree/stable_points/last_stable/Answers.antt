@@ -10,7 +10,7 @@ pub scan-init : goal.scan-init
 scan-init c = rw c.new-scan.ensures (record {
   since = omega arith;
   bound = tt;
-  so_far = λ front is_front. LastSoFar-none c.args.nodes.now c.args.behind_cut front is_front;
+  so_far = λ front is_front. LastSoFar-none c.args.nodes.now c.args.after_cut front is_front;
 })
 
 pub scan-preserved : goal.scan-preserved
@@ -38,7 +38,7 @@ scan-preserved c =
     })
 
 pub returns-clause-last : goal.returns-clause-last
-returns-clause-last c = LastSoFar-last c.args.nodes.now c.scan.i c.scan.scan c.scan.found c.args.behind_cut (omega arith) c.scan.invariant.so_far
+returns-clause-last c = LastSoFar-last c.args.nodes.now c.scan.i c.scan.scan c.scan.found c.args.after_cut (omega arith) c.scan.invariant.so_far
 
 pub returns-clause-none : goal.returns-clause-none
-returns-clause-none c = LastSoFar-no_place c.args.nodes.now c.scan.i c.scan.scan c.scan.found c.args.behind_cut (omega arith) c.scan.invariant.so_far
+returns-clause-none c = LastSoFar-no_place c.args.nodes.now c.scan.i c.scan.scan c.scan.found c.args.after_cut (omega arith) c.scan.invariant.so_far

@@ -8,5 +8,5 @@ abbrev pub invariant-scan : goal.invariant-scan
 invariant-scan l = record {
   since : l.scan.since_cut ≤ l.i;
   bound : IfSome l.found (λ p. p ≤ l.i);
-  so_far : (front : List Node) → IsFront l.behind_cut front → LastSoFar l.nodes l.i l.scan l.found front;
+  so_far : (front : List Node) → IsFront l.after_cut front → LastSoFar l.nodes l.i l.scan l.found front;
 }

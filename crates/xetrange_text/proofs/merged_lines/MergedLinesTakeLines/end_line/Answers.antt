@@ -2,7 +2,7 @@ use Rattle.std.proofs.Common.{ℕ, List, [], ◌∷◌, ◌++◌, ◌∙◌, sub
 use Rattle.xetrange_text.specs.Ranges.{SaysRange}
 use Rattle.std.proofs.lemmas.Result.{err_from_is_err_and}
 use Rattle.line_io.specs.Faults.{IfFaulty}
-use Rattle.xetrange_text.specs.Answers.{IsNoRange}
+use Rattle.xetrange_text.specs.Steps.MergedLines.{IsNoRange}
 use Rattle.xetrange_text.proofs.Faults.{IsLineFault-no_range}
 use Rattle.xetrange_text.proofs.MergedRanges.{AreRanges-push, AreMerged-push, sizes_fit}
 use Rattle.xetrange_text.proofs.merged_lines.MergedLinesTakeLines.end_line.Goals as goal
@@ -13,7 +13,7 @@ returns-clause-taken g c = λ before line within (ranges, good, so_far, is, is_o
     let says = subst (λ (l : List ℕ). SaysRange l range) (c.deref.ensures.value ∙ is) c.in_ok-range.ensures.says in
     let merged = c.in-Ok.ensures.merged in
     let (json, text, reads, open_ends) = says in
-    let fits = sizes_fit ranges _ range c.merge_into.result _ so_far merged c.in-Ok.is c.merge_into.ensures.overflow in (
+    let fits = sizes_fit ranges _ range c.merge_into.result _ so_far merged c.in-Ok.is c.merge_into.ensures.refusals in (
       ranges ++ range ∷ [],
       AreRanges-push before ranges _ range _ line good so_far merged says fits within,
       AreMerged-push before ranges _ range _ line good so_far merged open_ends.1,

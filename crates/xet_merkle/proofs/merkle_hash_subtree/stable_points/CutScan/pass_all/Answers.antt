@@ -1,14 +1,14 @@
 use Rattle.std.proofs.Common.{◌≡◌, ◌+◌, ◌&&◌, not, take, sym, ap, ◌∙◌, arith, rules, length-take}
 use Rattle.std.proofs.lemmas.List.{take_more}
 use Rattle.xet_merkle.specs.Groups.{is_cut}
-use Rattle.xet_merkle.specs.Steps.StableScan.{completes, next_scan, scan_behind, completes_none}
-use Rattle.xet_merkle.proofs.StablePoints.Appending.{scan_behind-append, completes_none-push, since_behind}
+use Rattle.xet_merkle.specs.Steps.StableScan.{completes, next_scan, scan_after, completes_none}
+use Rattle.xet_merkle.proofs.StablePoints.Appending.{scan_after-append, completes_none-push, since_after}
 use Rattle.xet_merkle.proofs.merkle_hash_subtree.stable_points.CutScan.pass_all.Goals as goal
 use Rattle.xet_merkle.proofs.merkle_hash_subtree.stable_points.CutScan.pass_all.Goals.{then-none, else-none}
 
 pub pass-requires : goal.pass-requires
 pass-requires c =
-    let behind = since_behind c.args.self.now (take c.nodes.i c.args.nodes.now) in
+    let after = since_after c.args.self.now (take c.nodes.i c.args.nodes.now) in
     let since = ap (λ scan. scan.since_cut) c.nodes.invariant.scan in
     let room = c.requires in
     omega (arith, length-take c.nodes.i c.args.nodes.now)
@@ -22,8 +22,8 @@ nodes-preserved c =
     let more = take_more nodes c.nodes.i d (omega arith) in
     let passed = take c.nodes.i nodes in
     let scan = c.nodes.invariant.scan in
-    let next : next_scan c.nodes.self c.is_natural_cut-is_cut.result ≡ scan_behind start (take (c.nodes.i + 1) nodes) =
-    rw (is, scan, more) (sym (scan_behind-append start passed _)) in
+    let next : next_scan c.nodes.self c.is_natural_cut-is_cut.result ≡ scan_after start (take (c.nodes.i + 1) nodes) =
+    rw (is, scan, more) (sym (scan_after-append start passed _)) in
     let pushed : completes_none start (take (c.nodes.i + 1) nodes) ≡ c.nodes.none && not (completes c.nodes.self c.is_natural_cut-is_cut.result) =
     rw (is, scan, more, c.nodes.invariant.none) (completes_none-push start passed _) in
     record {

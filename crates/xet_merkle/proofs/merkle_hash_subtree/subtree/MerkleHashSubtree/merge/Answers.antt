@@ -15,10 +15,10 @@ returns-in_ok-copy-in-len1-clause-canonical g c = λ lists all.
     let one : ranges ≡ copy ∷ [] = parts ∙ ap (λ (l : List Subtree). c.range-item.result ∷ l) none ∙ ap (λ (r : Subtree). r ∷ []) (sym c.in_ok-copy-in-len1.ensures) in
     MergesTo-one ranges copy (subst (λ (l : List Subtree). MergesTo l (copy ∷ [])) (sym one) (MergesTo-all copy)) lists all
 
-pub returns-in_ok-merge_halves-in_default-clause-canonical : goal.returns-in_ok-merge_halves-in_default-clause-canonical
-returns-in_ok-merge_halves-in_default-clause-canonical g c =
-    MergesTo-one c.args.ranges.now c.in_ok-merge_halves-in_default.field-0 c.in_ok-merge_halves-in_default.ensures.merges
+pub returns-in_ok-merge_halves-in_default-ranges-clause-canonical : goal.returns-in_ok-merge_halves-in_default-ranges-clause-canonical
+returns-in_ok-merge_halves-in_default-ranges-clause-canonical g c =
+    MergesTo-one c.args.ranges.now c.in_ok-merge_halves-in_default-ranges.field-0 c.in_ok-merge_halves-in_default-ranges.ensures.merges
 
-pub returns-in_ok-merge_halves-in_default-clause-end : goal.returns-in_ok-merge_halves-in_default-clause-end
-returns-in_ok-merge_halves-in_default-clause-end g c =
-    MergesTo-end c.args.ranges.now c.in_ok-merge_halves-in_default.field-0 c.in_ok-merge_halves-in_default.ensures.merges
+pub returns-in_ok-merge_halves-in_default-ranges-clause-end : goal.returns-in_ok-merge_halves-in_default-ranges-clause-end
+returns-in_ok-merge_halves-in_default-ranges-clause-end g c =
+    MergesTo-end c.args.ranges.now c.in_ok-merge_halves-in_default-ranges.field-0 c.in_ok-merge_halves-in_default-ranges.ensures.merges

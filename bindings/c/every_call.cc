@@ -1,0 +1,171 @@
+// The header in C++17: each export is called once from a language with stricter types.
+#include "yurewha.h"
+
+#include <array>
+#include <cstdio>
+#include <cstring>
+#include <string>
+#include <type_traits>
+#include <vector>
+
+static_assert(std::is_trivially_copyable<yurewha_hasher>::value && sizeof(yurewha_hasher) == 1864, "the hasher");
+static_assert(std::is_standard_layout<yurewha_chunk>::value && sizeof(yurewha_chunk) == 40, "a chunk");
+static_assert(std::is_same<yurewha_status, std::uint32_t>::value, "a status");
+
+namespace {
+
+class Checks {
+public:
+    void operator()(bool holds, const char *what)
+    {
+        count++;
+        if (!holds) {
+            failures++;
+            std::printf("every_call.cc fails: %s\n", what);
+        }
+    }
+    int result() const
+    {
+        std::printf("%d checks in C++, %d failed\n", count, failures);
+        return failures != 0;
+    }
+
+private:
+    int count = 0;
+    int failures = 0;
+};
+
+// Subtrees and sessions that free themselves, as a caller in C++ would have them.
+struct Subtree : yurewha_subtree {
+    Subtree() : yurewha_subtree{} {}
+    Subtree(const Subtree &) = delete;
+    Subtree &operator=(const Subtree &) = delete;
+    ~Subtree() { yurewha_subtree_free(this); }
+};
+
+struct Session : yurewha_session {
+    Session() : yurewha_session{} {}
+    Session(const Session &) = delete;
+    Session &operator=(const Session &) = delete;
+    ~Session() { yurewha_session_free(this); }
+};
+
+bool same(const yurewha_hash &first, const yurewha_hash &second) { return yurewha_compare(&first, &second) == 0; }
+
+void hashes(Checks &check)
+{
+    const std::string message = "abc";
+    const auto *const bytes = reinterpret_cast<const std::uint8_t *>(message.data());
+    yurewha_hash data{}, internal{}, keyed{}, drawn{}, back{};
+    yurewha_bytes raw{};
+    yurewha_data_hash(bytes, message.size(), &data);
+    yurewha_internal_node_hash(bytes, message.size(), &internal);
+    check(!same(data, internal), "the keys differ");
+    yurewha_random_from_seed(1, &drawn);
+    yurewha_hmac(&drawn, &data, &keyed);
+    check(!same(drawn, keyed), "hmac");
+    yurewha_hash_to_bytes(&drawn, &raw);
+    yurewha_hash_from_bytes(&raw, &back);
+    check(same(drawn, back), "bytes");
+    std::uint64_t remainder = 9;
+    check(yurewha_remainder(&drawn, 4, &remainder) == YUREWHA_DONE && remainder < 4, "remainder");
+
+    std::array<char, YUREWHA_HEX_LENGTH> text{};
+    std::size_t length = 0;
+    check(yurewha_hex(&drawn, text.data(), text.size(), &length) == YUREWHA_DONE, "hex");
+    check(std::string(text.data(), length) == "cfc5d07f6f03c29bbf424132963fe08d19a37d5757aaf520bf08119f05cd56d6", "its text");
+    check(yurewha_from_hex(text.data(), length, &back) == YUREWHA_DONE && same(drawn, back), "from_hex");
+    check(yurewha_base64(&drawn, text.data(), text.size(), &length) == YUREWHA_DONE, "base64");
+    check(length == YUREWHA_BASE64_LENGTH, "its length");
+    check(yurewha_from_base64(text.data(), length, &back) == YUREWHA_DONE && same(drawn, back), "from_base64");
+
+    yurewha_hasher hasher;
+    yurewha_hasher_begin_data(&hasher);
+    check(yurewha_hasher_update(&hasher, bytes, 1) == YUREWHA_DONE, "update");
+    yurewha_hasher copy = hasher;
+    check(yurewha_hasher_update(&copy, bytes + 1, 2) == YUREWHA_DONE, "update of a copy");
+    check(yurewha_hasher_count(&copy) == 3 && yurewha_hasher_count(&hasher) == 1, "counts");
+    yurewha_hasher_finalize(&copy, &back);
+    check(same(data, back), "finalize");
+    yurewha_hasher_begin_internal(&hasher);
+    check(yurewha_hasher_update(&hasher, bytes, 3) == YUREWHA_DONE, "update under the internal key");
+    yurewha_hasher_finalize(&hasher, &back);
+    check(same(internal, back), "finalize under the internal key");
+    yurewha_hasher_begin_keyed(&hasher, &raw);
+    yurewha_hasher_finalize(&hasher, &back);
+    check(!same(internal, back), "a key");
+}
+
+std::vector<yurewha_chunk> chunks()
+{
+    std::vector<yurewha_chunk> made(28);
+    for (std::size_t i = 0; i < made.size(); i++)
+        made[i] = {{{i, 0, 0, i % 4 == 3 ? 0u : 1u}}, 1};
+    return made;
+}
+
+void trees(Checks &check)
+{
+    const auto all = chunks();
+    yurewha_hash root{}, file{}, salted{}, told{};
+    const yurewha_bytes salt{};
+    check(yurewha_xorb_hash(all.data(), all.size(), &root) == YUREWHA_DONE, "xorb_hash");
+    check(yurewha_file_hash(all.data(), all.size(), &file) == YUREWHA_DONE, "file_hash");
+    check(yurewha_file_hash_with_salt(all.data(), all.size(), &salt, &salted) == YUREWHA_DONE, "file_hash_with_salt");
+    check(same(file, salted) && !same(file, root), "no salt is a salt of zeros");
+    std::size_t first = 0, last = 0;
+    check(yurewha_find_stable_start(all.data(), 20, &first) == YUREWHA_DONE && first == 8, "find_stable_start");
+    check(yurewha_find_stable_end(all.data(), 20, &last) == YUREWHA_DONE && last == 16, "find_stable_end");
+
+    std::array<Subtree, 4> parts;
+    check(yurewha_subtree_from_chunks(true, all.data(), 4, false, &parts[0]) == YUREWHA_DONE, "from_chunks");
+    check(yurewha_subtree_from_chunks(false, all.data() + 4, 24, true, &parts[1]) == YUREWHA_DONE, "from_chunks, the rest");
+    check(yurewha_subtree_clone(&parts[0], &parts[2]) == YUREWHA_DONE, "clone");
+    check(yurewha_subtree_merge_into(&parts[0], &parts[1]) == YUREWHA_DONE, "merge_into");
+    std::uint64_t parents = 0, size = 0;
+    check(yurewha_subtree_merge_into_counted(&parts[2], &parts[1], &parents) == YUREWHA_DONE && parents != 0, "counted");
+    bool equal = false, at_start = false, at_end = false;
+    check(yurewha_subtree_equal(&parts[0], &parts[2], &equal) == YUREWHA_DONE && equal, "equal");
+    check(yurewha_subtree_marks(&parts[0], &at_start, &at_end) == YUREWHA_DONE && at_start && at_end, "marks");
+    check(yurewha_subtree_total_size(&parts[0], &size) == YUREWHA_DONE && size == 28, "total_size");
+    check(yurewha_subtree_final_hash(&parts[0], &told) == YUREWHA_DONE && same(told, root), "final_hash");
+    check(yurewha_subtree_merge(&parts[0], 1, &parts[3]) == YUREWHA_DONE, "merge");
+
+    std::size_t level_count = 0, node_count = 0, length = 0;
+    check(yurewha_subtree_num_levels(&parts[3], &level_count) == YUREWHA_DONE, "num_levels");
+    check(yurewha_subtree_num_nodes(&parts[3], &node_count) == YUREWHA_DONE, "num_nodes");
+    std::vector<yurewha_level> levels(level_count);
+    std::vector<yurewha_chunk> nodes(node_count);
+    check(yurewha_subtree_to_flat(&parts[3], levels.data(), levels.size(), nodes.data(), nodes.size(), &level_count,
+                                  &node_count) == YUREWHA_DONE, "to_flat");
+    check(yurewha_subtree_from_flat(true, levels.data(), levels.size(), nodes.data(), nodes.size(), true, &parts[1])
+              == YUREWHA_DONE, "from_flat");
+    check(yurewha_subtree_to_json(&parts[1], nullptr, 0, &length) == YUREWHA_ROOM, "to_json without room");
+    std::string text(length, '\0');
+    check(yurewha_subtree_to_json(&parts[1], text.data(), text.size(), &length) == YUREWHA_DONE, "to_json");
+    check(yurewha_subtree_from_json(text.data(), text.size(), &parts[2]) == YUREWHA_DONE, "from_json");
+    check(yurewha_subtree_equal(&parts[0], &parts[2], &equal) == YUREWHA_DONE && equal, "both ways");
+
+    Session session;
+    std::uint64_t fresh = 0;
+    std::size_t runs = 0;
+    bool taken = false;
+    check(yurewha_session_new(&session) == YUREWHA_DONE, "session_new");
+    check(yurewha_session_put(&session, 20, all.data() + 20, 8, &fresh) == YUREWHA_DONE && fresh == 8, "put");
+    check(yurewha_session_put(&session, 0, all.data(), 20, &fresh) == YUREWHA_DONE && fresh == 20, "put before");
+    check(yurewha_session_taken(&session, 27, &taken) == YUREWHA_DONE && taken, "taken");
+    check(yurewha_session_num_runs(&session, &runs) == YUREWHA_DONE && runs == 1, "num_runs");
+    check(yurewha_session_run(&session, 0, &fresh, &parts[3]) == YUREWHA_DONE && fresh == 0, "run");
+    check(yurewha_session_root(&session, 28, &told) == YUREWHA_DONE && same(told, root), "root");
+    check(yurewha_session_finish(&session, 28, &told) == YUREWHA_DONE && same(told, file), "finish");
+}
+
+} // namespace
+
+int main()
+{
+    Checks check;
+    hashes(check);
+    trees(check);
+    return check.result();
+}

@@ -1,0 +1,176 @@
+/* The harness, and `main`, which runs all tests, or those whose names are given. */
+#include "harness.h"
+
+#include <inttypes.h>
+#include <stdarg.h>
+
+static struct {
+    size_t checks;
+    size_t failures;
+    char row[200];
+} state;
+
+void row(const char *format, ...)
+{
+    va_list rest;
+    va_start(rest, format);
+    vsnprintf(state.row, sizeof state.row, format, rest);
+    va_end(rest);
+}
+
+void expect(bool holds, const char *what, const char *file, int line)
+{
+    state.checks++;
+    if (!holds) {
+        state.failures++;
+        printf("%s:%d: [%s] fails: %s\n", file, line, state.row, what);
+    }
+}
+
+void expect_status(yurewha_status wanted, yurewha_status found, const char *what, const char *file, int line)
+{
+    expect(wanted == found, what, file, line);
+    if (wanted != found)
+        printf("    status %" PRIu32 ", and not %" PRIu32 "\n", found, wanted);
+}
+
+void *block(size_t size)
+{
+    void *found = malloc(size != 0 ? size : 1);
+    if (found == NULL)
+        abort();
+    return found;
+}
+
+yurewha_hash hash_of(const char *hex)
+{
+    yurewha_hash hash;
+    if (strlen(hex) != 64
+        || sscanf(hex, "%16" SCNx64 "%16" SCNx64 "%16" SCNx64 "%16" SCNx64, &hash.words[0], &hash.words[1], &hash.words[2],
+                  &hash.words[3]) != 4)
+        abort();
+    return hash;
+}
+
+bool same_hash(const yurewha_hash *first, const yurewha_hash *second)
+{
+    return memcmp(first, second, sizeof *first) == 0;
+}
+
+bool is_hash(const yurewha_hash *hash, const char *hex)
+{
+    const yurewha_hash wanted = hash_of(hex);
+    return same_hash(hash, &wanted);
+}
+
+yurewha_chunk *list_of(const char *pattern, size_t count)
+{
+    yurewha_chunk *chunks = block(count * sizeof *chunks);
+    for (size_t i = 0; i < count; i++) {
+        if (pattern != NULL) {
+            chunks[i] = (yurewha_chunk){{{i, 0, 0, pattern[i] == '|' ? 0 : 1}}, 1};
+        } else {
+            yurewha_random_from_seed(i + 1, &chunks[i].hash);
+            chunks[i].size = 100 + 977 * i % 9901;
+        }
+    }
+    return chunks;
+}
+
+yurewha_chunk *digits_of(const char *digits)
+{
+    const size_t count = strlen(digits);
+    yurewha_chunk *chunks = block(count * sizeof *chunks);
+    for (size_t i = 0; i < count; i++) {
+        const uint64_t digit = digits[i] == 'X' ? 1 : (uint64_t)(digits[i] - '0');
+        chunks[i] = (yurewha_chunk){{{0, 0, 0, 0}}, digits[i] == 'X' ? UINT64_MAX : 100 * digit};
+        if (digit != 0)
+            yurewha_random_from_seed(digit, &chunks[i].hash);
+    }
+    return chunks;
+}
+
+yurewha_subtree range_of(const yurewha_chunk *chunks, size_t from, size_t to, bool at_start, bool at_end)
+{
+    yurewha_subtree subtree = {0};
+    EXPECT_STATUS(YUREWHA_DONE, yurewha_subtree_from_chunks(at_start, chunks + from, to - from, at_end, &subtree));
+    return subtree;
+}
+
+bool same_subtree(yurewha_subtree *first, yurewha_subtree *second)
+{
+    bool equal = false;
+    return yurewha_subtree_equal(first, second, &equal) == YUREWHA_DONE && equal;
+}
+
+static void tell(yurewha_hasher *message, const void *bytes, size_t length)
+{
+    EXPECT_STATUS(YUREWHA_DONE, yurewha_hasher_update(message, bytes, length));
+}
+
+void tell_subtree(yurewha_hasher *message, yurewha_subtree *subtree)
+{
+    size_t level_count = 0, node_count = 0;
+    bool marks[2] = {false, false};
+    const yurewha_status status = yurewha_subtree_to_flat(subtree, NULL, 0, NULL, 0, &level_count, &node_count);
+    tell(message, &status, sizeof status);
+    if (status == YUREWHA_EMPTY_HANDLE)
+        return;
+    yurewha_level *levels = block(level_count * sizeof *levels);
+    yurewha_chunk *nodes = block(node_count * sizeof *nodes);
+    EXPECT_STATUS(YUREWHA_DONE,
+                  yurewha_subtree_to_flat(subtree, levels, level_count, nodes, node_count, &level_count, &node_count));
+    EXPECT_STATUS(YUREWHA_DONE, yurewha_subtree_marks(subtree, &marks[0], &marks[1]));
+    tell(message, levels, level_count * sizeof *levels);
+    tell(message, nodes, node_count * sizeof *nodes);
+    tell(message, marks, sizeof marks);
+    free(levels);
+    free(nodes);
+}
+
+void tell_session(yurewha_hasher *message, yurewha_session *session)
+{
+    size_t runs = 0;
+    const yurewha_status status = yurewha_session_num_runs(session, &runs);
+    tell(message, &status, sizeof status);
+    tell(message, &runs, sizeof runs);
+    for (size_t i = 0; i < runs; i++) {
+        uint64_t first = 0;
+        yurewha_subtree range = {0};
+        EXPECT_STATUS(YUREWHA_DONE, yurewha_session_run(session, i, &first, &range));
+        tell(message, &first, sizeof first);
+        tell_subtree(message, &range);
+        yurewha_subtree_free(&range);
+    }
+    for (uint64_t position = 0; status == YUREWHA_DONE && position < 64; position++) {
+        bool taken = false;
+        EXPECT_STATUS(YUREWHA_DONE, yurewha_session_taken(session, position, &taken));
+        tell(message, &taken, sizeof taken);
+    }
+}
+
+int main(int count, char **names)
+{
+    static const struct {
+        const char *name;
+        void (*run)(void);
+    } tests[] = {
+        {"layout", test_layout},         {"hashes", test_hashes},     {"hasher", test_hasher},
+        {"roots", test_roots},           {"subtrees", test_subtrees}, {"merging", test_merging},
+        {"texts", test_texts},           {"flat_lists", test_flat_lists}, {"sessions", test_sessions},
+        {"handles", test_handles},       {"rooms", test_rooms},       {"empty_slices", test_empty_slices},
+        {"refusals", test_refusals},     {"threads", test_threads},
+    };
+    for (size_t i = 0; i < LENGTH(tests); i++) {
+        bool wanted = count < 2;
+        for (int j = 1; j < count; j++)
+            wanted = wanted || strcmp(names[j], tests[i].name) == 0;
+        if (!wanted)
+            continue;
+        const size_t before = state.checks;
+        tests[i].run();
+        printf("%-12s %6zu checks\n", tests[i].name, state.checks - before);
+    }
+    printf("%zu checks, %zu failed\n", state.checks, state.failures);
+    return state.failures != 0 || state.checks == 0;
+}

@@ -1,0 +1,66 @@
+/* What the C tests share: checks that are counted, the tests' names, and lists of chunks. */
+#ifndef HARNESS_H
+#define HARNESS_H
+
+#include "yurewha.h"
+
+#include <stdio.h>
+#include <stdlib.h>
+#include <string.h>
+
+#define EXPECT(condition) expect((condition), #condition, __FILE__, __LINE__)
+#define EXPECT_STATUS(wanted, call) expect_status((wanted), (call), #call, __FILE__, __LINE__)
+#define LENGTH(array) (sizeof(array) / sizeof *(array))
+
+/* Says which row of a table the checks that follow are about. */
+void row(const char *format, ...);
+
+/* Count a check, and tell it where it doesn't hold. */
+void expect(bool holds, const char *what, const char *file, int line);
+void expect_status(yurewha_status wanted, yurewha_status found, const char *what, const char *file, int line);
+
+/* A block of exactly so many bytes, which free takes; for 0 bytes too. The program ends where there is none. */
+void *block(size_t size);
+
+/* The hash of 64 hex digits, read without the library. */
+yurewha_hash hash_of(const char *hex);
+bool same_hash(const yurewha_hash *first, const yurewha_hash *second);
+bool is_hash(const yurewha_hash *hash, const char *hex);
+
+/* Lists of chunks in blocks of their own: as values.h says; and by digits, of which each is the hash of that seed with the
+ * size 100 times the digit, 0 the default hash with the size 0, and X the hash of seed 1 with the greatest size. */
+yurewha_chunk *list_of(const char *pattern, size_t count);
+yurewha_chunk *digits_of(const char *digits);
+
+/* The subtree of a part of a list. */
+yurewha_subtree range_of(const yurewha_chunk *chunks, size_t from, size_t to, bool at_start, bool at_end);
+bool same_subtree(yurewha_subtree *first, yurewha_subtree *second);
+
+/* Adds to a message all that can be told of a subtree, or of a session. A session's takes memory. */
+void tell_subtree(yurewha_hasher *message, yurewha_subtree *subtree);
+void tell_session(yurewha_hasher *message, yurewha_session *session);
+
+/* malloc and realloc, of which a request can be refused; see refusing.c. */
+void refuse(size_t number, bool all_from_there);
+size_t requests(void);
+bool was_refused(void);
+long live_blocks(void);
+bool sees_requests(void);
+
+/* The tests. */
+void test_layout(void);
+void test_hashes(void);
+void test_hasher(void);
+void test_roots(void);
+void test_subtrees(void);
+void test_merging(void);
+void test_texts(void);
+void test_flat_lists(void);
+void test_sessions(void);
+void test_handles(void);
+void test_rooms(void);
+void test_empty_slices(void);
+void test_refusals(void);
+void test_threads(void);
+
+#endif

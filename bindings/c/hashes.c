@@ -1,0 +1,226 @@
+/* Hashes of data and of seeds, their forms and their order. */
+#include "harness.h"
+#include "values.h"
+
+static uint8_t *message_of(size_t length)
+{
+    uint8_t *bytes = block(length);
+    for (size_t i = 0; i < length; i++)
+        bytes[i] = (uint8_t)(i % 251);
+    return bytes;
+}
+
+static void data(void)
+{
+    for (size_t i = 0; i < LENGTH(message_rows); i++) {
+        const struct message_row *it = &message_rows[i];
+        uint8_t *bytes = message_of(it->length);
+        yurewha_hash hash;
+        row("a message of %zu bytes", it->length);
+        yurewha_data_hash(bytes, it->length, &hash);
+        EXPECT(is_hash(&hash, it->data));
+        yurewha_internal_node_hash(bytes, it->length, &hash);
+        EXPECT(is_hash(&hash, it->internal));
+        free(bytes);
+    }
+}
+
+static void seeds(void)
+{
+    for (size_t i = 0; i < LENGTH(seed_rows); i++) {
+        const struct seed_row *it = &seed_rows[i];
+        yurewha_hash hash, key, keyed, back = {{1, 2, 3, 4}};
+        yurewha_bytes bytes;
+        uint64_t remainder = 0;
+        char text[64];
+        size_t length = 0;
+        row("seed %zu of the table", i);
+        yurewha_random_from_seed(it->seed, &hash);
+        EXPECT(is_hash(&hash, it->hex));
+        yurewha_random_from_seed(it->seed + 1, &key);
+        yurewha_hmac(&hash, &key, &keyed);
+        EXPECT(is_hash(&keyed, it->hmac));
+        EXPECT_STATUS(YUREWHA_DONE, yurewha_remainder(&hash, 1000, &remainder));
+        EXPECT(remainder == it->remainder);
+
+        yurewha_hash_to_bytes(&hash, &bytes);
+        for (size_t j = 0; j < 32; j++)
+            EXPECT(bytes.bytes[j] == (uint8_t)(hash.words[j / 8] >> (8 * (j % 8))));
+        yurewha_hash_from_bytes(&bytes, &back);
+        EXPECT(same_hash(&back, &hash));
+
+        EXPECT_STATUS(YUREWHA_DONE, yurewha_hex(&hash, text, sizeof text, &length));
+        EXPECT(length == YUREWHA_HEX_LENGTH && memcmp(text, it->hex, length) == 0);
+        EXPECT_STATUS(YUREWHA_DONE, yurewha_from_hex(text, length, &back));
+        EXPECT(same_hash(&back, &hash));
+        EXPECT_STATUS(YUREWHA_DONE, yurewha_base64(&hash, text, sizeof text, &length));
+        EXPECT(length == YUREWHA_BASE64_LENGTH && memcmp(text, it->base64, length) == 0);
+        back = (yurewha_hash){{1, 2, 3, 4}};
+        EXPECT_STATUS(YUREWHA_DONE, yurewha_from_base64(text, length, &back));
+        EXPECT(same_hash(&back, &hash));
+    }
+}
+
+#define ZEROS_60 "000000000000000000000000000000000000000000000000000000000000"
+#define LETTERS_40 "AAAAAAAAAAAAAAAAAAAAAAAAAAAAAAAAAAAAAAAA"
+
+static void texts(void)
+{
+    static const struct {
+        bool is_hex;
+        const char *text;
+        yurewha_status status;
+        const char *hash;
+    } rows[] = {
+        {true, "D6834B04843AAF16F29903E2428A99BE635099F9EA5056CC4E95E7EC8A41509F", YUREWHA_DONE,
+         "d6834b04843aaf16f29903e2428a99be635099f9ea5056cc4e95e7ec8a41509f"},
+        {true, ZEROS_60 "0aAf", YUREWHA_DONE, ZEROS_60 "0aaf"},
+        {true, ZEROS_60 "000", YUREWHA_TEXT, NULL},
+        {true, ZEROS_60 "00000", YUREWHA_TEXT, NULL},
+        {true, ZEROS_60 "000g", YUREWHA_TEXT, NULL},
+        {true, ZEROS_60 " 000", YUREWHA_TEXT, NULL},
+        {true, ZEROS_60 "00\xc3\xa9", YUREWHA_TEXT, NULL},
+        {false, "Fq86hARLg9a-mYpC4gOZ8sxWUOr5mVBjn1BBiuznlU4", YUREWHA_DONE,
+         "d6834b04843aaf16f29903e2428a99be635099f9ea5056cc4e95e7ec8a41509f"},
+        {false, LETTERS_40 "AAA", YUREWHA_DONE, ZEROS_60 "0000"},
+        {false, "__________________________________________8", YUREWHA_DONE,
+         "ffffffffffffffffffffffffffffffffffffffffffffffffffffffffffffffff"},
+        {false, LETTERS_40 "AA", YUREWHA_TEXT, NULL},
+        {false, LETTERS_40 "AAAA", YUREWHA_TEXT, NULL},
+        {false, LETTERS_40 "AAA=", YUREWHA_TEXT, NULL},
+        {false, LETTERS_40 "AAB", YUREWHA_TEXT, NULL},
+        {false, LETTERS_40 "A+A", YUREWHA_TEXT, NULL},
+        {false, LETTERS_40 "A/A", YUREWHA_TEXT, NULL},
+    };
+    for (size_t i = 0; i < LENGTH(rows); i++) {
+        yurewha_hash hash = {{1, 2, 3, 4}};
+        const yurewha_hash before = hash;
+        const size_t length = strlen(rows[i].text);
+        row("%s", rows[i].text);
+        EXPECT_STATUS(rows[i].status, rows[i].is_hex ? yurewha_from_hex(rows[i].text, length, &hash)
+                                                     : yurewha_from_base64(rows[i].text, length, &hash));
+        EXPECT(rows[i].hash != NULL ? is_hash(&hash, rows[i].hash) : same_hash(&hash, &before));
+    }
+}
+
+static void order(void)
+{
+    static const struct {
+        yurewha_hash first;
+        yurewha_hash second;
+        int32_t wanted;
+    } rows[] = {
+        {{{0, 0, 0, 0}}, {{0, 0, 0, 0}}, 0},
+        {{{1, 2, 3, 4}}, {{1, 2, 3, 4}}, 0},
+        {{{0, 0, 0, 1}}, {{0, 0, 0, 2}}, -1},
+        {{{0, 9, 9, 9}}, {{1, 0, 0, 0}}, -1},
+        {{{0, 0, 1, 0}}, {{0, 0, 0, 9}}, 1},
+        {{{0, 1, 0, 0}}, {{0, 0, 9, 9}}, 1},
+        {{{UINT64_MAX, 0, 0, 0}}, {{1, 0, 0, 0}}, 1},
+        {{{0x0100, 0, 0, 0}}, {{0x0001, 0, 0, 0}}, 1},
+    };
+    for (size_t i = 0; i < LENGTH(rows); i++) {
+        row("%zu", i);
+        EXPECT(yurewha_compare(&rows[i].first, &rows[i].second) == rows[i].wanted);
+        EXPECT(yurewha_compare(&rows[i].second, &rows[i].first) == -rows[i].wanted);
+    }
+}
+
+static void remainders(void)
+{
+    static const struct {
+        uint64_t word;
+        uint64_t divisor;
+        yurewha_status status;
+        uint64_t remainder;
+    } rows[] = {
+        {UINT64_MAX, 4, YUREWHA_DONE, 3},
+        {0, 4, YUREWHA_DONE, 0},
+        {7, UINT64_MAX, YUREWHA_DONE, 7},
+        {7, 1, YUREWHA_DONE, 0},
+        {7, 0, YUREWHA_ARGUMENTS, 99},
+        {0, 0, YUREWHA_ARGUMENTS, 99},
+    };
+    for (size_t i = 0; i < LENGTH(rows); i++) {
+        const yurewha_hash hash = {{5, 6, 7, rows[i].word}};
+        uint64_t remainder = 99;
+        row("%zu", i);
+        EXPECT_STATUS(rows[i].status, yurewha_remainder(&hash, rows[i].divisor, &remainder));
+        EXPECT(remainder == rows[i].remainder);
+    }
+}
+
+/* However a message is cut, a hasher gives the hash of the whole; a copy of it goes on by itself. */
+static void pieces(void)
+{
+    static const size_t sizes[] = {1, 64, 65, 1000, 1023, 1024, 1025, 20000};
+    for (size_t i = 0; i < LENGTH(message_rows) * LENGTH(sizes) * 3; i++) {
+        const struct message_row *it = &message_rows[i / (3 * LENGTH(sizes))];
+        const size_t size = sizes[i / 3 % LENGTH(sizes)];
+        const char *const wanted[] = {it->data, it->internal, it->keyed};
+        uint8_t *bytes = message_of(it->length);
+        yurewha_hasher hasher;
+        yurewha_bytes key;
+        yurewha_hash hash;
+        for (size_t j = 0; j < 32; j++)
+            key.bytes[j] = (uint8_t)j;
+        row("%zu bytes by %zu, key %zu", it->length, size, i % 3);
+        switch (i % 3) {
+        case 0:
+            yurewha_hasher_begin_data(&hasher);
+            break;
+        case 1:
+            yurewha_hasher_begin_internal(&hasher);
+            break;
+        default:
+            yurewha_hasher_begin_keyed(&hasher, &key);
+        }
+        EXPECT(yurewha_hasher_count(&hasher) == 0);
+        for (size_t at = 0; at < it->length; at += size) {
+            const size_t length = it->length - at < size ? it->length - at : size;
+            EXPECT_STATUS(YUREWHA_DONE, yurewha_hasher_update(&hasher, bytes + at, length));
+            EXPECT(yurewha_hasher_count(&hasher) == at + length);
+        }
+        yurewha_hasher copy = hasher;
+        yurewha_hasher_finalize(&hasher, &hash);
+        EXPECT(is_hash(&hash, wanted[i % 3]));
+        EXPECT(memcmp(&copy, &hasher, sizeof copy) == 0);
+        EXPECT_STATUS(YUREWHA_DONE, yurewha_hasher_update(&hasher, (const uint8_t *)"more", 4));
+        yurewha_hasher_finalize(&hasher, &hash);
+        EXPECT(!is_hash(&hash, wanted[i % 3]));
+        yurewha_hasher_finalize(&copy, &hash);
+        EXPECT(is_hash(&hash, wanted[i % 3]));
+        free(bytes);
+    }
+}
+
+/* No test can add 2^64 bytes, so the count is written by hand. A refused update looks at nothing else. */
+static void full_hasher(void)
+{
+    static const uint8_t piece[8] = {0};
+    for (size_t length = 4; length <= sizeof piece; length++) {
+        yurewha_hasher hasher, before;
+        yurewha_hasher_begin_data(&hasher);
+        hasher.count = UINT64_MAX - 3;
+        before = hasher;
+        row("%zu bytes to 2^64 - 4", length);
+        EXPECT_STATUS(YUREWHA_SIZES, yurewha_hasher_update(&hasher, piece, length));
+        EXPECT(memcmp(&before, &hasher, sizeof before) == 0);
+        EXPECT(yurewha_hasher_count(&hasher) == UINT64_MAX - 3);
+    }
+}
+
+void test_hashes(void)
+{
+    data();
+    seeds();
+    texts();
+    order();
+    remainders();
+}
+
+void test_hasher(void)
+{
+    pieces();
+    full_hasher();
+}

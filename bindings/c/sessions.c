@@ -1,0 +1,192 @@
+/* Sessions: chunks by position, in any order. */
+#include "harness.h"
+#include "values.h"
+
+enum step { END, PUT, TAKEN, RUNS, RUN, ROOT, FINISH };
+
+static yurewha_hash told_of(yurewha_session *session)
+{
+    yurewha_hasher message;
+    yurewha_hash hash;
+    yurewha_hasher_begin_data(&message);
+    tell_session(&message, session);
+    yurewha_hasher_finalize(&message, &hash);
+    return hash;
+}
+
+/* Each row is a call of the session that the rows before it made; END begins a new one. */
+struct call {
+    enum step step;
+    uint64_t argument;  /* a position, the number of a run, or a total */
+    const char *said;   /* chunks by digits, or the hash */
+    yurewha_status status;
+    uint64_t number;    /* new hashes, whether a position is taken, runs, or the first position of a run */
+};
+
+#define NONE "0000000000000000000000000000000000000000000000000000000000000000"
+#define NEVER 12345
+
+static void put(yurewha_session *session, const struct call *it)
+{
+    yurewha_chunk *chunks = digits_of(it->said);
+    uint64_t number = NEVER;
+    const yurewha_hash before = told_of(session);
+    EXPECT_STATUS(it->status, yurewha_session_put(session, it->argument, chunks, strlen(it->said), &number));
+    const yurewha_hash after = told_of(session);
+    EXPECT(number == (it->status == YUREWHA_DONE ? it->number : NEVER));
+    EXPECT(same_hash(&before, &after) == (it->status != YUREWHA_DONE || it->said[0] == '\0'));
+    free(chunks);
+}
+
+static void run(yurewha_session *session, const struct call *it)
+{
+    const yurewha_chunk chunk = {{{7, 7, 7, 7}}, 7};
+    yurewha_subtree range = range_of(&chunk, 0, 1, true, true), wanted = range_of(&chunk, 0, 1, true, true);
+    uint64_t first = NEVER;
+    EXPECT_STATUS(it->status, yurewha_session_run(session, it->argument, &first, &range));
+    EXPECT(first == (it->status == YUREWHA_DONE ? it->number : NEVER));
+    if (it->status == YUREWHA_DONE) {
+        yurewha_chunk *chunks = digits_of(it->said);
+        EXPECT_STATUS(YUREWHA_DONE, yurewha_subtree_from_chunks(false, chunks, strlen(it->said), false, &wanted));
+        free(chunks);
+    }
+    EXPECT(same_subtree(&range, &wanted));
+    yurewha_subtree_free(&range);
+    yurewha_subtree_free(&wanted);
+}
+
+static void make_call(yurewha_session *session, const struct call *it)
+{
+    const yurewha_hash before = {{1, 2, 3, 4}};
+    yurewha_hash hash = before;
+    bool taken = it->number == 0;
+    size_t count = NEVER;
+    switch (it->step) {
+    case END:
+        yurewha_session_free(session);
+        EXPECT_STATUS(YUREWHA_DONE, yurewha_session_new(session));
+        break;
+    case PUT:
+        put(session, it);
+        break;
+    case TAKEN:
+        EXPECT_STATUS(it->status, yurewha_session_taken(session, it->argument, &taken));
+        EXPECT(taken == (it->number != 0));
+        break;
+    case RUNS:
+        EXPECT_STATUS(it->status, yurewha_session_num_runs(session, &count));
+        EXPECT(count == it->number);
+        break;
+    case RUN:
+        run(session, it);
+        break;
+    default:
+        EXPECT_STATUS(it->status, it->step == ROOT ? yurewha_session_root(session, it->argument, &hash)
+                                                   : yurewha_session_finish(session, it->argument, &hash));
+        EXPECT(it->status == YUREWHA_DONE ? is_hash(&hash, it->said) : same_hash(&hash, &before));
+    }
+}
+
+static void calls(void)
+{
+    static const struct call rows[] = {
+        {END, 0, NULL, YUREWHA_DONE, 0},
+        {RUNS, 0, NULL, YUREWHA_DONE, 0},
+        {RUN, 0, NULL, YUREWHA_ARGUMENTS, 0},
+        {TAKEN, 0, NULL, YUREWHA_DONE, 0},
+        {ROOT, 0, NONE, YUREWHA_DONE, 0},
+        {FINISH, 0, NONE, YUREWHA_DONE, 0},
+        {ROOT, 1, NULL, YUREWHA_SESSION_GAP, 0},
+        {FINISH, 1, NULL, YUREWHA_SESSION_GAP, 0},
+        {PUT, 2, "12", YUREWHA_DONE, 2},
+        {FINISH, 2, NULL, YUREWHA_SESSION_GAP, 0},
+        {FINISH, 4, NULL, YUREWHA_SESSION_GAP, 0},
+        {PUT, 0, "12", YUREWHA_DONE, 0},
+        {RUNS, 0, NULL, YUREWHA_DONE, 1},
+        {RUN, 0, "1212", YUREWHA_DONE, 0},
+        {ROOT, 4, "90f8313ef12df385d237a067aded02562c35ded12116e32eba401dbc86c38031", YUREWHA_DONE, 0},
+        {FINISH, 4, "284ea045e5a579e99c21ec597c20de1fc0c09e7168162aac00db8f61b3d82dbb", YUREWHA_DONE, 0},
+        {FINISH, 3, NULL, YUREWHA_SESSION_GAP, 0},
+        {ROOT, 5, NULL, YUREWHA_SESSION_GAP, 0},
+        {PUT, 3, "3", YUREWHA_SESSION_OVERLAP, 0},
+        {PUT, 4, "323", YUREWHA_DONE, 1},
+        {END, 0, NULL, YUREWHA_DONE, 0},
+        {PUT, 10, "123", YUREWHA_DONE, 3},
+        {PUT, 0, "45", YUREWHA_DONE, 2},
+        {PUT, 2, "6", YUREWHA_DONE, 1},
+        {PUT, 8, "123", YUREWHA_SESSION_OVERLAP, 0},
+        {RUNS, 0, NULL, YUREWHA_DONE, 2},
+        {RUN, 0, "456", YUREWHA_DONE, 0},
+        {RUN, 1, "123", YUREWHA_DONE, 10},
+        {RUN, 2, NULL, YUREWHA_ARGUMENTS, 0},
+        {RUN, UINT64_MAX, NULL, YUREWHA_ARGUMENTS, 0},
+        {TAKEN, 2, NULL, YUREWHA_DONE, 1},
+        {TAKEN, 3, NULL, YUREWHA_DONE, 0},
+        {TAKEN, 12, NULL, YUREWHA_DONE, 1},
+        {TAKEN, 13, NULL, YUREWHA_DONE, 0},
+        {END, 0, NULL, YUREWHA_DONE, 0},
+        {PUT, UINT64_MAX, "", YUREWHA_DONE, 0},
+        {PUT, UINT64_MAX, "1", YUREWHA_SESSION_POSITIONS, 0},
+        {PUT, UINT64_MAX, "X1", YUREWHA_SESSION_POSITIONS, 0},
+        {PUT, UINT64_MAX - 1, "1", YUREWHA_DONE, 1},
+        {PUT, UINT64_MAX - 2, "11", YUREWHA_SESSION_OVERLAP, 0},
+        {PUT, UINT64_MAX - 1, "11", YUREWHA_SESSION_OVERLAP, 0},
+        {TAKEN, UINT64_MAX - 1, NULL, YUREWHA_DONE, 1},
+        {TAKEN, UINT64_MAX, NULL, YUREWHA_DONE, 0},
+        {END, 0, NULL, YUREWHA_DONE, 0},
+        {PUT, 0, "X", YUREWHA_DONE, 1},
+        {PUT, 5, "1", YUREWHA_SESSION_SIZES, 0},
+        {PUT, 0, "1", YUREWHA_SESSION_OVERLAP, 0},
+        {PUT, UINT64_MAX, "1", YUREWHA_SESSION_POSITIONS, 0},
+        {PUT, 1, "0", YUREWHA_DONE, 1},
+        {PUT, 2, "0", YUREWHA_DONE, 0},
+        {END, 0, NULL, YUREWHA_DONE, 0},
+        {PUT, 0, "XX", YUREWHA_SESSION_SIZES, 0},
+        {PUT, 0, "1111", YUREWHA_DONE, 1},
+    };
+    yurewha_session session = {0};
+    for (size_t i = 0; i < LENGTH(rows); i++) {
+        row("call %zu", i);
+        make_call(&session, &rows[i]);
+    }
+    yurewha_session_free(&session);
+}
+
+/* The blocks of a list come by rising number, by falling number, or each third one first. */
+static void orders(void)
+{
+    static const size_t blocks[] = {1, 7, 50};
+    for (size_t i = 0; i < LENGTH(root_rows) * LENGTH(blocks) * 3; i++) {
+        const struct root_row *it = &root_rows[i / (3 * LENGTH(blocks))];
+        const size_t size = blocks[i / 3 % LENGTH(blocks)], count = (it->count + size - 1) / size;
+        yurewha_chunk *chunks = list_of(it->pattern, it->count);
+        yurewha_session session = {0};
+        yurewha_hash hash;
+        uint64_t sum = 0;
+        row("%zu chunks by %zu, order %zu", it->count, size, i % 3);
+        EXPECT_STATUS(YUREWHA_DONE, yurewha_session_new(&session));
+        for (size_t j = 0; j < count; j++) {
+            const size_t thirds = (count + 2) / 3, turn[] = {j, count - 1 - j, 0};
+            size_t number = turn[i % 3];
+            if (i % 3 == 2)
+                number = j < thirds ? 3 * j : (j - thirds) / 2 * 3 + (j - thirds) % 2 + 1;
+            const size_t first = number * size, length = it->count - first < size ? it->count - first : size;
+            uint64_t fresh = NEVER;
+            EXPECT_STATUS(YUREWHA_DONE, yurewha_session_put(&session, first, chunks + first, length, &fresh));
+            sum += fresh;
+        }
+        EXPECT(sum == it->count);
+        EXPECT_STATUS(YUREWHA_DONE, yurewha_session_root(&session, it->count, &hash));
+        EXPECT(is_hash(&hash, it->xorb));
+        EXPECT_STATUS(YUREWHA_DONE, yurewha_session_finish(&session, it->count, &hash));
+        EXPECT(is_hash(&hash, it->file));
+        yurewha_session_free(&session);
+        free(chunks);
+    }
+}
+
+void test_sessions(void)
+{
+    calls();
+    orders();
+}

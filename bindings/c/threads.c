@@ -1,0 +1,92 @@
+/* Eight threads with objects of their own, and handles that go from one thread to another and back. */
+#include "harness.h"
+#include "values.h"
+
+#include <pthread.h>
+
+enum { THREADS = 8, TURNS = 20 };
+
+struct work {
+    pthread_t thread;
+    size_t number;
+    yurewha_subtree handed; /* made by the first thread, freed by it */
+    bool holds;
+};
+
+/* One list by ranges, as a text, by positions, and as a message: whether all say what the table does. */
+static bool is_right(const struct root_row *it, size_t size)
+{
+    const size_t count = (it->count + size - 1) / size;
+    yurewha_chunk *chunks = list_of(it->pattern, it->count);
+    yurewha_subtree whole = {0}, range = {0}, read = {0};
+    yurewha_session session = {0};
+    yurewha_hash root, file, message;
+    char *text = NULL;
+    size_t length = 0;
+    uint64_t fresh = 0;
+    bool holds = yurewha_subtree_from_chunks(true, NULL, 0, false, &whole) == YUREWHA_DONE
+                 && yurewha_session_new(&session) == YUREWHA_DONE;
+    for (size_t i = 0; i < count; i++) {
+        const size_t first = i * size, last = (count - 1 - i) * size;
+        const size_t part = it->count - first < size ? it->count - first : size;
+        const size_t other = it->count - last < size ? it->count - last : size;
+        holds = holds && yurewha_subtree_from_chunks(false, chunks + first, part, i + 1 == count, &range) == YUREWHA_DONE
+                && yurewha_subtree_merge_into(&whole, &range) == YUREWHA_DONE
+                && yurewha_session_put(&session, last, chunks + last, other, &fresh) == YUREWHA_DONE;
+    }
+    holds = holds && yurewha_subtree_final_hash(&whole, &root) == YUREWHA_DONE && is_hash(&root, it->xorb)
+            && yurewha_session_finish(&session, it->count, &file) == YUREWHA_DONE && is_hash(&file, it->file)
+            && yurewha_subtree_to_json(&whole, NULL, 0, &length) == YUREWHA_ROOM;
+    text = block(length);
+    holds = holds && yurewha_subtree_to_json(&whole, text, length, &length) == YUREWHA_DONE
+            && yurewha_subtree_from_json(text, length, &read) == YUREWHA_DONE && same_subtree(&read, &whole);
+    yurewha_data_hash((const uint8_t *)"\0\1\2", message_rows[2].length, &message);
+    holds = holds && is_hash(&message, message_rows[2].data);
+    free(text);
+    free(chunks);
+    yurewha_subtree_free(&whole);
+    yurewha_subtree_free(&range);
+    yurewha_subtree_free(&read);
+    yurewha_session_free(&session);
+    return holds;
+}
+
+static void *work_on(void *given)
+{
+    struct work *work = given;
+    bool at_start = false, at_end = true;
+    work->holds = true;
+    for (size_t i = 0; i < TURNS; i++) {
+        const struct root_row *it = &root_rows[(work->number + i) % LENGTH(root_rows)];
+        if (it->count != 0)
+            work->holds = is_right(it, 1 + (work->number + 3 * i) % 50) && work->holds;
+    }
+    yurewha_subtree other = {0};
+    work->holds = work->holds && yurewha_subtree_from_chunks(false, NULL, 0, true, &other) == YUREWHA_DONE
+                  && yurewha_subtree_merge_into(&work->handed, &other) == YUREWHA_DONE
+                  && yurewha_subtree_marks(&work->handed, &at_start, &at_end) == YUREWHA_DONE && at_start && at_end;
+    yurewha_subtree_free(&other);
+    return NULL;
+}
+
+void test_threads(void)
+{
+    struct work works[THREADS];
+    for (size_t i = 0; i < THREADS; i++) {
+        yurewha_chunk *chunks = list_of(NULL, 40);
+        row("thread %zu", i);
+        works[i] = (struct work){.number = i, .handed = range_of(chunks, 0, 40, true, false)};
+        free(chunks);
+        EXPECT(pthread_create(&works[i].thread, NULL, work_on, &works[i]) == 0);
+    }
+    for (size_t i = 0; i < THREADS; i++) {
+        yurewha_hash root = {{0}};
+        row("thread %zu", i);
+        EXPECT(pthread_join(works[i].thread, NULL) == 0);
+        EXPECT(works[i].holds);
+        EXPECT_STATUS(YUREWHA_DONE, yurewha_subtree_final_hash(&works[i].handed, &root));
+        for (size_t j = 0; j < LENGTH(root_rows); j++)
+            EXPECT(root_rows[j].pattern != NULL || root_rows[j].count != 40 || is_hash(&root, root_rows[j].xorb));
+        yurewha_subtree_free(&works[i].handed);
+    }
+}

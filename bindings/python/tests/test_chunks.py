@@ -1,0 +1,130 @@
+"""Packed chunks: where they come from, what they refuse, NumPy, and a million in one call."""
+
+import array
+import mmap
+import random
+import struct
+import time
+
+import pytest
+
+import yurewha as y
+
+rng = random.Random(11)
+PAIRS = [(y.Hash.random_from_seed(i), rng.getrandbits(40)) for i in range(50)]
+PACKED = b"".join(h.bytes + size.to_bytes(8, "little") for h, size in PAIRS)
+
+
+def test_forms():
+    chunks = y.Chunks(PAIRS)
+    assert chunks.packed == bytes(chunks) == PACKED and len(chunks) == 50 and list(chunks) == PAIRS
+    words = array.array("Q", struct.unpack("<250Q", PACKED))
+    with mmap.mmap(-1, len(PACKED)) as mapped:
+        mapped[:] = PACKED
+        for form in (
+            PACKED, bytearray(PACKED), memoryview(PACKED), memoryview(bytearray(PACKED)), words, memoryview(words), mapped,
+            memoryview(PACKED).cast("B", (50, 40)), memoryview(PACKED).cast("c"), iter(PAIRS), tuple(PAIRS), chunks,
+            memoryview(b"abc" + PACKED)[3:], (pair for pair in PAIRS), [list(pair) for pair in PAIRS],
+        ):
+            assert y.Chunks(form) == chunks
+    assert y.Chunks(PACKED).packed is PACKED and y.Chunks(chunks) is chunks
+    assert y.Chunks() == y.Chunks([]) == y.Chunks(b"") and len(y.Chunks()) == 0
+    assert y.xorb_hash(memoryview(b"abc" + PACKED)[3:]) == y.xorb_hash(PAIRS)
+
+
+def test_as_a_sequence():
+    chunks = y.Chunks(PAIRS)
+    assert chunks[0] == PAIRS[0] and chunks[-1] == PAIRS[-1] and chunks[49] == PAIRS[49]
+    for cut in (slice(3, 7), slice(None), slice(40, 3), slice(None, None, -1), slice(1, 40, 7), slice(60, 70), slice(-3, None)):
+        assert isinstance(chunks[cut], y.Chunks) and list(chunks[cut]) == PAIRS[cut]
+    assert chunks[:20] + chunks[20:] == chunks and chunks[:20] + PAIRS[20:] == chunks
+    assert PAIRS[7] in chunks and chunks.index(PAIRS[7]) == 7 and (y.Hash(), 1) not in chunks
+    assert hash(y.Chunks(PACKED)) == hash(chunks) and chunks != PAIRS and chunks != y.Chunks(PAIRS[:-1])
+
+
+def test_a_block_that_is_changed_afterwards():
+    block = bytearray(PACKED)
+    chunks = y.Chunks(block)
+    block[:] = bytes(len(block))
+    assert chunks.packed == PACKED
+
+
+@pytest.mark.parametrize("block", [
+    bytes(39), bytes(41), bytearray(1), memoryview(PACKED)[1:], memoryview(PACKED).cast("B", (40, 50)),
+    array.array("Q", range(6)), array.array("d", range(10)), array.array("i", range(10)), array.array("I", range(10)),
+    memoryview(PACKED).cast("Q", (25, 10)), memoryview(PACKED).cast("q"), memoryview(PACKED).cast("d"),
+])
+def test_blocks_that_are_none(block):
+    with pytest.raises(y.InvalidArguments):
+        y.Chunks(block)
+
+
+def test_numpy():
+    numpy = pytest.importorskip("numpy")
+    chunks = y.Chunks(PAIRS)
+    seen = numpy.asarray(chunks)
+    assert seen.shape == (50,) and seen.dtype.names == ("words", "size") and not seen.flags.writeable
+    assert [tuple(int(word) for word in words) for words in seen["words"]] == [h.words for h, _ in PAIRS]
+    assert [int(size) for size in seen["size"]] == [size for _, size in PAIRS]
+    words = numpy.frombuffer(PACKED, dtype="<u8")
+    named = numpy.dtype([("hash", "S32"), ("size", "<u8")])
+    raw = numpy.dtype([("hash", "u1", 32), ("size", "<u8")])
+    for form in (
+        seen, seen.copy(), words, words.reshape(50, 5), numpy.frombuffer(PACKED, dtype="u1"),
+        numpy.frombuffer(PACKED, dtype="u1").reshape(50, 40), numpy.frombuffer(PACKED, dtype=named),
+        numpy.frombuffer(PACKED, dtype=raw), numpy.asfortranarray(words.reshape(50, 5)),
+    ):
+        assert y.Chunks(form) == chunks and y.xorb_hash(form) == y.xorb_hash(PAIRS)
+    assert list(y.Chunks(seen[::2])) == PAIRS[::2] and list(y.Chunks(seen[::-1])) == PAIRS[::-1]
+    assert list(y.Chunks(words.reshape(50, 5)[10:20])) == PAIRS[10:20]
+    for wrong in (
+        words.astype(">u8"), words.astype("<f8"), words.reshape(25, 10), words.reshape(5, 50), words[1:],
+        words.astype("i8"), seen.astype([("words", "<u8", (4,)), ("size", "<f8")]),
+        seen.astype([("words", ">u8", (4,)), ("size", "<u8")]), seen["words"], seen["size"][:7],
+        numpy.zeros(40, dtype="O"), numpy.zeros(5, dtype="M8[s]"), numpy.zeros((5, 8), dtype="c16"),
+    ):
+        with pytest.raises((y.InvalidArguments, TypeError)):
+            y.Chunks(wrong)
+    assert y.data_hash(words) == y.data_hash(PACKED) == y.data_hash(seen)
+    with pytest.raises(TypeError):
+        y.xorb_hash([(h, float(size)) for h, size in PAIRS])
+    assert y.xorb_hash([(h, numpy.uint64(size)) for h, size in PAIRS]) == y.xorb_hash(PAIRS)
+
+
+def test_great_messages():
+    data = random.Random(12).randbytes((3 << 20) + 17)
+    expected = y.data_hash(data)
+    for form in (bytearray(data), memoryview(data), memoryview(bytearray(b"a" + data))[1:]):
+        assert y.data_hash(form) == expected
+    odd = memoryview(bytearray(2 * len(data)))[::2]
+    odd[:] = data
+    assert y.data_hash(odd) == y.Hasher(odd).hash() == expected
+
+
+def drawn_block(count):
+    """Chunks with drawn hashes, and sizes below 2^24."""
+    block = bytearray(random.Random(13).randbytes(40 * count))
+    for place in range(35, 40):
+        block[place::40] = bytes(count)
+    return bytes(block)
+
+
+def test_a_million_in_one_call():
+    count = 1_000_000
+    chunks = y.Chunks(drawn_block(count))
+    assert len(chunks) == count
+    start = time.perf_counter()
+    root = y.xorb_hash(chunks)
+    taken = time.perf_counter() - start
+    tree = y.Subtree.from_chunks(True, chunks, False)
+    assert tree.num_nodes < 1000
+    tree += y.Subtree.from_chunks(False, b"", True)
+    assert tree.final_hash() == root and y.file_hash(chunks) == root.hmac(y.Hash())
+    cuts = [0, 1, 333_333, 333_334, 700_000, count]
+    parts = [y.Subtree.from_chunks(a == 0, chunks[a:b], b == count) for a, b in zip(cuts, cuts[1:])]
+    assert y.Subtree.merge_all(parts).final_hash() == root
+    one = y.Session()
+    one.put(500_000, chunks[500_000:])
+    one.put(0, chunks[:500_000])
+    assert one.root(count) == root
+    print(f"\nthe root of a million packed chunks: {1000 * taken:.0f} ms")

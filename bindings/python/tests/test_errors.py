@@ -1,0 +1,328 @@
+"""Each exception, and each argument that is refused before it crosses."""
+
+import copy
+import pickle
+import resource
+import subprocess
+import sys
+from pathlib import Path
+
+import pytest
+
+import yurewha as y
+from yurewha import _errors, _library
+
+MAX = 2**64 - 1
+Z = y.Hash()
+ONE = (Z, 1)
+
+
+def open_tree():
+    return y.Subtree.from_chunks(False, [ONE], False)
+
+
+def closed_tree():
+    return y.Subtree.from_chunks(True, [ONE], True)
+
+
+def session(*positions):
+    made = y.Session()
+    for position in positions:
+        made.put(position, [ONE])
+    return made
+
+
+def freed():
+    tree = open_tree()
+    tree.__del__()
+    return tree
+
+
+def freed_session():
+    made = session(1)
+    made.__del__()
+    return made
+
+
+def full_hasher():
+    hasher = y.Hasher(b"abc")
+    hasher._state.count = MAX
+    return hasher
+
+
+REFUSED = [
+    (y.InvalidArguments, lambda: y.Hash(bytes(31))),
+    (y.InvalidArguments, lambda: y.Hash.from_bytes(bytes(33))),
+    (y.InvalidArguments, lambda: y.Hash.random_from_seed(-1)),
+    (y.InvalidArguments, lambda: y.Hash.random_from_seed(MAX + 1)),
+    (y.InvalidArguments, lambda: Z % -1),
+    (y.InvalidArguments, lambda: Z % (MAX + 1)),
+    (y.DivisionByZero, lambda: Z % 0),
+    (ZeroDivisionError, lambda: Z % 0),
+    (y.InvalidText, lambda: y.Hash.from_hex(63 * "0")),
+    (y.InvalidText, lambda: y.Hash.from_hex(65 * "0")),
+    (y.InvalidText, lambda: y.Hash.from_hex(62 * "0" + "\u00e9")),
+    (y.InvalidText, lambda: y.Hash.from_hex(63 * "0" + "\ud800")),
+    (y.InvalidText, lambda: y.Hash.from_base64(42 * "A")),
+    (y.InvalidText, lambda: y.Hash.from_base64(42 * "A" + "B")),
+    (y.InvalidText, lambda: y.Hash.from_base64(43 * "A" + "=")),
+    (y.InvalidArguments, lambda: y.Hasher.keyed(bytes(31))),
+    (y.SizeOverflow, lambda: full_hasher().update(b"a")),
+    (y.SizeOverflow, lambda: full_hasher().update(bytearray(b"a"))),
+    (y.SizeOverflow, lambda: full_hasher().update(bytearray(1 << 21))),
+    (y.SizeOverflow, lambda: y.xorb_hash([(Z, MAX), ONE])),
+    (y.SizeOverflow, lambda: y.file_hash([(Z, MAX), ONE])),
+    (y.SizeOverflow, lambda: y.file_hash([(Z, MAX), ONE], bytes(32))),
+    (y.SizeOverflow, lambda: y.Subtree.from_chunks(True, [(Z, MAX), ONE], False)),
+    (y.SizeOverflow, lambda: open_tree() + y.Subtree.from_chunks(False, [(Z, MAX)], False)),
+    (y.SizeOverflow, lambda: y.Subtree.merge_all([open_tree(), y.Subtree.from_chunks(False, [(Z, MAX)], False)])),
+    (y.InvalidArguments, lambda: y.file_hash([], bytes(31))),
+    (y.InvalidArguments, lambda: y.file_hash([ONE], bytes(33))),
+    (y.InvalidArguments, lambda: y.xorb_hash([(Z, -1)])),
+    (y.InvalidArguments, lambda: y.xorb_hash([(Z, MAX + 1)])),
+    (y.InvalidArguments, lambda: y.xorb_hash(bytes(39))),
+    (y.InvalidArguments, lambda: closed_tree() + open_tree()),
+    (y.InvalidArguments, lambda: open_tree() + closed_tree()),
+    (y.InvalidArguments, lambda: closed_tree().merge_counted(open_tree())),
+    (y.InvalidArguments, lambda: y.Subtree.merge_all([open_tree(), closed_tree()])),
+    (y.InvalidArguments, lambda: closed_tree().left(-1)),
+    (y.InvalidText, lambda: y.Subtree.from_json("")),
+    (y.InvalidText, lambda: y.Subtree.from_json("{")),
+    (y.InvalidText, lambda: y.Subtree.from_json(b"\xff")),
+    (y.InvalidText, lambda: y.Subtree.from_json('"\ud800"')),
+    (y.InvalidJson, lambda: y.Subtree.from_json("[]")),
+    (y.InvalidJson, lambda: y.Subtree.from_flat(False, [], [], False)),
+    (y.InvalidJson, lambda: y.Subtree.from_flat(False, [(MAX, MAX)], [], False)),
+    (y.InvalidArguments, lambda: y.Subtree.from_flat(False, [(-1, 0)], [], False)),
+    (y.InvalidArguments, lambda: y.Subtree.from_flat(False, [(MAX + 1, 0)], [], False)),
+    (y.InvalidArguments, lambda: y.svg_of([open_tree()], ["a", "b"])),
+    (y.SessionOverlap, lambda: session(3).put(2, [ONE, ONE])),
+    (y.SessionPositions, lambda: session().put(MAX, [ONE])),
+    (y.SessionSizes, lambda: session(3).put(1, [(Z, MAX)])),
+    (y.SessionGap, lambda: session(1).finish(1)),
+    (y.SessionGap, lambda: session(0).root(2)),
+    (y.InvalidArguments, lambda: session().put(-1, [])),
+    (y.InvalidArguments, lambda: session().put(MAX + 1, [])),
+    (y.InvalidArguments, lambda: session().taken(MAX + 1)),
+    (y.InvalidArguments, lambda: session().finish(-1)),
+    (y.InvalidArguments, lambda: session(1).run(1)),
+    (y.InvalidArguments, lambda: session(1).run(-1)),
+    # Handles that were freed by hand, and one that nothing was put in
+    *((y.EmptyHandle, call) for call in (
+        lambda: y.Subtree.__new__(y.Subtree).num_nodes,
+        lambda: freed().at_start,
+        lambda: freed().at_end,
+        lambda: freed().total_size,
+        lambda: freed().num_nodes,
+        lambda: freed().num_levels,
+        lambda: freed().levels,
+        lambda: freed().final_hash(),
+        lambda: freed().to_json(),
+        lambda: freed().to_flat(),
+        lambda: freed().left(0),
+        lambda: freed().copy(),
+        lambda: freed().svg(),
+        lambda: freed() == open_tree(),
+        lambda: open_tree() == freed(),
+        lambda: freed() + open_tree(),
+        lambda: open_tree() + freed(),
+        lambda: open_tree().merge_counted(freed()),
+        lambda: y.Subtree.merge_all([open_tree(), freed()]),
+        lambda: pickle.dumps(freed()),
+        lambda: freed_session().put(0, [ONE]),
+        lambda: freed_session().taken(0),
+        lambda: freed_session().num_runs,
+        lambda: freed_session().run(0),
+        lambda: freed_session().runs(),
+        lambda: freed_session().root(0),
+        lambda: freed_session().finish(0),
+    )),
+    # Types
+    *((TypeError, call) for call in (
+        lambda: y.Hash("00"),
+        lambda: y.Hash(7),
+        lambda: y.Hash.from_hex(b"00"),
+        lambda: y.Hash.from_base64(7),
+        lambda: y.Hash.random_from_seed(1.0),
+        lambda: y.Hash.random_from_seed("1"),
+        lambda: Z.hmac(bytes(32)),
+        lambda: Z % 1.5,
+        lambda: Z < bytes(32),
+        lambda: y.data_hash("abc"),
+        lambda: y.internal_node_hash(7),
+        lambda: y.Hasher("abc"),
+        lambda: y.Hasher.keyed(32 * "0"),
+        lambda: y.xorb_hash(7),
+        lambda: y.xorb_hash("abc"),
+        lambda: y.xorb_hash([7]),
+        lambda: y.xorb_hash([(Z, 1, 2)]),
+        lambda: y.xorb_hash([(bytes(32), 1)]),
+        lambda: y.xorb_hash([(Z, 1.0)]),
+        lambda: y.xorb_hash([(Z, "1")]),
+        lambda: y.file_hash([ONE], 32 * "0"),
+        lambda: y.Subtree(),
+        lambda: y.Subtree(True, [], False),
+        lambda: y.Subtree.from_chunks(1, [], False),
+        lambda: y.Subtree.from_chunks(False, [], None),
+        lambda: y.Subtree.from_chunks([], False, False),
+        lambda: open_tree() + 1,
+        lambda: open_tree().merge(b""),
+        lambda: y.Subtree.merge_all([open_tree(), None]),
+        lambda: y.Subtree.from_json(7),
+        lambda: y.Subtree.from_json({}),
+        lambda: y.Subtree.from_flat(0, [], [], False),
+        lambda: y.Subtree.from_flat(False, [7], [], False),
+        lambda: y.Subtree.from_flat(False, [(1.0, 0)], [], False),
+        lambda: hash(open_tree()),
+        lambda: y.svg_of([1]),
+        lambda: session().put("1", []),
+        lambda: session().taken(1.0),
+        lambda: pickle.dumps(session()),
+        lambda: copy.copy(session()),
+        lambda: copy.deepcopy(session()),
+        lambda: pickle.dumps(y.Hasher()),
+        lambda: type("Other", (y.Hash,), {}),
+        lambda: type("Other", (y.Hasher,), {}),
+        lambda: type("Other", (y.Chunks,), {}),
+        lambda: type("Other", (y.Subtree,), {}),
+        lambda: type("Other", (y.Session,), {}),
+    )),
+    (AttributeError, lambda: setattr(y.Hash(), "_raw", b"")),
+    (AttributeError, lambda: delattr(y.Hash(), "_raw")),
+    (AttributeError, lambda: setattr(y.Chunks(), "_packed", b"")),
+    (AttributeError, lambda: setattr(open_tree(), "other", 1)),
+    (IndexError, lambda: y.Chunks([ONE])[1]),
+    (IndexError, lambda: y.Chunks([ONE])[-2]),
+]
+
+
+@pytest.mark.parametrize("number", range(len(REFUSED)))
+def test_refused(number):
+    error, call = REFUSED[number]
+    with pytest.raises(error) as raised:
+        call()
+    if not issubclass(error, (TypeError, AttributeError, IndexError)):
+        assert isinstance(raised.value, y.YurewhaError)
+    if isinstance(raised.value, y.YurewhaError):
+        again = pickle.loads(pickle.dumps(raised.value))
+        assert type(again) is type(raised.value) and str(again) == str(raised.value) != ""
+
+
+def test_a_refusal_changes_nothing():
+    tree = closed_tree()
+    for other in (open_tree(), closed_tree()):
+        with pytest.raises(y.InvalidArguments):
+            tree += other
+    assert tree == closed_tree()
+    one = session(3)
+    for first, chunks in ((3, [ONE]), (2, [ONE, ONE]), (MAX, [ONE]), (0, [(Z, MAX)])):
+        with pytest.raises(y.SessionError):
+            one.put(first, chunks)
+    assert [first for first, _ in one.runs()] == [3] and one.put(7, [ONE]) == 0
+    hasher = full_hasher()
+    with pytest.raises(y.SizeOverflow):
+        hasher.update(bytearray(1 << 21))
+    assert hasher.count == MAX
+
+
+def test_an_error_inside_the_chunks_passes_through():
+    def broken():
+        yield ONE
+        raise LookupError("mine")
+
+    one = session()
+    for call in (y.xorb_hash, lambda chunks: one.put(0, chunks)):
+        with pytest.raises(LookupError):
+            call(broken())
+    assert one.num_runs == 0
+
+
+def test_freed_twice():
+    tree = open_tree()
+    tree.__del__()
+    tree.__del__()
+    assert repr(tree) == "<yurewha.Subtree that can't be read>"
+    again = y.Subtree.from_chunks(False, [ONE], False)
+    assert again.num_nodes == 1
+
+
+def test_what_the_exceptions_are():
+    for error in (y.InvalidArguments, y.SizeOverflow, y.InvalidText, y.InvalidJson, y.SessionOverlap, y.SessionPositions,
+                  y.SessionSizes, y.SessionGap, y.EmptyHandle):
+        assert issubclass(error, y.YurewhaError) and issubclass(error, ValueError)
+    assert issubclass(y.OutOfMemory, MemoryError) and issubclass(y.OutOfMemory, y.YurewhaError)
+    of_status = {status: type(_errors.error_of(status)) for status in range(1, 45)}
+    assert of_status[1] is y.InvalidArguments and of_status[2] is y.SizeOverflow and of_status[3] is y.OutOfMemory
+    assert of_status[4] is y.InvalidText and of_status[6] is y.EmptyHandle
+    assert [of_status[status] for status in range(17, 30)] == 13 * [y.InvalidJson]
+    assert [of_status[status] for status in range(33, 38)] == [
+        y.SessionOverlap, y.SessionPositions, y.SessionSizes, y.OutOfMemory, y.SessionGap]
+    assert of_status[5] is of_status[16] is of_status[30] is of_status[40] is y.YurewhaError
+
+
+OUT_OF_MEMORY = """
+import resource, sys
+sys.path[:0] = {path!r}
+import yurewha as y
+count = 1_000_000
+chunks = y.Chunks(b"".join(i.to_bytes(24, "little") + b"\\1" + bytes(7) + b"\\1" + bytes(7) for i in range(count)))
+tree = y.Subtree.from_chunks(False, chunks, False)
+other = y.Subtree.from_chunks(False, [(y.Hash(), 1)], False)
+session = y.Session()
+pages = int(open("/proc/self/statm").read().split()[0])
+resource.setrlimit(resource.RLIMIT_AS, (pages * resource.getpagesize() + (8 << 20), resource.RLIM_INFINITY))
+calls = [
+    lambda: y.Subtree.from_chunks(False, chunks, False),
+    lambda: tree.copy(),
+    lambda: tree + other,
+    lambda: y.xorb_hash(chunks),
+    lambda: y.file_hash(chunks),
+    lambda: session.put(0, chunks),
+    lambda: y.Subtree.merge_all([tree, tree]),
+]
+for call in calls:
+    try:
+        call()
+    except y.OutOfMemory as error:
+        assert isinstance(error, MemoryError) and "out of memory" in str(error)
+    else:
+        raise AssertionError("it wasn't refused")
+assert tree.num_nodes == count and session.num_runs == 0
+print("refused", len(calls))
+"""
+
+
+@pytest.mark.skipif(not Path("/proc/self/statm").exists(), reason="it needs /proc")
+def test_out_of_memory():
+    done = subprocess.run(
+        [sys.executable, "-c", OUT_OF_MEMORY.format(path=sys.path)], capture_output=True, text=True, check=False)
+    assert done.stdout == "refused 7\n", done.stderr
+
+
+def test_no_leak():
+    """Many objects, merges and refusals, and the process is no greater."""
+    chunks = y.Chunks([(y.Hash.random_from_seed(i), 1) for i in range(100)])
+
+    def round_():
+        for _ in range(300):
+            tree = y.Subtree.from_chunks(False, chunks, False)
+            tree += tree
+            y.Subtree.merge_all([tree, tree, y.Subtree.from_json(tree.to_json())])
+            pickle.loads(pickle.dumps(tree))
+            one = y.Session()
+            one.put(0, chunks)
+            one.runs()
+            y.Hasher(bytes(1000)).copy().digest()
+            for call in (lambda: tree + closed_tree(), lambda: y.Subtree.from_json("[]")):
+                with pytest.raises(ValueError):
+                    call()
+
+    round_()
+    before = resource.getrusage(resource.RUSAGE_SELF).ru_maxrss
+    for _ in range(4):
+        round_()
+    assert resource.getrusage(resource.RUSAGE_SELF).ru_maxrss - before < 2048
+
+
+def test_the_library_is_the_one_that_was_asked_for():
+    assert _library.NAME in _library.PATH

@@ -1,0 +1,204 @@
+"""The package itself: doctests, declarations, types, and how the library is found."""
+
+import ctypes
+import doctest
+import importlib
+import inspect
+import os
+import pkgutil
+import re
+import shutil
+import subprocess
+import sys
+from pathlib import Path
+
+import pytest
+
+import yurewha as y
+from yurewha import _declarations, _library
+
+PACKAGE = Path(y.__file__).resolve().parent
+REPOSITORY = Path(__file__).resolve().parents[3]
+HEADER = REPOSITORY / "bindings" / "include" / "yurewha.h"
+MODULES = sorted(module.name for module in pkgutil.iter_modules([str(PACKAGE)]))
+
+
+@pytest.mark.parametrize("name", ["", *MODULES])
+def test_doctests(name):
+    module = importlib.import_module("yurewha" + ("." + name if name else ""))
+    failed, _ = doctest.testmod(module)
+    assert failed == 0
+
+
+def test_each_public_call_has_an_example():
+    for name in y.__all__:
+        item = getattr(y, name)
+        if name == "Flat" or inspect.isfunction(item) or inspect.isclass(item):
+            assert ">>>" in item.__doc__, name
+        if inspect.isclass(item) and item.__module__ not in ("yurewha._errors",) and name != "Flat":
+            for member, value in vars(item).items():
+                value = value.__func__ if isinstance(value, (staticmethod, classmethod)) else value
+                if not member.startswith("_") and (inspect.isfunction(value) or isinstance(value, property)):
+                    assert ">>>" in value.__doc__, f"{name}.{member}"
+
+
+def header():
+    text = re.sub(r"/\*.*?\*/", " ", HEADER.read_text(encoding="utf-8"), flags=re.S)
+    calls = {}
+    for answer, name, arguments in re.findall(r"^(\w+) (yurewha_\w+)\(([^)]*)\);", text, flags=re.M):
+        types = []
+        for argument in arguments.split(","):
+            kind = re.sub(r"\w+$", "", argument.strip()).strip()
+            types.append(re.sub(r"\s*\*", " *", kind))
+        calls[name] = (answer, tuple(types))
+    constants = {name: int(value) for name, value in re.findall(r"^#define (YUREWHA_\w+) (\d+)u", text, flags=re.M)}
+    return calls, constants
+
+
+@pytest.mark.skipif(not HEADER.exists(), reason="there is no header beside the package")
+def test_the_declarations_are_those_of_the_header():
+    calls, constants = header()
+    assert calls == _declarations.DECLARATIONS
+    assert constants == {**_declarations.STATUSES, **_declarations.LENGTHS}
+
+
+@pytest.mark.skipif(not (HEADER.exists() and shutil.which("gcc")), reason="there is no header, or no compiler")
+def test_the_structs_are_those_of_the_header(tmp_path):
+    """The compiler says where each member stands."""
+    lines = []
+    members = {
+        "yurewha_hash": ["words"], "yurewha_bytes": ["bytes"], "yurewha_chunk": ["hash", "size"],
+        "yurewha_level": ["left", "right"], "yurewha_hasher": ["tree", "block", "count"], "yurewha_subtree": ["at"],
+        "yurewha_session": ["at"],
+    }
+    expected = []
+    for name, size in _declarations.STRUCTS.items():
+        struct = _library.STRUCT_TYPES[name]
+        lines.append(f'printf("%zu %zu\\n", sizeof({name}), _Alignof({name}));')
+        expected.append(f"{size} {ctypes.alignment(struct)}")
+        for member in members[name]:
+            lines.append(f'printf("%zu %zu\\n", offsetof({name}, {member}), sizeof((({name} *)0)->{member}));')
+            field = getattr(struct, member)
+            expected.append(f"{field.offset} {field.size}")
+        assert [field for field, _ in struct._fields_] == members[name]
+    source = tmp_path / "sizes.c"
+    source.write_text('#include <stdio.h>\n#include "yurewha.h"\nint main(void) {' + "\n".join(lines) + "return 0; }\n")
+    program = tmp_path / "sizes"
+    subprocess.run(["gcc", "-std=c11", "-I", str(HEADER.parent), "-o", str(program), str(source)], check=True)
+    told = subprocess.run([str(program)], capture_output=True, text=True, check=True).stdout
+    assert told.split("\n")[:-1] == expected
+
+
+def test_each_call_of_the_library_is_used():
+    text = "".join(path.read_text(encoding="utf-8") for path in PACKAGE.glob("*.py") if path.name != "_declarations.py")
+    unused = [name for name in _declarations.DECLARATIONS if not re.search(rf"\b{name}\b", text)]
+    assert unused == []
+
+
+def test_nothing_but_the_standard_library():
+    text = "".join(path.read_text(encoding="utf-8") for path in PACKAGE.glob("*.py"))
+    taken = set(re.findall(r"^\s*(?:import|from) (\w+)", text, flags=re.M))
+    standard = getattr(sys, "stdlib_module_names", taken)
+    assert taken <= set(standard), taken - set(standard)
+    assert (PACKAGE / "py.typed").exists()
+
+
+def found(environment, cwd, statement="import yurewha._library as l; print(l.PATH)"):
+    values = {name: value for name, value in os.environ.items() if name != "YUREWHA_LIB_DIR"}
+    values.update(environment)
+    done = subprocess.run([sys.executable, "-c", statement], env=values, cwd=cwd, capture_output=True, text=True, check=False)
+    return done.stdout.strip() or done.stderr.strip().rpartition("\n")[2]
+
+
+@pytest.mark.skipif(not os.path.isabs(_library.PATH), reason="the library is the loader's")
+def test_where_the_library_is_found(tmp_path):
+    built = Path(_library.PATH).resolve()
+    copy = tmp_path / "bindings" / "python" / "yurewha"
+    shutil.copytree(PACKAGE, copy, ignore=shutil.ignore_patterns("lib", "__pycache__"))
+    place = {"PYTHONPATH": str(copy.parent)}
+    assert found(place, tmp_path).startswith("ImportError: yurewha: libyurewha.so.1 wasn't loaded")
+    loader = tmp_path / "loader"
+    loader.mkdir()
+    shutil.copy(built, loader / _library.NAME)
+    assert found({**place, "LD_LIBRARY_PATH": str(loader)}, tmp_path) == _library.NAME
+    out = tmp_path / "bindings" / "out" / os.uname().machine / "lib"
+    out.mkdir(parents=True)
+    shutil.copy(built, out / _library.NAME)
+    assert found(place, tmp_path) == str(out / _library.NAME)
+    assert found({**place, "YUREWHA_LIB_DIR": str(loader)}, tmp_path) == str(loader / _library.NAME)
+    assert "where there is no libyurewha.so.1" in found({**place, "YUREWHA_LIB_DIR": str(tmp_path)}, tmp_path)
+    own = copy / "lib"
+    own.mkdir()
+    shutil.copy(built, own / _library.NAME)
+    assert found({**place, "YUREWHA_LIB_DIR": str(loader)}, tmp_path) == str(own / _library.NAME)
+    faster = own / "x86-64-v3"
+    faster.mkdir()
+    shutil.copy(built, faster / _library.NAME)
+    expected = faster if os.uname().machine == "x86_64" and _library._has_v3() else own
+    assert found(place, tmp_path) == str(expected / _library.NAME)
+
+
+def test_a_library_without_a_call(tmp_path):
+    if not shutil.which("gcc"):
+        pytest.skip("there is no compiler")
+    (tmp_path / "a.c").write_text("void yurewha_data_hash(void) {}\n")
+    subprocess.run(["gcc", "-shared", "-fPIC", "-o", str(tmp_path / _library.NAME), str(tmp_path / "a.c")], check=True)
+    copy = tmp_path / "elsewhere" / "yurewha"
+    shutil.copytree(PACKAGE, copy, ignore=shutil.ignore_patterns("lib", "__pycache__"))
+    told = found({"PYTHONPATH": str(copy.parent), "YUREWHA_LIB_DIR": str(tmp_path)}, tmp_path)
+    assert told == f"ImportError: yurewha: {tmp_path / _library.NAME} has no yurewha_internal_node_hash"
+
+
+TYPED = """
+from typing import List, Optional, Tuple
+import yurewha as y
+one: Tuple[y.Hash, int] = (y.Hash.random_from_seed(1), 100)
+root: y.Hash = y.xorb_hash([one, one])
+packed: y.Chunks = y.Chunks([one])
+root = y.file_hash(packed.packed, salt=bytes(32))
+tree: y.Subtree = y.Subtree.from_chunks(True, [one], False)
+tree += y.Subtree.from_chunks(False, packed, True)
+final: Optional[y.Hash] = tree.final_hash()
+session = y.Session()
+new: int = session.put(0, packed)
+runs: List[Tuple[int, y.Subtree]] = session.runs()
+first: Tuple[y.Hash, int] = packed[0]
+some: y.Chunks = packed[1:]
+data: bytes = root.bytes + y.Hasher(b"a").digest()
+text: str = root.hex() + y.Hasher(b"a").hexdigest()
+"""
+WRONG = """
+import yurewha as y
+y.Subtree.from_chunks(True, [], "no")
+y.Hash.from_hex(7)
+y.Session().put("0", [])
+tree: y.Subtree = y.xorb_hash([])
+"""
+
+
+@pytest.mark.skipif(not shutil.which("mypy"), reason="there is no mypy")
+def test_types(tmp_path):
+    mypy = ["mypy", "--strict", "--no-error-summary", "--cache-dir", str(tmp_path / "cache")]
+    values = {**os.environ, "MYPYPATH": str(PACKAGE.parent)}
+    (tmp_path / "typed.py").write_text(TYPED)
+    (tmp_path / "wrong.py").write_text(WRONG)
+    for arguments, expected in (
+        (["--python-version", "3.9", "-p", "yurewha"], []), ([str(tmp_path / "typed.py")], []),
+        ([str(tmp_path / "wrong.py")], [3, 4, 5, 6]),
+    ):
+        told = subprocess.run(mypy + arguments, capture_output=True, text=True, env=values, cwd=tmp_path, check=False).stdout
+        assert [int(number) for number in re.findall(r":(\d+): error", told)] == expected, told
+
+
+def test_the_example_of_the_readme():
+    text = (REPOSITORY / "bindings" / "python" / "README.md").read_text(encoding="utf-8")
+    (example,) = re.findall(r"```python\n(.*?)```", text, flags=re.S)
+    exec(compile(example, "README.md", "exec"), {})
+
+
+def test_the_picture_of_the_readme(tmp_path):
+    folder = REPOSITORY / "bindings" / "python"
+    text = (folder / "draw_merge").read_text(encoding="utf-8")
+    names = {"__name__": "draw_merge", "__file__": str(folder / "draw_merge")}
+    exec(compile(text, "draw_merge", "exec"), names)
+    assert names["merge"]() == (folder / "merge.svg").read_text(encoding="utf-8")

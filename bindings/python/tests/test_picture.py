@@ -1,0 +1,66 @@
+"""Pictures: they are well-formed, say what the subtree has, and stay small."""
+
+import xml.etree.ElementTree as ElementTree
+
+import yurewha as y
+
+SVG = "{http://www.w3.org/2000/svg}"
+
+
+def numbered(first, last):
+    return [(y.Hash(i.to_bytes(24, "little") + bytes([i % 4 != 3]) + bytes(7)), 1) for i in range(first, last + 1)]
+
+
+def read(text):
+    root = ElementTree.fromstring(text)
+    assert root.tag == SVG + "svg"
+    words = [element.text for element in root.iter(SVG + "text")]
+    nodes = [element for element in root.iter(SVG + "rect") if element.find(SVG + "title") is not None]
+    return root, words, nodes
+
+
+def test_levels_nodes_marks_and_sizes():
+    tree = y.Subtree.from_chunks(False, numbered(0, 23), False)
+    _, words, nodes = read(tree._repr_svg_())
+    assert len(nodes) == tree.num_nodes == 15
+    assert [kind for kind in ("level 0", "level 1", "level 2") if kind in words] == ["level 0", "level 1"]
+    assert words.index("level 1") < words.index("level 0")
+    assert "15 nodes kept on 2 levels, for 24 bytes of chunks" in words
+    assert "8 nodes, 8 bytes" in words and "4 nodes, 4 bytes" in words and "3 nodes, 12 bytes" in words
+    assert "hashed away: 12 bytes" in words and words.count("open") == 2
+    titles = [node.find(SVG + "title").text for node in nodes]
+    assert f"{numbered(0, 0)[0][0].hex()}: 1 byte" in titles
+    cuts = [node for node in nodes if node.get("class") == "k"]
+    assert len(cuts) == sum(h % 4 == 0 for h, _ in tree.to_flat().nodes)
+
+
+def test_marks():
+    for marks in ((True, True), (True, False), (False, True)):
+        _, words, _ = read(y.Subtree.from_chunks(marks[0], numbered(0, 40), marks[1]).svg())
+        assert ("start" in words, "end" in words) == marks
+
+
+def test_the_same_picture_in_a_file(tmp_path):
+    tree = y.Subtree.from_chunks(True, numbered(0, 30), False)
+    tree.write_svg(tmp_path / "one.svg")
+    assert (tmp_path / "one.svg").read_text(encoding="utf-8") == tree._repr_svg_()
+    tree.write_svg(str(tmp_path / "two.svg"), "<a> & b\0")
+    _, words, _ = read((tmp_path / "two.svg").read_text(encoding="utf-8"))
+    assert words[0] == "<a> & b "
+
+
+def test_several():
+    left, right = (y.Subtree.from_chunks(False, numbered(*ends), False) for ends in ((0, 19), (20, 23)))
+    _, words, nodes = read(y.svg_of([left, right, left + right], ["left", "right", "both"]))
+    assert len(nodes) == left.num_nodes + right.num_nodes + (left + right).num_nodes
+    assert [word for word in words if word in ("left", "right", "both")] == ["left", "right", "both"]
+    read(y.svg_of([]))
+
+
+def test_great_ones_stay_small():
+    wide = y.Subtree.from_chunks(False, [(y.Hash(i.to_bytes(24, "little") + b"\1" + bytes(7)), 1) for i in range(5000)], False)
+    assert wide.num_nodes == 5000 and len(wide.svg()) < 10_000
+    high = y.Subtree.from_flat(True, 5000 * [(0, 0)] + [(1, 0)], [(y.Hash(), 1)], True)
+    assert high.num_levels == 5001 and len(high.svg()) < 30_000
+    _, words, _ = read(high.svg())
+    assert ".. 4,977 levels" in words and "level 5000" in words and "level 0" in words

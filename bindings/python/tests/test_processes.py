@@ -1,0 +1,175 @@
+"""Subtrees through a pool of processes, and objects in forked ones."""
+
+import concurrent.futures
+import multiprocessing
+import os
+import pickle
+import random
+import threading
+import time
+
+import pytest
+
+import yurewha as y
+
+
+def block(seed, count):
+    made = bytearray(random.Random(seed).randbytes(40 * count))
+    for place in range(35, 40):
+        made[place::40] = bytes(count)
+    return y.Chunks(made)
+
+
+def piece(seed):
+    return y.Subtree.from_chunks(False, block(seed, 500), False)
+
+
+def merged(pair):
+    return pair[0] + pair[1]
+
+
+def refused(_):
+    return y.Subtree.from_json("[]")
+
+
+@pytest.mark.parametrize("way", ["fork", "spawn"])
+def test_a_pool(way):
+    context = multiprocessing.get_context(way)
+    whole = y.Chunks(b"".join(block(seed, 500).packed for seed in range(16)))
+    with concurrent.futures.ProcessPoolExecutor(4, mp_context=context) as pool:
+        trees = list(pool.map(piece, range(16)))
+        while len(trees) > 1:
+            trees = list(pool.map(merged, zip(trees[::2], trees[1::2])))
+        chunks, hash_ = pool.submit(block, 3, 10).result(), pool.submit(y.data_hash, b"abc").result()
+        with pytest.raises(y.InvalidJson) as raised:
+            pool.submit(refused, 0).result()
+    assert raised.value.rule == 1 and chunks == block(3, 10) and hash_ == y.data_hash(b"abc")
+    start, end = y.Subtree.from_chunks(True, b"", False), y.Subtree.from_chunks(False, b"", True)
+    assert (start + trees[0] + end).final_hash() == y.xorb_hash(whole)
+
+
+@pytest.mark.parametrize("protocol", range(pickle.HIGHEST_PROTOCOL + 1))
+def test_pickles(protocol):
+    tree = piece(1)
+    for value in (tree, y.Hash.random_from_seed(1), block(1, 10), [tree, {"a": tree}]):
+        assert pickle.loads(pickle.dumps(value, protocol)) == value
+
+
+def test_a_changed_pickle():
+    """A pickle of a subtree is checked as JSON is. (Reading pickles from strangers runs what they like all the same.)"""
+    make, (at_start, levels, nodes, at_end) = piece(1).__reduce__()
+    for arguments in (
+        (True, levels, nodes, at_end), (at_start, levels[:-1], nodes, at_end), (at_start, levels, nodes[40:], at_end),
+    ):
+        with pytest.raises(y.InvalidJson):
+            make(*arguments)
+
+
+def in_child(work):
+    """What the work answers in a forked process, as text."""
+    out, into = os.pipe()
+    child = os.fork()
+    if child == 0:
+        try:
+            os.close(out)
+            os.write(into, str(work()).encode())
+        finally:
+            os._exit(0)
+    os.close(into)
+    answer = b""
+    while True:
+        more = os.read(out, 4096)
+        if not more:
+            break
+        answer += more
+    os.close(out)
+    os.waitpid(child, 0)
+    return answer.decode()
+
+
+def test_objects_go_on_in_a_forked_process():
+    tree, session, hasher = piece(1), y.Session(), y.Hasher(b"a")
+    session.put(0, block(1, 10))
+
+    def work():
+        tree.merge(piece(2))
+        session.put(10, block(2, 10))
+        hasher.update(b"b")
+        return tree == piece(1) + piece(2), session.num_runs, hasher.hash() == y.data_hash(b"ab")
+
+    assert in_child(work) == "(True, 1, True)"
+    assert tree == piece(1) and not session.taken(10) and hasher.count == 1
+    assert in_child(lambda: in_child(work)) == "(True, 1, True)"
+
+
+def test_an_object_in_use_when_a_process_is_forked():
+    used, free = piece(1), piece(2)
+    hasher = y.Hasher()
+    holds, ends = threading.Event(), threading.Event()
+
+    def hold():
+        with used._locked(), hasher._locked():
+            holds.set()
+            ends.wait()
+
+    thread = threading.Thread(target=hold)
+    thread.start()
+    holds.wait()
+
+    def work():
+        told = []
+        for call in (
+            lambda: used.num_nodes, lambda: used + free, lambda: free + used, lambda: y.Subtree.merge_all([free, used]),
+            lambda: used == free, lambda: pickle.dumps(used), hasher.digest, lambda: hasher.update(b"a"), hasher.copy,
+            lambda: used.num_nodes,
+        ):
+            try:
+                told.append(call())
+            except y.InUseAtFork:
+                told.append("refused")
+        used.__del__()
+        told.append(bool(used._handle.at))
+        free.merge(piece(3))
+        return told, free == piece(2) + piece(3)
+
+    try:
+        assert in_child(work) == str((10 * ["refused"] + [True], True))
+    finally:
+        ends.set()
+        thread.join()
+    assert used == piece(1)
+
+
+def test_forks_under_a_long_call():
+    """Processes are forked while a thread is in the library; none hangs, and what isn't in use can be used."""
+    chunks = block(9, 300_000)
+    shared, stop = y.Subtree.from_chunks(False, b"", False), threading.Event()
+    session = y.Session()
+
+    def work():
+        first = 0
+        while not stop.is_set():
+            session.put(first, chunks[:3000])
+            first += 3000
+            shared.merge(y.Subtree.from_chunks(False, chunks, False))
+
+    thread = threading.Thread(target=work)
+    thread.start()
+    told = set()
+    try:
+        until = time.monotonic() + 3
+        while time.monotonic() < until:
+            def child():
+                answers = []
+                for call in (lambda: shared.total_size, lambda: session.num_runs):
+                    try:
+                        answers.append(call() >= 0)
+                    except y.InUseAtFork:
+                        answers.append("refused")
+                return answers, y.Subtree.from_chunks(True, chunks[:100], True).final_hash() == y.xorb_hash(chunks[:100])
+            told.add(in_child(child))
+            time.sleep(0.01)
+    finally:
+        stop.set()
+        thread.join()
+    assert all(answer.endswith("True)") for answer in told) and told

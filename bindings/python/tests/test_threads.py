@@ -1,0 +1,215 @@
+"""Threads with objects of their own, and with shared ones."""
+
+import pickle
+import random
+import signal
+import threading
+import time
+
+import pytest
+
+import yurewha as y
+
+
+def run(*calls):
+    """All at once; what one of them raises is raised."""
+    raised = []
+
+    def guarded(call):
+        try:
+            call()
+        except BaseException as error:
+            raised.append(error)
+
+    threads = [threading.Thread(target=guarded, args=(call,)) for call in calls]
+    for thread in threads:
+        thread.start()
+    for thread in threads:
+        thread.join(120)
+        assert not thread.is_alive(), "a thread waits for ever"
+    if raised:
+        raise raised[0]
+
+
+def block(seed, count):
+    made = bytearray(random.Random(seed).randbytes(40 * count))
+    for place in range(35, 40):
+        made[place::40] = bytes(count)
+    return y.Chunks(made)
+
+
+def test_objects_of_their_own():
+    def work(seed):
+        chunks = block(seed, 2000)
+        root = y.xorb_hash(chunks)
+        for _ in range(5):
+            tree = y.Subtree.from_chunks(True, chunks[:100], False)
+            for at in range(100, 2000, 100):
+                tree += y.Subtree.from_chunks(False, chunks[at:at + 100], at == 1900)
+            assert tree.final_hash() == root
+            session = y.Session()
+            for at in random.Random(seed).sample(range(0, 2000, 200), 10):
+                session.put(at, chunks[at:at + 200])
+            assert session.root(2000) == root
+
+    run(*(lambda seed=seed: work(seed) for seed in range(8)))
+
+
+def test_one_subtree_shared():
+    chunks = block(1, 3000)
+    empty = y.Subtree.from_chunks(False, [], False)
+    shared = y.Subtree.from_chunks(False, chunks, False)
+    as_it_was = shared.copy()
+    one = y.Subtree.from_chunks(False, chunks[:100], False)
+    grown = y.Subtree.from_chunks(False, [], False)
+
+    def look():
+        for _ in range(30):
+            assert shared.to_json() == text and shared == as_it_was and shared.num_nodes == nodes
+            assert y.Subtree.from_flat(*shared.to_flat()) == as_it_was and shared.copy() == shared
+
+    def change():
+        nonlocal shared
+        for _ in range(200):
+            shared.merge(empty)
+            empty.merge(empty)
+            grown.merge(one)
+
+    text, nodes = shared.to_json(), shared.num_nodes
+    run(*(4 * [look] + 4 * [change]))
+    assert shared == as_it_was
+    assert grown == y.Subtree.merge_all(800 * [one])
+
+
+def test_two_subtrees_merged_both_ways():
+    empty, other = (y.Subtree.from_chunks(False, [], False) for _ in range(2))
+    one = y.Subtree.from_chunks(False, block(3, 500), False)
+
+    def there():
+        for _ in range(300):
+            empty.merge(other)
+            assert y.Subtree.merge_all([one, empty, one, other]).num_nodes > 0
+
+    def back():
+        for _ in range(300):
+            other.merge(empty)
+            assert y.Subtree.merge_all([other, one, empty, one]) == one + one
+            assert one != other
+
+    run(there, back, there, back)
+
+
+def test_one_hasher_shared():
+    hasher = y.Hasher()
+    piece = bytes(5000)
+
+    def feed():
+        for _ in range(100):
+            hasher.update(piece)
+            hasher.update(bytearray(piece))
+            hasher.copy().update(b"lost")
+
+    run(*(8 * [feed]))
+    assert hasher.count == 8 * 100 * 10_000
+    assert hasher.hash() == y.data_hash(bytes(hasher.count))
+
+
+def test_one_session_shared():
+    chunks = block(4, 8000)
+    session = y.Session()
+
+    def put(thread):
+        for at in range(100 * thread, 8000, 800):
+            session.put(at, chunks[at:at + 100])
+            assert session.taken(at)
+            session.runs()
+
+    run(*(lambda thread=thread: put(thread) for thread in range(8)))
+    assert session.num_runs == 1 and session.root(8000) == y.xorb_hash(chunks)
+
+
+def test_a_block_changed_by_another_thread():
+    """What comes out is the hash of some bytes; nothing else is promised."""
+    block_ = bytearray(40 * 2000)
+    stop = threading.Event()
+
+    def write():
+        while not stop.is_set():
+            block_[32::40] = random.randbytes(2000)
+            block_[24::40] = random.randbytes(2000)
+            time.sleep(0)
+
+    def read():
+        try:
+            for _ in range(100):
+                y.Subtree.from_chunks(False, block_, False)
+                y.data_hash(block_)
+        finally:
+            stop.set()
+
+    run(write, read)
+
+
+def test_long_calls_give_up_the_interpreter():
+    """Another thread goes on while a long call runs."""
+    chunks = block(5, 1_000_000)
+    steps, done = [], threading.Event()
+
+    def long_call():
+        y.xorb_hash(chunks)
+        done.set()
+
+    def count():
+        while not done.is_set():
+            steps.append(None)
+            time.sleep(0.001)
+
+    run(long_call, count)
+    assert len(steps) > 5
+
+
+@pytest.mark.filterwarnings("ignore::pytest.PytestUnraisableExceptionWarning")  # a handler may raise in __del__ too
+def test_signals_that_use_the_object_or_end_the_call():
+    """A handler runs between any two steps; it uses the same objects, and raises now and then."""
+    class Ended(Exception):
+        pass
+
+    chunks = block(6, 300)
+    one, other = (y.Subtree.from_chunks(False, chunks, False) for _ in range(2))
+    expected, twice = one.copy(), one + other
+    empty, session, hasher = y.Subtree.from_chunks(False, b"", False), y.Session(), y.Hasher()
+    rng, count = random.Random(7), [0, 0]
+
+    def handler(number, frame):
+        count[0] += 1
+        one.merge(empty)
+        assert y.Subtree.merge_all([other, one]) == twice and one.to_flat() == expected.to_flat()
+        hasher.update(b"a")
+        session.put(count[0], chunks[:1])
+        if rng.random() < 0.5:
+            raise Ended
+
+    before = signal.signal(signal.SIGALRM, handler)
+    try:
+        until = time.monotonic() + 3
+        while time.monotonic() < until:
+            try:
+                signal.setitimer(signal.ITIMER_REAL, 0.0005 + rng.random() / 1000)
+                for _ in range(20):
+                    y.Subtree.merge_all([one, other, one])
+                    pickle.loads(pickle.dumps(one)).merge(other)
+                    other.merge(empty)
+                    other.copy().merge_counted(one)
+                    session.runs()
+                    hasher.copy().update(bytearray(3000))
+                    y.Subtree.from_json(one.to_json())
+            except Ended:
+                count[1] += 1
+            finally:
+                signal.setitimer(signal.ITIMER_REAL, 0)
+    finally:
+        signal.setitimer(signal.ITIMER_REAL, 0)
+        signal.signal(signal.SIGALRM, before)
+    assert count[0] > 50 and count[1] > 10
+    assert one == other == expected and one + other == twice
+    assert 0 < session.num_runs <= count[0] and hasher.count <= count[0]

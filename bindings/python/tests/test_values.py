@@ -1,0 +1,165 @@
+"""Reference hashes and worked examples."""
+
+import pytest
+import xet_model as m
+from reference import load
+
+import yurewha as y
+from yurewha import _library
+
+REFERENCE = load()
+Z = y.Hash()
+
+
+def seeded(k):
+    return (y.Hash.random_from_seed(k) if k else Z, 100 * k)
+
+
+def numbered(first, last):
+    return [(y.Hash(m.to_bytes((i, 0, 0, 0 if i % 4 == 3 else 1))), 1) for i in range(first, last + 1)]
+
+
+def with_cuts(length, cuts):
+    return [(y.Hash(m.to_bytes((i, 0, 0, 0 if i in cuts else 1))), 1) for i in range(length)]
+
+
+def counts(tree):
+    return list(tree.levels)
+
+
+def test_the_reference_lists():
+    assert len(REFERENCE) == 13
+    for numbers, xorb, file, salted in REFERENCE:
+        chunks = [seeded(int(number)) for number in numbers.split()]
+        assert y.xorb_hash(chunks).hex() == xorb
+        assert y.file_hash(chunks).hex() == y.file_hash(chunks, bytes(32)).hex() == file
+        for salt, expected in salted:
+            assert y.file_hash(chunks, y.Hash.from_hex(salt).bytes).hex() == expected
+
+
+def test_texts_of_a_hash():
+    it = y.Hash.from_bytes(bytes([
+        22, 175, 58, 132, 4, 75, 131, 214, 190, 153, 138, 66, 226, 3, 153, 242,
+        204, 86, 80, 234, 249, 153, 80, 99, 159, 80, 65, 138, 236, 231, 149, 78]))
+    assert it.hex() == "d6834b04843aaf16f29903e2428a99be635099f9ea5056cc4e95e7ec8a41509f"
+    assert it.base64() == "Fq86hARLg9a-mYpC4gOZ8sxWUOr5mVBjn1BBiuznlU4"
+    assert y.Hash.from_hex(it.hex().upper()) == it
+    assert Z.base64() == 43 * "A" and y.Hash(32 * b"\xff").base64() == 42 * "_" + "8"
+    assert y.Hash(32 * b"\xff") % 4 == 3 and Z % 4 == 0
+    assert repr(it) == f"Hash.from_hex('{it.hex()}')" and f"{it}" == it.hex()
+
+
+def test_chunks_of_data():
+    assert y.data_hash(b"abc").hex() == "a8803506f7aff014f19aa9e9b79dc6455c49672570f96156071329698dd0284e"
+    assert y.data_hash(b"").hex() == "e0f2cf784e7e5f10c34f84af150e9a5ff9664216debad915364d741049870f67"
+    file = y.file_hash([(y.data_hash(b"abc"), 3)])
+    assert file.hex() == "55b9df318a7c45f470d57b04d8ca79a15b0637ffe94b25041a58d00c3528afff"
+
+
+def test_greater_lists():
+    chunks = [(y.Hash(m.to_bytes((i, 0, 0, 1))), 1) for i in range(1000)]
+    assert y.xorb_hash(chunks).hex() == "57b8c4f35a46f3aa852fd11c0982fc63e516b770a0262fc05003bdda513b24cf"
+    chunks = [(y.Hash(m.to_bytes((i, 0, 0, 0))), 1) for i in range(10)]
+    assert y.xorb_hash(chunks).hex() == "267290865ec50d15a40c85a0a3a576930d9997fcc5ecfb744ba1ed6d300aeeeb"
+
+
+def test_stable_points():
+    assert (y.find_stable_start(numbered(0, 19)), y.find_stable_end(numbered(0, 19))) == (8, 16)
+    for length, cuts, points in (
+        (7, (0, 3, 6), (4, 4)), (15, (0, 7, 14), (8, 8)), (17, (0, 8, 16), (None, None)), (5, (0, 2, 4), (None, None)),
+    ):
+        nodes = with_cuts(length, cuts)
+        assert (y.find_stable_start(nodes), y.find_stable_end(nodes)) == points
+    seven = with_cuts(7, (0, 3, 6))
+    assert counts(y.Subtree.from_chunks(False, seven, False)) == [(7, 0)]
+    assert counts(y.Subtree.from_chunks(True, seven, False)) == [(0, 3), (1, 0)]
+    assert counts(y.Subtree.from_chunks(False, seven, True)) == [(4, 0), (1, 0)]
+
+
+def test_merging():
+    tree = y.Subtree.from_chunks(False, numbered(0, 19), False)
+    assert counts(tree) == [(8, 4), (2, 0)] and tree.num_nodes == 14
+    assert tree.merge_counted(y.Subtree.from_chunks(False, numbered(20, 23), False)) == 1
+    assert counts(tree) == [(8, 4), (3, 0)] and tree == y.Subtree.from_chunks(False, numbered(0, 23), False)
+    first = y.Subtree.from_chunks(False, numbered(0, 3), False)
+    assert first + y.Subtree.from_chunks(False, numbered(4, 23), False) == tree
+    rest = y.Subtree.from_chunks(False, numbered(4, 23), False) + y.Subtree.from_chunks(False, numbered(24, 27), False)
+    head = y.Subtree.from_chunks(True, numbered(0, 3), False)
+    assert head.merge_counted(rest) == 3 and counts(head) == [(0, 4), (6, 0)]
+    head += y.Subtree.from_chunks(False, [], True)
+    assert head.final_hash().hex() == "b1026a806e25e14a5a9d00c9400b8b5b92e81027e1c574046edb37f500fcdeae"
+    assert head.final_hash() == y.xorb_hash(numbered(0, 27))
+
+
+def test_a_range_twice():
+    one = y.Subtree.from_chunks(False, numbered(0, 19), False)
+    twice = y.Subtree.from_chunks(False, numbered(0, 19) + numbered(0, 19), False)
+    assert one + one == y.Subtree.merge_all([one, one]) == twice
+    assert y.Subtree.merge_all([one, one, one]) == twice + one
+    one += one
+    assert one == twice and one == one
+
+
+def test_the_handles_of_a_call_are_all_different(monkeypatch):
+    seen = []
+    for calls in (_library.short, _library.long):
+        def spied(handles, count, merged, call=calls.yurewha_subtree_merge):
+            seen.append([handles[place].at for place in range(count)])
+            return call(handles, count, merged)
+        monkeypatch.setattr(calls, "yurewha_subtree_merge", spied)
+    one = y.Subtree.from_chunks(False, numbered(0, 19), False)
+    other = one.copy()
+    y.Subtree.merge_all([one, other, one, one, other])
+    assert len(seen) == 1 and len(set(seen[0])) == 5
+
+
+def test_sizes():
+    top = 2**64 - 1
+    assert y.xorb_hash([(Z, top), (Z, 0)]) and y.Subtree.from_chunks(True, [(Z, top), (Z, 0)], True).total_size == top
+    one = y.Subtree.from_chunks(False, [(Z, top)], False)
+    with pytest.raises(y.SizeOverflow):
+        one += y.Subtree.from_chunks(False, [(Z, 1)], False)
+    assert one == y.Subtree.from_chunks(False, [(Z, top)], False)
+
+
+def test_empty_ranges():
+    tree = y.Subtree.from_chunks(True, [], True)
+    assert tree.is_empty and tree.final_hash() == Z and counts(tree) == [(0, 0)]
+    assert tree.to_json() == '{"at_end":true,"at_start":true,"levels":[[0,0]],"nodes":[]}'
+    assert y.Subtree.merge_all([]) == tree
+    for marks in ((False, True), (True, False), (False, False)):
+        assert y.Subtree.from_chunks(marks[0], [seeded(1)], marks[1]).final_hash() is None
+
+
+def test_json_rules():
+    text = '{"at_end":true,"at_start":true,"levels":%s,"nodes":[]}'
+    top = 2**64 - 1
+    for given, rule in (
+        ("[]", 1), ("{}", 2), (text % "[]", 5), (text % "[[1,0]]", 6), (text % "[[0,0],[0,0]]", 11),
+        (text % f"[[{top},1]]", 6), (text % "[[9223372036854775808,0],[9223372036854775808,0]]", 6),
+    ):
+        with pytest.raises(y.InvalidJson) as raised:
+            y.Subtree.from_json(given)
+        assert raised.value.rule == rule
+    flat = y.Subtree.from_chunks(False, numbered(0, 23), False).to_flat()
+    lefts, rights, above = flat.nodes[:8], flat.nodes[-4:], flat.nodes[8:11]
+    assert y.Subtree.from_flat(False, [(8, 4), (3, 0)], lefts + above + rights, False).total_size == 24
+    for levels, nodes, rule in (
+        ([(16, 0), (2, 0)], lefts + y.Chunks(numbered(16, 23)) + above[:2], 12),
+        ([(8, 4), (3, 0)], lefts + above + y.Chunks(with_cuts(4, ())), 13),
+    ):
+        with pytest.raises(y.InvalidJson) as raised:
+            y.Subtree.from_flat(False, levels, nodes, False)
+        assert raised.value.rule == rule
+
+
+def test_the_session():
+    session, one, two = y.Session(), seeded(1), seeded(2)
+    assert session.put(2, [one, two]) == 2 and session.put(0, [one, two]) == 0
+    assert session.finish(4).hex() == "284ea045e5a579e99c21ec597c20de1fc0c09e7168162aac00db8f61b3d82dbb"
+    with pytest.raises(y.SessionGap):
+        session.finish(3)
+    with pytest.raises(y.SessionOverlap):
+        session.put(3, [seeded(3)])
+    assert session.num_runs == 1 and session.run(0)[1] == y.Subtree.from_chunks(False, [one, two] * 2, False)
+    assert y.Session().finish(0) == y.Session().root(0) == Z and repr(session) == "<yurewha.Session of 1 runs>"

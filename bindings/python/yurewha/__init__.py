@@ -1,0 +1,75 @@
+"""Yurewha: the hashes by which the Hugging Face Xet store names chunks and files, and merging what is kept of ranges.
+
+Each hash, root and merge is made by a proved library. What isn't proved is this package, which hands arguments over and
+brings answers back.
+
+>>> one, two = (Hash.random_from_seed(1), 100), (Hash.random_from_seed(2), 200)
+>>> left, right = Subtree.from_chunks(True, [one, two], False), Subtree.from_chunks(False, [one, two], True)
+>>> (left + right).final_hash() == xorb_hash([one, two, one, two])
+True
+"""
+
+from __future__ import annotations
+
+from ._chunks import Chunks
+from ._errors import (
+    DivisionByZero,
+    EmptyHandle,
+    InUseAtFork,
+    InvalidArguments,
+    InvalidJson,
+    InvalidText,
+    OutOfMemory,
+    SessionError,
+    SessionGap,
+    SessionOverlap,
+    SessionPositions,
+    SessionSizes,
+    SizeOverflow,
+    YurewhaError,
+)
+from ._hash import Hash, Hasher, data_hash, internal_node_hash
+from ._session import Session
+from ._subtree import (
+    Flat,
+    Subtree,
+    file_hash,
+    find_stable_end,
+    find_stable_start,
+    svg_of,
+    write_svg,
+    xorb_hash,
+)
+
+__version__ = "0.1.0"
+
+__all__ = [
+    "Chunks",
+    "DivisionByZero",
+    "EmptyHandle",
+    "Flat",
+    "Hash",
+    "Hasher",
+    "InUseAtFork",
+    "InvalidArguments",
+    "InvalidJson",
+    "InvalidText",
+    "OutOfMemory",
+    "Session",
+    "SessionError",
+    "SessionGap",
+    "SessionOverlap",
+    "SessionPositions",
+    "SessionSizes",
+    "SizeOverflow",
+    "Subtree",
+    "YurewhaError",
+    "data_hash",
+    "file_hash",
+    "find_stable_end",
+    "find_stable_start",
+    "internal_node_hash",
+    "svg_of",
+    "write_svg",
+    "xorb_hash",
+]

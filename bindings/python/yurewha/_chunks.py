@@ -1,0 +1,199 @@
+"""Chunks, packed as the library reads them: 40 bytes each."""
+
+from __future__ import annotations
+
+import re
+import struct
+from operator import index
+from typing import Any, Dict, Iterable, Iterator, Sequence, Tuple, Union, final, overload
+
+from ._errors import InvalidArguments
+from ._hash import BytesLike, Hash
+
+__all__ = ["Chunks"]
+
+#: A chunk: its hash, and its size in bytes.
+Chunk = Tuple[Hash, int]
+#: What a call takes as chunks.
+ChunksLike = Union["Chunks", Iterable[Chunk], BytesLike]
+
+_SIZE = 40
+_PAIR = struct.Struct("<32sQ")
+_FIELD_NAME = re.compile(r":[^:]*:")
+
+
+def _pack(pairs: Iterable[Any]) -> bytes:
+    packed = bytearray()
+    add, pack = packed.extend, _PAIR.pack
+    for pair in pairs:
+        try:
+            hash_, size = pair
+        except (TypeError, ValueError):
+            raise TypeError("a chunk is a pair of a Hash and an int") from None
+        if type(hash_) is not Hash:
+            raise TypeError(f"a chunk is a pair of a Hash and an int, not of {type(hash_).__name__}")
+        try:
+            add(pack(hash_._raw, size))
+        except struct.error:
+            index(size)  # a TypeError where it's no whole number
+            raise InvalidArguments("a size is a whole number from 0 to 2^64 - 1") from None
+    return bytes(packed)
+
+
+def _unpack(packed: BytesLike) -> bytes:
+    try:
+        view = memoryview(packed)
+    except (ValueError, BufferError) as error:
+        raise InvalidArguments(f"packed chunks are bytes: {error}") from None
+    with view:
+        letters = _FIELD_NAME.sub("", view.format)
+        if ">" in letters or "!" in letters:
+            raise InvalidArguments("packed chunks have the least byte of each number first")
+        if view.itemsize == _SIZE and re.fullmatch(r"[T{}()\d,<=@^BbcsxQLI]*", letters):
+            fits = True
+        elif view.itemsize == 8 and letters.strip("<=@^") in ("Q", "L"):
+            fits = (view.shape or ())[-1:] == (5,) if view.ndim != 1 else view.nbytes % _SIZE == 0
+        elif view.itemsize == 1 and letters.strip("<=@^") in ("B", "b", "c"):
+            fits = (view.shape or ())[-1:] == (_SIZE,) if view.ndim != 1 else view.nbytes % _SIZE == 0
+        else:
+            raise InvalidArguments(
+                f"packed chunks are bytes, words of 8 bytes, or items of {_SIZE} bytes, not '{view.format}'")
+        if not fits:
+            raise InvalidArguments(f"packed chunks have {_SIZE} bytes each")
+        obj = view.obj
+        if type(obj) is bytes and len(obj) == view.nbytes and view.c_contiguous:
+            return obj
+        return view.tobytes()
+
+
+@final
+class Chunks(Sequence[Chunk]):
+    """A list of chunks in one block: for each the 32 bytes of its hash, then its size in eight bytes, the least first.
+
+    It is made from pairs, or from a block: `bytes`, or anything with the buffer protocol, among it NumPy arrays of 40
+    bytes an item, of five words of eight bytes a row, or of bytes. It can't be changed; a block that others may change is
+    copied once. A million chunks so go to the library in one call, without a million objects. NumPy sees it as an array of
+    `words` and `size`: `numpy.asarray(chunks)`.
+
+    >>> chunks = Chunks([(Hash.random_from_seed(1), 100), (Hash.random_from_seed(2), 200)])
+    >>> len(chunks), chunks[1][1], len(chunks.packed)
+    (2, 200, 80)
+    >>> Chunks(chunks.packed) == chunks
+    True
+    """
+
+    __slots__ = ("_packed",)
+
+    _packed: bytes
+
+    def __new__(cls, chunks: ChunksLike = ()) -> Chunks:
+        if isinstance(chunks, Chunks):
+            return chunks
+        if isinstance(chunks, str):
+            raise TypeError("chunks are pairs of a Hash and an int, or a block of bytes, not a str")
+        if isinstance(chunks, (list, tuple)) or not _has_buffer(chunks):
+            return cls._of(_pack(chunks))
+        return cls._of(_unpack(chunks))
+
+    def __init_subclass__(cls) -> None:
+        raise TypeError("Chunks isn't made to be derived from")
+
+    @classmethod
+    def _of(cls, packed: bytes) -> Chunks:
+        self = object.__new__(cls)
+        object.__setattr__(self, "_packed", packed)
+        return self
+
+    def __setattr__(self, name: str, value: Any) -> None:
+        raise AttributeError("chunks can't be changed")
+
+    def __delattr__(self, name: str) -> None:
+        raise AttributeError("chunks can't be changed")
+
+    @property
+    def packed(self) -> bytes:
+        """The block, without a copy. `memoryview(chunks.packed)` hands it to whatever reads buffers.
+
+        >>> Chunks([(Hash(), 1)]).packed == bytes(32) + b"\\x01" + bytes(7)
+        True
+        """
+        return self._packed
+
+    @property
+    def __array_interface__(self) -> Dict[str, Any]:
+        """How NumPy shares the block, read-only.
+
+        >>> Chunks([(Hash(), 1)]).__array_interface__["shape"]
+        (1,)
+        """
+        return {
+            "version": 3,
+            "shape": (len(self),),
+            "typestr": f"|V{_SIZE}",
+            "descr": [("words", "<u8", (4,)), ("size", "<u8")],
+            "data": self._packed,
+        }
+
+    def __len__(self) -> int:
+        return len(self._packed) // _SIZE
+
+    @overload
+    def __getitem__(self, at: int) -> Chunk: ...
+
+    @overload
+    def __getitem__(self, at: slice) -> Chunks: ...
+
+    def __getitem__(self, at: Union[int, slice]) -> Union[Chunk, Chunks]:
+        if isinstance(at, slice):
+            start, stop, step = at.indices(len(self))
+            if step == 1:
+                return Chunks._of(self._packed[_SIZE * start:_SIZE * max(start, stop)])
+            places = range(start, stop, step)
+            return Chunks._of(b"".join(self._packed[_SIZE * i:_SIZE * (i + 1)] for i in places))
+        place = index(at)
+        if place < 0:
+            place += len(self)
+        if not 0 <= place < len(self):
+            raise IndexError("no such chunk")
+        raw, size = _PAIR.unpack_from(self._packed, _SIZE * place)
+        return Hash._of(raw), size
+
+    def __iter__(self) -> Iterator[Chunk]:
+        for raw, size in _PAIR.iter_unpack(self._packed):
+            yield Hash._of(raw), size
+
+    def __add__(self, other: ChunksLike) -> Chunks:
+        return Chunks._of(self._packed + Chunks(other)._packed)
+
+    def __eq__(self, other: object) -> bool:
+        if not isinstance(other, Chunks):
+            return NotImplemented
+        return self._packed == other._packed
+
+    def __hash__(self) -> int:
+        return hash(self._packed)
+
+    def __bytes__(self) -> bytes:
+        return self._packed
+
+    def __repr__(self) -> str:
+        return f"<yurewha.Chunks of {len(self)}>"
+
+    def __copy__(self) -> Chunks:
+        return self
+
+    def __deepcopy__(self, memo: Any) -> Chunks:
+        return self
+
+    def __reduce__(self) -> Tuple[Any, ...]:
+        return Chunks, (self._packed,)
+
+
+def _has_buffer(value: Any) -> bool:
+    try:
+        memoryview(value).release()
+    except TypeError:
+        return False
+    except (ValueError, BufferError):
+        return True
+    return True

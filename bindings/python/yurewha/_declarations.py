@@ -1,0 +1,110 @@
+"""What the package takes the library's calls to be: each name, its answer and its arguments, as the C header spells them.
+
+This is the one list of the calls. It is plain data, and importing it loads no library, so that a test can compare it with
+the header. `_library.py` makes the ctypes declarations from it.
+"""
+
+from __future__ import annotations
+
+from typing import Dict, Tuple
+
+#: The answer, and the types of the arguments in order.
+Declaration = Tuple[str, Tuple[str, ...]]
+
+DECLARATIONS: Dict[str, Declaration] = {
+    # Hashes
+    "yurewha_data_hash": ("void", ("const uint8_t *", "size_t", "yurewha_hash *")),
+    "yurewha_internal_node_hash": ("void", ("const uint8_t *", "size_t", "yurewha_hash *")),
+    "yurewha_hmac": ("void", ("const yurewha_hash *", "const yurewha_hash *", "yurewha_hash *")),
+    "yurewha_random_from_seed": ("void", ("uint64_t", "yurewha_hash *")),
+    "yurewha_hash_to_bytes": ("void", ("const yurewha_hash *", "yurewha_bytes *")),
+    "yurewha_hash_from_bytes": ("void", ("const yurewha_bytes *", "yurewha_hash *")),
+    "yurewha_compare": ("int32_t", ("const yurewha_hash *", "const yurewha_hash *")),
+    "yurewha_remainder": ("yurewha_status", ("const yurewha_hash *", "uint64_t", "uint64_t *")),
+    "yurewha_hex": ("yurewha_status", ("const yurewha_hash *", "char *", "size_t", "size_t *")),
+    "yurewha_from_hex": ("yurewha_status", ("const char *", "size_t", "yurewha_hash *")),
+    "yurewha_base64": ("yurewha_status", ("const yurewha_hash *", "char *", "size_t", "size_t *")),
+    "yurewha_from_base64": ("yurewha_status", ("const char *", "size_t", "yurewha_hash *")),
+    # The streaming hasher
+    "yurewha_hasher_begin_data": ("void", ("yurewha_hasher *",)),
+    "yurewha_hasher_begin_internal": ("void", ("yurewha_hasher *",)),
+    "yurewha_hasher_begin_keyed": ("void", ("yurewha_hasher *", "const yurewha_bytes *")),
+    "yurewha_hasher_count": ("uint64_t", ("const yurewha_hasher *",)),
+    "yurewha_hasher_update": ("yurewha_status", ("yurewha_hasher *", "const uint8_t *", "size_t")),
+    "yurewha_hasher_finalize": ("void", ("const yurewha_hasher *", "yurewha_hash *")),
+    # Roots
+    "yurewha_xorb_hash": ("yurewha_status", ("const yurewha_chunk *", "size_t", "yurewha_hash *")),
+    "yurewha_file_hash": ("yurewha_status", ("const yurewha_chunk *", "size_t", "yurewha_hash *")),
+    "yurewha_file_hash_with_salt": (
+        "yurewha_status", ("const yurewha_chunk *", "size_t", "const yurewha_bytes *", "yurewha_hash *")),
+    "yurewha_find_stable_start": ("yurewha_status", ("const yurewha_chunk *", "size_t", "size_t *")),
+    "yurewha_find_stable_end": ("yurewha_status", ("const yurewha_chunk *", "size_t", "size_t *")),
+    # Subtrees
+    "yurewha_subtree_from_chunks": (
+        "yurewha_status", ("bool", "const yurewha_chunk *", "size_t", "bool", "yurewha_subtree *")),
+    "yurewha_subtree_clone": ("yurewha_status", ("yurewha_subtree *", "yurewha_subtree *")),
+    "yurewha_subtree_equal": ("yurewha_status", ("yurewha_subtree *", "yurewha_subtree *", "bool *")),
+    "yurewha_subtree_marks": ("yurewha_status", ("yurewha_subtree *", "bool *", "bool *")),
+    "yurewha_subtree_total_size": ("yurewha_status", ("yurewha_subtree *", "uint64_t *")),
+    "yurewha_subtree_num_nodes": ("yurewha_status", ("yurewha_subtree *", "size_t *")),
+    "yurewha_subtree_num_levels": ("yurewha_status", ("yurewha_subtree *", "size_t *")),
+    "yurewha_subtree_merge_into": ("yurewha_status", ("yurewha_subtree *", "yurewha_subtree *")),
+    "yurewha_subtree_merge_into_counted": (
+        "yurewha_status", ("yurewha_subtree *", "yurewha_subtree *", "uint64_t *")),
+    "yurewha_subtree_merge": ("yurewha_status", ("yurewha_subtree *", "size_t", "yurewha_subtree *")),
+    "yurewha_subtree_final_hash": ("yurewha_status", ("yurewha_subtree *", "yurewha_hash *")),
+    "yurewha_subtree_to_json": ("yurewha_status", ("yurewha_subtree *", "char *", "size_t", "size_t *")),
+    "yurewha_subtree_from_json": ("yurewha_status", ("const char *", "size_t", "yurewha_subtree *")),
+    "yurewha_subtree_to_flat": (
+        "yurewha_status",
+        ("yurewha_subtree *", "yurewha_level *", "size_t", "yurewha_chunk *", "size_t", "size_t *", "size_t *")),
+    "yurewha_subtree_from_flat": (
+        "yurewha_status",
+        ("bool", "const yurewha_level *", "size_t", "const yurewha_chunk *", "size_t", "bool", "yurewha_subtree *")),
+    "yurewha_subtree_free": ("void", ("yurewha_subtree *",)),
+    # Sessions
+    "yurewha_session_new": ("yurewha_status", ("yurewha_session *",)),
+    "yurewha_session_put": (
+        "yurewha_status", ("yurewha_session *", "uint64_t", "const yurewha_chunk *", "size_t", "uint64_t *")),
+    "yurewha_session_taken": ("yurewha_status", ("yurewha_session *", "uint64_t", "bool *")),
+    "yurewha_session_num_runs": ("yurewha_status", ("yurewha_session *", "size_t *")),
+    "yurewha_session_run": (
+        "yurewha_status", ("yurewha_session *", "size_t", "uint64_t *", "yurewha_subtree *")),
+    "yurewha_session_root": ("yurewha_status", ("yurewha_session *", "uint64_t", "yurewha_hash *")),
+    "yurewha_session_finish": ("yurewha_status", ("yurewha_session *", "uint64_t", "yurewha_hash *")),
+    "yurewha_session_free": ("void", ("yurewha_session *",)),
+}
+
+#: The statuses, as the header names them.
+STATUSES: Dict[str, int] = {
+    "YUREWHA_DONE": 0,
+    "YUREWHA_ARGUMENTS": 1,
+    "YUREWHA_SIZES": 2,
+    "YUREWHA_MEMORY": 3,
+    "YUREWHA_TEXT": 4,
+    "YUREWHA_ROOM": 5,
+    "YUREWHA_EMPTY_HANDLE": 6,
+    "YUREWHA_RULE": 16,
+    "YUREWHA_SESSION_OVERLAP": 33,
+    "YUREWHA_SESSION_POSITIONS": 34,
+    "YUREWHA_SESSION_SIZES": 35,
+    "YUREWHA_SESSION_MEMORY": 36,
+    "YUREWHA_SESSION_GAP": 37,
+}
+
+#: The lengths of a hash as hex and as base64 text, as the header names them.
+LENGTHS: Dict[str, int] = {
+    "YUREWHA_HEX_LENGTH": 64,
+    "YUREWHA_BASE64_LENGTH": 43,
+}
+
+#: The structs that cross, and their sizes in bytes.
+STRUCTS: Dict[str, int] = {
+    "yurewha_hash": 32,
+    "yurewha_bytes": 32,
+    "yurewha_chunk": 40,
+    "yurewha_level": 16,
+    "yurewha_hasher": 1864,
+    "yurewha_subtree": 8,
+    "yurewha_session": 8,
+}

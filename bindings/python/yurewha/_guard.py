@@ -1,0 +1,98 @@
+"""A lock for each object, and what becomes of objects in forked processes.
+
+No two threads may use one handle of the library at once, and ctypes gives up the interpreter's lock in long calls. So each
+call on an object holds the object's own lock, also where it keeps the interpreter's.
+
+A forked process has the objects of its parent as they were. An object that another thread held at that moment may be half
+changed, and its lock is never given back. So the first use of an object in a forked process tries its lock once: where it
+isn't to be had, `InUseAtFork` is raised, now and at each later use, and the object is never freed.
+"""
+
+from __future__ import annotations
+
+import os
+import threading
+from contextlib import ExitStack
+from typing import Iterable, Tuple
+
+from ._errors import InUseAtFork
+
+
+class _Process:
+    """How often this process was forked from another, and a lock for taking objects over from there."""
+
+    def __init__(self) -> None:
+        self.generation = 0
+        self.taking_over = threading.Lock()
+
+    def forked(self) -> None:
+        self.generation += 1
+        self.taking_over = threading.Lock()
+
+
+_process = _Process()
+if hasattr(os, "register_at_fork"):
+    os.register_at_fork(after_in_child=_process.forked)
+
+
+class Guarded:
+    """An object that the calls of one thread alone use at a time.
+
+    The lock may be taken again by the thread that has it, so that a signal's handler that uses the object waits for
+    nobody: it runs between two calls of the library, never inside one.
+    """
+
+    __slots__ = ("_lock", "_generation", "__weakref__")
+
+    _lock: threading.RLock
+    _generation: int
+
+    def _guard(self) -> None:
+        """Makes the lock; the first thing that is done with a new object."""
+        self._lock = threading.RLock()
+        self._generation = _process.generation
+
+    def _is_ours(self) -> bool:
+        """Whether no other thread used the object when this process was forked."""
+        if self._generation == _process.generation:
+            return True
+        with _process.taking_over:
+            if self._generation == _process.generation:
+                return True
+            if not self._lock.acquire(blocking=False):
+                return False
+            self._lock.release()
+            self._generation = _process.generation
+            return True
+
+    def _locked(self) -> threading.RLock:
+        """The lock, to be held during each call on the object."""
+        if not self._is_ours():
+            raise InUseAtFork("this process was forked while another thread used the object")
+        return self._lock
+
+
+def both_locked(one: Guarded, other: Guarded) -> Tuple[threading.RLock, threading.RLock]:
+    """The locks of two objects, in the order in which all threads take them.
+
+    >>> one = Guarded(); one._guard()
+    >>> first, second = both_locked(one, one)
+    >>> with first, second:
+    ...     pass
+    """
+    if id(one) <= id(other):
+        return one._locked(), other._locked()
+    return other._locked(), one._locked()
+
+
+def all_locked(objects: Iterable[Guarded]) -> ExitStack:
+    """The locks of several objects, taken in one order by all threads, so that no two wait for each other.
+
+    >>> with all_locked([]):
+    ...     pass
+    """
+    with ExitStack() as stack:
+        for item in sorted(objects, key=id):
+            stack.enter_context(item._locked())
+        return stack.pop_all()
+    raise AssertionError("an exit stack swallows nothing")

@@ -1,0 +1,467 @@
+"""Hashes, and what hashes bytes."""
+
+from __future__ import annotations
+
+import ctypes
+from operator import index
+from typing import Any, Tuple, Union, final
+
+from ._declarations import LENGTHS
+from ._errors import DivisionByZero, InvalidArguments, InvalidText, error_of
+from ._guard import Guarded
+from ._library import LONG_BYTES, CBytes, CHash, CHasher, calls_for, short
+
+__all__ = ["Hash", "Hasher", "data_hash", "internal_node_hash"]
+
+_MAX_U64 = 2**64 - 1
+_PIECE = 1 << 20
+_HEX_LENGTH = LENGTHS["YUREWHA_HEX_LENGTH"]
+_BASE64_LENGTH = LENGTHS["YUREWHA_BASE64_LENGTH"]
+_CHex = ctypes.c_char * _HEX_LENGTH
+_CBase64 = ctypes.c_char * _BASE64_LENGTH
+
+#: Anything with the buffer protocol: `bytes`, `bytearray`, `memoryview`, `mmap.mmap`, `array.array`, NumPy arrays.
+BytesLike = Union[bytes, bytearray, memoryview, Any]
+_Bytes = bytes
+
+
+def checked_u64(value: Any, what: str) -> int:
+    """A whole number from 0 to 2^64 - 1.
+
+    >>> checked_u64(7, "a size")
+    7
+    """
+    number = index(value)
+    if not 0 <= number <= _MAX_U64:
+        raise InvalidArguments(f"{what} is a whole number from 0 to 2^64 - 1")
+    return number
+
+
+def checked_bool(value: Any, what: str) -> bool:
+    """True or False, and nothing that is like them.
+
+    >>> checked_bool(True, "at_start")
+    True
+    """
+    if not isinstance(value, bool):
+        raise TypeError(f"{what} is a bool, not {type(value).__name__}")
+    return value
+
+
+def checked_text(value: Any, what: str) -> bytes:
+    """The bytes of a text.
+
+    >>> checked_text("a", "the text")
+    b'a'
+    """
+    if not isinstance(value, str):
+        raise TypeError(f"{what} is a str, not {type(value).__name__}")
+    try:
+        return value.encode("utf-8")
+    except UnicodeEncodeError:
+        raise InvalidText(f"{what} has half a character") from None
+
+
+def own_bytes(value: BytesLike) -> bytes:
+    """The same bytes in an object that nobody changes: itself where it is `bytes`, else a copy.
+
+    >>> own_bytes(bytearray(b"ab"))
+    b'ab'
+    """
+    if type(value) is bytes:
+        return value
+    with memoryview(value) as view:
+        return view.tobytes()
+
+
+def checked_32(value: BytesLike, what: str) -> bytes:
+    """32 bytes.
+
+    >>> len(checked_32(bytes(32), "a key"))
+    32
+    """
+    data = own_bytes(value)
+    if len(data) != 32:
+        raise InvalidArguments(f"{what} has 32 bytes, not {len(data)}")
+    return data
+
+
+@final
+class Hash:
+    """A hash: 32 bytes. It can't be changed, can be a key of a dict, and has the order of its hex text.
+
+    `Hash()` is the default hash, whose bytes are 0; `Hash(b)` has the 32 bytes `b`.
+
+    >>> Hash().hex() == 64 * "0"
+    True
+    """
+
+    __slots__ = ("_raw",)
+
+    # The C struct in memory, 32 bytes.
+    _raw: _Bytes
+
+    def __new__(cls, data: BytesLike = bytes(32)) -> Hash:
+        out = CHash()
+        short.yurewha_hash_from_bytes(checked_32(data, "a hash"), out)
+        return cls._of(bytes(out))
+
+    def __init_subclass__(cls) -> None:
+        raise TypeError("Hash isn't made to be derived from")
+
+    @classmethod
+    def _of(cls, raw: _Bytes) -> Hash:
+        self = object.__new__(cls)
+        object.__setattr__(self, "_raw", raw)
+        return self
+
+    def __setattr__(self, name: str, value: Any) -> None:
+        raise AttributeError("a hash can't be changed")
+
+    def __delattr__(self, name: str) -> None:
+        raise AttributeError("a hash can't be changed")
+
+    @staticmethod
+    def from_bytes(data: BytesLike) -> Hash:
+        """The hash of 32 bytes; `InvalidArguments` where there are more or less.
+
+        >>> Hash.from_bytes(bytes(32)) == Hash()
+        True
+        """
+        return Hash(data)
+
+    @staticmethod
+    def from_hex(text: str) -> Hash:
+        """The hash whose hex text this is, 64 digits of either case; `InvalidText` otherwise.
+
+        >>> Hash.from_hex(63 * "0" + "A").hex()[-2:]
+        '0a'
+        """
+        data = checked_text(text, "hex")
+        out = CHash()
+        status = short.yurewha_from_hex(data, len(data), out)
+        if status:
+            raise error_of(status, "the hex text of a hash is 64 hex digits")
+        return Hash._of(bytes(out))
+
+    @staticmethod
+    def from_base64(text: str) -> Hash:
+        """The hash whose base64 text this is, as `base64` gives it; `InvalidText` otherwise.
+
+        >>> Hash.from_base64(43 * "A") == Hash()
+        True
+        """
+        data = checked_text(text, "base64")
+        out = CHash()
+        status = short.yurewha_from_base64(data, len(data), out)
+        if status:
+            raise error_of(status, "the base64 text of a hash is 43 characters that `base64` gives")
+        return Hash._of(bytes(out))
+
+    @staticmethod
+    def random_from_seed(seed: int) -> Hash:
+        """A hash drawn from a seed from 0 to 2^64 - 1, for tests.
+
+        >>> Hash.random_from_seed(1).hex()[:16]
+        'cfc5d07f6f03c29b'
+        """
+        out = CHash()
+        short.yurewha_random_from_seed(checked_u64(seed, "a seed"), out)
+        return Hash._of(bytes(out))
+
+    def hex(self) -> str:
+        """The hex text by which Xet names the hash. Within each eight it has the bytes in reverse, unlike `bytes.hex`.
+
+        >>> Hash(bytes(range(32))).hex()[:16]
+        '0706050403020100'
+        """
+        text, length = _CHex(), ctypes.c_size_t()
+        status = short.yurewha_hex(self._raw, text, _HEX_LENGTH, length)
+        if status:
+            raise error_of(status)
+        return text.raw.decode("ascii")
+
+    def base64(self) -> str:
+        """The URL-safe base64 text of the 32 bytes without padding, 43 characters.
+
+        >>> Hash().base64() == 43 * "A"
+        True
+        """
+        text, length = _CBase64(), ctypes.c_size_t()
+        status = short.yurewha_base64(self._raw, text, _BASE64_LENGTH, length)
+        if status:
+            raise error_of(status)
+        return text.raw.decode("ascii")
+
+    @property
+    def bytes(self) -> _Bytes:
+        """The 32 bytes.
+
+        >>> Hash().bytes == bytes(32)
+        True
+        """
+        out = CBytes()
+        short.yurewha_hash_to_bytes(self._raw, out)
+        return bytes(out)
+
+    def __bytes__(self) -> _Bytes:
+        return self.bytes
+
+    @property
+    def words(self) -> Tuple[int, int, int, int]:
+        """The four words, each of eight bytes, the first one least.
+
+        >>> Hash(b"\\x01" + bytes(31)).words
+        (1, 0, 0, 0)
+        """
+        first, second, third, fourth = CHash.from_buffer_copy(self._raw).words
+        return first, second, third, fourth
+
+    def hmac(self, key: Hash) -> Hash:
+        """Keyed BLAKE3 of the bytes of this hash under the bytes of a key.
+
+        >>> Hash().hmac(Hash()).hex()[:16]
+        '638a6bc391964a85'
+        """
+        if not isinstance(key, Hash):
+            raise TypeError(f"a key is a Hash, not {type(key).__name__}")
+        out = CHash()
+        short.yurewha_hmac(self._raw, key._raw, out)
+        return Hash._of(bytes(out))
+
+    def __mod__(self, divisor: int) -> int:
+        number = checked_u64(divisor, "a divisor")
+        out = ctypes.c_uint64()
+        status = short.yurewha_remainder(self._raw, number, out)
+        if number == 0:
+            raise DivisionByZero("the divisor is 0")
+        if status:
+            raise error_of(status)
+        return out.value
+
+    def _compare(self, other: Hash) -> int:
+        return int(short.yurewha_compare(self._raw, other._raw))
+
+    def __eq__(self, other: object) -> bool:
+        if not isinstance(other, Hash):
+            return NotImplemented
+        return self._raw == other._raw
+
+    def __lt__(self, other: Hash) -> bool:
+        return self._compare(other) < 0 if isinstance(other, Hash) else NotImplemented
+
+    def __le__(self, other: Hash) -> bool:
+        return self._compare(other) <= 0 if isinstance(other, Hash) else NotImplemented
+
+    def __gt__(self, other: Hash) -> bool:
+        return self._compare(other) > 0 if isinstance(other, Hash) else NotImplemented
+
+    def __ge__(self, other: Hash) -> bool:
+        return self._compare(other) >= 0 if isinstance(other, Hash) else NotImplemented
+
+    def __hash__(self) -> int:
+        return hash(self._raw)
+
+    def __str__(self) -> str:
+        return self.hex()
+
+    def __repr__(self) -> str:
+        return f"Hash.from_hex('{self.hex()}')"
+
+    def __copy__(self) -> Hash:
+        return self
+
+    def __deepcopy__(self, memo: Any) -> Hash:
+        return self
+
+    def __reduce__(self) -> Tuple[Any, ...]:
+        return Hash, (self.bytes,)
+
+
+def data_hash(data: BytesLike) -> Hash:
+    """The hash of a chunk, whose data these bytes are.
+
+    >>> data_hash(b"abc").hex()[:16]
+    'a8803506f7aff014'
+    """
+    if type(data) is not bytes:
+        return Hasher(data).hash()
+    out = CHash()
+    calls_for(len(data), LONG_BYTES).yurewha_data_hash(data, len(data), out)
+    return Hash._of(bytes(out))
+
+
+def internal_node_hash(data: BytesLike) -> Hash:
+    """The hash of an inner node of the tree, whose text these bytes are.
+
+    >>> internal_node_hash(b"") == Hasher.internal_node().hash()
+    True
+    """
+    if type(data) is not bytes:
+        return Hasher.internal_node(data).hash()
+    out = CHash()
+    calls_for(len(data), LONG_BYTES).yurewha_internal_node_hash(data, len(data), out)
+    return Hash._of(bytes(out))
+
+
+def _add(state: CHasher, piece: bytes) -> None:
+    status = calls_for(len(piece), LONG_BYTES).yurewha_hasher_update(state, piece, len(piece))
+    if status:
+        raise error_of(status)
+
+
+@final
+class Hasher(Guarded):
+    """A hasher that takes a message in pieces, as those of `hashlib` do. It gives what `data_hash` does.
+
+    >>> hasher = Hasher(b"a")
+    >>> hasher.update(b"bc")
+    >>> hasher.hash() == data_hash(b"abc")
+    True
+    """
+
+    __slots__ = ("_state", "_name")
+
+    digest_size: int = 32
+    block_size: int = 64
+
+    _state: CHasher
+    _name: str
+
+    def __new__(cls, data: BytesLike = b"") -> Hasher:
+        self = object.__new__(cls)
+        self._guard()
+        self._state = CHasher()
+        self._name = "yurewha-data"
+        short.yurewha_hasher_begin_data(self._state)
+        self.update(data)
+        return self
+
+    def __init_subclass__(cls) -> None:
+        raise TypeError("Hasher isn't made to be derived from")
+
+    @staticmethod
+    def internal_node(data: BytesLike = b"") -> Hasher:
+        """A hasher that gives what `internal_node_hash` does.
+
+        >>> Hasher.internal_node(b"abc").hash() == internal_node_hash(b"abc")
+        True
+        """
+        self = Hasher()
+        self._name = "yurewha-internal-node"
+        short.yurewha_hasher_begin_internal(self._state)
+        self.update(data)
+        return self
+
+    @staticmethod
+    def keyed(key: BytesLike, data: BytesLike = b"") -> Hasher:
+        """A hasher under a key of 32 bytes: keyed BLAKE3.
+
+        >>> Hasher.keyed(bytes(32), bytes(32)).hash() == Hash().hmac(Hash())
+        True
+        """
+        checked = checked_32(key, "a key")
+        self = Hasher()
+        self._name = "blake3-keyed"
+        short.yurewha_hasher_begin_keyed(self._state, checked)
+        self.update(data)
+        return self
+
+    @property
+    def name(self) -> str:
+        """Under which key it hashes: `yurewha-data`, `yurewha-internal-node` or `blake3-keyed`.
+
+        >>> Hasher().name
+        'yurewha-data'
+        """
+        return self._name
+
+    @property
+    def count(self) -> int:
+        """How many bytes the message has.
+
+        >>> Hasher(b"abc").count
+        3
+        """
+        with self._locked():
+            return int(short.yurewha_hasher_count(self._state))
+
+    def update(self, data: BytesLike) -> None:
+        """Adds a piece to the message; `SizeOverflow` where it would have more than 2^64 - 1 bytes.
+
+        Bytes that others may change, as a `bytearray` or an array, are taken in copies of a MiB at most.
+
+        >>> Hasher(bytearray(b"abc")).count
+        3
+        """
+        if type(data) is bytes:
+            with self._locked():
+                _add(self._state, data)
+            return
+        with memoryview(data) as view, self._locked():
+            if view.nbytes <= _PIECE or not view.c_contiguous:
+                _add(self._state, view.tobytes())
+                return
+            try:
+                flat = view.cast("B")
+            except (TypeError, ValueError):
+                _add(self._state, view.tobytes())
+                return
+            with flat:
+                # The hasher takes all of it or, where that ends early, nothing.
+                state = CHasher.from_buffer_copy(self._state)
+                for start in range(0, flat.nbytes, _PIECE):
+                    _add(state, flat[start:start + _PIECE].tobytes())
+                self._state = state
+
+    def hash(self) -> Hash:
+        """The hash of the message so far; the hasher can go on.
+
+        >>> Hasher().hash() == data_hash(b"")
+        True
+        """
+        out = CHash()
+        with self._locked():
+            short.yurewha_hasher_finalize(self._state, out)
+        return Hash._of(bytes(out))
+
+    def digest(self) -> bytes:
+        """The 32 bytes of the hash.
+
+        >>> Hasher(b"abc").digest() == data_hash(b"abc").bytes
+        True
+        """
+        return self.hash().bytes
+
+    def hexdigest(self) -> str:
+        """The hex text of the hash by which Xet names it, as `Hash.hex`. It isn't `digest().hex()`.
+
+        >>> Hasher(b"abc").hexdigest() == data_hash(b"abc").hex()
+        True
+        """
+        return self.hash().hex()
+
+    def copy(self) -> Hasher:
+        """Another hasher of the same message, which goes its own way.
+
+        >>> one = Hasher(b"a"); other = one.copy(); other.update(b"b")
+        >>> one.count, other.count
+        (1, 2)
+        """
+        other = Hasher()
+        with self._locked():
+            other._name = self._name
+            other._state = CHasher.from_buffer_copy(self._state)
+        return other
+
+    def __copy__(self) -> Hasher:
+        return self.copy()
+
+    def __deepcopy__(self, memo: Any) -> Hasher:
+        return self.copy()
+
+    def __reduce__(self) -> Tuple[Any, ...]:
+        raise TypeError("a Hasher can't be pickled")
+
+    def __repr__(self) -> str:
+        return f"<yurewha.Hasher {self._name}, {self.count} bytes>"

@@ -1,0 +1,609 @@
+"""Roots of lists of chunks, and subtrees: what is kept of a range of chunks."""
+
+from __future__ import annotations
+
+import ctypes
+import os
+import struct
+from typing import Any, Iterable, List, NamedTuple, Optional, Sequence, Tuple, Union, final
+
+from ._chunks import Chunks, ChunksLike
+from ._errors import InvalidArguments, YurewhaError, error_of
+from ._guard import Guarded, all_locked, both_locked
+from ._hash import BytesLike, Hash, checked_32, checked_bool, checked_text, checked_u64
+from ._library import (
+    LONG_BYTES,
+    LONG_CHUNKS,
+    LONG_NODES,
+    CChunk,
+    CHash,
+    CLevel,
+    CSubtree,
+    calls_for,
+    short,
+)
+from ._picture import picture_of
+
+__all__ = ["Flat", "Subtree", "file_hash", "find_stable_end", "find_stable_start", "xorb_hash"]
+
+_LEVEL = struct.Struct("<QQ")
+_CHUNK_SIZE = ctypes.sizeof(CChunk)
+
+
+def xorb_hash(chunks: ChunksLike) -> Hash:
+    """The root of a list of chunks; `SizeOverflow` where the sizes add up to more than 2^64 - 1.
+
+    >>> one, two = (Hash.random_from_seed(1), 100), (Hash.random_from_seed(2), 200)
+    >>> xorb_hash([one, two, one, two]).hex()[:16]
+    '90f8313ef12df385'
+    """
+    packed = Chunks(chunks).packed
+    count, out = len(packed) // _CHUNK_SIZE, CHash()
+    status = calls_for(count, LONG_CHUNKS).yurewha_xorb_hash(packed, count, out)
+    if status:
+        raise error_of(status)
+    return Hash._of(bytes(out))
+
+
+def file_hash(chunks: ChunksLike, salt: Optional[BytesLike] = None) -> Hash:
+    """The file hash of a list of chunks, without a salt or with one of 32 bytes; refused as `xorb_hash`.
+
+    >>> file_hash([(Hash(), 0)]).hex()[:16]
+    '638a6bc391964a85'
+    >>> file_hash([(Hash(), 0)], salt=bytes(32)) == file_hash([(Hash(), 0)])
+    True
+    """
+    packed = Chunks(chunks).packed
+    count, out = len(packed) // _CHUNK_SIZE, CHash()
+    calls = calls_for(count, LONG_CHUNKS)
+    if salt is None:
+        status = calls.yurewha_file_hash(packed, count, out)
+    else:
+        status = calls.yurewha_file_hash_with_salt(packed, count, checked_32(salt, "a salt"), out)
+    if status:
+        raise error_of(status)
+    return Hash._of(bytes(out))
+
+
+def _stable_point(nodes: ChunksLike, which: str) -> Optional[int]:
+    packed = Chunks(nodes).packed
+    count, out = len(packed) // _CHUNK_SIZE, ctypes.c_size_t()
+    status = getattr(calls_for(count, LONG_CHUNKS), which)(packed, count, out)
+    if status == 1:
+        return None
+    if status:
+        raise error_of(status)
+    return out.value
+
+
+def find_stable_start(nodes: ChunksLike) -> Optional[int]:
+    """How many nodes stand before the first stable point, where a group ends whatever comes before and after; or None.
+
+    >>> find_stable_start([(Hash(bytes(24) + bytes([i % 4 != 3]) + bytes(7)), 1) for i in range(20)])
+    8
+    >>> find_stable_start([]) is None
+    True
+    """
+    return _stable_point(nodes, "yurewha_find_stable_start")
+
+
+def find_stable_end(nodes: ChunksLike) -> Optional[int]:
+    """How many nodes stand before the last stable point; or None.
+
+    >>> find_stable_end([(Hash(bytes(24) + bytes([i % 4 != 3]) + bytes(7)), 1) for i in range(20)])
+    16
+    """
+    return _stable_point(nodes, "yurewha_find_stable_end")
+
+
+class Flat(NamedTuple):
+    """A subtree as flat lists: the marks, the number of left and right nodes of each level from the chunks up, and the
+    nodes: the left ones of all levels by rising level, then the right ones by falling level.
+
+    >>> Subtree.from_chunks(True, [(Hash(), 7)], False).to_flat()
+    Flat(at_start=True, levels=((1, 0),), nodes=<yurewha.Chunks of 1>, at_end=False)
+    """
+
+    at_start: bool
+    levels: Tuple[Tuple[int, int], ...]
+    nodes: Chunks
+    at_end: bool
+
+
+@final
+class Subtree(Guarded):
+    """What is kept of a range of chunks, to merge it with its neighbours without the chunks.
+
+    >>> one, two = (Hash.random_from_seed(1), 100), (Hash.random_from_seed(2), 200)
+    >>> left = Subtree.from_chunks(True, [one, two, one], False)    # the beginning of a file
+    >>> right = Subtree.from_chunks(False, [two], True)             # its end
+    >>> (left + right).final_hash() == xorb_hash([one, two, one, two])
+    True
+    """
+
+    __slots__ = ("_handle",)
+
+    _handle: CSubtree
+    # An instance can be changed, so it is no key.
+    __hash__ = None  # type: ignore[assignment]
+
+    def __new__(cls, *arguments: Any, **names: Any) -> Subtree:
+        return cls._empty()
+
+    def __init__(self, *arguments: Any, **names: Any) -> None:
+        raise TypeError("a Subtree is made by Subtree.from_chunks, .merge_all, .from_json or .from_flat")
+
+    def __init_subclass__(cls) -> None:
+        raise TypeError("Subtree isn't made to be derived from")
+
+    def __del__(self) -> None:
+        # Nobody else has the object when the interpreter calls this. By hand it waits for other threads, and leaves an
+        # empty handle. What another thread held when this process was forked is left as it is.
+        try:
+            if not self._is_ours():
+                return
+            with self._lock:
+                self._free(self._handle)
+        except AttributeError:
+            pass  # it wasn't made to the end
+
+    _free = staticmethod(short.yurewha_subtree_free)
+
+    @classmethod
+    def _empty(cls) -> Subtree:
+        self = object.__new__(cls)
+        self._guard()
+        self._handle = CSubtree()
+        return self
+
+    @staticmethod
+    def from_chunks(at_start: bool, chunks: ChunksLike, at_end: bool) -> Subtree:
+        """The subtree of some chunks. `at_start` says that no chunk comes before them, `at_end` that none comes behind.
+
+        `SizeOverflow` where the sizes add up to more than 2^64 - 1.
+
+        >>> Subtree.from_chunks(False, [(Hash(), 7)], False)
+        <yurewha.Subtree open at both ends, levels (1, 0), 7 bytes>
+        """
+        checked_bool(at_start, "at_start")
+        checked_bool(at_end, "at_end")
+        packed = Chunks(chunks).packed
+        count, self = len(packed) // _CHUNK_SIZE, Subtree._empty()
+        status = calls_for(count, LONG_CHUNKS).yurewha_subtree_from_chunks(at_start, packed, count, at_end, self._handle)
+        if status:
+            raise error_of(status)
+        return self
+
+    # ---- What it has
+
+    @property
+    def at_start(self) -> bool:
+        """Whether no chunk comes before it.
+
+        >>> Subtree.from_chunks(True, [], False).at_start
+        True
+        """
+        return self._marks()[0]
+
+    @property
+    def at_end(self) -> bool:
+        """Whether no chunk comes behind it.
+
+        >>> Subtree.from_chunks(True, [], False).at_end
+        False
+        """
+        return self._marks()[1]
+
+    def _marks(self) -> Tuple[bool, bool]:
+        at_start, at_end = ctypes.c_bool(), ctypes.c_bool()
+        with self._locked():
+            status = short.yurewha_subtree_marks(self._handle, at_start, at_end)
+        if status:
+            raise error_of(status)
+        return at_start.value, at_end.value
+
+    @property
+    def total_size(self) -> int:
+        """The sum of the sizes of the chunks, in bytes.
+
+        >>> Subtree.from_chunks(False, [(Hash(), 7), (Hash(), 8)], False).total_size
+        15
+        """
+        out = ctypes.c_uint64()
+        with self._locked():
+            status = short.yurewha_subtree_total_size(self._handle, out)
+        if status:
+            raise error_of(status)
+        return out.value
+
+    @property
+    def num_nodes(self) -> int:
+        """How many nodes are kept.
+
+        >>> Subtree.from_chunks(False, [(Hash(), 7), (Hash(), 8)], False).num_nodes
+        2
+        """
+        return self._count(short.yurewha_subtree_num_nodes)
+
+    @property
+    def num_levels(self) -> int:
+        """How many levels there are.
+
+        >>> Subtree.from_chunks(False, [], False).num_levels
+        1
+        """
+        return self._count(short.yurewha_subtree_num_levels)
+
+    def _count(self, call: Any) -> int:
+        out = ctypes.c_size_t()
+        with self._locked():
+            status = call(self._handle, out)
+        if status:
+            raise error_of(status)
+        return out.value
+
+    def _nodes(self) -> int:
+        """How many nodes are kept, or 0 where the handle is empty; under the lock."""
+        out = ctypes.c_size_t()
+        short.yurewha_subtree_num_nodes(self._handle, out)
+        return out.value
+
+    @property
+    def is_empty(self) -> bool:
+        """Whether no node is kept.
+
+        >>> Subtree.from_chunks(True, [], True).is_empty
+        True
+        """
+        return self.num_nodes == 0
+
+    @property
+    def levels(self) -> Tuple[Tuple[int, int], ...]:
+        """The number of left and right nodes of each level, from the chunks up.
+
+        >>> Subtree.from_chunks(False, [(Hash(), 7), (Hash(), 8)], False).levels
+        ((2, 0),)
+        """
+        return self.to_flat().levels
+
+    def left(self, level: int) -> Chunks:
+        """The nodes that are kept of a level before the gap; none where there is no such level.
+
+        >>> len(Subtree.from_chunks(False, [(Hash(), 7), (Hash(), 8)], False).left(0))
+        2
+        """
+        return self._side(level, 0)
+
+    def right(self, level: int) -> Chunks:
+        """The nodes that are kept of a level behind the gap; none where there is no such level.
+
+        >>> len(Subtree.from_chunks(False, [(Hash(), 7), (Hash(), 8)], False).right(0))
+        0
+        """
+        return self._side(level, 1)
+
+    def _side(self, level: int, side: int) -> Chunks:
+        number = checked_u64(level, "a level")
+        flat = self.to_flat()
+        if number >= len(flat.levels):
+            return Chunks()
+        return sides_of(flat)[number][side]
+
+    def final_hash(self) -> Optional[Hash]:
+        """The root of the list of chunks, or None unless both ends are marked.
+
+        >>> Subtree.from_chunks(True, [], True).final_hash() == Hash()
+        True
+        """
+        out = CHash()
+        with self._locked():
+            status = short.yurewha_subtree_final_hash(self._handle, out)
+        if status == 1:
+            return None
+        if status:
+            raise error_of(status)
+        return Hash._of(bytes(out))
+
+    # ---- Merging
+
+    def merge(self, other: Subtree) -> None:
+        """Merges the subtree of the range that follows into this one. `left += right` does the same.
+
+        `InvalidArguments` where this one is marked at its end or the other at its start; `SizeOverflow` where both sizes
+        add up to more than 2^64 - 1. A refusal changes nothing, and `other` stays as it is in any case.
+
+        >>> one = Subtree.from_chunks(True, [(Hash(), 7)], False)
+        >>> one.merge(Subtree.from_chunks(False, [(Hash(), 8)], True)); one.total_size
+        15
+        """
+        self._merge(other, None)
+
+    def merge_counted(self, other: Subtree) -> int:
+        """The same, and how many parents were hashed for it (2^64 - 1 where there are more).
+
+        >>> one = Subtree.from_chunks(True, [(Hash(), 7)], False)
+        >>> one.merge_counted(Subtree.from_chunks(False, [(Hash(), 8)], True))
+        1
+        """
+        parents = ctypes.c_uint64()
+        self._merge(other, parents)
+        return parents.value
+
+    def _merge(self, other: Subtree, parents: Optional[ctypes.c_uint64]) -> None:
+        if not isinstance(other, Subtree):
+            raise TypeError(f"a Subtree is merged with a Subtree, not with {type(other).__name__}")
+        first, second = both_locked(self, other)
+        with first, second:
+            if other is self:  # the two handles of a call are two
+                other = self.copy()
+            calls = calls_for(self._nodes() + other._nodes(), LONG_NODES)
+            if parents is None:
+                status = calls.yurewha_subtree_merge_into(self._handle, other._handle)
+            else:
+                status = calls.yurewha_subtree_merge_into_counted(self._handle, other._handle, parents)
+        if status:
+            raise error_of(status, "a subtree at the end is merged with none, nor one with a subtree at the start")
+
+    def __iadd__(self, other: Subtree) -> Subtree:
+        if not isinstance(other, Subtree):
+            return NotImplemented
+        self._merge(other, None)
+        return self
+
+    def __add__(self, other: Subtree) -> Subtree:
+        if not isinstance(other, Subtree):
+            return NotImplemented
+        merged = self.copy()
+        merged._merge(other, None)
+        return merged
+
+    @staticmethod
+    def merge_all(ranges: Iterable[Subtree]) -> Subtree:
+        """One subtree of the subtrees of adjacent ranges, in order; of none it is the empty one with both marks.
+
+        `InvalidArguments` where a range other than the first is marked at its start, or one other than the last at its
+        end; `SizeOverflow` where the sizes of all add up to more than 2^64 - 1.
+
+        >>> Subtree.merge_all([]).final_hash() == Hash()
+        True
+        >>> Subtree.merge_all(Subtree.from_chunks(False, [(Hash(), size)], False) for size in (1, 2, 3)).total_size
+        6
+        """
+        items: List[Subtree] = []
+        seen = set()
+        for item in ranges:
+            if not isinstance(item, Subtree):
+                raise TypeError(f"a range is a Subtree, not {type(item).__name__}")
+            # An object that comes again is copied, since the handles of a call are all different.
+            items.append(item.copy() if id(item) in seen else item)
+            seen.add(id(item))
+        merged = Subtree._empty()
+        with all_locked(items):
+            nodes = sum(item._nodes() for item in items)
+            handles = (CSubtree * len(items))()
+            # The handles move to where they stand side by side, and stay there. At each moment one of the two places
+            # is the object's, also where a signal's handler ends this call between two steps.
+            for place, item in enumerate(items):
+                handles[place].at = item._handle.at
+                item._handle = handles[place]
+            status = calls_for(nodes, LONG_NODES).yurewha_subtree_merge(handles, len(items), merged._handle)
+        if status:
+            raise error_of(status, "a range other than the first is at the start, or one other than the last at the end")
+        return merged
+
+    # ---- Copies and forms
+
+    def copy(self) -> Subtree:
+        """Another subtree that is equal, and goes its own way.
+
+        >>> one = Subtree.from_chunks(True, [], False)
+        >>> one.copy() == one, one.copy() is one
+        (True, False)
+        """
+        other = Subtree._empty()
+        with self._locked():
+            calls = calls_for(self._nodes(), LONG_NODES)
+            status = calls.yurewha_subtree_clone(self._handle, other._handle)
+        if status:
+            raise error_of(status)
+        return other
+
+    def __copy__(self) -> Subtree:
+        return self.copy()
+
+    def __deepcopy__(self, memo: Any) -> Subtree:
+        return self.copy()
+
+    def __eq__(self, other: object) -> bool:
+        if not isinstance(other, Subtree):
+            return NotImplemented
+        if other is self:
+            return True
+        equal = ctypes.c_bool()
+        first, second = both_locked(self, other)
+        with first, second:
+            calls = calls_for(self._nodes(), LONG_NODES)
+            status = calls.yurewha_subtree_equal(self._handle, other._handle, equal)
+        if status:
+            raise error_of(status)
+        return equal.value
+
+    def to_json(self) -> str:
+        """The subtree as compact JSON text.
+
+        >>> Subtree.from_chunks(True, [], True).to_json()
+        '{"at_end":true,"at_start":true,"levels":[[0,0]],"nodes":[]}'
+        """
+        length = ctypes.c_size_t()
+        with self._locked():
+            nodes = self.num_nodes
+            # 64 digits and at most 20 for the size, with what stands around them; levels have two numbers.
+            room = 128 * nodes + 64 * self.num_levels + 128
+            while True:
+                text = ctypes.create_string_buffer(room)
+                status = calls_for(nodes, LONG_NODES).yurewha_subtree_to_json(self._handle, text, room, length)
+                if status != 5:
+                    break
+                room = length.value
+        if status:
+            raise error_of(status)
+        return ctypes.string_at(text, length.value).decode("ascii")
+
+    @staticmethod
+    def from_json(text: Union[str, BytesLike]) -> Subtree:
+        """The subtree that a JSON text says, a `str` or its bytes.
+
+        `InvalidText` where it is no JSON; `InvalidJson` with the least of the rules 1 to 13 that the value breaks.
+
+        >>> Subtree.from_json('{"at_end":true,"at_start":true,"levels":[[0,0]],"nodes":[]}').is_empty
+        True
+        """
+        if isinstance(text, str):
+            data = checked_text(text, "JSON")
+        elif type(text) is bytes:
+            data = text
+        else:
+            with memoryview(text) as view:
+                data = view.tobytes()
+        self = Subtree._empty()
+        status = calls_for(len(data), LONG_BYTES).yurewha_subtree_from_json(data, len(data), self._handle)
+        if status:
+            raise error_of(status, "the text is no JSON text")
+        return self
+
+    def to_flat(self) -> Flat:
+        """The subtree as flat lists.
+
+        >>> Subtree.from_chunks(False, [(Hash(), 7)], True).to_flat().levels
+        ((1, 0),)
+        """
+        level_count, node_count = ctypes.c_size_t(), ctypes.c_size_t()
+        with self._locked():
+            # A signal's handler may change the subtree between two steps; then they are made again.
+            while True:
+                at_start, at_end = self._marks()
+                levels, nodes = (CLevel * self.num_levels)(), (CChunk * self.num_nodes)()
+                status = calls_for(len(nodes), LONG_NODES).yurewha_subtree_to_flat(
+                    self._handle, levels, len(levels), nodes, len(nodes), level_count, node_count)
+                if status not in (0, 5):
+                    raise error_of(status)
+                if status == 0 and self._marks() == (at_start, at_end):
+                    break
+        counts = tuple((level.left, level.right) for level in levels[:level_count.value])
+        packed = ctypes.string_at(nodes, _CHUNK_SIZE * node_count.value)
+        return Flat(at_start, counts, Chunks._of(packed), at_end)
+
+    @staticmethod
+    def from_flat(at_start: bool, levels: Iterable[Sequence[int]], nodes: ChunksLike, at_end: bool) -> Subtree:
+        """The subtree that flat lists say, as `to_flat` gives them; `InvalidJson` with the least rule that they break.
+
+        >>> Subtree.from_flat(True, [(1, 0)], [(Hash(), 7)], False).total_size
+        7
+        """
+        checked_bool(at_start, "at_start")
+        checked_bool(at_end, "at_end")
+        packed_levels = bytearray()
+        for level in levels:
+            try:
+                left, right = level
+            except (TypeError, ValueError):
+                raise TypeError("a level is a pair of numbers, of left and of right nodes") from None
+            packed_levels += _LEVEL.pack(checked_u64(left, "a count"), checked_u64(right, "a count"))
+        packed = Chunks(nodes).packed
+        count, self = len(packed) // _CHUNK_SIZE, Subtree._empty()
+        status = calls_for(count, LONG_NODES).yurewha_subtree_from_flat(
+            at_start, bytes(packed_levels), len(packed_levels) // _LEVEL.size, packed, count, at_end, self._handle)
+        if status:
+            raise error_of(status)
+        return self
+
+    def __reduce__(self) -> Tuple[Any, ...]:
+        # By flat lists, which are checked as JSON is. A pickle that was changed so gives a subtree or InvalidJson.
+        flat = self.to_flat()
+        return Subtree.from_flat, (flat.at_start, flat.levels, flat.nodes.packed, flat.at_end)
+
+    def __repr__(self) -> str:
+        try:
+            flat = self.to_flat()
+        except YurewhaError:
+            return "<yurewha.Subtree that can't be read>"
+        ends = {
+            (False, False): "open at both ends",
+            (True, False): "at the start",
+            (False, True): "at the end",
+            (True, True): "at the start and at the end",
+        }[flat.at_start, flat.at_end]
+        shown = [str(level) for level in flat.levels]
+        if len(shown) > 8:
+            shown[4:-4] = [".."]
+        return f"<yurewha.Subtree {ends}, levels {' '.join(shown)}, {self.total_size} bytes>"
+
+    # ---- Pictures
+
+    def svg(self, caption: str = "") -> str:
+        """A picture of the subtree as SVG text: levels as rows, and in each the nodes kept around the gap between.
+
+        >>> Subtree.from_chunks(True, [(Hash(), 7)], True).svg()[:4]
+        '<svg'
+        """
+        return svg_of([self], [caption])
+
+    def _repr_svg_(self) -> str:
+        return self.svg()
+
+    def write_svg(self, path: Union[str, "os.PathLike[str]"], caption: str = "") -> None:
+        """Writes the picture that a notebook shows to a file.
+
+        >>> import tempfile, os.path
+        >>> with tempfile.TemporaryDirectory() as folder:
+        ...     Subtree.from_chunks(True, [(Hash(), 7)], True).write_svg(os.path.join(folder, "a.svg"))
+        """
+        write_svg(path, [self], [caption])
+
+
+def sides_of(flat: Flat) -> List[Tuple[Chunks, Chunks]]:
+    """The left and the right nodes of each level.
+
+    >>> sides_of(Subtree.from_chunks(True, [(Hash(), 7)], False).to_flat())
+    [(<yurewha.Chunks of 1>, <yurewha.Chunks of 0>)]
+    """
+    lefts, rights, at = [], [], 0
+    for left, _ in flat.levels:
+        lefts.append(flat.nodes[at:at + left])
+        at += left
+    for _, right in reversed(flat.levels):
+        rights.append(flat.nodes[at:at + right])
+        at += right
+    return list(zip(lefts, reversed(rights)))
+
+
+def svg_of(subtrees: Sequence[Subtree], captions: Sequence[str] = ()) -> str:
+    """One picture of several subtrees, one below the other, each with its caption.
+
+    >>> svg_of([Subtree.from_chunks(True, [(Hash(), 7)], True)], ["one chunk"]).count("one chunk")
+    1
+    """
+    if len(captions) > len(subtrees):
+        raise InvalidArguments("there are more captions than subtrees")
+    drawn = []
+    for place, subtree in enumerate(subtrees):
+        if not isinstance(subtree, Subtree):
+            raise TypeError(f"a picture is of a Subtree, not of {type(subtree).__name__}")
+        flat = subtree.to_flat()
+        caption = captions[place] if place < len(captions) else ""
+        drawn.append((caption, flat.at_start, flat.at_end, sides_of(flat)))
+    return picture_of(drawn)
+
+
+def write_svg(
+    path: Union[str, "os.PathLike[str]"], subtrees: Sequence[Subtree], captions: Sequence[str] = ()
+) -> None:
+    """Writes the picture of several subtrees to a file.
+
+    >>> import tempfile, os.path
+    >>> with tempfile.TemporaryDirectory() as folder:
+    ...     write_svg(os.path.join(folder, "a.svg"), [Subtree.from_chunks(True, [(Hash(), 7)], True)])
+    """
+    text = svg_of(subtrees, captions)
+    with open(path, "w", encoding="utf-8", newline="\n") as file:
+        file.write(text)

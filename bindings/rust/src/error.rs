@@ -1,0 +1,101 @@
+//! The errors of calls on lists of chunks and on subtrees.
+
+use crate::ffi;
+use crate::status::Refusal;
+use std::fmt;
+
+/// Why a call was refused. After a refusal everything that was lent to the call is unchanged.
+///
+/// ```
+/// use yurewha::error::CoreError;
+///
+/// assert_eq!(CoreError::SizeOverflow.to_string(), "size overflow");
+/// assert_eq!(CoreError::InvalidJson(6).to_string(), "invalid JSON: rule 6");
+/// ```
+#[derive(Clone, Copy, Debug, PartialEq, Eq)]
+pub enum CoreError {
+    /// A range that another follows is marked at its end, or one that follows another at its start.
+    InvalidArguments,
+    /// The sizes of all nodes add up to more than `u64::MAX` bytes.
+    SizeOverflow,
+    /// An allocation was refused.
+    OutOfMemory,
+    /// A text is no JSON text.
+    InvalidText,
+    /// A value says no subtree. The number is the least rule, from 1 to 13, that it breaks, as
+    /// [`from_json`](crate::merklehash::MerkleHashSubtree::from_json) lists them.
+    InvalidJson(u8),
+}
+
+/// What a call answers, or why it was refused.
+pub type Result<T> = std::result::Result<T, CoreError>;
+
+impl fmt::Display for CoreError {
+    fn fmt(&self, f: &mut fmt::Formatter<'_>) -> fmt::Result {
+        match self {
+            CoreError::InvalidArguments => f.write_str("invalid arguments"),
+            CoreError::SizeOverflow => f.write_str("size overflow"),
+            CoreError::OutOfMemory => f.write_str("out of memory"),
+            CoreError::InvalidText => f.write_str("invalid text"),
+            CoreError::InvalidJson(rule) => write!(f, "invalid JSON: rule {rule}"),
+        }
+    }
+}
+
+impl std::error::Error for CoreError {}
+
+impl Refusal for CoreError {
+    fn of(status: ffi::yurewha_status) -> Option<Self> {
+        match status {
+            ffi::YUREWHA_ARGUMENTS => Some(CoreError::InvalidArguments),
+            ffi::YUREWHA_SIZES => Some(CoreError::SizeOverflow),
+            ffi::YUREWHA_MEMORY => Some(CoreError::OutOfMemory),
+            ffi::YUREWHA_TEXT => Some(CoreError::InvalidText),
+            _ => rule_of(status).map(CoreError::InvalidJson),
+        }
+    }
+}
+
+// The rule that a status names.
+fn rule_of(status: ffi::yurewha_status) -> Option<u8> {
+    let rule = u8::try_from(status.checked_sub(ffi::YUREWHA_RULE)?).ok()?;
+    (1..=13).contains(&rule).then_some(rule)
+}
+
+#[cfg(test)]
+mod tests {
+    use super::*;
+
+    #[test]
+    fn each_status_has_its_error() {
+        let errors = [
+            (ffi::YUREWHA_ARGUMENTS, CoreError::InvalidArguments),
+            (ffi::YUREWHA_SIZES, CoreError::SizeOverflow),
+            (ffi::YUREWHA_MEMORY, CoreError::OutOfMemory),
+            (ffi::YUREWHA_TEXT, CoreError::InvalidText),
+        ];
+        let rules = (1..=13).map(|rule| (ffi::YUREWHA_RULE + u32::from(rule), CoreError::InvalidJson(rule)));
+        for (status, error) in errors.into_iter().chain(rules) {
+            assert_eq!(CoreError::of(status), Some(error));
+        }
+    }
+
+    #[test]
+    fn other_statuses_have_none() {
+        let others = [
+            ffi::YUREWHA_DONE,
+            ffi::YUREWHA_ROOM,
+            ffi::YUREWHA_EMPTY_HANDLE,
+            15,
+            16,
+            30,
+            u32::MAX,
+        ];
+        for status in others
+            .into_iter()
+            .chain(ffi::YUREWHA_SESSION_OVERLAP..=ffi::YUREWHA_SESSION_GAP)
+        {
+            assert_eq!(CoreError::of(status), None);
+        }
+    }
+}

@@ -1,0 +1,241 @@
+//! The exports of the library, as `bindings/include/yurewha.h` declares them. Names and types are the header's;
+//! `bindings/check_exports` compares both files. Each export is declared, whether the features that are on use it or not.
+
+#![allow(dead_code, non_camel_case_types)]
+
+use std::ffi::c_char;
+use std::mem::{align_of, size_of};
+use std::ptr;
+
+pub type yurewha_status = u32;
+
+pub const YUREWHA_DONE: yurewha_status = 0;
+pub const YUREWHA_ARGUMENTS: yurewha_status = 1;
+pub const YUREWHA_SIZES: yurewha_status = 2;
+pub const YUREWHA_MEMORY: yurewha_status = 3;
+pub const YUREWHA_TEXT: yurewha_status = 4;
+pub const YUREWHA_ROOM: yurewha_status = 5;
+pub const YUREWHA_EMPTY_HANDLE: yurewha_status = 6;
+pub const YUREWHA_RULE: yurewha_status = 16;
+pub const YUREWHA_SESSION_OVERLAP: yurewha_status = 33;
+pub const YUREWHA_SESSION_POSITIONS: yurewha_status = 34;
+pub const YUREWHA_SESSION_SIZES: yurewha_status = 35;
+pub const YUREWHA_SESSION_MEMORY: yurewha_status = 36;
+pub const YUREWHA_SESSION_GAP: yurewha_status = 37;
+
+pub const YUREWHA_HEX_LENGTH: usize = 64;
+pub const YUREWHA_BASE64_LENGTH: usize = 43;
+
+#[repr(C)]
+#[derive(Clone, Copy, Default)]
+pub struct yurewha_hash {
+    pub words: [u64; 4],
+}
+
+#[repr(C)]
+#[derive(Clone, Copy, Default)]
+pub struct yurewha_bytes {
+    pub bytes: [u8; 32],
+}
+
+#[repr(C)]
+#[derive(Clone, Copy, Default)]
+pub struct yurewha_chunk {
+    pub hash: yurewha_hash,
+    pub size: u64,
+}
+
+#[repr(C)]
+#[derive(Clone, Copy, Default)]
+pub struct yurewha_level {
+    pub left: usize,
+    pub right: usize,
+}
+
+#[repr(C)]
+#[derive(Clone, Copy)]
+pub struct yurewha_hasher_tree {
+    pub key: [u32; 8],
+    pub chaining_value: [u32; 8],
+    pub cv_stack: [[u32; 8]; 54],
+}
+
+#[repr(C)]
+#[derive(Clone, Copy)]
+pub struct yurewha_hasher {
+    pub tree: yurewha_hasher_tree,
+    pub block: [u8; 64],
+    pub count: u64,
+}
+
+impl yurewha_hasher {
+    // Room for a hasher, which isn't begun.
+    pub const ROOM: Self = yurewha_hasher {
+        tree: yurewha_hasher_tree {
+            key: [0; 8],
+            chaining_value: [0; 8],
+            cv_stack: [[0; 8]; 54],
+        },
+        block: [0; 64],
+        count: 0,
+    };
+}
+
+#[repr(C)]
+pub struct yurewha_subtree {
+    pub at: *mut u8,
+}
+
+#[repr(C)]
+pub struct yurewha_session {
+    pub at: *mut u8,
+}
+
+impl Default for yurewha_subtree {
+    // The empty handle.
+    fn default() -> Self {
+        yurewha_subtree { at: ptr::null_mut() }
+    }
+}
+
+impl Default for yurewha_session {
+    // The empty handle.
+    fn default() -> Self {
+        yurewha_session { at: ptr::null_mut() }
+    }
+}
+
+const fn assert_layout<T>(size: usize, align: usize) {
+    assert!(size_of::<T>() == size && align_of::<T>() == align);
+}
+
+const _: () = {
+    assert_layout::<yurewha_hash>(32, 8);
+    assert_layout::<yurewha_bytes>(32, 1);
+    assert_layout::<yurewha_chunk>(40, 8);
+    assert_layout::<yurewha_level>(2 * size_of::<usize>(), align_of::<usize>());
+    assert_layout::<yurewha_hasher_tree>(1792, 4);
+    assert_layout::<yurewha_hasher>(1864, 8);
+    assert_layout::<yurewha_subtree>(size_of::<usize>(), align_of::<usize>());
+    assert_layout::<yurewha_session>(size_of::<usize>(), align_of::<usize>());
+};
+
+extern "C" {
+    pub fn yurewha_data_hash(bytes: *const u8, length: usize, hash: *mut yurewha_hash);
+    pub fn yurewha_internal_node_hash(bytes: *const u8, length: usize, hash: *mut yurewha_hash);
+    pub fn yurewha_hmac(hash: *const yurewha_hash, key: *const yurewha_hash, result: *mut yurewha_hash);
+    pub fn yurewha_random_from_seed(seed: u64, hash: *mut yurewha_hash);
+    pub fn yurewha_hash_to_bytes(hash: *const yurewha_hash, bytes: *mut yurewha_bytes);
+    pub fn yurewha_hash_from_bytes(bytes: *const yurewha_bytes, hash: *mut yurewha_hash);
+    pub fn yurewha_compare(first: *const yurewha_hash, second: *const yurewha_hash) -> i32;
+    pub fn yurewha_remainder(hash: *const yurewha_hash, divisor: u64, remainder: *mut u64) -> yurewha_status;
+    pub fn yurewha_hex(hash: *const yurewha_hash, text: *mut c_char, room: usize, length: *mut usize)
+        -> yurewha_status;
+    pub fn yurewha_from_hex(text: *const c_char, length: usize, hash: *mut yurewha_hash) -> yurewha_status;
+    pub fn yurewha_base64(
+        hash: *const yurewha_hash,
+        text: *mut c_char,
+        room: usize,
+        length: *mut usize,
+    ) -> yurewha_status;
+    pub fn yurewha_from_base64(text: *const c_char, length: usize, hash: *mut yurewha_hash) -> yurewha_status;
+    pub fn yurewha_hasher_begin_data(hasher: *mut yurewha_hasher);
+    pub fn yurewha_hasher_begin_internal(hasher: *mut yurewha_hasher);
+    pub fn yurewha_hasher_begin_keyed(hasher: *mut yurewha_hasher, key: *const yurewha_bytes);
+    pub fn yurewha_hasher_count(hasher: *const yurewha_hasher) -> u64;
+    pub fn yurewha_hasher_update(hasher: *mut yurewha_hasher, piece: *const u8, length: usize) -> yurewha_status;
+    pub fn yurewha_hasher_finalize(hasher: *const yurewha_hasher, hash: *mut yurewha_hash);
+    pub fn yurewha_xorb_hash(chunks: *const yurewha_chunk, count: usize, root: *mut yurewha_hash) -> yurewha_status;
+    pub fn yurewha_file_hash(chunks: *const yurewha_chunk, count: usize, hash: *mut yurewha_hash) -> yurewha_status;
+    pub fn yurewha_file_hash_with_salt(
+        chunks: *const yurewha_chunk,
+        count: usize,
+        salt: *const yurewha_bytes,
+        hash: *mut yurewha_hash,
+    ) -> yurewha_status;
+    pub fn yurewha_find_stable_start(nodes: *const yurewha_chunk, count: usize, point: *mut usize) -> yurewha_status;
+    pub fn yurewha_find_stable_end(nodes: *const yurewha_chunk, count: usize, point: *mut usize) -> yurewha_status;
+    pub fn yurewha_subtree_from_chunks(
+        at_start: bool,
+        chunks: *const yurewha_chunk,
+        count: usize,
+        at_end: bool,
+        subtree: *mut yurewha_subtree,
+    ) -> yurewha_status;
+    pub fn yurewha_subtree_clone(subtree: *mut yurewha_subtree, copy: *mut yurewha_subtree) -> yurewha_status;
+    pub fn yurewha_subtree_equal(
+        first: *mut yurewha_subtree,
+        second: *mut yurewha_subtree,
+        equal: *mut bool,
+    ) -> yurewha_status;
+    pub fn yurewha_subtree_marks(
+        subtree: *mut yurewha_subtree,
+        at_start: *mut bool,
+        at_end: *mut bool,
+    ) -> yurewha_status;
+    pub fn yurewha_subtree_total_size(subtree: *mut yurewha_subtree, size: *mut u64) -> yurewha_status;
+    pub fn yurewha_subtree_num_nodes(subtree: *mut yurewha_subtree, count: *mut usize) -> yurewha_status;
+    pub fn yurewha_subtree_num_levels(subtree: *mut yurewha_subtree, count: *mut usize) -> yurewha_status;
+    pub fn yurewha_subtree_merge_into(subtree: *mut yurewha_subtree, other: *mut yurewha_subtree) -> yurewha_status;
+    pub fn yurewha_subtree_merge_into_counted(
+        subtree: *mut yurewha_subtree,
+        other: *mut yurewha_subtree,
+        parents: *mut u64,
+    ) -> yurewha_status;
+    pub fn yurewha_subtree_merge(
+        ranges: *mut yurewha_subtree,
+        count: usize,
+        merged: *mut yurewha_subtree,
+    ) -> yurewha_status;
+    pub fn yurewha_subtree_final_hash(subtree: *mut yurewha_subtree, hash: *mut yurewha_hash) -> yurewha_status;
+    pub fn yurewha_subtree_to_json(
+        subtree: *mut yurewha_subtree,
+        text: *mut c_char,
+        room: usize,
+        length: *mut usize,
+    ) -> yurewha_status;
+    pub fn yurewha_subtree_from_json(
+        text: *const c_char,
+        length: usize,
+        subtree: *mut yurewha_subtree,
+    ) -> yurewha_status;
+    pub fn yurewha_subtree_to_flat(
+        subtree: *mut yurewha_subtree,
+        levels: *mut yurewha_level,
+        level_room: usize,
+        nodes: *mut yurewha_chunk,
+        node_room: usize,
+        level_count: *mut usize,
+        node_count: *mut usize,
+    ) -> yurewha_status;
+    pub fn yurewha_subtree_from_flat(
+        at_start: bool,
+        levels: *const yurewha_level,
+        level_count: usize,
+        nodes: *const yurewha_chunk,
+        node_count: usize,
+        at_end: bool,
+        subtree: *mut yurewha_subtree,
+    ) -> yurewha_status;
+    pub fn yurewha_subtree_free(subtree: *mut yurewha_subtree);
+    pub fn yurewha_session_new(session: *mut yurewha_session) -> yurewha_status;
+    pub fn yurewha_session_put(
+        session: *mut yurewha_session,
+        first: u64,
+        chunks: *const yurewha_chunk,
+        count: usize,
+        new_hashes: *mut u64,
+    ) -> yurewha_status;
+    pub fn yurewha_session_taken(session: *mut yurewha_session, position: u64, taken: *mut bool) -> yurewha_status;
+    pub fn yurewha_session_num_runs(session: *mut yurewha_session, count: *mut usize) -> yurewha_status;
+    pub fn yurewha_session_run(
+        session: *mut yurewha_session,
+        index: usize,
+        first: *mut u64,
+        range: *mut yurewha_subtree,
+    ) -> yurewha_status;
+    pub fn yurewha_session_root(session: *mut yurewha_session, total: u64, root: *mut yurewha_hash) -> yurewha_status;
+    pub fn yurewha_session_finish(session: *mut yurewha_session, total: u64, hash: *mut yurewha_hash)
+        -> yurewha_status;
+    pub fn yurewha_session_free(session: *mut yurewha_session);
+}

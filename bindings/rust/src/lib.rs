@@ -1,0 +1,50 @@
+//! The hashes by which the Hugging Face Xet store names chunks and files, and the merging of what is kept of adjacent
+//! ranges of chunks, hashed apart, without their chunks.
+//!
+//! The module [`merklehash`] has the calls and paths of the module of that name in the crate `xet-core-structures`
+//! 1.5.2, over a library in which each function is proved to meet its contract. So code that is written for that
+//! crate needs another name in `Cargo.toml` and in its `use` lines, and no more. `README.md` tells how the library is
+//! found, and what isn't proved.
+//!
+//! ```
+//! use yurewha::merklehash::{compute_data_hash, xorb_hash, MerkleHashSubtree};
+//!
+//! let chunks: Vec<_> = [&b"first"[..], b"second", b"third"]
+//!     .map(|data| (compute_data_hash(data), data.len() as u64))
+//!     .into();
+//! // Two ranges of one file, hashed apart, perhaps on two machines.
+//! let mut file = MerkleHashSubtree::from_chunks(true, &chunks[..2], false);
+//! let rest = MerkleHashSubtree::from_chunks(false, &chunks[2..], true);
+//! file.merge_into(&rest)?;
+//! assert_eq!(file.final_hash(), Some(xorb_hash(&chunks)));
+//! # Ok::<(), yurewha::error::CoreError>(())
+//! ```
+//!
+//! # Errors and panics
+//!
+//! Calls that have no `Result` in the Rust crate have none here. Where such a call is refused (sizes that add up to
+//! more than `u64::MAX` bytes, or an allocation that the system refuses) it panics with a message that names the call
+//! and the cause, and a call `try_..` beside it answers a [`Result`](error::Result).
+//!
+//! # Threads
+//!
+//! [`MerkleHashSubtree`](merklehash::MerkleHashSubtree) and [`Session`](merklehash::session::Session) are handles of
+//! the library. They are `Send` and not `Sync`: a value may move to another thread, but no two threads may use one value at
+//! once. Put one that is to be shared into a `Mutex`, or give each thread a clone.
+
+#![warn(missing_docs)]
+
+#[cfg(not(target_endian = "little"))]
+compile_error!("a hash lends its words as bytes, which needs a machine that is little-endian");
+
+pub mod error;
+pub mod merklehash;
+
+mod ffi;
+mod handle;
+mod status;
+
+// Runs the examples of the page as tests.
+#[cfg(doctest)]
+#[doc = include_str!("../README.md")]
+struct Readme;

@@ -1,0 +1,403 @@
+//! The 256-bit hash of a chunk, a xorb or a file, and its forms.
+
+use crate::error::{CoreError, Result};
+use crate::ffi;
+use crate::status::{answer, given, plain};
+use std::cmp::Ordering;
+use std::ffi::c_char;
+use std::hash::{Hash, Hasher};
+use std::mem::{align_of, size_of};
+use std::ops::{Deref, DerefMut, Rem};
+use std::{fmt, ptr, slice, str};
+
+mod errors;
+mod hashed_write;
+#[cfg(feature = "serde")]
+pub mod hex;
+
+pub use errors::{DataHashBytesParseError, DataHashHexParseError, HashTextError};
+pub use hashed_write::HashedWrite;
+
+/// A Merkle hash of 256 bits: four words, which it dereferences to.
+///
+/// Its 32 bytes are the words in order, each little-endian, and its text is each word in order as 16 hex digits. The
+/// order of hashes is that of the words, the first one first, which is the order of the texts. A hash table gets the
+/// first word alone.
+///
+/// With serde a hash is the sequence of its four words, in every format; `hex::serde` reads and writes its text
+/// instead.
+///
+/// ```
+/// use yurewha::merklehash::DataHash;
+///
+/// let hash = DataHash::from([1, 2, 3, 0xff]);
+/// assert_eq!(hash[3], 255);
+/// assert_eq!(hash % 100, 55);
+/// assert_eq!(format!("{hash}"), hash.hex());
+/// assert!(hash < DataHash::from([1, 2, 4, 0]));
+/// ```
+#[derive(Clone, Copy, Default, PartialEq, Eq)]
+#[cfg_attr(feature = "serde", derive(serde::Serialize, serde::Deserialize))]
+#[repr(transparent)]
+pub struct DataHash([u64; 4]);
+
+/// The hash of a chunk, a xorb or a file.
+pub type MerkleHash = DataHash;
+
+/// A key of [`DataHash::hmac`].
+pub type HMACKey = DataHash;
+
+// Pointers to hashes are pointers to the header's hashes.
+const _: () = assert!(
+    size_of::<DataHash>() == size_of::<ffi::yurewha_hash>()
+        && align_of::<DataHash>() == align_of::<ffi::yurewha_hash>()
+);
+
+impl DataHash {
+    pub(crate) fn for_call(&self) -> *const ffi::yurewha_hash {
+        ptr::from_ref(self).cast()
+    }
+
+    pub(crate) fn out(&mut self) -> *mut ffi::yurewha_hash {
+        ptr::from_mut(self).cast()
+    }
+
+    /// The 64 lower-case hex digits of this hash.
+    ///
+    /// ```
+    /// use yurewha::merklehash::DataHash;
+    ///
+    /// assert!(DataHash::from([0x0123, 0, 0, 0]).hex().starts_with("00000000000001230000"));
+    /// ```
+    pub fn hex(&self) -> String {
+        self.to_string()
+    }
+
+    // The digits of `hex`, which take no memory.
+    fn hex_digits(&self) -> [u8; ffi::YUREWHA_HEX_LENGTH] {
+        // SAFETY: `text` hands in a room of the length that goes with it, and a length.
+        let digits = text(|text, room, length| unsafe { ffi::yurewha_hex(self.for_call(), text, room, length) });
+        plain("DataHash::hex", digits)
+    }
+
+    /// The hash of 64 hex digits of either case. Every other text is refused.
+    ///
+    /// ```
+    /// use yurewha::merklehash::DataHash;
+    ///
+    /// let hash = DataHash::marker();
+    /// assert_eq!(DataHash::from_hex(&"F".repeat(64)).unwrap(), hash);
+    /// assert!(DataHash::from_hex("f").is_err());
+    /// ```
+    pub fn from_hex(text: &str) -> std::result::Result<Self, DataHashHexParseError> {
+        // SAFETY: a text of its length, and a hash to write to.
+        answer(|hash: &mut Self| unsafe { ffi::yurewha_from_hex(text.as_ptr().cast(), text.len(), hash.out()) })
+            .map_err(|_: CoreError| DataHashHexParseError)
+    }
+
+    /// The URL-safe base64 text of the 32 bytes, without padding: 43 characters.
+    ///
+    /// ```
+    /// use yurewha::merklehash::DataHash;
+    ///
+    /// assert_eq!(DataHash::default().base64(), "A".repeat(43));
+    /// ```
+    ///
+    /// # Panics
+    ///
+    /// Where memory is refused; see [`try_base64`](Self::try_base64).
+    pub fn base64(&self) -> String {
+        plain("DataHash::base64", self.try_base64())
+    }
+
+    /// [`base64`](Self::base64), refused where memory is.
+    ///
+    /// ```
+    /// use yurewha::merklehash::DataHash;
+    ///
+    /// assert_eq!(DataHash::marker().try_base64()?, format!("{}8", "_".repeat(42)));
+    /// # Ok::<(), yurewha::error::CoreError>(())
+    /// ```
+    pub fn try_base64(&self) -> Result<String> {
+        // SAFETY: `text` hands in a room of the length that goes with it, and a length.
+        let text: [u8; ffi::YUREWHA_BASE64_LENGTH] =
+            text(|text, room, length| unsafe { ffi::yurewha_base64(self.for_call(), text, room, length) })?;
+        let mut string = String::new();
+        string
+            .try_reserve_exact(text.len())
+            .map_err(|_| CoreError::OutOfMemory)?;
+        string.push_str(ascii(&text));
+        Ok(string)
+    }
+
+    /// The hash whose [`base64`](Self::base64) text this is. Every other text is refused.
+    ///
+    /// ```
+    /// use yurewha::merklehash::DataHash;
+    ///
+    /// let hash = DataHash::random_from_seed(7);
+    /// assert_eq!(DataHash::from_base64(&hash.base64()).unwrap(), hash);
+    /// assert!(DataHash::from_base64("AAAA").is_err());
+    /// ```
+    ///
+    /// # Panics
+    ///
+    /// Where memory is refused; see [`try_from_base64`](Self::try_from_base64).
+    pub fn from_base64(text: &str) -> std::result::Result<Self, DataHashBytesParseError> {
+        match Self::try_from_base64(text) {
+            Ok(hash) => Ok(hash),
+            Err(HashTextError::Bytes(error)) => Err(error),
+            Err(HashTextError::OutOfMemory) => plain("DataHash::from_base64", Err(CoreError::OutOfMemory)),
+        }
+    }
+
+    /// [`from_base64`](Self::from_base64), which also tells where memory is refused.
+    ///
+    /// ```
+    /// use yurewha::merklehash::{DataHash, HashTextError};
+    ///
+    /// assert_eq!(DataHash::try_from_base64(&"A".repeat(43)).unwrap(), DataHash::default());
+    /// assert!(matches!(DataHash::try_from_base64("?"), Err(HashTextError::Bytes(_))));
+    /// ```
+    pub fn try_from_base64(text: &str) -> std::result::Result<Self, HashTextError> {
+        // SAFETY: a text of its length, and a hash to write to.
+        answer(|hash: &mut Self| unsafe { ffi::yurewha_from_base64(text.as_ptr().cast(), text.len(), hash.out()) })
+    }
+
+    /// The 32 bytes of this hash, lent.
+    ///
+    /// ```
+    /// use yurewha::merklehash::DataHash;
+    ///
+    /// assert_eq!(DataHash::from([1, 0, 0, 0]).as_bytes()[..9], [1, 0, 0, 0, 0, 0, 0, 0, 0]);
+    /// ```
+    pub fn as_bytes(&self) -> &[u8] {
+        // SAFETY: the words are 32 bytes without padding, and each byte is one of `u8`. The machine is little-endian.
+        unsafe { slice::from_raw_parts(self.0.as_ptr().cast(), size_of::<Self>()) }
+    }
+
+    /// The hash of 32 bytes. A slice of another length is refused.
+    ///
+    /// ```
+    /// use yurewha::merklehash::DataHash;
+    ///
+    /// let hash = DataHash::random_from_seed(7);
+    /// assert_eq!(DataHash::from_slice(hash.as_bytes()).unwrap(), hash);
+    /// assert!(DataHash::from_slice(&[0; 31]).is_err());
+    /// ```
+    pub fn from_slice(bytes: &[u8]) -> std::result::Result<Self, DataHashBytesParseError> {
+        <&[u8; 32]>::try_from(bytes)
+            .map(Self::from)
+            .map_err(|_| DataHashBytesParseError)
+    }
+
+    /// A hash drawn from a seed, for tests: the first 32 bytes that Xoshiro256++ gives.
+    ///
+    /// ```
+    /// use yurewha::merklehash::DataHash;
+    ///
+    /// assert!(DataHash::random_from_seed(1).hex().starts_with("cfc5d07f6f03c29b"));
+    /// ```
+    pub fn random_from_seed(seed: u64) -> Self {
+        // SAFETY: a hash to write to.
+        given(|hash: &mut Self| unsafe { ffi::yurewha_random_from_seed(seed, hash.out()) })
+    }
+
+    /// Keyed BLAKE3 of the bytes of this hash under the bytes of `key`.
+    ///
+    /// ```
+    /// use yurewha::merklehash::{file_hash, DataHash, HMACKey};
+    ///
+    /// let hash = DataHash::random_from_seed(1);
+    /// assert_eq!(hash.hmac(HMACKey::default()), file_hash(&[(hash, 100)]));
+    /// ```
+    pub fn hmac(&self, key: HMACKey) -> Self {
+        // SAFETY: two hashes, and a third one to write to.
+        given(|result: &mut Self| unsafe { ffi::yurewha_hmac(self.for_call(), key.for_call(), result.out()) })
+    }
+
+    /// The hash with all bits one.
+    ///
+    /// ```
+    /// use yurewha::merklehash::DataHash;
+    ///
+    /// assert_eq!(*DataHash::marker(), [u64::MAX; 4]);
+    /// ```
+    pub const fn marker() -> Self {
+        DataHash([u64::MAX; 4])
+    }
+}
+
+// What an export writes to a room of `N` bytes.
+fn text<const N: usize>(write: impl FnOnce(*mut c_char, usize, &mut usize) -> ffi::yurewha_status) -> Result<[u8; N]> {
+    let mut text = [0; N];
+    answer(|length| write(text.as_mut_ptr().cast(), N, length))?;
+    Ok(text)
+}
+
+// The digits of a text of an export.
+fn ascii(text: &[u8]) -> &str {
+    str::from_utf8(text).expect("hex and base64 texts are ASCII")
+}
+
+/// The hash of a chunk, whose data the bytes are: keyed BLAKE3 under the data key.
+///
+/// ```
+/// use yurewha::merklehash::compute_data_hash;
+///
+/// assert!(compute_data_hash(b"abc").hex().starts_with("a8803506f7aff014"));
+/// ```
+pub fn compute_data_hash(bytes: &[u8]) -> DataHash {
+    // SAFETY: bytes of their length, and a hash to write to.
+    given(|hash: &mut DataHash| unsafe { ffi::yurewha_data_hash(bytes.as_ptr(), bytes.len(), hash.out()) })
+}
+
+/// The hash of an inner node of the tree, whose text the bytes are: keyed BLAKE3 under the internal key.
+///
+/// ```
+/// use yurewha::merklehash::{compute_internal_node_hash, xorb_hash, DataHash};
+///
+/// let chunks = [1, 2].map(|seed| (DataHash::random_from_seed(seed), 100));
+/// let text = format!("{} : 100\n{} : 100\n", chunks[0].0, chunks[1].0);
+/// assert_eq!(compute_internal_node_hash(text.as_bytes()), xorb_hash(&chunks));
+/// ```
+pub fn compute_internal_node_hash(bytes: &[u8]) -> DataHash {
+    // SAFETY: bytes of their length, and a hash to write to.
+    given(|hash: &mut DataHash| unsafe { ffi::yurewha_internal_node_hash(bytes.as_ptr(), bytes.len(), hash.out()) })
+}
+
+/// The words.
+impl Deref for DataHash {
+    type Target = [u64; 4];
+
+    fn deref(&self) -> &[u64; 4] {
+        &self.0
+    }
+}
+
+impl DerefMut for DataHash {
+    fn deref_mut(&mut self) -> &mut [u64; 4] {
+        &mut self.0
+    }
+}
+
+/// The order of the words, the first one first.
+impl Ord for DataHash {
+    fn cmp(&self, other: &Self) -> Ordering {
+        // SAFETY: two hashes, which are only read.
+        unsafe { ffi::yurewha_compare(self.for_call(), other.for_call()) }.cmp(&0)
+    }
+}
+
+impl PartialOrd for DataHash {
+    fn partial_cmp(&self, other: &Self) -> Option<Ordering> {
+        Some(self.cmp(other))
+    }
+}
+
+/// The first word alone.
+impl Hash for DataHash {
+    fn hash<H: Hasher>(&self, state: &mut H) {
+        state.write_u64(self.0[0]);
+    }
+}
+
+/// The last word modulo a divisor, which panics where that is 0.
+impl Rem<u64> for DataHash {
+    type Output = u64;
+
+    fn rem(self, divisor: u64) -> u64 {
+        // SAFETY: a hash, and a number to write to.
+        answer(|remainder| unsafe { ffi::yurewha_remainder(self.for_call(), divisor, remainder) }).unwrap_or_else(
+            |_: CoreError| panic!("attempt to calculate the remainder of a hash with a divisor of zero"),
+        )
+    }
+}
+
+/// The hex text, whatever width and flags are asked for.
+impl fmt::LowerHex for DataHash {
+    fn fmt(&self, f: &mut fmt::Formatter<'_>) -> fmt::Result {
+        f.write_str(ascii(&self.hex_digits()))
+    }
+}
+
+/// The hex text.
+impl fmt::Display for DataHash {
+    fn fmt(&self, f: &mut fmt::Formatter<'_>) -> fmt::Result {
+        fmt::LowerHex::fmt(self, f)
+    }
+}
+
+/// The hex text.
+impl fmt::Debug for DataHash {
+    fn fmt(&self, f: &mut fmt::Formatter<'_>) -> fmt::Result {
+        fmt::LowerHex::fmt(self, f)
+    }
+}
+
+/// The words.
+impl From<[u64; 4]> for DataHash {
+    fn from(words: [u64; 4]) -> Self {
+        DataHash(words)
+    }
+}
+
+impl From<&[u8; 32]> for DataHash {
+    fn from(bytes: &[u8; 32]) -> Self {
+        // SAFETY: 32 bytes, as the header's struct has them, and a hash to write to.
+        given(|hash: &mut Self| unsafe { ffi::yurewha_hash_from_bytes(ptr::from_ref(bytes).cast(), hash.out()) })
+    }
+}
+
+impl From<[u8; 32]> for DataHash {
+    fn from(bytes: [u8; 32]) -> Self {
+        Self::from(&bytes)
+    }
+}
+
+impl From<DataHash> for [u8; 32] {
+    fn from(hash: DataHash) -> Self {
+        // SAFETY: a hash, and 32 bytes to write to, as the header's struct has them.
+        given(|bytes: &mut Self| unsafe { ffi::yurewha_hash_to_bytes(hash.for_call(), ptr::from_mut(bytes).cast()) })
+    }
+}
+
+impl From<&DataHash> for Vec<u8> {
+    fn from(hash: &DataHash) -> Self {
+        hash.as_bytes().to_vec()
+    }
+}
+
+impl From<DataHash> for Vec<u8> {
+    fn from(hash: DataHash) -> Self {
+        Self::from(&hash)
+    }
+}
+
+impl TryFrom<&[u8]> for DataHash {
+    type Error = DataHashBytesParseError;
+
+    fn try_from(bytes: &[u8]) -> std::result::Result<Self, DataHashBytesParseError> {
+        Self::from_slice(bytes)
+    }
+}
+
+impl AsRef<[u8]> for DataHash {
+    fn as_ref(&self) -> &[u8] {
+        self.as_bytes()
+    }
+}
+
+impl AsRef<DataHash> for DataHash {
+    fn as_ref(&self) -> &DataHash {
+        self
+    }
+}
+
+// SAFETY: four words, for which all bits zero is a value.
+#[cfg(feature = "bytemuck")]
+unsafe impl bytemuck::Zeroable for DataHash {}
+
+// SAFETY: four words without padding, of which any bits are a value; `Copy`, without references or interior mutability.
+#[cfg(feature = "bytemuck")]
+unsafe impl bytemuck::Pod for DataHash {}

@@ -1,0 +1,61 @@
+//! The errors of reading a hash.
+
+use crate::error::CoreError;
+use crate::ffi;
+use crate::status::Refusal;
+use std::error::Error;
+use std::fmt;
+
+/// A text isn't 64 hex digits.
+#[derive(Clone, Debug, PartialEq, Eq)]
+pub struct DataHashHexParseError;
+
+/// A slice doesn't have the 32 bytes of a hash, or a text isn't the base64 text of one.
+#[derive(Clone, Debug, PartialEq, Eq)]
+pub struct DataHashBytesParseError;
+
+/// Why a base64 text wasn't read.
+#[derive(Clone, Debug, PartialEq, Eq)]
+pub enum HashTextError {
+    /// It isn't that of a hash.
+    Bytes(DataHashBytesParseError),
+    /// An allocation was refused.
+    OutOfMemory,
+}
+
+impl fmt::Display for DataHashHexParseError {
+    fn fmt(&self, f: &mut fmt::Formatter<'_>) -> fmt::Result {
+        f.write_str("Invalid hex input for DataHash")
+    }
+}
+
+impl fmt::Display for DataHashBytesParseError {
+    fn fmt(&self, f: &mut fmt::Formatter<'_>) -> fmt::Result {
+        f.write_str("Invalid bytes input for DataHash")
+    }
+}
+
+impl fmt::Display for HashTextError {
+    fn fmt(&self, f: &mut fmt::Formatter<'_>) -> fmt::Result {
+        match self {
+            HashTextError::Bytes(error) => error.fmt(f),
+            HashTextError::OutOfMemory => CoreError::OutOfMemory.fmt(f),
+        }
+    }
+}
+
+impl Error for DataHashHexParseError {}
+
+impl Error for DataHashBytesParseError {}
+
+impl Error for HashTextError {}
+
+impl Refusal for HashTextError {
+    fn of(status: ffi::yurewha_status) -> Option<Self> {
+        match status {
+            ffi::YUREWHA_TEXT => Some(HashTextError::Bytes(DataHashBytesParseError)),
+            ffi::YUREWHA_MEMORY => Some(HashTextError::OutOfMemory),
+            _ => None,
+        }
+    }
+}

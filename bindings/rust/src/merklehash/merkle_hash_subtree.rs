@@ -1,0 +1,490 @@
+//! Subtrees: what is kept of a range of chunks, to merge it with its neighbours without the chunks.
+
+use super::aggregated_hashes::Node;
+use super::data_hash::MerkleHash;
+use super::lent_chunks::{lend, node_of, room};
+use crate::error::Result;
+use crate::ffi;
+use crate::handle::Owned;
+use crate::status::{answer, looked_up, plain, told, told_if_there};
+use std::{fmt, ptr};
+
+#[cfg(feature = "serde")]
+mod forms;
+#[cfg(feature = "serde")]
+mod json_text;
+
+/// The canonical subtree of some chunks: what is kept of them, to merge them with their neighbours.
+///
+/// It is marked at the start where no chunk comes before its own, and at the end where none comes after them. Merging
+/// adjacent ranges, in whatever order, gives the subtree that [`from_chunks`](Self::from_chunks) gives of all chunks;
+/// with both ends marked, [`final_hash`](Self::final_hash) is their root.
+///
+/// ```
+/// use yurewha::merklehash::{xorb_hash, MerkleHash, MerkleHashSubtree};
+///
+/// let chunks: Vec<_> = (0..100).map(|seed| (MerkleHash::random_from_seed(seed), 100)).collect();
+/// let ranges: Vec<_> = chunks.chunks(30).map(|range| MerkleHashSubtree::from_chunks(false, range, false)).collect();
+/// let begin = MerkleHashSubtree::from_chunks(true, &[], false);
+/// let end = MerkleHashSubtree::from_chunks(false, &[], true);
+/// // The last two ranges come first.
+/// let late = MerkleHashSubtree::merge(&ranges[2..])?;
+/// let whole = MerkleHashSubtree::merge(&[begin, ranges[0].clone(), ranges[1].clone(), late, end])?;
+/// assert_eq!(whole.final_hash(), Some(xorb_hash(&chunks)));
+/// # Ok::<(), yurewha::error::CoreError>(())
+/// ```
+///
+/// With serde a subtree is a struct of `nodes`, `levels`, `at_start` and `at_end`. What breaks a rule of
+/// [`from_json`](Self::from_json) is refused, in every format, with the rule in the error's text.
+///
+/// A subtree may move to another thread, but no two threads may use one at once:
+///
+/// ```compile_fail
+/// fn shared<T: Sync>() {}
+/// shared::<yurewha::merklehash::MerkleHashSubtree>();
+/// ```
+#[repr(transparent)]
+pub struct MerkleHashSubtree(Owned<ffi::yurewha_subtree>);
+
+impl MerkleHashSubtree {
+    // The subtree that a call makes in an empty handle.
+    fn made(make: impl FnOnce(*mut ffi::yurewha_subtree) -> ffi::yurewha_status) -> Result<Self> {
+        answer(|made: &mut Owned<_>| make(made.handle())).map(Self)
+    }
+
+    // A subtree of a handle that another call fills.
+    pub(crate) fn of(handle: Owned<ffi::yurewha_subtree>) -> Self {
+        MerkleHashSubtree(handle)
+    }
+
+    fn handle(&self) -> *mut ffi::yurewha_subtree {
+        self.0.handle()
+    }
+
+    /// The canonical subtree of some chunks, under marks.
+    ///
+    /// ```
+    /// use yurewha::merklehash::{MerkleHash, MerkleHashSubtree};
+    ///
+    /// let hash = MerkleHash::random_from_seed(1);
+    /// let subtree = MerkleHashSubtree::from_chunks(true, &[(hash, 100)], true);
+    /// assert_eq!(subtree.final_hash(), Some(hash));
+    /// ```
+    ///
+    /// # Panics
+    ///
+    /// Where the sizes add up to more than `u64::MAX`, or memory is refused; see
+    /// [`try_from_chunks`](Self::try_from_chunks).
+    pub fn from_chunks(at_start: bool, chunks: &[Node], at_end: bool) -> Self {
+        plain(
+            "MerkleHashSubtree::from_chunks",
+            Self::try_from_chunks(at_start, chunks, at_end),
+        )
+    }
+
+    /// [`from_chunks`](Self::from_chunks), refused where the sizes add up to more than `u64::MAX`, or memory is
+    /// refused.
+    ///
+    /// ```
+    /// use yurewha::error::CoreError;
+    /// use yurewha::merklehash::{MerkleHash, MerkleHashSubtree};
+    ///
+    /// let chunk = (MerkleHash::default(), u64::MAX);
+    /// let refused = MerkleHashSubtree::try_from_chunks(true, &[chunk; 2], true);
+    /// assert_eq!(refused, Err(CoreError::SizeOverflow));
+    /// ```
+    pub fn try_from_chunks(at_start: bool, chunks: &[Node], at_end: bool) -> Result<Self> {
+        let chunks = lend(chunks)?;
+        // SAFETY: chunks of their number, and an empty handle to write to.
+        Self::made(|made| unsafe {
+            ffi::yurewha_subtree_from_chunks(at_start, chunks.as_ptr(), chunks.len(), at_end, made)
+        })
+    }
+
+    /// [`clone`](Clone::clone), refused where memory is.
+    ///
+    /// ```
+    /// use yurewha::merklehash::MerkleHashSubtree;
+    ///
+    /// let empty = MerkleHashSubtree::from_chunks(true, &[], true);
+    /// assert_eq!(empty.try_clone()?, empty);
+    /// # Ok::<(), yurewha::error::CoreError>(())
+    /// ```
+    pub fn try_clone(&self) -> Result<Self> {
+        // SAFETY: a handle, and another one that is empty to write to.
+        Self::made(|made| unsafe { ffi::yurewha_subtree_clone(self.handle(), made) })
+    }
+
+    // Both marks.
+    fn marks(&self) -> (bool, bool) {
+        // SAFETY: a handle, and two truth values to write to.
+        told(|(at_start, at_end)| unsafe { ffi::yurewha_subtree_marks(self.handle(), at_start, at_end) })
+    }
+
+    /// Whether no chunk comes before.
+    ///
+    /// ```
+    /// use yurewha::merklehash::MerkleHashSubtree;
+    ///
+    /// assert!(MerkleHashSubtree::from_chunks(true, &[], false).at_start());
+    /// ```
+    pub fn at_start(&self) -> bool {
+        self.marks().0
+    }
+
+    /// Whether no chunk comes after.
+    ///
+    /// ```
+    /// use yurewha::merklehash::MerkleHashSubtree;
+    ///
+    /// assert!(!MerkleHashSubtree::from_chunks(true, &[], false).at_end());
+    /// ```
+    pub fn at_end(&self) -> bool {
+        self.marks().1
+    }
+
+    /// The sum of the sizes of the chunks, in bytes.
+    ///
+    /// ```
+    /// use yurewha::merklehash::{MerkleHash, MerkleHashSubtree};
+    ///
+    /// let chunk = (MerkleHash::default(), 100);
+    /// assert_eq!(MerkleHashSubtree::from_chunks(false, &[chunk; 3], false).total_size(), 300);
+    /// ```
+    pub fn total_size(&self) -> u64 {
+        // SAFETY: a handle, and a number to write to.
+        told(|size| unsafe { ffi::yurewha_subtree_total_size(self.handle(), size) })
+    }
+
+    /// How many nodes are kept.
+    ///
+    /// ```
+    /// use yurewha::merklehash::{MerkleHash, MerkleHashSubtree};
+    ///
+    /// let chunk = (MerkleHash::default(), 100);
+    /// assert_eq!(MerkleHashSubtree::from_chunks(true, &[chunk; 3], true).num_nodes(), 1);
+    /// ```
+    pub fn num_nodes(&self) -> usize {
+        // SAFETY: a handle, and a number to write to.
+        told(|count| unsafe { ffi::yurewha_subtree_num_nodes(self.handle(), count) })
+    }
+
+    /// How many levels there are: one at least.
+    ///
+    /// ```
+    /// use yurewha::merklehash::{MerkleHash, MerkleHashSubtree};
+    ///
+    /// let chunk = (MerkleHash::default(), 100);
+    /// assert_eq!(MerkleHashSubtree::from_chunks(true, &[chunk; 3], true).num_levels(), 2);
+    /// ```
+    pub fn num_levels(&self) -> usize {
+        // SAFETY: a handle, and a number to write to.
+        told(|count| unsafe { ffi::yurewha_subtree_num_levels(self.handle(), count) })
+    }
+
+    /// Whether no node is kept, which is so where there is no chunk.
+    ///
+    /// ```
+    /// use yurewha::merklehash::MerkleHashSubtree;
+    ///
+    /// assert!(MerkleHashSubtree::from_chunks(false, &[], false).is_empty());
+    /// ```
+    pub fn is_empty(&self) -> bool {
+        self.num_nodes() == 0
+    }
+
+    /// Merges the subtree of the range that follows into this one, which becomes that of both, with its own start
+    /// mark and the other's end mark.
+    ///
+    /// ```
+    /// use yurewha::error::CoreError;
+    /// use yurewha::merklehash::{MerkleHash, MerkleHashSubtree};
+    ///
+    /// let chunks = [1, 2, 3].map(|seed| (MerkleHash::random_from_seed(seed), 100));
+    /// let mut first = MerkleHashSubtree::from_chunks(true, &chunks[..1], false);
+    /// let second = MerkleHashSubtree::from_chunks(false, &chunks[1..], true);
+    /// first.merge_into(&second)?;
+    /// assert_eq!(first, MerkleHashSubtree::from_chunks(true, &chunks, true));
+    /// // Nothing comes after the end.
+    /// assert_eq!(first.merge_into(&second), Err(CoreError::InvalidArguments));
+    /// # Ok::<(), CoreError>(())
+    /// ```
+    ///
+    /// # Errors
+    ///
+    /// - [`InvalidArguments`] exactly where this one is marked at its end or the other at its start
+    /// - else [`SizeOverflow`] exactly where both sizes add up to more than `u64::MAX`
+    /// - [`OutOfMemory`]
+    ///
+    /// After a refusal this one is as it was.
+    ///
+    /// [`InvalidArguments`]: crate::error::CoreError::InvalidArguments
+    /// [`SizeOverflow`]: crate::error::CoreError::SizeOverflow
+    /// [`OutOfMemory`]: crate::error::CoreError::OutOfMemory
+    pub fn merge_into(&mut self, other: &MerkleHashSubtree) -> Result<()> {
+        // SAFETY: two handles, which are two objects, since one is borrowed for itself alone.
+        answer(|(): &mut ()| unsafe { ffi::yurewha_subtree_merge_into(self.handle(), other.handle()) })
+    }
+
+    /// [`merge_into`](Self::merge_into), with the number of parents that were hashed for it, or `u64::MAX` where it is
+    /// greater.
+    ///
+    /// ```
+    /// use yurewha::merklehash::{MerkleHash, MerkleHashSubtree};
+    ///
+    /// let chunk = (MerkleHash::random_from_seed(1), 100);
+    /// let mut subtree = MerkleHashSubtree::from_chunks(true, &[chunk; 4], false);
+    /// let end = MerkleHashSubtree::from_chunks(false, &[], true);
+    /// assert_eq!(subtree.merge_into_counted(&end)?, 1);
+    /// # Ok::<(), yurewha::error::CoreError>(())
+    /// ```
+    pub fn merge_into_counted(&mut self, other: &MerkleHashSubtree) -> Result<u64> {
+        // SAFETY: two handles, which are two objects, since one is borrowed for itself alone, and a number to write to.
+        answer(|parents| unsafe { ffi::yurewha_subtree_merge_into_counted(self.handle(), other.handle(), parents) })
+    }
+
+    /// The subtree of adjacent ranges, in order: of none the empty one with both marks, of one a copy.
+    ///
+    /// ```
+    /// use yurewha::merklehash::{MerkleHash, MerkleHashSubtree};
+    ///
+    /// let chunks = [1, 2, 3].map(|seed| (MerkleHash::random_from_seed(seed), 100));
+    /// let ranges = chunks.map(|chunk| MerkleHashSubtree::from_chunks(false, &[chunk], false));
+    /// let whole = MerkleHashSubtree::merge(&ranges)?;
+    /// assert_eq!(whole, MerkleHashSubtree::from_chunks(false, &chunks, false));
+    /// # Ok::<(), yurewha::error::CoreError>(())
+    /// ```
+    ///
+    /// # Errors
+    ///
+    /// - [`InvalidArguments`] where a range other than the first is marked at its start, or one other than the last
+    ///   at its end
+    /// - [`SizeOverflow`] where the sizes of all add up to more than `u64::MAX`
+    /// - [`OutOfMemory`]
+    ///
+    /// [`InvalidArguments`]: crate::error::CoreError::InvalidArguments
+    /// [`SizeOverflow`]: crate::error::CoreError::SizeOverflow
+    /// [`OutOfMemory`]: crate::error::CoreError::OutOfMemory
+    pub fn merge(ranges: &[MerkleHashSubtree]) -> Result<MerkleHashSubtree> {
+        // A subtree is a handle in a cell, so that the ranges are an array of handles, which may be written to.
+        let handles = ranges.as_ptr().cast_mut().cast();
+        // SAFETY: handles of their number, and an empty one to write to.
+        Self::made(|made| unsafe { ffi::yurewha_subtree_merge(handles, ranges.len(), made) })
+    }
+
+    /// The root of the chunks, or `None` unless both ends are marked.
+    ///
+    /// ```
+    /// use yurewha::merklehash::{MerkleHash, MerkleHashSubtree};
+    ///
+    /// assert_eq!(MerkleHashSubtree::from_chunks(true, &[], true).final_hash(), Some(MerkleHash::default()));
+    /// assert_eq!(MerkleHashSubtree::from_chunks(true, &[], false).final_hash(), None);
+    /// ```
+    pub fn final_hash(&self) -> Option<MerkleHash> {
+        // SAFETY: a handle, and a hash to write to.
+        told_if_there(|hash: &mut MerkleHash| unsafe { ffi::yurewha_subtree_final_hash(self.handle(), hash.out()) })
+    }
+
+    /// This subtree as compact JSON text, with the members in the order `at_end`, `at_start`, `levels`, `nodes`.
+    ///
+    /// ```
+    /// use yurewha::merklehash::MerkleHashSubtree;
+    ///
+    /// let json = MerkleHashSubtree::from_chunks(true, &[], true).to_json()?;
+    /// assert_eq!(json, r#"{"at_end":true,"at_start":true,"levels":[[0,0]],"nodes":[]}"#);
+    /// # Ok::<(), yurewha::error::CoreError>(())
+    /// ```
+    pub fn to_json(&self) -> Result<String> {
+        let mut text: Vec<u8> = zeros(self.json_length_at_most())?;
+        // SAFETY: a handle, a room of the length that goes with it, and a length to write to.
+        let length = answer(|length| unsafe {
+            ffi::yurewha_subtree_to_json(self.handle(), text.as_mut_ptr().cast(), text.len(), length)
+        })?;
+        text.truncate(length);
+        Ok(String::from_utf8(text).expect("JSON texts of subtrees are ASCII"))
+    }
+
+    // What the members and marks, each level and each node with the comma after it take at most: numbers have 20
+    // digits.
+    fn json_length_at_most(&self) -> usize {
+        64 + 44 * self.num_levels() + 104 * self.num_nodes()
+    }
+
+    /// The subtree that a JSON text says: an object with `at_start` and `at_end`, `levels` (the number of left and
+    /// right nodes of each level, from the chunks up) and `nodes` (each with its `hash` in hex and its `size`: the
+    /// left nodes of all levels by rising level, then the right nodes by falling level).
+    ///
+    /// ```
+    /// use yurewha::error::CoreError;
+    /// use yurewha::merklehash::MerkleHashSubtree;
+    ///
+    /// let text = r#"{"nodes":[],"levels":[[0,0]],"at_start":true,"at_end":true}"#;
+    /// assert_eq!(MerkleHashSubtree::from_json(text)?, MerkleHashSubtree::from_chunks(true, &[], true));
+    /// let forged = text.replace("[0,0]", "[1,0]");
+    /// assert_eq!(MerkleHashSubtree::from_json(&forged), Err(CoreError::InvalidJson(6)));
+    /// # Ok::<(), CoreError>(())
+    /// ```
+    ///
+    /// # Errors
+    ///
+    /// [`InvalidText`] where the text is no JSON text, [`OutOfMemory`], or [`InvalidJson`] with the least rule that the
+    /// value breaks:
+    ///
+    /// 1. It is an object.
+    /// 2. `nodes` and `levels` are arrays, `at_start` and `at_end` truth values.
+    /// 3. A node is an object with `hash`, 64 hex digits, and `size`, a whole number below 2^64.
+    /// 4. A level is an array of two whole numbers below 2^64.
+    /// 5. There is a level.
+    /// 6. The counts of all levels add up to the number of nodes.
+    /// 7. The sizes of all nodes add up to at most 2^64 - 1.
+    /// 8. The top level has no right nodes, nor has any level under `at_end`.
+    /// 9. No level below the top has left nodes under `at_start`.
+    /// 10. With both marks, the top has at most one node.
+    /// 11. Where there are several levels, the top has a node.
+    /// 12. Without `at_start`, left nodes below the top end as those before a first stable point.
+    /// 13. Without `at_end`, right nodes below the top begin as those after a last stable point.
+    ///
+    /// [`InvalidText`]: crate::error::CoreError::InvalidText
+    /// [`OutOfMemory`]: crate::error::CoreError::OutOfMemory
+    /// [`InvalidJson`]: crate::error::CoreError::InvalidJson
+    pub fn from_json(text: &str) -> Result<Self> {
+        // SAFETY: a text of its length, and an empty handle to write to.
+        Self::made(|made| unsafe { ffi::yurewha_subtree_from_json(text.as_ptr().cast(), text.len(), made) })
+    }
+}
+
+// So many default values.
+fn zeros<T: Clone + Default>(count: usize) -> Result<Vec<T>> {
+    let mut zeros = room(count)?;
+    zeros.resize(count, T::default());
+    Ok(zeros)
+}
+
+// A subtree's levels and nodes as flat lists, in the order of `from_json`.
+struct Flat {
+    nodes: Vec<Node>,
+    levels: Vec<(usize, usize)>,
+}
+
+impl Flat {
+    fn of(subtree: &MerkleHashSubtree) -> Result<Flat> {
+        let mut levels: Vec<ffi::yurewha_level> = zeros(subtree.num_levels())?;
+        let mut nodes: Vec<ffi::yurewha_chunk> = zeros(subtree.num_nodes())?;
+        // SAFETY: a handle, two rooms of the lengths that go with them, and two numbers to write to.
+        let _: (usize, usize) = answer(|(level_count, node_count)| unsafe {
+            ffi::yurewha_subtree_to_flat(
+                subtree.handle(),
+                levels.as_mut_ptr(),
+                levels.len(),
+                nodes.as_mut_ptr(),
+                nodes.len(),
+                level_count,
+                node_count,
+            )
+        })?;
+        Ok(Flat {
+            nodes: nodes.iter().map(node_of).collect(),
+            levels: levels.iter().map(|level| (level.left, level.right)).collect(),
+        })
+    }
+}
+
+/// A copy.
+///
+/// # Panics
+///
+/// Where memory is refused; see [`try_clone`](MerkleHashSubtree::try_clone).
+impl Clone for MerkleHashSubtree {
+    fn clone(&self) -> Self {
+        plain("MerkleHashSubtree::clone", self.try_clone())
+    }
+}
+
+/// Equal are subtrees with the same marks, levels and nodes.
+impl PartialEq for MerkleHashSubtree {
+    fn eq(&self, other: &Self) -> bool {
+        // A call gets two objects.
+        ptr::eq(self, other)
+            // SAFETY: two handles, which are two objects, and a truth value to write to.
+            || told(|equal| unsafe { ffi::yurewha_subtree_equal(self.handle(), other.handle(), equal) })
+    }
+}
+
+impl Eq for MerkleHashSubtree {}
+
+/// Marks, levels and nodes.
+impl fmt::Debug for MerkleHashSubtree {
+    fn fmt(&self, f: &mut fmt::Formatter<'_>) -> fmt::Result {
+        let flat = Flat::of(self).map_err(|_| fmt::Error)?;
+        let (at_start, at_end) = self.marks();
+        f.debug_struct("MerkleHashSubtree")
+            .field("nodes", &flat.nodes)
+            .field("levels", &flat.levels)
+            .field("at_start", &at_start)
+            .field("at_end", &at_end)
+            .finish()
+    }
+}
+
+/// The first stable point of some nodes: how many nodes stand before it. A group ends there, whatever nodes stand
+/// before and after the given ones. `None` where there is none.
+///
+/// ```
+/// use yurewha::merklehash::{find_stable_start, DataHash};
+///
+/// // Natural cuts, whose last word is a multiple of 4, at 3, 7 and 11.
+/// let nodes: Vec<_> = (0..20).map(|i| (DataHash::from([i, 0, 0, u64::from(i % 4 != 3)]), 1)).collect();
+/// assert_eq!(find_stable_start(&nodes), Some(8));
+/// assert_eq!(find_stable_start(&nodes[..10]), None);
+/// ```
+///
+/// # Panics
+///
+/// Where memory is refused; see [`try_find_stable_start`].
+pub fn find_stable_start(nodes: &[Node]) -> Option<usize> {
+    plain("find_stable_start", try_find_stable_start(nodes))
+}
+
+/// [`find_stable_start`], refused where memory is.
+///
+/// ```
+/// use yurewha::merklehash::try_find_stable_start;
+///
+/// assert_eq!(try_find_stable_start(&[])?, None);
+/// # Ok::<(), yurewha::error::CoreError>(())
+/// ```
+pub fn try_find_stable_start(nodes: &[Node]) -> Result<Option<usize>> {
+    let nodes = lend(nodes)?;
+    // SAFETY: nodes of their number, and a number to write to.
+    looked_up(|point| unsafe { ffi::yurewha_find_stable_start(nodes.as_ptr(), nodes.len(), point) })
+}
+
+/// The last stable point of some nodes, as [`find_stable_start`] tells the first.
+///
+/// ```
+/// use yurewha::merklehash::{find_stable_end, DataHash};
+///
+/// let nodes: Vec<_> = (0..20).map(|i| (DataHash::from([i, 0, 0, u64::from(i % 4 != 3)]), 1)).collect();
+/// assert_eq!(find_stable_end(&nodes), Some(16));
+/// ```
+///
+/// # Panics
+///
+/// Where memory is refused; see [`try_find_stable_end`].
+pub fn find_stable_end(nodes: &[Node]) -> Option<usize> {
+    plain("find_stable_end", try_find_stable_end(nodes))
+}
+
+/// [`find_stable_end`], refused where memory is.
+///
+/// ```
+/// use yurewha::merklehash::try_find_stable_end;
+///
+/// assert_eq!(try_find_stable_end(&[])?, None);
+/// # Ok::<(), yurewha::error::CoreError>(())
+/// ```
+pub fn try_find_stable_end(nodes: &[Node]) -> Result<Option<usize>> {
+    let nodes = lend(nodes)?;
+    // SAFETY: nodes of their number, and a number to write to.
+    looked_up(|point| unsafe { ffi::yurewha_find_stable_end(nodes.as_ptr(), nodes.len(), point) })
+}

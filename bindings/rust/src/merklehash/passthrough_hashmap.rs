@@ -1,0 +1,133 @@
+//! A map for keys that are hashes already.
+
+use super::passthrough_hasher::{U64DirectHasher, U64HashExtractable};
+use std::collections::{hash_map, HashMap};
+use std::hash::Hash;
+use std::ops::{Deref, DerefMut};
+
+#[cfg(feature = "serde")]
+mod forms;
+
+// The map inside.
+type Inner<Key, Value> = HashMap<Key, Value, U64DirectHasher<Key>>;
+
+/// A [`HashMap`] that takes the first word of a hash as the hash of the key. It dereferences to that map.
+///
+/// These lines are tested, not proved: they are generic over key and value, and the map is the standard library's.
+/// With serde it is a sequence of pairs, in the order of a walk.
+///
+/// ```
+/// use yurewha::merklehash::{DataHash, PassThroughHashMap};
+///
+/// let mut names = PassThroughHashMap::new();
+/// let hash = DataHash::random_from_seed(1);
+/// assert_eq!(names.insert(hash, "first"), None);
+/// assert_eq!(names.insert(hash, "second"), Some("first"));
+/// assert_eq!(names.get(&hash), Some(&"second"));
+/// ```
+#[derive(Clone, Debug)]
+pub struct PassThroughHashMap<Key: U64HashExtractable, Value>(Inner<Key, Value>);
+
+impl<Key: U64HashExtractable, Value> PassThroughHashMap<Key, Value> {
+    /// The empty map.
+    ///
+    /// ```
+    /// use yurewha::merklehash::PassThroughHashMap;
+    ///
+    /// assert!(PassThroughHashMap::<u64, u8>::new().is_empty());
+    /// ```
+    pub fn new() -> Self {
+        Self::default()
+    }
+
+    /// The empty map with room for so many pairs at least.
+    ///
+    /// ```
+    /// use yurewha::merklehash::PassThroughHashMap;
+    ///
+    /// assert!(PassThroughHashMap::<u64, u8>::with_capacity(10).capacity() >= 10);
+    /// ```
+    pub fn with_capacity(capacity: usize) -> Self {
+        PassThroughHashMap(Inner::with_capacity_and_hasher(capacity, Default::default()))
+    }
+}
+
+impl<Key: U64HashExtractable, Value> Default for PassThroughHashMap<Key, Value> {
+    /// The empty map.
+    fn default() -> Self {
+        PassThroughHashMap(Inner::default())
+    }
+}
+
+impl<Key: U64HashExtractable, Value> Deref for PassThroughHashMap<Key, Value> {
+    type Target = HashMap<Key, Value, U64DirectHasher<Key>>;
+
+    fn deref(&self) -> &Self::Target {
+        &self.0
+    }
+}
+
+impl<Key: U64HashExtractable, Value> DerefMut for PassThroughHashMap<Key, Value> {
+    fn deref_mut(&mut self) -> &mut Self::Target {
+        &mut self.0
+    }
+}
+
+impl<Key: U64HashExtractable, Value> From<HashMap<Key, Value, U64DirectHasher<Key>>>
+    for PassThroughHashMap<Key, Value>
+{
+    fn from(map: Inner<Key, Value>) -> Self {
+        PassThroughHashMap(map)
+    }
+}
+
+impl<Key: U64HashExtractable, Value> From<PassThroughHashMap<Key, Value>>
+    for HashMap<Key, Value, U64DirectHasher<Key>>
+{
+    fn from(map: PassThroughHashMap<Key, Value>) -> Self {
+        map.0
+    }
+}
+
+/// Of equal keys the last value stays.
+impl<Key: U64HashExtractable + Eq + Hash, Value> FromIterator<(Key, Value)> for PassThroughHashMap<Key, Value> {
+    fn from_iter<I: IntoIterator<Item = (Key, Value)>>(pairs: I) -> Self {
+        PassThroughHashMap(pairs.into_iter().collect())
+    }
+}
+
+/// Of equal keys the last value stays.
+impl<Key: U64HashExtractable + Eq + Hash, Value, const N: usize> From<[(Key, Value); N]>
+    for PassThroughHashMap<Key, Value>
+{
+    fn from(pairs: [(Key, Value); N]) -> Self {
+        pairs.into_iter().collect()
+    }
+}
+
+impl<Key: U64HashExtractable, Value> IntoIterator for PassThroughHashMap<Key, Value> {
+    type Item = (Key, Value);
+    type IntoIter = hash_map::IntoIter<Key, Value>;
+
+    fn into_iter(self) -> Self::IntoIter {
+        self.0.into_iter()
+    }
+}
+
+impl<'a, Key: U64HashExtractable, Value> IntoIterator for &'a PassThroughHashMap<Key, Value> {
+    type Item = (&'a Key, &'a Value);
+    type IntoIter = hash_map::Iter<'a, Key, Value>;
+
+    fn into_iter(self) -> Self::IntoIter {
+        self.0.iter()
+    }
+}
+
+impl<'a, Key: U64HashExtractable, Value> IntoIterator for &'a mut PassThroughHashMap<Key, Value> {
+    type Item = (&'a Key, &'a mut Value);
+    type IntoIter = hash_map::IterMut<'a, Key, Value>;
+
+    fn into_iter(self) -> Self::IntoIter {
+        self.0.iter_mut()
+    }
+}

@@ -1,0 +1,314 @@
+//! Upload sessions: the chunks of a file by their positions, which come in any order. This module is this crate's own.
+
+use super::aggregated_hashes::Node;
+use super::data_hash::MerkleHash;
+use super::lent_chunks::lend;
+use super::merkle_hash_subtree::MerkleHashSubtree;
+use crate::error::Result;
+use crate::ffi;
+use crate::handle::Owned;
+use crate::status::{answer, looked_up, plain, told, Refusal};
+use std::fmt;
+
+/// Why a call of a session was refused, the least reason first. After a refusal nothing has changed.
+///
+/// ```
+/// use yurewha::merklehash::session::SessionFault;
+///
+/// assert_eq!(SessionFault::Overlap.to_string(), "a position is taken");
+/// ```
+#[derive(Clone, Copy, Debug, PartialEq, Eq)]
+pub enum SessionFault {
+    /// A position is taken.
+    Overlap,
+    /// The first position plus the number of chunks passes `u64::MAX`.
+    Positions,
+    /// The sizes of all chunks add up to more than `u64::MAX` bytes.
+    Sizes,
+    /// An allocation was refused.
+    Memory,
+    /// The positions taken aren't exactly those below the total.
+    Gap,
+}
+
+impl fmt::Display for SessionFault {
+    fn fmt(&self, f: &mut fmt::Formatter<'_>) -> fmt::Result {
+        f.write_str(match self {
+            SessionFault::Overlap => "a position is taken",
+            SessionFault::Positions => "positions past 2^64 - 1",
+            SessionFault::Sizes => "sizes past 2^64 - 1",
+            SessionFault::Memory => "out of memory",
+            SessionFault::Gap => "a position isn't taken, or one is past the total",
+        })
+    }
+}
+
+impl std::error::Error for SessionFault {}
+
+impl Refusal for SessionFault {
+    fn of(status: ffi::yurewha_status) -> Option<Self> {
+        match status {
+            ffi::YUREWHA_SESSION_OVERLAP => Some(SessionFault::Overlap),
+            ffi::YUREWHA_SESSION_POSITIONS => Some(SessionFault::Positions),
+            ffi::YUREWHA_SESSION_SIZES => Some(SessionFault::Sizes),
+            ffi::YUREWHA_SESSION_MEMORY => Some(SessionFault::Memory),
+            ffi::YUREWHA_SESSION_GAP => Some(SessionFault::Gap),
+            _ => None,
+        }
+    }
+}
+
+/// A session: ranges of a file's chunks that come in any order, joined as they become adjacent, and the hashes among
+/// them.
+///
+/// ```
+/// use yurewha::merklehash::session::{Session, SessionFault};
+/// use yurewha::merklehash::{file_hash, MerkleHash};
+///
+/// let [first, second, third] = [1, 2, 3].map(|seed| (MerkleHash::random_from_seed(seed), 100));
+/// let mut session = Session::new();
+/// assert_eq!(session.put(2, &[third]), Ok(1)); // one hash that is new
+/// assert_eq!(session.put(0, &[first, second]), Ok(2));
+/// assert_eq!(session.put(1, &[third]), Err(SessionFault::Overlap)); // nothing has changed
+/// assert_eq!(session.put(4, &[third]), Ok(0)); // its hash was seen
+/// assert_eq!(session.finish(4), Err(SessionFault::Gap));
+/// assert_eq!(session.put(3, &[first]), Ok(0));
+/// assert_eq!(session.finish(5), Ok(file_hash(&[first, second, third, first, third])));
+/// ```
+///
+/// A session may move to another thread, but no two threads may use one at once:
+///
+/// ```compile_fail
+/// fn shared<T: Sync>() {}
+/// shared::<yurewha::merklehash::session::Session>();
+/// ```
+pub struct Session(Owned<ffi::yurewha_session>);
+
+impl Session {
+    /// A session without chunks.
+    ///
+    /// ```
+    /// use yurewha::merklehash::{session::Session, MerkleHash};
+    ///
+    /// assert_eq!(Session::new().finish(0), Ok(MerkleHash::default()));
+    /// ```
+    ///
+    /// # Panics
+    ///
+    /// Where memory is refused; see [`try_new`](Self::try_new).
+    pub fn new() -> Self {
+        plain("Session::new", Self::try_new())
+    }
+
+    /// [`new`](Self::new), refused where memory is.
+    ///
+    /// ```
+    /// use yurewha::merklehash::session::Session;
+    ///
+    /// assert_eq!(Session::try_new()?.num_runs(), 0);
+    /// # Ok::<(), yurewha::error::CoreError>(())
+    /// ```
+    pub fn try_new() -> Result<Self> {
+        // SAFETY: an empty handle to write to.
+        answer(|made: &mut Owned<_>| unsafe { ffi::yurewha_session_new(made.handle()) }).map(Self)
+    }
+
+    fn handle(&self) -> *mut ffi::yurewha_session {
+        self.0.handle()
+    }
+
+    /// Places chunks at the positions from `first` on, and tells how many hashes among them no earlier accepted put
+    /// had, each counted once. Without a chunk it tells 0 and changes nothing.
+    ///
+    /// ```
+    /// use yurewha::merklehash::{session::Session, MerkleHash};
+    ///
+    /// let chunk = (MerkleHash::random_from_seed(1), 100);
+    /// let mut session = Session::new();
+    /// assert_eq!(session.put(7, &[chunk; 3]), Ok(1));
+    /// assert_eq!(session.put(0, &[chunk]), Ok(0));
+    /// ```
+    ///
+    /// # Errors
+    ///
+    /// - [`Overlap`](SessionFault::Overlap) where one of the positions is taken
+    /// - else [`Positions`](SessionFault::Positions) where `first` plus the number of chunks passes `u64::MAX`
+    /// - else [`Sizes`](SessionFault::Sizes) where the sizes of all chunks add up to more than `u64::MAX`
+    /// - [`Memory`](SessionFault::Memory)
+    pub fn put(&mut self, first: u64, chunks: &[Node]) -> std::result::Result<u64, SessionFault> {
+        let chunks = lend(chunks).map_err(|_| SessionFault::Memory)?;
+        // SAFETY: a handle, chunks of their number, and a number to write to.
+        answer(|new_hashes| unsafe {
+            ffi::yurewha_session_put(self.handle(), first, chunks.as_ptr(), chunks.len(), new_hashes)
+        })
+    }
+
+    /// Whether a position is taken.
+    ///
+    /// ```
+    /// use yurewha::merklehash::{session::Session, MerkleHash};
+    ///
+    /// let mut session = Session::new();
+    /// session.put(7, &[(MerkleHash::default(), 100)])?;
+    /// assert!(session.taken(7) && !session.taken(8));
+    /// # Ok::<(), yurewha::merklehash::session::SessionFault>(())
+    /// ```
+    pub fn taken(&self, position: u64) -> bool {
+        // SAFETY: a handle, and a truth value to write to.
+        told(|taken| unsafe { ffi::yurewha_session_taken(self.handle(), position, taken) })
+    }
+
+    /// How many runs of adjacent positions are taken.
+    ///
+    /// ```
+    /// use yurewha::merklehash::{session::Session, MerkleHash};
+    ///
+    /// let chunk = (MerkleHash::default(), 100);
+    /// let mut session = Session::new();
+    /// session.put(7, &[chunk; 2])?;
+    /// session.put(0, &[chunk; 2])?;
+    /// assert_eq!(session.num_runs(), 2);
+    /// # Ok::<(), yurewha::merklehash::session::SessionFault>(())
+    /// ```
+    pub fn num_runs(&self) -> usize {
+        // SAFETY: a handle, and a number to write to.
+        told(|count| unsafe { ffi::yurewha_session_num_runs(self.handle(), count) })
+    }
+
+    /// The first position of a run, and a copy of the subtree of its chunks, which is open at both ends. Runs are
+    /// counted from 0 by rising position; `None` where there is no such run. The time is in proportion to the index.
+    ///
+    /// ```
+    /// use yurewha::merklehash::{session::Session, MerkleHash};
+    ///
+    /// let mut session = Session::new();
+    /// session.put(7, &[(MerkleHash::default(), 100); 2])?;
+    /// let (first, range) = session.range(0).unwrap();
+    /// assert_eq!((first, range.total_size()), (7, 200));
+    /// assert!(session.range(1).is_none());
+    /// # Ok::<(), yurewha::merklehash::session::SessionFault>(())
+    /// ```
+    ///
+    /// # Panics
+    ///
+    /// Where memory is refused; see [`try_range`](Self::try_range).
+    pub fn range(&self, index: usize) -> Option<(u64, MerkleHashSubtree)> {
+        plain("Session::range", self.try_range(index))
+    }
+
+    /// [`range`](Self::range), refused where memory is.
+    ///
+    /// ```
+    /// use yurewha::merklehash::session::Session;
+    ///
+    /// assert!(Session::new().try_range(0)?.is_none());
+    /// # Ok::<(), yurewha::error::CoreError>(())
+    /// ```
+    pub fn try_range(&self, index: usize) -> Result<Option<(u64, MerkleHashSubtree)>> {
+        // SAFETY: a handle, a number to write to, and an empty handle to write to.
+        let run = looked_up(|(first, range): &mut (u64, Owned<_>)| unsafe {
+            ffi::yurewha_session_run(self.handle(), index, first, range.handle())
+        })?;
+        Ok(run.map(|(first, range)| (first, MerkleHashSubtree::of(range))))
+    }
+
+    /// All runs by rising position, each as [`range`](Self::range) tells it.
+    ///
+    /// ```
+    /// use yurewha::merklehash::{session::Session, MerkleHash};
+    ///
+    /// let chunk = (MerkleHash::default(), 100);
+    /// let mut session = Session::new();
+    /// session.put(7, &[chunk; 2])?;
+    /// session.put(0, &[chunk; 3])?;
+    /// let sizes: Vec<_> = session.runs().map(|(first, range)| (first, range.total_size())).collect();
+    /// assert_eq!(sizes, [(0, 300), (7, 200)]);
+    /// # Ok::<(), yurewha::merklehash::session::SessionFault>(())
+    /// ```
+    ///
+    /// # Panics
+    ///
+    /// Where memory is refused.
+    pub fn runs(&self) -> impl ExactSizeIterator<Item = (u64, MerkleHashSubtree)> + '_ {
+        (0..self.num_runs()).map(|index| self.range(index).expect("a run that was counted"))
+    }
+
+    /// The root of all chunks by position.
+    ///
+    /// ```
+    /// use yurewha::merklehash::{session::Session, xorb_hash, MerkleHash};
+    ///
+    /// let chunks = [1, 2, 3].map(|seed| (MerkleHash::random_from_seed(seed), 100));
+    /// let mut session = Session::new();
+    /// session.put(0, &chunks)?;
+    /// assert_eq!(session.root(3), Ok(xorb_hash(&chunks)));
+    /// # Ok::<(), yurewha::merklehash::session::SessionFault>(())
+    /// ```
+    ///
+    /// # Errors
+    ///
+    /// [`Gap`](SessionFault::Gap) exactly where the positions taken aren't those from 0 to `total` - 1, and
+    /// [`Memory`](SessionFault::Memory)
+    pub fn root(&self, total: u64) -> std::result::Result<MerkleHash, SessionFault> {
+        // SAFETY: a handle, and a hash to write to.
+        answer(|root: &mut MerkleHash| unsafe { ffi::yurewha_session_root(self.handle(), total, root.out()) })
+    }
+
+    /// The file hash of all chunks by position, without a salt.
+    ///
+    /// ```
+    /// use yurewha::merklehash::{file_hash, session::Session, MerkleHash};
+    ///
+    /// let chunks = [1, 2, 3].map(|seed| (MerkleHash::random_from_seed(seed), 100));
+    /// let mut session = Session::new();
+    /// session.put(1, &chunks[1..])?;
+    /// session.put(0, &chunks[..1])?;
+    /// assert_eq!(session.finish(3), Ok(file_hash(&chunks)));
+    /// # Ok::<(), yurewha::merklehash::session::SessionFault>(())
+    /// ```
+    ///
+    /// # Errors
+    ///
+    /// As of [`root`](Self::root)
+    pub fn finish(&self, total: u64) -> std::result::Result<MerkleHash, SessionFault> {
+        // SAFETY: a handle, and a hash to write to.
+        answer(|hash: &mut MerkleHash| unsafe { ffi::yurewha_session_finish(self.handle(), total, hash.out()) })
+    }
+}
+
+impl Default for Session {
+    /// A session without chunks.
+    fn default() -> Self {
+        Self::new()
+    }
+}
+
+/// The number of runs.
+impl fmt::Debug for Session {
+    fn fmt(&self, f: &mut fmt::Formatter<'_>) -> fmt::Result {
+        f.debug_struct("Session")
+            .field("num_runs", &self.num_runs())
+            .finish_non_exhaustive()
+    }
+}
+
+#[cfg(test)]
+mod tests {
+    use super::*;
+
+    #[test]
+    fn each_status_has_its_fault() {
+        let faults = [
+            SessionFault::Overlap,
+            SessionFault::Positions,
+            SessionFault::Sizes,
+            SessionFault::Memory,
+            SessionFault::Gap,
+        ];
+        let statuses = ffi::YUREWHA_SESSION_OVERLAP..=ffi::YUREWHA_SESSION_GAP;
+        assert!(statuses.map(SessionFault::of).eq(faults.map(Some)));
+        for status in [ffi::YUREWHA_MEMORY, ffi::YUREWHA_EMPTY_HANDLE, 32, 38] {
+            assert_eq!(SessionFault::of(status), None);
+        }
+    }
+}

@@ -1,0 +1,111 @@
+//! From statuses and out parameters to answers.
+
+use crate::error::{CoreError, Result};
+use crate::ffi;
+
+/// What a status can refuse a call with.
+pub(crate) trait Refusal: Sized {
+    /// The refusal that a status names.
+    fn of(status: ffi::yurewha_status) -> Option<Self>;
+}
+
+// Whether a call was done, or its refusal. A status that the call never answers ends in a panic.
+fn done<E: Refusal>(status: ffi::yurewha_status) -> std::result::Result<(), E> {
+    match status {
+        ffi::YUREWHA_DONE => Ok(()),
+        status => Err(E::of(status).unwrap_or_else(|| panic!("yurewha answered the status {status}"))),
+    }
+}
+
+/// What a call writes to its out parameter, or its refusal.
+pub(crate) fn answer<T: Default, E: Refusal>(
+    call: impl FnOnce(&mut T) -> ffi::yurewha_status,
+) -> std::result::Result<T, E> {
+    let mut answer = T::default();
+    done(call(&mut answer))?;
+    Ok(answer)
+}
+
+/// What a call writes to its out parameter, where nothing can be refused.
+pub(crate) fn told<T: Default>(call: impl FnOnce(&mut T) -> ffi::yurewha_status) -> T {
+    let mut answer = T::default();
+    done(call(&mut answer)).unwrap_or_else(refused_question);
+    answer
+}
+
+/// What a call without a status writes to its out parameter.
+pub(crate) fn given<T: Default>(call: impl FnOnce(&mut T)) -> T {
+    let mut answer = T::default();
+    call(&mut answer);
+    answer
+}
+
+// Whether a call found what it looks up. That it isn't there is [`CoreError::InvalidArguments`].
+fn found(status: ffi::yurewha_status) -> Result<bool> {
+    match done(status) {
+        Ok(()) => Ok(true),
+        Err(CoreError::InvalidArguments) => Ok(false),
+        Err(error) => Err(error),
+    }
+}
+
+/// What a call looks up and writes to its out parameter, or `None` where it isn't there.
+pub(crate) fn looked_up<T: Default>(call: impl FnOnce(&mut T) -> ffi::yurewha_status) -> Result<Option<T>> {
+    let mut answer = T::default();
+    Ok(found(call(&mut answer))?.then_some(answer))
+}
+
+/// [`looked_up`], where nothing can be refused. No answer shares its place with an error, so that it is copied once.
+pub(crate) fn told_if_there<T: Default>(call: impl FnOnce(&mut T) -> ffi::yurewha_status) -> Option<T> {
+    let mut answer = T::default();
+    let there = found(call(&mut answer)).unwrap_or_else(refused_question);
+    there.then_some(answer)
+}
+
+// A call that can't be refused was.
+fn refused_question<T>(error: CoreError) -> T {
+    panic!("yurewha refused a question: {error}")
+}
+
+/// The answer of a call that the Rust crate has without a `Result`. A refusal ends in a panic that names it.
+#[track_caller]
+pub(crate) fn plain<T>(call: &str, answer: Result<T>) -> T {
+    answer.unwrap_or_else(|error| panic!("{call}: {error}"))
+}
+
+#[cfg(test)]
+mod tests {
+    use super::*;
+
+    // A call that writes 7 and answers this status.
+    fn seven(status: ffi::yurewha_status) -> impl FnOnce(&mut u8) -> ffi::yurewha_status {
+        move |answer| {
+            *answer = 7;
+            status
+        }
+    }
+
+    #[test]
+    fn a_status_is_an_answer_or_a_refusal() {
+        assert_eq!(answer(seven(ffi::YUREWHA_DONE)), Ok::<_, CoreError>(7));
+        assert_eq!(answer(seven(ffi::YUREWHA_MEMORY)), Err(CoreError::OutOfMemory));
+        assert_eq!(looked_up(seven(ffi::YUREWHA_DONE)), Ok(Some(7)));
+        assert_eq!(looked_up(seven(ffi::YUREWHA_ARGUMENTS)), Ok(None));
+        assert_eq!(looked_up(seven(ffi::YUREWHA_MEMORY)), Err(CoreError::OutOfMemory));
+        assert_eq!(told(seven(ffi::YUREWHA_DONE)), 7);
+        assert_eq!(told_if_there(seven(ffi::YUREWHA_DONE)), Some(7));
+        assert_eq!(told_if_there(seven(ffi::YUREWHA_ARGUMENTS)), None);
+    }
+
+    #[test]
+    #[should_panic(expected = "yurewha answered the status 6")]
+    fn a_status_that_never_comes_is_a_panic() {
+        told(seven(ffi::YUREWHA_EMPTY_HANDLE));
+    }
+
+    #[test]
+    #[should_panic(expected = "xorb_hash: size overflow")]
+    fn a_panic_names_the_call_and_the_cause() {
+        plain("xorb_hash", answer(seven(ffi::YUREWHA_SIZES)));
+    }
+}

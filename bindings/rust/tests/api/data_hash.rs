@@ -1,0 +1,225 @@
+//! Hashes and their forms.
+
+use crate::draws::{hash, Draws};
+use std::collections::HashSet;
+use std::hash::{DefaultHasher, Hash, Hasher};
+use yurewha::merklehash::{
+    blake3, compute_data_hash, compute_internal_node_hash, DataHash, DataHashBytesParseError, DataHashHexParseError,
+    HMACKey, HashTextError,
+};
+
+const TEXT: &str = "d6834b04843aaf16f29903e2428a99be635099f9ea5056cc4e95e7ec8a41509f";
+
+const BYTES: [u8; 32] = [
+    22, 175, 58, 132, 4, 75, 131, 214, 190, 153, 138, 66, 226, 3, 153, 242, 204, 86, 80, 234, 249, 153, 80, 99, 159,
+    80, 65, 138, 236, 231, 149, 78,
+];
+
+fn drawn() -> impl Iterator<Item = DataHash> {
+    let mut draws = Draws(1);
+    (0..200).map(move |_| DataHash::from([0; 4].map(|_: u64| draws.number())))
+}
+
+#[test]
+fn a_hash_has_its_words_bytes_and_texts() {
+    let hash = DataHash::from_slice(&BYTES).unwrap();
+    assert_eq!(hash.hex(), TEXT);
+    assert_eq!(hash.base64(), "Fq86hARLg9a-mYpC4gOZ8sxWUOr5mVBjn1BBiuznlU4");
+    assert_eq!(hash.as_bytes(), BYTES);
+    assert_eq!(hash, DataHash::from(BYTES));
+    assert_eq!(hash, DataHash::from(&BYTES));
+    assert_eq!(DataHash::try_from(&BYTES[..]).unwrap(), hash);
+    assert_eq!(<[u8; 32]>::from(hash), BYTES);
+    assert_eq!(Vec::from(hash), BYTES);
+    assert_eq!(Vec::<u8>::from(&hash), BYTES);
+    assert_eq!(AsRef::<[u8]>::as_ref(&hash), BYTES);
+    assert_eq!(AsRef::<DataHash>::as_ref(&hash), &hash);
+    assert_eq!(hash[0], 0xd683_4b04_843a_af16);
+}
+
+#[test]
+fn hashes_read_back_from_each_form() {
+    for hash in drawn() {
+        assert_eq!(DataHash::from(*hash), hash);
+        assert_eq!(DataHash::from(<[u8; 32]>::from(hash)), hash);
+        assert_eq!(DataHash::from_slice(hash.as_bytes()).unwrap(), hash);
+        assert_eq!(DataHash::from_hex(&hash.hex()).unwrap(), hash);
+        assert_eq!(DataHash::from_hex(&hash.hex().to_uppercase()).unwrap(), hash);
+        assert_eq!(DataHash::from_base64(&hash.base64()).unwrap(), hash);
+        assert_eq!(DataHash::try_from_base64(&hash.try_base64().unwrap()), Ok(hash));
+        assert_eq!(<[u8; 32]>::from(hash), hash.as_bytes());
+    }
+}
+
+#[test]
+fn texts_have_64_digits_whatever_is_asked_for() {
+    let hash = hash(TEXT);
+    for text in [
+        format!("{hash}"),
+        format!("{hash:?}"),
+        format!("{hash:x}"),
+        format!("{hash:#100x}"),
+        format!("{hash:>3}"),
+    ] {
+        assert_eq!(text, TEXT);
+    }
+    assert_eq!(DataHash::default().hex(), "0".repeat(64));
+    assert_eq!(DataHash::default().base64(), "A".repeat(43));
+    assert_eq!(DataHash::marker().hex(), "f".repeat(64));
+    assert_eq!(DataHash::marker().base64(), format!("{}8", "_".repeat(42)));
+}
+
+#[test]
+fn other_texts_and_lengths_are_refused() {
+    let long = format!("{TEXT}0");
+    let unicode = format!("{}ä", &TEXT[..62]);
+    assert_eq!(unicode.len(), 64);
+    for text in [
+        "",
+        &TEXT[..63],
+        &long,
+        &unicode,
+        &TEXT.replace('d', "g"),
+        &TEXT.replace('d', " "),
+    ] {
+        assert_eq!(DataHash::from_hex(text), Err(DataHashHexParseError));
+    }
+    let base64 = DataHash::marker().base64();
+    for text in [
+        "",
+        &base64[..42],
+        &format!("{base64}="),
+        &base64.replace('8', "9"),
+        &base64.replace('_', "/"),
+    ] {
+        assert_eq!(DataHash::from_base64(text), Err(DataHashBytesParseError));
+        assert_eq!(
+            DataHash::try_from_base64(text),
+            Err(HashTextError::Bytes(DataHashBytesParseError))
+        );
+    }
+    for length in [0, 31, 33, 64] {
+        assert_eq!(DataHash::from_slice(&vec![0; length]), Err(DataHashBytesParseError));
+        assert_eq!(DataHash::try_from(&vec![0; length][..]), Err(DataHashBytesParseError));
+    }
+}
+
+#[test]
+fn errors_have_their_texts() {
+    assert_eq!(DataHashHexParseError.to_string(), "Invalid hex input for DataHash");
+    assert_eq!(DataHashBytesParseError.to_string(), "Invalid bytes input for DataHash");
+    assert_eq!(
+        HashTextError::Bytes(DataHashBytesParseError).to_string(),
+        "Invalid bytes input for DataHash"
+    );
+    assert_eq!(HashTextError::OutOfMemory.to_string(), "out of memory");
+}
+
+#[test]
+fn the_order_is_that_of_words_and_of_texts() {
+    let mut hashes: Vec<_> = drawn().collect();
+    hashes.extend((0..4).flat_map(|word| {
+        let mut hash = DataHash::default();
+        hash[word] = 1;
+        [hash, DataHash::default()]
+    }));
+    for (first, second) in hashes.iter().zip(&hashes[1..]) {
+        assert_eq!(first.cmp(second), first.hex().cmp(&second.hex()));
+        assert_eq!(first.cmp(second), (**first).cmp(&**second));
+        assert_eq!(first.partial_cmp(second), Some(first.cmp(second)));
+        assert_eq!(first == second, **first == **second);
+        assert_eq!(first.cmp(first), std::cmp::Ordering::Equal);
+    }
+}
+
+#[test]
+fn a_hash_table_gets_the_first_word() {
+    let state = |write: &dyn Fn(&mut DefaultHasher)| {
+        let mut hasher = DefaultHasher::new();
+        write(&mut hasher);
+        hasher.finish()
+    };
+    let hash = DataHash::from([1, 2, 3, 4]);
+    assert_eq!(state(&|hasher| hash.hash(hasher)), state(&|hasher| hasher.write_u64(1)));
+    assert_eq!(drawn().collect::<HashSet<_>>().len(), 200);
+}
+
+#[test]
+fn words_are_read_and_written_in_place() {
+    let mut hash = DataHash::default();
+    hash[3] = 7;
+    assert_eq!(hash, DataHash::from([0, 0, 0, 7]));
+    assert_eq!(hash.iter().sum::<u64>(), 7);
+}
+
+#[test]
+fn the_remainder_is_that_of_the_last_word() {
+    assert_eq!(DataHash::marker() % 4, 3);
+    assert_eq!(DataHash::default() % 4, 0);
+    for hash in drawn() {
+        assert_eq!(hash % 1000, hash[3] % 1000);
+    }
+}
+
+#[test]
+#[should_panic(expected = "divisor of zero")]
+fn a_remainder_of_zero_is_a_panic() {
+    let _ = DataHash::marker() % 0;
+}
+
+#[test]
+fn hashes_are_the_reference_hashes() {
+    assert_eq!(
+        DataHash::random_from_seed(1),
+        hash("cfc5d07f6f03c29bbf424132963fe08d19a37d5757aaf520bf08119f05cd56d6")
+    );
+    assert_eq!(
+        compute_data_hash(b"abc"),
+        hash("a8803506f7aff014f19aa9e9b79dc6455c49672570f96156071329698dd0284e")
+    );
+    assert_eq!(
+        compute_data_hash(b""),
+        hash("e0f2cf784e7e5f10c34f84af150e9a5ff9664216debad915364d741049870f67")
+    );
+    assert_eq!(
+        compute_data_hash(b"abc").hmac(HMACKey::default()),
+        hash("55b9df318a7c45f470d57b04d8ca79a15b0637ffe94b25041a58d00c3528afff")
+    );
+    assert_ne!(compute_internal_node_hash(b"abc"), compute_data_hash(b"abc"));
+}
+
+// A message of so many bytes.
+fn message(length: usize) -> Vec<u8> {
+    (0..length).map(|i| (i % 251) as u8).collect()
+}
+
+#[test]
+fn pieces_have_the_hash_of_the_whole() {
+    for length in [0, 1, 63, 64, 65, 1023, 1024, 1025, 2049, 10_000] {
+        let whole = message(length);
+        for cut in [0, 1, 1023, 1024, 1025, length] {
+            let (first, second) = whole.split_at(cut.min(length));
+            let begun = [blake3::Hasher::new_data(), blake3::Hasher::new_internal_node()];
+            let hashes = begun.map(|mut hasher| {
+                hasher.update(first).unwrap();
+                let mut other = hasher.clone();
+                other.update(b"another end").unwrap();
+                hasher.update(second).unwrap();
+                assert_eq!(hasher.count(), length as u64);
+                hasher.finalize()
+            });
+            assert_eq!(hashes, [compute_data_hash(&whole), compute_internal_node_hash(&whole)]);
+        }
+    }
+}
+
+#[test]
+fn a_keyed_hasher_is_an_hmac_and_keeps_its_key_to_itself() {
+    for (message, key) in drawn().zip(drawn().skip(1)) {
+        let mut hasher = blake3::Hasher::new_keyed(&key.into());
+        hasher.update(message.as_bytes()).unwrap();
+        assert_eq!(hasher.finalize(), message.hmac(key));
+        assert_eq!(format!("{hasher:?}"), "Hasher { count: 32, .. }");
+    }
+    assert!(blake3::Hasher::new_data().has_room(usize::MAX));
+}

@@ -1,0 +1,258 @@
+//! serde's forms: JSON, and bincode as a binary format.
+
+use crate::draws::{numbered, reference, Draws};
+use crate::json::forged;
+use serde::{Deserialize, Serialize};
+use std::fmt::Debug;
+use std::hash::Hasher;
+use yurewha::merklehash::{self, DataHash, MerkleHashSubtree, PassThroughHashMap, U64DirectHasher};
+
+// That a value has this JSON text and these bytes of bincode, and is read back from both.
+fn assert_forms<T: Serialize + for<'de> Deserialize<'de> + PartialEq + Debug>(value: &T, text: &str, bytes: &[u8]) {
+    assert_eq!(serde_json::to_string(value).unwrap(), text);
+    assert_eq!(serde_json::from_str::<T>(text).unwrap(), *value);
+    assert_eq!(serde_json::from_slice::<T>(text.as_bytes()).unwrap(), *value);
+    assert_eq!(serde_json::from_reader::<_, T>(text.as_bytes()).unwrap(), *value);
+    let tree = serde_json::to_value(value).unwrap();
+    assert_eq!(serde_json::from_value::<T>(tree).unwrap(), *value);
+    assert_eq!(bincode::serialize(value).unwrap(), bytes);
+    assert_eq!(bincode::deserialize::<T>(bytes).unwrap(), *value);
+}
+
+// Numbers as bincode writes them, and truth values.
+fn bytes_of(numbers: &[u64], truths: &[bool]) -> Vec<u8> {
+    let numbers = numbers.iter().flat_map(|number| number.to_le_bytes());
+    numbers.chain(truths.iter().map(|&truth| u8::from(truth))).collect()
+}
+
+#[test]
+fn a_hash_is_the_sequence_of_its_words() {
+    let hash = DataHash::from([1, 2, 3, u64::MAX]);
+    assert_forms(&hash, "[1,2,3,18446744073709551615]", hash.as_bytes());
+    for text in ["[1,2,3]", "[1,2,3,4,5]", "[1,2,3,-4]", "{}", "\"\"", "null"] {
+        assert!(serde_json::from_str::<DataHash>(text).is_err(), "{text}");
+    }
+    assert!(bincode::deserialize::<DataHash>(&[0; 31]).is_err());
+}
+
+#[derive(Serialize, Deserialize, PartialEq, Debug)]
+struct Named {
+    #[serde(with = "merklehash::data_hash::hex::serde")]
+    first: DataHash,
+    #[serde(with = "merklehash::hex::serde")]
+    second: DataHash,
+}
+
+#[test]
+fn a_hash_is_its_digits_where_that_is_asked_for() {
+    let named = Named {
+        first: DataHash::default(),
+        second: DataHash::marker(),
+    };
+    let digits = ["0", "f"].map(|digit| digit.repeat(64));
+    let text = format!(r#"{{"first":"{}","second":"{}"}}"#, digits[0], digits[1]);
+    let bytes = digits
+        .map(|digits| [&bytes_of(&[64], &[]), digits.as_bytes()].concat())
+        .concat();
+    assert_forms(&named, &text, &bytes);
+    assert_eq!(
+        serde_json::from_str::<Named>(
+            &text
+                .to_uppercase()
+                .replace("FIRST", "first")
+                .replace("SECOND", "second")
+        )
+        .unwrap(),
+        named
+    );
+    let error = serde_json::from_str::<Named>(&text.replace("ff", "fg")).unwrap_err();
+    assert!(
+        error.to_string().starts_with("Invalid hex input for DataHash"),
+        "{error}"
+    );
+    let error = serde_json::from_str::<Named>(r#"{"first":[1,2,3,4]}"#).unwrap_err();
+    assert!(error.to_string().contains("expected 64 hex digits"), "{error}");
+}
+
+#[test]
+fn a_subtree_is_a_struct_of_four_members_in_order() {
+    let chunks = reference(&[1]);
+    let subtree = MerkleHashSubtree::from_chunks(true, &chunks, false);
+    let text = r#"{"nodes":[{"hash":"cfc5d07f6f03c29bbf424132963fe08d19a37d5757aaf520bf08119f05cd56d6","size":100}],"levels":[[1,0]],"at_start":true,"at_end":false}"#;
+    let words = *chunks[0].0;
+    let numbers = [1, words[0], words[1], words[2], words[3], 100, 1, 1, 0];
+    assert_forms(&subtree, text, &bytes_of(&numbers, &[true, false]));
+
+    let empty = MerkleHashSubtree::from_chunks(true, &[], true);
+    let text = r#"{"nodes":[],"levels":[[0,0]],"at_start":true,"at_end":true}"#;
+    assert_forms(&empty, text, &bytes_of(&[0, 1, 0, 0], &[true, true]));
+}
+
+#[test]
+fn left_nodes_stand_by_rising_level_and_right_nodes_by_falling_level() {
+    let nodes = numbered(0..20);
+    let subtree = MerkleHashSubtree::from_chunks(false, &nodes, false);
+    let value = serde_json::to_value(&subtree).unwrap();
+    assert_eq!(value["levels"], serde_json::json!([[8, 4], [2, 0]]));
+    let hashes: Vec<_> = value["nodes"]
+        .as_array()
+        .unwrap()
+        .iter()
+        .map(|node| node["hash"].clone())
+        .collect();
+    let texts = |range: std::ops::Range<usize>| nodes[range].iter().map(|node| node.0.hex()).collect::<Vec<_>>();
+    assert_eq!(hashes.len(), 14);
+    assert_eq!(hashes[..8], texts(0..8));
+    assert_eq!(hashes[10..], texts(16..20));
+}
+
+#[test]
+fn drawn_subtrees_are_read_back() {
+    let mut draws = Draws(12);
+    for _ in 0..300 {
+        let count = draws.below(100);
+        let nodes = draws.nodes(count);
+        let subtree = MerkleHashSubtree::from_chunks(draws.truth(), &nodes, draws.truth());
+        let text = serde_json::to_string(&subtree).unwrap();
+        assert_eq!(serde_json::from_str::<MerkleHashSubtree>(&text).unwrap(), subtree);
+        // The calls without serde read and write the same form.
+        assert_eq!(MerkleHashSubtree::from_json(&text).as_ref(), Ok(&subtree));
+        let own = subtree.to_json().unwrap();
+        assert_eq!(serde_json::from_str::<MerkleHashSubtree>(&own).unwrap(), subtree);
+        let bytes = bincode::serialize(&subtree).unwrap();
+        assert_eq!(bincode::deserialize::<MerkleHashSubtree>(&bytes).unwrap(), subtree);
+    }
+}
+
+#[test]
+fn members_may_stand_in_any_order_with_others_between() {
+    let text = r#"{"more":[{"a":null},1.5,"\n"],"at_end":true,"levels":[[0,0]],"at_start":true,"nodes":[]}"#;
+    let empty = MerkleHashSubtree::from_chunks(true, &[], true);
+    assert_eq!(serde_json::from_str::<MerkleHashSubtree>(text).unwrap(), empty);
+    let spaced = text.replace(',', " ,\n ").replace(':', " : ");
+    assert_eq!(serde_json::from_str::<MerkleHashSubtree>(&spaced).unwrap(), empty);
+}
+
+#[test]
+fn forged_json_is_refused_with_the_least_rule_in_the_text() {
+    for (rule, text) in forged() {
+        let error = serde_json::from_str::<MerkleHashSubtree>(&text).unwrap_err();
+        assert_eq!(error.to_string(), format!("invalid JSON: rule {rule}"), "{text}");
+        let value: serde_json::Value = serde_json::from_str(&text).unwrap();
+        let error = serde_json::from_value::<MerkleHashSubtree>(value).unwrap_err();
+        assert_eq!(error.to_string(), format!("invalid JSON: rule {rule}"), "{text}");
+    }
+    assert!(serde_json::from_str::<MerkleHashSubtree>("{\"nodes\":[")
+        .unwrap_err()
+        .is_eof());
+}
+
+// The form of a subtree in a binary format, which may say none.
+#[derive(Serialize, Deserialize)]
+struct Form {
+    nodes: Vec<(DataHash, u64)>,
+    levels: Vec<(u64, u64)>,
+    at_start: bool,
+    at_end: bool,
+}
+
+// The form that a JSON text says where it keeps the rules 1 to 4.
+fn form_of(text: &str) -> Form {
+    let value: serde_json::Value = serde_json::from_str(text).unwrap();
+    let hash = |node: &serde_json::Value| DataHash::from_hex(node["hash"].as_str().unwrap()).unwrap();
+    let nodes = value["nodes"].as_array().unwrap();
+    Form {
+        nodes: nodes
+            .iter()
+            .map(|node| (hash(node), node["size"].as_u64().unwrap()))
+            .collect(),
+        levels: serde_json::from_value(value["levels"].clone()).unwrap(),
+        at_start: value["at_start"].as_bool().unwrap(),
+        at_end: value["at_end"].as_bool().unwrap(),
+    }
+}
+
+#[test]
+fn forged_bytes_are_refused_with_the_rule_in_the_text() {
+    let forged = forged();
+    let of_values = forged.iter().filter(|(rule, _)| *rule >= 5);
+    assert!(of_values.clone().count() >= 9);
+    for (rule, text) in of_values {
+        let bytes = bincode::serialize(&form_of(text)).unwrap();
+        let error = bincode::deserialize::<MerkleHashSubtree>(&bytes).unwrap_err();
+        assert_eq!(error.to_string(), format!("invalid JSON: rule {rule}"), "{text}");
+    }
+}
+
+#[test]
+fn bytes_that_are_cut_off_or_claim_too_much_are_refused() {
+    let subtree = MerkleHashSubtree::from_chunks(false, &numbered(0..20), false);
+    let bytes = bincode::serialize(&subtree).unwrap();
+    for length in 0..bytes.len() {
+        assert!(bincode::deserialize::<MerkleHashSubtree>(&bytes[..length]).is_err());
+    }
+    let claim = bytes_of(&[u64::MAX], &[]);
+    assert!(bincode::deserialize::<MerkleHashSubtree>(&claim).is_err());
+}
+
+#[test]
+fn a_form_that_keeps_the_rules_is_read() {
+    let subtree = MerkleHashSubtree::from_chunks(false, &numbered(0..24), false);
+    let bytes = bincode::serialize(&form_of(&subtree.to_json().unwrap())).unwrap();
+    assert_eq!(bytes, bincode::serialize(&subtree).unwrap());
+    assert_eq!(bincode::deserialize::<MerkleHashSubtree>(&bytes).unwrap(), subtree);
+}
+
+#[test]
+fn a_hasher_keeps_its_state() {
+    let mut hasher = U64DirectHasher::<DataHash>::default();
+    hasher.write_u64(7);
+    let text = serde_json::to_string(&hasher).unwrap();
+    assert_eq!(text, r#"{"state":7}"#);
+    assert_eq!(
+        serde_json::from_str::<U64DirectHasher<DataHash>>(&text)
+            .unwrap()
+            .finish(),
+        7
+    );
+    let bytes = bincode::serialize(&hasher).unwrap();
+    assert_eq!(bytes, bytes_of(&[7], &[]));
+    assert_eq!(
+        bincode::deserialize::<U64DirectHasher<DataHash>>(&bytes)
+            .unwrap()
+            .finish(),
+        7
+    );
+}
+
+#[test]
+fn a_map_is_a_sequence_of_pairs() {
+    let map = PassThroughHashMap::from([(7u64, "seven".to_owned())]);
+    let text = serde_json::to_string(&map).unwrap();
+    assert_eq!(text, r#"[[7,"seven"]]"#);
+    let bytes = bincode::serialize(&map).unwrap();
+    assert_eq!(bytes, [&bytes_of(&[1, 7, 5], &[])[..], b"seven"].concat());
+    let twice = r#"[[1,"a"],[2,"b"],[1,"c"]]"#;
+    let read: PassThroughHashMap<u64, String> = serde_json::from_str(twice).unwrap();
+    assert_eq!((read.len(), &*read[&1]), (2, "c"));
+    let error = serde_json::from_str::<PassThroughHashMap<u64, String>>("{}").unwrap_err();
+    assert!(
+        error.to_string().contains("a sequence of pairs of key and value"),
+        "{error}"
+    );
+}
+
+#[test]
+fn drawn_maps_are_read_back() {
+    let mut draws = Draws(13);
+    for _ in 0..50 {
+        let count = draws.below(60);
+        let map: PassThroughHashMap<_, _> = draws.nodes(count).into_iter().collect();
+        let text = serde_json::to_string(&map).unwrap();
+        let read: PassThroughHashMap<DataHash, u64> = serde_json::from_str(&text).unwrap();
+        assert_eq!(*read, *map);
+        let bytes = bincode::serialize(&map).unwrap();
+        let read: PassThroughHashMap<DataHash, u64> = bincode::deserialize(&bytes).unwrap();
+        assert_eq!(*read, *map);
+    }
+}

@@ -1,0 +1,17 @@
+//! The public interface, item by item.
+
+mod data_hash;
+mod definitions;
+mod draws;
+#[cfg(feature = "serde")]
+mod forms;
+mod hashed_write;
+mod json;
+mod map;
+mod merging;
+mod paths;
+mod reference_lists;
+mod roots;
+mod sessions;
+mod subtrees;
+mod threads;

@@ -1,0 +1,118 @@
+//! The hasher that hands a number on, and the map over it.
+
+use crate::draws::Draws;
+use std::collections::HashMap;
+use std::hash::{BuildHasher, Hasher};
+use yurewha::merklehash::{DataHash, PassThroughHashMap, U64DirectHasher, U64HashExtractable};
+
+#[test]
+fn a_key_has_a_number() {
+    let hash = DataHash::from([0xfedc_ba09_8765_4321, 0x1111_1111_1111_1111, 0, 0]);
+    assert_eq!(hash.u64_hash_value(), 0xfedc_ba09_8765_4321);
+    assert_eq!(7u64.u64_hash_value(), 7);
+}
+
+// A hasher of this state.
+fn in_state(state: u64) -> U64DirectHasher<u64> {
+    let mut hasher = U64DirectHasher::default();
+    hasher.write_u64(state);
+    hasher
+}
+
+#[test]
+fn a_number_is_the_state() {
+    let hasher = in_state(7);
+    assert_eq!(hasher.finish(), 7);
+    assert_eq!(hasher.build_hasher().finish(), 0);
+    let mut copy = hasher;
+    copy.write_u64(8);
+    assert_eq!((hasher.finish(), copy.finish()), (7, 8));
+    assert_eq!(format!("{hasher:?}"), "U64DirectHasher { state: 7 }");
+}
+
+#[test]
+fn bytes_overwrite_the_low_bytes_of_the_state() {
+    let written = |state, bytes: &[u8]| {
+        let mut hasher = in_state(state);
+        hasher.write(bytes);
+        hasher.finish()
+    };
+    assert_eq!(written(u64::MAX, &[]), u64::MAX);
+    assert_eq!(written(u64::MAX, &[1, 2, 3]), 0xffff_ffff_ff03_0201);
+    assert_eq!(written(5, &[1, 2, 3, 4, 5, 6, 7, 8]), 0x0807_0605_0403_0201);
+    assert_eq!(written(5, &[1, 2, 3, 4, 5, 6, 7, 8, 9]), 0x0807_0605_0403_0201);
+}
+
+#[test]
+fn keys_are_hashed_to_their_numbers() {
+    let hash = DataHash::from([9, 1, 2, 3]);
+    assert_eq!(
+        U64DirectHasher::<DataHash>::default().hash_one(hash),
+        hash.u64_hash_value()
+    );
+    assert_eq!(in_state(0).hash_one(7u64), 7);
+}
+
+#[test]
+fn the_map_has_the_calls_of_the_map_inside() {
+    let key = DataHash::random_from_seed(1);
+    let mut map = PassThroughHashMap::with_capacity(10);
+    assert!(map.capacity() >= 10);
+    assert_eq!(map.insert(key, "value1"), None);
+    assert_eq!(map.insert(key, "value2"), Some("value1"));
+    assert_eq!(map.get(&key), Some(&"value2"));
+    *map.entry(key).or_insert("value3") = "value4";
+    assert_eq!((map[&key], map.len()), ("value4", 1));
+    for (_, value) in &mut map {
+        *value = "value5";
+    }
+    assert_eq!((&map).into_iter().next(), Some((&key, &"value5")));
+    assert_eq!(map.clone().into_iter().collect::<Vec<_>>(), [(key, "value5")]);
+    assert_eq!(map.remove(&key), Some("value5"));
+    assert!(map.is_empty());
+}
+
+#[test]
+fn keys_with_one_number_are_told_apart() {
+    let keys = [1, 2, 3].map(|word| DataHash::from([7, word, 0, 0]));
+    let map: PassThroughHashMap<_, _> = keys.into_iter().zip(0..).collect();
+    assert_eq!(map.len(), 3);
+    assert_eq!(keys.map(|key| map[&key]), [0, 1, 2]);
+}
+
+#[test]
+fn the_last_value_of_a_key_wins() {
+    let map = PassThroughHashMap::from([(1u64, 'a'), (2, 'b'), (1, 'c')]);
+    assert_eq!((map.len(), map[&1], map[&2]), (2, 'c', 'b'));
+}
+
+#[test]
+fn the_map_inside_goes_in_and_out() {
+    let map = PassThroughHashMap::from([(1u64, 'a'), (2, 'b')]);
+    let inside: HashMap<u64, char, U64DirectHasher<u64>> = map.into();
+    assert_eq!(inside[&2], 'b');
+    let map = PassThroughHashMap::from(inside);
+    assert_eq!(map[&1], 'a');
+    assert_eq!(
+        format!("{:?}", PassThroughHashMap::from([(1u64, 2)])),
+        "PassThroughHashMap({1: 2})"
+    );
+}
+
+#[test]
+fn a_map_of_drawn_pairs_is_the_map_of_the_standard_library() {
+    let mut draws = Draws(7);
+    let (mut map, mut plain) = (PassThroughHashMap::new(), HashMap::new());
+    for _ in 0..2000 {
+        let key = DataHash::from([draws.number() % 50, draws.number() % 4, 0, 0]);
+        match draws.below(3) {
+            0 => assert_eq!(map.remove(&key), plain.remove(&key)),
+            _ => {
+                let value = draws.number();
+                assert_eq!(map.insert(key, value), plain.insert(key, value));
+            }
+        }
+        assert_eq!(map.len(), plain.len());
+    }
+    assert!(plain.iter().all(|(key, value)| map.get(key) == Some(value)));
+}

@@ -1,0 +1,134 @@
+//! Sessions: chunks by position, in any order.
+
+use crate::draws::{hash, reference, Draws};
+use std::collections::HashSet;
+use std::mem::size_of;
+use yurewha::error::CoreError;
+use yurewha::merklehash::session::{Session, SessionFault};
+use yurewha::merklehash::{aggregated_hashes::Node, file_hash, xorb_hash, MerkleHash, MerkleHashSubtree};
+
+#[test]
+fn the_example_is_answered() {
+    let mut session = Session::new();
+    assert_eq!(session.put(2, &reference(&[1, 2])), Ok(2));
+    assert_eq!(session.put(0, &reference(&[1, 2])), Ok(0));
+    let file = hash("284ea045e5a579e99c21ec597c20de1fc0c09e7168162aac00db8f61b3d82dbb");
+    assert_eq!(session.finish(4), Ok(file));
+    assert_eq!(session.root(4), Ok(xorb_hash(&reference(&[1, 2, 1, 2]))));
+    assert_eq!(session.finish(3), Err(SessionFault::Gap));
+    assert_eq!(session.put(3, &reference(&[3])), Err(SessionFault::Overlap));
+    assert_eq!(session.finish(4), Ok(file));
+}
+
+#[test]
+fn a_new_session_is_empty() {
+    for session in [Session::new(), Session::default(), Session::try_new().unwrap()] {
+        assert_eq!(session.finish(0), Ok(MerkleHash::default()));
+        assert_eq!(session.root(0), Ok(MerkleHash::default()));
+        assert_eq!(session.root(1), Err(SessionFault::Gap));
+        assert_eq!((session.num_runs(), session.runs().len()), (0, 0));
+        assert!(!session.taken(0) && !session.taken(u64::MAX));
+        assert_eq!(session.range(0), None);
+    }
+}
+
+#[test]
+fn each_fault_is_told_and_changes_nothing() {
+    let [one, great] = [1, u64::MAX].map(|size| (MerkleHash::random_from_seed(size), size));
+    let mut session = Session::new();
+    assert_eq!(session.put(5, &[one]), Ok(1));
+    let faults = [
+        (session.put(5, &[one]), SessionFault::Overlap),
+        (session.put(3, &[one; 3]), SessionFault::Overlap),
+        (session.put(u64::MAX, &[one]), SessionFault::Positions),
+        (session.put(u64::MAX - 1, &[one; 2]), SessionFault::Positions),
+        (session.put(0, &[great]), SessionFault::Sizes),
+        // The least fault of several is told.
+        (session.put(5, &[great]), SessionFault::Overlap),
+        (session.put(u64::MAX, &[great]), SessionFault::Positions),
+    ];
+    for (answer, fault) in faults {
+        assert_eq!(answer, Err(fault));
+    }
+    assert_eq!(session.finish(6), Err(SessionFault::Gap));
+    assert_eq!(session.num_runs(), 1);
+    // The hash of the refused chunk is still new.
+    let small = (great.0, 1);
+    assert_eq!(session.put(0, &[small]), Ok(1));
+}
+
+#[test]
+fn a_put_of_no_chunk_changes_nothing() {
+    let mut session = Session::new();
+    for first in [0, 7, u64::MAX] {
+        assert_eq!(session.put(first, &[]), Ok(0));
+    }
+    assert_eq!((session.num_runs(), session.finish(0)), (0, Ok(MerkleHash::default())));
+}
+
+#[test]
+fn runs_are_told_by_rising_position() {
+    let chunks = reference(&[1, 2, 3, 4]);
+    let mut session = Session::new();
+    session.put(10, &chunks[2..]).unwrap();
+    session.put(0, &chunks[..1]).unwrap();
+    session.put(1, &chunks[1..2]).unwrap();
+    let open = |range: &[Node]| MerkleHashSubtree::from_chunks(false, range, false);
+    let runs = [(0, open(&chunks[..2])), (10, open(&chunks[2..]))];
+    assert_eq!(session.runs().collect::<Vec<_>>(), runs);
+    assert_eq!(session.num_runs(), 2);
+    assert_eq!(session.try_range(1), Ok(Some(runs[1].clone())));
+    assert_eq!(session.try_range(2), Ok(None));
+    assert_eq!(
+        [0, 1, 2, 9, 10, 11, 12].map(|i| session.taken(i)),
+        [true, true, false, false, true, true, false]
+    );
+    assert_eq!(format!("{session:?}"), "Session { num_runs: 2, .. }");
+    drop(session);
+    assert_eq!(runs[0].1.total_size(), 300);
+}
+
+// The hashes of some chunks that weren't seen before.
+fn new_hashes(seen: &mut HashSet<MerkleHash>, chunks: &[Node]) -> u64 {
+    chunks.iter().filter(|chunk| seen.insert(chunk.0)).count() as u64
+}
+
+#[test]
+fn drawn_orders_give_the_file_hash_of_the_whole() {
+    let mut draws = Draws(8);
+    for _ in 0..200 {
+        let numbers: Vec<_> = (0..draws.below(40)).map(|_| draws.number() % 12).collect();
+        let chunks = reference(&numbers);
+        let mut pieces: Vec<_> = draws.pieces(&chunks);
+        let (mut session, mut seen) = (Session::new(), HashSet::new());
+        while !pieces.is_empty() {
+            let piece = pieces.swap_remove(draws.below(pieces.len()));
+            let first = piece.as_ptr() as usize - chunks.as_ptr() as usize;
+            let first = (first / size_of::<Node>()) as u64;
+            assert_eq!(session.put(first, piece), Ok(new_hashes(&mut seen, piece)));
+            if let Some(last) = piece.len().checked_sub(1) {
+                assert!(session.taken(first) && session.taken(first + last as u64));
+            }
+        }
+        let total = chunks.len() as u64;
+        assert_eq!(session.finish(total), Ok(file_hash(&chunks)));
+        assert_eq!(session.root(total), Ok(xorb_hash(&chunks)));
+        assert_eq!(session.finish(total + 1), Err(SessionFault::Gap));
+        assert_eq!(session.num_runs(), usize::from(!chunks.is_empty()));
+    }
+}
+
+#[test]
+fn faults_have_their_texts() {
+    let texts = [
+        (SessionFault::Overlap, "a position is taken"),
+        (SessionFault::Positions, "positions past 2^64 - 1"),
+        (SessionFault::Sizes, "sizes past 2^64 - 1"),
+        (SessionFault::Memory, "out of memory"),
+        (SessionFault::Gap, "a position isn't taken, or one is past the total"),
+    ];
+    for (fault, text) in texts {
+        assert_eq!(fault.to_string(), text);
+    }
+    assert_eq!(SessionFault::Memory.to_string(), CoreError::OutOfMemory.to_string());
+}

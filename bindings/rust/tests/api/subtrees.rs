@@ -1,0 +1,126 @@
+//! Canonical subtrees and stable points.
+
+use crate::definitions;
+use crate::draws::{numbered, reference, with_cuts, Draws};
+use yurewha::error::CoreError;
+use yurewha::merklehash::{
+    find_stable_end, find_stable_start, try_find_stable_end, try_find_stable_start, xorb_hash, MerkleHash,
+    MerkleHashSubtree,
+};
+
+const MARKS: [(bool, bool); 4] = [(false, false), (false, true), (true, false), (true, true)];
+
+#[test]
+fn stable_points_are_those_of_the_examples() {
+    let examples = [
+        (numbered(0..20), Some(8), Some(16)),
+        (with_cuts(7, &[0, 3, 6]), Some(4), Some(4)),
+        (with_cuts(15, &[0, 7, 14]), Some(8), Some(8)),
+        (with_cuts(17, &[0, 8, 16]), None, None),
+        (with_cuts(5, &[0, 2, 4]), None, None),
+        (Vec::new(), None, None),
+    ];
+    for (nodes, start, end) in examples {
+        assert_eq!((find_stable_start(&nodes), find_stable_end(&nodes)), (start, end));
+    }
+}
+
+#[test]
+fn stable_points_of_drawn_lists_are_those_of_the_definition() {
+    let mut draws = Draws(3);
+    for _ in 0..300 {
+        let count = draws.below(60);
+        let nodes = draws.nodes(count);
+        let (start, end) = (definitions::stable_start(&nodes), definitions::stable_end(&nodes));
+        assert_eq!((find_stable_start(&nodes), find_stable_end(&nodes)), (start, end));
+        assert_eq!(try_find_stable_start(&nodes), Ok(start));
+        assert_eq!(try_find_stable_end(&nodes), Ok(end));
+    }
+}
+
+#[test]
+fn subtrees_of_drawn_lists_are_those_of_the_definition() {
+    let mut draws = Draws(4);
+    for i in 0..400 {
+        let (at_start, at_end) = MARKS[i % 4];
+        let count = draws.below(100);
+        let nodes = draws.nodes(count);
+        let subtree = MerkleHashSubtree::from_chunks(at_start, &nodes, at_end);
+        let levels = definitions::levels(at_start, &nodes, at_end);
+        let kept: usize = levels.iter().map(|(left, right)| left.len() + right.len()).sum();
+        assert_eq!(subtree.to_json().unwrap(), definitions::json(at_start, &nodes, at_end));
+        assert_eq!((subtree.at_start(), subtree.at_end()), (at_start, at_end));
+        assert_eq!(subtree.total_size(), nodes.iter().map(|node| node.1).sum::<u64>());
+        assert_eq!((subtree.num_nodes(), subtree.num_levels()), (kept, levels.len()));
+        assert_eq!(subtree.is_empty(), nodes.is_empty());
+        assert_eq!(subtree.final_hash(), (at_start && at_end).then(|| xorb_hash(&nodes)));
+    }
+}
+
+#[test]
+fn an_empty_subtree_has_one_level_and_the_default_hash() {
+    for (at_start, at_end) in MARKS {
+        let empty = MerkleHashSubtree::from_chunks(at_start, &[], at_end);
+        assert!(empty.is_empty());
+        assert_eq!((empty.num_nodes(), empty.num_levels(), empty.total_size()), (0, 1, 0));
+        let hash = (at_start && at_end).then(MerkleHash::default);
+        assert_eq!(empty.final_hash(), hash);
+    }
+}
+
+#[test]
+fn equal_are_subtrees_with_the_same_marks_levels_and_nodes() {
+    let mut all = Vec::new();
+    for (at_start, at_end) in MARKS {
+        for numbers in [&[][..], &[1], &[1, 2], &[2, 1]] {
+            all.push(MerkleHashSubtree::from_chunks(at_start, &reference(numbers), at_end));
+        }
+    }
+    for (i, first) in all.iter().enumerate() {
+        for (j, second) in all.iter().enumerate() {
+            assert_eq!(first == second, i == j);
+            assert_eq!(first == &second.clone(), i == j);
+        }
+    }
+}
+
+#[test]
+fn a_clone_is_a_value_of_its_own() {
+    let first = MerkleHashSubtree::from_chunks(true, &numbered(0..20), false);
+    let mut copy = first.clone();
+    assert_eq!(first.try_clone(), Ok(copy.clone()));
+    let end = MerkleHashSubtree::from_chunks(false, &[], true);
+    copy.merge_into(&end).unwrap();
+    assert_ne!(first, copy);
+    drop(first);
+    assert_eq!(copy.final_hash(), Some(xorb_hash(&numbered(0..20))));
+}
+
+#[test]
+fn a_subtree_shows_its_nodes_levels_and_marks() {
+    let subtree = MerkleHashSubtree::from_chunks(true, &[(MerkleHash::default(), 7)], false);
+    let text = format!("{subtree:?}");
+    let zeros = "0".repeat(64);
+    assert_eq!(
+        text,
+        format!("MerkleHashSubtree {{ nodes: [({zeros}, 7)], levels: [(1, 0)], at_start: true, at_end: false }}")
+    );
+}
+
+#[test]
+fn sizes_that_do_not_fit_are_refused() {
+    let fits = [(MerkleHash::default(), u64::MAX), (MerkleHash::default(), 0)];
+    let subtree = MerkleHashSubtree::try_from_chunks(false, &fits, false).unwrap();
+    assert_eq!(subtree.total_size(), u64::MAX);
+    let passes = [(MerkleHash::default(), u64::MAX), (MerkleHash::default(), 1)];
+    assert_eq!(
+        MerkleHashSubtree::try_from_chunks(false, &passes, false),
+        Err(CoreError::SizeOverflow)
+    );
+}
+
+#[test]
+#[should_panic(expected = "MerkleHashSubtree::from_chunks: size overflow")]
+fn from_chunks_names_the_cause_in_a_panic() {
+    MerkleHashSubtree::from_chunks(true, &[(MerkleHash::default(), u64::MAX); 2], true);
+}

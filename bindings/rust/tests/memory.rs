@@ -1,0 +1,279 @@
+//! What calls answer where memory is refused, at each of their requests in turn.
+//!
+//! This program has a `malloc`, a `realloc` and a `free` of its own, which the library and Rust's allocator call.
+
+#![cfg(all(target_os = "linux", target_env = "gnu"))]
+
+use std::cell::Cell;
+use std::ffi::c_void;
+use std::fmt::Debug;
+use std::panic::{catch_unwind, AssertUnwindSafe};
+use std::ptr;
+use yurewha::error::CoreError;
+use yurewha::merklehash::aggregated_hashes::{try_file_hash, try_file_hash_with_salt, try_xorb_hash, Node};
+use yurewha::merklehash::session::{Session, SessionFault};
+use yurewha::merklehash::{
+    blake3, compute_data_hash, compute_internal_node_hash, file_hash, try_find_stable_end, try_find_stable_start,
+    xorb_hash, DataHash, HashTextError, MerkleHashSubtree,
+};
+
+extern "C" {
+    fn __libc_malloc(size: usize) -> *mut c_void;
+    fn __libc_realloc(block: *mut c_void, size: usize) -> *mut c_void;
+    fn __libc_free(block: *mut c_void);
+}
+
+thread_local! {
+    // How many requests of this thread come before the one that is refused; none is, where nothing is said.
+    static BEFORE: Cell<Option<u64>> = const { Cell::new(None) };
+    // How many requests of this thread were counted.
+    static REQUESTS: Cell<u64> = const { Cell::new(0) };
+    // How many more blocks this thread took by `malloc` than it freed.
+    static BLOCKS: Cell<i64> = const { Cell::new(0) };
+}
+
+// Counts a request, and tells whether it is refused.
+fn is_refused() -> bool {
+    REQUESTS.set(REQUESTS.get() + 1);
+    let before = BEFORE.get();
+    BEFORE.set(before.and_then(|before| before.checked_sub(1)));
+    before == Some(0)
+}
+
+/// # Safety
+///
+/// As the C library's.
+#[no_mangle]
+pub unsafe extern "C" fn malloc(size: usize) -> *mut c_void {
+    if is_refused() {
+        return ptr::null_mut();
+    }
+    BLOCKS.set(BLOCKS.get() + 1);
+    // SAFETY: as the caller's.
+    unsafe { __libc_malloc(size) }
+}
+
+/// # Safety
+///
+/// As the C library's.
+#[no_mangle]
+pub unsafe extern "C" fn realloc(block: *mut c_void, size: usize) -> *mut c_void {
+    if is_refused() {
+        return ptr::null_mut();
+    }
+    BLOCKS.set(BLOCKS.get() + i64::from(block.is_null()));
+    // SAFETY: as the caller's.
+    unsafe { __libc_realloc(block, size) }
+}
+
+/// # Safety
+///
+/// As the C library's.
+#[no_mangle]
+pub unsafe extern "C" fn free(block: *mut c_void) {
+    BLOCKS.set(BLOCKS.get() - i64::from(!block.is_null()));
+    // SAFETY: as the caller's.
+    unsafe { __libc_free(block) }
+}
+
+// What a call answers where the request after so many is refused, and whether one was.
+fn with_refusal<T>(before: u64, call: impl FnOnce() -> T) -> (T, bool) {
+    BEFORE.set(Some(before));
+    let answer = call();
+    let refused = BEFORE.replace(None).is_none();
+    (answer, refused)
+}
+
+// How many requests a call makes.
+fn requests(call: impl FnOnce()) -> u64 {
+    REQUESTS.set(0);
+    call();
+    REQUESTS.get()
+}
+
+// That a call answers this error exactly where one of its requests is refused. It has to make one.
+fn assert_each_refusal<T: Debug, E: Debug + PartialEq>(error: E, call: impl Fn() -> Result<T, E>) {
+    for before in 0.. {
+        match with_refusal(before, &call) {
+            (Ok(_), false) => {
+                assert!(before > 0, "no request was made");
+                return;
+            }
+            (Err(told), true) => assert_eq!(told, error),
+            (answer, refused) => panic!("{answer:?} at request {before}, refused: {refused}"),
+        }
+    }
+}
+
+// How many blocks a call takes and doesn't free.
+fn blocks_left(call: impl FnOnce()) -> i64 {
+    let before = BLOCKS.get();
+    call();
+    BLOCKS.get() - before
+}
+
+// Nodes with natural cuts at each fourth place.
+fn nodes(count: u64) -> Vec<Node> {
+    (0..count)
+        .map(|i| (DataHash::from([i, 0, 0, u64::from(i % 4 != 3)]), 1))
+        .collect()
+}
+
+const NO_MEMORY: CoreError = CoreError::OutOfMemory;
+
+#[test]
+fn roots_and_subtrees_are_refused() {
+    let nodes = nodes(60);
+    assert_each_refusal(NO_MEMORY, || try_xorb_hash(&nodes));
+    assert_each_refusal(NO_MEMORY, || try_file_hash(&nodes));
+    assert_each_refusal(NO_MEMORY, || try_file_hash_with_salt(&nodes, &[7; 32]));
+    assert_each_refusal(NO_MEMORY, || MerkleHashSubtree::try_from_chunks(false, &nodes, false));
+    let subtree = MerkleHashSubtree::from_chunks(false, &nodes, false);
+    assert_each_refusal(NO_MEMORY, || subtree.try_clone());
+    assert_each_refusal(NO_MEMORY, || subtree.to_json());
+    let text = subtree.to_json().unwrap();
+    assert_each_refusal(NO_MEMORY, || MerkleHashSubtree::from_json(&text));
+    assert_eq!(MerkleHashSubtree::from_json(&text), Ok(subtree));
+}
+
+#[test]
+fn a_refused_merge_changes_nothing() {
+    let nodes = nodes(80);
+    let ranges = [&nodes[..37], &nodes[37..]].map(|range| MerkleHashSubtree::from_chunks(false, range, false));
+    let kept = ranges.clone();
+    let whole = MerkleHashSubtree::from_chunks(false, &nodes, false);
+    assert_each_refusal(NO_MEMORY, || MerkleHashSubtree::merge(&ranges));
+    assert_eq!(ranges, kept);
+    for before in 0.. {
+        let mut merged = ranges[0].clone();
+        let (answer, refused) = with_refusal(before, || merged.merge_into(&ranges[1]));
+        assert_eq!(answer, if refused { Err(NO_MEMORY) } else { Ok(()) });
+        assert_eq!(merged, if refused { kept[0].clone() } else { whole.clone() });
+        let counted = with_refusal(before, || ranges[0].try_clone()?.merge_into_counted(&ranges[1]));
+        assert_eq!(counted.0.is_err(), counted.1);
+        if !refused {
+            break;
+        }
+    }
+    assert_eq!(ranges, kept);
+}
+
+#[test]
+fn base64_is_refused() {
+    let hash = DataHash::marker();
+    let text = hash.base64();
+    assert_each_refusal(NO_MEMORY, || hash.try_base64());
+    assert_each_refusal(HashTextError::OutOfMemory, || DataHash::try_from_base64(&text));
+}
+
+#[test]
+fn sessions_are_refused() {
+    let nodes = nodes(60);
+    assert_each_refusal(NO_MEMORY, Session::try_new);
+    let mut session = Session::new();
+    session.put(40, &nodes[40..]).unwrap();
+    for before in 0.. {
+        let (answer, refused) = with_refusal(before, || session.put(0, &nodes[..40]));
+        assert_eq!(answer, if refused { Err(SessionFault::Memory) } else { Ok(40) });
+        assert_eq!(session.taken(0), !refused);
+        if !refused {
+            break;
+        }
+    }
+    assert_each_refusal(NO_MEMORY, || session.try_range(0));
+    assert_each_refusal(SessionFault::Memory, || session.root(60));
+    assert_each_refusal(SessionFault::Memory, || session.finish(60));
+    assert_eq!(session.finish(60), Ok(file_hash(&nodes)));
+}
+
+#[test]
+fn stable_points_are_told_or_refused() {
+    let nodes = nodes(60);
+    for find in [try_find_stable_start, try_find_stable_end] {
+        let found = find(&nodes).unwrap();
+        for before in 0..=requests(|| assert!(find(&nodes).is_ok())) {
+            let (answer, refused) = with_refusal(before, || find(&nodes));
+            assert_eq!(answer, if refused { Err(NO_MEMORY) } else { Ok(found) });
+        }
+    }
+}
+
+#[test]
+fn a_value_that_is_dropped_frees_its_memory() {
+    let nodes = nodes(60);
+    let left = blocks_left(|| {
+        let mut subtree = MerkleHashSubtree::from_chunks(true, &nodes[..20], false);
+        let rest = MerkleHashSubtree::from_chunks(false, &nodes[20..], false);
+        subtree.merge_into(&rest).unwrap();
+        assert!(rest.clone().merge_into(&subtree).is_err());
+        let _ = MerkleHashSubtree::merge(&[subtree.clone(), rest.clone()]).unwrap();
+        let _ = MerkleHashSubtree::from_json(&subtree.to_json().unwrap()).unwrap();
+        let mut session = Session::new();
+        session.put(10, &nodes[10..]).unwrap();
+        session.put(0, &nodes[..10]).unwrap();
+        assert_eq!(session.runs().count(), 1);
+        assert_eq!(session.finish(60), Ok(file_hash(&nodes)));
+    });
+    assert_eq!(left, 0);
+    let kept = blocks_left(|| std::mem::forget(MerkleHashSubtree::from_chunks(true, &nodes, false)));
+    assert!(kept > 0);
+}
+
+// The message of the panic of a call, the first request of which is refused.
+fn panic_of<T: Debug>(call: impl FnOnce() -> T) -> String {
+    let (answer, refused) = with_refusal(0, || catch_unwind(AssertUnwindSafe(call)));
+    assert!(refused);
+    *answer.unwrap_err().downcast().unwrap()
+}
+
+#[test]
+fn calls_without_a_result_name_call_and_cause_in_a_panic() {
+    let nodes = nodes(60);
+    let subtree = MerkleHashSubtree::from_chunks(false, &nodes, false);
+    let mut session = Session::new();
+    session.put(0, &nodes).unwrap();
+    let base64 = DataHash::marker().base64();
+    assert_eq!(panic_of(|| xorb_hash(&nodes)), "xorb_hash: out of memory");
+    assert_eq!(panic_of(|| file_hash(&nodes)), "file_hash: out of memory");
+    assert_eq!(
+        panic_of(|| MerkleHashSubtree::from_chunks(true, &nodes, true)),
+        "MerkleHashSubtree::from_chunks: out of memory"
+    );
+    assert_eq!(panic_of(|| subtree.clone()), "MerkleHashSubtree::clone: out of memory");
+    assert_eq!(
+        panic_of(|| DataHash::marker().base64()),
+        "DataHash::base64: out of memory"
+    );
+    assert_eq!(
+        panic_of(|| DataHash::from_base64(&base64)),
+        "DataHash::from_base64: out of memory"
+    );
+    assert_eq!(panic_of(Session::new), "Session::new: out of memory");
+    assert_eq!(panic_of(|| session.range(0)), "Session::range: out of memory");
+}
+
+#[test]
+fn other_calls_take_no_memory() {
+    let nodes = nodes(60);
+    let subtree = MerkleHashSubtree::from_chunks(true, &nodes, true);
+    let copy = subtree.clone();
+    let mut session = Session::new();
+    session.put(0, &nodes).unwrap();
+    let text = DataHash::marker().hex();
+    let taken = requests(|| {
+        let hash = DataHash::random_from_seed(1);
+        let bytes: [u8; 32] = hash.into();
+        assert!(DataHash::from(bytes) == hash && hash <= DataHash::marker() && hash % 7 < 7);
+        assert!(DataHash::from_hex(&text).is_ok());
+        let mut hasher = blake3::Hasher::new_keyed(&bytes);
+        hasher.update(hash.as_bytes()).unwrap();
+        assert!(hasher.finalize() == hash.hmac(hash));
+        assert!(compute_data_hash(&bytes) != compute_internal_node_hash(&bytes));
+        assert!(try_xorb_hash(&nodes[..1]).is_ok());
+        assert!(subtree == copy && subtree.at_start() && subtree.at_end());
+        assert!(subtree.final_hash().is_some());
+        assert!(subtree.total_size() == 60 && subtree.num_nodes() == 1 && subtree.num_levels() > 1);
+        assert!(session.taken(0) && session.num_runs() == 1);
+    });
+    assert_eq!(taken, 0);
+}

@@ -1,0 +1,110 @@
+//! The calls that answer lines. Where one is refused a request, it writes nothing. JSON values take their memory elsewhere.
+
+use super::{Outcome, Refusing, outcome_of};
+use std::alloc::Global;
+use std::fmt::Write;
+use std::test::Fail;
+use test_support::texts::{ABC, THREE_PAIRS, lines_of_row, two_fields};
+use test_support::{EACH_FOURTH, with_cuts};
+use xet_merkle::CoreError;
+use xet_merkle::aggregated_hashes::{Node, file_hash, xorb_hash};
+use xet_merkle::merkle_hash_subtree::MerkleHashSubtree;
+use xet_merkle::plain_range::PlainRange;
+use xetrange_text::join::{join, root};
+use xetrange_text::make::make;
+use xetroot_text::run::{run, run_with};
+
+/// Calls that answer lines, each with its lines where these are pairs and chunks; the commands of `xetrange` have those of 28
+/// nodes.
+pub const OF_LINES: &str = "run|h1 100;h2 200;--;h3 300;
+run|@2;h3 300;@0;h1 100;@1;h2 200;
+run|+abc
+run over plain ranges|h1 100;h2 200;--;h3 300;
+run over plain ranges|@2;h3 300;@0;h1 100;@1;h2 200;
+run over plain ranges|+abc
+make|
+join|
+root|";
+
+// The two lines of a list of nodes.
+fn answer_to(memory: Global, nodes: &[Node]) -> Result<String, Fail> {
+    let (root, file) = (xorb_hash(memory, nodes)?, file_hash(memory, nodes)?);
+    Ok(format!(in memory; "xorb {root}\nfile {file}\n")?)
+}
+
+// The line of the range of some nodes.
+fn range_of(memory: Global, nodes: &[Node]) -> Result<String, Fail> {
+    let range = MerkleHashSubtree::from_chunks(memory, false, nodes, false)?;
+    let mut line = range.to_json(memory)?.to_string(memory)?;
+    line.push('\n')?;
+    Ok(line)
+}
+
+// What a command of `xetrange` reads and what it should answer.
+fn of_command(memory: Global, call: &str) -> Result<(String, String), Fail> {
+    let nodes = with_cuts::<28>(&EACH_FOURTH);
+    let mut twice = Vec::new(memory);
+    twice.extend_from_slice(&nodes)?;
+    twice.extend_from_slice(&nodes)?;
+    let range = range_of(memory, &nodes)?;
+    if call == "make" {
+        let mut pairs = String::new(memory);
+        for (hash, size) in &nodes {
+            writeln!(pairs, "{hash} {size}")?;
+        }
+        return Ok((pairs, range));
+    }
+    let ranges = format!(in memory; "{range}{range}")?;
+    let answer = match call {
+        "join" => range_of(memory, &twice)?,
+        _ => answer_to(memory, &twice)?,
+    };
+    Ok((ranges, answer))
+}
+
+// What a call reads and what it should answer.
+fn input_and_answer(memory: Global, call: &str, lines: &str) -> Result<(String, String), Fail> {
+    if !call.starts_with("run") {
+        return of_command(memory, call);
+    }
+    let answer = if lines == "+abc" { ABC } else { THREE_PAIRS };
+    Ok((
+        lines_of_row(memory, lines)?,
+        String::from_str(memory, answer)?,
+    ))
+}
+
+// The status of what a call comes to, or 0.
+fn status_of(
+    alloc: &Refusing,
+    memory: Global,
+    call: &str,
+    mut input: &[u8],
+    output: &mut Vec<u8>,
+) -> u8 {
+    let r = &mut input;
+    let result = match call {
+        "run" => run(alloc, r, output).map_err(|fault| fault.status()),
+        "make" => make(alloc, memory, r, output).map_err(|fault| fault.status()),
+        "join" => join(alloc, memory, r, output).map_err(|fault| fault.status()),
+        "root" => root(alloc, memory, r, output).map_err(|fault| fault.status()),
+        _ => run_with::<PlainRange<&Refusing>, _, _>(alloc, r, output).map_err(
+            |fault| fault.status(),
+        ),
+    };
+    result.err().unwrap_or(0)
+}
+
+/// Tries a call that answers lines.
+pub fn attempt(alloc: &Refusing, granted: u32, memory: Global, row: &str) -> Result<Outcome, Fail> {
+    let (call, lines) = two_fields(row, '|')?;
+    let (input, expected) = input_and_answer(memory, call, lines)?;
+    let mut output = Vec::new(memory);
+    alloc.grant(granted);
+    let answer = match status_of(alloc, memory, call, input.as_bytes(), &mut output) {
+        0 => Ok(output.as_slice() == expected.as_bytes()),
+        3 => Err(CoreError::OutOfMemory),
+        _ => Ok(false),
+    };
+    Ok(outcome_of(alloc, answer, output.is_empty()))
+}

@@ -1,0 +1,158 @@
+//! Sessions over each kind of range, and what they keep of hashes.
+
+use super::ranges::Kind;
+use super::{Outcome, Refusing, outcome_of};
+use std::alloc::Global;
+use std::test::Fail;
+use test_support::reference_list;
+use test_support::texts::{four_fields, three_fields};
+use upload_session::kept_hashes::{KeptHashes, SeenHashes};
+use upload_session::session::SessionOf;
+use upload_session::session_fault::SessionFault;
+use xet_hash::data_hash::MerkleHash;
+use xet_merkle::CoreError;
+use xet_merkle::aggregated_hashes::{Node, file_hash, xorb_hash};
+
+/// Calls of a session, each with the reference chunks by position in the end, the puts before the call, and those from it on.
+/// A put has its first position, its chunks, and how many hashes are new.
+pub const OF_SESSIONS: &str = "put alone|1,2,3||2:3:1 0:1,2:2
+put of equal chunks|1,1,1,1||0:1,1:1 2:1,1:0
+put before a run|1,2,3|2:3:1|0:1,2:2
+put after a run|1,1,1,1|0:1,1:1|2:1,1:0
+put between two runs|1,2,3|0:1:1 2:3:1|1:2:1
+finish|1,2,3|2:3:1 0:1,2:2|
+finish with equal chunks|1,1,1,1|0:1,1:1 2:1,1:0|
+root|1,2,3|2:3:1 0:1,2:2|";
+
+// Whether a call answers what it should.
+fn is_right<T: PartialEq + Drop>(
+    answer: Result<T, SessionFault>,
+    expected: T,
+) -> Result<bool, CoreError> {
+    match answer {
+        Ok(value) => Ok(value == expected),
+        Err(SessionFault::Memory) => Err(CoreError::OutOfMemory),
+        Err(_) => Ok(false),
+    }
+}
+
+/// A put: its first position, its chunks, and how many hashes are new.
+#[derive(Drop)]
+struct Put {
+    first: u64,
+    chunks: Vec<Node>,
+    new: u64,
+}
+
+// The put of a text.
+fn read(memory: Global, text: &str) -> Result<Put, Fail> {
+    let (first, chunks, new) = three_fields(text, ':')?;
+    Ok(Put {
+        first: first.parse()?,
+        chunks: reference_list(memory, chunks)?,
+        new: new.parse()?,
+    })
+}
+
+// Whether puts are answered as they should be.
+fn are_put<'a, R: Kind<Alloc = &'a Refusing>>(
+    memory: Global,
+    session: &mut SessionOf<R>,
+    puts: &str,
+) -> Result<bool, Fail> {
+    for text in puts.split_whitespace() {
+        let put = read(memory, text)?;
+        if session.put(put.first, &put.chunks) != Ok(put.new) {
+            return Ok(false);
+        }
+    }
+    Ok(true)
+}
+
+// Whether two sessions have the same ranges, and the same positions are taken, among the first ones.
+fn are_same<'a, R: Kind<Alloc = &'a Refusing>>(
+    session: &SessionOf<R>,
+    other: &SessionOf<R>,
+) -> bool {
+    for i in 0..4 {
+        let is_same = match (session.range(i), other.range(i)) {
+            (Some((first, range)), Some((other_first, other_range))) => {
+                first == other_first && range.equals(other_range)
+            }
+            (None, None) => true,
+            _ => false,
+        };
+        if !is_same || session.taken(i as u64) != other.taken(i as u64) {
+            return false;
+        }
+    }
+    true
+}
+
+/// Tries a call of a session, and where it is refused goes on from the session as it was.
+pub fn attempt<'a, R: Kind<Alloc = &'a Refusing>>(
+    alloc: &'a Refusing,
+    granted: u32,
+    memory: Global,
+    row: &str,
+) -> Result<Outcome, Fail> {
+    let (call, chunks, before, rest) = four_fields(row, '|')?;
+    let chunks = reference_list(memory, chunks)?;
+    let (total, root) = (chunks.len() as u64, xorb_hash(memory, &chunks)?);
+    let file = file_hash(memory, &chunks)?;
+    let (mut session, mut other): (SessionOf<R>, SessionOf<R>) = (
+        SessionOf::new_in(alloc)?,
+        SessionOf::new_in(alloc)?,
+    );
+    let is_begun = are_put(memory, &mut session, before)? && are_put(memory, &mut other, before)?;
+    let (first, others) = rest.split_once(' ').unwrap_or((rest, ""));
+    let answer = if call.starts_with("put") {
+        let put = read(memory, first)?;
+        alloc.grant(granted);
+        is_right(session.put(put.first, &put.chunks), put.new)
+    } else {
+        alloc.grant(granted);
+        if call == "root" {
+            is_right(session.root(total), root)
+        } else {
+            is_right(session.finish(total), file)
+        }
+    };
+    let outcome = outcome_of(alloc, answer, are_same(&session, &other));
+    alloc.grant(u32::MAX);
+    let rest = if matches!(outcome, Outcome::Refused) {
+        rest
+    } else {
+        others
+    };
+    let is_ended = are_put(memory, &mut session, rest)?
+        && session.root(total) == Ok(root)
+        && session.finish(total) == Ok(file);
+    Ok(outcome.if_so(is_begun && is_ended))
+}
+
+/// Tries to keep 100 hashes beside another one. After a refusal they should all be new again, and else none of them.
+pub fn keep_hashes(alloc: &Refusing, granted: u32, memory: Global) -> Result<Outcome, Fail> {
+    let mut chunks = Vec::new(memory);
+    for number in 0..100 {
+        chunks.push((MerkleHash::from([number, 0, 0, 0]), 1))?;
+    }
+    let mut seen: SeenHashes<&Refusing> = KeptHashes::new(alloc);
+    let before = seen
+        .keep(alloc, &[(MerkleHash::from([200, 0, 0, 0]), 1)])?
+        .len();
+    alloc.grant(granted);
+    let answer = match seen.keep(alloc, &chunks) {
+        Ok(new) => Ok(new.len() == 100),
+        Err(error) => Err(error.into()),
+    };
+    let outcome = outcome_of(alloc, answer, true);
+    alloc.grant(u32::MAX);
+    let new_again = if matches!(outcome, Outcome::Refused) {
+        100
+    } else {
+        0
+    };
+    let is_right = before == 1 && seen.keep(alloc, &chunks)?.len() == new_again;
+    Ok(outcome.if_so(is_right))
+}

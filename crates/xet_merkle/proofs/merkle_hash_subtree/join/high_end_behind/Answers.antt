@@ -1,5 +1,0 @@
-use Rattle.xet_merkle.proofs.Merging.Join.{high_behind_found}
-use Rattle.xet_merkle.proofs.merkle_hash_subtree.join.high_end_behind.Goals as goal
-
-pub returns-else-at_end-clause-high : goal.returns-else-at_end-clause-high
-returns-else-at_end-clause-high c = rw (c.if-at_end.false, c.unwrap_or.ensures) (high_behind_found c.last_stable.result c.args.nodes.now c.last_stable.ensures.last c.last_stable.ensures.none)

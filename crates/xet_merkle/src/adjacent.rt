@@ -1,0 +1,73 @@
+//! What is known of adjacent ranges that were passed one after another, and why they can't be made one.
+
+ghost use Rattle.std.specs.Prelude.{◌≡◌, ℕ, ◌+◌, ◌^◌, ◌<◌, ◌↔◌, List, [], ◌∷◌, ◌++◌, true, Some, None, SomeIff, IsTrue};
+ghost use Rattle.xet_merkle.specs.Steps.Adjacent.{IsPassed, Follows, refusal};
+
+use crate::chunk_range::ChunkRange;
+use crate::error::CoreError;
+
+// What is known of the ranges that were passed.
+#[derive(Clone, Copy)]
+pub(crate) struct Passed {
+    // The end mark of the last one.
+    last_end: Option<bool>,
+    // Whether no mark stands between two of them.
+    no_mark_between: bool,
+    // The sum of their sizes, where it is at most `u64::MAX`.
+    total: Option<u64>,
+}
+
+impl Passed {
+    // No range was passed.
+    pub(crate) fn new() -> Self
+        ensures { result ≡ record { last_end = None; no_mark_between = true; total = Some 0 } }
+    {
+        Passed {
+            last_end: None,
+            no_mark_between: true,
+            total: Some(0),
+        }
+    }
+
+    // Passes a range.
+    pub(crate) fn pass<R: ChunkRange>(self, range: &R) -> Self
+        ensures { (ranges : List R) → IsPassed R.start R.end R.total self ranges →
+            IsPassed R.start R.end R.total result (ranges ++ range.now ∷ []) }
+    {
+        Passed {
+            last_end: Some(range.at_end()),
+            no_mark_between: stay_unmarked(self.no_mark_between, self.last_end, range.at_start()),
+            total: add_size(self.total, range.total_size()),
+        }
+    }
+
+    // Why ranges of which this is known can't be made one, where there is a reason but memory.
+    pub(crate) fn refusal(self) -> Option<CoreError>
+        ensures { result ≡ refusal self.no_mark_between self.total }
+    {
+        if !self.no_mark_between {
+            Some(CoreError::InvalidArguments)
+        } else if self.total.is_none() {
+            Some(CoreError::SizeOverflow)
+        } else {
+            None
+        }
+    }
+}
+
+// Whether no mark stands between ranges, the last of which has that end mark, if there is one, and one more.
+fn stay_unmarked(no_mark_between: bool, last_end: Option<bool>, at_start: bool) -> bool
+    ensures { IsTrue result ↔ (IsTrue no_mark_between × Follows last_end at_start) }
+{
+    match last_end {
+        None => no_mark_between,
+        Some(last_end) => no_mark_between && !last_end && !at_start,
+    }
+}
+
+// A sum of sizes, if it is at most `u64::MAX`, with one more.
+fn add_size(total: Option<u64>, size: u64) -> Option<u64>
+    ensures { (sum : ℕ) → SomeIff total (sum < 2 ^ 64) sum → SomeIff result (sum + size < 2 ^ 64) (sum + size) }
+{
+    total?.checked_add(size)
+}

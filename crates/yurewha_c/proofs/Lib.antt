@@ -1,0 +1,5 @@
+pub mod AsBox
+pub mod NodesOfChunks
+pub mod HandleLists
+pub mod Handles
+pub mod SessionStatuses

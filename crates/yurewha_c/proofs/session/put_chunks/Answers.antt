@@ -1,0 +1,15 @@
+use Rattle.std.proofs.Common.{◌≡◌, [], length, ◌∙◌, rules}
+use Rattle.yurewha_c.specs.Chunks.{nodes_of}
+use Rattle.yurewha_c.proofs.SessionStatuses.{no_nodes}
+use Rattle.yurewha_c.proofs.session.put_chunks.Goals as goal
+
+pub returns-then-is_empty-clause-placed : goal.returns-then-is_empty-clause-placed
+returns-then-is_empty-clause-placed c =
+    let h : length c.args.chunks.now ≡ 0 = search rules in
+    let e : nodes_of c.args.chunks.now ≡ [] = no_nodes c.args.chunks.now h in
+    rw e c.put.ensures.placed
+
+pub returns-clause-placed : goal.returns-clause-placed
+returns-clause-placed c =
+    let e : c.deref.result.now ≡ nodes_of c.args.chunks.now = c.deref.ensures.value ∙ c.in_ok-nodes.ensures in
+    rw e at c.put-2.ensures.placed

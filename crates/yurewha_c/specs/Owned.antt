@@ -1,0 +1,32 @@
+-- What a handle owns: nothing where its pointer is null, else what a box at that pointer owns.
+use base.Fml.{Fml, ffalse, ftrue}
+use base.Stored.{Coded}
+use denote.RattleType.{RattleType}
+use denote.RawPtr.{Ptr, null_ptr, block_ptr}
+use Rattle.std.specs.Prelude.{Option, Some, None}
+use Rattle.std.specs.Coded.{coded_option}
+use Rattle.std.specs.Box.Ownership.{box_owns}
+use Rattle.std.specs.Global.{Global}
+use Rattle.std.specs.contracts.impls.GlobalAllocator.TheImpl.{ghosts}
+use Rattle.yurewha_c.specs.Rows.{subtree_row, session_row}
+
+-- a pointer that is null
+abbrev pub IsNull : Ptr → Fml
+IsNull null_ptr = ftrue
+IsNull (block_ptr b o) = ffalse
+
+abbrev pub owns_kept : (R : RattleType) → Global → Ptr → Option R.Denot → Fml
+owns_kept R alloc at None = IsNull at
+owns_kept R alloc at (Some kept) = box_owns (ghosts.dealloc_token alloc) R at kept
+
+abbrev pub owns_subtree : Global → Ptr → Option subtree_row.Denot → Fml
+owns_subtree = owns_kept subtree_row
+
+abbrev pub subtree_code : Coded (Option subtree_row.Denot)
+subtree_code = coded_option subtree_row.coded
+
+abbrev pub owns_session : Global → Ptr → Option session_row.Denot → Fml
+owns_session = owns_kept session_row
+
+abbrev pub session_code : Coded (Option session_row.Denot)
+session_code = coded_option session_row.coded

@@ -1,0 +1,19 @@
+-- The statuses of refusals.
+use Rattle.std.specs.Prelude.{ℕ, ◌+◌}
+use Rattle.xet_merkle.specs.declared.error.CoreError.{CoreError}
+use Rattle.xet_merkle.specs.declared.error.CoreError.TheVariants.{InvalidArguments, SizeOverflow, OutOfMemory, InvalidJson}
+use Rattle.upload_session.specs.declared.session_fault.SessionFault.{SessionFault}
+use Rattle.upload_session.specs.declared.session_fault.SessionFault.TheVariants.{Overlap, Positions, Sizes, Memory, Gap}
+
+abbrev pub core_status : CoreError → ℕ
+core_status InvalidArguments = 1
+core_status SizeOverflow = 2
+core_status OutOfMemory = 3
+core_status (InvalidJson rule) = 16 + rule
+
+abbrev pub session_status : SessionFault → ℕ
+session_status Overlap = 33
+session_status Positions = 34
+session_status Sizes = 35
+session_status Memory = 36
+session_status Gap = 37

@@ -1,0 +1,97 @@
+//! Hashes as text: hex and base64.
+
+ghost use Rattle.std.specs.Prelude.{◌≡◌, ◌≢◌, ◌↔◌, ◌⊎◌, ℕ, ◌<◌, ◌≤◌, List, ◌++◌, drop, length};
+ghost use Rattle.std.specs.Str.{str_to_ascii_lowercase};
+ghost use Rattle.xet_hash.specs.Hash.{hex_text, IsHash, IsHexText};
+ghost use Rattle.xet_hash.specs.HashForms.{base64_text};
+
+use crate::hash::Hash;
+use crate::status::{DONE, MEMORY, ROOM, TEXT};
+use crate::text::write_text;
+use std::alloc::Global;
+use xet_hash::data_hash::{DataHash, HashTextError};
+use xet_hash::laws::hash_reads_back_from_base64_text;
+
+/// Writes the hex text of a hash, 64 lower-case digits, to the beginning of `room`, and 64 to `text_len`.
+///
+/// Status `DONE` where `room` has 64 bytes or more, else `ROOM`: then nothing is written to it.
+#[unsafe(no_mangle)]
+pub extern "C" fn yurewha_hex(hash: &Hash, room: &mut [u8], text_len: &mut usize) -> u32
+    ensures done { (result ≡ DONE) ↔ (64 ≤ length room.old) }
+    ensures room { (result ≡ ROOM) ↔ (length room.old < 64) }
+    ensures written { result ≡ DONE → room.new ≡ hex_text hash.now.words ++ drop 64 room.old }
+    ensures unchanged { result ≢ DONE → room.new ≡ room.old }
+    ensures len { text_len.new ≡ 64 }
+{
+    write_text(&hash.value().hex_digits(), room, text_len)
+}
+
+/// Writes the hash whose hex text `text` is. It takes no memory.
+///
+/// Status `DONE` where `text` is 64 hex digits of either case, else `TEXT`: then nothing is written.
+#[unsafe(no_mangle)]
+pub extern "C" fn yurewha_from_hex(text: &[u8], hash: &mut Hash) -> u32
+    ensures done { (result ≡ DONE) ↔ IsHexText text.now }
+    ensures text { (result ≡ TEXT) ↔ (¬ IsHexText text.now) }
+    ensures value { result ≡ DONE → hex_text hash.new.words ≡ str_to_ascii_lowercase text.now }
+    ensures unchanged { result ≢ DONE → hash.new ≡ hash.old }
+{
+    match DataHash::from_hex_digits(text) {
+        Ok(value) => {
+            *hash = Hash::of(value);
+            DONE
+        }
+        Err(_) => TEXT,
+    }
+}
+
+/// Writes the base64 text of a hash, 43 characters of the URL-safe alphabet without padding, to the beginning of `room`,
+/// and 43 to `text_len`.
+///
+/// Status `DONE`; `ROOM` where `room` has less than 43 bytes, and then nothing is written to it; `MEMORY` where an
+/// allocation is refused, and then nothing is written.
+#[unsafe(no_mangle)]
+pub extern "C" fn yurewha_base64(
+    alloc: Global,
+    hash: &Hash,
+    room: &mut [u8],
+    text_len: &mut usize,
+) -> u32
+    ensures statuses { (result ≡ DONE) ⊎ ((result ≡ ROOM) ⊎ (result ≡ MEMORY)) }
+    ensures done { result ≡ DONE → 43 ≤ length room.old }
+    ensures room { result ≡ ROOM → length room.old < 43 }
+    ensures written { result ≡ DONE → room.new ≡ base64_text hash.now.words ++ drop 43 room.old }
+    ensures unchanged { result ≢ DONE → room.new ≡ room.old }
+    ensures len { result ≢ MEMORY → text_len.new ≡ 43 }
+    ensures no_len { result ≡ MEMORY → text_len.new ≡ text_len.old }
+{
+    match hash.value().base64(alloc) {
+        Ok(text) => {
+            // A law of base64 texts, for the contract.
+            hash_reads_back_from_base64_text();
+            write_text(text.as_bytes(), room, text_len)
+        }
+        Err(_) => MEMORY,
+    }
+}
+
+/// Writes the hash whose base64 text `text` is.
+///
+/// Status `DONE`; `TEXT` where no hash has that text; `MEMORY` where an allocation is refused. Nothing is written where it
+/// isn't `DONE`.
+#[unsafe(no_mangle)]
+pub extern "C" fn yurewha_from_base64(alloc: Global, text: &[u8], hash: &mut Hash) -> u32
+    ensures statuses { (result ≡ DONE) ⊎ ((result ≡ TEXT) ⊎ (result ≡ MEMORY)) }
+    ensures value { result ≡ DONE → base64_text hash.new.words ≡ text.now }
+    ensures text { result ≡ TEXT → (words : List ℕ) → IsHash words → base64_text words ≢ text.now }
+    ensures unchanged { result ≢ DONE → hash.new ≡ hash.old }
+{
+    match DataHash::from_base64_characters(alloc, text) {
+        Ok(value) => {
+            *hash = Hash::of(value);
+            DONE
+        }
+        Err(HashTextError::Bytes(_)) => TEXT,
+        Err(HashTextError::OutOfMemory) => MEMORY,
+    }
+}

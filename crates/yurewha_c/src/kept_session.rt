@@ -1,0 +1,9 @@
+//! The session that a handle owns.
+
+use upload_session::session::Session;
+
+// A session over subtrees under a name without parameters.
+#[derive(Drop)]
+pub(crate) struct KeptSession {
+    pub(crate) session: Session,
+}

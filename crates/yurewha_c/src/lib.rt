@@ -1,0 +1,24 @@
+//! The library for callers in C: proved exports over the crates below it, which `bindings/include/yurewha.h` declares.
+//!
+//! A slice crosses as a pointer and a length, a reference as a pointer, and a `Global` as nothing. No export has a
+//! condition: each wrong argument has a [`status`]. What owns memory crosses as a [`subtree_handle`] or a
+//! [`session_handle`].
+#![tactic(auto)]
+
+mod chunks;
+mod hash;
+mod hash_text;
+mod hasher;
+mod kept_session;
+mod parts;
+mod roots;
+mod session;
+mod session_handle;
+mod session_runs;
+mod status;
+mod subtree;
+mod subtree_flat;
+mod subtree_handle;
+mod subtree_merging;
+mod subtree_text;
+mod text;

@@ -1,0 +1,232 @@
+//! Sessions: chunks by their positions, which come in any order.
+
+ghost use Rattle.std.specs.Prelude.{◌≡◌, ◌≢◌, ◌⊎◌, ◌↔◌, ◌+◌, ◌^◌, ◌<◌, ◌≤◌, None, IfErr, IfOk, IfSome, IsErrOf, IsSomeAnd, IsTrue, List, [], OnErr, OnOk, Ok, replicate, length};
+ghost use Rattle.xet_merkle.specs.Roots.{IsRoot, IsFileHash, total_size};
+ghost use Rattle.upload_session.specs.Hashes.{Hash as HashWords, hashes_of, AreNew};
+ghost use Rattle.upload_session.specs.Session.{Placed, place, chunks_of, is_taken, overlaps, IsWhole};
+ghost use Rattle.yurewha_c.specs.Chunks.{nodes_of};
+ghost use Rattle.yurewha_c.specs.Handles.{BothHold};
+ghost use Rattle.yurewha_c.specs.Sessions.{Stands};
+
+use crate::chunks::{Chunk, nodes_of};
+use crate::hash::Hash;
+use crate::kept_session::KeptSession;
+use crate::session_handle::SessionHandle;
+use crate::status::{
+    DONE, EMPTY_HANDLE, MEMORY, SESSION_GAP, SESSION_MEMORY, SESSION_OVERLAP, SESSION_POSITIONS,
+    SESSION_SIZES, status_of_fault,
+};
+use std::alloc::Global;
+use upload_session::session::SessionOf;
+use upload_session::session_fault::SessionFault;
+
+/// Puts a session without chunks into a handle.
+///
+/// Status `DONE`, and `MEMORY` where an allocation is refused: then the handle is as it was. Else what it owned is freed.
+#[unsafe(no_mangle)]
+pub extern "C" fn yurewha_session_new(alloc: Global, session: &mut SessionHandle) -> u32
+    ensures made { result ≡ DONE → IsSomeAnd session.new.value (λ made. Stands made []) }
+    ensures statuses { (result ≡ DONE) ⊎ (result ≡ MEMORY) }
+    ensures unchanged { result ≢ DONE → session.new.value ≡ session.old.value }
+{
+    let made = KeptSession {
+        session: SessionOf::new(alloc),
+    };
+    session.hold(alloc, made)
+}
+
+// Places chunks, as `put` of a session does. Want of memory for their nodes may come in the place of another refusal.
+fn put_chunks(
+    alloc: Global,
+    kept: &mut KeptSession,
+    first: u64,
+    chunks: &[Chunk],
+) -> Result<u64, SessionFault>
+    ensures placed { OnOk result ((placed : List Placed) → Stands kept.old placed →
+        Stands kept.new (place placed first (nodes_of chunks.now))) }
+    ensures new { IfOk result (λ count. (placed : List Placed) → Stands kept.old placed → 0 < length chunks.now →
+        (new : List HashWords) × AreNew (hashes_of (chunks_of placed)) (hashes_of (nodes_of chunks.now)) new
+        × (count ≡ length new)) }
+    ensures nothing { length chunks.now ≡ 0 → (result ≡ Ok 0) × (kept.new ≡ kept.old) }
+    ensures overlap { (placed : List Placed) → Stands kept.old placed → ¬ IsErrOf result SessionFault.Memory →
+        (IsErrOf result SessionFault.Overlap ↔ IsTrue (overlaps placed first (length chunks.now))) }
+    ensures positions { (placed : List Placed) → Stands kept.old placed → ¬ IsErrOf result SessionFault.Memory →
+        (IsErrOf result SessionFault.Positions ↔ (¬ IsTrue (overlaps placed first (length chunks.now))
+        × (2 ^ 64 ≤ first + length chunks.now))) }
+    ensures sizes { (placed : List Placed) → Stands kept.old placed → ¬ IsErrOf result SessionFault.Memory →
+        (IsErrOf result SessionFault.Sizes ↔ (¬ IsTrue (overlaps placed first (length chunks.now))
+        × (first + length chunks.now < 2 ^ 64)
+        × (2 ^ 64 ≤ total_size (chunks_of placed) + total_size (nodes_of chunks.now)))) }
+    ensures errors { IfErr result (λ e. (e ≡ SessionFault.Overlap) ⊎ ((e ≡ SessionFault.Positions)
+        ⊎ ((e ≡ SessionFault.Sizes) ⊎ (e ≡ SessionFault.Memory)))) }
+    ensures refused { OnErr result ((placed : List Placed) → Stands kept.old placed → Stands kept.new placed) }
+    ensures unchanged { OnErr result (kept.new.session.runs ≡ kept.old.session.runs) }
+{
+    if chunks.is_empty() {
+        return kept.session.put(first, &[]);
+    }
+    let nodes = nodes_of(alloc, chunks)?;
+    kept.session.put(first, &nodes)
+}
+
+/// Places chunks at the positions from `first` on, and writes how many hashes among them no earlier accepted put had, each
+/// counted once. Without a chunk it writes 0 and changes nothing, wherever `first` is.
+///
+/// Status `DONE`; `EMPTY_HANDLE` where the handle is empty; `SESSION_OVERLAP` where one of the positions is taken;
+/// `SESSION_POSITIONS` where, else, `first` plus the number of chunks passes 2^64 - 1; `SESSION_SIZES` where, else, all sizes
+/// add up to more than 2^64 - 1; `SESSION_MEMORY` where an allocation is refused. Nothing has changed where it isn't
+/// `DONE`.
+#[unsafe(no_mangle)]
+pub extern "C" fn yurewha_session_put(
+    alloc: Global,
+    session: &mut SessionHandle,
+    first: u64,
+    chunks: &[Chunk],
+    new_hashes: &mut u64,
+) -> u32
+    ensures placed { result ≡ DONE → BothHold session.old.value session.new.value (λ before after.
+        (placed : List Placed) → Stands before placed → Stands after (place placed first (nodes_of chunks.now))) }
+    ensures new { result ≡ DONE → IsSomeAnd session.old.value (λ before. (placed : List Placed) → Stands before placed →
+        0 < length chunks.now → (new : List HashWords)
+        × AreNew (hashes_of (chunks_of placed)) (hashes_of (nodes_of chunks.now)) new × (new_hashes.new ≡ length new)) }
+    ensures nothing { length chunks.now ≡ 0 → session.old.value ≢ None →
+        (result ≡ DONE) × (new_hashes.new ≡ 0) × (session.new.value ≡ session.old.value) }
+    ensures empty { (result ≡ EMPTY_HANDLE) ↔ (session.old.value ≡ None) }
+    ensures overlap { result ≢ SESSION_MEMORY → IfSome session.old.value (λ before.
+        (placed : List Placed) → Stands before placed →
+        ((result ≡ SESSION_OVERLAP) ↔ IsTrue (overlaps placed first (length chunks.now)))) }
+    ensures positions { result ≢ SESSION_MEMORY → IfSome session.old.value (λ before.
+        (placed : List Placed) → Stands before placed →
+        ((result ≡ SESSION_POSITIONS) ↔ (¬ IsTrue (overlaps placed first (length chunks.now))
+        × (2 ^ 64 ≤ first + length chunks.now)))) }
+    ensures sizes { result ≢ SESSION_MEMORY → IfSome session.old.value (λ before.
+        (placed : List Placed) → Stands before placed →
+        ((result ≡ SESSION_SIZES) ↔ (¬ IsTrue (overlaps placed first (length chunks.now))
+        × (first + length chunks.now < 2 ^ 64)
+        × (2 ^ 64 ≤ total_size (chunks_of placed) + total_size (nodes_of chunks.now))))) }
+    ensures statuses { (result ≡ DONE) ⊎ ((result ≡ EMPTY_HANDLE) ⊎ ((result ≡ SESSION_OVERLAP)
+        ⊎ ((result ≡ SESSION_POSITIONS) ⊎ ((result ≡ SESSION_SIZES) ⊎ (result ≡ SESSION_MEMORY))))) }
+    ensures refused { result ≢ DONE → result ≢ EMPTY_HANDLE →
+        BothHold session.old.value session.new.value (λ before after. (after.session.runs ≡ before.session.runs)
+        × ((placed : List Placed) → Stands before placed → Stands after placed)) }
+    ensures still_empty { result ≡ EMPTY_HANDLE → session.new.value ≡ None }
+    ensures unchanged { result ≢ DONE → new_hashes.new ≡ new_hashes.old }
+{
+    let Some(mut kept) = session.take(alloc) else {
+        return EMPTY_HANDLE;
+    };
+    let placed = put_chunks(alloc, &mut kept, first, chunks);
+    session.put(kept);
+    match placed {
+        Ok(count) => {
+            *new_hashes = count;
+            DONE
+        }
+        Err(fault) => status_of_fault(fault),
+    }
+}
+
+/// Writes whether a position is taken. It takes no memory.
+///
+/// Status `DONE`, and `EMPTY_HANDLE` where the handle is empty: then nothing is written. The session stays as it is.
+#[unsafe(no_mangle)]
+pub extern "C" fn yurewha_session_taken(
+    alloc: Global,
+    session: &mut SessionHandle,
+    position: u64,
+    taken: &mut bool,
+) -> u32
+    ensures taken { result ≡ DONE → IsSomeAnd session.old.value (λ kept. (placed : List Placed) → Stands kept placed →
+        taken.new ≡ is_taken placed position) }
+    ensures empty { (result ≡ EMPTY_HANDLE) ↔ (session.old.value ≡ None) }
+    ensures statuses { (result ≡ DONE) ⊎ (result ≡ EMPTY_HANDLE) }
+    ensures kept { session.new.value ≡ session.old.value }
+    ensures unchanged { result ≢ DONE → taken.new ≡ taken.old }
+{
+    let Some(kept) = session.take(alloc) else {
+        return EMPTY_HANDLE;
+    };
+    *taken = kept.session.taken(position);
+    session.put(kept);
+    DONE
+}
+
+/// Writes the root of all chunks by position.
+///
+/// Status `DONE`; `EMPTY_HANDLE` where the handle is empty; `SESSION_GAP` where the positions taken aren't exactly those from
+/// 0 to `total` - 1; `SESSION_MEMORY` where an allocation is refused. Nothing is written where it isn't `DONE`. The session
+/// stays as it is.
+#[unsafe(no_mangle)]
+pub extern "C" fn yurewha_session_root(
+    alloc: Global,
+    session: &mut SessionHandle,
+    total: u64,
+    root: &mut Hash,
+) -> u32
+    ensures root { result ≡ DONE → IsSomeAnd session.old.value (λ kept. (placed : List Placed) → Stands kept placed →
+        IsRoot (chunks_of placed) root.new.words) }
+    ensures gap { IfSome session.old.value (λ kept. (placed : List Placed) → Stands kept placed →
+        ((result ≡ SESSION_GAP) ↔ (¬ IsWhole total placed))) }
+    ensures whole { result ≡ DONE → IsSomeAnd session.old.value (λ kept. (placed : List Placed) → Stands kept placed →
+        IsWhole total placed) }
+    ensures empty { (result ≡ EMPTY_HANDLE) ↔ (session.old.value ≡ None) }
+    ensures statuses { (result ≡ DONE) ⊎ ((result ≡ EMPTY_HANDLE) ⊎ ((result ≡ SESSION_GAP) ⊎ (result ≡ SESSION_MEMORY))) }
+    ensures kept { session.new.value ≡ session.old.value }
+    ensures unchanged { result ≢ DONE → root.new ≡ root.old }
+{
+    let Some(kept) = session.take(alloc) else {
+        return EMPTY_HANDLE;
+    };
+    let found = kept.session.root(total);
+    session.put(kept);
+    match found {
+        Ok(value) => {
+            *root = Hash::of(value);
+            DONE
+        }
+        Err(fault) => status_of_fault(fault),
+    }
+}
+
+/// Writes the file hash of all chunks by position, without a salt, which is that under 32 zero bytes.
+///
+/// Statuses as of `yurewha_session_root`. Nothing is written where it isn't `DONE`. The session stays as it is.
+#[unsafe(no_mangle)]
+pub extern "C" fn yurewha_session_finish(
+    alloc: Global,
+    session: &mut SessionHandle,
+    total: u64,
+    hash: &mut Hash,
+) -> u32
+    ensures file { result ≡ DONE → IsSomeAnd session.old.value (λ kept. (placed : List Placed) → Stands kept placed →
+        IsFileHash (chunks_of placed) (replicate 32 0) hash.new.words) }
+    ensures gap { IfSome session.old.value (λ kept. (placed : List Placed) → Stands kept placed →
+        ((result ≡ SESSION_GAP) ↔ (¬ IsWhole total placed))) }
+    ensures whole { result ≡ DONE → IsSomeAnd session.old.value (λ kept. (placed : List Placed) → Stands kept placed →
+        IsWhole total placed) }
+    ensures empty { (result ≡ EMPTY_HANDLE) ↔ (session.old.value ≡ None) }
+    ensures statuses { (result ≡ DONE) ⊎ ((result ≡ EMPTY_HANDLE) ⊎ ((result ≡ SESSION_GAP) ⊎ (result ≡ SESSION_MEMORY))) }
+    ensures kept { session.new.value ≡ session.old.value }
+    ensures unchanged { result ≢ DONE → hash.new ≡ hash.old }
+{
+    let Some(kept) = session.take(alloc) else {
+        return EMPTY_HANDLE;
+    };
+    let found = kept.session.finish(total);
+    session.put(kept);
+    match found {
+        Ok(value) => {
+            *hash = Hash::of(value);
+            DONE
+        }
+        Err(fault) => status_of_fault(fault),
+    }
+}
+
+/// Frees what a handle owns, and leaves it empty. An empty handle stays empty. It can't fail.
+#[unsafe(no_mangle)]
+pub extern "C" fn yurewha_session_free(alloc: Global, session: &mut SessionHandle)
+    ensures { session.new.value ≡ None }
+{
+    drop(session.take(alloc));
+}

@@ -1,0 +1,88 @@
+//! The runs of a session.
+
+ghost use Rattle.std.specs.Prelude.{◌≡◌, ◌≢◌, ◌⊎◌, ◌↔◌, None, Some, IfErr, IfOk, IsSomeAnd, length, slice_get};
+
+use crate::session_handle::SessionHandle;
+use crate::status::{ARGUMENTS, DONE, EMPTY_HANDLE, MEMORY, status_of};
+use crate::subtree_handle::SubtreeHandle;
+use std::alloc::Global;
+use upload_session::session::Session;
+use xet_merkle::merkle_hash_subtree::MerkleHashSubtree;
+
+/// Writes how many runs of adjacent positions are taken. It takes no memory.
+///
+/// Status `DONE`, and `EMPTY_HANDLE` where the handle is empty: then nothing is written. The session stays as it is.
+#[unsafe(no_mangle)]
+pub extern "C" fn yurewha_session_num_runs(
+    alloc: Global,
+    session: &mut SessionHandle,
+    count: &mut usize,
+) -> u32
+    ensures count { result ≡ DONE → IsSomeAnd session.old.value (λ kept. count.new ≡ length kept.session.runs) }
+    ensures empty { (result ≡ EMPTY_HANDLE) ↔ (session.old.value ≡ None) }
+    ensures statuses { (result ≡ DONE) ⊎ (result ≡ EMPTY_HANDLE) }
+    ensures kept { session.new.value ≡ session.old.value }
+    ensures unchanged { result ≢ DONE → count.new ≡ count.old }
+{
+    let Some(kept) = session.take(alloc) else {
+        return EMPTY_HANDLE;
+    };
+    *count = kept.session.num_runs();
+    session.put(kept);
+    DONE
+}
+
+// The first position of a run and a copy of its range, or the status that says why not.
+fn copied_run(session: &Session, index: usize) -> Result<(u64, MerkleHashSubtree), u32>
+    ensures copied { IfOk result (λ copied. IsSomeAnd (slice_get session.now.runs index) (λ run.
+        (copied.0 ≡ run.0) × (copied.1 ≡ run.1.range))) }
+    ensures refused { IfErr result (λ status. ((status ≡ ARGUMENTS) × (slice_get session.now.runs index ≡ None))
+        ⊎ ((status ≡ MEMORY) × (slice_get session.now.runs index ≢ None))) }
+{
+    let Some((first, range)) = session.range(index) else {
+        return Err(ARGUMENTS);
+    };
+    match range.try_clone() {
+        Ok(copy) => Ok((first, copy)),
+        Err(error) => Err(status_of(error)),
+    }
+}
+
+/// Writes the first position of a run of adjacent positions that are taken, and puts a copy of the subtree of its chunks,
+/// which is open at both ends, into a handle. Runs are counted from 0 by rising position. The time is in proportion to the
+/// index.
+///
+/// Status `DONE`; `EMPTY_HANDLE` where the session's handle is empty; `ARGUMENTS` where there is no such run; `MEMORY` where
+/// an allocation is refused. Nothing has changed where it isn't `DONE`. The session stays as it is.
+#[unsafe(no_mangle)]
+pub extern "C" fn yurewha_session_run(
+    alloc: Global,
+    session: &mut SessionHandle,
+    index: usize,
+    first: &mut u64,
+    range: &mut SubtreeHandle,
+) -> u32
+    ensures run { result ≡ DONE → IsSomeAnd session.old.value (λ kept.
+        IsSomeAnd (slice_get kept.session.runs index) (λ run. (first.new ≡ run.0) × (range.new.value ≡ Some run.1.range))) }
+    ensures arguments { (result ≡ ARGUMENTS) ↔ IsSomeAnd session.old.value (λ kept. slice_get kept.session.runs index ≡ None) }
+    ensures empty { (result ≡ EMPTY_HANDLE) ↔ (session.old.value ≡ None) }
+    ensures statuses { (result ≡ DONE) ⊎ ((result ≡ EMPTY_HANDLE) ⊎ ((result ≡ ARGUMENTS) ⊎ (result ≡ MEMORY))) }
+    ensures kept { session.new.value ≡ session.old.value }
+    ensures unchanged { result ≢ DONE → (first.new ≡ first.old) × (range.new.value ≡ range.old.value) }
+{
+    let Some(kept) = session.take(alloc) else {
+        return EMPTY_HANDLE;
+    };
+    let copied = copied_run(&kept.session, index);
+    session.put(kept);
+    match copied {
+        Ok((position, copy)) => {
+            let status = range.hold(alloc, copy);
+            if status == DONE {
+                *first = position;
+            }
+            status
+        }
+        Err(status) => status,
+    }
+}

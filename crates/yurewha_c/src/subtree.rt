@@ -1,0 +1,243 @@
+//! Subtrees: made of chunks, looked at, copied and freed.
+
+ghost use Rattle.std.specs.Prelude.{◌≡◌, ◌≢◌, ◌⊎◌, ◌↔◌, ◌^◌, ◌≤◌, None, IsSomeAnd, IsTrue, List, length};
+ghost use Rattle.xet_merkle.specs.Levels.{levels_size, node_count, top_hash};
+ghost use Rattle.xet_merkle.specs.Roots.{total_size, IsRoot};
+ghost use Rattle.xet_merkle.specs.Groups.{Node};
+ghost use Rattle.xet_merkle.specs.Subtree.{IsCanonical};
+ghost use Rattle.yurewha_c.specs.Chunks.{nodes_of};
+ghost use Rattle.yurewha_c.specs.Handles.{BothHold};
+
+use crate::chunks::{Chunk, nodes_of, sizes_fit};
+use crate::hash::Hash;
+use crate::status::{ARGUMENTS, DONE, EMPTY_HANDLE, MEMORY, SIZES, status_of};
+use crate::subtree_handle::SubtreeHandle;
+use std::alloc::Global;
+use xet_merkle::laws::equal_subtrees;
+use xet_merkle::merkle_hash_subtree::MerkleHashSubtree;
+
+/// Puts the canonical subtree of some chunks into a handle. The list is marked at its start where no chunk comes before
+/// it, and at its end where none comes behind it.
+///
+/// Status `DONE`; `SIZES` where the sizes add up to more than 2^64 - 1; `MEMORY` where an allocation is refused. The handle
+/// is as it was where it isn't `DONE`; else what it owned is freed.
+#[unsafe(no_mangle)]
+pub extern "C" fn yurewha_subtree_from_chunks(
+    alloc: Global,
+    at_start: bool,
+    chunks: &[Chunk],
+    at_end: bool,
+    subtree: &mut SubtreeHandle,
+) -> u32
+    ensures made { result ≡ DONE → IsSomeAnd subtree.new.value (λ made. IsCanonical made (nodes_of chunks.now)
+        × (made.at_start ≡ at_start) × (made.at_end ≡ at_end)
+        × (levels_size made.levels ≡ total_size (nodes_of chunks.now))) }
+    ensures sizes { (result ≡ SIZES) ↔ (2 ^ 64 ≤ total_size (nodes_of chunks.now)) }
+    ensures statuses { (result ≡ DONE) ⊎ ((result ≡ SIZES) ⊎ (result ≡ MEMORY)) }
+    ensures unchanged { result ≢ DONE → subtree.new.value ≡ subtree.old.value }
+{
+    if !sizes_fit(chunks) {
+        return SIZES;
+    }
+    let Ok(nodes) = nodes_of(alloc, chunks) else {
+        return MEMORY;
+    };
+    match MerkleHashSubtree::from_chunks(alloc, at_start, &nodes, at_end) {
+        Ok(made) => subtree.hold(alloc, made),
+        Err(error) => status_of(error),
+    }
+}
+
+/// Puts a copy of a subtree into another handle.
+///
+/// Status `DONE`; `EMPTY_HANDLE` where `subtree` is empty; `MEMORY` where an allocation is refused. `copy` is as it was
+/// where it isn't `DONE`; else what it owned is freed.
+#[unsafe(no_mangle)]
+pub extern "C" fn yurewha_subtree_clone(
+    alloc: Global,
+    subtree: &mut SubtreeHandle,
+    copy: &mut SubtreeHandle,
+) -> u32
+    ensures copy { result ≡ DONE → copy.new.value ≡ subtree.old.value }
+    ensures empty { (result ≡ EMPTY_HANDLE) ↔ (subtree.old.value ≡ None) }
+    ensures statuses { (result ≡ DONE) ⊎ ((result ≡ EMPTY_HANDLE) ⊎ (result ≡ MEMORY)) }
+    ensures kept { subtree.new.value ≡ subtree.old.value }
+    ensures unchanged { result ≢ DONE → copy.new.value ≡ copy.old.value }
+{
+    match subtree.copy(alloc) {
+        Ok(made) => copy.hold(alloc, made),
+        Err(status) => status,
+    }
+}
+
+// Whether two subtrees are equal.
+fn are_equal(first: &MerkleHashSubtree, second: &MerkleHashSubtree) -> bool
+    ensures { IsTrue result ↔ (first.now ≡ second.now) }
+{
+    // A law of equality, for the contract.
+    equal_subtrees();
+    first == second
+}
+
+/// Writes whether two subtrees have the same marks, levels and nodes.
+///
+/// Status `DONE`, and `EMPTY_HANDLE` where a handle is empty: then nothing is written. Both handles stay as they are.
+#[unsafe(no_mangle)]
+pub extern "C" fn yurewha_subtree_equal(
+    alloc: Global,
+    first: &mut SubtreeHandle,
+    second: &mut SubtreeHandle,
+    equal: &mut bool,
+) -> u32
+    ensures equal { result ≡ DONE → BothHold first.old.value second.old.value (λ a b. IsTrue equal.new ↔ (a ≡ b)) }
+    ensures empty { (result ≡ EMPTY_HANDLE) ↔ ((first.old.value ≡ None) ⊎ (second.old.value ≡ None)) }
+    ensures statuses { (result ≡ DONE) ⊎ (result ≡ EMPTY_HANDLE) }
+    ensures first_kept { first.new.value ≡ first.old.value }
+    ensures second_kept { second.new.value ≡ second.old.value }
+    ensures unchanged { result ≢ DONE → equal.new ≡ equal.old }
+{
+    let Some((one, other)) = SubtreeHandle::take_both(alloc, first, second) else {
+        return EMPTY_HANDLE;
+    };
+    *equal = are_equal(&one, &other);
+    first.put(one);
+    second.put(other);
+    DONE
+}
+
+/// Writes whether the start, and the end, of the list is marked.
+///
+/// Status `DONE`, and `EMPTY_HANDLE` where the handle is empty: then nothing is written. The handle stays as it is.
+#[unsafe(no_mangle)]
+pub extern "C" fn yurewha_subtree_marks(
+    alloc: Global,
+    subtree: &mut SubtreeHandle,
+    at_start: &mut bool,
+    at_end: &mut bool,
+) -> u32
+    ensures marks { result ≡ DONE → IsSomeAnd subtree.old.value (λ kept.
+        (at_start.new ≡ kept.at_start) × (at_end.new ≡ kept.at_end)) }
+    ensures empty { (result ≡ EMPTY_HANDLE) ↔ (subtree.old.value ≡ None) }
+    ensures statuses { (result ≡ DONE) ⊎ (result ≡ EMPTY_HANDLE) }
+    ensures kept { subtree.new.value ≡ subtree.old.value }
+    ensures unchanged { result ≢ DONE → (at_start.new ≡ at_start.old) × (at_end.new ≡ at_end.old) }
+{
+    let Some(kept) = subtree.take(alloc) else {
+        return EMPTY_HANDLE;
+    };
+    *at_start = kept.at_start();
+    *at_end = kept.at_end();
+    subtree.put(kept);
+    DONE
+}
+
+/// Writes the sum of the sizes of all nodes, in bytes, which is that of the list's chunks.
+///
+/// Status `DONE`, and `EMPTY_HANDLE` where the handle is empty: then nothing is written. The handle stays as it is.
+#[unsafe(no_mangle)]
+pub extern "C" fn yurewha_subtree_total_size(
+    alloc: Global,
+    subtree: &mut SubtreeHandle,
+    size: &mut u64,
+) -> u32
+    ensures size { result ≡ DONE → IsSomeAnd subtree.old.value (λ kept. size.new ≡ levels_size kept.levels) }
+    ensures empty { (result ≡ EMPTY_HANDLE) ↔ (subtree.old.value ≡ None) }
+    ensures statuses { (result ≡ DONE) ⊎ (result ≡ EMPTY_HANDLE) }
+    ensures kept { subtree.new.value ≡ subtree.old.value }
+    ensures unchanged { result ≢ DONE → size.new ≡ size.old }
+{
+    let Some(kept) = subtree.take(alloc) else {
+        return EMPTY_HANDLE;
+    };
+    *size = kept.total_size();
+    subtree.put(kept);
+    DONE
+}
+
+/// Writes how many nodes are kept.
+///
+/// Status `DONE`, and `EMPTY_HANDLE` where the handle is empty: then nothing is written. The handle stays as it is.
+#[unsafe(no_mangle)]
+pub extern "C" fn yurewha_subtree_num_nodes(
+    alloc: Global,
+    subtree: &mut SubtreeHandle,
+    count: &mut usize,
+) -> u32
+    ensures count { result ≡ DONE → IsSomeAnd subtree.old.value (λ kept. count.new ≡ node_count kept.levels) }
+    ensures empty { (result ≡ EMPTY_HANDLE) ↔ (subtree.old.value ≡ None) }
+    ensures statuses { (result ≡ DONE) ⊎ (result ≡ EMPTY_HANDLE) }
+    ensures kept { subtree.new.value ≡ subtree.old.value }
+    ensures unchanged { result ≢ DONE → count.new ≡ count.old }
+{
+    let Some(kept) = subtree.take(alloc) else {
+        return EMPTY_HANDLE;
+    };
+    *count = kept.num_nodes();
+    subtree.put(kept);
+    DONE
+}
+
+/// Writes how many levels there are, one at least.
+///
+/// Status `DONE`, and `EMPTY_HANDLE` where the handle is empty: then nothing is written. The handle stays as it is.
+#[unsafe(no_mangle)]
+pub extern "C" fn yurewha_subtree_num_levels(
+    alloc: Global,
+    subtree: &mut SubtreeHandle,
+    count: &mut usize,
+) -> u32
+    ensures count { result ≡ DONE → IsSomeAnd subtree.old.value (λ kept. count.new ≡ length kept.levels) }
+    ensures empty { (result ≡ EMPTY_HANDLE) ↔ (subtree.old.value ≡ None) }
+    ensures statuses { (result ≡ DONE) ⊎ (result ≡ EMPTY_HANDLE) }
+    ensures kept { subtree.new.value ≡ subtree.old.value }
+    ensures unchanged { result ≢ DONE → count.new ≡ count.old }
+{
+    let Some(kept) = subtree.take(alloc) else {
+        return EMPTY_HANDLE;
+    };
+    *count = kept.num_levels();
+    subtree.put(kept);
+    DONE
+}
+
+/// Writes the root of the list of chunks, where both of its ends are marked. It takes no memory.
+///
+/// Status `DONE`; `ARGUMENTS` where an end isn't marked, so that there is no root; `EMPTY_HANDLE` where the handle is empty.
+/// Nothing is written where it isn't `DONE`. The handle stays as it is.
+#[unsafe(no_mangle)]
+pub extern "C" fn yurewha_subtree_final_hash(
+    alloc: Global,
+    subtree: &mut SubtreeHandle,
+    hash: &mut Hash,
+) -> u32
+    ensures hash { result ≡ DONE → IsSomeAnd subtree.old.value (λ kept. hash.new.words ≡ top_hash kept.levels) }
+    ensures root { result ≡ DONE → IsSomeAnd subtree.old.value (λ kept.
+        (chunks : List Node) → IsCanonical kept chunks → IsRoot chunks hash.new.words) }
+    ensures marks { (result ≡ DONE) ↔ IsSomeAnd subtree.old.value (λ kept. IsTrue kept.at_start × IsTrue kept.at_end) }
+    ensures arguments { (result ≡ ARGUMENTS) ↔ IsSomeAnd subtree.old.value (λ kept.
+        ¬ (IsTrue kept.at_start × IsTrue kept.at_end)) }
+    ensures empty { (result ≡ EMPTY_HANDLE) ↔ (subtree.old.value ≡ None) }
+    ensures kept { subtree.new.value ≡ subtree.old.value }
+    ensures unchanged { result ≢ DONE → hash.new ≡ hash.old }
+{
+    let Some(kept) = subtree.take(alloc) else {
+        return EMPTY_HANDLE;
+    };
+    let root = kept.final_hash();
+    subtree.put(kept);
+    match root {
+        Some(root) => {
+            *hash = Hash::of(root);
+            DONE
+        }
+        None => ARGUMENTS,
+    }
+}
+
+/// Frees what a handle owns, and leaves it empty. An empty handle stays empty. It can't fail.
+#[unsafe(no_mangle)]
+pub extern "C" fn yurewha_subtree_free(alloc: Global, subtree: &mut SubtreeHandle)
+    ensures { subtree.new.value ≡ None }
+{
+    drop(subtree.take(alloc));
+}

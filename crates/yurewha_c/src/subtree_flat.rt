@@ -1,0 +1,138 @@
+//! Subtrees as flat lists, for binary forms.
+
+ghost use Rattle.std.specs.Prelude.{◌≡◌, ◌≢◌, ◌⊎◌, ◌↔◌, ℕ, ◌+◌, ◌<◌, ◌≤◌, None, IsSomeAnd, IfOk, List, ◌++◌, drop, length, map};
+ghost use Rattle.xet_merkle.specs.FlatLevels.{IsFlat};
+ghost use Rattle.xet_merkle.specs.Levels.{node_count};
+ghost use Rattle.xet_merkle.specs.JsonRules.{BreaksValueRule};
+ghost use Rattle.yurewha_c.specs.Chunks.{nodes_of};
+ghost use Rattle.yurewha_c.specs.FlatLists.{counts_of};
+
+use crate::chunks::{Chunk, nodes_of};
+use crate::status::{DONE, EMPTY_HANDLE, MEMORY, ROOM, RULE, status_of};
+use crate::subtree_handle::SubtreeHandle;
+use std::alloc::{AllocError, Global};
+use xet_merkle::aggregated_hashes::Node;
+use xet_merkle::merkle_hash_subtree::MerkleHashSubtree;
+
+/// How many nodes a subtree keeps of a level, on the left and on the right.
+#[derive(Clone, Copy)]
+#[repr(C)]
+pub struct Level {
+    pub left: usize,
+    pub right: usize,
+}
+
+// The counts of some levels, in memory of their own.
+fn counts_of(alloc: Global, levels: &[Level]) -> Result<Vec<(usize, usize)>, AllocError>
+    ensures { IfOk result (λ counts. counts.items ≡ counts_of levels.now) }
+{
+    let mut counts = Vec::with_capacity(alloc, levels.len())?;
+    'levels: for level in levels {
+        counts.push((level.left, level.right))?;
+    }
+    Ok(counts)
+}
+
+/// Puts the subtree that marks and flat lists say into a handle: for each level, from the chunks up, the numbers of left and
+/// right nodes, and in one list the left nodes of all levels by rising level, then the right nodes by falling level.
+///
+/// Status `DONE`; `RULE` and the least of the rules 5 to 13 that they break, as `MerkleHashSubtree::from_json` of
+/// `xet_merkle` lists them; `MEMORY` where an allocation is refused, which may come in the place of a rule. The handle is
+/// as it was where it isn't `DONE`; else what it owned is freed.
+#[unsafe(no_mangle)]
+pub extern "C" fn yurewha_subtree_from_flat(
+    alloc: Global,
+    at_start: bool,
+    levels: &[Level],
+    nodes: &[Chunk],
+    at_end: bool,
+    subtree: &mut SubtreeHandle,
+) -> u32
+    ensures made { result ≡ DONE → IsSomeAnd subtree.new.value (λ made. (made.at_start ≡ at_start)
+        × (made.at_end ≡ at_end)
+        × IsFlat (counts_of levels.now) (nodes_of nodes.now) made.levels) }
+    ensures statuses { (result ≡ DONE) ⊎ ((result ≡ MEMORY) ⊎ ((rule : ℕ) × (result ≡ RULE + rule)
+        × BreaksValueRule at_start at_end (counts_of levels.now) (nodes_of nodes.now) rule)) }
+    ensures unchanged { result ≢ DONE → subtree.new.value ≡ subtree.old.value }
+{
+    let Ok(counts) = counts_of(alloc, levels) else {
+        return MEMORY;
+    };
+    let Ok(nodes) = nodes_of(alloc, nodes) else {
+        return MEMORY;
+    };
+    match MerkleHashSubtree::from_flat(alloc, at_start, counts, nodes, at_end) {
+        Ok(made) => subtree.hold(alloc, made),
+        Err(error) => status_of(error),
+    }
+}
+
+// Writes some nodes to a list from a place on, and answers the place behind them.
+fn write_nodes(nodes: &[Node], list: &mut [Chunk], at: usize) -> usize {
+    let mut place = at;
+    'nodes: for node in nodes {
+        if place < list.len() {
+            list[place] = Chunk::of(node);
+            place += 1;
+        }
+    }
+    place
+}
+
+// Writes the counts and the nodes of a subtree, for which there is room.
+fn write_flat(subtree: &MerkleHashSubtree, levels: &mut [Level], nodes: &mut [Chunk]) {
+    let count = subtree.num_levels();
+    let mut place = 0;
+    'lefts: for i in 0..count {
+        let (left, right) = (subtree.left(i), subtree.right(i));
+        if i < levels.len() {
+            levels[i] = Level {
+                left: left.len(),
+                right: right.len(),
+            };
+        }
+        place = write_nodes(left, nodes, place);
+    }
+    'rights: for i in 0..count {
+        place = write_nodes(subtree.right(count - 1 - i), nodes, place);
+    }
+}
+
+/// Writes a subtree as flat lists: to `levels` the numbers of left and right nodes of each level, from the chunks up, and to
+/// `nodes` the left nodes of all levels by rising level, then the right nodes by falling level. `level_len` and
+/// `node_len` get the numbers of both. It takes no memory.
+///
+/// Status `DONE`; `ROOM` where a list is longer than its room: then nothing is written to either, and the counts are; and
+/// `EMPTY_HANDLE` where the handle is empty: then nothing is written. The handle stays as it is.
+#[unsafe(no_mangle)]
+pub extern "C" fn yurewha_subtree_to_flat(
+    alloc: Global,
+    subtree: &mut SubtreeHandle,
+    levels: &mut [Level],
+    nodes: &mut [Chunk],
+    level_len: &mut usize,
+    node_len: &mut usize,
+) -> u32
+    ensures lens { (result ≡ DONE) ⊎ (result ≡ ROOM) → IsSomeAnd subtree.old.value (λ kept.
+        (level_len.new ≡ length kept.levels) × (node_len.new ≡ node_count kept.levels)) }
+    ensures done { result ≡ DONE → (level_len.new ≤ length levels.old) × (node_len.new ≤ length nodes.old) }
+    ensures room { result ≡ ROOM → (length levels.old < level_len.new) ⊎ (length nodes.old < node_len.new) }
+    ensures empty { (result ≡ EMPTY_HANDLE) ↔ (subtree.old.value ≡ None) }
+    ensures statuses { (result ≡ DONE) ⊎ ((result ≡ ROOM) ⊎ (result ≡ EMPTY_HANDLE)) }
+    ensures unchanged { result ≢ DONE → (levels.new ≡ levels.old) × (nodes.new ≡ nodes.old) }
+    ensures no_lens { result ≡ EMPTY_HANDLE → (level_len.new ≡ level_len.old) × (node_len.new ≡ node_len.old) }
+    ensures kept { subtree.new.value ≡ subtree.old.value }
+{
+    let Some(kept) = subtree.take(alloc) else {
+        return EMPTY_HANDLE;
+    };
+    *level_len = kept.num_levels();
+    *node_len = kept.num_nodes();
+    if levels.len() < *level_len || nodes.len() < *node_len {
+        subtree.put(kept);
+        return ROOM;
+    }
+    write_flat(&kept, levels, nodes);
+    subtree.put(kept);
+    DONE
+}

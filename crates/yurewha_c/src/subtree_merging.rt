@@ -1,0 +1,159 @@
+//! Merging subtrees of adjacent ranges.
+
+ghost use Rattle.std.specs.Prelude.{false, ◌≡◌, ◌≢◌, ◌⊎◌, ◌↔◌, ℕ, ◌+◌, ◌-◌, ◌*◌, ◌^◌, ◌≤◌, None, List, length, min, IsSomeAnd, IsTrue, IfOk, IfErr};
+ghost use Rattle.xet_merkle.specs.Levels.{levels_size, node_count};
+ghost use Rattle.xet_merkle.specs.Merging.{IsMerged, IsMergedBy, NoMarkBetweenSubtrees, ranges_size};
+ghost use Rattle.xet_merkle.specs.Roots.{parent};
+ghost use Rattle.xet_merkle.specs.Subtree.{Subtree};
+ghost use Rattle.yurewha_c.specs.Handles.{BothHold, AllHold, IsMergeOf, values_of};
+
+use crate::status::{ARGUMENTS, DONE, EMPTY_HANDLE, MEMORY, SIZES, status_of};
+use crate::subtree_handle::SubtreeHandle;
+use std::alloc::Global;
+use xet_merkle::merkle_hash_subtree::MerkleHashSubtree;
+
+/// Merges the subtree of the range that follows into this one, which becomes the canonical subtree of the concatenated list, with
+/// its own start mark and the other's end mark. `other` stays as it is.
+///
+/// Status `DONE`; `EMPTY_HANDLE` where a handle is empty; else `ARGUMENTS` where `subtree` is marked at its end or `other`
+/// at its start; else `SIZES` where both sizes add up to more than 2^64 - 1; and `MEMORY` where an allocation is refused.
+/// `subtree` is as it was where it isn't `DONE`.
+#[unsafe(no_mangle)]
+pub extern "C" fn yurewha_subtree_merge_into(
+    alloc: Global,
+    subtree: &mut SubtreeHandle,
+    other: &mut SubtreeHandle,
+) -> u32
+    ensures merged { result ≡ DONE → BothHold subtree.old.value other.old.value (λ front back.
+        IsSomeAnd subtree.new.value (IsMerged front back)) }
+    ensures empty { (result ≡ EMPTY_HANDLE) ↔ ((subtree.old.value ≡ None) ⊎ (other.old.value ≡ None)) }
+    ensures arguments { (result ≡ ARGUMENTS) ↔ BothHold subtree.old.value other.old.value (λ front back.
+        ¬ ((front.at_end ≡ false) × (back.at_start ≡ false))) }
+    ensures sizes { (result ≡ SIZES) ↔ BothHold subtree.old.value other.old.value (λ front back.
+        ((front.at_end ≡ false) × (back.at_start ≡ false)) × (2 ^ 64 ≤ levels_size front.levels + levels_size back.levels)) }
+    ensures statuses { (result ≡ DONE) ⊎ ((result ≡ EMPTY_HANDLE) ⊎ ((result ≡ ARGUMENTS)
+        ⊎ ((result ≡ SIZES) ⊎ (result ≡ MEMORY)))) }
+    ensures unchanged { result ≢ DONE → subtree.new.value ≡ subtree.old.value }
+    ensures kept { other.new.value ≡ other.old.value }
+{
+    let Some((mut front, back)) = SubtreeHandle::take_both(alloc, subtree, other) else {
+        return EMPTY_HANDLE;
+    };
+    let merged = front.merge_into(&back);
+    subtree.put(front);
+    other.put(back);
+    match merged {
+        Ok(()) => DONE,
+        Err(error) => status_of(error),
+    }
+}
+
+/// Does what `yurewha_subtree_merge_into` does, and writes how many parents were hashed for it, or 2^64 - 1 where they are
+/// more.
+///
+/// Statuses as of `yurewha_subtree_merge_into`. Nothing is written to `parents` where it isn't `DONE`.
+#[unsafe(no_mangle)]
+pub extern "C" fn yurewha_subtree_merge_into_counted(
+    alloc: Global,
+    subtree: &mut SubtreeHandle,
+    other: &mut SubtreeHandle,
+    parents: &mut u64,
+) -> u32
+    ensures merged { result ≡ DONE → BothHold subtree.old.value other.old.value (λ front back.
+        IsSomeAnd subtree.new.value (λ merged. (made : ℕ) × IsMergedBy parent made front back merged
+        × (parents.new ≡ min made (2 ^ 64 - 1))
+        × (2 * made ≤ node_count front.levels + node_count back.levels + 2 * (length merged.levels - 1)))) }
+    ensures empty { (result ≡ EMPTY_HANDLE) ↔ ((subtree.old.value ≡ None) ⊎ (other.old.value ≡ None)) }
+    ensures arguments { (result ≡ ARGUMENTS) ↔ BothHold subtree.old.value other.old.value (λ front back.
+        ¬ ((front.at_end ≡ false) × (back.at_start ≡ false))) }
+    ensures sizes { (result ≡ SIZES) ↔ BothHold subtree.old.value other.old.value (λ front back.
+        ((front.at_end ≡ false) × (back.at_start ≡ false)) × (2 ^ 64 ≤ levels_size front.levels + levels_size back.levels)) }
+    ensures statuses { (result ≡ DONE) ⊎ ((result ≡ EMPTY_HANDLE) ⊎ ((result ≡ ARGUMENTS)
+        ⊎ ((result ≡ SIZES) ⊎ (result ≡ MEMORY)))) }
+    ensures unchanged { result ≢ DONE → (subtree.new.value ≡ subtree.old.value) × (parents.new ≡ parents.old) }
+    ensures kept { other.new.value ≡ other.old.value }
+{
+    let Some((mut front, back)) = SubtreeHandle::take_both(alloc, subtree, other) else {
+        return EMPTY_HANDLE;
+    };
+    let merged = front.merge_into_counted(&back);
+    subtree.put(front);
+    other.put(back);
+    match merged {
+        Ok(made) => {
+            *parents = made.min(u128::from(u64::MAX)) as u64;
+            DONE
+        }
+        Err(error) => status_of(error),
+    }
+}
+
+// Copies of the subtrees of some handles, or `EMPTY_HANDLE` or `MEMORY`.
+fn copies_of(alloc: Global, ranges: &mut [SubtreeHandle]) -> Result<Vec<MerkleHashSubtree>, u32>
+    ensures copies { IfOk result (λ copies. AllHold ranges.old copies.items) }
+    ensures kept { values_of ranges.new ≡ values_of ranges.old }
+    ensures refused { IfErr result (λ status. ((status ≡ EMPTY_HANDLE)
+        × ((kept : List Subtree) → ¬ (AllHold ranges.old kept))) ⊎ (status ≡ MEMORY)) }
+{
+    let Ok(mut copies) = Vec::with_capacity(alloc, ranges.len()) else {
+        return Err(MEMORY);
+    };
+    'copies: for range in ranges.iter_mut() {
+        let copy = match range.copy(alloc) {
+            Ok(copy) => copy,
+            Err(status) => return Err(status),
+        };
+        let Ok(()) = copies.push(copy) else {
+            return Err(MEMORY);
+        };
+    }
+    Ok(copies)
+}
+
+// Puts into a handle what subtrees are merged to.
+fn merge_copies(alloc: Global, copies: &[MerkleHashSubtree], merged: &mut SubtreeHandle) -> u32
+    ensures merged { result ≡ DONE → IsSomeAnd merged.new.value (IsMergeOf copies.now) }
+    ensures arguments { (result ≡ ARGUMENTS) ↔ (¬ (NoMarkBetweenSubtrees copies.now)) }
+    ensures sizes { (result ≡ SIZES) ↔ (NoMarkBetweenSubtrees copies.now × (2 ^ 64 ≤ ranges_size copies.now)) }
+    ensures statuses { (result ≡ DONE) ⊎ ((result ≡ ARGUMENTS) ⊎ ((result ≡ SIZES) ⊎ (result ≡ MEMORY))) }
+    ensures unchanged { result ≢ DONE → merged.new.value ≡ merged.old.value }
+{
+    match MerkleHashSubtree::merge(alloc, copies) {
+        Ok(made) => merged.hold(alloc, made),
+        Err(error) => status_of(error),
+    }
+}
+
+/// Puts into a handle what the subtrees of adjacent ranges are merged to, in order: the canonical subtree of the
+/// concatenated list, with the first range's start mark and the last one's end mark. Of no ranges it is the empty subtree with both
+/// marks; of one it is a copy. The ranges stay as they are.
+///
+/// Status `DONE`; `EMPTY_HANDLE` where the handle of a range is empty; `ARGUMENTS` where a range other than the first is
+/// marked at its start or one other than the last at its end; `SIZES` where the sizes of all add up to more than 2^64 - 1;
+/// `MEMORY` where an allocation is refused, which may come in the place of each of these. `merged` is as it was where it
+/// isn't `DONE`; else what it owned is freed.
+#[unsafe(no_mangle)]
+pub extern "C" fn yurewha_subtree_merge(
+    alloc: Global,
+    ranges: &mut [SubtreeHandle],
+    merged: &mut SubtreeHandle,
+) -> u32
+    ensures merged { result ≡ DONE → (kept : List Subtree) → AllHold ranges.old kept →
+        IsSomeAnd merged.new.value (IsMergeOf kept) }
+    ensures empty { result ≢ MEMORY →
+        ((result ≡ EMPTY_HANDLE) ↔ ((kept : List Subtree) → ¬ (AllHold ranges.old kept))) }
+    ensures arguments { result ≢ MEMORY → (kept : List Subtree) → AllHold ranges.old kept →
+        ((result ≡ ARGUMENTS) ↔ (¬ (NoMarkBetweenSubtrees kept))) }
+    ensures sizes { result ≢ MEMORY → (kept : List Subtree) → AllHold ranges.old kept →
+        ((result ≡ SIZES) ↔ (NoMarkBetweenSubtrees kept × (2 ^ 64 ≤ ranges_size kept))) }
+    ensures statuses { (result ≡ DONE) ⊎ ((result ≡ EMPTY_HANDLE) ⊎ ((result ≡ ARGUMENTS)
+        ⊎ ((result ≡ SIZES) ⊎ (result ≡ MEMORY)))) }
+    ensures kept { values_of ranges.new ≡ values_of ranges.old }
+    ensures unchanged { result ≢ DONE → merged.new.value ≡ merged.old.value }
+{
+    let copies = match copies_of(alloc, ranges) {
+        Ok(copies) => copies,
+        Err(status) => return status,
+    };
+    merge_copies(alloc, &copies, merged)
+}

@@ -1,0 +1,91 @@
+//! Subtrees as JSON text.
+
+ghost use Rattle.std.specs.Prelude.{◌≡◌, ◌≢◌, ◌⊎◌, ◌↔◌, ℕ, ◌+◌, ◌<◌, ◌≤◌, Some, None, IfOk, IsSomeAnd, IsUtf8, List, ◌++◌, drop, length};
+ghost use Rattle.serde_json.specs.Data.{Data};
+ghost use Rattle.serde_json.specs.Read.{read};
+ghost use Rattle.serde_json.specs.Written.{compact_text};
+ghost use Rattle.xet_merkle.specs.JsonRules.{BreaksRule, Reads};
+ghost use Rattle.xet_merkle.specs.SubtreeJson.{subtree_json};
+
+use crate::status::{DONE, EMPTY_HANDLE, MEMORY, ROOM, RULE, TEXT, status_of};
+use crate::subtree_handle::SubtreeHandle;
+use crate::text::write_text;
+use serde_json::Value;
+use std::alloc::{AllocError, Global};
+use xet_merkle::laws::all_bracketings_agree;
+use xet_merkle::merkle_hash_subtree::MerkleHashSubtree;
+
+// The compact JSON text of a subtree.
+fn json_text(alloc: Global, subtree: &MerkleHashSubtree) -> Result<Vec<u8>, AllocError>
+    ensures { IfOk result (λ text. text.items ≡ compact_text (subtree_json subtree.now)) }
+{
+    let Ok(value) = subtree.to_json(alloc) else {
+        return Err(AllocError);
+    };
+    // A law of the JSON values of subtrees, for the contract.
+    all_bracketings_agree();
+    value.to_vec(alloc)
+}
+
+/// Writes a subtree as compact JSON text to the beginning of `room`, and the length of the text to `text_len`.
+///
+/// Status `DONE`; `ROOM` where the text is longer than the room: then nothing is written to it, and `text_len` tells the
+/// length; `MEMORY` where an allocation is refused; `EMPTY_HANDLE` where the handle is empty. Nothing is written for these
+/// two. The handle stays as it is.
+#[unsafe(no_mangle)]
+pub extern "C" fn yurewha_subtree_to_json(
+    alloc: Global,
+    subtree: &mut SubtreeHandle,
+    room: &mut [u8],
+    text_len: &mut usize,
+) -> u32
+    ensures written { result ≡ DONE → IsSomeAnd subtree.old.value (λ kept.
+        room.new ≡ compact_text (subtree_json kept) ++ drop text_len.new room.old) }
+    ensures len { (result ≡ DONE) ⊎ (result ≡ ROOM) → IsSomeAnd subtree.old.value (λ kept.
+        text_len.new ≡ length (compact_text (subtree_json kept))) }
+    ensures done { result ≡ DONE → text_len.new ≤ length room.old }
+    ensures room { result ≡ ROOM → length room.old < text_len.new }
+    ensures empty { (result ≡ EMPTY_HANDLE) ↔ (subtree.old.value ≡ None) }
+    ensures statuses { (result ≡ DONE) ⊎ ((result ≡ ROOM) ⊎ ((result ≡ MEMORY) ⊎ (result ≡ EMPTY_HANDLE))) }
+    ensures unchanged { result ≢ DONE → room.new ≡ room.old }
+    ensures no_len { (result ≡ MEMORY) ⊎ (result ≡ EMPTY_HANDLE) → text_len.new ≡ text_len.old }
+    ensures kept { subtree.new.value ≡ subtree.old.value }
+{
+    let Some(kept) = subtree.take(alloc) else {
+        return EMPTY_HANDLE;
+    };
+    let text = json_text(alloc, &kept);
+    subtree.put(kept);
+    match text {
+        Ok(text) => write_text(&text, room, text_len),
+        Err(_) => MEMORY,
+    }
+}
+
+/// Puts the subtree that a JSON text says into a handle.
+///
+/// Status `DONE`; `TEXT` where the text is no JSON text; `RULE` and the least of the rules 1 to 13 that the value breaks, as
+/// `MerkleHashSubtree::from_json` of `xet_merkle` lists them; `MEMORY` where an allocation is refused, which may come in
+/// the place of each of these. The handle is as it was where it isn't `DONE`; else what it owned is freed.
+#[unsafe(no_mangle)]
+pub extern "C" fn yurewha_subtree_from_json(
+    alloc: Global,
+    text: &[u8],
+    subtree: &mut SubtreeHandle,
+) -> u32
+    ensures reads { result ≡ DONE → IsSomeAnd subtree.new.value (λ made.
+        (json : Data) × IsUtf8 text.now × (read text.now ≡ Some json) × Reads json made) }
+    ensures text { result ≡ TEXT → IsUtf8 text.now → read text.now ≡ None }
+    ensures statuses { (result ≡ DONE) ⊎ ((result ≡ TEXT) ⊎ ((result ≡ MEMORY)
+        ⊎ ((rule : ℕ) × (result ≡ RULE + rule) × (json : Data) × (read text.now ≡ Some json) × BreaksRule json rule))) }
+    ensures unchanged { result ≢ DONE → subtree.new.value ≡ subtree.old.value }
+{
+    let value = match Value::from_slice(alloc, text) {
+        Ok(value) => value,
+        Err(error) => return if error.is_memory() { MEMORY } else { TEXT },
+    };
+    match MerkleHashSubtree::from_json(alloc, &value) {
+        Ok(made) => subtree.hold(alloc, made),
+        Err(error) => status_of(error),
+    }
+}
