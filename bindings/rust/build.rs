@@ -16,7 +16,7 @@ fn main() {
     println!("cargo:rerun-if-env-changed={LINK}");
     println!("cargo:rerun-if-env-changed=PKG_CONFIG_PATH");
     let (kind, file) = link_kind();
-    let dir = lib_dir(file);
+    let dir = of_level(lib_dir(file), file);
     println!("cargo:rerun-if-changed={}", dir.join(file).display());
     println!("cargo:rustc-link-search=native={}", dir.display());
     println!("cargo:rustc-link-lib={kind}=yurewha");
@@ -51,6 +51,20 @@ fn lib_dir(file: &str) -> PathBuf {
         .unwrap_or_else(|| {
             panic!("no {file}: name its folder in {LIB_DIR}, or run bindings/build, or install yurewha.pc")
         })
+}
+
+// The features of the level x86-64-v3, which the target has to have for the library that is built for it.
+const V3_FEATURES: [&str; 7] = ["avx2", "bmi1", "bmi2", "f16c", "fma", "lzcnt", "movbe"];
+
+// Of a folder with the library, the one for the level x86-64-v3, where the target has it and the file is there.
+fn of_level(dir: PathBuf, file: &str) -> PathBuf {
+    let features = env::var("CARGO_CFG_TARGET_FEATURE").unwrap_or_default();
+    let features: Vec<&str> = features.split(',').collect();
+    let faster = dir.join("glibc-hwcaps/x86-64-v3");
+    if V3_FEATURES.iter().all(|it| features.contains(it)) && has(&faster, file) {
+        return faster;
+    }
+    dir
 }
 
 fn has(dir: &Path, file: &str) -> bool {

@@ -36,7 +36,7 @@ RULES: Dict[int, str] = {
     10: "with both marks, the top has at most one node",
     11: "where there are several levels, the top has a node",
     12: "without `at_start`, left nodes below the top end as those before a first stable point",
-    13: "without `at_end`, right nodes below the top begin as those behind a last stable point",
+    13: "without `at_end`, right nodes below the top begin as those after a last stable point",
 }
 
 
@@ -120,7 +120,7 @@ class InUseAtFork(YurewhaError, RuntimeError):
 
 
 class SessionError(YurewhaError, ValueError):
-    """What a refusal of a session is, want of memory apart.
+    """What a refusal of a session is, but for out of memory.
 
     >>> issubclass(SessionGap, SessionError)
     True

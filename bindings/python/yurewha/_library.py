@@ -159,7 +159,7 @@ def _check_machine() -> None:
     for name, struct in STRUCT_TYPES.items():
         if ctypes.sizeof(struct) != STRUCTS[name]:
             raise ImportError(f"yurewha: {name} has {ctypes.sizeof(struct)} bytes here")
-    # The data of a `bytes` object stands behind its head, and objects are aligned. So they are aligned for a word.
+    # The data of a `bytes` object stands after its head, and objects are aligned. So they are aligned for a word.
     if sys.implementation.name != "cpython" or (bytes.__basicsize__ - 1) % 8 != 0:
         raise ImportError("yurewha: it is there for CPython alone")
 

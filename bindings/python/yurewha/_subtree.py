@@ -158,7 +158,7 @@ class Subtree(Guarded):
 
     @staticmethod
     def from_chunks(at_start: bool, chunks: ChunksLike, at_end: bool) -> Subtree:
-        """The subtree of some chunks. `at_start` says that no chunk comes before them, `at_end` that none comes behind.
+        """The subtree of some chunks. `at_start` says that no chunk comes before them, `at_end` that none comes after.
 
         `SizeOverflow` where the sizes add up to more than 2^64 - 1.
 
@@ -187,7 +187,7 @@ class Subtree(Guarded):
 
     @property
     def at_end(self) -> bool:
-        """Whether no chunk comes behind it.
+        """Whether no chunk comes after it.
 
         >>> Subtree.from_chunks(True, [], False).at_end
         False
@@ -275,7 +275,7 @@ class Subtree(Guarded):
         return self._side(level, 0)
 
     def right(self, level: int) -> Chunks:
-        """The nodes that are kept of a level behind the gap; none where there is no such level.
+        """The nodes that are kept of a level after the gap; none where there is no such level.
 
         >>> len(Subtree.from_chunks(False, [(Hash(), 7), (Hash(), 8)], False).right(0))
         0

@@ -1,11 +1,11 @@
 -- What the handles of a list own, while each in turn is taken out, copied and put back.
-use Rattle.std.proofs.Common.{arith, ◌≡◌, ℕ, ◌+◌, ◌<◌, ◌≤◌, List, [], ◌∷◌, ◌++◌, length, map, take, get_or, zero, suc, refl, sym, ap, ◌∙◌, add-one}
+use Rattle.std.proofs.Common.{arith, ◌≡◌, ℕ, ◌+◌, ◌<◌, List, [], ◌∷◌, ◌++◌, length, map, take, get_or, zero, suc, refl, sym, ap, ◌∙◌, add-one}
 use Rattle.std.proofs.Math.ListN.{set}
 use Rattle.std.proofs.Math.Seq.{map-set_same, take-suc}
 use Rattle.std.proofs.lemmas.List.{get_or-map, map-append, length-map}
 use Rattle.std.specs.Prelude.{Option, Some, None}
 use Rattle.xet_merkle.specs.Subtree.{Subtree}
-use Rattle.yurewha_c.specs.Handles.{AllHold, values_of}
+use Rattle.yurewha_c.specs.Handles.{values_of}
 use Rattle.yurewha_c.specs.declared.subtree_handle.SubtreeHandle.{SubtreeHandle}
 
 -- a handle is put back with what it owned

@@ -6,7 +6,7 @@ use lib.Dec.{T}
 use seplogic.Ra.Ura.{Ura}
 use mir.Raw.{raw as bare}
 use mir.Val.{Val, vstruct, vcons, vnil, of_list, has_ty, WT}
-use base.Logic.{ent, sep, guard, never, never_e, id⊢, fst∗, snd∗, via, guard_i}
+use base.Logic.{ent, guard, never, never_e, fst∗, snd∗, via, guard_i}
 use types.Logic.{Logic, sem}
 use types.Kit.{Item, Goal, Seq, Step, step, ‵, given, ◌$◌, by, keep, move, drop, use1, learn, fsplit, fjoin, fpick, fpack, feq_i, feq_l}
 use contract.Monad.{fact_use}

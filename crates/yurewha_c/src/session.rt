@@ -35,7 +35,7 @@ pub extern "C" fn yurewha_session_new(alloc: Global, session: &mut SessionHandle
     session.hold(alloc, made)
 }
 
-// Places chunks, as `put` of a session does. Want of memory for their nodes may come in the place of another refusal.
+// Places chunks, as `put` of a session does. Out of memory for their nodes may come in the place of another refusal.
 fn put_chunks(
     alloc: Global,
     kept: &mut KeptSession,

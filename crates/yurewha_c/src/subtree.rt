@@ -17,7 +17,7 @@ use xet_merkle::laws::equal_subtrees;
 use xet_merkle::merkle_hash_subtree::MerkleHashSubtree;
 
 /// Puts the canonical subtree of some chunks into a handle. The list is marked at its start where no chunk comes before
-/// it, and at its end where none comes behind it.
+/// it, and at its end where none comes after it.
 ///
 /// Status `DONE`; `SIZES` where the sizes add up to more than 2^64 - 1; `MEMORY` where an allocation is refused. The handle
 /// is as it was where it isn't `DONE`; else what it owned is freed.

@@ -1,7 +1,7 @@
 //! Subtrees as flat lists, for binary forms.
 
-ghost use Rattle.std.specs.Prelude.{◌≡◌, ◌≢◌, ◌⊎◌, ◌↔◌, ℕ, ◌+◌, ◌<◌, ◌≤◌, None, IsSomeAnd, IfOk, List, ◌++◌, drop, length, map};
-ghost use Rattle.xet_merkle.specs.FlatLevels.{IsFlat};
+ghost use Rattle.std.specs.Prelude.{◌≡◌, ◌≢◌, ◌⊎◌, ◌↔◌, ℕ, ◌+◌, ◌<◌, ◌≤◌, None, IsSomeAnd, IfOk, List, ◌++◌, drop, length, map, take};
+ghost use Rattle.xet_merkle.specs.FlatLevels.{IsFlat, count_of, left_nodes, right_nodes};
 ghost use Rattle.xet_merkle.specs.Levels.{node_count};
 ghost use Rattle.xet_merkle.specs.JsonRules.{BreaksValueRule};
 ghost use Rattle.yurewha_c.specs.Chunks.{nodes_of};
@@ -67,35 +67,79 @@ pub extern "C" fn yurewha_subtree_from_flat(
     }
 }
 
-// Writes some nodes to a list from a place on, and answers the place behind them.
-fn write_nodes(nodes: &[Node], list: &mut [Chunk], at: usize) -> usize {
+// Writes some nodes to a list from a place on, and answers the place after them.
+fn write_nodes(nodes: &[Node], list: &mut [Chunk], at: usize) -> usize
+    requires { at + length nodes.now ≤ length list.old }
+    ensures place { result ≡ at + length nodes.now }
+    ensures written { nodes_of (take result list.new) ≡ nodes_of (take at list.old) ++ nodes.now }
+    ensures rest { drop result list.new ≡ drop result list.old }
+{
+    'nodes: for i in 0..nodes.len() {
+        list[at + i] = Chunk::of(&nodes[i]);
+    }
+    at + nodes.len()
+}
+
+// Writes the numbers of left and right nodes of each level of a subtree, from the chunks up.
+fn write_counts(subtree: &MerkleHashSubtree, levels: &mut [Level])
+    requires { length subtree.now.levels ≤ length levels.old }
+    ensures written { counts_of (take (length subtree.now.levels) levels.new)
+        ≡ map count_of subtree.now.levels }
+    ensures rest { drop (length subtree.now.levels) levels.new
+        ≡ drop (length subtree.now.levels) levels.old }
+{
+    'levels: for i in 0..subtree.num_levels() {
+        levels[i] = Level {
+            left: subtree.left(i).len(),
+            right: subtree.right(i).len(),
+        };
+    }
+}
+
+// Writes the left nodes of all levels of a subtree, by rising level, and answers the place after them.
+fn write_lefts(subtree: &MerkleHashSubtree, nodes: &mut [Chunk]) -> usize
+    requires { length (left_nodes subtree.now.levels) ≤ length nodes.old }
+    ensures place { result ≡ length (left_nodes subtree.now.levels) }
+    ensures written { nodes_of (take result nodes.new) ≡ left_nodes subtree.now.levels }
+    ensures rest { drop result nodes.new ≡ drop result nodes.old }
+{
+    let mut place = 0;
+    'lefts: for i in 0..subtree.num_levels() {
+        place = write_nodes(subtree.left(i), nodes, place);
+    }
+    place
+}
+
+// Writes the right nodes of all levels of a subtree, by falling level, from a place on.
+fn write_rights(subtree: &MerkleHashSubtree, nodes: &mut [Chunk], at: usize) -> usize
+    requires { at + length (right_nodes subtree.now.levels) ≤ length nodes.old }
+    ensures place { result ≡ at + length (right_nodes subtree.now.levels) }
+    ensures written { nodes_of (take result nodes.new)
+        ≡ nodes_of (take at nodes.old) ++ right_nodes subtree.now.levels }
+    ensures rest { drop result nodes.new ≡ drop result nodes.old }
+{
+    let count = subtree.num_levels();
     let mut place = at;
-    'nodes: for node in nodes {
-        if place < list.len() {
-            list[place] = Chunk::of(node);
-            place += 1;
-        }
+    'rights: for i in 0..count {
+        place = write_nodes(subtree.right(count - 1 - i), nodes, place);
     }
     place
 }
 
 // Writes the counts and the nodes of a subtree, for which there is room.
-fn write_flat(subtree: &MerkleHashSubtree, levels: &mut [Level], nodes: &mut [Chunk]) {
-    let count = subtree.num_levels();
-    let mut place = 0;
-    'lefts: for i in 0..count {
-        let (left, right) = (subtree.left(i), subtree.right(i));
-        if i < levels.len() {
-            levels[i] = Level {
-                left: left.len(),
-                right: right.len(),
-            };
-        }
-        place = write_nodes(left, nodes, place);
-    }
-    'rights: for i in 0..count {
-        place = write_nodes(subtree.right(count - 1 - i), nodes, place);
-    }
+fn write_flat(subtree: &MerkleHashSubtree, levels: &mut [Level], nodes: &mut [Chunk])
+    requires levels { length subtree.now.levels ≤ length levels.old }
+    requires nodes { node_count subtree.now.levels ≤ length nodes.old }
+    ensures written { IsFlat (counts_of (take (length subtree.now.levels) levels.new))
+        (nodes_of (take (node_count subtree.now.levels) nodes.new)) subtree.now.levels }
+    ensures levels_rest { drop (length subtree.now.levels) levels.new
+        ≡ drop (length subtree.now.levels) levels.old }
+    ensures nodes_rest { drop (node_count subtree.now.levels) nodes.new
+        ≡ drop (node_count subtree.now.levels) nodes.old }
+{
+    write_counts(subtree, levels);
+    let lefts = write_lefts(subtree, nodes);
+    write_rights(subtree, nodes, lefts);
 }
 
 /// Writes a subtree as flat lists: to `levels` the numbers of left and right nodes of each level, from the chunks up, and to
@@ -115,6 +159,10 @@ pub extern "C" fn yurewha_subtree_to_flat(
 ) -> u32
     ensures lens { (result ≡ DONE) ⊎ (result ≡ ROOM) → IsSomeAnd subtree.old.value (λ kept.
         (level_len.new ≡ length kept.levels) × (node_len.new ≡ node_count kept.levels)) }
+    ensures written { result ≡ DONE → IsSomeAnd subtree.old.value (λ kept.
+        IsFlat (counts_of (take level_len.new levels.new)) (nodes_of (take node_len.new nodes.new)) kept.levels) }
+    ensures rest { result ≡ DONE → (drop level_len.new levels.new ≡ drop level_len.new levels.old)
+        × (drop node_len.new nodes.new ≡ drop node_len.new nodes.old) }
     ensures done { result ≡ DONE → (level_len.new ≤ length levels.old) × (node_len.new ≤ length nodes.old) }
     ensures room { result ≡ ROOM → (length levels.old < level_len.new) ⊎ (length nodes.old < node_len.new) }
     ensures empty { (result ≡ EMPTY_HANDLE) ↔ (subtree.old.value ≡ None) }

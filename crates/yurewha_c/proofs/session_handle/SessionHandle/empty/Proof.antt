@@ -24,7 +24,7 @@ use denote.Triple.Spec.{triple_of}
 use denote.Triple.Table.{entered}
 use denote.Triple.Walked.{says, Stays, stay_dropped, walk_of, ends_at, Goes-dropped, walk_Meets}
 use Rattle.core.proofs.alloc.Calls.{handle_tells}
-use Rattle.std_alloc.proofs.BoxSteps.Form.{P, handle}
+use Rattle.std_alloc.proofs.BoxSteps.Form.{P}
 use Rattle.yurewha_c.proofs.AsBox.{session_box as E, FromAlloc as From}
 use Rattle.yurewha_c.proofs.Handles.{bits, null_typed, handle_in}
 use Rattle.yurewha_c.specs.Rows.{session_row as R}

@@ -1,7 +1,7 @@
 -- `into_parts` compares the pointer with null: a handle with a null pointer owned nothing, and each other one hands what it
 -- owned to the parts.
-use Rattle.std.proofs.Common.{◌≡◌, List, [], ◌∷◌, ◌++◌, refl, sym, ap, subst, lit<}
-use Rattle.std.specs.Prelude.{None, Some, option_map}
+use Rattle.std.proofs.Common.{◌≡◌, List, [], ◌∷◌, ◌++◌, refl, sym, subst, lit<}
+use Rattle.std.specs.Prelude.{None, Some}
 use seplogic.Ra.Ura.{Ura}
 use mir.Val.{Val, vcons, vnil}
 use base.Logic.{SProp, ent, emp, id⊢}
@@ -28,7 +28,7 @@ use denote.Triple.Table.{entered}
 use denote.Triple.Walked.{says, Stays, stay_dropped, walk_of, ends_at, Goes-dropped, walk_Meets}
 use Rattle.core.proofs.alloc.Shapes.{after}
 use Rattle.core.proofs.option.Made.{Some-of, none_of}
-use Rattle.std_alloc.proofs.BoxSteps.Form.{D, B, word, box_typed}
+use Rattle.std_alloc.proofs.BoxSteps.Form.{D, word, box_typed}
 use Rattle.std_alloc.proofs.BoxSteps.Steps.{box_in}
 use Rattle.yurewha_c.proofs.AsBox.{session_box as E, FromSessionHandle as From, parts_row}
 use Rattle.yurewha_c.specs.Rows.{session_row as R}
