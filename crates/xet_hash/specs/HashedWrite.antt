@@ -1,4 +1,4 @@
--- What a writer that hashes has taken, and the writer behind it.
+-- What a writer that hashes has taken, and its inner writer.
 use Rattle.std.specs.Prelude.{◌≡◌, ℕ, List, [], ◌++◌, take, Result, Ok, Err}
 use Rattle.std.specs.Borrow.{Bor, MutBor}
 use Rattle.std.specs.Fn.{Once}

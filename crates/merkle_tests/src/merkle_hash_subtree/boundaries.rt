@@ -40,7 +40,7 @@ fn drawn_lists(
     Ok(lists)
 }
 
-// Whether the first stable point of some nodes stays a group's end behind each of some lists, and the last
+// Whether the first stable point of some nodes stays a group's end after each of some lists, and the last
 // one before each.
 fn stay_group_ends(nodes: &[Node], start: usize, end: usize, others: &[Vec<Node>]) -> bool {
     others.iter().all(|other| {

@@ -90,7 +90,7 @@ module _ {K V : Type 0} {eq : K → K → Bool} (laws : IsEquivalence eq) where
   set_value-map key value (entry ∷ entries) distinct =
       set_value-head key value entry entries (eq key entry.0) refl distinct (set_value-map key value entries distinct.1)
 
-  -- a value that is written behind another one, which was put where there was none, is put there
+  -- a value that is written after another one, which was put where there was none, is put there
   pub IsPut-filled : (old mid : List (K × V)) (key : K) (first value : V) → value_at eq old key ≡ None
       → Sets eq old key (Some first) mid → Puts eq old key first mid → IsFiniteMap eq mid
       → IsPut eq old key value (set_value (eq key) mid value)
