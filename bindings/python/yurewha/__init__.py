@@ -41,7 +41,7 @@ from ._subtree import (
     xorb_hash,
 )
 
-__version__ = "0.1.0"
+__version__ = "1.0.0"
 
 __all__ = [
     "Chunks",

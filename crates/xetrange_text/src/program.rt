@@ -32,7 +32,7 @@ write, 8 a line that is no range. The status is 64 after a wrong argument.
   --version     prints the version of xet-core-structures whose ranges these are
 ";
 
-const VERSION: &str = "xetrange 1.5.2\n";
+const VERSION: &str = "xetrange 1.0.0 (hashes of xet-core-structures 1.5.2)\n";
 
 /// Does what the arguments ask for, and answers the exit status: 0, that of a fault, or 64 after a wrong argument.
 ///
