@@ -9,6 +9,7 @@ ghost use Rattle.std.specs.Prelude.{◌≡◌};
 ghost use Rattle.keyed_blake3.specs.Blake3.{keyed_hash};
 
 mod chunk;
+mod chunks;
 mod compression;
 mod hasher;
 mod tree;
