@@ -1,9 +1,9 @@
 -- Compressions side by side: each lane of the vectors is the compression of its own words.
-use Rattle.std.proofs.Common.{◌≡◌, ℕ, zero, suc, ◌/◌, ◌%◌, ◌^◌, ◌<◌, List, [], ◌∷◌, length, map, get_or, set, bit_xor, refl, sym, ap, ◌∙◌, arith, length-set}
+use Rattle.std.proofs.Common.{◌≡◌, ℕ, ◌+◌, ◌/◌, ◌%◌, ◌^◌, ◌<◌, List, [], ◌∷◌, ◌++◌, length, map, get_or, set, bit_xor, refl, sym, ap, subst, ◌∙◌, arith, length-set}
 use Rattle.std.proofs.Math.ListN.{get_or-map}
 use Rattle.std.proofs.lemmas.List.{get_or-map as get_or-map-at, get_or_default, length-map, map-set}
-use Rattle.std.proofs.lemmas.List.Elements.{All-get_or, All-set}
-use Rattle.std.proofs.lemmas.List.FromFn.{fill_by_all}
+use Rattle.std.proofs.lemmas.List.Elements.{All-append, All-get_or, All-set}
+use Rattle.std.proofs.lemmas.List.FromFn.{fill_by_all, get_or-map-range_with_len}
 use Rattle.std.proofs.lemmas.Simd.{Each1-get_or, get_or-zip2, length-zip2}
 use Rattle.std.specs.Int.{rotate_right, w32}
 use Rattle.std.specs.List.{range_with_len}
@@ -116,65 +116,45 @@ round_by_steps j m l l1 l2 l3 l4 l5 l6 l7 l8 e1 e2 e3 e4 e5 e6 e7 e8 =
     let at = lane_at j m in
     rw (e8, e7, e6, e5, e4, e3, e2, e1, at 0, at 1, at 2, at 3, at 4, at 5, at 6, at 7, at 8, at 9, at 10, at 11, at 12, at 13, at 14, at 15) refl
 
--- ---- a vector for each word
+-- ---- the ends of a compression
 
--- what each vector of a list has
-pub full_each : (v : List (List ℕ)) → Each1 (λ w. length w ≡ LANES) v → AreFull v
-full_each v each k d fits = Each1-get_or (λ (w : List ℕ). length w ≡ LANES) v k d fits each
+-- the eight vectors of h, and then others
+abbrev pub eight_then : List (List ℕ) → List (List ℕ) → List (List ℕ)
+eight_then h v = map (λ k. get_or h k []) (range_with_len 0 8) ++ v
+
+pub eight_full : (h v : List (List ℕ)) → length h ≡ 8 → AreFull h → Each1 (λ w. length w ≡ LANES) v → AreFull (eight_then h v)
+eight_full h v size full each =
+    let same : h ≡ map (λ k. get_or h k []) (range_with_len 0 8) = fill_by_all (λ (k : ℕ). get_or h k []) h 8 [] size (λ k fits. refl) in
+    All-append (λ (w : List ℕ). length w ≡ LANES) (map (λ k. get_or h k []) (range_with_len 0 8)) v (subst AreFull same full)
+    (λ k d fits. Each1-get_or (λ (w : List ℕ). length w ≡ LANES) v k d fits each)
 
 -- the states at first, from the chaining values h
 pub first_state_at : (j : ℕ) (h : List (List ℕ)) (v0 v1 v2 v3 low high len flag : List ℕ) (counter block_len flags : ℕ)
     → get_or v0 j 0 ≡ 0x6A09E667 → get_or v1 j 0 ≡ 0xBB67AE85 → get_or v2 j 0 ≡ 0x3C6EF372 → get_or v3 j 0 ≡ 0xA54FF53A
     → get_or low j 0 ≡ counter % 2 ^ 32 → get_or high j 0 ≡ counter / 2 ^ 32 → get_or len j 0 ≡ block_len → get_or flag j 0 ≡ flags
-    → lane j (get_or h 0 [] ∷ get_or h 1 [] ∷ get_or h 2 [] ∷ get_or h 3 [] ∷ get_or h 4 [] ∷ get_or h 5 [] ∷ get_or h 6 [] ∷ get_or h 7 []
-    ∷ v0 ∷ v1 ∷ v2 ∷ v3 ∷ low ∷ high ∷ len ∷ flag ∷ [])
-    ≡ first_state (lane j h) counter block_len flags
+    → lane j (eight_then h (v0 ∷ v1 ∷ v2 ∷ v3 ∷ low ∷ high ∷ len ∷ flag ∷ [])) ≡ first_state (lane j h) counter block_len flags
 first_state_at j h v0 v1 v2 v3 low high len flag counter block_len flags e0 e1 e2 e3 el eh en ef =
     let at = lane_at j h in
     rw (e0, e1, e2, e3, el, eh, en, ef, at 0, at 1, at 2, at 3, at 4, at 5, at 6, at 7) refl
 
--- the vectors of the first eight words of the outputs
+-- the vectors of the first eight words of the outputs, and one of them
+abbrev pub fold : List (List ℕ) → ℕ → List ℕ
+fold v i = zip2 bit_xor (get_or v i []) (get_or v (i + 8) [])
+
 abbrev pub folds : List (List ℕ) → List (List ℕ)
-folds v =
-    let x : ℕ → ℕ → List ℕ = λ i k. zip2 bit_xor (get_or v i []) (get_or v k []) in
-    x 0 8 ∷ x 1 9 ∷ x 2 10 ∷ x 3 11 ∷ x 4 12 ∷ x 5 13 ∷ x 6 14 ∷ x 7 15 ∷ []
+folds v = map (fold v) (range_with_len 0 8)
+
+pub folded_full : (v : List (List ℕ)) → AreFull v → length v ≡ 16 → AreFull (folds v)
+folded_full v full size k d fits =
+    ap length (get_or-map-range_with_len (fold v) 0 8 k k d fits (omega arith))
+    ∙ both_full bit_xor (get_or v k []) (get_or v (k + 8) []) (full_at v k full (omega arith)) (full_at v (k + 8) full (omega arith))
 
 pub folded_at : (j : ℕ) (v : List (List ℕ)) → j < LANES → AreFull v → length v ≡ 16 → lane j (folds v) ≡ folded (lane j v)
 folded_at j v h full size =
-    let at : (i k : ℕ) → i < 16 → k < 16 → get_or (zip2 bit_xor (get_or v i []) (get_or v k [])) j 0 ≡ bit_xor (get_or (lane j v) i 0) (get_or (lane j v) k 0) =
-    λ i k hi hk. both_at bit_xor j (get_or v i []) (get_or v k []) h (full_at v i full (rw size hi)) (full_at v k full (rw size hk))
-        ∙ rw (lane_at j v i, lane_at j v k) refl in
-    rw (
-      at 0 8 (omega arith) (omega arith),
-      at 1 9 (omega arith) (omega arith),
-      at 2 10 (omega arith) (omega arith),
-      at 3 11 (omega arith) (omega arith),
-      at 4 12 (omega arith) (omega arith),
-      at 5 13 (omega arith) (omega arith),
-      at 6 14 (omega arith) (omega arith),
-      at 7 15 (omega arith) (omega arith),
-    ) refl
-
-pub folded_full : (v : List (List ℕ)) → AreFull v → length v ≡ 16 → AreFull (folds v)
-folded_full v full size =
-    let at : (i k : ℕ) → i < 16 → k < 16 → length (zip2 bit_xor (get_or v i []) (get_or v k [])) ≡ LANES =
-    λ i k hi hk. both_full bit_xor (get_or v i []) (get_or v k []) (full_at v i full (rw size hi)) (full_at v k full (rw size hk)) in
-    full_each (folds v)
-    (at 0 8 (omega arith) (omega arith), (at 1 9 (omega arith) (omega arith), (at 2 10 (omega arith) (omega arith), (at 3 11 (omega arith) (omega arith),
-    (at 4 12 (omega arith) (omega arith), (at 5 13 (omega arith) (omega arith), (at 6 14 (omega arith) (omega arith), (at 7 15 (omega arith) (omega arith), tt))))))))
-
--- ---- eight words of each chunk
-
--- the eight vectors h, and then v
-abbrev pub eight_then : List (List ℕ) → List (List ℕ) → List (List ℕ)
-eight_then h v =
-    get_or h 0 [] ∷ get_or h 1 [] ∷ get_or h 2 [] ∷ get_or h 3 [] ∷ get_or h 4 [] ∷ get_or h 5 [] ∷ get_or h 6 [] ∷ get_or h 7 [] ∷ v
-
-pub eight_full : (h v : List (List ℕ)) → length h ≡ 8 → AreFull h → Each1 (λ w. length w ≡ LANES) v → AreFull (eight_then h v)
-eight_full h v size full more =
-    let at : (i : ℕ) → i < 8 → length (get_or h i []) ≡ LANES = λ i fits. full_at h i full (rw size fits) in
-    full_each (eight_then h v)
-    (at 0 (omega arith), (at 1 (omega arith), (at 2 (omega arith), (at 3 (omega arith), (at 4 (omega arith), (at 5 (omega arith), (at 6 (omega arith), (at 7 (omega arith), more))))))))
+    fill_by_all (λ (i : ℕ). bit_xor (get_or (lane j v) i 0) (get_or (lane j v) (i + 8) 0)) (lane j (folds v)) 8 0 refl
+    (λ k fits. sym (lane_at j (folds v) k) ∙ ap (λ (w : List ℕ). get_or w j 0) (get_or-map-range_with_len (fold v) 0 8 k k [] fits (omega arith))
+    ∙ both_at bit_xor j (get_or v k []) (get_or v (k + 8) []) h (full_at v k full (omega arith)) (full_at v (k + 8) full (omega arith))
+    ∙ rw (lane_at j v k, lane_at j v (k + 8)) refl)
 
 -- the words at a lane, read one by one
 pub lane_read : (j : ℕ) (h : List (List ℕ)) (x0 x1 x2 x3 x4 x5 x6 x7 : ℕ) → length h ≡ 8 → AreFull h → j < LANES

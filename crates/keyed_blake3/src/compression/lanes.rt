@@ -17,16 +17,7 @@ pub(crate) type Lanes = Simd<u32, LANES>;
 
 // Half of G on the places a, b, c, d of each state: a message word of each, and two rotations.
 #[inline(always)]
-fn half_mix(
-    v: &mut [Lanes; 16],
-    a: usize,
-    b: usize,
-    c: usize,
-    d: usize,
-    x: Lanes,
-    r: u32,
-    s: u32,
-)
+fn half_mix(v: &mut [Lanes; 16], a: usize, b: usize, c: usize, d: usize, x: Lanes, r: u32, s: u32)
     requires a { a < 16 }
     requires b { b < 16 }
     requires c { c < 16 }
@@ -190,5 +181,7 @@ pub(crate) fn lane(h: &[Lanes; 8], j: usize) -> [u32; 8]
     requires full { AreFull h.now }
     ensures { result ≡ lane j h.now }
 {
-    [h[0][j], h[1][j], h[2][j], h[3][j], h[4][j], h[5][j], h[6][j], h[7][j]]
+    [
+        h[0][j], h[1][j], h[2][j], h[3][j], h[4][j], h[5][j], h[6][j], h[7][j],
+    ]
 }

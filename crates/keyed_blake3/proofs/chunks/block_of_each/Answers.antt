@@ -16,4 +16,4 @@ returns c = λ j h.
     fill_by_all (λ (k : ℕ). from_le_bytes w32 (drop (4 * k) (block (chunk_at j bytes) c.args.n))) (lane j words) 16 0
     (length-map _ _ ∙ c.words.invariant.size)
     (λ k fits. sym (lane_at j words k) ∙ c.words.invariant.words k (omega arith) j h
-        ∙ word_at_place bytes j c.args.n k (omega arith) c.requires.block fits)
+    ∙ word_at_place bytes j c.args.n k (omega arith) c.requires.block fits)

@@ -7,8 +7,8 @@ use Rattle.keyed_blake3.proofs.compression.lanes.first_state.Goals as goal
 pub returns-clause-full : goal.returns-clause-full
 returns-clause-full c =
     let rest : List (List ℕ) =
-        replicate LANES 0x6A09E667 ∷ replicate LANES 0xBB67AE85 ∷ replicate LANES 0x3C6EF372 ∷ replicate LANES 0xA54FF53A
-        ∷ c.counters.result.0 ∷ c.counters.result.1 ∷ replicate LANES c.args.block_len ∷ replicate LANES c.args.flags ∷ [] in
+    replicate LANES 0x6A09E667 ∷ replicate LANES 0xBB67AE85 ∷ replicate LANES 0x3C6EF372 ∷ replicate LANES 0xA54FF53A
+    ∷ c.counters.result.0 ∷ c.counters.result.1 ∷ replicate LANES c.args.block_len ∷ replicate LANES c.args.flags ∷ [] in
     eight_full c.args.h.now rest c.told-h c.requires.full
     (refl, (refl, (refl, (refl, (c.counters.ensures.full.0, (c.counters.ensures.full.1, (refl, (refl, tt))))))))
 
