@@ -1,4 +1,4 @@
-// The chaining values of whole chunks, side by side (BLAKE3 specification, 2.4 and 5.3): lane j is of chunk j.
+// The chaining values of whole chunks, side by side (BLAKE3 specification, 2.4): lane j belongs to chunk j.
 
 ghost use Rattle.std.specs.Prelude.{◌≡◌, ℕ, ◌+◌, ◌*◌, ◌^◌, ◌<◌, ◌≤◌, drop, length, slice_index};
 ghost use Rattle.std.specs.Int.{from_le_bytes, w32};

@@ -2,7 +2,8 @@
 //! one that comes piece by piece by a [`Hasher`]. Neither takes memory.
 //!
 //! A block of 64 bytes is compressed into a chaining value (`compression`), the blocks of a chunk one after
-//! the other (`chunk`), and the chaining values of two subtrees into their parent's, up to the root (`tree`).
+//! the other (`chunk`), those of several chunks side by side (`chunks`), and the chaining values of two subtrees
+//! into their parent's, up to the root (`tree`).
 #![tactic(auto)]
 
 ghost use Rattle.std.specs.Prelude.{◌≡◌};

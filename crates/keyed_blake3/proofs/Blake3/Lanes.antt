@@ -18,24 +18,24 @@ use lib.Lanes.{Each1, zip2}
 pub lane_at : (j : ℕ) (v : List (List ℕ)) (i : ℕ) → get_or (get_or v i []) j 0 ≡ get_or (lane j v) i 0
 lane_at j v i = sym (get_or-map (λ (w : List ℕ). get_or w j 0) v i [])
 
-pub full_at : (v : List (List ℕ)) (i : ℕ) → AreFull v → i < length v → length (get_or v i []) ≡ LANES
+full_at : (v : List (List ℕ)) (i : ℕ) → AreFull v → i < length v → length (get_or v i []) ≡ LANES
 full_at v i full h = All-get_or (λ (w : List ℕ). length w ≡ LANES) v i [] h full
 
-pub full-set : (v : List (List ℕ)) (i : ℕ) (w : List ℕ) → AreFull v → length w ≡ LANES → AreFull (set v i w)
+full-set : (v : List (List ℕ)) (i : ℕ) (w : List ℕ) → AreFull v → length w ≡ LANES → AreFull (set v i w)
 full-set v i w full h = All-set (λ (u : List ℕ). length u ≡ LANES) v i w h full
 
 -- a lane of two vectors
-pub both_at : (f : ℕ → ℕ → ℕ) (j : ℕ) (x y : List ℕ) → j < LANES → length x ≡ LANES → length y ≡ LANES
+both_at : (f : ℕ → ℕ → ℕ) (j : ℕ) (x y : List ℕ) → j < LANES → length x ≡ LANES → length y ≡ LANES
     → get_or (zip2 f x y) j 0 ≡ f (get_or x j 0) (get_or y j 0)
 both_at f j x y h hx hy = get_or-zip2 f x y j 0 0 0 (rw hx h) (rw hy h)
 
-pub both_full : (f : ℕ → ℕ → ℕ) (x y : List ℕ) → length x ≡ LANES → length y ≡ LANES → length (zip2 f x y) ≡ LANES
+both_full : (f : ℕ → ℕ → ℕ) (x y : List ℕ) → length x ≡ LANES → length y ≡ LANES → length (zip2 f x y) ≡ LANES
 both_full f x y hx hy = length-zip2 f x y (hx ∙ sym hy) ∙ hx
 
 -- ---- half of G
 
 -- it writes to the four places one after the other
-pub half_mix_by_steps : (l l1 l2 l3 l4 : List ℕ) (a b c d x r s : ℕ)
+half_mix_by_steps : (l l1 l2 l3 l4 : List ℕ) (a b c d x r s : ℕ)
     → l1 ≡ set l a (add32 (add32 (get_or l a 0) (get_or l b 0)) x)
     → l2 ≡ set l1 d (rotate_right w32 (bit_xor (get_or l1 d 0) (get_or l1 a 0)) r)
     → l3 ≡ set l2 c (add32 (get_or l2 c 0) (get_or l2 d 0))

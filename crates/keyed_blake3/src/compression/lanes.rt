@@ -1,5 +1,5 @@
-// The compression of a block of each of `LANES` chunks, side by side (BLAKE3 specification, 5.3): lane j of each
-// vector belongs to chunk j.
+// The compression function (BLAKE3 specification, 2.2) on a block of each of `LANES` chunks, side by side: lane j of
+// each vector belongs to chunk j.
 
 ghost use Rattle.std.specs.Prelude.{◌≡◌, ℕ, ◌+◌, ◌/◌, ◌%◌, ◌^◌, ◌<◌, ◌≤◌, length, slice_index};
 ghost use Rattle.keyed_blake3.specs.Blake3.{compress, first_state, folded, half_mix, mix, permuted, round};
@@ -8,8 +8,8 @@ ghost use Rattle.keyed_blake3.specs.Steps.Lanes.{AreFull, lane};
 use crate::compression::{INITIALIZATION_VECTOR, rotated};
 use std::simd::prelude::*;
 
-// How many chunks are compressed side by side: what a vector register of the processor holds. A build with
-// `--cpu x86-64-v3` is faster with 8.
+// How many chunks are compressed side by side: the words that a vector register holds. The proofs hold for 8, too,
+// with which a build for x86-64-v3 is faster.
 pub(crate) const LANES: usize = 4;
 
 // One word of each chunk.

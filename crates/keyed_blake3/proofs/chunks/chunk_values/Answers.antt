@@ -1,4 +1,4 @@
-use Rattle.std.proofs.Common.{◌≡◌, ◌+◌, ◌-◌, ◌*◌, ◌/◌, ℕ, List, ap, arith, sym, ◌∙◌}
+use Rattle.std.proofs.Common.{◌≡◌, ◌+◌, ◌-◌, ◌/◌, ℕ, List, ap, arith, sym, ◌∙◌}
 use Rattle.keyed_blake3.specs.Blake3.{after_blocks}
 use Rattle.keyed_blake3.specs.Steps.Lanes.{chunk_at}
 use Rattle.keyed_blake3.proofs.Blake3.Absorbing.{chunk_value-last}
