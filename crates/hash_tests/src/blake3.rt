@@ -161,7 +161,8 @@ fn message<const N: usize>() -> [u8; N] {
 fn agrees_with_a_plain_reference(rt: HostRuntime) -> Result<(), Fail> {
     let message = message::<31744>();
     for length in [
-        0, 1, 63, 64, 65, 1023, 1024, 1025, 2048, 2049, 3072, 3073, 4096, 5120, 31744,
+        0, 1, 63, 64, 65, 1023, 1024, 1025, 2048, 2049, 3072, 3073, 4095, 4096, 4097, 5120, 8192,
+        8193, 31744,
     ] {
         let message = &message[..length];
         let hash = reference(&KEY, message);
@@ -208,8 +209,15 @@ const HASHES: &str = "0 73492b19995d71cdb1e9d74decc09809eb732f1b00bc95c27cb15f9d
 2049 5442eec85e3fd173dcff07c39cd8cff9689f17224471e655618ed728cf03b056
 3072 66315151ac08f5cdf077f76e1b5f584a4da7b48a75036de5729be38dac835fb7
 3073 66eabf3a0a1a262221ee9eed633621a5065e4e73d098277c7de4162559edb9b4
+4095 00ae38b394ea655a2a268084af0e2543eac4a5a4ee61778ec6bdae88b81f03e9
 4096 e8c6e859e0480c4b062457defd04d2f4303b6cc280a0fe080ec5c4346a171937
+4097 a3b7fe277011b5efcde8a33d90b0edb88c29e73831f34d9b02aebab51c98e2a6
 5120 8bb4f2ab4db1d207713b4240105ec14d57452bc53073c480f8377279fa959a95
+5121 f5e92bc50eb02296aad75a7fb1faf6bf95c0f3eccfaaed506e2448df16b45c0b
+8191 c0d7ec24ed861b344c89db577b89dc90b9de9ca50766165f5d0e4b66c0e2ffb4
+8192 c659141d9d7e6efafd2f274d4307b9ab3369f058c6d03cd5ba17d4518d77bd49
+8193 c666ccf5fa240c07a9d0a6b8ae92c67668b482e7c2751fb5e1d9d7078fa9637e
+16385 4343c3dd9cc572142984258a08652588589d1683adf926283c37681508a138fe
 31744 55253f057bce59e7811fea47ac0e72751ca12c40c4a5b8f3c42e54daa5073272
 ";
 
@@ -240,11 +248,18 @@ fn has_the_known_hashes(rt: HostRuntime) -> Result<(), Fail> {
         let message = message.get(..length.parse()?).ok_or("too long")?;
         let text = hex::encode(rt.alloc(), keyed_hash(&key, message))?;
         assert!(rt; text.as_str() == hash);
-        for (first, second) in [(message.len(), message.len()), (1, 1), (1, 1024)] {
+        for (first, second) in [
+            (message.len(), message.len()),
+            (1, 1),
+            (1, 1024),
+            (1000, 4097),
+            (1024, 5000),
+            (64, 8192),
+        ] {
             let text = hex::encode(rt.alloc(), hash_in_pieces(&key, message, first, second))?;
             assert!(rt; text.as_str() == hash);
         }
     }
-    assert!(rt; HASHES.lines().count() == 17);
+    assert!(rt; HASHES.lines().count() == 24);
     Ok(())
 }

@@ -2,6 +2,7 @@
 pub mod Absorbing
 pub mod Blocks
 pub mod Finishing
+pub mod Lanes
 pub mod Merging
 pub mod Rows
 pub mod Waiting

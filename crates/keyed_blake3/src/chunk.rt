@@ -22,7 +22,7 @@ pub(crate) const KEYED_HASH: u32 = 16;
 
 // The little-endian word at place `at` of some bytes.
 #[inline(always)]
-fn word_at(bytes: &[u8], at: usize) -> u32
+pub(crate) fn word_at(bytes: &[u8], at: usize) -> u32
     requires { at + 4 ≤ length bytes.now }
     ensures { result ≡ from_le_bytes w32 (drop at bytes.now) }
 {

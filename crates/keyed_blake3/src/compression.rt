@@ -5,6 +5,7 @@ ghost use Rattle.std.specs.Int.{rotate_right, w32};
 ghost use Rattle.keyed_blake3.specs.Blake3.{compress, first_state, folded, permuted, round};
 ghost use Rattle.keyed_blake3.specs.Steps.Rows.{half_columns, state_of, words_of};
 
+pub(crate) mod lanes;
 mod rows;
 
 use rows::{Quads, Rows};
@@ -15,12 +16,12 @@ const INITIALIZATION_VECTOR: [u32; 4] = [0x6A09E667, 0xBB67AE85, 0x3C6EF372, 0xA
 
 // Each lane rotated to the right.
 #[inline(always)]
-fn rotated(x: u32x4, n: u32) -> u32x4
+fn rotated<const N: usize>(x: Simd<u32, N>, n: u32) -> Simd<u32, N>
     requires low { 1 ≤ n }
     requires high { n < 32 }
-    ensures { result ≡ map (λ y. rotate_right w32 y n) x }
+    ensures { result ≡ map (λ y. rotate_right w32 y n) x.entry }
 {
-    (x >> u32x4::splat(n)) | (x << u32x4::splat(32 - n))
+    (x >> Simd::splat(n)) | (x << Simd::splat(32 - n))
 }
 
 // Half of G on each column: a message word for each, and two rotations.

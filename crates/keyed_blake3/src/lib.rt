@@ -2,13 +2,15 @@
 //! one that comes piece by piece by a [`Hasher`]. Neither takes memory.
 //!
 //! A block of 64 bytes is compressed into a chaining value (`compression`), the blocks of a chunk one after
-//! the other (`chunk`), and the chaining values of two subtrees into their parent's, up to the root (`tree`).
+//! the other (`chunk`), those of several chunks side by side (`chunks`), and the chaining values of two subtrees
+//! into their parent's, up to the root (`tree`).
 #![tactic(auto)]
 
 ghost use Rattle.std.specs.Prelude.{◌≡◌};
 ghost use Rattle.keyed_blake3.specs.Blake3.{keyed_hash};
 
 mod chunk;
+mod chunks;
 mod compression;
 mod hasher;
 mod tree;

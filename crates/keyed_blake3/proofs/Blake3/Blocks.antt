@@ -1,10 +1,12 @@
 -- Blocks and chunks of a message, as the code takes them.
-use Rattle.std.proofs.Common.{◌≡◌, ℕ, zero, suc, ◌+◌, ◌-◌, ◌*◌, ◌^◌, ◌≤◌, List, [], ◌++◌, length, take, drop, replicate, refl, sym, ap, ◌∙◌, arith, length-drop, add-one}
-use Rattle.std.proofs.lemmas.List.{append-nil, drop_at, take_all, take_at, take-append-le, drop-replicate, take-replicate}
+use Rattle.std.proofs.Common.{◌≡◌, ℕ, zero, suc, ◌+◌, ◌-◌, ◌*◌, ◌^◌, ◌<◌, ◌≤◌, List, [], ◌++◌, length, take, drop, replicate, refl, sym, ap, ◌∙◌, arith, length-drop, add-one}
+use Rattle.std.proofs.lemmas.List.{append-nil, drop_at, get_or-take, take_all, take_at, take-append-le, take-take, drop-drop, drop-replicate, drop-take, length-take-le, take-replicate}
 use borrow.Rule.Slice.PartMut.{put_mid}
 use Rattle.std.proofs.Math.Seq.{take-append-add}
 use Rattle.std.proofs.lemmas.Bool.Decides.{nat_tests}
 use Rattle.std.proofs.lemmas.Nat.{pow_pos}
+use Rattle.std.specs.Int.{from_le_bytes, w32}
+use Rattle.keyed_blake3.specs.Steps.Lanes.{chunk_at}
 use Rattle.keyed_blake3.specs.Blake3.{after_blocks, block, chunk_value, compress, keyed_hash_flag, start_flag, subtree_value, words_at}
 
 -- a whole block is not filled up
@@ -46,3 +48,50 @@ pair_of a b ha hb =
 -- a message of one whole block
 pub block_of_whole : (m : List ℕ) → length m ≡ 64 → block m 0 ≡ m
 block_of_whole m h = block_whole m 0 (omega arith) ∙ take_all 64 m (omega arith)
+
+-- one more block, of which the words are given
+pub after_blocks_more : (key : List ℕ) (i : ℕ) (chunk : List ℕ) (n : ℕ) (h m : List ℕ) → h ≡ after_blocks key i chunk n → m ≡ words_at 16 (block chunk n)
+    → compress h m i 64 (keyed_hash_flag + start_flag n) ≡ after_blocks key i chunk (n + 1)
+unfolding after_blocks
+after_blocks_more key i chunk n h m before words = rw (before, words, add-one) refl
+
+-- ---- chunks side by side
+
+-- a word is read of its four bytes
+from_le_bytes-take : (m : ℕ) (bytes : List ℕ) → 4 ≤ m → from_le_bytes w32 (take m bytes) ≡ from_le_bytes w32 bytes
+from_le_bytes-take m bytes h =
+    rw (
+      get_or-take m bytes 0 0 (omega arith),
+      get_or-take m bytes 1 0 (omega arith),
+      get_or-take m bytes 2 0 (omega arith),
+      get_or-take m bytes 3 0 (omega arith),
+    ) refl
+
+pub length-chunk_at : (j : ℕ) (bytes : List ℕ) → 1024 * j + 1024 ≤ length bytes → length (chunk_at j bytes) ≡ 1024
+length-chunk_at j bytes long = length-take-le 1024 (drop (1024 * j) bytes) (omega (arith, length-drop (1024 * j) bytes))
+
+-- word k of block n of a chunk
+pub word_at_place : (bytes : List ℕ) (j n k : ℕ) → 1024 * j + 1024 ≤ length bytes → n < 16 → k < 16
+    → from_le_bytes w32 (drop (1024 * j + (64 * n + 4 * k)) bytes) ≡ from_le_bytes w32 (drop (4 * k) (block (chunk_at j bytes) n))
+word_at_place bytes j n k long hn hk =
+    let rest : List ℕ = drop (1024 * j) bytes in
+    let after : ℕ = 1024 - 64 * n in
+    let chunk : 64 * n + after ≡ 1024 = omega arith in
+    let words : 4 * k + (64 - 4 * k) ≡ 64 = omega arith in
+    let size = length-chunk_at j bytes long in
+    let filled : block (take 1024 rest) n ≡ take 64 (drop (64 * n) rest) =
+    block_whole (take 1024 rest) n (omega arith) ∙ ap (take 64) (rw chunk at (drop-take (64 * n) after rest)) ∙ take-take 64 after (drop (64 * n) rest) (omega arith) in
+    sym (ap (λ (x : List ℕ). from_le_bytes w32 (drop (4 * k) x)) filled
+    ∙ ap (from_le_bytes w32) (rw words at (drop-take (4 * k) (64 - 4 * k) (drop (64 * n) rest)))
+    ∙ from_le_bytes-take (64 - 4 * k) (drop (4 * k) (drop (64 * n) rest)) (omega arith)
+    ∙ ap (from_le_bytes w32) (drop-drop (4 * k) (64 * n) rest ∙ drop-drop (64 * n + 4 * k) (1024 * j) bytes))
+
+-- a chunk of the chunks that begin at chunk number c of m
+pub chunk_at_from : (m : List ℕ) (c n j : ℕ) → j < n → chunk_at j (take (1024 * n) (drop (1024 * c) m)) ≡ chunk_at (c + j) m
+chunk_at_from m c n j h =
+    let rest : List ℕ = drop (1024 * c) m in
+    let after : ℕ = 1024 * n - 1024 * j in
+    let whole : 1024 * j + after ≡ 1024 * n = omega arith in
+    let place : 1024 * c + 1024 * j ≡ 1024 * (c + j) = omega arith in
+    ap (take 1024) (rw whole at (drop-take (1024 * j) after rest)) ∙ take-take 1024 after (drop (1024 * j) rest) (omega arith)
+    ∙ ap (take 1024) (drop-drop (1024 * j) (1024 * c) m ∙ ap (λ (k : ℕ). drop k m) place)

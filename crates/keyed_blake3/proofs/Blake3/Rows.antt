@@ -1,11 +1,11 @@
 -- Rows of four words, and the laws of the columns.
-use Rattle.std.proofs.Common.{◌≡◌, ℕ, ◌-◌, ◌*◌, ◌/◌, ◌%◌, ◌^◌, ◌<◌, ◌≤◌, List, [], ◌∷◌, ◌++◌, length, map, get_or, bit_or, bit_xor, slice_index, refl, sym, ◌∙◌, arith}
+use Rattle.std.proofs.Common.{◌≡◌, ℕ, ◌-◌, ◌*◌, ◌/◌, ◌%◌, ◌^◌, ◌<◌, ◌≤◌, List, [], ◌∷◌, ◌++◌, length, map, get_or, replicate, bit_or, bit_xor, slice_index, refl, sym, ◌∙◌, arith}
 use Rattle.std.specs.Int.{rotate_right, w32}
 use Rattle.std.specs.List.{range_with_len}
 use Rattle.keyed_blake3.specs.Blake3.{add32, compress, first_state, folded, half_mix, mix, permuted, round, rounds}
 use Rattle.keyed_blake3.specs.Steps.Rows.{from_second, half_columns}
 use Rattle.std.proofs.lemmas.List.FromFn.{fill_by_all}
-use Rattle.std.proofs.lemmas.Simd.{length-zip2}
+use Rattle.std.proofs.lemmas.Simd.{length-zip2, zip2-map, zip2_splat}
 use lib.Lanes.{zip2}
 
 -- four words
@@ -16,13 +16,15 @@ four x h = fill_by_all (λ k. get_or x k 0) x 4 0 h (λ k fits. refl)
 pub sixteen : (x : List ℕ) → length x ≡ 16 → x ≡ map (λ k. get_or x k 0) (range_with_len 0 16)
 sixteen x h = fill_by_all (λ k. get_or x k 0) x 16 0 h (λ k fits. refl)
 
-pub rotated_lanes : (x : List ℕ) (n : ℕ) → length x ≡ 4 → 1 ≤ n → n < 32
-    → zip2 bit_or (zip2 (λ a k. a / 2 ^ k) x (n ∷ n ∷ n ∷ n ∷ [])) (zip2 (λ a k. (a * 2 ^ k) % 2 ^ 32) x ((32 - n) ∷ (32 - n) ∷ (32 - n) ∷ (32 - n) ∷ []))
+-- the lanes of a vector, each rotated to the right
+pub rotated_lanes : (x : List ℕ) (m n : ℕ) → length x ≡ m → 1 ≤ n → n < 32
+    → zip2 bit_or (zip2 (λ a k. a / 2 ^ k) x (replicate m n)) (zip2 (λ a k. (a * 2 ^ k) % 2 ^ 32) x (replicate m (32 - n)))
     ≡ map (λ y. rotate_right w32 y n) x
-rotated_lanes x n h low high =
+rotated_lanes x m n h low high =
     let left : n % 32 ≡ n = omega arith in
     let right : (32 - n) % 32 ≡ 32 - n = omega arith in
-    rw (four x h, left, right) refl
+    rw (zip2_splat (λ (a k : ℕ). a / 2 ^ k) x m n h, zip2_splat (λ (a k : ℕ). (a * 2 ^ k) % 2 ^ 32) x m (32 - n) h, left, right)
+    (zip2-map bit_or (λ (y : ℕ). y / 2 ^ n) (λ (y : ℕ). (y * 2 ^ (32 - n)) % 2 ^ 32) x)
 
 -- half of G on all columns
 pub half_columns-rows : (a b c d x : List ℕ) (r s : ℕ) → length a ≡ 4 → length b ≡ 4 → length c ≡ 4 → length d ≡ 4 → length x ≡ 4

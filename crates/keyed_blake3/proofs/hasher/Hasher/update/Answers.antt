@@ -1,8 +1,9 @@
-use Rattle.std.proofs.Common.{◌≡◌, ℕ, ◌++◌, ◌+◌, ◌-◌, ◌*◌, ◌/◌, length, drop, arith, refl, ap, ◌∙◌, length-append, add-zero}
+use Rattle.std.proofs.Common.{◌≡◌, ℕ, ◌++◌, ◌+◌, ◌*◌, length, drop, arith, refl, sym, ap, ◌∙◌, length-append, length-drop}
 use Rattle.std.proofs.lemmas.List.{take_rest}
+use Rattle.std.proofs.Math.Seq.{drop-append-add}
 use Rattle.keyed_blake3.specs.Blake3.{words_at}
 use Rattle.keyed_blake3.specs.declared.hasher.Hasher.{Hasher}
-use Rattle.keyed_blake3.proofs.Blake3.Absorbing.{Holds_count, Holds_grown, Holds_short, Holds_tail, block_full, block_next}
+use Rattle.keyed_blake3.proofs.Blake3.Absorbing.{Holds_count, Holds_grown, Holds_short, Holds_tail, block_full}
 use Rattle.keyed_blake3.proofs.hasher.Hasher.update.Goals as goal
 use Rattle.keyed_blake3.proofs.hasher.Hasher.update.Goals.{then-held-gt0, else-held-gt0}
 
@@ -26,7 +27,7 @@ whole-init c =
             let step = w.absorb.ensures (words_at 8 key) (m ++ d) (Holds_grown key s m d c.blocks_before_last-number.result held c.blocks_before_last-number.ensures)
             (omega (arith, length-append m d))
             (block_full key s m d w.copy_from_slice-then-held-gt0.new.self c.blocks_before_last-number.result _ _ _ held (omega arith) c.blocks_before_last-number.ensures refl refl (omega arith) (omega arith) w.copy_from_slice-then-held-gt0.ensures.after) in
-            rw (w.number-is, add-zero, tree) step;
+            rw (w.number-is, tree) step;
       }
       | else-held-gt0 w ↦ record {
         count = ap (λ (r : Hasher). r.count) w.self-is;
@@ -34,33 +35,30 @@ whole-init c =
         start = omega arith;
         absorbed = λ key m held.
             let tree = ap (λ (r : Hasher). r.tree) w.self-is in
-            rw (w.number-is, add-zero, tree) (Holds_grown key s m d c.blocks_before_last-number.result held c.blocks_before_last-number.ensures);
+            rw (w.number-is, tree) (Holds_grown key s m d c.blocks_before_last-number.result held c.blocks_before_last-number.ensures);
       }
     ]
 
 pub whole-preserved : goal.whole-preserved
 whole-preserved c =
     let d = c.args.piece.now in
-    let a : ℕ = c.if-held-gt0.start + 64 * c.whole.i in
-    let width : a + 64 - a ≡ 64 = omega arith in
-    let next : c.if-held-gt0.number + (c.whole.i + 1) ≡ c.if-held-gt0.number + c.whole.i + 1 = omega arith in
+    let a : ℕ = c.whole.start in
+    let next = rw (take_rest d a) at c.absorb_next-blocks.ensures.rest in
     record {
       count = c.whole.invariant.count;
-      number = c.whole.invariant.number;
-      start = c.whole.invariant.start;
+      number = omega arith;
+      start = omega (arith, length-drop a d);
       absorbed = λ key m held.
           let total = Holds_count key c.args.self.now m held in
-          rw next (c.absorb-in-whole.ensures (words_at 8 key) (m ++ d) (c.whole.invariant.absorbed key m held) (omega (arith, length-append m d))
-          (block_next m d _ (c.if-held-gt0.number + c.whole.i) a (omega arith) (rw width refl)));
+          let place : 64 * c.whole.number ≡ length m + a = omega arith in
+          c.absorb_next-blocks.ensures.absorbed (words_at 8 key) (m ++ d) (c.whole.invariant.absorbed key m held)
+          (take_rest d a ∙ sym (ap (λ (k : ℕ). drop k (m ++ d)) place ∙ drop-append-add m d a));
     }
 
 pub returns-clause-message : goal.returns-clause-message
 returns-clause-message c = λ key m held.
     let d = c.args.piece.now in
     let total = Holds_count key c.args.self.now m held in
-    let end : ℕ = c.if-held-gt0.start + 64 * ((length d - c.if-held-gt0.start - 1) / 64) in
-    let a : ℕ = c.if-held-gt0.start + 64 * c.whole.i in
-    let same : end ≡ a = omega arith in
-    Holds_tail key _ c.whole.self.tree m d c.copy_from_slice-2.new.self c.whole.self.block (c.if-held-gt0.number + c.whole.i) a _ (c.whole.invariant.absorbed key m held)
+    Holds_tail key _ c.whole.self.tree m d c.copy_from_slice-2.new.self c.whole.self.block c.whole.number c.whole.start _ (c.whole.invariant.absorbed key m held)
     (omega arith) (omega arith) (omega arith) (omega arith) refl refl
-    (c.copy_from_slice-2.ensures.after ∙ take_rest d end ∙ ap (λ (k : ℕ). drop k d) same)
+    (c.copy_from_slice-2.ensures.after ∙ take_rest d c.whole.start)

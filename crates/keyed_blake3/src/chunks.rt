@@ -1,0 +1,81 @@
+// The chaining values of whole chunks, side by side (BLAKE3 specification, 2.4): lane j belongs to chunk j.
+
+ghost use Rattle.std.specs.Prelude.{◌≡◌, ℕ, ◌+◌, ◌*◌, ◌^◌, ◌<◌, ◌≤◌, drop, length, slice_index};
+ghost use Rattle.std.specs.Int.{from_le_bytes, w32};
+ghost use Rattle.keyed_blake3.specs.Blake3.{block, chunk_value, words_at};
+ghost use Rattle.keyed_blake3.specs.Steps.Lanes.{AreFull, chunk_at, lane};
+
+use crate::chunk::{
+    BLOCK_LEN, BLOCKS_PER_CHUNK, CHUNK_END, CHUNK_LEN, KEYED_HASH, start_flag, word_at,
+};
+use crate::compression::lanes::{LANES, Lanes, compress_each};
+use std::simd::prelude::*;
+
+// The bytes of the chunks that are taken at once.
+pub(crate) const CHUNKS_LEN: usize = CHUNK_LEN * LANES;
+
+// The word at place `at` of each chunk.
+#[inline(always)]
+fn word_of_each(chunks: &[u8], at: usize) -> Lanes
+    requires chunks { length chunks.now ≡ 1024 * LANES }
+    requires at { at + 4 ≤ 1024 }
+    ensures full { length result ≡ LANES }
+    ensures lanes { (j : ℕ) → j < LANES
+        → slice_index result j ≡ from_le_bytes w32 (drop (1024 * j + at) chunks.now) }
+{
+    let mut lanes = [0u32; LANES];
+    'lanes: for j in 0..LANES {
+        lanes[j] = word_at(chunks, CHUNK_LEN * j + at);
+    }
+    Simd::from_array(lanes)
+}
+
+// The words of block number `n` of each chunk.
+#[inline(always)]
+fn block_of_each(chunks: &[u8], n: usize) -> [Lanes; 16]
+    requires chunks { length chunks.now ≡ 1024 * LANES }
+    requires block { n < 16 }
+    ensures { (j : ℕ) → j < LANES
+        → lane j result ≡ words_at 16 (block (chunk_at j chunks.now) n) }
+{
+    let mut words = [Simd::splat(0u32); 16];
+    'words: for k in 0..16 {
+        words[k] = word_of_each(chunks, BLOCK_LEN * n + 4 * k);
+    }
+    words
+}
+
+// The key's words, the same for each chunk.
+fn key_of_each(key: &[u32; 8]) -> [Lanes; 8]
+    ensures full { AreFull result }
+    ensures lanes { (j : ℕ) → j < LANES → lane j result ≡ key.now }
+{
+    [
+        Simd::splat(key[0]),
+        Simd::splat(key[1]),
+        Simd::splat(key[2]),
+        Simd::splat(key[3]),
+        Simd::splat(key[4]),
+        Simd::splat(key[5]),
+        Simd::splat(key[6]),
+        Simd::splat(key[7]),
+    ]
+}
+
+// The chaining values of the chunks, of which the first has number `first`.
+pub(crate) fn chunk_values(key: &[u32; 8], chunks: &[u8], first: u64) -> [Lanes; 8]
+    requires counter { first + LANES ≤ 2 ^ 64 }
+    requires chunks { length chunks.now ≡ 1024 * LANES }
+    ensures full { AreFull result }
+    ensures lanes { (j : ℕ) → j < LANES
+        → lane j result ≡ chunk_value key.now (first + j) (chunk_at j chunks.now) 0 }
+{
+    let last = BLOCKS_PER_CHUNK - 1;
+    let mut h = key_of_each(key);
+    'chain: for n in 0..last {
+        let flags = KEYED_HASH + start_flag(n);
+        h = compress_each(&h, &block_of_each(chunks, n as usize), first, flags);
+    }
+    let flags = KEYED_HASH + CHUNK_END;
+    compress_each(&h, &block_of_each(chunks, last as usize), first, flags)
+}
