@@ -1,13 +1,15 @@
 -- What a map's calls find around positions that are free, and what is left when the run there is put in.
 use Rattle.std.proofs.Common.{arith, nat_cmp, ◌≡◌, ◌<◌, ◌≤◌, ℕ, List, [], ◌∷◌, ◌++◌, refl, sym, ap, subst, ◌∙◌, append_assoc}
-use Rattle.std.specs.Prelude.{All, Option, None, Some, IfSome, option_map}
+use Rattle.std.specs.Prelude.{All, Option, None, Some, IfSome, option_map, is_some}
 use Rattle.std.specs.BTreeMap.{insert_entry, is_at}
 use Rattle.std.specs.Map.{lookup, remove_entry, set_value}
+use Rattle.std.proofs.lemmas.Bool.{true≢false}
+use Rattle.std.proofs.lemmas.Option.{same_Some}
 use Rattle.std.proofs.lemmas.List.{append-nil, same_from_push}
 use Rattle.std.proofs.lemmas.List.Elements.{All-nil, All-cons, All-append, All-weaker}
 use Rattle.upload_session.specs.declared.runs.Run.{Run}
 use Rattle.upload_session.specs.Session.{PlacedRun}
-use Rattle.upload_session.specs.Steps.Neighbours.{EndsAt, NoneEndsAt}
+use Rattle.upload_session.specs.Steps.Neighbours.{EndsAt, NoneEndsAt, AreAround}
 use Rattle.upload_session.proofs.Neighbours.{Around, with_run}
 use Rattle.upload_session.proofs.Positions.{holds_of_last}
 use Rattle.upload_session.proofs.SortedEntries.{upto, upto-both, lookup-none, lookup-at, set_value-at, insert-between, remove-none, remove-at}
@@ -135,3 +137,22 @@ module _ {C : Type 0} (first after : ℕ) (ahead : first < after) where
       where
         near : (run.0 < first) × (run.1.end ≡ first)
         near = subst (λ previous. IfSome previous (λ run. (run.0 < first) × (run.1.end ≡ first))) is at.previous_ends
+
+    -- where a run begins just after them
+    pub next-found : (run : Run C) → lookup (is_at (nat_cmp after)) runs ≡ Some run → at.next ≡ Some (after, run)
+    next-found run is = choose at.next refl at.next_begins
+      where
+        choose : (next : Option (PlacedRun C)) → at.next ≡ next → IfSome next (λ run. run.0 ≡ after) → at.next ≡ Some (after, run)
+        choose None none there = absurd (true≢false (ap is_some (sym is ∙ lookup-next ∙ ap (λ next. option_map (λ run. run.1) next) none)))
+        choose (Some other) one there =
+            let same = same_Some _ _ (sym (lookup-next ∙ ap (λ next. option_map (λ run. run.1) next) one) ∙ is) in
+            one ∙ (λ i. Some (there i, same i))
+
+    -- the others stand around them
+    pub around-previous : (begin : ℕ) (last : Run C) → at.previous ≡ Some (begin, last) → AreAround begin after at.front at.back
+    around-previous begin last is =
+        let near : (begin < first) × (last.end ≡ first) = subst (λ previous. IfSome previous (λ run. (run.0 < first) × (run.1.end ≡ first))) is at.previous_ends in
+        (fronts_below (begin, last) is, omega (arith, near.0, ahead), at.backs)
+
+    pub around-first : AreAround first after at.front at.back
+    around-first = (front_before first (omega arith), ahead, at.backs)

@@ -3,13 +3,13 @@ use Rattle.std.proofs.Common.{arith, nat_cmp, ◌≡◌, ◌+◌, ◌<◌, ℕ, 
 use Rattle.std.specs.Prelude.{All, Option, None, Some, option_map}
 use Rattle.std.specs.BTreeMap.{insert_entry, is_at}
 use Rattle.std.specs.Map.{remove_entry, set_value}
-use Rattle.std.proofs.lemmas.List.{append-nil}
+use Rattle.std.proofs.lemmas.List.{append-nil, append_assoc}
 use Rattle.std.proofs.lemmas.List.Elements.{All-nil, All-cons, All-head, All-tail}
 use Rattle.xet_merkle.specs.Groups.{Node}
 use Rattle.xet_merkle.specs.declared.chunk_range.ChunkRange as chunk_range
 use Rattle.upload_session.specs.declared.runs.Run.{Run}
 use Rattle.upload_session.specs.Session.{Placed, PlacedRun, place, StandFor}
-use Rattle.upload_session.specs.Steps.Neighbours.{IsWith, IsWithNext}
+use Rattle.upload_session.specs.Steps.Neighbours.{IsWith, IsWithNext, IsPutBefore}
 use Rattle.upload_session.proofs.AroundEntries.{lookup-next, inserted, replaced}
 use Rattle.upload_session.proofs.Neighbours.{Around, run_to, with_run, Keeps, IsBetween, begin_of, end_of, placed-around}
 
@@ -112,3 +112,39 @@ module _ {C A : Type 0} (kind : chunk_range.Ghosts C A) where
         ∙ ap (λ n. at.front ++ (begin_of kind first chunks at.previous, run_to n joined) ∷ at.back) of_made.0 in
         subst (λ runs. StandFor kind runs (place placed first chunks)) (sym same)
         (placed-around kind first chunks some runs at joined between placed stand)
+
+    -- the range is put before that of the run after, which begins where that before did, or where the chunks do
+    pub placed-before : (new : List (PlacedRun C)) (begin : ℕ) (last next : Run C) (front : C) → at.previous ≡ Some (begin, last) → at.next ≡ Some (first + length chunks, next)
+        → ((a : List Node) → kind.stands last.range a → kind.stands front (a ++ chunks)) → kind.start front ≡ false
+        → IsPutBefore kind begin front next at.front at.back new → StandFor kind new (place placed first chunks)
+    placed-before new begin last next front previous next_is meant opens (range, is, joins, starts, finishes) =
+        let between : IsBetween kind first chunks at.previous at.next range = (
+          λ a b keeps_a keeps_b.
+              subst (kind.stands range) (append_assoc a chunks b)
+              (joins (a ++ chunks) b (meant a (subst (λ run. Keeps kind first chunks run a) previous keeps_a)) (subst (λ run. Keeps kind first chunks run b) next_is keeps_b)),
+          starts ∙ opens,
+          finishes ∙ (next-open (first + length chunks, next) next_is).1,
+        ) in
+        let begins : begin ≡ begin_of kind first chunks at.previous = ap (begin_of kind first chunks) (sym previous) in
+        let ends : next.end ≡ end_of kind first chunks at.next = ap (end_of kind first chunks) (sym next_is) in
+        subst (λ runs. StandFor kind runs (place placed first chunks))
+        (sym (is ∙ ap (λ n. at.front ++ (n, run_to next.end range) ∷ at.back) begins
+        ∙ ap (λ n. at.front ++ (begin_of kind first chunks at.previous, run_to n range) ∷ at.back) ends))
+        (placed-around kind first chunks some runs at range between placed stand)
+
+    pub placed-first : (new : List (PlacedRun C)) (next : Run C) (front : C) → at.previous ≡ None → at.next ≡ Some (first + length chunks, next)
+        → kind.stands front chunks → kind.start front ≡ false → IsPutBefore kind first front next at.front at.back new → StandFor kind new (place placed first chunks)
+    placed-first new next front previous next_is meant opens (range, is, joins, starts, finishes) =
+        let between : IsBetween kind first chunks at.previous at.next range = (
+          λ a b keeps_a keeps_b.
+              let nothing : a ≡ [] = subst (λ run. Keeps kind first chunks run a) previous keeps_a in
+              subst (λ (l : List Node). kind.stands range (l ++ (chunks ++ b))) (sym nothing) (joins chunks b meant (subst (λ run. Keeps kind first chunks run b) next_is keeps_b)),
+          starts ∙ opens,
+          finishes ∙ (next-open (first + length chunks, next) next_is).1,
+        ) in
+        let begins : first ≡ begin_of kind first chunks at.previous = ap (begin_of kind first chunks) (sym previous) in
+        let ends : next.end ≡ end_of kind first chunks at.next = ap (end_of kind first chunks) (sym next_is) in
+        subst (λ runs. StandFor kind runs (place placed first chunks))
+        (sym (is ∙ ap (λ n. at.front ++ (n, run_to next.end range) ∷ at.back) begins
+        ∙ ap (λ n. at.front ++ (begin_of kind first chunks at.previous, run_to n range) ∷ at.back) ends))
+        (placed-around kind first chunks some runs at range between placed stand)

@@ -1,6 +1,8 @@
 -- What a map over numbers does to entries that stand in order.
 use Rattle.std.proofs.Common.{arith, nat_cmp, is_lt, is_eq, ◌≡◌, ◌<◌, ◌≤◌, ℕ, Bool, true, false, not, List, [], ◌∷◌, ◌++◌, nat_lt, refl, sym, ap, subst, ◌∙◌}
-use Rattle.std.specs.Prelude.{All, None, Some, cond}
+use Rattle.std.specs.Prelude.{All, None, Some, cond, is_some}
+use Rattle.std.specs.declared.cmp.Ordering.{Ordering}
+use Rattle.std.proofs.lemmas.Bool.{true≢false}
 use Rattle.std.specs.declared.cmp.Ordering.TheVariants.{Less, Equal, Greater}
 use Rattle.std.specs.declared.ops.Bound.TheVariants.{Included, Unbounded}
 use Rattle.std.specs.BTreeMap.{insert_entry, is_at}
@@ -145,3 +147,23 @@ module _ {X : Type 0} (k : ℕ) where
             subst (λ (l : List (ℕ × X)). All (λ (e : ℕ × X). e.0 ≤ k) l) (sym one) (All-cons (λ (e : ℕ × X). e.0 ≤ k) e (upto entries) begins low),
             high,
           )
+
+-- an entry that was put in is taken out again
+pub remove-inserted : {X : Type 0} (k : ℕ) (entries : List (ℕ × X)) (w : X) → lookup (is_at (nat_cmp k)) entries ≡ None
+    → remove_entry (is_at (nat_cmp k)) (insert_entry nat_cmp entries k w) ≡ entries
+remove-inserted k [] w none = ap (λ o. cond (is_eq o) [] ((k, w) ∷ [])) (at k)
+remove-inserted {X} k (e ∷ entries) w none = choose (λ absent. remove-inserted k entries w absent) (nat_cmp k e.0) refl
+  where
+    test : ℕ → Bool
+    test = is_at (nat_cmp k)
+
+    choose : (lookup test entries ≡ None → remove_entry test (insert_entry nat_cmp entries k w) ≡ entries) → (o : Ordering) → nat_cmp k e.0 ≡ o
+        → remove_entry test (insert_entry nat_cmp (e ∷ entries) k w) ≡ e ∷ entries
+    choose others Less is =
+        ap (λ o. remove_entry test (match_ordering o ((k, w) ∷ e ∷ entries) ((e.0, w) ∷ entries) (e ∷ insert_entry nat_cmp entries k w))) is
+        ∙ ap (λ o. cond (is_eq o) (e ∷ entries) ((k, w) ∷ remove_entry test (e ∷ entries))) (at k)
+    choose others Equal is = absurd (true≢false (ap is_some (sym (ap (λ o. cond (is_eq o) (Some e.1) (lookup test entries)) is) ∙ none)))
+    choose others Greater is =
+        ap (λ o. remove_entry test (match_ordering o ((k, w) ∷ e ∷ entries) ((e.0, w) ∷ entries) (e ∷ insert_entry nat_cmp entries k w))) is
+        ∙ ap (λ o. cond (is_eq o) (insert_entry nat_cmp entries k w) (e ∷ remove_entry test (insert_entry nat_cmp entries k w))) is
+        ∙ ap (λ l. e ∷ l) (others (sym (ap (λ o. cond (is_eq o) (Some e.1) (lookup test entries)) is) ∙ none))

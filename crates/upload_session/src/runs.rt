@@ -1,9 +1,13 @@
 //! Ranges of chunks by their positions, joined as they become adjacent.
 
-ghost use Rattle.std.specs.Prelude.{◌≡◌, ◌+◌, ◌^◌, ◌<◌, List, ℕ, [], false, length, option_map, slice_get, IfOk, IfErr, IfSome, IfNone, OnOk, OnErr};
+ghost use Rattle.std.specs.Prelude.{◌≡◌, ◌+◌, ◌^◌, ◌<◌, List, ℕ, [], ◌∷◌, ◌++◌, false, length, option_map, slice_get, Some, None, IfOk, IfErr, IfSome, IfNone, IsSome, IsTrue, OnOk, OnErr};
+ghost use Rattle.std.specs.Ordering.{nat_cmp};
+ghost use Rattle.std.specs.BTreeMap.{is_at};
+ghost use Rattle.std.specs.Map.{lookup};
+ghost use Rattle.upload_session.specs.declared.runs.Run.{Run};
 ghost use Rattle.xet_merkle.specs.Groups.{Node};
-ghost use Rattle.upload_session.specs.Steps.Neighbours.{EndsAt, NoneEndsAt, IsWithNext};
-ghost use Rattle.upload_session.specs.Session.{Placed, place, chunks_of, is_taken, overlaps, IsWhole, StandFor};
+ghost use Rattle.upload_session.specs.Steps.Neighbours.{EndsAt, NoneEndsAt, IsWithNext, AreAround, IsPutBefore, Places};
+ghost use Rattle.upload_session.specs.Session.{Placed, PlacedRun, place, chunks_of, is_taken, overlaps, IsWhole, StandFor};
 
 use crate::session_fault::SessionFault;
 use std::collections::BTreeMap;
@@ -124,6 +128,8 @@ impl<C: ChunkRange> Runs<C> {
     }
 
     /// Places chunks, one at least, at adjacent positions that aren't taken. After a refusal nothing has changed.
+    ///
+    /// Of the run before them and the run after them the range that keeps more nodes is changed in place.
     pub fn place(&mut self, first: u64, chunks: &[Node]) -> Result<(), CoreError>
         requires { first + length chunks.now < 2 ^ 64 }
         ensures placed { OnOk result ((placed : List Placed) →
@@ -133,10 +139,52 @@ impl<C: ChunkRange> Runs<C> {
         ensures unchanged { OnErr result (self.new ≡ self.old) }
     {
         let after = first + chunks.len() as u64;
-        let made = self.make_run(chunks, after)?;
-        match self.run_before(first) {
-            Some(start) => {
-                if let Some(run) = self.runs.get_mut(&start) {
+        let made = C::from_chunks(self.alloc.clone()?, false, chunks, false)?;
+        let previous = self.run_before(first);
+        if self.next_stays(first, previous, &made, after) {
+            self.place_before_next(first, previous, made, after)?;
+        } else {
+            self.place_after_previous(first, previous, made, after)?;
+        }
+        Ok(())
+    }
+
+    // Whether the range of the run that begins just after a range to be placed is the longest of those to be joined, so that
+    // it is changed in place. It gets an entry at the first position, where no run is then.
+    fn next_stays(&self, first: u64, previous: Option<u64>, made: &C, after: u64) -> bool
+        ensures next { IsTrue result → IsSome (lookup (is_at (nat_cmp after)) self.now) }
+        ensures free { IsTrue result → IfNone previous (lookup (is_at (nat_cmp first)) self.now ≡ None) }
+    {
+        let Some(next) = self.runs.get(&after) else {
+            return false;
+        };
+        let nodes = next.range.num_nodes();
+        match previous {
+            Some(begin) => match self.runs.get(&begin) {
+                Some(run) => run.range.num_nodes() < nodes,
+                None => false,
+            },
+            None => made.num_nodes() < nodes && !self.runs.contains_key(&first),
+        }
+    }
+
+    // Places a range, and what the run after it keeps, after the run before it.
+    fn place_after_previous(
+        &mut self,
+        first: u64,
+        previous: Option<u64>,
+        made: C,
+        after: u64,
+    ) -> Result<(), CoreError>
+        requires some { IfSome previous (λ begin. EndsAt self.old first begin) }
+        requires none { IfNone previous (NoneEndsAt self.old first) }
+        ensures placed { OnOk result (Places C.ChunkRange self.old first after made self.new) }
+        ensures unchanged { OnErr result (self.new ≡ self.old) }
+    {
+        let made = self.with_next(made, after)?;
+        match previous {
+            Some(begin) => {
+                if let Some(run) = self.runs.get_mut(&begin) {
                     run.range.join(&made.range)?;
                     run.end = made.end;
                 }
@@ -149,12 +197,92 @@ impl<C: ChunkRange> Runs<C> {
         Ok(())
     }
 
-    // The run of some chunks before a position, and of the run that begins there, where there is one.
-    fn make_run(&self, chunks: &[Node], after: u64) -> Result<Run<C>, CoreError>
-        ensures { IfOk result (IsWithNext C.ChunkRange self.now after chunks.now) }
+    // Places a range, and what the run before it keeps, before the run after it, where there is one.
+    fn place_before_next(
+        &mut self,
+        first: u64,
+        previous: Option<u64>,
+        made: C,
+        after: u64,
+    ) -> Result<(), CoreError>
+        requires some { IfSome previous (λ begin. EndsAt self.old first begin) }
+        requires none { IfNone previous (NoneEndsAt self.old first) }
+        requires next { IsSome (lookup (is_at (nat_cmp after)) self.old) }
+        requires free { IfNone previous (lookup (is_at (nat_cmp first)) self.old ≡ None) }
+        ensures placed { OnOk result (Places C.ChunkRange self.old first after made self.new) }
+        ensures unchanged { OnErr result (self.new ≡ self.old) }
     {
-        let alloc = self.alloc.clone()?;
-        let mut range = C::from_chunks(alloc, false, chunks, false)?;
+        match previous {
+            Some(begin) => {
+                let front = self.with_previous(begin, &made)?;
+                self.put_before_next(begin, front, after)?;
+            }
+            None => self.begin_before_next(first, made, after)?,
+        }
+        Ok(())
+    }
+
+    // Puts a range, which has what the run of a first position keeps, before the run of another one. This run is changed in
+    // place, and takes the place of that one.
+    fn put_before_next(&mut self, begin: u64, front: C, after: u64) -> Result<(), CoreError>
+        ensures put { OnOk result ((others : List (PlacedRun C)) (last next : Run C) (back : List (PlacedRun C)) →
+            self.old ≡ others ++ (begin, last) ∷ (after, next) ∷ back → AreAround begin after others back →
+            IsPutBefore C.ChunkRange begin front next others back self.new) }
+        ensures unchanged { OnErr result (self.new ≡ self.old) }
+    {
+        if let Some(next) = self.runs.get_mut(&after) {
+            next.range.prepend(front)?;
+        }
+        if let Some(next) = self.runs.remove(&after) {
+            if let Some(run) = self.runs.get_mut(&begin) {
+                *run = next;
+            }
+        }
+        Ok(())
+    }
+
+    // Puts a range that begins at a position before the run of another one, which is changed in place and gets an entry at
+    // that position. What takes memory beside that is done before.
+    fn begin_before_next(&mut self, first: u64, made: C, after: u64) -> Result<(), CoreError>
+        requires { lookup (is_at (nat_cmp first)) self.old ≡ None }
+        ensures put { OnOk result ((others : List (PlacedRun C)) (next : Run C) (back : List (PlacedRun C)) →
+            self.old ≡ others ++ (after, next) ∷ back → AreAround first after others back →
+            IsPutBefore C.ChunkRange first made next others back self.new) }
+        ensures unchanged { OnErr result (self.new ≡ self.old) }
+    {
+        let range = C::from_chunks(self.alloc.clone()?, false, &[], false)?;
+        self.runs.insert(first, Run { end: after, range })?;
+        match self.put_before_next(first, made, after) {
+            Ok(()) => Ok(()),
+            Err(error) => {
+                self.runs.remove(&first);
+                Err(error)
+            }
+        }
+    }
+
+    // A range with what the run of a first position keeps before it.
+    fn with_previous(&self, begin: u64, made: &C) -> Result<C, CoreError>
+        ensures stands { IfOk result (λ front. (last : Run C) →
+            lookup (is_at (nat_cmp begin)) self.now ≡ Some last → (a b : List Node) →
+            C.stands last.range a → C.stands made.now b → C.stands front (a ++ b)) }
+        ensures start { IfOk result (λ front. C.start front ≡ false) }
+        ensures end { IfOk result (λ front. C.end front ≡ C.end made.now) }
+    {
+        let mut front = C::from_chunks(self.alloc.clone()?, false, &[], false)?;
+        if let Some(run) = self.runs.get(&begin) {
+            front.join(&run.range)?;
+        }
+        front.join(made)?;
+        Ok(front)
+    }
+
+    // What is kept of a range before a position, and of the run that begins there, where there is one.
+    fn with_next(&self, made: C, after: u64) -> Result<Run<C>, CoreError>
+        ensures { IfOk result (λ run. (chunks : List Node) → C.stands made chunks →
+            C.start made ≡ false → C.end made ≡ false → IsWithNext C.ChunkRange self.now after chunks run) }
+    {
+        let mut range = made;
         let end = match self.runs.get(&after) {
             Some(next) => {
                 range.join(&next.range)?;

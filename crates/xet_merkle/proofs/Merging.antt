@@ -7,3 +7,4 @@ pub mod Bounds
 pub mod Adjacent
 pub mod Bracketing
 pub mod Appending
+pub mod Prepending

@@ -5,3 +5,4 @@ pub mod Scan
 pub mod Loops
 pub mod Triples
 pub mod Appending
+pub mod Prepending

@@ -77,6 +77,33 @@ pub trait ChunkRange: Drop {
         ensures refusals { Refusals ((end self.old ≡ false) × (start back.now ≡ false))
             (total self.old + total back.now) result };
 
+    /// Joins the range before this one to it: what [`ChunkRange::join`] makes of `front` and this range stands in this one's
+    /// place. It fails where that fails, and this range is then as it was. An implementation that changes what it keeps in
+    /// place takes time for what `front` keeps alone.
+    fn prepend(&mut self, front: Self) -> Result<(), CoreError>
+    where
+        Self: Sized,
+        ensures stands { OnOk result ((first second : List Node) →
+            stands front first → stands self.old second → stands self.new (first ++ second)) }
+        ensures start { OnOk result (start self.new ≡ start front) }
+        ensures end { OnOk result (end self.new ≡ end self.old) }
+        ensures total { OnOk result (total self.new ≡ total front + total self.old) }
+        ensures unchanged { OnErr result (self.new ≡ self.old) }
+        ensures refusals { Refusals ((end front ≡ false) × (start self.old ≡ false))
+            (total front + total self.old) result }
+    {
+        let mut joined = front;
+        joined.join(self)?;
+        *self = joined;
+        Ok(())
+    }
+
+    /// How many nodes this range keeps, to tell which of two adjacent ones is better changed in place, by
+    /// [`ChunkRange::join`] or [`ChunkRange::prepend`]. No clause says anything of the number; 0 asks for `join`.
+    fn num_nodes(&self) -> usize {
+        0
+    }
+
     /// The root of the list, where both of its ends are marked, and `None` where they aren't. It fails with
     /// [`CoreError::OutOfMemory`] where an allocation is refused.
     fn root(&self) -> Result<Option<MerkleHash>, CoreError>

@@ -130,8 +130,10 @@
 
 mod collapse;
 mod json_parts;
+mod left_nodes;
 mod level_rules;
 mod levels;
+mod merge_before;
 mod merge_levels;
 mod sides;
 mod split;

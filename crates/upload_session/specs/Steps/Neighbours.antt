@@ -1,5 +1,5 @@
 -- The runs before and after a position, which private contracts and proofs speak of.
-use Rattle.std.specs.Prelude.{◌≡◌, ℕ, ◌≢◌, false, List, [], ◌∷◌, ◌++◌, Option, None, Some}
+use Rattle.std.specs.Prelude.{◌≡◌, ℕ, ◌+◌, ◌<◌, ◌≢◌, false, List, [], ◌∷◌, ◌++◌, length, All, Option, None, Some}
 use Rattle.std.specs.Ordering.{nat_cmp}
 use Rattle.std.specs.declared.ops.Bound.TheVariants.{Included, Unbounded}
 use Rattle.std.specs.BTreeMap.{is_at}
@@ -8,7 +8,7 @@ use Rattle.std.specs.Map.{lookup}
 use Rattle.xet_merkle.specs.Groups.{Node}
 use Rattle.xet_merkle.specs.declared.chunk_range.ChunkRange as chunk_range
 use Rattle.upload_session.specs.declared.runs.Run.{Run}
-use Rattle.upload_session.specs.Session.{PlacedRun}
+use Rattle.upload_session.specs.Session.{Placed, PlacedRun, place, overlaps, StandFor}
 
 -- a run ends just before a position, as the last of those that begin at it or before it
 abbrev pub EndsAt : {C : Type 0} → List (PlacedRun C) → ℕ → ℕ → Type 0
@@ -24,6 +24,11 @@ NoneEndsAt {C} runs position =
     → entries_between nat_cmp Unbounded (Included position) runs ≡ front ++ last ∷ []
     → last.1.end ≢ position
 
+-- two positions, the runs before the first of them, and those after the second
+abbrev pub AreAround : {C : Type 0} → ℕ → ℕ → List (PlacedRun C) → List (PlacedRun C) → Type 0
+AreAround {C} begin after others back =
+    All (λ (run : PlacedRun C). run.0 < begin) others × (begin < after) × All (λ (run : PlacedRun C). after < run.0) back
+
 module _ {C A : Type 0} (kind : chunk_range.Ghosts C A) where
   -- what is kept of some chunks before a position, and of the run that begins there, where there is one
   abbrev pub IsWith : Option (Run C) → ℕ → List Node → Run C → Type 0
@@ -38,3 +43,18 @@ module _ {C A : Type 0} (kind : chunk_range.Ghosts C A) where
   -- with the one of these runs that begins there
   abbrev pub IsWithNext : List (PlacedRun C) → ℕ → List Node → Run C → Type 0
   IsWithNext runs after = IsWith (lookup (is_at (nat_cmp after)) runs) after
+
+  -- a range and that of a run after it are one, in a run of its own between others
+  abbrev pub IsPutBefore : ℕ → C → Run C → List (PlacedRun C) → List (PlacedRun C) → List (PlacedRun C) → Type 0
+  IsPutBefore begin front next others back new =
+      (range : C) × (new ≡ others ++ (begin, record { end = next.end; range = range }) ∷ back)
+      × ((a b : List Node) → kind.stands front a → kind.stands next.range b → kind.stands range (a ++ b))
+      × (kind.start range ≡ kind.start front) × (kind.end range ≡ kind.end next.range)
+
+  -- a range from a position up to another one is placed: the chunks that it stands for, open at both ends
+  abbrev pub Places : List (PlacedRun C) → ℕ → ℕ → C → List (PlacedRun C) → Type 0
+  Places old first after made new =
+      (placed : List Placed) (chunks : List Node) → StandFor kind old placed → 0 < length chunks
+      → after ≡ first + length chunks → overlaps placed first (length chunks) ≡ false
+      → kind.stands made chunks → kind.start made ≡ false → kind.end made ≡ false
+      → StandFor kind new (place placed first chunks)

@@ -87,6 +87,10 @@ pub operand-right : (levels : List Level) → right_at levels 0 ≡ right_at (op
 operand-right [] = refl
 operand-right (level ∷ levels) = refl
 
+pub operand-left : (levels : List Level) → left_at levels 0 ≡ left_at (operand levels) 0
+operand-left [] = refl
+operand-left (level ∷ levels) = refl
+
 -- ---- counts
 
 node_count-append : (below above : List Level) → node_count (below ++ above) ≡ node_count below + node_count above

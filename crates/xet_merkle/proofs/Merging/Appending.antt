@@ -50,7 +50,7 @@ no_split_appended at_start nodes more adds none left middle right split =
 
 -- ---- what stays
 
-no_groups : Groups [] []
+pub no_groups : Groups [] []
 no_groups = record { joined = refl; are_groups = tt }
 
 module _ (make : List Node → Node) (at_start : Bool) where

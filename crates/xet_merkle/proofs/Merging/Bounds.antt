@@ -7,7 +7,7 @@ use Rattle.xet_merkle.specs.Canonical.{IsCanonicalBy}
 use Rattle.xet_merkle.specs.Canonical.IsCanonicalBy.{whole, collapsed}
 use Rattle.xet_merkle.specs.Steps.LevelMerging.{above, between, IsMergeSplit, IsLevelMerge}
 use Rattle.xet_merkle.specs.Steps.LevelMerging.IsMergeSplit.{both, left_alone, right_alone}
-use Rattle.xet_merkle.specs.Steps.LevelMerging.IsLevelMerge.{all_in_sight, appended, step}
+use Rattle.xet_merkle.specs.Steps.LevelMerging.IsLevelMerge.{all_in_sight, appended, prepended, step}
 use Rattle.xet_merkle.proofs.Roots.OneRoot.{Groups-few}
 use Rattle.xet_merkle.proofs.Canonical.Bounds.{few_nodes}
 
@@ -49,6 +49,7 @@ module _ (make : List Node → Node) (at_start at_end : Bool) where
       let few = between_few (x ∷ []) carry (y ∷ []) in
       omega arith
   merge_work (appended unmarked none) = omega arith
+  merge_work (prepended unmarked none) = omega arith
   merge_work (step {xs = xs} {ys = ys} {carry = carry} {middle = middle} {groups = groups} split cutting rest) =
       let above_work = merge_work rest in
       let few = Groups-few middle groups cutting in
@@ -98,6 +99,7 @@ module _ (make : List Node → Node) (at_start at_end : Bool) where
       let few = few_nodes make at_start at_end canonical in
       omega (arith, length-append x.left (carry ++ y.left), length-append carry y.left)
   merge_count (appended {x} {y} {carry} unmarked none) = omega (arith, length-append x.left (carry ++ y.left), length-append carry y.left)
+  merge_count (prepended {x} {y} {carry} unmarked none) = omega (arith, length-append x.left (carry ++ y.left), length-append carry y.left)
   merge_count (step {xs = xs} {ys = ys} {carry = carry} {middle = middle} {groups = groups} split cutting rest) =
       let above_count = merge_count rest in
       let few = Groups-few middle groups cutting in

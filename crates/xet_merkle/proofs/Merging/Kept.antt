@@ -11,7 +11,7 @@ use Rattle.xet_merkle.specs.Canonical.IsCanonicalBy.{whole, collapsed}
 use Rattle.xet_merkle.specs.WellFormed.{IsWellFormed}
 use Rattle.xet_merkle.specs.Steps.LevelMerging.{IsLeftUnder, IsRightUnder, HaveSides, IsHighAfter, IsLowBefore, IsLevelMerge}
 use Rattle.xet_merkle.specs.Steps.LevelMerging.IsMergeSplit.{both, left_alone, right_alone}
-use Rattle.xet_merkle.specs.Steps.LevelMerging.IsLevelMerge.{all_in_sight, appended, step}
+use Rattle.xet_merkle.specs.Steps.LevelMerging.IsLevelMerge.{all_in_sight, appended, prepended, step}
 use Rattle.xet_merkle.proofs.Roots.OneRoot.{Groups-some}
 use Rattle.xet_merkle.proofs.Roots.Making.{total_size-are_parents}
 use Rattle.xet_merkle.proofs.StablePoints.CutPlaces.{EndsStable-append}
@@ -55,6 +55,7 @@ module _ (make : List Node → Node) (at_start at_end : Bool) where
       HaveSides at_start false xs → HaveSides false at_end ys → HaveSides at_start at_end levels
   level_merge_sides (all_in_sight canonical) hx hy = canonical_sides canonical
   level_merge_sides (appended unmarked none) hx hy = refl
+  level_merge_sides (prepended unmarked none) hx hy = refl
   level_merge_sides (step {levels = levels} {left = left} {right = right} (both {next_x = next_x} {next_y = next_y} {xs = xs} {ys = ys} left_is seen right_is) cutting rest) hx hy =
       sides_below at_start at_end (record { left = left; right = right }) levels (subst (IsLeftUnder at_start) (sym left_is) hx.0)
       (subst (IsRightUnder at_end) (sym right_is) hy.1) (level_merge_sides rest hx.2 hy.2)
@@ -69,6 +70,7 @@ module _ (make : List Node → Node) (at_start at_end : Bool) where
   pub level_merge_some : {xs ys levels : List Level} {carry : List Node} {made : ℕ} → IsLevelMerge make at_start at_end xs carry ys levels made → 0 < length levels
   level_merge_some (all_in_sight canonical) = levels_some make at_start at_end canonical
   level_merge_some (appended unmarked none) = omega arith
+  level_merge_some (prepended unmarked none) = omega arith
   level_merge_some (step split cutting rest) = omega arith
 
   -- ---- the top
@@ -99,7 +101,13 @@ module _ (make : List Node → Node) (at_start at_end : Bool) where
   level_merge_has_top (appended {x} {y} {carry} unmarked none) hx hy top_x top_y (inl some) =
       let none_x = ap length hx in
       omega (arith, length-append x.left x.right, length-append x.left (carry ++ y.left), length-append (x.left ++ (carry ++ y.left)) [])
+  level_merge_has_top (prepended {x} {y} {carry} unmarked none) hx hy top_x top_y (inl some) =
+      let none_x = ap length hx in
+      omega (arith, length-append x.left x.right, length-append x.left (carry ++ y.left), length-append (x.left ++ (carry ++ y.left)) [])
   level_merge_has_top (appended {x} {y} {carry} unmarked none) hx hy top_x top_y (inr some) =
+      let none_y = ap length hy in
+      omega (arith, length-append y.left y.right, length-append x.left (carry ++ y.left), length-append carry y.left, length-append (x.left ++ (carry ++ y.left)) [])
+  level_merge_has_top (prepended {x} {y} {carry} unmarked none) hx hy top_x top_y (inr some) =
       let none_y = ap length hy in
       omega (arith, length-append y.left y.right, length-append x.left (carry ++ y.left), length-append carry y.left, length-append (x.left ++ (carry ++ y.left)) [])
   level_merge_has_top (step {levels = levels} {left = left} {right = right} (both left_is seen right_is) cutting rest) hx hy top_x top_y some =
@@ -125,6 +133,7 @@ module _ (make : List Node → Node) (at_start at_end : Bool) where
       1 < length levels → HasTop levels
   level_merge_top (all_in_sight canonical) hx hy top_x top_y more = canonical_top_below canonical more
   level_merge_top (appended unmarked none) hx hy top_x top_y more = absurd (omega arith)
+  level_merge_top (prepended unmarked none) hx hy top_x top_y more = absurd (omega arith)
   level_merge_top (step (both left_is seen right_is) cutting rest) hx hy top_x top_y more =
       level_merge_has_top (step (both left_is seen right_is) cutting rest) hx hy top_x top_y (inl (top_x (omega arith)))
   level_merge_top (step (left_alone left_is seen high) cutting rest) hx hy top_x top_y more =
@@ -144,6 +153,7 @@ pub level_merge_one : (make : List Node → Node) {xs ys levels : List Level} {c
     length (top_nodes levels) ≤ 1
 level_merge_one make (all_in_sight canonical) = (closed_root make canonical).0
 level_merge_one make (appended unmarked none) = absurd (false≢true (sym unmarked))
+level_merge_one make (prepended unmarked none) = absurd (false≢true (sym unmarked))
 level_merge_one make (step {levels = levels} {left = left} {right = right} split cutting rest) =
     subst (λ (l : List Node). length l ≤ 1) (sym (top_nodes-more (record { left = left; right = right }) levels (level_merge_some make true true rest))) (level_merge_one make rest)
 
@@ -157,6 +167,10 @@ level_merge_size hash at_start at_end (all_in_sight {x} {y} {carry} canonical) h
     let none_y = ap total_size hy in
     omega (arith, total_size-append x.left (carry ++ y.left), total_size-append carry y.left)
 level_merge_size hash at_start at_end (appended {x} {y} {carry} unmarked none) hx hy =
+    let none_x = ap total_size hx in
+    let none_y = ap total_size hy in
+    omega (arith, total_size-append x.left (carry ++ y.left), total_size-append carry y.left)
+level_merge_size hash at_start at_end (prepended {x} {y} {carry} unmarked none) hx hy =
     let none_x = ap total_size hx in
     let none_y = ap total_size hy in
     omega (arith, total_size-append x.left (carry ++ y.left), total_size-append carry y.left)

@@ -5,20 +5,20 @@ use Rattle.std.proofs.Common.{◌≡◌, ℕ, ◌+◌, ◌<◌, ◌≤◌, ◌^�
 use Rattle.xet_merkle.specs.Groups.{Node}
 use Rattle.xet_merkle.specs.Roots.{total_size, parent_by, parent}
 use Rattle.xet_merkle.specs.Steps.Scan.{AreParents}
-use Rattle.xet_merkle.specs.Levels.{Level, right_at, top_nodes, node_count, levels_size}
+use Rattle.xet_merkle.specs.Levels.{Level, left_at, right_at, top_nodes, node_count, levels_size}
 use Rattle.xet_merkle.specs.Subtree.{Subtree}
 use Rattle.xet_merkle.specs.Merging.{IsMerged, IsMergedBy}
 use Rattle.xet_merkle.specs.WellFormed.{IsWellFormed}
-use Rattle.xet_merkle.specs.Steps.LevelMerging.{HaveSides, operand, above, between, lowest_with, IsLowBefore, IsMergeSplit, IsLevelMerge}
+use Rattle.xet_merkle.specs.Steps.LevelMerging.{HaveSides, operand, above, between, lowest_with, lowest_with_lefts, IsHighAfter, IsLowBefore, IsMergeSplit, IsLevelMerge}
 use Rattle.xet_merkle.specs.Steps.LevelMerging.IsMergeSplit.{both, left_alone, right_alone}
 use Rattle.xet_merkle.specs.Steps.LevelMerging.IsLevelMerge.{all_in_sight, step}
 use Rattle.xet_merkle.specs.Canonical.{IsCanonicalBy}
 use Rattle.xet_merkle.specs.Steps.Building.{AreOperands, MergeBelow, IsStored}
 use Rattle.xet_merkle.proofs.Levels.Flat.{total_size-append}
 use Rattle.xet_merkle.proofs.Levels.Sides.{well_formed_sides, well_formed_from_sides}
-use Rattle.xet_merkle.proofs.Levels.InPlace.{put, put-in_front}
-use Rattle.xet_merkle.proofs.Levels.Reading.{operand-one, operand-longer, operand-right}
-use Rattle.xet_merkle.proofs.Merging.LevelMerge.{level_merge, right_above}
+use Rattle.xet_merkle.proofs.Levels.InPlace.{put, put-in_front, put_lefts, put_lefts-in_front}
+use Rattle.xet_merkle.proofs.Levels.Reading.{operand-one, operand-length, operand-more, operand-longer, operand-left, operand-right}
+use Rattle.xet_merkle.proofs.Merging.LevelMerge.{level_merge, left_above, right_above}
 use Rattle.xet_merkle.proofs.Merging.Kept.{level_merge_sides, level_merge_top, level_merge_one, level_merge_size}
 
 -- ---- lengths and sizes
@@ -45,6 +45,15 @@ split_before at_start at_end xs ys carry seen left middle {right} few more seen_
     subst (λ (l : List Node). IsMergeSplit at_start at_end (operand xs) (operand ys) l left middle right) seen_is
     (subst (λ (l : List Level). IsMergeSplit at_start at_end l (operand ys) seen left middle right) (sym one.1)
     (right_above at_start at_end seen left middle right one.0 (operand ys) (operand-longer ys more) parts low (right_is ∙ operand-right ys)))
+
+-- and where the front operand alone has
+pub split_after : (at_start at_end : Bool) (xs ys : List Level) (carry seen middle right : List Node) {left : List Node} → 1 < length xs → length ys ≤ 1 →
+    seen ≡ between (operand xs) carry (operand ys) → seen ≡ middle ++ right → IsHighAfter at_end middle right → left ≡ left_at xs 0 →
+    IsMergeSplit at_start at_end (operand xs) (operand ys) (between (operand xs) carry (operand ys)) left middle right
+split_after at_start at_end xs ys carry seen middle right {left} more few seen_is parts high left_is =
+    let none : ¬ (1 < length (operand ys)) = λ longer. let long = operand-more ys longer in omega arith in
+    subst (λ (l : List Node). IsMergeSplit at_start at_end (operand xs) (operand ys) l left middle right) seen_is
+    (left_above at_start at_end seen left middle right (operand xs) (operand ys) (operand-longer xs more) (operand-length ys) none (left_is ∙ operand-left xs) parts high)
 
 module _ (make : List Node → Node) (at_start at_end : Bool) (xs ys : List Level) (first : List Node) where
   -- ---- levels
@@ -79,6 +88,14 @@ pub level_merge_in_place : (make : List Node → Node) (at_start at_end : Bool) 
     IsLevelMerge make at_start at_end xs [] ys (put lists changed) (done + work)
 level_merge_in_place make at_start at_end xs ys rest_y lists carry others changed done work below within changed_is merged =
     subst (λ (l : List Level). IsLevelMerge make at_start at_end xs [] ys l (done + work)) (sym (ap (put lists) changed_is ∙ put-in_front lists xs others within)) (below others work merged)
+
+-- a back operand's, likewise
+pub level_merge_in_place_before : (make : List Node → Node) (at_start at_end : Bool) (xs ys rest_x : List Level) (lists : List (List Node)) (carry : List Node) (others changed : List Level) (done work : ℕ) →
+    MergeBelow make at_start at_end xs [] ys (lowest_with_lefts lists ys) done rest_x carry (drop (length lists) ys) → length lists ≤ length ys →
+    changed ≡ take (length lists) ys ++ others → IsLevelMerge make at_start at_end rest_x carry (drop (length lists) ys) others work →
+    IsLevelMerge make at_start at_end xs [] ys (put_lefts lists changed) (done + work)
+level_merge_in_place_before make at_start at_end xs ys rest_x lists carry others changed done work below within changed_is merged =
+    subst (λ (l : List Level). IsLevelMerge make at_start at_end xs [] ys l (done + work)) (sym (ap (put_lefts lists) changed_is ∙ put_lefts-in_front lists ys others within)) (below others work merged)
 
 -- ---- what is merged is well formed
 

@@ -10,7 +10,7 @@ use Rattle.xet_merkle.specs.Canonical.IsCanonicalBy.{whole, collapsed}
 use Rattle.xet_merkle.specs.Steps.StableScan.{IsFront}
 use Rattle.xet_merkle.specs.Steps.LevelMerging.{NoSplit, IsHighAfter, IsLowBefore, IsMergeSplit, IsLevelMerge}
 use Rattle.xet_merkle.specs.Steps.LevelMerging.IsMergeSplit.{both, left_alone, right_alone}
-use Rattle.xet_merkle.specs.Steps.LevelMerging.IsLevelMerge.{all_in_sight, appended, step}
+use Rattle.xet_merkle.specs.Steps.LevelMerging.IsLevelMerge.{all_in_sight, appended, prepended, step}
 use Rattle.xet_merkle.proofs.Grouping.OneCutting.{Groups-unique}
 use Rattle.xet_merkle.proofs.StablePoints.CutPlaces.{EndsStable-append, before_cut, after_cut, after_one}
 use Rattle.xet_merkle.proofs.StablePoints.Boundaries.{Groups-after}
@@ -154,6 +154,10 @@ module _ (make : List Node → Node) (at_start at_end : Bool) where
       whole (subst (λ (e : Bool). NoSplit at_start e (a ++ (carry ++ b))) (sym unmarked) (none none_a))
   level_merge (appended unmarked none) a b wx wy (collapsed split cutting above_x) hy = absurd (let some = levels_some make at_start false above_x in omega arith)
   level_merge (appended unmarked none) a b wx wy (whole none_a) (collapsed split cutting above_y) = absurd (let some = levels_some make false at_end above_y in omega arith)
+  level_merge {carry = carry} (prepended unmarked none) a b wx wy (whole none_a) (whole none_b) =
+      whole (subst (λ (s : Bool). NoSplit s at_end (a ++ (carry ++ b))) (sym unmarked) (none none_b))
+  level_merge (prepended unmarked none) a b wx wy (collapsed split cutting above_x) hy = absurd (let some = levels_some make at_start false above_x in omega arith)
+  level_merge (prepended unmarked none) a b wx wy (whole none_a) (collapsed split cutting above_y) = absurd (let some = levels_some make false at_end above_y in omega arith)
   level_merge (step {levels = levels} {carry = carry} {left = left} {middle = middle} {right = right} {groups = groups} {work = work} (both left_is seen right_is) cutting rest) a b wx wy (collapsed {left = xl} {middle = xm} {right = xr} {groups = gx} {work = px} split_x cutting_x above_x) (collapsed {left = yl} {middle = ym} {right = yr} {groups = gy} {work = py} split_y cutting_y above_y) =
       let merged = level_merge rest (map make gx) (map make gy) px py above_x above_y in
       level_merge_level (a ++ (carry ++ b)) left (xm ++ (middle ++ ym)) right (gx ++ (groups ++ gy)) levels (work + (px + py)) (length groups + work + (length gx + px + (length gy + py)))

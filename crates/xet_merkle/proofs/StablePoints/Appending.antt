@@ -54,10 +54,10 @@ Scanned-after (x ∷ more) nodes scan h =
 -- ---- no new stable place
 
 -- each stable place of some nodes with more after was there before
-abbrev NoNew : List Node → List Node → Type 0
+abbrev pub NoNew : List Node → List Node → Type 0
 NoNew nodes more = (left right : List Node) → nodes ++ more ≡ left ++ right → IsStable left right → (rest : List Node) × (nodes ≡ left ++ rest) × IsStable left rest
 
-none_new : (more nodes passed : List Node) (scan : CutScan) → Scanned (nodes ++ passed) scan → completes_none scan more ≡ true → NoNew nodes passed → NoNew nodes (passed ++ more)
+pub none_new : (more nodes passed : List Node) (scan : CutScan) → Scanned (nodes ++ passed) scan → completes_none scan more ≡ true → NoNew nodes passed → NoNew nodes (passed ++ more)
 none_new [] nodes passed scan h none old = subst (NoNew nodes) (sym (append-nil passed)) old
 none_new (x ∷ more) nodes passed scan h none old =
     let parts = and_parts _ _ none in
@@ -80,7 +80,7 @@ none_after near more none cut is_cut =
 -- ---- what stands 14 nodes before makes no difference
 
 -- the shorter one of two fronts of a list
-front_of : (a b c d : List Node) → a ++ b ≡ c ++ d → length c ≤ length a → (gap : List Node) × (a ≡ c ++ gap) × (d ≡ gap ++ b)
+pub front_of : (a b c d : List Node) → a ++ b ≡ c ++ d → length c ≤ length a → (gap : List Node) × (a ≡ c ++ gap) × (d ≡ gap ++ b)
 front_of a b c d e short = elim (meets a b c d e) [
   | same p q ↦ ([], p ∙ sym (append-nil c), sym q)
   | earlier x gap p q ↦ absurd (let len = ap length p in omega (arith, length-append a (x ∷ gap)))
@@ -92,7 +92,7 @@ nothing_of [] few = refl
 nothing_of (x ∷ nodes) few = absurd (omega arith)
 
 -- other nodes in front of the last two natural cuts
-ends_after : (left : List Node) (h : EndsStable left) (before : List Node) → EndsStable (before ++ h.first ∷ (h.between ++ h.last ∷ []))
+pub ends_after : (left : List Node) (h : EndsStable left) (before : List Node) → EndsStable (before ++ h.first ∷ (h.between ++ h.last ∷ []))
 ends_after left h before = record {
   before = before;
   first = h.first;

@@ -75,14 +75,18 @@ pub data IsMergeSplit (at_start at_end : Bool) : List Level → List Level → L
       IsMergeSplit at_start at_end (x ∷ []) (y ∷ next_y ∷ ys) seen left middle right
 
 -- the levels that two operands, and nodes carried between them, are merged to, and the work: how many
--- parents are made. Where neither operand has levels above, all nodes are in sight. Where the end isn't marked and
--- no split comes up among them that the front operand hadn't, they are the top.
+-- parents are made. Where neither operand has levels above, all nodes are in sight. They are the top where the end isn't
+-- marked and no split comes up among them that the front operand hadn't, and where the start isn't marked and none comes
+-- up that the back operand hadn't.
 pub data IsLevelMerge (make : List Node → Node) (at_start at_end : Bool) : List Level → List Node → List Level → List Level → ℕ → Type 0 where
   all_in_sight : {x y : Level} {carry : List Node} {levels : List Level} {work : ℕ} →
       IsCanonicalBy make at_start at_end (between (x ∷ []) carry (y ∷ [])) levels work →
       IsLevelMerge make at_start at_end (x ∷ []) carry (y ∷ []) levels work
   appended : {x y : Level} {carry : List Node} → at_end ≡ false →
       (NoSplit at_start false x.left → NoSplit at_start false (between (x ∷ []) carry (y ∷ []))) →
+      IsLevelMerge make at_start at_end (x ∷ []) carry (y ∷ []) (record { left = between (x ∷ []) carry (y ∷ []); right = [] } ∷ []) 0
+  prepended : {x y : Level} {carry : List Node} → at_start ≡ false →
+      (NoSplit false at_end y.left → NoSplit false at_end (between (x ∷ []) carry (y ∷ []))) →
       IsLevelMerge make at_start at_end (x ∷ []) carry (y ∷ []) (record { left = between (x ∷ []) carry (y ∷ []); right = [] } ∷ []) 0
   step : {xs ys levels : List Level} {carry left middle right : List Node} {groups : List (List Node)} {work : ℕ} →
       IsMergeSplit at_start at_end xs ys (between xs carry ys) left middle right → Groups middle groups →
@@ -102,3 +106,14 @@ abbrev pub with_inner : List Level → List Node → List Level
 with_inner [] more = []
 with_inner (top ∷ []) more = record { left = top.left ++ more; right = top.right } ∷ []
 with_inner (level ∷ next ∷ levels) more = record { left = level.left; right = level.right ++ more } ∷ next ∷ levels
+
+-- the lowest of some levels, as many as there are lists, each with other left nodes
+abbrev pub lowest_with_lefts : List (List Node) → List Level → List Level
+lowest_with_lefts [] levels = []
+lowest_with_lefts (left ∷ lefts) [] = []
+lowest_with_lefts (left ∷ lefts) (level ∷ levels) = record { left = left; right = level.right } ∷ lowest_with_lefts lefts levels
+
+-- the levels of a back operand with more nodes before those of its first level towards the front one
+abbrev pub with_left : List Level → List Node → List Level
+with_left [] more = []
+with_left (level ∷ levels) more = record { left = more ++ level.left; right = level.right } ∷ levels

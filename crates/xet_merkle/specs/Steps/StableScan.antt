@@ -34,3 +34,8 @@ completes_none scan (node ∷ nodes) = not (completes scan (is_cut node)) && com
 abbrev pub AddsNoStable : List Node → List Node → Type 0
 AddsNoStable nodes more = (front left right : List Node) → length front ≤ 1 → (front ++ nodes) ++ more ≡ left ++ right → IsStable left right →
     (rest : List Node) × (front ++ nodes ≡ left ++ rest) × IsStable left rest
+
+-- nodes before others bring up no stable point: each one stands among the others
+abbrev pub AddsNoStableBefore : List Node → List Node → Type 0
+AddsNoStableBefore more nodes = (left right : List Node) → more ++ nodes ≡ left ++ right → IsStable left right →
+    (rest : List Node) × (left ≡ more ++ rest) × IsStable rest right

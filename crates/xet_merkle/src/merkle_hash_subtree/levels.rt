@@ -4,8 +4,9 @@ ghost use Rattle.std.specs.Prelude.{◌≡◌, ◌^◌, ◌<◌, ◌≤◌, ◌-
 ghost use Rattle.xet_merkle.specs.Levels.{Level, left_at, right_at, top_of, below_top, node_count};
 ghost use Rattle.xet_merkle.specs.Subtree.{same_level};
 ghost use Rattle.xet_merkle.specs.Steps.SubtreeEquality.{same_level-per, same_level-equiv};
-ghost use Rattle.xet_merkle.specs.Steps.LevelMerging.{operand, inner_nodes, with_inner, lowest_with};
+ghost use Rattle.xet_merkle.specs.Steps.LevelMerging.{operand, inner_nodes, with_inner, with_left, lowest_with, lowest_with_lefts};
 
+use super::left_nodes::LeftNodes;
 use crate::groups::Node;
 use std::alloc::{AllocError, Allocator};
 use std::marker::Model;
@@ -13,27 +14,30 @@ use std::marker::Model;
 // The nodes that are kept of a level, on either side.
 #[derive(Debug, Drop)]
 pub(super) struct LevelNodes<A: Allocator> {
-    pub(super) left: Vec<Node, A>,
+    pub(super) left: LeftNodes<A>,
     pub(super) right: Vec<Node, A>,
 }
 
 impl<A: Allocator> Model for LevelNodes<A> {
     ghost Value = { Level };
 
-    ghost view = { λ nodes. record { left = nodes.left.items; right = nodes.right.items } };
+    ghost view = { λ nodes. record { left = nodes.left; right = nodes.right.items } };
 }
 
 impl<A: Allocator> LevelNodes<A> {
     pub(super) fn new(left: Vec<Node, A>, right: Vec<Node, A>) -> Self
         ensures { result ≡ record { left = left.items; right = right.items } }
     {
-        LevelNodes { left, right }
+        LevelNodes {
+            left: LeftNodes::new(left),
+            right,
+        }
     }
 
     pub(super) fn left(&self) -> &[Node]
         ensures { result.now ≡ self.now.left }
     {
-        &self.left
+        self.left.as_slice()
     }
 
     pub(super) fn right(&self) -> &[Node]
@@ -60,7 +64,7 @@ impl<A: Allocator> PartialEq for LevelNodes<A> {
     ghost laws = { same_level-per };
 
     fn eq(&self, other: &Self) -> bool {
-        self.left == other.left && self.right == other.right
+        self.left() == other.left() && self.right == other.right
     }
 }
 
@@ -176,10 +180,24 @@ pub(super) fn extend_inner<A: Allocator>(
     ensures unchanged { IfErr result (λ _. levels.new.items ≡ levels.old.items) }
 {
     if at + 1 == levels.len() {
-        levels[at].left.extend_from_slice(more)?;
+        levels[at].left.extend(more)?;
     } else {
         levels[at].right.extend_from_slice(more)?;
     }
+    Ok(())
+}
+
+// Puts nodes before the left ones of a level.
+pub(super) fn extend_left<A: Allocator + Clone>(
+    levels: &mut Vec<LevelNodes<A>, A>,
+    at: usize,
+    more: &[Node],
+) -> Result<(), AllocError>
+    requires { at < length levels.old.items }
+    ensures extended { IfOk result (λ _. levels.new.items ≡ take at levels.old.items ++ with_left (drop at levels.old.items) more.now) }
+    ensures unchanged { IfErr result (λ _. levels.new.items ≡ levels.old.items) }
+{
+    levels[at].left.prepend(more)?;
     Ok(())
 }
 
@@ -210,5 +228,19 @@ pub(super) fn replace_rights<A: Allocator>(
     let mut rights = rights;
     'rights: while let Some(right) = rights.pop() {
         levels[rights.len()].right = right;
+    }
+}
+
+// Gives the lowest levels other left nodes.
+pub(super) fn replace_lefts<A: Allocator>(
+    levels: &mut Vec<LevelNodes<A>, A>,
+    lefts: Vec<Vec<Node, A>, A>,
+)
+    requires { length lefts.items ≤ length levels.old.items }
+    ensures { levels.new.items ≡ lowest_with_lefts (map (λ left. left.items) lefts.items) levels.old.items ++ drop (length lefts.items) levels.old.items }
+{
+    let mut lefts = lefts;
+    'lefts: while let Some(left) = lefts.pop() {
+        levels[lefts.len()].left = LeftNodes::new(left);
     }
 }

@@ -25,7 +25,7 @@ use crate::parent_maker::ParentMaker;
 use std::alloc::{AllocError, Allocator};
 
 // How many nodes are collapsed of those after collapsed ones, the last of which is a natural cut.
-fn high_end_after(nodes: &[Node], at_end: bool) -> usize
+pub(super) fn high_end_after(nodes: &[Node], at_end: bool) -> usize
     ensures bound { result ≤ length nodes.now }
     ensures high { IsHighAfter at_end (take result nodes.now) (drop result nodes.now) }
 {
@@ -37,7 +37,7 @@ fn high_end_after(nodes: &[Node], at_end: bool) -> usize
 }
 
 // How many nodes stay on the left of those before collapsed ones.
-fn low_end_before(nodes: &[Node], at_start: bool) -> usize
+pub(super) fn low_end_before(nodes: &[Node], at_start: bool) -> usize
     ensures bound { result ≤ length nodes.now }
     ensures low { IsLowBefore at_start (take result nodes.now) (drop result nodes.now) }
 {
@@ -49,7 +49,7 @@ fn low_end_before(nodes: &[Node], at_start: bool) -> usize
 }
 
 // The nodes in sight between two operands.
-fn in_sight<A: Allocator>(
+pub(super) fn in_sight<A: Allocator>(
     alloc: A,
     front: &[LevelNodes<A>],
     carry: &[Node],
@@ -154,9 +154,16 @@ fn merge_lower<'a, A: Allocator + Clone, P: ParentMaker>(
     })
 }
 
+// Whether no node is in sight but the front operand's.
+fn nothing_after<A: Allocator>(carry: &[Node], back: &[LevelNodes<A>]) -> bool
+    ensures { IsTrue result → (front : List Level) → between front carry.now (operand back.now) ≡ inner_nodes front }
+{
+    carry.is_empty() && left_at(back, 0).is_empty()
+}
+
 // Levels with those of the canonical subtree of the nodes in sight on top. Where these are the front operand's alone, only
 // those that stay are copied.
-fn collapse_in_sight<A: Allocator + Clone, P: ParentMaker>(
+pub(super) fn collapse_in_sight<A: Allocator + Clone, P: ParentMaker>(
     alloc: A,
     levels: Vec<LevelNodes<A>, A>,
     front: &[LevelNodes<A>],
@@ -172,7 +179,7 @@ fn collapse_in_sight<A: Allocator + Clone, P: ParentMaker>(
         × IsCanonicalBy (parent_by P.hash_of) at_start at_end (between (operand front.now) carry.now (operand back.now)) top work
         × (all.items ≡ levels.items ++ top) × (P.count maker.new ≡ P.count maker.old + work)) }
 {
-    if carry.is_empty() && left_at(back, 0).is_empty() {
+    if nothing_after(carry, back) {
         return Ok(collapse_slice(alloc, levels, inner(front), at_start, at_end, maker)?);
     }
     let nodes = in_sight(alloc.clone()?, front, carry, back)?;

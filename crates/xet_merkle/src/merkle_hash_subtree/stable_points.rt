@@ -5,7 +5,7 @@ ghost use Rattle.std.specs.Prelude.{◌≡◌, ◌+◌, ◌<◌, ◌≤◌, ◌�
 ghost use Rattle.xet_merkle.specs.Groups.{Node};
 ghost use Rattle.xet_merkle.specs.StablePoints.{EndsStable, NoStable, IsFirstStable, IsLastStable, IsGroupBoundary};
 ghost use Rattle.xet_merkle.specs.Steps.Scan.{is_stable_gap};
-ghost use Rattle.xet_merkle.specs.Steps.StableScan.{completes, next_scan, IsFront, scan_after, completes_none, AddsNoStable};
+ghost use Rattle.xet_merkle.specs.Steps.StableScan.{completes, next_scan, IsFront, scan_after, completes_none, AddsNoStable, AddsNoStableBefore};
 
 use crate::groups::{MAX_GROUP_LEN, MIN_GROUP_LEN, Node, is_natural_cut};
 
@@ -102,6 +102,19 @@ pub(super) fn adds_no_stable(nodes: &[Node], first: &[Node], second: &[Node]) ->
     let mut scan = CutScan::new(true);
     let _ = scan.pass_all(near);
     scan.pass_all(first) && scan.pass_all(second)
+}
+
+// Whether nodes, in two parts, bring up no stable point where they are put before others. Of the others only the first few
+// are looked at.
+pub(super) fn adds_no_stable_before(first: &[Node], second: &[Node], nodes: &[Node]) -> bool
+    ensures { IsTrue result → AddsNoStableBefore (first.now ++ second.now) nodes.now }
+{
+    if first.is_empty() && second.is_empty() {
+        return true;
+    }
+    let (near, _) = nodes.split_at(nodes.len().min(LOOK_BACK));
+    let mut scan = CutScan::new(false);
+    scan.pass_all(first) && (scan.pass_all(second) && scan.pass_all(near))
 }
 
 // Whether some nodes end with a natural cut that stands 3 to 7 nodes after the natural cut before it.

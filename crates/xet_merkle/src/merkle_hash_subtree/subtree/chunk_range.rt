@@ -47,6 +47,14 @@ impl<A: Allocator + Clone> ChunkRange for MerkleHashSubtree<A> {
         self.merge_into(back)
     }
 
+    fn prepend(&mut self, front: Self) -> Result<(), CoreError> {
+        self.merge_before(&front)
+    }
+
+    fn num_nodes(&self) -> usize {
+        MerkleHashSubtree::num_nodes(self)
+    }
+
     fn root(&self) -> Result<Option<MerkleHash>, CoreError> {
         Ok(self.final_hash())
     }

@@ -12,6 +12,7 @@ ghost use Rattle.xet_merkle.specs.Steps.SubtreeMerging.{MergesTo, RefusalOf};
 use super::MerkleHashSubtree;
 use crate::adjacent::Passed;
 use crate::error::CoreError;
+use crate::merkle_hash_subtree::merge_before::merge_before;
 use crate::merkle_hash_subtree::merge_levels::merge_levels;
 use crate::parent_maker::{ParentHashes, ParentMaker};
 use std::alloc::Allocator;
@@ -97,6 +98,37 @@ impl<A: Allocator + Clone> MerkleHashSubtree<A> {
         self.at_end = at_end;
         self.total_size = size;
         Ok(maker)
+    }
+
+    // Merges the subtree of the range that this one follows into it, which then has that one's start mark and its own end
+    // mark. It fails where the merge of this one into that one does.
+    pub(super) fn merge_before(&mut self, front: &Self) -> Result<(), CoreError>
+        ensures merged { IfOk result (λ _. IsMerged front.now self.old self.new) }
+        ensures unchanged { IfErr result (λ _. self.new ≡ self.old) }
+        ensures refusals { MergeRefusals front.now self.old result }
+    {
+        if front.at_end() || self.at_start() {
+            return Err(CoreError::InvalidArguments);
+        }
+        let Some(size) = front.total_size().checked_add(self.total_size()) else {
+            return Err(CoreError::SizeOverflow);
+        };
+        // So many nodes as pass `usize::MAX` are in no memory.
+        let Some(_nodes) = front.num_nodes().checked_add(self.num_nodes()) else {
+            return Err(CoreError::OutOfMemory);
+        };
+        let (at_start, at_end) = (front.at_start(), self.at_end());
+        let mut maker = ParentHashes::new();
+        merge_before(
+            &mut self.levels,
+            front.levels(),
+            at_start,
+            at_end,
+            &mut maker,
+        )?;
+        self.at_start = at_start;
+        self.total_size = size;
+        Ok(())
     }
 
     /// Merges adjacent ranges in order: the canonical subtree of the concatenated list, with the first range's

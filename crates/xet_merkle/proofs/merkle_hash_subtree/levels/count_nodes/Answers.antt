@@ -1,4 +1,5 @@
-use Rattle.std.proofs.Common.{◌≡◌, ℕ, ◌+◌, ◌<◌, ◌≤◌, ◌^◌, Option, None, List, length, sym, ap, subst, arith, rules}
+use Rattle.std.proofs.Common.{◌≡◌, ℕ, ◌+◌, ◌<◌, ◌≤◌, ◌^◌, Option, None, List, length, sym, ap, subst, inl, inr, arith, rules}
+use Rattle.std.proofs.lemmas.Bool.{cases_lt}
 use Rattle.std.specs.Prelude.{SomeIff}
 use Rattle.xet_merkle.specs.Levels.{Level, node_count}
 use Rattle.xet_merkle.proofs.Levels.Reading.{node_count-next, node_count-take}
@@ -28,7 +29,13 @@ returns-in_err-count g c =
     let most = node_count-take levels (i + 1) in
     let left = ap (λ (l : Level). length l.left) c.level-item.is in
     let right = ap (λ (l : Level). length l.right) c.level-item.is in
-    let past : 2 ^ 64 ≤ (c.levels.count + length level.left) + length level.right = search rules in
+    let len_left = ap length c.left.ensures in
+    let len_right = ap length c.right.ensures in
+    let sum : c.in_ok-checked_add.field-0 ≡ c.levels.count + length c.left.result.now = search rules in
+    let past : 2 ^ 64 ≤ (c.levels.count + length level.left) + length level.right = elim (cases_lt (c.in_ok-checked_add.field-0 + length c.right.result.now) (2 ^ 64)) [
+      | inl few ↦ absurd (c.in_err-count.ensures few)
+      | inr past ↦ omega (arith, sum, len_left, len_right, past)
+    ] in
     let so_far = c.levels.invariant.0 in
     refused levels c.from_residual-in_err-count.result (search rules) (omega arith)
 
@@ -40,7 +47,11 @@ levels-preserved g c =
     let next = node_count-next levels i level c.levels-test.true in
     let left = ap (λ (l : Level). length l.left) c.level-item.is in
     let right = ap (λ (l : Level). length l.right) c.level-item.is in
-    let count : c.in_ok-count.count ≡ (c.levels.count + length level.left) + length level.right = search rules in
+    let len_left = ap length c.left.ensures in
+    let len_right = ap length c.right.ensures in
+    let sum : c.in_ok-checked_add.field-0 ≡ c.levels.count + length c.left.result.now = search rules in
+    let sum_of_all : c.in_ok-count.count ≡ c.in_ok-checked_add.field-0 + length c.right.result.now = search rules in
+    let count : c.in_ok-count.count ≡ (c.levels.count + length level.left) + length level.right = omega (arith, sum, sum_of_all, len_left, len_right) in
     let few : c.in_ok-count.count < 2 ^ 64 = search rules in
     let so_far = c.levels.invariant.0 in
     (omega arith, few)

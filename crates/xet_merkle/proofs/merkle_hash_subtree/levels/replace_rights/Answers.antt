@@ -17,7 +17,7 @@ rights-preserved g c =
     let within : length others < length levels = let bound = c.rights.invariant.within in omega (arith, length-append others (last ∷ [])) in
     let here = sym c.index_mut.ensures.value ∙ sym c.behind-levels.view_is in
     let at : length lists ≡ c.len.result = length-map others (λ right. right.items) ∙ sym count in
-    let level : Level = record { left = c.behind-levels.inside.left.items; right = last.items } in
+    let level : Level = record { left = c.behind-levels.inside.left; right = last.items } in
     let split : map (λ right. right.items) c.rights.rights.items ≡ lists ++ last.items ∷ [] = ap (λ vecs. map (λ right. right.items) vecs) all ∙ map-append (λ right. right.items) others (last ∷ []) in
     let one = put-last lists last.items levels c.index_mut.result.now (omega arith) in
     let put_is : put lists (set levels c.len.result level) ≡ put (map (λ right. right.items) c.rights.rights.items) levels =

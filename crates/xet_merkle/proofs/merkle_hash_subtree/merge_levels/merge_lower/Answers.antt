@@ -63,7 +63,7 @@ levels-preserved g c =
     λ at_start. subst (λ (l : List Node). IsMergeSplit at_start c.args.at_end front back l (left_at front 0) middle right) seen (c.split_after.ensures at_start front more) in
     let lists : List (List Node) = map (λ vec. vec.items) rights in
     let last = c.in_ok-to_vec.field-0 in
-    let last_is : last.items ≡ right = search rules in
+    let last_is : last.items ≡ right = c.in_ok-to_vec.ensures.items_if_clones_equal (λ x y same. search rules) in
     let pushed : c.push.new.self.items ≡ rights ++ last ∷ [] = c.in_ok-push.ensures.items in
     let more_lists : map (λ vec. vec.items) c.push.new.self.items ≡ lists ++ right ∷ [] =
     ap (λ vecs. map (λ vec. vec.items) vecs) pushed ∙ map-append (λ vec. vec.items) rights (last ∷ []) ∙ ap (λ (l : List Node). lists ++ l ∷ []) last_is in

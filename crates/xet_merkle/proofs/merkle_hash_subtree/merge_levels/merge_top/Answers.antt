@@ -1,4 +1,5 @@
 use Rattle.std.proofs.Common.{◌≡◌, ◌+◌, ◌<◌, ◌≤◌, List, [], ◌++◌, length, ap, subst, sym, ◌∙◌, arith, rules}
+use Rattle.std.proofs.lemmas.List.{length-drop}
 use Rattle.xet_merkle.specs.Groups.{Node}
 use Rattle.xet_merkle.specs.Roots.{parent_by}
 use Rattle.xet_merkle.specs.Levels.{Level, node_count, levels_size}
@@ -24,6 +25,12 @@ collapse_middle-requires-clause-fits g c =
     let size = step_size c.args.at_start c.args.at_end c.levels.carry.items split in
     let small = c.levels.invariant.fits in
     omega arith
+
+pub levels-smaller : goal.levels-smaller
+levels-smaller g c =
+    let len = ap length c.above-back.ensures in
+    let more : 1 < length c.levels.back.now = search rules in
+    omega (arith, length-drop 1 c.levels.back.now)
 
 pub levels-preserved : goal.levels-preserved
 levels-preserved g c =

@@ -1,0 +1,61 @@
+use Rattle.std.proofs.Common.{arith, nat_cmp, ◌≡◌, ◌+◌, ◌<◌, ◌∷◌, ◌++◌, length, refl, sym, ap, subst, ◌∙◌}
+use Rattle.std.specs.Prelude.{Option, Some, None, IfSome, IfNone, IsSome}
+use Rattle.std.specs.BTreeMap.{is_at}
+use Rattle.std.specs.Map.{lookup}
+use Rattle.std.proofs.lemmas.Bool.{true≢false}
+use Rattle.upload_session.specs.Steps.Neighbours.{EndsAt, NoneEndsAt, AreAround}
+use Rattle.upload_session.proofs.AroundEntries.{previous-some, previous-none, previous-found, next-found, around-previous, around-first}
+use Rattle.upload_session.proofs.Joining.{placed-before, placed-first}
+use Rattle.upload_session.proofs.Neighbours.{around, with_run}
+use Rattle.upload_session.proofs.Positions.{overlaps-runs}
+use Rattle.upload_session.proofs.runs.Runs.place_before_next.Goals as goal
+
+some-of : {X : Type 0} (found : Option X) → IsSome found → (x : X) × (found ≡ Some x)
+some-of (Some x) h = (x, refl)
+some-of None h = absurd (true≢false (sym h))
+
+pub returns-in_ok-put_before_next-in-Some-clause-placed : goal.returns-in_ok-put_before_next-in-Some-clause-placed
+returns-in_ok-put_before_next-in-Some-clause-placed g c = λ placed chunks stand some after_is free meant opens closes.
+    let kind = g.C.ChunkRange in
+    let runs = c.args.self.now in
+    let first = c.args.first in
+    let count = length chunks in
+    let after = first + count in
+    let ahead : first < after = omega (arith, some) in
+    let at = around kind first count runs placed stand (sym (overlaps-runs first count some kind runs placed stand) ∙ free) in
+    let begin = c.in-Some.begin in
+    let ends = subst (λ p. IfSome p (λ begin. EndsAt runs first begin)) c.in-Some.is c.requires.some in
+    let (last, previous) = previous-some first after ahead runs at begin ends in
+    let found = some-of (lookup (is_at (nat_cmp c.args.after)) runs) c.requires.next in
+    let next = found.0 in
+    let next_is = next-found first after ahead runs at next (subst (λ n. lookup (is_at (nat_cmp n)) runs ≡ Some next) after_is found.1) in
+    let split : runs ≡ at.front ++ (begin, last) ∷ (c.args.after, next) ∷ at.back =
+    at.is ∙ ap (λ run. at.front ++ with_run run (with_run at.next at.back)) previous
+    ∙ ap (λ run. at.front ++ (begin, last) ∷ with_run run at.back) next_is
+    ∙ ap (λ n. at.front ++ (begin, last) ∷ (n, next) ∷ at.back) (sym after_is) in
+    let apart = subst (λ n. AreAround begin n at.front at.back) (sym after_is) (around-previous first after ahead runs at begin last previous) in
+    placed-before kind first chunks some runs at placed stand c.put_before_next.new.self begin last next c.in_ok-front-in-Some.front previous next_is
+    (λ a stands. c.in_ok-front-in-Some.ensures.stands last (previous-found first after ahead runs at (begin, last) previous) a chunks stands meant)
+    c.in_ok-front-in-Some.ensures.start
+    (c.in_ok-put_before_next-in-Some.ensures.put at.front last next at.back split apart)
+
+pub returns-in_ok-begin_before_next-in-None-clause-placed : goal.returns-in_ok-begin_before_next-in-None-clause-placed
+returns-in_ok-begin_before_next-in-None-clause-placed g c = λ placed chunks stand some after_is free meant opens closes.
+    let kind = g.C.ChunkRange in
+    let runs = c.args.self.now in
+    let first = c.args.first in
+    let count = length chunks in
+    let after = first + count in
+    let ahead : first < after = omega (arith, some) in
+    let at = around kind first count runs placed stand (sym (overlaps-runs first count some kind runs placed stand) ∙ free) in
+    let previous = previous-none first after ahead runs at (subst (λ p. IfNone p (NoneEndsAt runs first)) c.in-None.is c.requires.none) in
+    let found = some-of (lookup (is_at (nat_cmp c.args.after)) runs) c.requires.next in
+    let next = found.0 in
+    let next_is = next-found first after ahead runs at next (subst (λ n. lookup (is_at (nat_cmp n)) runs ≡ Some next) after_is found.1) in
+    let split : runs ≡ at.front ++ (c.args.after, next) ∷ at.back =
+    at.is ∙ ap (λ run. at.front ++ with_run run (with_run at.next at.back)) previous
+    ∙ ap (λ run. at.front ++ with_run run at.back) next_is
+    ∙ ap (λ n. at.front ++ (n, next) ∷ at.back) (sym after_is) in
+    let apart = subst (λ n. AreAround first n at.front at.back) (sym after_is) (around-first first after ahead runs at) in
+    placed-first kind first chunks some runs at placed stand c.begin_before_next.new.self next c.args.made previous next_is meant opens
+    (c.in_ok-begin_before_next-in-None.ensures.put at.front next at.back split apart)
