@@ -2,7 +2,7 @@
 
 ghost use Rattle.std.specs.Prelude.{◌≡◌, ℕ, ◌+◌, ◌*◌, ◌^◌, ◌<◌, ◌≤◌, drop, length, slice_index};
 ghost use Rattle.std.specs.Int.{from_le_bytes, w32};
-ghost use Rattle.keyed_blake3.specs.Blake3.{block, chunk_value, words_at};
+ghost use Rattle.keyed_blake3.specs.Blake3.{block, chunk_value, compress, words_at};
 ghost use Rattle.keyed_blake3.specs.Steps.Lanes.{AreFull, chunk_at, lane};
 
 use crate::chunk::{
@@ -43,6 +43,21 @@ fn block_of_each(chunks: &[u8], n: usize) -> [Lanes; 16]
     words
 }
 
+// The chaining values `h` with block number `n` of each chunk taken in. It holds the whole compression of a block, so
+// that the message words stay in its own frame.
+fn after_block(h: &[Lanes; 8], chunks: &[u8], n: usize, first: u64, flags: u32) -> [Lanes; 8]
+    requires full { AreFull h.now }
+    requires chunks { 1024 ≤ length chunks.now }
+    requires block { n < 16 }
+    requires counter { first + LANES ≤ 2 ^ 64 }
+    ensures full { AreFull result }
+    ensures lanes { (j : ℕ) → j < LANES → 1024 * j + 1024 ≤ length chunks.now
+        → lane j result ≡ compress (lane j h.now) (words_at 16 (block (chunk_at j chunks.now) n))
+        (first + j) 64 flags }
+{
+    compress_each(h, &block_of_each(chunks, n), first, flags)
+}
+
 // The key's words, the same for each chunk.
 fn key_of_each(key: &[u32; 8]) -> [Lanes; 8]
     ensures full { AreFull result }
@@ -72,8 +87,8 @@ pub(crate) fn chunk_values(key: &[u32; 8], chunks: &[u8], first: u64) -> [Lanes;
     let mut h = key_of_each(key);
     'chain: for n in 0..last {
         let flags = KEYED_HASH + start_flag(n);
-        h = compress_each(&h, &block_of_each(chunks, n as usize), first, flags);
+        h = after_block(&h, chunks, n as usize, first, flags);
     }
     let flags = KEYED_HASH + CHUNK_END;
-    compress_each(&h, &block_of_each(chunks, last as usize), first, flags)
+    after_block(&h, chunks, last as usize, first, flags)
 }
