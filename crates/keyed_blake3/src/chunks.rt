@@ -2,7 +2,7 @@
 
 ghost use Rattle.std.specs.Prelude.{◌≡◌, ℕ, ◌+◌, ◌*◌, ◌^◌, ◌<◌, ◌≤◌, drop, length, slice_index};
 ghost use Rattle.std.specs.Int.{from_le_bytes, w32};
-ghost use Rattle.keyed_blake3.specs.Blake3.{block, chunk_value, words_at};
+ghost use Rattle.keyed_blake3.specs.Blake3.{block, chunk_value, compress, words_at};
 ghost use Rattle.keyed_blake3.specs.Steps.Lanes.{AreFull, chunk_at, lane};
 
 use crate::chunk::{
@@ -11,21 +11,19 @@ use crate::chunk::{
 use crate::compression::lanes::{LANES, Lanes, compress_each};
 use std::simd::prelude::*;
 
-// The bytes of the chunks that are taken at once.
-pub(crate) const CHUNKS_LEN: usize = CHUNK_LEN * LANES;
-
-// The word at place `at` of each chunk.
+// The word at place `at` of each chunk, and of the last one again in the lanes that are left over.
 #[inline(always)]
 fn word_of_each(chunks: &[u8], at: usize) -> Lanes
-    requires chunks { length chunks.now ≡ 1024 * LANES }
+    requires chunks { 1024 ≤ length chunks.now }
     requires at { at + 4 ≤ 1024 }
     ensures full { length result ≡ LANES }
-    ensures lanes { (j : ℕ) → j < LANES
+    ensures lanes { (j : ℕ) → j < LANES → 1024 * j + 1024 ≤ length chunks.now
         → slice_index result j ≡ from_le_bytes w32 (drop (1024 * j + at) chunks.now) }
 {
+    let last = chunks.len() / CHUNK_LEN - 1;
     let mut lanes = [0u32; LANES];
     'lanes: for j in 0..LANES {
-        lanes[j] = word_at(chunks, CHUNK_LEN * j + at);
+        lanes[j] = word_at(chunks, CHUNK_LEN * j.min(last) + at);
     }
     Simd::from_array(lanes)
 }
@@ -33,9 +31,9 @@ fn word_of_each(chunks: &[u8], at: usize) -> Lanes
 // The words of block number `n` of each chunk.
 #[inline(always)]
 fn block_of_each(chunks: &[u8], n: usize) -> [Lanes; 16]
-    requires chunks { length chunks.now ≡ 1024 * LANES }
+    requires chunks { 1024 ≤ length chunks.now }
     requires block { n < 16 }
-    ensures { (j : ℕ) → j < LANES
+    ensures { (j : ℕ) → j < LANES → 1024 * j + 1024 ≤ length chunks.now
         → lane j result ≡ words_at 16 (block (chunk_at j chunks.now) n) }
 {
     let mut words = [Simd::splat(0u32); 16];
@@ -43,6 +41,21 @@ fn block_of_each(chunks: &[u8], n: usize) -> [Lanes; 16]
         words[k] = word_of_each(chunks, BLOCK_LEN * n + 4 * k);
     }
     words
+}
+
+// The chaining values `h` with block number `n` of each chunk taken in. It holds the whole compression of a block, so
+// that the message words stay in its own frame.
+fn after_block(h: &[Lanes; 8], chunks: &[u8], n: usize, first: u64, flags: u32) -> [Lanes; 8]
+    requires full { AreFull h.now }
+    requires chunks { 1024 ≤ length chunks.now }
+    requires block { n < 16 }
+    requires counter { first + LANES ≤ 2 ^ 64 }
+    ensures full { AreFull result }
+    ensures lanes { (j : ℕ) → j < LANES → 1024 * j + 1024 ≤ length chunks.now
+        → lane j result ≡ compress (lane j h.now) (words_at 16 (block (chunk_at j chunks.now) n))
+        (first + j) 64 flags }
+{
+    compress_each(h, &block_of_each(chunks, n), first, flags)
 }
 
 // The key's words, the same for each chunk.
@@ -62,20 +75,20 @@ fn key_of_each(key: &[u32; 8]) -> [Lanes; 8]
     ]
 }
 
-// The chaining values of the chunks, of which the first has number `first`.
+// The chaining values of one to `LANES` chunks, of which the first has number `first`.
 pub(crate) fn chunk_values(key: &[u32; 8], chunks: &[u8], first: u64) -> [Lanes; 8]
     requires counter { first + LANES ≤ 2 ^ 64 }
-    requires chunks { length chunks.now ≡ 1024 * LANES }
+    requires chunks { 1024 ≤ length chunks.now }
     ensures full { AreFull result }
-    ensures lanes { (j : ℕ) → j < LANES
+    ensures lanes { (j : ℕ) → j < LANES → 1024 * j + 1024 ≤ length chunks.now
         → lane j result ≡ chunk_value key.now (first + j) (chunk_at j chunks.now) 0 }
 {
     let last = BLOCKS_PER_CHUNK - 1;
     let mut h = key_of_each(key);
     'chain: for n in 0..last {
         let flags = KEYED_HASH + start_flag(n);
-        h = compress_each(&h, &block_of_each(chunks, n as usize), first, flags);
+        h = after_block(&h, chunks, n as usize, first, flags);
     }
     let flags = KEYED_HASH + CHUNK_END;
-    compress_each(&h, &block_of_each(chunks, last as usize), first, flags)
+    after_block(&h, chunks, last as usize, first, flags)
 }

@@ -7,14 +7,17 @@ ghost use Rattle.keyed_blake3.specs.Blake3.{parent_value, root_flag};
 ghost use Rattle.keyed_blake3.specs.Steps.Tree.{IsAbsorbed, IsWaiting, subtree_at};
 
 use crate::chunk::{
-    BLOCK_LEN, BLOCKS_PER_CHUNK, CHUNK_END, KEYED_HASH, compress_block, start_flag,
+    BLOCK_LEN, BLOCKS_PER_CHUNK, CHUNK_END, CHUNK_LEN, KEYED_HASH, compress_block, start_flag,
 };
-use crate::chunks::{CHUNKS_LEN, chunk_values};
+use crate::chunks::chunk_values;
 use crate::compression::compress;
 use crate::compression::lanes::{LANES, lane};
 
 // The most chaining values that may wait: a message has at most 2^54 chunks.
 pub(crate) const MAX_DEPTH: usize = 54;
+
+// The fewest chunks that are hashed side by side: two alone are slower so than one after the other.
+const CHUNKS_SIDE_BY_SIDE: usize = 3;
 
 // The domain flags (table 3) of a parent and of the root.
 const PARENT: u32 = 4;
@@ -117,25 +120,26 @@ impl Tree {
         }
     }
 
-    // Takes in `LANES` whole chunks, of which the first has number `first`. The last of them is not the message's
-    // last.
-    fn absorb_chunks(&mut self, first: u64, chunks: &[u8])
-        requires first { first + LANES < 2 ^ 54 }
-        requires chunks { length chunks.now ≡ 1024 * LANES }
+    // Takes in `count` whole chunks, of which the first has number `first`. The last of them is not the message's last.
+    fn absorb_chunks(&mut self, first: u64, count: usize, chunks: &[u8])
+        requires first { first + count < 2 ^ 54 }
+        requires some { 0 < count }
+        requires count { count ≤ LANES }
+        requires chunks { length chunks.now ≡ 1024 * count }
         ensures { (key m : List ℕ) → IsAbsorbed key self.old (16 * first) m
-            → 1024 * (first + LANES) ≤ length m
-            → chunks.now ≡ take (1024 * LANES) (drop (1024 * first) m)
-            → IsAbsorbed key self.new (16 * (first + LANES)) m }
+            → 1024 * (first + count) ≤ length m
+            → chunks.now ≡ take (1024 * count) (drop (1024 * first) m)
+            → IsAbsorbed key self.new (16 * (first + count)) m }
     {
         let values = chunk_values(&self.key, chunks, first);
-        'chunks: for j in 0..LANES {
+        'chunks: for j in 0..count {
             let value = lane(&values, j);
             add_chunk_chaining_value(&mut self.cv_stack, &self.key, first + j as u64, value);
         }
     }
 
-    // Takes in what comes next of `rest`, the bytes of the message from block number `number` on: `LANES` whole chunks
-    // where that many begin here and more bytes follow, and else a block. Gives the number of blocks.
+    // Takes in what comes next of `rest`, the bytes of the message from block number `number` on: up to `LANES` whole
+    // chunks where several begin here and more bytes follow, and else a block. Gives the number of blocks.
     pub(crate) fn absorb_next(&mut self, number: u64, rest: &[u8]) -> usize
         requires number { 64 * number + length rest.now < 2 ^ 64 }
         requires rest { 64 < length rest.now }
@@ -144,10 +148,11 @@ impl Tree {
         ensures absorbed { (key m : List ℕ) → IsAbsorbed key self.old number m
             → rest.now ≡ drop (64 * number) m → IsAbsorbed key self.new (number + result) m }
     {
-        if number % BLOCKS_PER_CHUNK == 0 && rest.len() > CHUNKS_LEN {
-            let chunks = &rest[..CHUNKS_LEN];
-            self.absorb_chunks(number / BLOCKS_PER_CHUNK, chunks);
-            CHUNKS_LEN / BLOCK_LEN
+        let count = ((rest.len() - 1) / CHUNK_LEN).min(LANES);
+        if number % BLOCKS_PER_CHUNK == 0 && count >= CHUNKS_SIDE_BY_SIDE {
+            let chunks = &rest[..CHUNK_LEN * count];
+            self.absorb_chunks(number / BLOCKS_PER_CHUNK, count, chunks);
+            CHUNK_LEN * count / BLOCK_LEN
         } else {
             let block = &rest[..BLOCK_LEN];
             self.absorb(number, block);

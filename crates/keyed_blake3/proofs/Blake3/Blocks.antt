@@ -49,11 +49,11 @@ pair_of a b ha hb =
 pub block_of_whole : (m : List ℕ) → length m ≡ 64 → block m 0 ≡ m
 block_of_whole m h = block_whole m 0 (omega arith) ∙ take_all 64 m (omega arith)
 
--- one more block, of which the words are given
-pub after_blocks_more : (key : List ℕ) (i : ℕ) (chunk : List ℕ) (n : ℕ) (h m : List ℕ) → h ≡ after_blocks key i chunk n → m ≡ words_at 16 (block chunk n)
-    → compress h m i 64 (keyed_hash_flag + start_flag n) ≡ after_blocks key i chunk (n + 1)
+-- one more block, from the chaining value before it
+pub after_blocks_more : (key : List ℕ) (i : ℕ) (chunk : List ℕ) (n : ℕ) (h : List ℕ) → h ≡ after_blocks key i chunk n
+    → compress h (words_at 16 (block chunk n)) i 64 (keyed_hash_flag + start_flag n) ≡ after_blocks key i chunk (n + 1)
 unfolding after_blocks
-after_blocks_more key i chunk n h m before words = rw (before, words, add-one) refl
+after_blocks_more key i chunk n h before = rw (before, add-one) refl
 
 -- ---- chunks side by side
 

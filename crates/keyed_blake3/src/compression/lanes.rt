@@ -151,6 +151,7 @@ fn folded(v: &[Lanes; 16]) -> [Lanes; 8]
 
 // The compression of a block of 64 bytes of each chunk, from the chaining values `h`; the first chunk has number
 // `first`.
+#[inline(always)]
 pub(crate) fn compress_each(h: &[Lanes; 8], m: &[Lanes; 16], first: u64, flags: u32) -> [Lanes; 8]
     requires counter { first + LANES ≤ 2 ^ 64 }
     requires full { AreFull h.now }

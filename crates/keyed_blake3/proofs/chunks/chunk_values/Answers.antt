@@ -7,22 +7,22 @@ use Rattle.keyed_blake3.proofs.chunks.chunk_values.Goals as goal
 
 pub chain-init : goal.chain-init
 unfolding after_blocks
-chain-init c = record { full = c.key_of_each-h.ensures.full; lanes = c.key_of_each-h.ensures.lanes }
+chain-init c = record { full = c.key_of_each-h.ensures.full; lanes = λ j h long. c.key_of_each-h.ensures.lanes j h }
 
 pub chain-preserved : goal.chain-preserved
 chain-preserved c = record {
-  full = c.compress_each-h.ensures.full;
-  lanes = λ j h.
-      (rw c.start_flag-flags.ensures at (c.compress_each-h.ensures.lanes j h))
-      ∙ after_blocks_more c.args.key.now (c.args.first + j) (chunk_at j c.args.chunks.now) c.chain.n _ _ (c.chain.invariant.lanes j h) (c.block_of_each.ensures j h);
+  full = c.after_block-h.ensures.full;
+  lanes = λ j h long.
+      (rw c.start_flag-flags.ensures at (c.after_block-h.ensures.lanes j h long))
+      ∙ after_blocks_more c.args.key.now (c.args.first + j) (chunk_at j c.args.chunks.now) c.chain.n _ (c.chain.invariant.lanes j h long);
 }
 
 pub returns-clause-lanes : goal.returns-clause-lanes
-returns-clause-lanes c = λ j h.
+returns-clause-lanes c = λ j h long.
     let i : ℕ = c.args.first + j in
     let chunk : List ℕ = chunk_at j c.args.chunks.now in
-    let size = length-chunk_at j c.args.chunks.now (omega arith) in
+    let size = length-chunk_at j c.args.chunks.now long in
     let all : c.chain.n ≡ 15 = omega arith in
-    let before = c.chain.invariant.lanes j h ∙ ap (after_blocks c.args.key.now i chunk) all in
-    (rw (before, c.block_of_each-2.ensures j h) at (c.compress_each.ensures.lanes j h))
+    let before = c.chain.invariant.lanes j h long ∙ ap (after_blocks c.args.key.now i chunk) all in
+    (rw before at (c.after_block.ensures.lanes j h long))
     ∙ sym (chunk_value-last c.args.key.now i chunk 0 15 64 (ap (λ (n : ℕ). (n - 1) / 64) size) (ap (λ (n : ℕ). n - 960) size))

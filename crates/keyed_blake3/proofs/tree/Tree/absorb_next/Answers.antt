@@ -1,28 +1,22 @@
 use Rattle.std.proofs.Common.{◌≡◌, ℕ, ◌+◌, ◌*◌, ◌/◌, ◌≤◌, length, take, drop, arith, ap, subst, sym, ◌∙◌, length-drop}
 use Rattle.std.proofs.lemmas.List.{length-take-le}
 use Rattle.keyed_blake3.specs.Steps.Tree.{IsAbsorbed}
-use Rattle.keyed_blake3.specs.declared.compression.lanes.TheConstants.{LANES}
 use Rattle.keyed_blake3.proofs.tree.Tree.absorb_next.Goals as goal
-
-pub slice_bounds-chunks-end : goal.slice_bounds-chunks-end
-slice_bounds-chunks-end c = sym (length-take-le (1024 * LANES) c.args.rest.now (omega arith))
 
 pub slice_bounds-block-end : goal.slice_bounds-block-end
 slice_bounds-block-end c = sym (length-take-le 64 c.args.rest.now (omega arith))
 
-pub absorb_chunks-requires-clause-chunks : goal.absorb_chunks-requires-clause-chunks
-absorb_chunks-requires-clause-chunks c = length-take-le (1024 * LANES) c.args.rest.now (omega arith)
-
 pub absorb-requires-clause-block : goal.absorb-requires-clause-block
 absorb-requires-clause-block c = length-take-le 64 c.args.rest.now (omega arith)
 
-pub returns-then-rest-gt-CHUNKS_LEN-clause-absorbed : goal.returns-then-rest-gt-CHUNKS_LEN-clause-absorbed
-returns-then-rest-gt-CHUNKS_LEN-clause-absorbed c = λ key m held is.
+pub returns-then-count-ge-CHUNKS_SIDE_BY_SIDE-clause-absorbed : goal.returns-then-count-ge-CHUNKS_SIDE_BY_SIDE-clause-absorbed
+returns-then-count-ge-CHUNKS_SIDE_BY_SIDE-clause-absorbed c = λ key m held is.
     let n : ℕ = c.args.number in
+    let count : ℕ = c.min-count.result in
     let start : n ≡ 16 * (n / 16) = omega arith in
-    let end : 16 * (n / 16 + LANES) ≡ n + 16 * LANES = omega arith in
+    let end : 16 * (n / 16 + count) ≡ n + 1024 * count / 64 = omega arith in
     let place : 64 * n ≡ 1024 * (n / 16) = omega arith in
-    let long : 1024 * (n / 16 + LANES) ≤ length m = omega (arith, ap length is ∙ length-drop (64 * n) m) in
+    let long : 1024 * (n / 16 + count) ≤ length m = omega (arith, ap length is ∙ length-drop (64 * n) m) in
     let begins : IsAbsorbed key c.args.self.now (16 * (n / 16)) m = subst (λ (k : ℕ). IsAbsorbed key c.args.self.now k m) start held in
     subst (λ (k : ℕ). IsAbsorbed key c.absorb_chunks.new.self k m) end
-    (c.absorb_chunks.ensures key m begins long (ap (take (1024 * LANES)) (is ∙ ap (λ (k : ℕ). drop k m) place)))
+    (c.absorb_chunks.ensures key m begins long (ap (take (1024 * count)) (is ∙ ap (λ (k : ℕ). drop k m) place)))
