@@ -89,7 +89,8 @@ pub(super) fn collapse_chunks<A: Allocator + Clone>(
     requires { total_size chunks.now < 2 ^ 64 }
     ensures { IfOk result (λ levels. (work : ℕ) × IsCanonicalBy parent at_start at_end chunks.now levels.items work) }
 {
-    let levels = Vec::new(alloc.clone()?);
+    // Most short lists have one level.
+    let levels = Vec::with_capacity(alloc.clone()?, 1)?;
     Ok(collapse_slice(
         alloc,
         levels,

@@ -10,5 +10,5 @@ collapse_slice-requires g c = let none = c.new.ensures in record { fits = c.requ
 pub returns : goal.returns
 returns g c =
     let collapsed = c.in_ok-collapse_slice.ensures in
-    let levels = collapsed.3 ∙ ap (λ (l : List Level). l ++ collapsed.0) c.new-levels.ensures.items in
+    let levels = collapsed.3 ∙ ap (λ (l : List Level). l ++ collapsed.0) c.in_ok-levels.ensures.items in
     (collapsed.1, subst (λ (l : List Level). IsCanonicalBy parent c.args.at_start c.args.at_end c.args.chunks.now l collapsed.1) (sym levels) collapsed.2)
