@@ -58,7 +58,7 @@ def side_chances(most: int = 3000) -> list[float]:
     """The exact probability that the first stable point of an endless list has so many nodes before it.
 
     A cut is reached either by a good gap (3 to 7) or not. From a cut that is reached by a good one, a good one ends the
-    search: the stable point is behind that cut.
+    search: the stable point is after that cut.
     """
     by_good, by_other = [0.0] * (most + 1), [0.0] * (most + 1)
     gaps = [(gap, gap_chance(gap)) for gap in range(1, 121)]
@@ -238,6 +238,11 @@ def json_size(nodes: float, count: int, levels: float) -> float:
     return 60 + 6 * levels + nodes * (JSON_BYTES + digits)
 
 
+def mean_size(it: Summary) -> float:
+    """About how long the JSON text of a range is on average."""
+    return json_size(it.mean, it.chunks, it.levels)
+
+
 def sides_table(_: argparse.Namespace) -> Iterator[str]:
     """The exact distribution of what one level keeps."""
     chances = side_chances()
@@ -256,9 +261,8 @@ def sides_table(_: argparse.Namespace) -> Iterator[str]:
 def kept_rows(found: Iterable[Summary]) -> Iterator[tuple[object, ...]]:
     """Rows of figures."""
     for it in found:
-        size = json_size(it.mean, it.chunks, it.levels)
         yield (power(it.chunks), it.samples, f"{it.mean:.1f}", it.middle, it.high, it.greatest, f"{it.levels:.2f}",
-               size_text(NODE_BYTES * it.mean), size_text(size))
+               size_text(NODE_BYTES * it.mean), size_text(mean_size(it)))
 
 
 KEPT_HEAD = ("chunks", "ranges", "mean nodes", "median", "99.9 %", "greatest", "levels", "as words", "as JSON")
@@ -287,18 +291,17 @@ def joins_table(arguments: argparse.Namespace) -> Iterator[str]:
     """A million ranges of a gigabyte each, joined in two ways."""
     steps = RANGES.bit_length() - 1
     of_step = [simulated(RANGE_CHUNKS << step, arguments.samples // 4) for step in range(steps + 1)]
-    tree = sum((RANGES >> (step + 1)) * json_size(it.mean, it.chunks, it.levels) for step, it in enumerate(of_step[:-1]))
-    chain = (RANGES - 1) * json_size(of_step[0].mean, of_step[0].chunks, of_step[0].levels)
+    tree = sum((RANGES >> (step + 1)) * mean_size(it) for step, it in enumerate(of_step[:-1]))
+    chain = (RANGES - 1) * mean_size(of_step[0])
     yield f"{RANGES:,} ranges of {RANGE_CHUNKS:,} chunks ({size_text(RANGE_CHUNKS * CHUNK_BYTES)} each, " \
           f"{size_text(RANGES * RANGE_CHUNKS * CHUNK_BYTES)} in all)"
     yield ""
     last = of_step[-1]
-    whole = f"{last.mean:.0f} nodes, {size_text(json_size(last.mean, last.chunks, last.levels))}"
+    whole = f"{last.mean:.0f} nodes, {size_text(mean_size(last))}"
     yield from table(("", "tree", "chain"), [
         ("merges", f"{RANGES - 1:,}", f"{RANGES - 1:,}"), ("merges on the longest path", steps, f"{RANGES - 1:,}"),
         ("bytes moved, as JSON", size_text(tree), size_text(chain)),
-        ("the longest range that is moved, mean", size_text(json_size(of_step[-2].mean, of_step[-2].chunks, of_step[-2].levels)),
-         size_text(json_size(of_step[0].mean, of_step[0].chunks, of_step[0].levels))),
+        ("the longest range that is moved, mean", size_text(mean_size(of_step[-2])), size_text(mean_size(of_step[0]))),
         ("the whole, mean", whole, whole)])
 
 
@@ -309,7 +312,7 @@ def petabyte_table(arguments: argparse.Namespace) -> Iterator[str]:
     """A petabyte, hashed by a thousand machines."""
     part = simulated(PETABYTE_CHUNKS // MACHINES, arguments.samples)
     whole = simulated(PETABYTE_CHUNKS, arguments.samples)
-    size = json_size(part.mean, part.chunks, part.levels)
+    size = mean_size(part)
     high = json_size(part.high, part.chunks, part.levels)
     yield from table(("", "figure"), [
         ("chunks of 64 KiB", f"{PETABYTE_CHUNKS:,} ({size_text(PETABYTE_CHUNKS * CHUNK_BYTES)})"),
@@ -331,7 +334,8 @@ def hostile_table(arguments: argparse.Namespace) -> Iterator[str]:
     """The same for content without stable points, and for limits on a range."""
     part = PETABYTE_CHUNKS // MACHINES
     rows = [("what a machine keeps", f"{part:,} nodes"), ("as words", size_text(NODE_BYTES * part)),
-            ("as JSON", size_text(json_size(part, 1, 1))), ("what all send, as JSON", size_text(json_size(PETABYTE_CHUNKS, 1, 1))),
+            ("as JSON", size_text(json_size(part, 1, 1))),
+            ("what all send, as JSON", size_text(json_size(PETABYTE_CHUNKS, 1, 1))),
             ("what the root keeps, as words", size_text(NODE_BYTES * PETABYTE_CHUNKS)),
             ("tries for a chunk that is no natural cut, mean", f"{1 / (1 - CUT):.2f}"),
             ("tries for a chunk that is one, mean", f"{1 / CUT:.2f}")]
@@ -343,8 +347,9 @@ def hostile_table(arguments: argparse.Namespace) -> Iterator[str]:
         limit = 2 * it.high
         limits.append((f"{count:,}", f"{it.mean:.0f}", it.high, it.greatest, limit,
                        size_text(json_size(limit, count, it.levels)), f"{count:,}", size_text(json_size(count, 1, 1))))
-    yield from table(("chunks of a range", "mean nodes", "99.9 %", f"greatest of {arguments.samples:,}", "a limit: twice 99.9 %",
-                      "that as JSON", "nodes without stable points", "that as JSON"), limits)
+    head = ("chunks of a range", "mean nodes", "99.9 %", f"greatest of {arguments.samples:,}", "a limit: twice 99.9 %",
+            "that as JSON", "nodes without stable points", "that as JSON")
+    yield from table(head, limits)
 
 
 def plots(arguments: argparse.Namespace) -> Iterator[str]:

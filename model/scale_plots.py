@@ -11,9 +11,12 @@ Points = Sequence[tuple[float, float]]
 WIDTH, HEIGHT, LEFT, RIGHT, TOP, BOTTOM = 760, 420, 78, 24, 96, 58
 
 STYLE = """text{font:13px sans-serif;fill:#1f2328}.t{font-size:15px;font-weight:bold}.g{stroke:#d0d7de;stroke-width:1}
-.x{stroke:#59636e;stroke-width:1.5}.a{stroke:#0969da;fill:none;stroke-width:2.5}.b{stroke:#bc4c00;fill:none;stroke-width:2.5;stroke-dasharray:8 4}
-.c{stroke:#cf222e;fill:none;stroke-width:2.5;stroke-dasharray:2 4}.p{fill:#0969da;stroke:#fff;stroke-width:1.5}.q{fill:none;stroke:#bc4c00;stroke-width:2}
-@media(prefers-color-scheme:dark){text{fill:#f0f6fc}.g{stroke:#3d444d}.x{stroke:#9198a1}.a{stroke:#4493f8}.b{stroke:#f0883e}.c{stroke:#ff7b72}
+.x{stroke:#59636e;stroke-width:1.5}.a{stroke:#0969da;fill:none;stroke-width:2.5}
+.b{stroke:#bc4c00;fill:none;stroke-width:2.5;stroke-dasharray:8 4}
+.c{stroke:#cf222e;fill:none;stroke-width:2.5;stroke-dasharray:2 4}
+.p{fill:#0969da;stroke:#fff;stroke-width:1.5}.q{fill:none;stroke:#bc4c00;stroke-width:2}
+@media(prefers-color-scheme:dark){text{fill:#f0f6fc}.g{stroke:#3d444d}.x{stroke:#9198a1}.a{stroke:#4493f8}
+.b{stroke:#f0883e}.c{stroke:#ff7b72}
 .p{fill:#4493f8;stroke:#0d1117}.q{stroke:#f0883e}}"""
 
 
@@ -104,7 +107,8 @@ def write(mean: Points, high: Points, measured_mean: Points, measured_greatest: 
     chunks = power_axis("chunks of a range", 1, 12)
     top = 100 * math.ceil(max(nodes for _, nodes in high) / 100)
     lines = [Series("mean, simulated", "a", mean, True), Series("99.9th percentile, simulated", "b", high, True)]
-    kept = picture("Nodes that a range of drawn chunks keeps", (chunks, plain_axis("nodes kept", top, 200 if top > 800 else 100)),
+    nodes = plain_axis("nodes kept", top, 200 if top > 800 else 100)
+    kept = picture("Nodes that a range of drawn chunks keeps", (chunks, nodes),
                    [*lines, Series("mean, measured by the model", "p", measured_mean, False),
                     Series("greatest, measured by the model", "q", measured_greatest, False)])
     whole = [(value, value) for value, _ in mean]

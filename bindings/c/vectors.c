@@ -6,7 +6,7 @@
 #define MOST_FIELDS 16
 #define MOST_RANGES 8
 
-/* The fields of a line behind its number and its kind. */
+/* The fields of a line after its number and its kind. */
 struct line {
     char *fields[MOST_FIELDS];
     size_t count;

@@ -22,16 +22,17 @@ RULES = {
     9: "under `at_start` no level below the top has left nodes",
     10: "with both marks the top has at most one node",
     11: "where there are several levels, the top has a node",
-    12: "without `at_start` the left nodes of each level below the top end with two natural cuts at a distance from 3 to 7, with "
-        "none between them, and have no stable point",
-    13: "without `at_end` the right nodes of each level below the top have their first natural cut at an index from 2 to 6, and "
-        "have no stable point, also where one natural cut is put in front of them",
+    12: "without `at_start` the left nodes of each level below the top end with two natural cuts at a distance from 3 to 7, "
+        "with none between them, and have no stable point",
+    13: "without `at_end` the right nodes of each level below the top have their first natural cut at an index from 2 to 6, "
+        "and have no stable point, also where one natural cut is put in front of them",
 }
 HEADER = [
-    "The JSON object of a subtree has the members `at_start` and `at_end`, the marks; `levels`, an array of two numbers for each "
-    "level from the chunks up, how many left and how many right nodes it has; and `nodes`, the left nodes of all levels by "
-    "rising level, then the right nodes by falling level, each an object of `hash` (hex text) and `size` (a number).",
-    "It is written compactly, with the members in this order: `at_end`, `at_start`, `levels`, `nodes`; in a node `hash`, `size`.",
+    "The JSON object of a subtree has the members `at_start` and `at_end`, the marks; `levels`, an array of two numbers for "
+    "each level from the chunks up, how many left and how many right nodes it has; and `nodes`, the left nodes of all levels "
+    "by rising level, then the right nodes by falling level, each an object of `hash` (hex text) and `size` (a number).",
+    "It is written compactly, with the members in this order: `at_end`, `at_start`, `levels`, `nodes`; in a node `hash`, "
+    "`size`.",
     "Where the result is valid, `written` is the text of the subtree that was read, where that is another text than the one "
     "given. Where it is invalid, `error` is NotJson for what is no JSON text, else InvalidJson, and `rule` is the least rule "
     "that the value breaks.",
@@ -134,7 +135,8 @@ def rules_1_to_5() -> list[Test]:
              ("a hash that is a number", node.replace(f'"{m.to_hex(one[0][0])}"', "1")),
              ("a size that is a string", node.replace('"size":1', '"size":"1"')),
              ("a size that is null", node.replace('"size":1', '"size":null')),
-             ("a level of one number", node.replace("[[1,0]]", "[[1]]")), ("a level of three", node.replace("[[1,0]]", "[[1,0,0]]")),
+             ("a level of one number", node.replace("[[1,0]]", "[[1]]")),
+             ("a level of three", node.replace("[[1,0]]", "[[1,0,0]]")),
              ("an empty level", node.replace("[[1,0]]", "[[]]")), ("a level that is a number", node.replace("[[1,0]]", "[1]")),
              ("a level that is an object", node.replace("[[1,0]]", '[{"left":1,"right":0}]')),
              ("no level", EMPTY.replace("[[0,0]]", "[]")), ("no level, but a node", node.replace("[[1,0]]", "[]"))]
@@ -154,7 +156,8 @@ def rules_6_to_11() -> list[Test]:
             ("one too many on the right", said([[1, 1]], one)),
             ("sizes of 2^64", said([[2, 0]], [((1, 0, 0, 1), m.MAX_U64), ((2, 0, 0, 1), 1)])),
             ("sizes of twice 2^63", said([[2, 0]], [((1, 0, 0, 1), 2**63), ((2, 0, 0, 1), 2**63)])),
-            ("right nodes at the top", said([[0, 1]], one)), ("right nodes at the top under the end mark", said([[0, 1]], one, False, True)),
+            ("right nodes at the top", said([[0, 1]], one)),
+            ("right nodes at the top under the end mark", said([[0, 1]], one, False, True)),
             ("right nodes below the top under the end mark", said([[0, 1], [1, 0]], two, True, True)),
             ("left nodes below the top under the start mark", said([[1, 0], [1, 0]], two, True, False)),
             ("both marks, two nodes at the top", said([[2, 0]], two, True, True)),
@@ -172,16 +175,18 @@ def rules_12_and_13() -> list[Test]:
     left, right, top = lists.numbered(0, 8), lists.numbered(16, 20), [((9, 9, 9, 1), 4), ((8, 8, 8, 1), 4)]
     plain = [((i, 0, 0, 1), 1) for i in range(40, 50)]
     cut = ((5, 5, 5, 0), 1)
-    lefts: list[tuple[str, Sequence[m.Node]]] = [("no left nodes", []), ("left nodes with a stable point", [*left, *lists.numbered(8, 16)]),
-             ("left nodes without a natural cut", plain[:8]), ("left nodes with one natural cut", [*plain[:3], cut]),
-             ("left nodes that end after a natural cut", [*left, plain[0]]),
-             ("left nodes with natural cuts at a distance of 2", [*left[:4], plain[0], cut]),
-             ("left nodes with natural cuts at a distance of 8", [*left[:4], *plain[:7], cut])]
-    rights: list[tuple[str, Sequence[m.Node]]] = [("no right nodes", []), ("right nodes without a natural cut", plain[:4]),
-              ("right nodes with the first natural cut at index 1", [plain[0], cut, *right]),
-              ("right nodes with the first natural cut at index 7", [*plain[:7], cut]),
-              ("right nodes with a stable point", [*right, *lists.numbered(20, 28)]),
-              ("right nodes with a stable point once a natural cut is in front", [*right, *lists.numbered(20, 24)])]
+    lefts: list[tuple[str, Sequence[m.Node]]] = [
+        ("no left nodes", []), ("left nodes with a stable point", [*left, *lists.numbered(8, 16)]),
+        ("left nodes without a natural cut", plain[:8]), ("left nodes with one natural cut", [*plain[:3], cut]),
+        ("left nodes that end after a natural cut", [*left, plain[0]]),
+        ("left nodes with natural cuts at a distance of 2", [*left[:4], plain[0], cut]),
+        ("left nodes with natural cuts at a distance of 8", [*left[:4], *plain[:7], cut])]
+    rights: list[tuple[str, Sequence[m.Node]]] = [
+        ("no right nodes", []), ("right nodes without a natural cut", plain[:4]),
+        ("right nodes with the first natural cut at index 1", [plain[0], cut, *right]),
+        ("right nodes with the first natural cut at index 7", [*plain[:7], cut]),
+        ("right nodes with a stable point", [*right, *lists.numbered(20, 28)]),
+        ("right nodes with a stable point once a natural cut is in front", [*right, *lists.numbered(20, 24)])]
     tests = [text_test(comment, m.compact(said([[len(side), 4], [2, 0]], [*side, *top, *right]))) for comment, side in lefts]
     tests += [text_test(comment, m.compact(said([[8, len(side)], [2, 0]], [*left, *top, *side]))) for comment, side in rights]
     tests.append(text_test("neither side is right", m.compact(said([[4, 4], [2, 0]], [*plain[:4], *top, *plain[4:8]])),

@@ -179,7 +179,8 @@ def other_bracketings() -> list[Group]:
     """Other ranges under all bracketings."""
     groups = []
     for comment, told, cuts, marks in (
-        ("five ranges of a list with natural cuts at each fourth node, open", lists.pattern(NUMBERED), (3, 9, 16, 22), (False, False)),
+        ("five ranges of a list with natural cuts at each fourth node, open", lists.pattern(NUMBERED), (3, 9, 16, 22),
+         (False, False)),
         ("five ranges of drawn chunks, closed", lists.drawn(1, 150), (20, 51, 52, 120), (True, True)),
         ("five ranges without a natural cut, closed", lists.pattern("." * 25), (1, 9, 10, 18), (True, True)),
         ("four ranges of natural cuts alone, marked at the start", lists.pattern("|" * 12), (3, 4, 8), (True, False)),

@@ -11,7 +11,8 @@ from .model import m, test_model
 
 EXHAUSTIVE = 10
 SALT = bytes(range(100, 132))
-GAPS = ((3, 4, 5, 6, 7, 3, 5, 7), (3, 7), (2, 3, 7, 8), (3, 4, 5, 6, 8, 9, 10, 19), (1, 2, 3, 4, 5, 6, 7, 9), (1, 1, 2, 1, 1, 4))
+GAPS = ((3, 4, 5, 6, 7, 3, 5, 7), (3, 7), (2, 3, 7, 8), (3, 4, 5, 6, 8, 9, 10, 19), (1, 2, 3, 4, 5, 6, 7, 9),
+        (1, 1, 2, 1, 1, 4))
 
 HEADER = [
     "A list of chunks is told by a rule, the object `list` with one member; README.md has the rules in words.",
@@ -119,8 +120,9 @@ def of_sizes() -> Group:
 def parents() -> Group:
     """Groups with their texts and parents."""
     tests = []
-    for told in (lists.seeds([1]), lists.seeds([0, 1]), lists.seeds([1, 2, 3]), lists.pattern("." * 9), lists.sized(0, m.MAX_U64),
-                 lists.sized(*[10**i for i in range(9)]), lists.given([((m.MAX_U64,) * 4, 2**60)] * 9)):
+    for told in (lists.seeds([1]), lists.seeds([0, 1]), lists.seeds([1, 2, 3]), lists.pattern("." * 9),
+                 lists.sized(0, m.MAX_U64), lists.sized(*[10**i for i in range(9)]),
+                 lists.given([((m.MAX_U64,) * 4, 2**60)] * 9)):
         hash_, size = m.parent(told.nodes)
         tests.append(valid("", list=told.said, text=m.group_text(told.nodes).decode(), hash=m.to_hex(hash_), size=str(size)))
     return Group("Parent", "groups of one to nine nodes, with their texts and their parents", tests)

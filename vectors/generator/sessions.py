@@ -15,14 +15,14 @@ MAX = m.MAX_U64
 HEADER = [
     "A test is a new session and some calls of it, in order. After a refused call the session is as it was before.",
     "put: the chunks take the positions first, first + 1, and so on. `newHashes` tells how many hashes among them no earlier "
-    "accepted put had, each counted once. A put of no chunk answers 0 and changes nothing, wherever first is. Faults, the first "
-    "that fits: Overlap, a position is taken; Positions, first plus the number of chunks passes 2^64 - 1; Sizes, the sizes of "
-    "all chunks pass 2^64 - 1.",
+    "accepted put had, each counted once. A put of no chunk answers 0 and changes nothing, wherever first is. Faults, the "
+    "first that fits: Overlap, a position is taken; Positions, first plus the number of chunks passes 2^64 - 1; Sizes, the "
+    "sizes of all chunks pass 2^64 - 1.",
     "taken: whether a position is taken. runs: the runs of adjacent positions by rising position, each with its first position "
     "and the canonical subtree of its chunks, which is open at both ends (`levels`, `size`, `finalHash` and `jsonHash` as "
     "in subtrees.json).",
-    "root and finish: the root and the file hash without a salt of all chunks by position. Fault Gap: the positions taken aren't "
-    "exactly those from 0 to total - 1.",
+    "root and finish: the root and the file hash without a salt of all chunks by position. Fault Gap: the positions taken "
+    "aren't exactly those from 0 to total - 1.",
     "Positions and totals are decimal strings.",
 ]
 NOTES = {

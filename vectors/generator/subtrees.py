@@ -16,11 +16,11 @@ CHOSEN = [NUMBERED[:20], NUMBERED[:24], NUMBERED, NUMBERED[:16], "|..|..|", "|..
 HEADER = [
     "A stable point is a place b + 1, where three natural cuts at a < b < c with none between them have b - a and c - b from 3 "
     "to 7. `first` and `last` tell how many nodes stand before the first and the last stable point of a list, or are null.",
-    "The canonical subtree of a list under the marks atStart and atEnd: a list of at most one node is one level, with its nodes "
-    "on the left. Else lo is 0 under atStart, else the first stable point; hi is the number of nodes under atEnd, else the "
-    "greatest stable point of a triple with a at or after lo. Where one is lacking, the list is one level, all on the left. "
-    "Else level 0 has the nodes before lo on the left and those from hi on on the right, and the levels above are the canonical "
-    "subtree of the parents of the groups from lo to hi.",
+    "The canonical subtree of a list under the marks atStart and atEnd: a list of at most one node is one level, with its "
+    "nodes on the left. Else lo is 0 under atStart, else the first stable point; hi is the number of nodes under atEnd, else "
+    "the greatest stable point of a triple with a at or after lo. Where one is lacking, the list is one level, all on the "
+    "left. Else level 0 has the nodes before lo on the left and those from hi on on the right, and the levels above are the "
+    "canonical subtree of the parents of the groups from lo to hi.",
     "`levels` has the numbers of left and right nodes of each level, from the chunks up. `jsonHash` is the data hash of the "
     "compact JSON text, of which subtree_json.json has the form.",
 ]

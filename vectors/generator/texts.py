@@ -57,21 +57,21 @@ def hex_texts() -> Group:
            ("66 digits", text + "00", "WrongLength"), ("128 digits", text * 2, "WrongLength"),
            ("g at the end", text[:63] + "g", "BadCharacter"), ("G at the start", "G" + text[1:], "BadCharacter"),
            ("a slash, which stands before 0", "/" + text[1:], "BadCharacter"),
-           ("a colon, which stands behind 9", ":" + text[1:], "BadCharacter"),
+           ("a colon, which stands after 9", ":" + text[1:], "BadCharacter"),
            ("@, which stands before A", "@" + text[1:], "BadCharacter"),
            ("a grave accent, which stands before a", "`" + text[1:], "BadCharacter"),
            ("a sign in the place of a digit", "+" + text[1:], "BadCharacter"),
            ("a sign at a word", text[:16] + "-" + text[17:], "BadCharacter"),
            ("an underscore", text[:20] + "_" + text[21:], "BadCharacter"),
            ("a space in front", " " + text, "Whitespace"), ("a space for the first digit", " " + text[1:], "Whitespace"),
-           ("a newline behind", text + "\n", "Whitespace"), ("a newline for the last digit", text[:63] + "\n", "Whitespace"),
+           ("a newline after it", text + "\n", "Whitespace"), ("a newline for the last digit", text[:63] + "\n", "Whitespace"),
            ("0x in front", "0x" + text, "Prefix"), ("0x for the first digits", "0x" + text[2:], "Prefix"),
            ("64 bytes with one letter past ASCII", text[:62] + "\u00e9", "NonAscii"),
            ("64 characters with one letter past ASCII", text[:63] + "\u00e9", "NonAscii"),
            ("an Arabic-Indic digit", text[:63] + "\u0660", "NonAscii"),
            ("a fullwidth digit", "\uff10" + text[1:], "NonAscii"),
            ("a zero byte for the last digit", text[:63] + "\0", "NulCharacter"),
-           ("a zero byte behind", text + "\0", "NulCharacter"), ("the base64 text", m.to_base64(EXAMPLE), "WrongLength")]
+           ("a zero byte after it", text + "\0", "NulCharacter"), ("the base64 text", m.to_base64(EXAMPLE), "WrongLength")]
     tests = [valid(comment, *["UpperCase"] * (it != it.lower()), text=it, hash=_read(m.from_hex(it)))
              for comment, it in good]
     tests += [_refused(m.from_hex(it), comment, flag, it) for comment, it, flag in bad]
@@ -91,14 +91,14 @@ def base64_texts() -> Group:
            ("the least trailing bit", "A" * 42 + "B", "TrailingBits"), ("both trailing bits", "A" * 42 + "D", "TrailingBits"),
            ("a trailing bit beside others", text[:42] + "5", "TrailingBits"),
            ("all bits one, and one more", "_" * 43, "TrailingBits"),
-           ("a space in front", " " + text, "Whitespace"), ("a newline behind", text + "\n", "Whitespace"),
+           ("a space in front", " " + text, "Whitespace"), ("a newline after it", text + "\n", "Whitespace"),
            ("a space inside", text[:20] + " " + text[21:], "Whitespace"),
            ("a percent sign", text[:20] + "%" + text[21:], "BadCharacter"),
            ("a full stop", text[:20] + "." + text[21:], "BadCharacter"),
            ("43 bytes with one letter past ASCII", text[:41] + "\u00e9", "NonAscii"),
            ("43 characters with one letter past ASCII", text[:42] + "\u00e9", "NonAscii"),
            ("a zero byte for the last character", text[:42] + "\0", "NulCharacter"),
-           ("a zero byte behind", text + "\0", "NulCharacter"), ("the hex text", m.to_hex(EXAMPLE), "WrongLength")]
+           ("a zero byte after it", text + "\0", "NulCharacter"), ("the hex text", m.to_hex(EXAMPLE), "WrongLength")]
     tests += [_refused(m.from_base64(it), comment, flag, it) for comment, it, flag in bad]
     return Group("Base64Text", "base64 texts, and others", tests)
 

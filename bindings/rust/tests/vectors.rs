@@ -158,9 +158,9 @@ fn piece_hash(it: &Value) {
     let data = message(pieces.clone().sum());
     let (mut hasher, mut rest) = (Hasher::new_data(), &data[..]);
     for length in pieces {
-        let (piece, behind) = rest.split_at(length);
+        let (piece, after) = rest.split_at(length);
         hasher.update(piece).unwrap();
-        rest = behind;
+        rest = after;
     }
     assert_eq!(hasher.finalize(), hash(it, "hash"));
     assert_eq!(compute_data_hash(&data), hash(it, "hash"));
