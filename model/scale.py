@@ -8,6 +8,7 @@
     python3 model/scale.py hostile          the same without stable points
     python3 model/scale.py plots            docs/scale-kept.svg and docs/scale-hostile.svg
     python3 model/scale.py all              all tables, as docs/SCALE.md has them
+    python3 model/scale.py check            whether docs/SCALE.md has each line of them
 
 A node's hash is drawn, so it is a natural cut with probability 1/4, independently of all others; the parents of groups are
 drawn again. A range, open at both ends, keeps on each level the nodes before its first stable point and those from its last
@@ -366,12 +367,24 @@ TABLES: dict[str, Callable[[argparse.Namespace], Iterator[str]]] = {
     "hostile": hostile_table, "plots": plots}
 
 
+def missing(arguments: argparse.Namespace) -> Iterator[str]:
+    """The lines of tables that docs/SCALE.md doesn't have."""
+    text = (scale_plots.DOCS / "SCALE.md").read_text()
+    for name, of in TABLES.items():
+        if name != "plots":
+            yield from (line for line in of(arguments) if line.startswith("| ") and line not in text)
+
+
 def main() -> int:
     """Prints what is asked for."""
     parser = argparse.ArgumentParser(description=__doc__, formatter_class=argparse.RawDescriptionHelpFormatter)
-    parser.add_argument("what", choices=[*TABLES, "all"])
+    parser.add_argument("what", choices=[*TABLES, "all", "check"])
     parser.add_argument("samples", nargs="?", type=int, default=SAMPLES, help=f"ranges that are drawn ({SAMPLES:,})")
     arguments = parser.parse_args()
+    if arguments.what == "check":
+        lines = list(missing(arguments))
+        print("\n".join(lines) or "docs/SCALE.md has each line")
+        return 1 if lines else 0
     for name in TABLES if arguments.what == "all" else [arguments.what]:
         print(f"\n== {name}\n" if arguments.what == "all" else "", end="")
         for line in TABLES[name](arguments):
