@@ -186,11 +186,29 @@ def drawn_maker(group: tuple[m.Node, ...]) -> m.Hash:
     return tuple(int.from_bytes(digest[i:i + 8], "little") for i in range(0, 32, 8))  # type: ignore[return-value]
 
 
+def parents_of(nodes: Sequence[m.Node], maker: m.Maker) -> list[m.Node]:
+    """The parents of the groups of a long list: the model's `parents` copies what is left of the list for each group."""
+    found, at = [], 0
+    while at < len(nodes):
+        group = tuple(nodes[at:at + m.first_group_length(nodes[at:at + 9])])
+        found.append(m.parent(group, maker))
+        at += len(group)
+    return found
+
+
 def measured_range(rng: random.Random, count: int, maker: m.Maker) -> Kept:
-    """What the model's canonical subtree of a drawn list keeps."""
+    """What the canonical subtree of a drawn list keeps, by the model's split on each level."""
     nodes = [((i, 0, 0, rng.getrandbits(64)), CHUNK_BYTES) for i in range(count)]
-    tree = m.canon(nodes, False, False, maker)
-    return Kept(tree.num_nodes(), tree.num_levels())
+    all_nodes, kept, levels = nodes, 0, 1
+    while (points := m.split(nodes, False, False)) is not None:
+        kept, levels = kept + points[0] + len(nodes) - points[1], levels + 1
+        nodes = parents_of(nodes[points[0]:points[1]], maker)
+    found = Kept(kept + len(nodes), levels)
+    if count <= 1000:
+        tree = m.canon(all_nodes, False, False, maker)
+        if found != Kept(tree.num_nodes(), tree.num_levels()):
+            raise ValueError("a measured range isn't the canonical subtree")
+    return found
 
 
 #: How many lists of each length are made, and by which hash of groups.
