@@ -213,8 +213,8 @@ def measured_range(rng: random.Random, count: int, maker: m.Maker) -> Kept:
 
 #: How many lists of each length are made, and by which hash of groups.
 MEASURES: tuple[tuple[int, int, m.Maker], ...] = (
-    (100, 2000, drawn_maker), (1000, 1000, drawn_maker), (10_000, 200, drawn_maker), (10_000, 5, m.blake_maker),
-    (100_000, 40, drawn_maker), (1_000_000, 4, drawn_maker))
+    (100, 1000, drawn_maker), (1000, 300, drawn_maker), (10_000, 50, drawn_maker), (10_000, 2, m.blake_maker),
+    (100_000, 10, drawn_maker), (1_000_000, 1, drawn_maker))
 
 
 @functools.lru_cache(maxsize=None)
@@ -271,6 +271,7 @@ def sides_table(_: argparse.Namespace) -> Iterator[str]:
     rows = [(name, bisect.bisect_left(sums, part), bisect.bisect_left(sums, part) - 1)
             for name, part in (("median", 0.5), ("99th percentile", 0.99), ("99.9th percentile", 0.999),
                                ("one in a million", 1 - 1e-6), ("one in 10^9", 1 - 1e-9))]
+    yield f"probability that the next natural cut stands 3 to 7 nodes after one: {GOOD:.4f}"
     yield f"mean length of a group: {GROUP_MEAN:.4f} nodes; variance {GROUP_VARIANCE:.4f}"
     yield f"mean of both sides of a level: {2 * mean - 1:.2f} nodes; standard deviation {math.sqrt(2 * variance):.2f}"
     yield ""
@@ -376,8 +377,8 @@ def plots(arguments: argparse.Namespace) -> Iterator[str]:
     found = [simulated(count, arguments.samples) for count in SIZES]
     points = [it for it, (_, _, maker) in zip(measured(), MEASURES) if maker is not m.blake_maker]
     yield from scale_plots.write(
-        [(it.chunks, it.mean) for it in found], [(it.chunks, float(it.high)) for it in found],
-        [(it.chunks, it.mean) for it in points], [(it.chunks, float(it.greatest)) for it in points])
+        [(it.chunks, round(it.mean, 1)) for it in found], [(it.chunks, float(it.high)) for it in found],
+        [(it.chunks, round(it.mean, 1)) for it in points], [(it.chunks, float(it.greatest)) for it in points])
 
 
 TABLES: dict[str, Callable[[argparse.Namespace], Iterator[str]]] = {
