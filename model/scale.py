@@ -310,7 +310,7 @@ RANGES, RANGE_CHUNKS = 2**20, 16_384
 def joins_table(arguments: argparse.Namespace) -> Iterator[str]:
     """A million ranges of a gigabyte each, joined in two ways."""
     steps = RANGES.bit_length() - 1
-    of_step = [simulated(RANGE_CHUNKS << step, arguments.samples // 4) for step in range(steps + 1)]
+    of_step = [simulated(RANGE_CHUNKS << step, arguments.samples // 20) for step in range(steps + 1)]
     tree = sum((RANGES >> (step + 1)) * mean_size(it) for step, it in enumerate(of_step[:-1]))
     chain = (RANGES - 1) * mean_size(of_step[0])
     yield f"{RANGES:,} ranges of {RANGE_CHUNKS:,} chunks ({size_text(RANGE_CHUNKS * CHUNK_BYTES)} each, " \
@@ -318,7 +318,9 @@ def joins_table(arguments: argparse.Namespace) -> Iterator[str]:
     yield ""
     last = of_step[-1]
     whole = f"{last.mean:.0f} nodes, {size_text(mean_size(last))}"
+    first = f"{of_step[0].mean:.0f} nodes, {size_text(mean_size(of_step[0]))}"
     yield from table(("", "tree", "chain"), [
+        ("what a range keeps at first, mean", first, first),
         ("merges", f"{RANGES - 1:,}", f"{RANGES - 1:,}"), ("merges on the longest path", steps, f"{RANGES - 1:,}"),
         ("bytes moved, as JSON", size_text(tree), size_text(chain)),
         ("the longest range that is moved, mean", size_text(mean_size(of_step[-2])), size_text(mean_size(of_step[0]))),
@@ -362,7 +364,7 @@ def hostile_table(arguments: argparse.Namespace) -> Iterator[str]:
     yield from table(("", "figure"), rows)
     yield ""
     limits: list[Sequence[object]] = []
-    for count in (1000, 16_384, 1_000_000, part):
+    for count in (10**3, 10**4, 10**6, 10**8):
         it = simulated(count, arguments.samples)
         limit = 2 * it.high
         limits.append((f"{count:,}", f"{it.mean:.0f}", it.high, it.greatest, limit,
