@@ -159,7 +159,7 @@ int main(int count, char **names)
         {"roots", test_roots},           {"subtrees", test_subtrees}, {"merging", test_merging},
         {"texts", test_texts},           {"flat_lists", test_flat_lists}, {"sessions", test_sessions},
         {"handles", test_handles},       {"rooms", test_rooms},       {"empty_slices", test_empty_slices},
-        {"refusals", test_refusals},     {"threads", test_threads},
+        {"refusals", test_refusals},     {"threads", test_threads},   {"vectors", test_vectors},
     };
     for (size_t i = 0; i < LENGTH(tests); i++) {
         bool wanted = count < 2;

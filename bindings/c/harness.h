@@ -62,5 +62,6 @@ void test_rooms(void);
 void test_empty_slices(void);
 void test_refusals(void);
 void test_threads(void);
+void test_vectors(void);
 
 #endif

@@ -1,0 +1,187 @@
+"""The JSON Schemas of the files of vectors."""
+
+from __future__ import annotations
+
+import json
+from typing import Any
+
+Schema = dict[str, Any]
+
+HASH: Schema = {"type": "string", "pattern": "^[0-9a-f]{64}$", "description": "the hex text of a hash"}
+HEX: Schema = {"type": "string", "pattern": "^([0-9a-f]{2})*$", "description": "bytes in order, in hex"}
+KEY: Schema = {"type": "string", "pattern": "^[0-9a-f]{64}$", "description": "32 bytes in order, in hex"}
+NUMBER: Schema = {"type": "string", "pattern": "^(0|[1-9][0-9]{0,19})$", "description": "a whole number below 2^64"}
+COUNT: Schema = {"type": "integer", "minimum": 0}
+TRUTH: Schema = {"type": "boolean"}
+TEXT: Schema = {"type": "string"}
+OPTIONAL_HASH: Schema = {"anyOf": [{"$ref": "#/$defs/hash"}, {"type": "null"}]}
+
+
+def one_of(*values: str) -> Schema:
+    """One of some strings."""
+    return {"enum": list(values)}
+
+
+def array(items: Schema, **more: Any) -> Schema:
+    """An array of such items."""
+    return {"type": "array", "items": items, **more}
+
+
+def record(needed: dict[str, Schema], optional: dict[str, Schema] | None = None) -> Schema:
+    """An object with these members and no others."""
+    return {"type": "object", "properties": {**needed, **(optional or {})}, "required": list(needed),
+            "additionalProperties": False}
+
+
+def ref(name: str) -> Schema:
+    """A definition of the same schema."""
+    return {"$ref": f"#/$defs/{name}"}
+
+
+NODE = record({"hash": ref("hash"), "size": ref("number")})
+LIST: Schema = {"oneOf": [
+    record({"pattern": {"type": "string", "pattern": "^[.|]*$"}}),
+    record({"drawn": record({"firstSeed": ref("number"), "count": COUNT})}),
+    record({"seeds": array(ref("number"))}),
+    record({"nodes": array(NODE)}),
+]}
+LEVELS = array(array(COUNT, minItems=2, maxItems=2), minItems=1)
+SUBTREE = {"levels": ref("levels"), "size": ref("number"), "finalHash": OPTIONAL_HASH, "jsonHash": ref("hash")}
+RANGE = record({"list": ref("list"), "atStart": TRUTH, "atEnd": TRUTH})
+MARKS = {"atStart": TRUTH, "atEnd": TRUTH}
+DEFINITIONS: Schema = {"hash": HASH, "number": NUMBER, "key": KEY, "list": LIST, "levels": LEVELS, "range": RANGE,
+                       "places": {"anyOf": [COUNT, array(ref("places"), minItems=2, maxItems=2)]}}
+
+
+def test(needed: dict[str, Schema], optional: dict[str, Schema] | None = None) -> Schema:
+    """A test: its number, comment, flags and result, and what its type has."""
+    common: dict[str, Schema] = {"tcId": {"type": "integer", "minimum": 1}, "comment": TEXT, "flags": array(TEXT),
+                                 "result": one_of("valid", "invalid")}
+    return record({**common, **needed}, optional)
+
+
+def valid_or_invalid(common: dict[str, Schema], answer: dict[str, Schema], refusal: dict[str, Schema],
+                     optional: dict[str, Schema] | None = None) -> Schema:
+    """A test that has an answer where it is valid, and a refusal where it isn't."""
+    good = test({**common, "result": one_of("valid"), **answer}, optional)
+    bad = test({**common, "result": one_of("invalid"), **refusal})
+    return {"oneOf": [good, bad]}
+
+
+def group(type_: str, tests: Schema, fields: dict[str, Schema] | None = None) -> Schema:
+    """A group of tests of one type."""
+    return record({"type": one_of(type_), "comment": TEXT, **(fields or {}), "tests": array(tests, minItems=1)})
+
+
+def hashes() -> list[Schema]:
+    """The groups of hashes.json."""
+    return [
+        group("MessageHash", test({"length": COUNT, "hash": ref("hash"), "digestBytes": ref("key")}),
+              {"keyName": one_of("data", "internal", "given"), "keyBytes": ref("key")}),
+        group("PieceHash", test({"pieces": array(COUNT), "hash": ref("hash")})),
+        group("Key", test({"name": one_of("data", "internal"), "keyBytes": ref("key")})),
+        group("RandomFromSeed", test({"seed": ref("number"), "hash": ref("hash")})),
+        group("Hmac", test({"hash": ref("hash"), "key": ref("hash"), "hmac": ref("hash")})),
+    ]
+
+
+def texts() -> list[Schema]:
+    """The groups of texts.json."""
+    remainder = record({"divisor": ref("number"), "remainder": ref("number")})
+    base64: Schema = {"type": "string", "pattern": "^[-_0-9A-Za-z]{43}$"}
+    forms = {"words": array(ref("number"), minItems=4, maxItems=4), "hashBytes": ref("key"), "hex": ref("hash"),
+             "base64": base64, "naturalCut": TRUTH, "remainders": array(remainder)}
+    read = valid_or_invalid({"text": TEXT}, {"hash": ref("hash")}, {})
+    return [group("HashForms", test(forms)), group("HexText", read), group("Base64Text", read),
+            group("HashOrder", test({"first": ref("hash"), "second": ref("hash"), "order": {"enum": [-1, 0, 1]}}))]
+
+
+def roots() -> list[Schema]:
+    """The groups of roots.json."""
+    salted = array(record({"saltBytes": ref("key"), "fileHash": ref("hash")}))
+    root = valid_or_invalid({"list": ref("list")}, {"root": ref("hash"), "fileHash": ref("hash")},
+                            {"error": one_of("SizeOverflow")}, {"salted": salted})
+    step = record({"groups": array(COUNT), "parents": array(NODE)})
+    return [group("Root", root),
+            group("Parent", test({"list": ref("list"), "text": TEXT, "hash": ref("hash"), "size": ref("number")})),
+            group("RootSteps", test({"list": ref("list"), "steps": array(step), "root": ref("hash")}))]
+
+
+def subtrees() -> list[Schema]:
+    """The groups of subtrees.json."""
+    point: Schema = {"anyOf": [COUNT, {"type": "null"}]}
+    subtree = valid_or_invalid({"list": ref("list"), **MARKS}, SUBTREE, {"error": one_of("SizeOverflow")}, {"json": TEXT})
+    return [group("StablePoints", test({"list": ref("list"), "first": point, "last": point})), group("Subtree", subtree)]
+
+
+def merges() -> list[Schema]:
+    """The groups of merges.json."""
+    merge = test({"list": ref("list"), "cut": COUNT, **MARKS, "parents": COUNT, **SUBTREE})
+    refused = test({"ranges": array(ref("range")), "error": one_of("InvalidArguments", "SizeOverflow")})
+    bracketing = test({"bracketing": ref("places"), "parents": array(COUNT)}, {"rustFinalHash": ref("hash")})
+    return [group("Merge", merge), group("MergeRefused", refused),
+            group("Bracketing", bracketing, {"ranges": array(ref("range")), **SUBTREE})]
+
+
+def subtree_json() -> list[Schema]:
+    """The groups of subtree_json.json."""
+    rule: Schema = {"type": "integer", "minimum": 1, "maximum": 13}
+    return [group("SubtreeJson", {"oneOf": [
+        test({"result": one_of("valid"), "text": TEXT}, {"written": TEXT}),
+        test({"result": one_of("invalid"), "text": TEXT, "error": one_of("NotJson")}),
+        test({"result": one_of("invalid"), "text": TEXT, "error": one_of("InvalidJson"), "rule": rule}),
+    ]})]
+
+
+def sessions() -> list[Schema]:
+    """The groups of sessions.json."""
+    def call(name: str, result: str, **fields: Schema) -> Schema:
+        return record({"call": one_of(name), "result": one_of(result), **fields})
+
+    run = record({"first": ref("number"), **SUBTREE})
+    calls: list[Schema] = [
+        call("put", "valid", first=ref("number"), list=ref("list"), newHashes=COUNT),
+        call("put", "invalid", first=ref("number"), list=ref("list"), fault=one_of("Overlap", "Positions", "Sizes")),
+        call("taken", "valid", position=ref("number"), taken=TRUTH),
+        call("runs", "valid", runs=array(run)),
+    ]
+    for name in ("root", "finish"):
+        calls.append(call(name, "valid", total=ref("number"), hash=ref("hash")))
+        calls.append(call(name, "invalid", total=ref("number"), fault=one_of("Gap")))
+    return [group("Session", test({"calls": array({"oneOf": calls})}))]
+
+
+SCHEMAS = {"hashes": hashes, "texts": texts, "roots": roots, "subtrees": subtrees, "merges": merges,
+           "subtree_json": subtree_json, "sessions": sessions}
+
+
+def schema(name: str) -> Schema:
+    """The schema of a file."""
+    groups = SCHEMAS[name]()
+    body = record({
+        "algorithm": TEXT, "version": {"type": "string", "pattern": "^[0-9]+[.][0-9]+[.][0-9]+$"},
+        "schema": one_of(f"schemas/{name}_schema.json"), "numberOfTests": COUNT, "header": array(TEXT),
+        "notes": {"type": "object", "additionalProperties": TEXT}, "testGroups": array({"oneOf": groups}, minItems=1)})
+    used = _used(groups)
+    definitions = {key: value for key, value in DEFINITIONS.items() if key in used}
+    return {"$schema": "https://json-schema.org/draft/2020-12/schema", "title": f"{name}.json", **body, "$defs": definitions}
+
+
+def _used(value: Any) -> set[str]:
+    """The definitions that a schema needs."""
+    if isinstance(value, list):
+        return {name for it in value for name in _used(it)}
+    if not isinstance(value, dict):
+        return set()
+    found = {name for it in value.values() for name in _used(it)}
+    if isinstance(value.get("$ref"), str):
+        name = value["$ref"].rsplit("/", 1)[1]
+        if name != "places":
+            found |= _used(DEFINITIONS[name])
+        found.add(name)
+    return found
+
+
+def text(name: str) -> str:
+    """The text of the schema of a file."""
+    return json.dumps(schema(name), indent=1) + "\n"
