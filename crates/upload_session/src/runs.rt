@@ -149,8 +149,8 @@ impl<C: ChunkRange> Runs<C> {
         Ok(())
     }
 
-    // Whether the range of the run that begins just after a range to be placed is the longest of those to be joined, so that
-    // it is changed in place. It gets an entry at the first position, where no run is then.
+    // Whether a range is placed in the range of the run that begins just after it: whether that keeps more nodes than the run
+    // that ends just before, or than the range itself where there is none.
     fn next_stays(&self, first: u64, previous: Option<u64>, made: &C, after: u64) -> bool
         ensures next { IsTrue result → IsSome (lookup (is_at (nat_cmp after)) self.now) }
         ensures free { IsTrue result → IfNone previous (lookup (is_at (nat_cmp first)) self.now ≡ None) }
@@ -222,8 +222,8 @@ impl<C: ChunkRange> Runs<C> {
         Ok(())
     }
 
-    // Puts a range, which has what the run of a first position keeps, before the run of another one. This run is changed in
-    // place, and takes the place of that one.
+    // Puts a range before that of the run at `after`, in place. This run then stands at `begin`, in the place of the run
+    // there, whose chunks are those that `front` begins with.
     fn put_before_next(&mut self, begin: u64, front: C, after: u64) -> Result<(), CoreError>
         ensures put { OnOk result ((others : List (PlacedRun C)) (last next : Run C) (back : List (PlacedRun C)) →
             self.old ≡ others ++ (begin, last) ∷ (after, next) ∷ back → AreAround begin after others back →
@@ -241,8 +241,8 @@ impl<C: ChunkRange> Runs<C> {
         Ok(())
     }
 
-    // Puts a range that begins at a position before the run of another one, which is changed in place and gets an entry at
-    // that position. What takes memory beside that is done before.
+    // Puts a range before that of the run at `after`, in place. This run then stands at `first`. The entry there is made
+    // before, since it takes memory, and is taken out again where the run can't be changed.
     fn begin_before_next(&mut self, first: u64, made: C, after: u64) -> Result<(), CoreError>
         requires { lookup (is_at (nat_cmp first)) self.old ≡ None }
         ensures put { OnOk result ((others : List (PlacedRun C)) (next : Run C) (back : List (PlacedRun C)) →
@@ -261,7 +261,7 @@ impl<C: ChunkRange> Runs<C> {
         }
     }
 
-    // A range with what the run of a first position keeps before it.
+    // A range of the chunks of the run at `begin` and then of those of `made`.
     fn with_previous(&self, begin: u64, made: &C) -> Result<C, CoreError>
         ensures stands { IfOk result (λ front. (last : Run C) →
             lookup (is_at (nat_cmp begin)) self.now ≡ Some last → (a b : List Node) →
@@ -277,7 +277,7 @@ impl<C: ChunkRange> Runs<C> {
         Ok(front)
     }
 
-    // What is kept of a range before a position, and of the run that begins there, where there is one.
+    // A run of the chunks of `made` and then of those of the run at `after`, where there is one.
     fn with_next(&self, made: C, after: u64) -> Result<Run<C>, CoreError>
         ensures { IfOk result (λ run. (chunks : List Node) → C.stands made chunks →
             C.start made ≡ false → C.end made ≡ false → IsWithNext C.ChunkRange self.now after chunks run) }
