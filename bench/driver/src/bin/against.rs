@@ -1,6 +1,7 @@
 //! Runs the library and that of another commit in one process on the same nodes, one after the other in turn, and
 //! prints for each task the best time of either and their ratio.
 
+use driver::xet_bench::{xet_bench_from_chunks, xet_bench_joining, xet_bench_json};
 use std::hint::black_box;
 use std::time::Instant;
 
@@ -9,9 +10,6 @@ type Joining = unsafe extern "C" fn(*const u64, usize, usize, usize, *mut u8, us
 type Json = unsafe extern "C" fn(*const u64, usize, usize) -> bool;
 
 extern "C" {
-    fn xet_bench_from_chunks(a: bool, n: *const u64, l: usize, b: bool, o: *mut u8, m: usize) -> bool;
-    fn xet_bench_joining(n: *const u64, l: usize, length: usize, turns: usize, o: *mut u8, m: usize) -> bool;
-    fn xet_bench_json(n: *const u64, l: usize, steps: usize) -> bool;
     fn before_from_chunks(a: bool, n: *const u64, l: usize, b: bool, o: *mut u8, m: usize) -> bool;
     fn before_joining(n: *const u64, l: usize, length: usize, turns: usize, o: *mut u8, m: usize) -> bool;
     fn before_json(n: *const u64, l: usize, steps: usize) -> bool;
@@ -25,6 +23,7 @@ const JOINS: usize = 20;
 fn from_chunks(call: FromChunks, nodes: &[u64], is_marked: bool) -> [u8; 32] {
     let mut out = [0; 32];
     let (start, len) = (nodes.as_ptr(), nodes.len());
+    // SAFETY: words of their count, and 32 bytes to write to.
     assert!(unsafe { call(is_marked, start, len, is_marked, out.as_mut_ptr(), 32) });
     out
 }
@@ -32,11 +31,13 @@ fn from_chunks(call: FromChunks, nodes: &[u64], is_marked: bool) -> [u8; 32] {
 // Joins ranges of 1000 nodes so many times.
 fn joining(call: Joining, nodes: &[u64], turns: usize) -> [u8; 32] {
     let mut out = [0; 32];
+    // SAFETY: words of their count, and 32 bytes to write to.
     assert!(unsafe { call(nodes.as_ptr(), nodes.len(), 1000, turns, out.as_mut_ptr(), 32) });
     out
 }
 
 fn json(call: Json, nodes: &[u64], steps: usize) -> [u8; 32] {
+    // SAFETY: words of their count.
     assert!(unsafe { call(nodes.as_ptr(), nodes.len(), steps) });
     [0; 32]
 }
