@@ -122,11 +122,12 @@ fn sorted(times: &Times) -> Times {
     sorted
 }
 
-// The median, the least and the greatest.
+// The median, the least and the greatest, in two digits at least.
 fn spread(ratios: &Times) -> String {
     let sorted = sorted(ratios);
     let [least, median, greatest] = [0, TURNS / 2, TURNS - 1].map(|i| sorted[i]);
-    format!("{median:.2} ({least:.2} to {greatest:.2})")
+    let places = if median < 0.1 { (1.0 - median.log10().floor()) as usize } else { 2 };
+    format!("{median:.places$} ({least:.places$} to {greatest:.places$})")
 }
 
 /// A time in three digits.

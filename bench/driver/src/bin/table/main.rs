@@ -1,6 +1,7 @@
 //! Prints one part of the tables; `bench/table` runs it.
 
 mod hashes;
+mod json;
 mod kept;
 mod merging;
 mod programs;

@@ -1,4 +1,4 @@
-//! Subtrees of adjacent ranges: making them, merging them, and their JSON texts.
+//! Subtrees of adjacent ranges: making them and merging them.
 
 use driver::drawn::Cuts;
 use driver::rows::{Row, Task, HEAD};
@@ -18,31 +18,44 @@ pub fn print() {
     {
         one_by_one(name, &crate::chunks(2, cuts, 1_000_000));
     }
-    json(&crate::chunks(3, Cuts::Nowhere, 100_000));
+    crate::json::print_rows();
 }
 
 fn open(chunks: &[Node]) -> MerkleHashSubtree {
     MerkleHashSubtree::from_chunks(false, black_box(chunks), false)
 }
 
+// Adjacent open ranges of so many chunks each, at most 64 pairs of them, since a merge takes what the chunks where the ranges
+// meet ask for.
+fn pairs(chunks: &[Node], count: usize) -> Vec<[MerkleHashSubtree; 2]> {
+    let both = chunks.chunks_exact(2 * count).take(64);
+    both.map(|both| [open(&both[..count]), open(&both[count..])]).collect()
+}
+
+// Merging the pairs, each in its turn.
+fn merging_pairs(pairs: &[[MerkleHashSubtree; 2]]) -> Task<'_> {
+    let mut turns = pairs.iter().cycle();
+    let make = move || {
+        let [front, back] = turns.next().expect("a pair of ranges");
+        (front.clone(), back)
+    };
+    Task::call_on(make, |(whole, back)| whole.merge_into(back).expect("adjacent ranges"))
+}
+
 // One merge of two open ranges, beside making the range of both.
 fn two_ranges(chunks: &[Node]) {
-    for (name, count) in [("10^3", 1_000), ("10^4", 10_000), ("10^5", 100_000), ("10^6", 1_000_000)] {
-        let both = &chunks[..2 * count];
-        let merge = |count: usize| {
-            let [front, back] = [chunks.get(..count)?, chunks.get(count..2 * count)?].map(open);
-            let make = move || front.clone();
-            Some(Task::call_on(make, move |whole| whole.merge_into(&back).expect("adjacent ranges")))
-        };
-        let (front, back) = both.split_at(count);
-        let mut whole = open(front);
-        whole.merge_into(&open(back)).expect("adjacent ranges");
+    let sizes = [("10^3", 1_000), ("10^4", 10_000), ("10^5", 100_000), ("10^6", 1_000_000)];
+    let pairs_of_sizes = sizes.map(|(_, count)| pairs(chunks, count));
+    for (i, (name, count)) in sizes.into_iter().enumerate() {
+        let (pairs, both) = (&pairs_of_sizes[i], &chunks[..2 * count]);
+        let mut whole = pairs[0][0].clone();
+        whole.merge_into(&pairs[0][1]).expect("adjacent ranges");
         assert_eq!(whole, open(both));
         let row = Row {
             name: format!("`merge_into`, {name} chunks each side"),
-            ours: merge(count).expect("so many chunks"),
+            ours: merging_pairs(pairs),
             peers: vec![("`from_chunks` of both", Task::call(|| open(both)))],
-            tenfold: merge(10 * count),
+            tenfold: pairs_of_sizes.get(i + 1).map(|pairs| merging_pairs(pairs)),
         };
         row.print();
     }
@@ -122,28 +135,4 @@ fn one_by_one(name: &str, chunks: &[Node]) {
     let (first, others) = made.split_first_mut().expect("a range");
     merge_from_the_left(first, others);
     assert_eq!(*first, whole);
-}
-
-// The JSON text of a range that keeps all its chunks, both ways, beside making the range.
-fn json(chunks: &[Node]) {
-    let count = chunks.len() / 10;
-    let [subtree, more] = [&chunks[..count], chunks].map(open);
-    let write = |it: &MerkleHashSubtree| it.to_json().expect("memory for the text");
-    let read = |text: &str| MerkleHashSubtree::from_json(text).expect("the text of a subtree");
-    let [text, more_text] = [&subtree, &more].map(write);
-    assert_eq!(read(&text), subtree);
-    let row = Row {
-        name: "`to_json`, 10^4 chunks without cuts".into(),
-        ours: Task::call(|| write(black_box(&subtree))),
-        peers: vec![("`from_chunks`", Task::call(|| open(&chunks[..count])))],
-        tenfold: Some(Task::call(|| write(black_box(&more)))),
-    };
-    row.print();
-    let row = Row {
-        name: "`from_json` of that text".into(),
-        ours: Task::call(|| read(black_box(&text))),
-        peers: vec![("`from_chunks`", Task::call(|| open(&chunks[..count])))],
-        tenfold: Some(Task::call(|| read(black_box(&more_text)))),
-    };
-    row.print();
 }

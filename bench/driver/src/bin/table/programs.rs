@@ -21,24 +21,29 @@ const CHUNK: usize = 64 << 10;
 pub fn print() {
     let folder = Folder::new();
     println!("{HEAD}");
-    let mut memory = Vec::new();
-    for (name, cuts) in [
-        ("drawn pairs", Cuts::Drawn),
-        ("pairs without cuts", Cuts::Nowhere),
-        ("pairs with cuts everywhere", Cuts::Everywhere),
-    ] {
-        let write = |count, text: &mut dyn Write| pairs(cuts, 0, count, text);
-        memory.push(xetroot(&folder, &format!("10^6 {name}"), 1_000_000, &write));
-    }
-    let write = |count, text: &mut dyn Write| shuffled(count, text);
-    memory.push(xetroot(&folder, "1000 ranges of 1000 pairs in drawn order, `@`", 1_000_000, &write));
-    memory.push(xetroot(&folder, "400 chunks of 64 KiB, `+`", 400, &chunks));
+    let drawn = |count, text: &mut dyn Write| pairs(Cuts::Drawn, 0, count, text);
+    let without = |count, text: &mut dyn Write| pairs(Cuts::Nowhere, 0, count, text);
+    let everywhere = |count, text: &mut dyn Write| pairs(Cuts::Everywhere, 0, count, text);
+    let texts: [Text; 7] = [
+        ("10^6 drawn pairs", 1_000_000, &drawn),
+        ("10^6 pairs without cuts", 1_000_000, &without),
+        ("10^6 pairs with cuts everywhere", 1_000_000, &everywhere),
+        ("10^6 pairs without cuts, `--` after each", 1_000_000, &separated),
+        ("1000 ranges of 1000 pairs in drawn order, `@`", 1_000_000, &shuffled),
+        ("400 chunks of 64 KiB, `+`", 400, &chunks),
+        ("4000 chunks of 64 KiB, `+`", 4000, &chunks),
+    ];
+    // Of the last text ten times as much would be 2.6 GB.
+    let memory: Vec<String> = texts.iter().map(|text| xetroot(&folder, text, text.1 != 4000)).collect();
     for (name, count) in [("10^5", 100_000), ("10^6", 1_000_000)] {
         xetrange(&folder, name, count);
     }
     println!("\n| Text | KB that `xetroot` held | the peer | `xetroot`, ten times as much |\n|---|---|---|---|");
     memory.iter().for_each(|line| println!("{line}"));
 }
+
+// A name, how many pairs or chunks, and what writes so many.
+type Text<'a> = (&'a str, usize, &'a dyn Fn(usize, &mut dyn Write) -> io::Result<()>);
 
 // A folder for texts, which is removed at the end.
 struct Folder(PathBuf);
@@ -68,6 +73,14 @@ fn pairs(cuts: Cuts, seed: u64, count: usize, text: &mut dyn Write) -> io::Resul
     for (hash, size) in drawn::chunks(seed, cuts).take(count) {
         text.write_all(&plain::hex_digits(&hash))?;
         writeln!(text, " {size}")?;
+    }
+    Ok(())
+}
+
+fn separated(count: usize, text: &mut dyn Write) -> io::Result<()> {
+    for (hash, size) in drawn::chunks(0, Cuts::Nowhere).take(count) {
+        text.write_all(&plain::hex_digits(&hash))?;
+        writeln!(text, " {size}\n--")?;
     }
     Ok(())
 }
@@ -151,14 +164,9 @@ fn timed<'a>(program: &'a Path, text: &'a Path, most: &'a Cell<u64>) -> Task<'a>
 }
 
 // A row of `xetroot`, and the line of the memory.
-fn xetroot(
-    folder: &Folder,
-    name: &str,
-    count: usize,
-    write: &dyn Fn(usize, &mut dyn Write) -> io::Result<()>,
-) -> String {
+fn xetroot(folder: &Folder, &(name, count, write): &Text, grows: bool) -> String {
     let text = folder.text("text", |text| write(count, text));
-    let tenfold = folder.text("tenfold", |text| write(10 * count, text));
+    let tenfold = grows.then(|| folder.text("tenfold", |text| write(10 * count, text)));
     let program = named("XETROOT");
     let peer = std::env::current_exe().expect("this program").with_file_name("plain_root");
     assert_eq!(run(&program, &[], Some(&text)).lines, run(&peer, &[], Some(&text)).lines);
@@ -167,10 +175,11 @@ fn xetroot(
         name: format!("`xetroot`, {name}"),
         ours: timed(&program, &text, &ours),
         peers: vec![("`plain_root`", timed(&peer, &text, &theirs))],
-        tenfold: Some(timed(&program, &tenfold, &more)),
+        tenfold: tenfold.as_deref().map(|text| timed(&program, text, &more)),
     };
     row.print();
-    format!("| {name} | {} | {} | {} |", ours.get(), theirs.get(), more.get())
+    let more = if grows { more.get().to_string() } else { "-".into() };
+    format!("| {name} | {} | {} | {more} |", ours.get(), theirs.get())
 }
 
 // Four pieces of a text by four jobs at a time.
