@@ -43,11 +43,23 @@ pub fn hex_digits(hash: &Hash) -> [u8; 64] {
     digits
 }
 
-/// The hash of a hex text.
-pub fn from_hex(text: &[u8]) -> Option<Hash> {
+/// The hash of a hex text, by the crate `hex`.
+pub fn decoded(text: &str) -> Option<Hash> {
     let mut bytes = [0; 32];
     hex::decode_to_slice(text, &mut bytes).ok()?;
     Some(words(&bytes, u64::from_be_bytes))
+}
+
+/// The same by the standard library, which takes signs too.
+pub fn parsed(text: &str) -> Option<Hash> {
+    if text.len() != 64 {
+        return None;
+    }
+    let mut hash = [0; 4];
+    for (i, word) in hash.iter_mut().enumerate() {
+        *word = u64::from_str_radix(text.get(16 * i..16 * i + 16)?, 16).ok()?;
+    }
+    Some(hash)
 }
 
 fn words(bytes: &[u8; 32], word: fn([u8; 8]) -> u64) -> Hash {

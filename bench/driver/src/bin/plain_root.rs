@@ -41,9 +41,8 @@ impl Ranges {
 }
 
 fn pair(line: &[u8]) -> Option<Node> {
-    let hash = plain::from_hex(line.get(..64)?)?;
-    let size = std::str::from_utf8(line.get(64..)?).ok()?;
-    Some((hash, size.strip_prefix(' ')?.parse().ok()?))
+    let (hash, size) = std::str::from_utf8(line).ok()?.split_once(' ')?;
+    Some((plain::parsed(hash)?, size.parse().ok()?))
 }
 
 fn read(input: impl Read) -> Result<Vec<Node>, Box<dyn Error>> {

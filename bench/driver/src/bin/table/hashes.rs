@@ -64,14 +64,6 @@ fn encoded(hash: &MerkleHash) -> String {
     std::str::from_utf8(&plain::hex_digits(hash)).expect("hex digits are ASCII").to_owned()
 }
 
-fn parsed(text: &str) -> Option<plain::Hash> {
-    let mut hash = [0; 4];
-    for (i, word) in hash.iter_mut().enumerate() {
-        *word = u64::from_str_radix(text.get(16 * i..16 * i + 16)?, 16).ok()?;
-    }
-    Some(hash)
-}
-
 /// Hex texts of a thousand hashes both ways, each text a `String` of its own.
 pub fn print_hex() {
     let hashes: Vec<MerkleHash> = crate::chunks(1, Cuts::Drawn, 10_000).into_iter().map(|(hash, _)| hash).collect();
@@ -79,7 +71,7 @@ pub fn print_hex() {
     assert!(hashes.iter().map(formatted).eq(texts.iter().cloned()));
     assert!(hashes.iter().map(encoded).eq(texts.iter().cloned()));
     let is_read = |(text, hash): (&String, &MerkleHash)| {
-        parsed(text) == Some(**hash) && plain::from_hex(text.as_bytes()) == Some(**hash)
+        plain::decoded(text) == Some(**hash) && plain::parsed(text) == Some(**hash)
     };
     assert!(texts.iter().zip(&hashes).all(is_read));
     println!("{HEAD}");
@@ -107,8 +99,8 @@ pub fn print_hex() {
         name: "`from_hex` of 1000 texts".into(),
         ours: reading(1000, ours),
         peers: vec![
-            ("the crate `hex`", reading(1000, |text| plain::from_hex(text.as_bytes()))),
-            ("`from_str_radix`", reading(1000, parsed)),
+            ("the crate `hex`", reading(1000, plain::decoded)),
+            ("`from_str_radix`", reading(1000, plain::parsed)),
         ],
         tenfold: Some(reading(10_000, ours)),
     };

@@ -34,7 +34,7 @@ mod hex_text {
 
     pub fn deserialize<'de, D: Deserializer<'de>>(deserializer: D) -> Result<Hash, D::Error> {
         let text = <&str>::deserialize(deserializer)?;
-        plain::from_hex(text.as_bytes()).ok_or_else(|| D::Error::custom("no hex text of a hash"))
+        plain::parsed(text).ok_or_else(|| D::Error::custom("no hex text of a hash"))
     }
 }
 

@@ -128,16 +128,18 @@ fn sum_by_hash_map(words: &[u64]) -> u64 {
 // The proved map, and Rust's map with a hasher that hands word 0 on; both begin empty.
 fn map() {
     let mut draws = Draws::new(3);
-    let words: Vec<u64> = (0..4_000_000).map(|_| draws.word()).collect();
-    let some = &words[..words.len() / 10];
-    assert_eq!(xet_bench::sum_of_places(some), sum_by_hash_map(some));
-    let row = Row {
-        name: "`PassThroughHashMap`, 10^5 hashes inserted and looked up".into(),
-        ours: Task::call(|| xet_bench::sum_of_places(black_box(some))),
-        peers: vec![("`HashMap`", Task::call(|| sum_by_hash_map(black_box(some))))],
-        tenfold: Some(Task::call(|| xet_bench::sum_of_places(black_box(&words)))),
-    };
-    row.print();
+    let words: Vec<u64> = (0..40_000_000).map(|_| draws.word()).collect();
+    for (name, count) in [("10^5", 100_000), ("10^6", 1_000_000)] {
+        let [some, more] = [&words[..4 * count], &words[..40 * count]];
+        assert_eq!(xet_bench::sum_of_places(some), sum_by_hash_map(some));
+        let row = Row {
+            name: format!("`PassThroughHashMap`, {name} hashes inserted and looked up"),
+            ours: Task::call(|| xet_bench::sum_of_places(black_box(some))),
+            peers: vec![("`HashMap`", Task::call(|| sum_by_hash_map(black_box(some))))],
+            tenfold: Some(Task::call(|| xet_bench::sum_of_places(black_box(more)))),
+        };
+        row.print();
+    }
 }
 
 // The bytes that are allocated, as the C library's allocator counts them.
