@@ -76,8 +76,11 @@ pub struct Row<'a> {
 }
 
 impl Row<'_> {
-    /// Runs all of it and prints the lines.
+    /// Runs all of it and prints the lines, where the name has the text in `ROWS`, which is for single rows.
     pub fn print(self) {
+        if std::env::var("ROWS").is_ok_and(|text| !self.name.contains(&text)) {
+            return;
+        }
         let (names, peers): (Vec<_>, Vec<_>) = self.peers.into_iter().unzip();
         let tasks: Vec<Task> = [self.ours].into_iter().chain(peers).chain(self.tenfold).collect();
         let times = times_in_turn(tasks);

@@ -24,21 +24,28 @@ pub fn print() {
     let drawn = |count, text: &mut dyn Write| pairs(Cuts::Drawn, 0, count, text);
     let without = |count, text: &mut dyn Write| pairs(Cuts::Nowhere, 0, count, text);
     let everywhere = |count, text: &mut dyn Write| pairs(Cuts::Everywhere, 0, count, text);
-    let texts: [Text; 7] = [
+    let texts: [Text; 13] = [
+        ("10^5 drawn pairs", 100_000, &drawn),
         ("10^6 drawn pairs", 1_000_000, &drawn),
+        ("10^7 drawn pairs", 10_000_000, &drawn),
+        ("10^5 pairs without cuts", 100_000, &without),
         ("10^6 pairs without cuts", 1_000_000, &without),
+        ("10^5 pairs with cuts everywhere", 100_000, &everywhere),
         ("10^6 pairs with cuts everywhere", 1_000_000, &everywhere),
+        ("10^5 pairs without cuts, `--` after each", 100_000, &separated),
         ("10^6 pairs without cuts, `--` after each", 1_000_000, &separated),
+        ("100 ranges of 1000 pairs in drawn order, `@`", 100_000, &shuffled),
         ("1000 ranges of 1000 pairs in drawn order, `@`", 1_000_000, &shuffled),
         ("400 chunks of 64 KiB, `+`", 400, &chunks),
         ("4000 chunks of 64 KiB, `+`", 4000, &chunks),
     ];
-    // Of the last text ten times as much would be 2.6 GB.
-    let memory: Vec<String> = texts.iter().map(|text| xetroot(&folder, text, text.1 != 4000)).collect();
-    for (name, count) in [("10^5", 100_000), ("10^6", 1_000_000)] {
-        xetrange(&folder, name, count);
-    }
-    println!("\n| Text | KB that `xetroot` held | the peer | `xetroot`, ten times as much |\n|---|---|---|---|");
+    // Ten times as much where there is a row for it.
+    let grows = |i: usize| texts.get(i + 1).is_some_and(|next| next.1 == 10 * texts[i].1);
+    let lines = texts.iter().enumerate().map(|(i, text)| xetroot(&folder, text, grows(i)));
+    let memory: Vec<String> = lines.collect();
+    xetrange(&folder, "10^5", 100_000);
+    xetrange(&folder, "10^6", 1_000_000);
+    println!("\n| Text | KB that `xetroot` held | the peer |\n|---|---|---|");
     memory.iter().for_each(|line| println!("{line}"));
 }
 
@@ -170,16 +177,15 @@ fn xetroot(folder: &Folder, &(name, count, write): &Text, grows: bool) -> String
     let program = named("XETROOT");
     let peer = std::env::current_exe().expect("this program").with_file_name("plain_root");
     assert_eq!(run(&program, &[], Some(&text)).lines, run(&peer, &[], Some(&text)).lines);
-    let [ours, theirs, more] = [0; 3].map(Cell::new);
+    let [ours, theirs, unused] = [0; 3].map(Cell::new);
     let row = Row {
         name: format!("`xetroot`, {name}"),
         ours: timed(&program, &text, &ours),
         peers: vec![("`plain_root`", timed(&peer, &text, &theirs))],
-        tenfold: tenfold.as_deref().map(|text| timed(&program, text, &more)),
+        tenfold: tenfold.as_deref().map(|text| timed(&program, text, &unused)),
     };
     row.print();
-    let more = if grows { more.get().to_string() } else { "-".into() };
-    format!("| {name} | {} | {} | {more} |", ours.get(), theirs.get())
+    format!("| {name} | {} | {} |", ours.get(), theirs.get())
 }
 
 // Four pieces of a text by four jobs at a time.
@@ -190,23 +196,25 @@ fn four_jobs(folder: &Folder, text: &Path) -> Run {
     run(&named("LOCAL"), &[text, "4", results, "-j4"], None)
 }
 
-// Rows of `xetrange` by four processes, by the clock and by processor time.
+// Rows of `xetrange` by four processes: all their processor time, and the clock.
 fn xetrange(folder: &Folder, name: &str, count: usize) {
     let write = |count: usize| move |text: &mut dyn Write| pairs(Cuts::Drawn, 0, count, text);
     let text = folder.text("text", write(count));
     let tenfold = folder.text("tenfold", write(10 * count));
     let program = named("XETROOT");
     assert_eq!(four_jobs(folder, &text).lines, run(&program, &[], Some(&text)).lines);
-    for (what, seconds) in
-        [("by the clock", (|run| run.clock) as fn(Run) -> f64), ("processor time", |run| run.processor)]
-    {
-        let ours = |text: PathBuf| Task::told(move || seconds(four_jobs(folder, &text)));
-        let row = Row {
-            name: format!("`xetrange`, 4 processes, {name} drawn pairs, {what}"),
-            ours: ours(text.clone()),
-            peers: vec![("`xetroot`", Task::told(|| seconds(run(&program, &[], Some(&text)))))],
-            tenfold: Some(ours(tenfold.clone())),
-        };
-        row.print();
-    }
+    let row = Row {
+        name: format!("`xetrange`, 4 processes, {name} drawn pairs"),
+        ours: Task::told(|| four_jobs(folder, &text).processor),
+        peers: vec![("`xetroot`", Task::told(|| run(&program, &[], Some(&text)).processor))],
+        tenfold: Some(Task::told(|| four_jobs(folder, &tenfold).processor)),
+    };
+    row.print();
+    let row = Row {
+        name: format!("`xetrange`, 4 processes, {name} drawn pairs, by the clock"),
+        ours: Task::told(|| four_jobs(folder, &text).clock),
+        peers: vec![("`xetroot`", Task::told(|| run(&program, &[], Some(&text)).clock))],
+        tenfold: None,
+    };
+    row.print();
 }
