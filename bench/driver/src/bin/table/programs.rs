@@ -181,7 +181,7 @@ fn xetroot(folder: &Folder, &(name, count, write): &Text, grows: bool) -> String
     let row = Row {
         name: format!("`xetroot`, {name}"),
         ours: timed(&program, &text, &ours),
-        peers: vec![("`plain_root`", timed(&peer, &text, &theirs))],
+        peers: vec![("a plain program", timed(&peer, &text, &theirs))],
         tenfold: tenfold.as_deref().map(|text| timed(&program, text, &unused)),
     };
     row.print();
