@@ -24,7 +24,8 @@ fn processor_seconds() -> f64 {
     time.tv_sec as f64 + time.tv_nsec as f64 / 1e9
 }
 
-fn seconds_of(run: impl FnOnce()) -> f64 {
+/// What a run takes of it, in seconds.
+pub fn seconds_of(run: impl FnOnce()) -> f64 {
     let start = processor_seconds();
     run();
     processor_seconds() - start

@@ -1,9 +1,9 @@
 //! Runs the library and that of another commit in one process on the same nodes, one after the other in turn, and
 //! prints for each task the best time of either and their ratio.
 
+use driver::rows::seconds_of;
 use driver::xet_bench::{xet_bench_from_chunks, xet_bench_joining, xet_bench_json};
 use std::hint::black_box;
-use std::time::Instant;
 
 type FromChunks = unsafe extern "C" fn(bool, *const u64, usize, bool, *mut u8, usize) -> bool;
 type Joining = unsafe extern "C" fn(*const u64, usize, usize, usize, *mut u8, usize) -> bool;
@@ -47,9 +47,9 @@ fn best(steps: usize, mut after: impl FnMut(usize) -> [u8; 32], mut before: impl
     assert_eq!(after(steps), before(steps));
     let mut best = [[f64::MAX; 2]; 2];
     let time = |best: &mut f64, task: &mut dyn FnMut(usize) -> [u8; 32], steps: usize| {
-        let start = Instant::now();
-        black_box(task(steps));
-        *best = best.min(start.elapsed().as_secs_f64());
+        *best = best.min(seconds_of(|| {
+            black_box(task(steps));
+        }));
     };
     for _ in 0..TURNS {
         for (i, less) in [(0, 0), (1, 1)] {

@@ -3,9 +3,9 @@
 
 use driver::drawn::{self, Cuts};
 use driver::plain::Node;
+use driver::rows::seconds_of;
 use driver::xet_bench::{xet_bench_from_chunks, xet_bench_xorb_hash};
 use std::hint::black_box;
-use std::time::Instant;
 use yurewha::merklehash::{xorb_hash, MerkleHash, MerkleHashSubtree};
 
 const TURNS: usize = 25;
@@ -25,11 +25,8 @@ fn best<const N: usize>(count: usize, mut tasks: [&mut dyn FnMut(); N]) -> [f64;
     let mut best = [f64::MAX; N];
     for _ in 0..TURNS {
         for (best, task) in best.iter_mut().zip(tasks.iter_mut()) {
-            let start = Instant::now();
-            for _ in 0..count {
-                task();
-            }
-            *best = best.min(start.elapsed().as_secs_f64() * 1e9 / count as f64);
+            let seconds = seconds_of(|| (0..count).for_each(|_| task()));
+            *best = best.min(seconds * 1e9 / count as f64);
         }
     }
     best
