@@ -1,17 +1,15 @@
 //! Runs the library and that of another commit in one process on the same nodes, one after the other in turn, and
 //! prints for each task the best time of either and their ratio.
 
+use driver::rows::seconds_of;
+use driver::xet_bench::{xet_bench_from_chunks, xet_bench_joining, xet_bench_json};
 use std::hint::black_box;
-use std::time::Instant;
 
 type FromChunks = unsafe extern "C" fn(bool, *const u64, usize, bool, *mut u8, usize) -> bool;
 type Joining = unsafe extern "C" fn(*const u64, usize, usize, usize, *mut u8, usize) -> bool;
 type Json = unsafe extern "C" fn(*const u64, usize, usize) -> bool;
 
 extern "C" {
-    fn xet_bench_from_chunks(a: bool, n: *const u64, l: usize, b: bool, o: *mut u8, m: usize) -> bool;
-    fn xet_bench_joining(n: *const u64, l: usize, length: usize, turns: usize, o: *mut u8, m: usize) -> bool;
-    fn xet_bench_json(n: *const u64, l: usize, steps: usize) -> bool;
     fn before_from_chunks(a: bool, n: *const u64, l: usize, b: bool, o: *mut u8, m: usize) -> bool;
     fn before_joining(n: *const u64, l: usize, length: usize, turns: usize, o: *mut u8, m: usize) -> bool;
     fn before_json(n: *const u64, l: usize, steps: usize) -> bool;
@@ -25,6 +23,7 @@ const JOINS: usize = 20;
 fn from_chunks(call: FromChunks, nodes: &[u64], is_marked: bool) -> [u8; 32] {
     let mut out = [0; 32];
     let (start, len) = (nodes.as_ptr(), nodes.len());
+    // SAFETY: words of their count, and 32 bytes to write to.
     assert!(unsafe { call(is_marked, start, len, is_marked, out.as_mut_ptr(), 32) });
     out
 }
@@ -32,11 +31,13 @@ fn from_chunks(call: FromChunks, nodes: &[u64], is_marked: bool) -> [u8; 32] {
 // Joins ranges of 1000 nodes so many times.
 fn joining(call: Joining, nodes: &[u64], turns: usize) -> [u8; 32] {
     let mut out = [0; 32];
+    // SAFETY: words of their count, and 32 bytes to write to.
     assert!(unsafe { call(nodes.as_ptr(), nodes.len(), 1000, turns, out.as_mut_ptr(), 32) });
     out
 }
 
 fn json(call: Json, nodes: &[u64], steps: usize) -> [u8; 32] {
+    // SAFETY: words of their count.
     assert!(unsafe { call(nodes.as_ptr(), nodes.len(), steps) });
     [0; 32]
 }
@@ -46,9 +47,9 @@ fn best(steps: usize, mut after: impl FnMut(usize) -> [u8; 32], mut before: impl
     assert_eq!(after(steps), before(steps));
     let mut best = [[f64::MAX; 2]; 2];
     let time = |best: &mut f64, task: &mut dyn FnMut(usize) -> [u8; 32], steps: usize| {
-        let start = Instant::now();
-        black_box(task(steps));
-        *best = best.min(start.elapsed().as_secs_f64());
+        *best = best.min(seconds_of(|| {
+            black_box(task(steps));
+        }));
     };
     for _ in 0..TURNS {
         for (i, less) in [(0, 0), (1, 1)] {

@@ -1,0 +1,108 @@
+//! Hashes of chunks, and the hex texts of hashes.
+
+use driver::drawn::Cuts;
+use driver::plain;
+use driver::rows::{Row, Task, HEAD};
+use std::hint::black_box;
+use yurewha::merklehash::blake3::Hasher;
+use yurewha::merklehash::{compute_data_hash, MerkleHash};
+
+const PEER: &str = if cfg!(feature = "portable") { "`blake3`, no SIMD" } else { "`blake3`, SIMD" };
+
+const LENGTHS: [(&str, usize); 7] = [
+    ("0", 0),
+    ("64 B", 64),
+    ("316 B", 316),
+    ("1 KiB", 1024),
+    ("8 KiB", 8 << 10),
+    ("64 KiB", 64 << 10),
+    ("1 MiB", 1 << 20),
+];
+
+fn in_pieces(chunk: &[u8], length: usize) -> MerkleHash {
+    let mut hasher = Hasher::new_data();
+    for piece in chunk.chunks(length) {
+        hasher.update(piece).expect("a message below 2^64 bytes");
+    }
+    hasher.finalize()
+}
+
+/// Hashes of one message, whole and in pieces, beside the crate `blake3`.
+pub fn print_hashes() {
+    let bytes: Vec<u8> = (0..10usize << 20).map(|i| (i % 251) as u8).collect();
+    println!("{HEAD}");
+    for (name, length) in LENGTHS {
+        let message = &bytes[..length];
+        let tenfold = &bytes[..10 * length];
+        assert_eq!(*compute_data_hash(message), plain::data_hash(message));
+        let row = Row {
+            name: format!("`compute_data_hash`, {name}"),
+            ours: Task::call(|| compute_data_hash(black_box(message))),
+            peers: vec![(PEER, Task::call(|| plain::data_hash(black_box(message))))],
+            tenfold: (length > 0).then(|| Task::call(|| compute_data_hash(black_box(tenfold)))),
+        };
+        row.print();
+    }
+    let message = &bytes[..1 << 20];
+    for (name, length) in [("100 B", 100), ("64 KiB", 64 << 10)] {
+        assert_eq!(*in_pieces(message, length), plain::data_hash(message));
+        let row = Row {
+            name: format!("`update`, 1 MiB in pieces of {name}"),
+            ours: Task::call(|| in_pieces(black_box(message), length)),
+            peers: vec![(PEER, Task::call(|| plain::data_hash_in_pieces(black_box(message), length)))],
+            tenfold: Some(Task::call(|| in_pieces(black_box(&bytes), length))),
+        };
+        row.print();
+    }
+}
+
+fn formatted(hash: &MerkleHash) -> String {
+    format!("{:016x}{:016x}{:016x}{:016x}", hash[0], hash[1], hash[2], hash[3])
+}
+
+fn encoded(hash: &MerkleHash) -> String {
+    std::str::from_utf8(&plain::hex_digits(hash)).expect("hex digits are ASCII").to_owned()
+}
+
+/// Hex texts of a thousand hashes both ways, each text a `String` of its own.
+pub fn print_hex() {
+    let hashes: Vec<MerkleHash> = crate::chunks(1, Cuts::Drawn, 10_000).into_iter().map(|(hash, _)| hash).collect();
+    let texts: Vec<String> = hashes.iter().map(MerkleHash::hex).collect();
+    assert!(hashes.iter().map(formatted).eq(texts.iter().cloned()));
+    assert!(hashes.iter().map(encoded).eq(texts.iter().cloned()));
+    let is_read = |(text, hash): (&String, &MerkleHash)| {
+        plain::decoded(text) == Some(**hash) && plain::parsed(text) == Some(**hash)
+    };
+    assert!(texts.iter().zip(&hashes).all(is_read));
+    println!("{HEAD}");
+    let writing = |count: usize, hex: fn(&MerkleHash) -> String| {
+        let hashes = &hashes[..count];
+        Task::call(move || hashes.iter().for_each(|hash| drop(black_box(hex(black_box(hash))))))
+    };
+    let row = Row {
+        name: "`hex` of 1000 hashes".into(),
+        ours: writing(1000, MerkleHash::hex),
+        peers: vec![("the crate `hex`", writing(1000, encoded)), ("`format!`", writing(1000, formatted))],
+        tenfold: Some(writing(10_000, MerkleHash::hex)),
+    };
+    row.print();
+    let reading = |count: usize, read: fn(&str) -> Option<plain::Hash>| {
+        let texts = &texts[..count];
+        Task::call(move || {
+            for text in texts {
+                black_box(read(black_box(text)).expect("hex digits"));
+            }
+        })
+    };
+    let ours: fn(&str) -> Option<plain::Hash> = |text| Some(*MerkleHash::from_hex(text).ok()?);
+    let row = Row {
+        name: "`from_hex` of 1000 texts".into(),
+        ours: reading(1000, ours),
+        peers: vec![
+            ("the crate `hex`", reading(1000, plain::decoded)),
+            ("`from_str_radix`", reading(1000, plain::parsed)),
+        ],
+        tenfold: Some(reading(10_000, ours)),
+    };
+    row.print();
+}

@@ -1,0 +1,6 @@
+//! What the programs of the benchmarks share.
+
+pub mod drawn;
+pub mod plain;
+pub mod rows;
+pub mod xet_bench;
