@@ -25,6 +25,77 @@ std::vector<std::pair<uint64_t, uint64_t>> counts_of(const second::Subtree &subt
 
 uint64_t size_of(const Range &range) { return *second::total_size(range.subtree); }
 
+/* What a merge of adjacent ranges should answer, and make: its levels are known where each range has a list. */
+struct Merging {
+    yurewha_status status = YUREWHA_DONE;
+    Range merged = {{true, true, {}}, second::Nodes()};
+    uint64_t size = 0;
+    bool is_too_long() const { return merged.list && merged.list->size() > LONGEST_LIST; }
+};
+
+Merging merging_of(const std::vector<const std::optional<Range> *> &ranges)
+{
+    Merging found;
+    std::optional<uint64_t> size = 0;
+    bool has_mark_between = false;
+    for (size_t i = 0; i < ranges.size(); i++) {
+        if (!*ranges[i])
+            return {YUREWHA_EMPTY_HANDLE, {}, 0};
+        const Range &range = **ranges[i];
+        has_mark_between |= (i > 0 && range.subtree.at_start) || (i + 1 < ranges.size() && range.subtree.at_end);
+        size = second::sum(size, size_of(range));
+        std::optional<second::Nodes> &list = found.merged.list;
+        list = list && range.list ? std::optional(second::joined(*list, *range.list)) : std::nullopt;
+    }
+    if (has_mark_between || !size)
+        return {has_mark_between ? YUREWHA_ARGUMENTS : YUREWHA_SIZES, {}, 0};
+    found.size = *size;
+    second::Subtree &subtree = found.merged.subtree;
+    subtree.at_start = ranges.empty() || (*ranges.front())->subtree.at_start;
+    subtree.at_end = ranges.empty() || (*ranges.back())->subtree.at_end;
+    if (found.merged.list && !found.is_too_long())
+        subtree = second::canonical(*found.merged.list, subtree.at_start, subtree.at_end);
+    return found;
+}
+
+/* How many parents a merge hashed: of lists it is known, and it is bounded for all. */
+void compare_parents(const Range &front, const Range &back, const Range &merged, uint64_t parents)
+{
+    seen(PARENTS, parents);
+    const size_t nodes = second::node_count(front.subtree) + second::node_count(back.subtree);
+    EXPECT(2 * parents <= nodes + 2 * merged.subtree.levels.size());
+    const bool at_start = front.subtree.at_start, at_end = back.subtree.at_end;
+    if (merged.list)
+        EXPECT(parents == second::work(*merged.list, at_start, at_end) - second::work(*front.list, at_start, false)
+                              - second::work(*back.list, false, at_end));
+}
+
+/* The marks and flat lists of a subtree, with some changes. */
+struct FlatLists {
+    bool at_start, at_end;
+    std::vector<std::pair<uint64_t, uint64_t>> counts;
+    second::Nodes nodes;
+
+    void change(Input &input)
+    {
+        const uint8_t kind = input.byte();
+        const size_t where = input.byte();
+        const uint64_t more = kind / 6;
+        if (kind % 6 == 0)
+            (kind & 8 ? at_start : at_end) ^= true;
+        else if (kind % 6 == 1 && !counts.empty())
+            (kind & 8 ? counts[where % counts.size()].first : counts[where % counts.size()].second) += kind & 16 ? 1 : -1ull;
+        else if (kind % 6 == 2 && !nodes.empty())
+            nodes[where % nodes.size()].hash[3] = more;
+        else if (kind % 6 == 3)
+            nodes.insert(nodes.begin() + static_cast<ptrdiff_t>(where % (nodes.size() + 1)), {{where, 0, 0, more}, kind});
+        else if (kind % 6 == 4 && !nodes.empty())
+            nodes[where % nodes.size()].size = drawn_number(input);
+        else
+            counts.insert(counts.begin() + static_cast<ptrdiff_t>(where % (counts.size() + 1)), {more % 3, where % 3});
+    }
+};
+
 }  // namespace
 
 Ranges::~Ranges()
@@ -196,38 +267,20 @@ void Ranges::take_merged(size_t which, const Range &wanted, uint64_t size)
 void Ranges::merge_into(Input &input, bool is_counted)
 {
     const size_t front = input.below(COUNT), back = (front + 1 + input.below(COUNT - 1)) % COUNT;
-    yurewha_status status = YUREWHA_EMPTY_HANDLE;
-    Range wanted;
-    std::optional<uint64_t> size, parents;
-    if (kept[front] && kept[back]) {
-        const second::Subtree &first = kept[front]->subtree, &other = kept[back]->subtree;
-        size = second::sum(second::total_size(first), second::total_size(other));
-        status = first.at_end || other.at_start ? YUREWHA_ARGUMENTS : size ? YUREWHA_DONE : YUREWHA_SIZES;
-        wanted.subtree = {first.at_start, other.at_end, {}};
-        if (status == YUREWHA_DONE && kept[front]->list && kept[back]->list) {
-            wanted.list = second::joined(*kept[front]->list, *kept[back]->list);
-            if (wanted.list->size() > LONGEST_LIST)
-                return;
-            wanted.subtree = second::canonical(*wanted.list, first.at_start, other.at_end);
-            parents = second::work(*wanted.list, first.at_start, other.at_end)
-                      - second::work(*kept[front]->list, first.at_start, false)
-                      - second::work(*kept[back]->list, false, other.at_end);
-        }
-    }
-    Out<uint64_t> count;
-    const bool done = is_done(status, YUREWHA_MEMORY, [&] {
-        return is_counted ? yurewha_subtree_merge_into_counted(handle(front), handle(back), &count)
+    const Merging wanted = merging_of({&kept[front], &kept[back]});
+    if (wanted.is_too_long())
+        return;
+    Out<uint64_t> parents;
+    const bool done = is_done(wanted.status, YUREWHA_MEMORY, [&] {
+        return is_counted ? yurewha_subtree_merge_into_counted(handle(front), handle(back), &parents)
                           : yurewha_subtree_merge_into(handle(front), handle(back));
     });
-    EXPECT((done && is_counted) || count.is_untouched());
+    EXPECT((done && is_counted) || parents.is_untouched());
     if (done) {
-        const size_t nodes = second::node_count(kept[front]->subtree) + second::node_count(kept[back]->subtree);
-        take_merged(front, wanted, *size);
-        if (is_counted) {
-            seen(PARENTS, *count);
-            EXPECT(!parents || *count == *parents);
-            EXPECT(2 * *count <= nodes + 2 * kept[front]->subtree.levels.size());
-        }
+        const Range before = *kept[front];
+        take_merged(front, wanted.merged, wanted.size);
+        if (is_counted)
+            compare_parents(before, *kept[back], *kept[front], *parents);
     }
     compare(front);
     compare(back);
@@ -237,32 +290,17 @@ void Ranges::merge_into(Input &input, bool is_counted)
 void Ranges::merge(Input &input)
 {
     const size_t first = input.below(COUNT - 1), count = input.below(COUNT - first), to = first + count;
-    yurewha_status status = YUREWHA_DONE;
-    bool has_mark_between = false;
-    std::optional<uint64_t> size = 0;
-    Range wanted = {{}, second::Nodes()};
-    for (size_t i = first; i < to; i++) {
-        if (!kept[i]) {
-            status = YUREWHA_EMPTY_HANDLE;
-            continue;
-        }
-        has_mark_between |= (i > first && kept[i]->subtree.at_start) || (i + 1 < to && kept[i]->subtree.at_end);
-        size = second::sum(size, second::total_size(kept[i]->subtree));
-        wanted.list = wanted.list && kept[i]->list ? std::optional(second::joined(*wanted.list, *kept[i]->list)) : std::nullopt;
-    }
-    if (wanted.list && wanted.list->size() > LONGEST_LIST)
+    std::vector<const std::optional<Range> *> ranges;
+    for (size_t i = first; i < to; i++)
+        ranges.push_back(&kept[i]);
+    const Merging wanted = merging_of(ranges);
+    if (wanted.is_too_long())
         return;
-    if (status == YUREWHA_DONE)
-        status = has_mark_between ? YUREWHA_ARGUMENTS : size ? YUREWHA_DONE : YUREWHA_SIZES;
-    if (status == YUREWHA_DONE) {
-        wanted.subtree.at_start = count == 0 || kept[first]->subtree.at_start;
-        wanted.subtree.at_end = count == 0 || kept[to - 1]->subtree.at_end;
-        if (wanted.list)
-            wanted.subtree = second::canonical(*wanted.list, wanted.subtree.at_start, wanted.subtree.at_end);
+    if (is_done(wanted.status, YUREWHA_MEMORY,
+                [&] { return yurewha_subtree_merge(count == 0 ? nullptr : &handles[first], count, handle(to)); })) {
+        take_merged(to, wanted.merged, wanted.size);
+        EXPECT(count != 1 || kept[to]->subtree == kept[first]->subtree);
     }
-    if (is_done(status, YUREWHA_MEMORY,
-                [&] { return yurewha_subtree_merge(count == 0 ? nullptr : &handles[first], count, handle(to)); }))
-        take_merged(to, wanted, *size);
     compare_all();
 }
 
@@ -328,36 +366,21 @@ void Ranges::to_flat(Input &input)
 void Ranges::from_flat(Input &input)
 {
     const size_t from = input.below(COUNT), to = input.below(COUNT);
-    second::Subtree subtree = kept[from] ? kept[from]->subtree : second::Subtree{};
-    auto counts = counts_of(subtree);
-    second::Nodes flat = second::flat_nodes(subtree);
-    bool at_start = subtree.at_start, at_end = subtree.at_end;
-    for (size_t changes = input.below(5); changes > 0; changes--) {
-        const uint8_t change = input.byte();
-        const size_t where = input.byte();
-        if (change % 6 == 0)
-            (change & 8 ? at_start : at_end) ^= true;
-        else if (change % 6 == 1 && !counts.empty())
-            (change & 8 ? counts[where % counts.size()].first : counts[where % counts.size()].second) += change & 16 ? 1 : -1ull;
-        else if (change % 6 == 2 && !flat.empty())
-            flat[where % flat.size()].hash[3] = change / 6;
-        else if (change % 6 == 3)
-            flat.insert(flat.begin() + static_cast<ptrdiff_t>(where % (flat.size() + 1)), {{where, 0, 0, change / 6u}, change});
-        else if (change % 6 == 4 && !flat.empty())
-            flat[where % flat.size()].size = drawn_number(input);
-        else
-            counts.insert(counts.begin() + static_cast<ptrdiff_t>(where % (counts.size() + 1)), {change / 6 % 3, where % 3});
-    }
-    const yurewha_chunk *nodes = fenced_chunks(0, flat);
-    yurewha_level *levels = fence(1).array<yurewha_level>(counts.size());
-    for (size_t i = 0; i < counts.size(); i++)
-        levels[i] = {counts[i].first, counts[i].second};
+    const second::Subtree subtree = kept[from] ? kept[from]->subtree : second::Subtree{};
+    FlatLists lists = {subtree.at_start, subtree.at_end, counts_of(subtree), second::flat_nodes(subtree)};
+    for (size_t changes = input.below(5); changes > 0; changes--)
+        lists.change(input);
+    const yurewha_chunk *nodes = fenced_chunks(0, lists.nodes);
+    yurewha_level *levels = fence(1).array<yurewha_level>(lists.counts.size());
+    for (size_t i = 0; i < lists.counts.size(); i++)
+        levels[i] = {lists.counts[i].first, lists.counts[i].second};
     second::Subtree wanted;
-    const unsigned rule = second::read_flat(at_start, counts, flat, at_end, wanted);
+    const unsigned rule = second::read_flat(lists.at_start, lists.counts, lists.nodes, lists.at_end, wanted);
     if (is_done(rule == 0 ? YUREWHA_DONE : YUREWHA_RULE + rule, YUREWHA_MEMORY, [&] {
-            return yurewha_subtree_from_flat(at_start, levels, counts.size(), nodes, flat.size(), at_end, handle(to));
+            return yurewha_subtree_from_flat(lists.at_start, levels, lists.counts.size(), nodes, lists.nodes.size(),
+                                             lists.at_end, handle(to));
         }))
-        hold(to, {wanted, kept[from] && wanted == kept[from]->subtree ? kept[from]->list : list_of(wanted)});
+        hold(to, {wanted, kept[from] && wanted == subtree ? kept[from]->list : list_of(wanted)});
     compare(to);
 }
 

@@ -220,9 +220,9 @@ extern "C" int LLVMFuzzerTestOneInput(const uint8_t *data, size_t size)
     const std::string text = Spelling(input, lists).text;
     const second::Answer answer = answer_of(command, text, lists);
     const Run run(COMMANDS[command], text);
-    seen(EXIT, 16 * command + run.exit_status());
+    seen(static_cast<Seen>(EXIT + command), run.exit_status());
     seen(LENGTH, text.size());
-    seen(FAULT_LINE, answer.printed.size());
+    seen(FAULT_LENGTH, answer.printed.size());
     EXPECT(run.exit_status() == answer.status);
     EXPECT(run.printed() == answer.printed);
     EXPECT(is_right(command, run.written(), answer));

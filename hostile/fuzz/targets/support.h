@@ -13,7 +13,7 @@
 
 /* Counts that something was seen, which libFuzzer takes for coverage: the library's own code isn't instrumented. A number is
  * one of 64 classes: up to 31 each by itself, and then by its length in bits. */
-enum Seen { STATUS, LEVELS, NODES, TOP, PARENTS, RUNS, NEW_HASHES, LENGTH, REFUSED, EXIT, FAULT_LINE };
+enum Seen { STATUS, LEVELS, NODES, TOP, PARENTS, RUNS, NEW_HASHES, LENGTH, REFUSED, FAULT_LENGTH, EXIT /* and one more for each command */ };
 void seen(Seen what, uint64_t number);
 void seen_subtree(const second::Subtree &subtree);
 
