@@ -27,7 +27,8 @@ constexpr uint8_t BREAKPOINT = 0xCC;
 __attribute__((section("__libfuzzer_extra_counters"), used)) uint8_t counters[MOST];
 uint8_t *blocks[MOST];
 uint8_t codes[MOST];
-size_t block_count, reached_count;
+bool is_reached[MOST];
+size_t block_count;
 
 void reach(int, siginfo_t *, void *context)
 {
@@ -39,10 +40,22 @@ void reach(int, siginfo_t *, void *context)
     *at = codes[i];
     next--;
     counters[i] = 1;
-    reached_count++;
+    is_reached[i] = true;
 }
 
-void tell() { std::fprintf(stderr, "blocks of the library: %zu of %zu reached\n", reached_count, block_count); }
+/* How many blocks were reached; and to BLOCKS_LEFT, a file, the addresses of the others. */
+void tell()
+{
+    const long reached_count = std::count(is_reached, is_reached + block_count, true);
+    std::fprintf(stderr, "blocks of the library: %ld of %zu reached\n", reached_count, block_count);
+    const char *name = std::getenv("BLOCKS_LEFT");
+    std::FILE *file = name ? std::fopen(name, "w") : nullptr;
+    for (size_t i = 0; file && i < block_count; i++)
+        if (!is_reached[i])
+            std::fprintf(file, "%lx\n", static_cast<unsigned long>(blocks[i] - &__executable_start));
+    if (file)
+        std::fclose(file);
+}
 
 /* The code's pages become writable. */
 void put_breakpoints()
