@@ -20,6 +20,8 @@ put of equal chunks|1,1,1,1||0:1,1:1 2:1,1:0
 put before a run|1,2,3|2:3:1|0:1,2:2
 put after a run|1,1,1,1|0:1,1:1|2:1,1:0
 put between two runs|1,2,3|0:1:1 2:3:1|1:2:1
+put before a longer run|1,2,3,1|1:2,3,1:3|0:1:0
+put between a run and a longer one|1,2,3,2,1|0:1:1 2:3,2,1:2|1:2:0
 finish|1,2,3|2:3:1 0:1,2:2|
 finish with equal chunks|1,1,1,1|0:1,1:1 2:1,1:0|
 root|1,2,3|2:3:1 0:1,2:2|";
