@@ -1,4 +1,4 @@
-//! Joining ranges often in one call, so that a difference of two calls tells what that takes.
+//! Merging ranges often in one call, so that a difference of two calls tells what that takes.
 
 ghost use Rattle.std.specs.Prelude.{◌≡◌, ◌<◌, length};
 
@@ -8,8 +8,8 @@ use xet_hash::data_hash::MerkleHash;
 use xet_merkle::CoreError;
 use xet_merkle::merkle_hash_subtree::MerkleHashSubtree;
 
-/// Makes the subtrees of a list's ranges, as `xet_bench_ranges` does, and joins them from the left so many times. It
-/// writes the final hash to `out`, where they are joined at all. False where a call was refused.
+/// Makes the subtrees of a list's ranges of `range_len` nodes, with the list's start and end marked, and merges them from the
+/// left so many times. It writes the final hash to `out`, where they are merged at all. False where a call was refused.
 #[unsafe(no_mangle)]
 pub extern "C" fn xet_bench_joining(
     alloc: Global,
@@ -28,7 +28,7 @@ pub extern "C" fn xet_bench_joining(
         return false;
     };
     for _ in 0..turns {
-        match final_hash_of_joined(ranges.as_slice()) {
+        match final_hash_of_merged(ranges.as_slice()) {
             Ok(Some(root)) => out.copy_from_slice(&root.as_bytes()),
             _ => return false,
         }
@@ -36,13 +36,13 @@ pub extern "C" fn xet_bench_joining(
     true
 }
 
-fn final_hash_of_joined(ranges: &[MerkleHashSubtree]) -> Result<Option<MerkleHash>, CoreError> {
+fn final_hash_of_merged(ranges: &[MerkleHashSubtree]) -> Result<Option<MerkleHash>, CoreError> {
     let [first, others @ ..] = ranges else {
         return Ok(None);
     };
-    let mut joined = first.try_clone()?;
+    let mut merged = first.try_clone()?;
     for range in others {
-        joined.merge_into(range)?;
+        merged.merge_into(range)?;
     }
-    Ok(joined.final_hash())
+    Ok(merged.final_hash())
 }

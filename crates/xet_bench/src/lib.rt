@@ -9,35 +9,11 @@ use std::alloc::{AllocError, Global};
 use upload_session::kept_hashes::{KeptHashes, NoHashes, SeenHashes};
 use upload_session::session::SessionOf;
 use upload_session::session_fault::SessionFault;
-use xet_hash::blake3::{Hasher, keyed_hash};
-use xet_hash::data_hash::{DATA_KEY, MerkleHash};
+use xet_hash::data_hash::MerkleHash;
 use xet_hash::passthrough_hashmap::PassThroughHashMap;
 use xet_merkle::CoreError;
 use xet_merkle::aggregated_hashes::{Node, xorb_hash};
 use xet_merkle::merkle_hash_subtree::MerkleHashSubtree;
-
-/// Writes the keyed hash of `message` under the data key to `out`.
-#[unsafe(no_mangle)]
-pub extern "C" fn xet_bench_keyed_hash(message: &[u8], out: &mut [u8])
-    requires { length out.old ≡ 32 }
-{
-    out.copy_from_slice(&keyed_hash(&DATA_KEY, message));
-}
-
-/// The same, by a hasher that takes the message in pieces of `piece` bytes.
-#[unsafe(no_mangle)]
-pub extern "C" fn xet_bench_hasher(message: &[u8], piece: usize, out: &mut [u8])
-    requires some { 0 < piece }
-    requires out { length out.old ≡ 32 }
-{
-    let mut hasher = Hasher::new_keyed(&DATA_KEY);
-    for part in message.chunks(piece) {
-        if hasher.has_room(part.len()) {
-            hasher.update(part);
-        }
-    }
-    out.copy_from_slice(&hasher.finalize());
-}
 
 /// Writes the root of a list of nodes to `out`: each node is the four words of its hash, and its size.
 /// False where memory runs out or the sizes pass `u64::MAX`.
@@ -81,41 +57,6 @@ pub extern "C" fn xet_bench_from_chunks(
     }
 }
 
-/// Makes the nodes of a list, given as to `xet_bench_xorb_hash`. Where `steps` is at least 1, it makes the
-/// subtrees of each `range_len` of them, with the list's start and end marked. Where it is more it merges them by
-/// `merge`, and writes the final hash to `out`. False where a call was refused.
-#[unsafe(no_mangle)]
-pub extern "C" fn xet_bench_ranges(
-    alloc: Global,
-    nodes: &[u64],
-    range_len: usize,
-    steps: usize,
-    out: &mut [u8],
-) -> bool
-    requires some { 0 < range_len }
-    requires out { length out.old ≡ 32 }
-{
-    let Ok(nodes) = nodes_of(alloc, nodes) else {
-        return false;
-    };
-    if steps < 1 {
-        return true;
-    }
-    let Ok(ranges) = ranges_of(alloc, nodes.as_slice(), range_len) else {
-        return false;
-    };
-    if steps < 2 {
-        return true;
-    }
-    match final_hash_of_merged(alloc, ranges.as_slice()) {
-        Ok(Some(root)) => {
-            out.copy_from_slice(&root.as_bytes());
-            true
-        }
-        _ => false,
-    }
-}
-
 /// Makes the subtree of a list of nodes, given as to `xet_bench_xorb_hash`, with neither end marked. Where `steps` is
 /// at least 1, it makes its JSON value, and where it is at least 2, it reads that back. False where a call was
 /// refused, or where not as many nodes were read.
@@ -156,13 +97,6 @@ fn ranges_of(
         ranges.push(MerkleHashSubtree::from_chunks(alloc, at_start, range, rest.is_empty())?)?;
     }
     Ok(ranges)
-}
-
-fn final_hash_of_merged(
-    alloc: Global,
-    ranges: &[MerkleHashSubtree],
-) -> Result<Option<MerkleHash>, CoreError> {
-    Ok(MerkleHashSubtree::merge(alloc, ranges)?.final_hash())
 }
 
 /// Puts ranges of `range_len` nodes of a list, given as to `xet_bench_xorb_hash`, into a session in the order that `order`
