@@ -14,14 +14,13 @@ constexpr size_t LONGEST_GAP = 8;
 constexpr size_t LONGEST_GAP = 7;
 #endif
 
-bool is_cut(const Node &node)
-{
 #ifdef PLANTED_CUT
-    return node.hash[3] % 4 == 1;
+constexpr uint64_t CUT = 1;
 #else
-    return node.hash[3] % 4 == 0;
+constexpr uint64_t CUT = 0;
 #endif
-}
+
+bool is_cut(const Node &node) { return node.hash[3] % 4 == CUT; }
 
 /* How many nodes from `first` on are a group. */
 size_t group_length(const Nodes &nodes, size_t first)
@@ -127,17 +126,13 @@ bool left_side_is_lawful(const Nodes &side)
 /* Rule 13, of one level: the side begins as after a last stable point, and has none after a natural cut. */
 bool right_side_is_lawful(const Nodes &side)
 {
-#ifdef PLANTED_CUT
-    const Node cut = {{0, 0, 0, 1}, 0};
+#ifdef PLANTED_RULE
+    const Nodes front;
 #else
-    const Node cut = {{0, 0, 0, 0}, 0};
+    const Nodes front = {{{0, 0, 0, CUT}, 0}};
 #endif
     const std::vector<size_t> cuts = cuts_of(side);
-#ifdef PLANTED_RULE
-    return !cuts.empty() && is_stable_gap(0, cuts[0] + 1) && stable_triples(side).empty();
-#else
-    return !cuts.empty() && is_stable_gap(0, cuts[0] + 1) && stable_triples(joined({cut}, side)).empty();
-#endif
+    return !cuts.empty() && is_stable_gap(0, cuts[0] + 1) && stable_triples(joined(front, side)).empty();
 }
 
 /* Of a subtree that has a level. */

@@ -45,7 +45,9 @@ void Sessions::call(Input &input, Ranges &ranges)
         break;
     case 5:
         if (input.below(4) == 0) {
+            begin_call();
             yurewha_session_free(&handles[which]);
+            EXPECT(end_call() == 0);
             kept[which].reset();
         } else {
             std::swap(handles[0], handles[1]);
