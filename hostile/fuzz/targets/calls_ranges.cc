@@ -4,7 +4,7 @@
 
 namespace {
 
-constexpr size_t LONGEST_LIST = 700;
+constexpr size_t MOST_NODES = 700;
 
 /* A list whose canonical subtree this is, where all of its nodes are there. */
 std::optional<second::Nodes> list_of(const second::Subtree &subtree)
@@ -25,12 +25,14 @@ std::vector<std::pair<uint64_t, uint64_t>> counts_of(const second::Subtree &subt
 
 uint64_t size_of(const Range &range) { return *second::total_size(range.subtree); }
 
-/* What a merge of adjacent ranges should answer, and make: its levels are known where each range has a list. */
+/* What a merge of adjacent ranges should answer, and make: its levels are known where each range has a list. How many nodes the
+ * ranges keep grows without end where one has none, and is merged with itself again and again. */
 struct Merging {
     yurewha_status status = YUREWHA_DONE;
     Range merged = {{true, true, {}}, second::Nodes()};
     uint64_t size = 0;
-    bool is_too_long() const { return merged.list && merged.list->size() > LONGEST_LIST; }
+    size_t nodes = 0;
+    bool is_too_long() const { return (merged.list ? merged.list->size() : nodes) > MOST_NODES; }
 };
 
 Merging merging_of(const std::vector<const std::optional<Range> *> &ranges)
@@ -40,15 +42,16 @@ Merging merging_of(const std::vector<const std::optional<Range> *> &ranges)
     bool has_mark_between = false;
     for (size_t i = 0; i < ranges.size(); i++) {
         if (!*ranges[i])
-            return {YUREWHA_EMPTY_HANDLE, {}, 0};
+            return {YUREWHA_EMPTY_HANDLE, {}, 0, 0};
         const Range &range = **ranges[i];
         has_mark_between |= (i > 0 && range.subtree.at_start) || (i + 1 < ranges.size() && range.subtree.at_end);
         size = second::sum(size, size_of(range));
+        found.nodes += second::node_count(range.subtree);
         std::optional<second::Nodes> &list = found.merged.list;
         list = list && range.list ? std::optional(second::joined(*list, *range.list)) : std::nullopt;
     }
     if (has_mark_between || !size)
-        return {has_mark_between ? YUREWHA_ARGUMENTS : YUREWHA_SIZES, {}, 0};
+        return {has_mark_between ? YUREWHA_ARGUMENTS : YUREWHA_SIZES, {}, 0, 0};
     found.size = *size;
     second::Subtree &subtree = found.merged.subtree;
     subtree.at_start = ranges.empty() || (*ranges.front())->subtree.at_start;
