@@ -2,3 +2,5 @@ pub mod Status
 pub mod Answer
 pub mod WithoutPositions
 pub mod Steps
+pub use Rattle.upload_session.specs.Hashes
+pub use Rattle.upload_session.specs.Session
