@@ -14,8 +14,8 @@ use std::io::{self, ErrorKind, Write};
 /// The status after a wrong argument, as `sysexits.h` has it.
 pub const WRONG_ARGUMENT: u8 = 64;
 
-// The most bytes of a line on standard error.
-const MAX_LINE_LEN: usize = 100;
+// The most bytes of a line that is written in one piece.
+const ONE_PIECE_LEN: usize = 100;
 
 /// What a program is asked for.
 #[derive(Debug, PartialEq, Eq, Drop)]
@@ -57,9 +57,24 @@ impl Request {
     }
 }
 
-/// Writes a text and a newline in one piece, at most 100 bytes. Where that can't be done, the status still tells it.
+/// Writes a text and a newline, whole however long they are: in one piece up to 100 bytes, and past that in the pieces in
+/// which the text comes. After a failed write nothing more of them is written; the caller's status still tells the fault.
 pub fn print_line<W: Write>(w: &mut W, text: impl fmt::Display + Drop) {
-    let mut line: ArrayString<MAX_LINE_LEN> = ArrayString::new();
-    let _ = writeln!(line, "{text}");
-    let _ = write_all(w, line.as_str().as_bytes());
+    let mut line: ArrayString<ONE_PIECE_LEN> = ArrayString::new();
+    let _ = match writeln!(line, "{text}") {
+        Ok(()) => Pieces { w }.write_str(line.as_str()),
+        Err(_) => writeln!(Pieces { w }, "{text}"),
+    };
+}
+
+// Writes each piece of a text as it comes.
+#[derive(Drop)]
+struct Pieces<'a, W: Write> {
+    w: &'a mut W,
+}
+
+impl<W: Write> fmt::Write for Pieces<'_, W> {
+    fn write_str(&mut self, piece: &str) -> fmt::Result {
+        write_all(self.w, piece.as_bytes()).map_err(|_| fmt::Error)
+    }
 }
