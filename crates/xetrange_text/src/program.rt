@@ -29,7 +29,7 @@ line, 2 sizes that pass 2^64 - 1, 3 out of memory, 4 a failed read, 5 a failed
 write, 8 a line that is no range. The status is 64 after a wrong argument.
 
   -h, --help    prints this text
-  --version     prints the version of xet-core-structures whose ranges these are
+  --version     prints the versions of xetrange and of xet-core-structures
 ";
 
 const VERSION: &str = "xetrange 1.0.0 (hashes of xet-core-structures 1.5.2)\n";

@@ -30,7 +30,7 @@ line, 2 sizes that pass 2^64 - 1, 3 out of memory, 4 a failed read, 5 a failed w
 6 a position that is taken, 7 a gap. The status is 64 after a wrong argument.
 
   -h, --help    prints this text
-  --version     prints the version of xet-core-structures whose hashes these are
+  --version     prints the versions of xetroot and of xet-core-structures
 ";
 
 const VERSION: &str = "xetroot 1.0.0 (hashes of xet-core-structures 1.5.2)\n";
