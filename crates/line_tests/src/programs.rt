@@ -49,9 +49,42 @@ xetrange|nothing||64||xetrange: expected make, join, root, --help or --version;
 xetrange |nothing||64||xetrange: expected make, join, root, --help or --version;
 xetrange unmake|nothing||64||xetrange: expected make, join, root, --help or --version;
 xetrange make join|nothing||64||xetrange: expected make, join, root, --help or --version;
+xetrange make |nothing||64||xetrange: expected make, join, root, --help or --version;
+xetrange  make|nothing||64||xetrange: expected make, join, root, --help or --version;
 xetrange make|text of arguments||64||xetrange: expected make, join, root, --help or --version;
 xetrange --version|nothing|zz|0|xetrange 1.0.0 (hashes of xet-core-structures 1.5.2);|
 xetrange --help|output|zz|5||xetrange: fault 5;"#;
+
+// Words that are wrong for each program, with a space between two; the first row is one empty word.
+const WRONG_WORDS: &str = "
+-
+--
+-?
+-V
+-v
+-H
+help
+version
+--Help
+--help=
+--helper
+--hel
+--version1
+--versio
+merge
+Join
+Make
+ROOT
+makes
+mak
+--help --help
+--version --version
+--help --version
+make join
+make join root
+join root --help
+root root root root
+-h -h -h";
 
 // A reader of a text that gives it or fails.
 #[derive(Drop)]
@@ -163,6 +196,21 @@ fn help_goes_to_standard_output(rt: HostRuntime) -> Result<(), Fail> {
             found.as_str().starts_with(start) && found.as_str().ends_with(";|"),
             "{command}"
         );
+    }
+    Ok(())
+}
+
+#[test]
+fn wrong_words_are_refused_by_both_programs(rt: HostRuntime) -> Result<(), Fail> {
+    for words in WRONG_WORDS.lines() {
+        for (program, known) in [("xetroot", "no argument"), ("xetrange", "make, join, root")] {
+            let command = format!(in rt.alloc(); "{program} {words}")?;
+            let expected = format!(in rt.alloc();
+                "64||{program}: expected {known}, --help or --version;"
+            )?;
+            let found = outcome(rt.alloc(), command.as_str(), "nothing", "")?;
+            assert!(rt; found == expected, "{command}: {found}");
+        }
     }
     Ok(())
 }
