@@ -1,4 +1,5 @@
 pub mod Status
+pub mod Words
 pub mod Answer
 pub mod WithoutPositions
 pub mod Steps
