@@ -42,6 +42,12 @@ void *block(size_t size)
     return found;
 }
 
+size_t largest(void)
+{
+    const char *set = getenv("YUREWHA_LARGEST");
+    return set != NULL ? (size_t)strtoull(set, NULL, 10) : SIZE_MAX;
+}
+
 yurewha_hash hash_of(const char *hex)
 {
     yurewha_hash hash;
@@ -65,10 +71,11 @@ bool is_hash(const yurewha_hash *hash, const char *hex)
 
 yurewha_chunk *list_of(const char *pattern, size_t count)
 {
+    const size_t length = pattern != NULL ? strlen(pattern) : 0;
     yurewha_chunk *chunks = block(count * sizeof *chunks);
     for (size_t i = 0; i < count; i++) {
         if (pattern != NULL) {
-            chunks[i] = (yurewha_chunk){{{i, 0, 0, pattern[i] == '|' ? 0 : 1}}, 1};
+            chunks[i] = (yurewha_chunk){{{i, 0, 0, pattern[i % length] == '|' ? 0 : 1}}, 1};
         } else {
             yurewha_random_from_seed(i + 1, &chunks[i].hash);
             chunks[i].size = 100 + 977 * i % 9901;
@@ -155,11 +162,15 @@ int main(int count, char **names)
         const char *name;
         void (*run)(void);
     } tests[] = {
-        {"layout", test_layout},         {"hashes", test_hashes},     {"hasher", test_hasher},
-        {"roots", test_roots},           {"subtrees", test_subtrees}, {"merging", test_merging},
-        {"texts", test_texts},           {"flat_lists", test_flat_lists}, {"sessions", test_sessions},
-        {"handles", test_handles},       {"rooms", test_rooms},       {"empty_slices", test_empty_slices},
-        {"refusals", test_refusals},     {"threads", test_threads},   {"vectors", test_vectors},
+        {"layout", test_layout},         {"hashes", test_hashes},
+        {"hasher", test_hasher},         {"long_message", test_long_message},
+        {"short_messages", test_short_messages}, {"roots", test_roots},
+        {"subtrees", test_subtrees},     {"merging", test_merging},
+        {"texts", test_texts},           {"flat_lists", test_flat_lists},
+        {"sessions", test_sessions},     {"handles", test_handles},
+        {"rooms", test_rooms},           {"empty_slices", test_empty_slices},
+        {"refusals", test_refusals},     {"large", test_large},
+        {"threads", test_threads},       {"vectors", test_vectors},
     };
     for (size_t i = 0; i < LENGTH(tests); i++) {
         bool wanted = count < 2;
@@ -169,7 +180,7 @@ int main(int count, char **names)
             continue;
         const size_t before = state.checks;
         tests[i].run();
-        printf("%-12s %6zu checks\n", tests[i].name, state.checks - before);
+        printf("%-14s %6zu checks\n", tests[i].name, state.checks - before);
     }
     printf("%zu checks, %zu failed\n", state.checks, state.failures);
     return state.failures != 0 || state.checks == 0;

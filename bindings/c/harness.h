@@ -22,12 +22,15 @@ void expect_status(yurewha_status wanted, yurewha_status found, const char *what
 /* A block of exactly so many bytes, which free takes; for 0 bytes too. The program ends where there is none. */
 void *block(size_t size);
 
+/* The greatest number of chunks that a test takes: that in YUREWHA_LARGEST, if it is set. */
+size_t largest(void);
+
 /* The hash of 64 hex digits, read without the library. */
 yurewha_hash hash_of(const char *hex);
 bool same_hash(const yurewha_hash *first, const yurewha_hash *second);
 bool is_hash(const yurewha_hash *hash, const char *hex);
 
-/* Lists of chunks in blocks of their own: as values.h says; and by digits, of which each is the hash of that seed with the
+/* Lists of chunks in blocks of their own: as values.h says, where a pattern goes on as it began; and by digits, of which each is the hash of that seed with the
  * size 100 times the digit, 0 the default hash with the size 0, and X the hash of seed 1 with the greatest size. */
 yurewha_chunk *list_of(const char *pattern, size_t count);
 yurewha_chunk *digits_of(const char *digits);
@@ -51,6 +54,8 @@ bool sees_requests(void);
 void test_layout(void);
 void test_hashes(void);
 void test_hasher(void);
+void test_long_message(void);
+void test_short_messages(void);
 void test_roots(void);
 void test_subtrees(void);
 void test_merging(void);
@@ -61,6 +66,7 @@ void test_handles(void);
 void test_rooms(void);
 void test_empty_slices(void);
 void test_refusals(void);
+void test_large(void);
 void test_threads(void);
 void test_vectors(void);
 

@@ -2,18 +2,37 @@
  * Every allocation refused in turn. Each row is a call in a world of handles and rooms. It is made with request 1 refused,
  * then with request 2, and so on, until no request is refused any more; at first that request alone is refused, and then
  * all from it on. After a refusal the status says so, the world is as it was, and as many blocks are held as before.
+ *
+ * In large worlds the first, the middle and the last requests are refused. In each world all handles are freed at the end, and
+ * no block is left: so what a call frees or replaces is counted.
  */
 #include "harness.h"
 #include "values.h"
 
-enum { COUNT = 150, LEVELS = 16, NODES = 200 };
+enum { LEVELS = 16 };
+
+/* What a world is made of. */
+static const struct shape {
+    const char *name;
+    const char *pattern; /* but for natural cuts at both ends of the list */
+    size_t count;        /* of the chunks, of which three ranges are made */
+    bool is_deep;        /* whether the ranges have several long levels instead */
+    size_t runs;         /* of one chunk each; if there are any, two long runs stand beside them */
+    bool tries_all;      /* requests */
+} shapes[] = {
+    {"small", NULL, 150, false, 0, true},
+    {"long lists and many runs", ".", 4500, false, 300, false},
+    {"long levels", ".", 3000, true, 0, false},
+};
 
 struct world {
+    const struct shape *shape;
+    size_t count;
     yurewha_chunk *chunks;
     char *json;
     size_t json_length;
     yurewha_level levels[LEVELS];
-    yurewha_chunk nodes[NODES];
+    yurewha_chunk *nodes;
     size_t level_count;
     size_t node_count;
     yurewha_subtree ranges[3];
@@ -22,36 +41,118 @@ struct world {
     yurewha_subtree huge;
     yurewha_session session;
     yurewha_session none;
+    char *text; /* room for the JSON text */
+    size_t text_room;
     struct room {
         yurewha_hash hash;
         uint64_t number;
         size_t count;
         size_t more;
-        char text[30000];
     } room;
 };
 
-static void make(struct world *w)
+/* Where the long runs of a session begin; one position is free between them. */
+static const uint64_t LONG_RUNS = 1000000;
+
+enum { CUT = 28 };
+
+/* Makes every fourth of the next CUT nodes a natural cut, so that there are stable points. */
+static void make_cuts(yurewha_chunk *nodes)
+{
+    for (size_t i = 3; i < CUT; i += 4)
+        nodes[i].hash.words[3] = 0;
+}
+
+/* A subtree of three levels, with more than a thousand nodes on each side. Both sides are what is kept of a list whose natural
+ * cuts stand in its middle alone. */
+static yurewha_subtree deep_range(bool at_start, bool at_end)
+{
+    enum { PLAIN = 1010, COUNT = 2 * PLAIN + CUT };
+    yurewha_chunk *chunks = list_of(".", COUNT), *sides = block(COUNT * sizeof *sides);
+    make_cuts(chunks + PLAIN);
+    yurewha_subtree list = range_of(chunks, 0, COUNT, false, false), deep = {0};
+    yurewha_level levels[LEVELS];
+    size_t level_count = 0, node_count = 0;
+    EXPECT_STATUS(YUREWHA_DONE, yurewha_subtree_to_flat(&list, levels, LEVELS, sides, COUNT, &level_count, &node_count));
+    const size_t left = at_start ? 0 : levels[0].left, right = at_end ? 0 : levels[0].right;
+    const yurewha_level counts[3] = {{left, right}, {left, right}, {PLAIN, 0}};
+    yurewha_chunk *nodes = block(3 * COUNT * sizeof *nodes), *next = nodes;
+    for (size_t i = 0; i < 2; i++, next += left)
+        memcpy(next, sides, left * sizeof *nodes);
+    memcpy(next, chunks, PLAIN * sizeof *nodes);
+    next += PLAIN;
+    for (size_t i = 0; i < 2; i++, next += right)
+        memcpy(next, sides + node_count - right, right * sizeof *nodes);
+    EXPECT_STATUS(YUREWHA_DONE,
+                  yurewha_subtree_from_flat(at_start, counts, 3, nodes, (size_t)(next - nodes), at_end, &deep));
+    yurewha_subtree_free(&list);
+    free(chunks);
+    free(sides);
+    free(nodes);
+    return deep;
+}
+
+static void put(struct world *w, uint64_t first, size_t from, size_t count)
+{
+    uint64_t fresh = 0;
+    EXPECT_STATUS(YUREWHA_DONE, yurewha_session_put(&w->session, first, w->chunks + from, count, &fresh));
+}
+
+/* A session of two runs, or of one without a gap; and in some worlds of many. */
+static void make_session(struct world *w, bool is_filled)
+{
+    const size_t length = w->count / 2;
+    EXPECT_STATUS(YUREWHA_DONE, yurewha_session_new(&w->session));
+    put(w, 0, 0, 20);
+    put(w, 40, 40, 10);
+    put(w, 20, 20, 15);
+    if (is_filled) {
+        put(w, 35, 35, 5);
+        put(w, 50, 50, w->count - 50);
+    } else if (w->shape->runs != 0) {
+        for (size_t i = 0; i < w->shape->runs; i++)
+            put(w, 1000 + 2 * i, i, 1);
+        put(w, LONG_RUNS, 0, length);
+        put(w, LONG_RUNS + length + 1, 0, length);
+    }
+}
+
+static void make_texts(struct world *w)
+{
+    EXPECT_STATUS(YUREWHA_DONE, yurewha_subtree_num_nodes(&w->ranges[1], &w->node_count));
+    w->nodes = block(w->node_count * sizeof *w->nodes);
+    EXPECT_STATUS(YUREWHA_DONE, yurewha_subtree_to_flat(&w->ranges[1], w->levels, LEVELS, w->nodes, w->node_count,
+                                                        &w->level_count, &w->node_count));
+    w->text_room = 120 * w->node_count + 1000;
+    w->json = block(w->text_room);
+    w->text = block(w->text_room);
+    memset(w->text, 0xa5, w->text_room);
+    EXPECT_STATUS(YUREWHA_DONE, yurewha_subtree_to_json(&w->ranges[1], w->json, w->text_room, &w->json_length));
+}
+
+static void make(struct world *w, const struct shape *shape, bool is_filled)
 {
     memset(w, 0, sizeof *w);
     memset(&w->room, 0xa5, sizeof w->room);
-    w->chunks = list_of(NULL, COUNT);
+    w->shape = shape;
+    w->count = shape->count;
+    w->chunks = list_of(shape->pattern, w->count);
+    if (shape->pattern != NULL) {
+        make_cuts(w->chunks);
+        make_cuts(w->chunks + w->count - CUT);
+    }
     for (size_t i = 0; i < 3; i++)
-        w->ranges[i] = range_of(w->chunks, i * COUNT / 3, (i + 1) * COUNT / 3, i == 0, i == 2);
-    w->owned = range_of(w->chunks, 0, 1, true, true);
+        w->ranges[i] = shape->is_deep ? deep_range(i == 0, i == 2)
+                                      : range_of(w->chunks, i * w->count / 3, (i + 1) * w->count / 3, i == 0, i == 2);
+    if (shape->tries_all)
+        w->owned = range_of(w->chunks, 0, 1, true, true);
+    else
+        EXPECT_STATUS(YUREWHA_DONE, yurewha_subtree_clone(&w->ranges[1], &w->owned));
     yurewha_chunk *huge = digits_of("X");
     w->huge = range_of(huge, 0, 1, false, false);
     free(huge);
-    w->json = block(sizeof w->room.text);
-    EXPECT_STATUS(YUREWHA_DONE,
-                  yurewha_subtree_to_json(&w->ranges[1], w->json, sizeof w->room.text, &w->json_length));
-    EXPECT_STATUS(YUREWHA_DONE, yurewha_subtree_to_flat(&w->ranges[1], w->levels, LEVELS, w->nodes, NODES, &w->level_count,
-                                                        &w->node_count));
-    uint64_t fresh = 0;
-    EXPECT_STATUS(YUREWHA_DONE, yurewha_session_new(&w->session));
-    EXPECT_STATUS(YUREWHA_DONE, yurewha_session_put(&w->session, 0, w->chunks, 20, &fresh));
-    EXPECT_STATUS(YUREWHA_DONE, yurewha_session_put(&w->session, 40, w->chunks + 40, 10, &fresh));
-    EXPECT_STATUS(YUREWHA_DONE, yurewha_session_put(&w->session, 20, w->chunks + 20, 15, &fresh));
+    make_texts(w);
+    make_session(w, is_filled);
 }
 
 static void unmake(struct world *w)
@@ -65,6 +166,8 @@ static void unmake(struct world *w)
     yurewha_session_free(&w->none);
     free(w->chunks);
     free(w->json);
+    free(w->text);
+    free(w->nodes);
 }
 
 static yurewha_hash told_of(struct world *w)
@@ -80,13 +183,14 @@ static yurewha_hash told_of(struct world *w)
     tell_session(&message, &w->session);
     tell_session(&message, &w->none);
     EXPECT_STATUS(YUREWHA_DONE, yurewha_hasher_update(&message, (const uint8_t *)&w->room, sizeof w->room));
+    EXPECT_STATUS(YUREWHA_DONE, yurewha_hasher_update(&message, (const uint8_t *)w->text, w->text_room));
     yurewha_hasher_finalize(&message, &hash);
     return hash;
 }
 
 static yurewha_status base64(struct world *w)
 {
-    return yurewha_base64(&w->chunks[0].hash, w->room.text, sizeof w->room.text, &w->room.count);
+    return yurewha_base64(&w->chunks[0].hash, w->text, w->text_room, &w->room.count);
 }
 static yurewha_status from_base64(struct world *w)
 {
@@ -96,37 +200,37 @@ static yurewha_status from_bad_base64(struct world *w)
 {
     return yurewha_from_base64("m8IDb3_Qxc-N4D-WMkFCvyD1qldXfaMZ1lbNBZ8RCL9", 43, &w->room.hash);
 }
-static yurewha_status xorb_hash(struct world *w) { return yurewha_xorb_hash(w->chunks, COUNT, &w->room.hash); }
+static yurewha_status xorb_hash(struct world *w) { return yurewha_xorb_hash(w->chunks, w->count, &w->room.hash); }
 static yurewha_status xorb_hash_of_one(struct world *w) { return yurewha_xorb_hash(w->chunks, 1, &w->room.hash); }
 static yurewha_status xorb_hash_past(struct world *w)
 {
     w->chunks[7].size = UINT64_MAX;
-    return yurewha_xorb_hash(w->chunks, COUNT, &w->room.hash);
+    return yurewha_xorb_hash(w->chunks, w->count, &w->room.hash);
 }
-static yurewha_status file_hash(struct world *w) { return yurewha_file_hash(w->chunks, COUNT, &w->room.hash); }
+static yurewha_status file_hash(struct world *w) { return yurewha_file_hash(w->chunks, w->count, &w->room.hash); }
 static yurewha_status file_hash_with_salt(struct world *w)
 {
     const yurewha_bytes salt = {{1, 2, 3}};
-    return yurewha_file_hash_with_salt(w->chunks, COUNT, &salt, &w->room.hash);
+    return yurewha_file_hash_with_salt(w->chunks, w->count, &salt, &w->room.hash);
 }
 static yurewha_status find_start(struct world *w)
 {
-    return yurewha_find_stable_start(w->chunks, COUNT, &w->room.count);
+    return yurewha_find_stable_start(w->chunks, w->count, &w->room.count);
 }
-static yurewha_status find_end(struct world *w) { return yurewha_find_stable_end(w->chunks, COUNT, &w->room.count); }
+static yurewha_status find_end(struct world *w) { return yurewha_find_stable_end(w->chunks, w->count, &w->room.count); }
 static yurewha_status find_none(struct world *w) { return yurewha_find_stable_end(w->chunks, 2, &w->room.count); }
 static yurewha_status from_chunks(struct world *w)
 {
-    return yurewha_subtree_from_chunks(true, w->chunks, COUNT, false, &w->empty);
+    return yurewha_subtree_from_chunks(true, w->chunks, w->count, false, &w->empty);
 }
 static yurewha_status from_chunks_over(struct world *w)
 {
-    return yurewha_subtree_from_chunks(true, w->chunks, COUNT, false, &w->owned);
+    return yurewha_subtree_from_chunks(true, w->chunks, w->count, false, &w->owned);
 }
 static yurewha_status from_chunks_past(struct world *w)
 {
     w->chunks[7].size = UINT64_MAX;
-    return yurewha_subtree_from_chunks(true, w->chunks, COUNT, false, &w->owned);
+    return yurewha_subtree_from_chunks(true, w->chunks, w->count, false, &w->owned);
 }
 static yurewha_status clone(struct world *w) { return yurewha_subtree_clone(&w->ranges[1], &w->empty); }
 static yurewha_status clone_over(struct world *w) { return yurewha_subtree_clone(&w->ranges[1], &w->owned); }
@@ -143,9 +247,22 @@ static yurewha_status merge_into_counted(struct world *w)
 static yurewha_status merge(struct world *w) { return yurewha_subtree_merge(w->ranges, 3, &w->empty); }
 static yurewha_status merge_over(struct world *w) { return yurewha_subtree_merge(w->ranges, 3, &w->owned); }
 static yurewha_status merge_of_none(struct world *w) { return yurewha_subtree_merge(NULL, 0, &w->owned); }
+
+/* Merges two handles that stand apart, which move to an array and back. */
+static yurewha_status merge_both(struct world *w, yurewha_subtree *front, yurewha_subtree *back)
+{
+    yurewha_subtree both[2] = {*front, *back};
+    const yurewha_status status = yurewha_subtree_merge(both, 2, &w->owned);
+    *front = both[0];
+    *back = both[1];
+    return status;
+}
+static yurewha_status merge_list_turned(struct world *w) { return merge_both(w, &w->ranges[1], &w->ranges[0]); }
+static yurewha_status merge_list_past(struct world *w) { return merge_both(w, &w->ranges[1], &w->huge); }
+static yurewha_status merge_list_with_none(struct world *w) { return merge_both(w, &w->ranges[1], &w->empty); }
 static yurewha_status to_json(struct world *w)
 {
-    return yurewha_subtree_to_json(&w->ranges[1], w->room.text, sizeof w->room.text, &w->room.count);
+    return yurewha_subtree_to_json(&w->ranges[1], w->text, w->text_room, &w->room.count);
 }
 static yurewha_status from_json(struct world *w)
 {
@@ -159,6 +276,17 @@ static yurewha_status from_forged_json(struct world *w)
 {
     const char *text = text_rows[LENGTH(text_rows) - 4].text;
     return yurewha_subtree_from_json(text, strlen(text), &w->owned);
+}
+/* The same text with another count of nodes. */
+static yurewha_status from_miscounted_json(struct world *w)
+{
+    static const char before_count[] = "\"levels\":[[";
+    char *digit = w->json;
+    while (memcmp(digit, before_count, sizeof before_count - 1) != 0)
+        digit++;
+    digit += sizeof before_count - 1;
+    *digit = *digit == '9' ? '1' : (char)(*digit + 1);
+    return yurewha_subtree_from_json(w->json, w->json_length, &w->owned);
 }
 static yurewha_status from_flat(struct world *w)
 {
@@ -178,6 +306,14 @@ static yurewha_status put_apart(struct world *w)
 {
     return yurewha_session_put(&w->session, 100, w->chunks + 50, 100, &w->room.number);
 }
+static yurewha_status put_between_long_runs(struct world *w)
+{
+    return yurewha_session_put(&w->session, LONG_RUNS + w->count / 2, w->chunks, 1, &w->room.number);
+}
+static yurewha_status put_past_positions(struct world *w)
+{
+    return yurewha_session_put(&w->session, UINT64_MAX - 1, w->chunks, w->count, &w->room.number);
+}
 static yurewha_status put_taken(struct world *w)
 {
     return yurewha_session_put(&w->session, 30, w->chunks, 100, &w->room.number);
@@ -185,19 +321,32 @@ static yurewha_status put_taken(struct world *w)
 static yurewha_status put_past(struct world *w)
 {
     w->chunks[7].size = UINT64_MAX;
-    return yurewha_session_put(&w->session, 100, w->chunks, COUNT, &w->room.number);
+    return yurewha_session_put(&w->session, LONG_RUNS / 2, w->chunks, w->count, &w->room.number);
 }
-static yurewha_status run(struct world *w) { return yurewha_session_run(&w->session, 0, &w->room.number, &w->owned); }
-static yurewha_status no_run(struct world *w) { return yurewha_session_run(&w->session, 2, &w->room.number, &w->owned); }
+
+static size_t runs_of(struct world *w)
+{
+    size_t runs = 0;
+    EXPECT_STATUS(YUREWHA_DONE, yurewha_session_num_runs(&w->session, &runs));
+    return runs;
+}
+static yurewha_status run(struct world *w)
+{
+    return yurewha_session_run(&w->session, runs_of(w) - 1, &w->room.number, &w->owned);
+}
+static yurewha_status no_run(struct world *w)
+{
+    return yurewha_session_run(&w->session, runs_of(w), &w->room.number, &w->owned);
+}
 static yurewha_status gap(struct world *w) { return yurewha_session_root(&w->session, 45, &w->room.hash); }
 
 /* Sessions without a gap. */
-static yurewha_status filled(struct world *w, yurewha_status (*call)(yurewha_session *, uint64_t, yurewha_hash *))
-{
-    return call(&w->session, 50, &w->room.hash);
-}
-static yurewha_status root(struct world *w) { return filled(w, yurewha_session_root); }
-static yurewha_status finish(struct world *w) { return filled(w, yurewha_session_finish); }
+static yurewha_status root(struct world *w) { return yurewha_session_root(&w->session, w->count, &w->room.hash); }
+static yurewha_status finish(struct world *w) { return yurewha_session_finish(&w->session, w->count, &w->room.hash); }
+
+/* Frees that are no end of a world. */
+static yurewha_status free_subtree(struct world *w) { return yurewha_subtree_free(&w->owned), YUREWHA_DONE; }
+static yurewha_status free_session(struct world *w) { return yurewha_session_free(&w->session), YUREWHA_DONE; }
 
 static void takes_no_memory(struct world *w)
 {
@@ -214,8 +363,8 @@ static void takes_no_memory(struct world *w)
     yurewha_hash_from_bytes(&bytes, &w->room.hash);
     EXPECT(yurewha_compare(&w->chunks[0].hash, &w->room.hash) == 0);
     EXPECT_STATUS(YUREWHA_DONE, yurewha_remainder(&w->room.hash, 7, &w->room.number));
-    EXPECT_STATUS(YUREWHA_DONE, yurewha_hex(&w->room.hash, w->room.text, 64, &w->room.count));
-    EXPECT_STATUS(YUREWHA_DONE, yurewha_from_hex(w->room.text, 64, &w->room.hash));
+    EXPECT_STATUS(YUREWHA_DONE, yurewha_hex(&w->room.hash, w->text, 64, &w->room.count));
+    EXPECT_STATUS(YUREWHA_DONE, yurewha_from_hex(w->text, 64, &w->room.hash));
     yurewha_hasher_begin_data(&hasher);
     yurewha_hasher_begin_internal(&hasher);
     yurewha_hasher_begin_keyed(&hasher, &bytes);
@@ -229,8 +378,8 @@ static void takes_no_memory(struct world *w)
     EXPECT_STATUS(YUREWHA_DONE, yurewha_subtree_num_nodes(&w->ranges[0], &w->room.count));
     EXPECT_STATUS(YUREWHA_DONE, yurewha_subtree_num_levels(&w->ranges[0], &w->room.count));
     EXPECT_STATUS(YUREWHA_DONE, yurewha_subtree_final_hash(&w->owned, &w->room.hash));
-    EXPECT_STATUS(YUREWHA_DONE, yurewha_subtree_to_flat(&w->ranges[1], w->levels, LEVELS, w->nodes, NODES, &w->room.count,
-                                                        &w->room.more));
+    EXPECT_STATUS(YUREWHA_DONE, yurewha_subtree_to_flat(&w->ranges[1], w->levels, LEVELS, w->nodes, w->node_count,
+                                                        &w->room.count, &w->room.more));
     EXPECT_STATUS(YUREWHA_DONE, yurewha_session_taken(&w->session, 3, &truths[0]));
     EXPECT_STATUS(YUREWHA_DONE, yurewha_session_num_runs(&w->session, &w->room.count));
     EXPECT(requests() == 0);
@@ -270,9 +419,13 @@ static const struct scenario {
     {"merge", merge, YUREWHA_DONE, YUREWHA_MEMORY, false},
     {"merge into a full handle", merge_over, YUREWHA_DONE, YUREWHA_MEMORY, false},
     {"merge of no range", merge_of_none, YUREWHA_DONE, YUREWHA_MEMORY, false},
+    {"merge turned round", merge_list_turned, YUREWHA_ARGUMENTS, YUREWHA_MEMORY, false},
+    {"merge past 64 bits", merge_list_past, YUREWHA_SIZES, YUREWHA_MEMORY, false},
+    {"merge with none", merge_list_with_none, YUREWHA_EMPTY_HANDLE, YUREWHA_MEMORY, false},
     {"to_json", to_json, YUREWHA_DONE, YUREWHA_MEMORY, false},
     {"from_json", from_json, YUREWHA_DONE, YUREWHA_MEMORY, false},
     {"from_json of half a text", from_half_json, YUREWHA_TEXT, YUREWHA_MEMORY, false},
+    {"from_json against rule 6", from_miscounted_json, YUREWHA_RULE + 6, YUREWHA_MEMORY, false},
     {"from_json against rule 13", from_forged_json, YUREWHA_RULE + 13, YUREWHA_MEMORY, false},
     {"from_flat", from_flat, YUREWHA_DONE, YUREWHA_MEMORY, false},
     {"from_flat against rule 6", from_forged_flat, YUREWHA_RULE + 6, YUREWHA_MEMORY, false},
@@ -280,6 +433,8 @@ static const struct scenario {
     {"session_new into a full handle", session_new_over, YUREWHA_DONE, YUREWHA_MEMORY, false},
     {"put between two runs", put_between, YUREWHA_DONE, YUREWHA_SESSION_MEMORY, false},
     {"put apart", put_apart, YUREWHA_DONE, YUREWHA_SESSION_MEMORY, false},
+    {"put between long runs", put_between_long_runs, YUREWHA_DONE, YUREWHA_SESSION_MEMORY, false},
+    {"put past the last position", put_past_positions, YUREWHA_SESSION_POSITIONS, YUREWHA_SESSION_MEMORY, false},
     {"put at taken positions", put_taken, YUREWHA_SESSION_OVERLAP, YUREWHA_SESSION_MEMORY, false},
     {"put past 64 bits", put_past, YUREWHA_SESSION_SIZES, YUREWHA_SESSION_MEMORY, false},
     {"run", run, YUREWHA_DONE, YUREWHA_MEMORY, false},
@@ -287,69 +442,89 @@ static const struct scenario {
     {"root", root, YUREWHA_DONE, YUREWHA_SESSION_MEMORY, true},
     {"root over a gap", gap, YUREWHA_SESSION_GAP, YUREWHA_SESSION_GAP, false},
     {"finish", finish, YUREWHA_DONE, YUREWHA_SESSION_MEMORY, true},
+    {"free of a subtree", free_subtree, YUREWHA_DONE, YUREWHA_DONE, false},
+    {"free of a session", free_session, YUREWHA_DONE, YUREWHA_DONE, false},
 };
 
-static void make_for(struct world *w, const struct scenario *it)
+/* Makes the call with one request refused, or with all from it on. */
+static void turn(const struct shape *shape, const struct scenario *it, size_t number, bool all, const yurewha_hash *done)
 {
-    uint64_t fresh = 0;
-    make(w);
-    if (it->is_filled)
-        EXPECT_STATUS(YUREWHA_DONE, yurewha_session_put(&w->session, 35, w->chunks + 35, 5, &fresh));
-}
-
-/* Makes the call with one request refused, or none for 0, and says whether a request was refused. */
-static bool turn(const struct scenario *it, struct world *w, size_t number, bool all, const yurewha_hash *done)
-{
-    make_for(w, it);
-    const yurewha_hash before = told_of(w);
+    struct world w;
+    const long start = live_blocks();
+    make(&w, shape, it->is_filled);
+    const yurewha_hash before = told_of(&w);
     const long live = live_blocks();
     refuse(number, all);
-    const yurewha_status status = it->call(w);
-    const bool refused = was_refused();
+    const yurewha_status status = it->call(&w);
+    EXPECT(was_refused());
     refuse(0, false);
-    const yurewha_hash after = told_of(w);
-    const yurewha_status wanted = refused && !(it->wanted != YUREWHA_DONE && status == it->wanted) ? it->refusal : it->wanted;
-    EXPECT_STATUS(wanted, status);
+    const yurewha_hash after = told_of(&w);
+    EXPECT_STATUS(it->wanted != YUREWHA_DONE && status == it->wanted ? it->wanted : it->refusal, status);
     if (status != YUREWHA_DONE) {
         EXPECT(same_hash(&before, &after));
         EXPECT(live_blocks() == live);
     } else {
         EXPECT(same_hash(&after, done));
     }
-    unmake(w);
+    unmake(&w);
+    EXPECT(live_blocks() == start);
+}
+
+/* Makes the call with no request refused, tells the world after it, and returns the number of requests. */
+static size_t turn_without_refusal(const struct shape *shape, const struct scenario *it, yurewha_hash *done)
+{
+    struct world w;
+    const long start = live_blocks();
+    make(&w, shape, it->is_filled);
+    const yurewha_hash before = told_of(&w);
+    const long live = live_blocks();
+    refuse(0, false);
+    EXPECT_STATUS(it->wanted, it->call(&w));
+    const size_t found = requests();
+    EXPECT(it->wanted == YUREWHA_DONE || live_blocks() == live);
+    *done = told_of(&w);
+    EXPECT(it->wanted == YUREWHA_DONE || same_hash(&before, done));
+    unmake(&w);
+    EXPECT(live_blocks() == start);
+    return found;
+}
+
+static size_t turns(const struct shape *shape, const struct scenario *it)
+{
+    size_t refused = 0;
+    yurewha_hash done;
+    row("%s, %s", shape->name, it->name);
+    const size_t count = turn_without_refusal(shape, it, &done);
+    EXPECT(count != 0 || it->refusal == it->wanted || it->wanted != YUREWHA_DONE);
+    for (size_t i = 2; i < 2 * count + 2; i++) {
+        const size_t number = i / 2;
+        const bool all = i % 2 != 0;
+        const bool is_tried = number <= 2 || number == count / 2 || number >= count - 1;
+        if (!shape->tries_all && (all || !is_tried))
+            continue;
+        row("%s, %s, request %zu%s", shape->name, it->name, number, all ? " and all after it" : "");
+        turn(shape, it, number, all, &done);
+        refused++;
+    }
     return refused;
 }
 
 void test_refusals(void)
 {
-    struct world *w = block(sizeof *w);
     size_t refused = 0;
     if (!sees_requests()) {
         printf("refusals: left out, as no request of the library comes by here\n");
-        free(w);
         return;
     }
-    for (size_t i = 0; i < LENGTH(scenarios) * 2; i++) {
-        const struct scenario *it = &scenarios[i / 2];
-        row("%s", it->name);
-        make_for(w, it);
-        const long live = live_blocks();
-        EXPECT_STATUS(it->wanted, it->call(w));
-        const yurewha_hash done = told_of(w);
-        EXPECT(it->wanted == YUREWHA_DONE || live_blocks() == live);
-        unmake(w);
-        size_t number = 1;
-        for (; number < 10000; number++) {
-            row("%s, request %zu%s", it->name, number, i % 2 != 0 ? " and all after it" : "");
-            if (!turn(it, w, number, i % 2 != 0, &done))
-                break;
-        }
-        EXPECT(number > 1 || it->refusal == it->wanted || it->wanted != YUREWHA_DONE);
-        refused += number - 1;
+    for (size_t i = 0; i < LENGTH(shapes); i++) {
+        if (shapes[i].count > largest())
+            continue;
+        for (size_t j = 0; j < LENGTH(scenarios); j++)
+            refused += turns(&shapes[i], &scenarios[j]);
     }
-    make(w);
-    takes_no_memory(w);
-    unmake(w);
-    free(w);
+    struct world w;
+    make(&w, &shapes[0], false);
+    takes_no_memory(&w);
+    unmake(&w);
     printf("refusals: %zu requests were refused\n", refused);
 }

@@ -4,8 +4,8 @@
  *     bindings/c/make_values > bindings/c/values.h
  *
  * A list is a pattern or drawn. Of a pattern, node i has the words i, 0, 0 and w, and the size 1; w is 0 where character i is
- * '|', which makes a natural cut, else 1. Of a drawn list, node i has the hash random_from_seed(i + 1) and the size
- * 100 + 977 * i % 9901.
+ * '|', which makes a natural cut, else 1. A pattern that is shorter than its list is repeated. Of a drawn list, node i has the
+ * hash random_from_seed(i + 1) and the size 100 + 977 * i % 9901.
  */
 #ifndef VALUES_H
 #define VALUES_H
@@ -125,6 +125,18 @@ static const struct root_row {
     {NULL, 40, "c4f1fdc63179f4a7d7e2e87b57e21bb26f6fa5cf959aa490dcec701c2f91cc48", "d84260af85d103689dacd881f9168874810de203690ac31df5a7d15df1f92bbf"},
     {NULL, 150, "c710329fd466b5a0e08f4394bb28ff44a088d35515e308200b09b1c91131c4f0", "e472f76b2cfd0e53bae4d661297a2b64f5fc5a339dfdc9ec52dbc69266e5f883"},
     {NULL, 400, "360751088fd6b75d86d829ae9739acf32983e6dfbd4df6e9dd0e6737865f149a", "ba86d4e16c97cafa8465ed60daaa836318e9cbd18a91365f1bdecde7407713ba"},
+};
+
+/* Long lists with their root. */
+static const struct large_row {
+    const char *pattern; size_t count; const char *xorb;
+} large_rows[] = {
+    {".", 777, "f8a85b268fa7ed8268e746cade873e5b1a45fd8f56e403dbaca94562d10391bb"},
+    {"|", 777, "d2b2cf53ba58abb3213cc947964e6ac1a16cb15040d08b8d8c9e4abd64e79dbc"},
+    {"...|", 777, "73d5fa74f0d468747c5a0e7c0dcd3b6983fd7222b8b066bbf06b48f68696e5ab"},
+    {NULL, 777, "d2a4ec879359882e3d767e36ed80c180b967d3796ef8cbe1785cc257bc728aa4"},
+    {".", 5000, "4132f1636c9bde1529c572d723449d290c599fa183ed2919db38dd1616699730"},
+    {NULL, 5000, "18d8bebc73d8b3bff630c4e340aa34fce08602da85e5c7ae124984b146526e03"},
 };
 
 /* Lists under marks: the counts of left and right nodes of each level, the size, the root where both ends are marked,

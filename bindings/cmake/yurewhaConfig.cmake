@@ -1,0 +1,28 @@
+# For find_package(yurewha). The targets are yurewha::shared and yurewha::static; yurewha::yurewha is the shared one, or the
+# static one where BUILD_SHARED_LIBS is set to a false value.
+set(yurewha_libdir "${CMAKE_CURRENT_LIST_DIR}/../..")
+set(yurewha_includedir "${CMAKE_CURRENT_LIST_DIR}/../../../include")
+# In Debian's layout the libraries lie one folder deeper.
+if(NOT EXISTS "${yurewha_includedir}/yurewha.h")
+  set(yurewha_includedir "${CMAKE_CURRENT_LIST_DIR}/../../../../include")
+endif()
+
+if(NOT TARGET yurewha::shared)
+  add_library(yurewha::shared SHARED IMPORTED)
+  set_target_properties(yurewha::shared PROPERTIES
+    IMPORTED_LOCATION "${yurewha_libdir}/libyurewha.so.1"
+    IMPORTED_SONAME libyurewha.so.1
+    INTERFACE_INCLUDE_DIRECTORIES "${yurewha_includedir}")
+
+  add_library(yurewha::static STATIC IMPORTED)
+  set_target_properties(yurewha::static PROPERTIES
+    IMPORTED_LOCATION "${yurewha_libdir}/libyurewha.a"
+    INTERFACE_INCLUDE_DIRECTORIES "${yurewha_includedir}")
+
+  add_library(yurewha::yurewha INTERFACE IMPORTED)
+  if(DEFINED BUILD_SHARED_LIBS AND NOT BUILD_SHARED_LIBS)
+    set_target_properties(yurewha::yurewha PROPERTIES INTERFACE_LINK_LIBRARIES yurewha::static)
+  else()
+    set_target_properties(yurewha::yurewha PROPERTIES INTERFACE_LINK_LIBRARIES yurewha::shared)
+  endif()
+endif()
