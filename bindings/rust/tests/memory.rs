@@ -10,11 +10,12 @@ use std::fmt::Debug;
 use std::panic::{catch_unwind, AssertUnwindSafe};
 use std::ptr;
 use yurewha::error::CoreError;
-use yurewha::merklehash::aggregated_hashes::{try_file_hash, try_file_hash_with_salt, try_xorb_hash, Node};
-use yurewha::merklehash::session::{Session, SessionFault};
 use yurewha::merklehash::{
-    blake3, compute_data_hash, compute_internal_node_hash, file_hash, try_find_stable_end, try_find_stable_start,
-    xorb_hash, DataHash, HashTextError, MerkleHashSubtree,
+    compute_data_hash, compute_internal_node_hash, file_hash, xorb_hash, DataHash, MerkleHashSubtree,
+};
+use yurewha::own::{
+    self, try_file_hash, try_file_hash_with_salt, try_find_stable_end, try_find_stable_start, try_xorb_hash,
+    HashTextError, Node, Session, SessionFault,
 };
 
 extern "C" {
@@ -134,6 +135,49 @@ fn roots_and_subtrees_are_refused() {
     let text = subtree.to_json().unwrap();
     assert_each_refusal(NO_MEMORY, || MerkleHashSubtree::from_json(&text));
     assert_eq!(MerkleHashSubtree::from_json(&text), Ok(subtree));
+}
+
+// A place for text that takes no memory.
+struct Nowhere;
+
+impl std::fmt::Write for Nowhere {
+    fn write_str(&mut self, _: &str) -> std::fmt::Result {
+        Ok(())
+    }
+}
+
+#[test]
+fn debug_output_is_refused() {
+    let subtree = MerkleHashSubtree::from_chunks(false, &nodes(60), false);
+    assert_each_refusal(std::fmt::Error, || {
+        std::fmt::Write::write_fmt(&mut Nowhere, format_args!("{subtree:?}"))
+    });
+}
+
+#[cfg(feature = "serde")]
+#[test]
+fn forms_of_serde_are_refused() {
+    // An error takes memory of its own, which is there again.
+    fn is_no_memory(error: impl std::fmt::Display) -> bool {
+        error.to_string().contains("out of memory")
+    }
+    let subtree = MerkleHashSubtree::from_chunks(false, &nodes(60), false);
+    let (text, bytes) = (
+        serde_json::to_string(&subtree).unwrap(),
+        bincode::serialize(&subtree).unwrap(),
+    );
+    assert_each_refusal(true, || {
+        serde_json::to_writer(std::io::sink(), &subtree).map_err(is_no_memory)
+    });
+    assert_each_refusal(true, || {
+        bincode::serialize_into(std::io::sink(), &subtree).map_err(is_no_memory)
+    });
+    assert_each_refusal(true, || {
+        serde_json::from_str::<MerkleHashSubtree>(&text).map_err(is_no_memory)
+    });
+    assert_each_refusal(true, || {
+        bincode::deserialize::<MerkleHashSubtree>(&bytes).map_err(is_no_memory)
+    });
 }
 
 #[test]
@@ -265,7 +309,7 @@ fn other_calls_take_no_memory() {
         let bytes: [u8; 32] = hash.into();
         assert!(DataHash::from(bytes) == hash && hash <= DataHash::marker() && hash % 7 < 7);
         assert!(DataHash::from_hex(&text).is_ok());
-        let mut hasher = blake3::Hasher::new_keyed(&bytes);
+        let mut hasher = own::Hasher::new_keyed(&bytes);
         hasher.update(hash.as_bytes()).unwrap();
         assert!(hasher.finalize() == hash.hmac(hash));
         assert!(compute_data_hash(&bytes) != compute_internal_node_hash(&bytes));

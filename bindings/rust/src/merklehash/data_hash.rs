@@ -2,6 +2,7 @@
 
 use crate::error::{CoreError, Result};
 use crate::ffi;
+use crate::own::HashTextError;
 use crate::status::{answer, given, plain};
 use std::cmp::Ordering;
 use std::ffi::c_char;
@@ -10,12 +11,12 @@ use std::mem::{align_of, size_of};
 use std::ops::{Deref, DerefMut, Rem};
 use std::{fmt, ptr, slice, str};
 
-mod errors;
+pub(crate) mod errors;
 mod hashed_write;
 #[cfg(feature = "serde")]
 pub mod hex;
 
-pub use errors::{DataHashBytesParseError, DataHashHexParseError, HashTextError};
+pub use errors::{DataHashBytesParseError, DataHashHexParseError};
 pub use hashed_write::HashedWrite;
 
 /// A Merkle hash of 256 bits: four words, which it dereferences to.
@@ -106,6 +107,7 @@ impl DataHash {
     /// # Panics
     ///
     /// Where memory is refused; see [`try_base64`](Self::try_base64).
+    #[track_caller]
     pub fn base64(&self) -> String {
         plain("DataHash::base64", self.try_base64())
     }
@@ -143,6 +145,7 @@ impl DataHash {
     /// # Panics
     ///
     /// Where memory is refused; see [`try_from_base64`](Self::try_from_base64).
+    #[track_caller]
     pub fn from_base64(text: &str) -> std::result::Result<Self, DataHashBytesParseError> {
         match Self::try_from_base64(text) {
             Ok(hash) => Ok(hash),
@@ -154,7 +157,8 @@ impl DataHash {
     /// [`from_base64`](Self::from_base64), which also tells where memory is refused.
     ///
     /// ```
-    /// use yurewha::merklehash::{DataHash, HashTextError};
+    /// use yurewha::merklehash::DataHash;
+    /// use yurewha::own::HashTextError;
     ///
     /// assert_eq!(DataHash::try_from_base64(&"A".repeat(43)).unwrap(), DataHash::default());
     /// assert!(matches!(DataHash::try_from_base64("?"), Err(HashTextError::Bytes(_))));
@@ -306,11 +310,10 @@ impl Hash for DataHash {
 impl Rem<u64> for DataHash {
     type Output = u64;
 
+    #[inline]
+    #[track_caller]
     fn rem(self, divisor: u64) -> u64 {
-        // SAFETY: a hash, and a number to write to.
-        answer(|remainder| unsafe { ffi::yurewha_remainder(self.for_call(), divisor, remainder) }).unwrap_or_else(
-            |_: CoreError| panic!("attempt to calculate the remainder of a hash with a divisor of zero"),
-        )
+        self.0[3] % divisor
     }
 }
 

@@ -1,18 +1,16 @@
 //! Subtrees: what is kept of a range of chunks, to merge it with its neighbours without the chunks.
 
-use super::aggregated_hashes::Node;
 use super::data_hash::MerkleHash;
-use super::lent_chunks::{lend, node_of, room};
 use crate::error::Result;
 use crate::ffi;
 use crate::handle::Owned;
-use crate::status::{answer, looked_up, plain, told, told_if_there};
+use crate::lent_chunks::{lend, node_of, room};
+use crate::own::{try_find_stable_end, try_find_stable_start};
+use crate::status::{answer, plain, told, told_if_there};
 use std::{fmt, ptr};
 
 #[cfg(feature = "serde")]
 mod forms;
-#[cfg(feature = "serde")]
-mod json_text;
 
 /// The canonical subtree of some chunks: what is kept of them, to merge them with their neighbours.
 ///
@@ -75,7 +73,8 @@ impl MerkleHashSubtree {
     ///
     /// Where the sizes add up to more than `u64::MAX`, or memory is refused; see
     /// [`try_from_chunks`](Self::try_from_chunks).
-    pub fn from_chunks(at_start: bool, chunks: &[Node], at_end: bool) -> Self {
+    #[track_caller]
+    pub fn from_chunks(at_start: bool, chunks: &[(MerkleHash, u64)], at_end: bool) -> Self {
         plain(
             "MerkleHashSubtree::from_chunks",
             Self::try_from_chunks(at_start, chunks, at_end),
@@ -93,7 +92,7 @@ impl MerkleHashSubtree {
     /// let refused = MerkleHashSubtree::try_from_chunks(true, &[chunk; 2], true);
     /// assert_eq!(refused, Err(CoreError::SizeOverflow));
     /// ```
-    pub fn try_from_chunks(at_start: bool, chunks: &[Node], at_end: bool) -> Result<Self> {
+    pub fn try_from_chunks(at_start: bool, chunks: &[(MerkleHash, u64)], at_end: bool) -> Result<Self> {
         let chunks = lend(chunks)?;
         // SAFETY: chunks of their number, and an empty handle to write to.
         Self::made(|made| unsafe {
@@ -360,16 +359,19 @@ fn zeros<T: Clone + Default>(count: usize) -> Result<Vec<T>> {
     Ok(zeros)
 }
 
-// A subtree's levels and nodes as flat lists, in the order of `from_json`.
+// A subtree as marks and flat lists, in the order of `from_json`. It may say none.
 struct Flat {
-    nodes: Vec<Node>,
-    levels: Vec<(usize, usize)>,
+    nodes: Vec<ffi::yurewha_chunk>,
+    levels: Vec<ffi::yurewha_level>,
+    at_start: bool,
+    at_end: bool,
 }
 
 impl Flat {
     fn of(subtree: &MerkleHashSubtree) -> Result<Flat> {
-        let mut levels: Vec<ffi::yurewha_level> = zeros(subtree.num_levels())?;
-        let mut nodes: Vec<ffi::yurewha_chunk> = zeros(subtree.num_nodes())?;
+        let (at_start, at_end) = subtree.marks();
+        let mut levels = zeros(subtree.num_levels())?;
+        let mut nodes = zeros(subtree.num_nodes())?;
         // SAFETY: a handle, two rooms of the lengths that go with them, and two numbers to write to.
         let _: (usize, usize) = answer(|(level_count, node_count)| unsafe {
             ffi::yurewha_subtree_to_flat(
@@ -383,10 +385,25 @@ impl Flat {
             )
         })?;
         Ok(Flat {
-            nodes: nodes.iter().map(node_of).collect(),
-            levels: levels.iter().map(|level| (level.left, level.right)).collect(),
+            nodes,
+            levels,
+            at_start,
+            at_end,
         })
     }
+}
+
+// The elements of a list in another form, which are made one by one, so that they take no memory.
+struct InForm<'a, T, F>(&'a [T], F);
+
+impl<T, U: fmt::Debug, F: Fn(&T) -> U> fmt::Debug for InForm<'_, T, F> {
+    fn fmt(&self, f: &mut fmt::Formatter<'_>) -> fmt::Result {
+        f.debug_list().entries(self.0.iter().map(&self.1)).finish()
+    }
+}
+
+fn pair_of(level: &ffi::yurewha_level) -> (usize, usize) {
+    (level.left, level.right)
 }
 
 /// A copy.
@@ -395,6 +412,7 @@ impl Flat {
 ///
 /// Where memory is refused; see [`try_clone`](MerkleHashSubtree::try_clone).
 impl Clone for MerkleHashSubtree {
+    #[track_caller]
     fn clone(&self) -> Self {
         plain("MerkleHashSubtree::clone", self.try_clone())
     }
@@ -416,12 +434,11 @@ impl Eq for MerkleHashSubtree {}
 impl fmt::Debug for MerkleHashSubtree {
     fn fmt(&self, f: &mut fmt::Formatter<'_>) -> fmt::Result {
         let flat = Flat::of(self).map_err(|_| fmt::Error)?;
-        let (at_start, at_end) = self.marks();
         f.debug_struct("MerkleHashSubtree")
-            .field("nodes", &flat.nodes)
-            .field("levels", &flat.levels)
-            .field("at_start", &at_start)
-            .field("at_end", &at_end)
+            .field("nodes", &InForm(&flat.nodes, node_of))
+            .field("levels", &InForm(&flat.levels, pair_of))
+            .field("at_start", &flat.at_start)
+            .field("at_end", &flat.at_end)
             .finish()
     }
 }
@@ -441,22 +458,9 @@ impl fmt::Debug for MerkleHashSubtree {
 /// # Panics
 ///
 /// Where memory is refused; see [`try_find_stable_start`].
-pub fn find_stable_start(nodes: &[Node]) -> Option<usize> {
+#[track_caller]
+pub fn find_stable_start(nodes: &[(MerkleHash, u64)]) -> Option<usize> {
     plain("find_stable_start", try_find_stable_start(nodes))
-}
-
-/// [`find_stable_start`], refused where memory is.
-///
-/// ```
-/// use yurewha::merklehash::try_find_stable_start;
-///
-/// assert_eq!(try_find_stable_start(&[])?, None);
-/// # Ok::<(), yurewha::error::CoreError>(())
-/// ```
-pub fn try_find_stable_start(nodes: &[Node]) -> Result<Option<usize>> {
-    let nodes = lend(nodes)?;
-    // SAFETY: nodes of their number, and a number to write to.
-    looked_up(|point| unsafe { ffi::yurewha_find_stable_start(nodes.as_ptr(), nodes.len(), point) })
 }
 
 /// The last stable point of some nodes, as [`find_stable_start`] tells the first.
@@ -471,20 +475,7 @@ pub fn try_find_stable_start(nodes: &[Node]) -> Result<Option<usize>> {
 /// # Panics
 ///
 /// Where memory is refused; see [`try_find_stable_end`].
-pub fn find_stable_end(nodes: &[Node]) -> Option<usize> {
+#[track_caller]
+pub fn find_stable_end(nodes: &[(MerkleHash, u64)]) -> Option<usize> {
     plain("find_stable_end", try_find_stable_end(nodes))
-}
-
-/// [`find_stable_end`], refused where memory is.
-///
-/// ```
-/// use yurewha::merklehash::try_find_stable_end;
-///
-/// assert_eq!(try_find_stable_end(&[])?, None);
-/// # Ok::<(), yurewha::error::CoreError>(())
-/// ```
-pub fn try_find_stable_end(nodes: &[Node]) -> Result<Option<usize>> {
-    let nodes = lend(nodes)?;
-    // SAFETY: nodes of their number, and a number to write to.
-    looked_up(|point| unsafe { ffi::yurewha_find_stable_end(nodes.as_ptr(), nodes.len(), point) })
 }

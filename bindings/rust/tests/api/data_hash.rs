@@ -4,9 +4,9 @@ use crate::draws::{hash, Draws};
 use std::collections::HashSet;
 use std::hash::{DefaultHasher, Hash, Hasher};
 use yurewha::merklehash::{
-    blake3, compute_data_hash, compute_internal_node_hash, DataHash, DataHashBytesParseError, DataHashHexParseError,
-    HMACKey, HashTextError,
+    compute_data_hash, compute_internal_node_hash, DataHash, DataHashBytesParseError, DataHashHexParseError, HMACKey,
 };
+use yurewha::own::{self, HashTextError};
 
 const TEXT: &str = "d6834b04843aaf16f29903e2428a99be635099f9ea5056cc4e95e7ec8a41509f";
 
@@ -199,7 +199,7 @@ fn pieces_have_the_hash_of_the_whole() {
         let whole = message(length);
         for cut in [0, 1, 1023, 1024, 1025, length] {
             let (first, second) = whole.split_at(cut.min(length));
-            let begun = [blake3::Hasher::new_data(), blake3::Hasher::new_internal_node()];
+            let begun = [own::Hasher::new_data(), own::Hasher::new_internal_node()];
             let hashes = begun.map(|mut hasher| {
                 hasher.update(first).unwrap();
                 let mut other = hasher.clone();
@@ -216,10 +216,10 @@ fn pieces_have_the_hash_of_the_whole() {
 #[test]
 fn a_keyed_hasher_is_an_hmac_and_keeps_its_key_to_itself() {
     for (message, key) in drawn().zip(drawn().skip(1)) {
-        let mut hasher = blake3::Hasher::new_keyed(&key.into());
+        let mut hasher = own::Hasher::new_keyed(&key.into());
         hasher.update(message.as_bytes()).unwrap();
         assert_eq!(hasher.finalize(), message.hmac(key));
         assert_eq!(format!("{hasher:?}"), "Hasher { count: 32, .. }");
     }
-    assert!(blake3::Hasher::new_data().has_room(usize::MAX));
+    assert!(own::Hasher::new_data().has_room(usize::MAX));
 }

@@ -1,10 +1,11 @@
-//! serde's forms: JSON, and bincode as a binary format.
+//! serde's forms: JSON and RON, which people read, and bincode as a binary format.
 
 use crate::draws::{numbered, reference, Draws};
 use crate::json::forged;
 use serde::{Deserialize, Serialize};
 use std::fmt::Debug;
 use std::hash::Hasher;
+use yurewha::error::CoreError;
 use yurewha::merklehash::{self, DataHash, MerkleHashSubtree, PassThroughHashMap, U64DirectHasher};
 
 // That a value has this JSON text and these bytes of bincode, and is read back from both.
@@ -15,6 +16,7 @@ fn assert_forms<T: Serialize + for<'de> Deserialize<'de> + PartialEq + Debug>(va
     assert_eq!(serde_json::from_reader::<_, T>(text.as_bytes()).unwrap(), *value);
     let tree = serde_json::to_value(value).unwrap();
     assert_eq!(serde_json::from_value::<T>(tree).unwrap(), *value);
+    assert_eq!(ron::from_str::<T>(&ron::to_string(value).unwrap()).unwrap(), *value);
     assert_eq!(bincode::serialize(value).unwrap(), bytes);
     assert_eq!(bincode::deserialize::<T>(bytes).unwrap(), *value);
 }
@@ -121,6 +123,8 @@ fn drawn_subtrees_are_read_back() {
         assert_eq!(serde_json::from_str::<MerkleHashSubtree>(&own).unwrap(), subtree);
         let bytes = bincode::serialize(&subtree).unwrap();
         assert_eq!(bincode::deserialize::<MerkleHashSubtree>(&bytes).unwrap(), subtree);
+        let text = ron::ser::to_string_pretty(&subtree, ron::ser::PrettyConfig::default().struct_names(true)).unwrap();
+        assert_eq!(ron::from_str::<MerkleHashSubtree>(&text).unwrap(), subtree);
     }
 }
 
@@ -133,18 +137,193 @@ fn members_may_stand_in_any_order_with_others_between() {
     assert_eq!(serde_json::from_str::<MerkleHashSubtree>(&spaced).unwrap(), empty);
 }
 
+// The error of reading a text.
+fn error_of(text: &str) -> serde_json::Error {
+    serde_json::from_str::<MerkleHashSubtree>(text).unwrap_err()
+}
+
 #[test]
-fn forged_json_is_refused_with_the_least_rule_in_the_text() {
+fn forged_json_is_refused_with_the_rule_in_the_text() {
     for (rule, text) in forged() {
-        let error = serde_json::from_str::<MerkleHashSubtree>(&text).unwrap_err();
-        assert_eq!(error.to_string(), format!("invalid JSON: rule {rule}"), "{text}");
+        let named = format!("invalid JSON: rule {rule}");
         let value: serde_json::Value = serde_json::from_str(&text).unwrap();
-        let error = serde_json::from_value::<MerkleHashSubtree>(value).unwrap_err();
-        assert_eq!(error.to_string(), format!("invalid JSON: rule {rule}"), "{text}");
+        for error in [
+            error_of(&text),
+            serde_json::from_reader::<_, MerkleHashSubtree>(text.as_bytes()).unwrap_err(),
+            serde_json::from_value::<MerkleHashSubtree>(value).unwrap_err(),
+        ] {
+            assert!(error.is_data(), "{text}: {error}");
+            assert!(error.to_string().replace(')', " ").contains(&named), "{text}: {error}");
+        }
     }
-    assert!(serde_json::from_str::<MerkleHashSubtree>("{\"nodes\":[")
-        .unwrap_err()
-        .is_eof());
+    assert!(error_of("{\"nodes\":[").is_eof());
+    assert!(error_of("{\"nodes\":[}").is_syntax());
+}
+
+#[test]
+fn an_error_names_the_field_and_the_place() {
+    let node = format!(r#"{{"hash":"{}","size":1}}"#, DataHash::marker());
+    let text = format!("{{\"nodes\":[{node}],\n\"levels\":[[1,0]],\n\"at_start\":true,\n\"at_end\":true}}");
+    assert!(serde_json::from_str::<MerkleHashSubtree>(&text).is_ok());
+    let rule = |number: u8| format!("invalid JSON: rule {number}");
+    for (from, to, message) in [
+        (
+            "[[1,0]]",
+            "null",
+            format!(
+                "invalid type: null, expected a sequence as `levels` ({}) at line 2 column 13",
+                rule(2)
+            ),
+        ),
+        (
+            "\"levels\"",
+            "\"level\"",
+            format!(
+                "missing field `levels`, expected a sequence as `levels` ({}) at line 4 column 14",
+                rule(2)
+            ),
+        ),
+        (
+            "\"at_start\":true",
+            "\"at_start\":1",
+            format!(
+                "invalid type: integer `1`, expected a truth value as `at_start` ({}) at line 3 column 12",
+                rule(2)
+            ),
+        ),
+        (
+            "\"size\":1",
+            "\"size\":-1",
+            format!(
+                "invalid value: integer `-1`, expected a whole number below 2^64 as `size` ({}) at line 1 column 94",
+                rule(3)
+            ),
+        ),
+        (
+            "\"size\"",
+            "\"length\"",
+            format!(
+                "missing field `size`, expected a whole number below 2^64 as `size` ({}) at line 1 column 95",
+                rule(3)
+            ),
+        ),
+        (
+            "[1,0]",
+            "[1]",
+            format!(
+                "invalid length 1, expected a pair of numbers in `levels` ({}) at line 2 column 13",
+                rule(4)
+            ),
+        ),
+        (
+            "[1,0]",
+            "[1,0,0]",
+            format!(
+                "invalid length 3, expected a pair of numbers in `levels` ({}) at line 2 column 16",
+                rule(4)
+            ),
+        ),
+        ("[1,0]", "[2,0]", format!("{} at line 4 column 14", rule(6))),
+    ] {
+        assert_eq!(error_of(&text.replace(from, to)).to_string(), message);
+    }
+}
+
+#[test]
+fn a_number_is_no_object_of_a_member() {
+    let number = r#"{"$serde_json::private::Number":"5"}"#;
+    let node = |size: &str| format!(r#"{{"hash":"{}","size":{size}}}"#, DataHash::marker());
+    let text = |size: &str, left: &str| {
+        format!(
+            r#"{{"nodes":[{}],"levels":[[{left},0]],"at_start":true,"at_end":true}}"#,
+            node(size)
+        )
+    };
+    assert!(serde_json::from_str::<MerkleHashSubtree>(&text("5", "1")).is_ok());
+    let error = error_of(&text(number, "1"));
+    assert!(
+        error.to_string().contains("as `size` (invalid JSON: rule 3)"),
+        "{error}"
+    );
+    let error = error_of(&text("5", &number.replace('5', "1")));
+    assert!(
+        error.to_string().contains("in `levels` (invalid JSON: rule 4)"),
+        "{error}"
+    );
+}
+
+#[test]
+fn of_several_broken_rules_of_form_the_first_that_is_met_is_named() {
+    let text = r#"{"nodes":[{}],"levels":null}"#;
+    assert!(error_of(text).to_string().contains("invalid JSON: rule 3"));
+    assert_eq!(MerkleHashSubtree::from_json(text), Err(CoreError::InvalidJson(2)));
+}
+
+#[test]
+fn a_member_that_is_written_twice_is_refused() {
+    let node = format!(r#"{{"hash":"{}","size":1}}"#, DataHash::marker());
+    let text = format!(r#"{{"nodes":[{node}],"levels":[[1,0]],"at_start":true,"at_end":true}}"#);
+    for member in [
+        "\"levels\":[[1,0]]",
+        "\"at_start\":true",
+        "\"at_end\":true",
+        "\"size\":1",
+        &format!("\"nodes\":[{node}]"),
+    ] {
+        let error = error_of(&text.replace(member, &format!("{member},{member}")));
+        assert!(error.to_string().starts_with("duplicate field `"), "{error}");
+    }
+}
+
+#[test]
+fn ron_reads_what_it_wrote_and_names_what_is_wrong() {
+    let subtree = MerkleHashSubtree::from_chunks(false, &numbered(0..24), false);
+    let text = ron::to_string(&subtree).unwrap();
+    assert_eq!(ron::from_str::<MerkleHashSubtree>(&text).unwrap(), subtree);
+    for (from, to, rule) in [
+        ("at_start:false", "at_start:0", 2),
+        ("size:1", "size:-1", 3),
+        ("(8,4)", "(8,-4)", 4),
+        ("(8,4)", "(9,4)", 6),
+    ] {
+        let forged = text.replacen(from, to, 1);
+        assert_ne!(forged, text);
+        let error = ron::from_str::<MerkleHashSubtree>(&forged).unwrap_err().to_string();
+        assert!(
+            rule < 5 || error.contains(&format!("invalid JSON: rule {rule}")),
+            "{error}"
+        );
+    }
+}
+
+// A subtree among other members of the same object, which serde reads into values of its own first.
+#[derive(Serialize, Deserialize, PartialEq, Debug)]
+struct Among {
+    name: String,
+    #[serde(flatten)]
+    subtree: MerkleHashSubtree,
+}
+
+#[derive(Serialize, Deserialize, PartialEq, Debug)]
+#[serde(untagged)]
+enum Either {
+    Name(String),
+    Subtree(MerkleHashSubtree),
+}
+
+#[test]
+fn a_subtree_stands_wherever_a_struct_may() {
+    let subtree = || MerkleHashSubtree::from_chunks(false, &numbered(0..24), false);
+    let among = Among {
+        name: "a range".to_owned(),
+        subtree: subtree(),
+    };
+    let text = serde_json::to_string(&among).unwrap();
+    assert_eq!(serde_json::from_str::<Among>(&text).unwrap(), among);
+    for either in [Either::Name("a range".to_owned()), Either::Subtree(subtree())] {
+        let text = serde_json::to_string(&either).unwrap();
+        assert_eq!(serde_json::from_str::<Either>(&text).unwrap(), either);
+    }
 }
 
 // The form of a subtree in a binary format, which may say none.

@@ -4,8 +4,8 @@ use crate::draws::{hash, reference, Draws};
 use std::collections::HashSet;
 use std::mem::size_of;
 use yurewha::error::CoreError;
-use yurewha::merklehash::session::{Session, SessionFault};
-use yurewha::merklehash::{aggregated_hashes::Node, file_hash, xorb_hash, MerkleHash, MerkleHashSubtree};
+use yurewha::merklehash::{file_hash, xorb_hash, MerkleHash, MerkleHashSubtree};
+use yurewha::own::{Node, Session, SessionFault};
 
 #[test]
 fn the_example_is_answered() {

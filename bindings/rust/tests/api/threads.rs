@@ -3,8 +3,8 @@
 use crate::draws::Draws;
 use std::panic::{RefUnwindSafe, UnwindSafe};
 use std::thread;
-use yurewha::merklehash::session::Session;
-use yurewha::merklehash::{blake3, file_hash, xorb_hash, DataHash, MerkleHashSubtree};
+use yurewha::merklehash::{file_hash, xorb_hash, DataHash, MerkleHashSubtree};
+use yurewha::own::{self, Session};
 
 // A type that is `Sync` has two ways to name `SOME`, so that naming it doesn't compile.
 trait IsNotSync<Way> {
@@ -32,7 +32,7 @@ const _: () = {
     assert_send::<MerkleHashSubtree>();
     assert_send::<Session>();
     assert_send_and_sync::<DataHash>();
-    assert_send_and_sync::<blake3::Hasher>();
+    assert_send_and_sync::<own::Hasher>();
     assert_unwind_safe::<MerkleHashSubtree>();
     assert_unwind_safe::<Session>();
 };

@@ -4,8 +4,8 @@ use driver::drawn::Cuts;
 use driver::plain;
 use driver::rows::{Row, Task, HEAD};
 use std::hint::black_box;
-use yurewha::merklehash::blake3::Hasher;
 use yurewha::merklehash::{compute_data_hash, MerkleHash};
+use yurewha::own::Hasher;
 
 const PEER: &str = if cfg!(feature = "portable") { "`blake3`, no SIMD" } else { "`blake3`, SIMD" };
 

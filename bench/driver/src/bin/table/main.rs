@@ -10,7 +10,8 @@ mod sessions;
 
 use driver::drawn::{self, Cuts};
 use driver::plain;
-use yurewha::merklehash::{MerkleHash, Node};
+use yurewha::merklehash::MerkleHash;
+use yurewha::own::Node;
 
 // Drawn chunks as the crate has them.
 fn chunks(seed: u64, cuts: Cuts, count: usize) -> Vec<Node> {

@@ -5,6 +5,7 @@ use crate::ffi;
 use crate::status::Refusal;
 use std::error::Error;
 use std::fmt;
+use std::num::ParseIntError;
 
 /// A text isn't 64 hex digits.
 #[derive(Clone, Debug, PartialEq, Eq)]
@@ -41,6 +42,13 @@ impl fmt::Display for HashTextError {
             HashTextError::Bytes(error) => error.fmt(f),
             HashTextError::OutOfMemory => CoreError::OutOfMemory.fmt(f),
         }
+    }
+}
+
+/// For callers that read the digits of a word as a number.
+impl From<ParseIntError> for DataHashHexParseError {
+    fn from(_: ParseIntError) -> Self {
+        DataHashHexParseError
     }
 }
 

@@ -1,7 +1,7 @@
 //! A writer that hashes what is written.
 
 use super::DataHash;
-use crate::merklehash::blake3::Hasher;
+use crate::own::Hasher;
 use std::io::{self, ErrorKind, Write};
 
 /// A writer that hands what it is given to an inner writer, and hashes what that one takes.

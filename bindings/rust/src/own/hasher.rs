@@ -1,15 +1,16 @@
-//! Keyed BLAKE3 of a message that comes in pieces. This module is this crate's own.
+//! Keyed BLAKE3 of a message that comes in pieces.
 
-use super::data_hash::DataHash;
 use crate::error::Result;
 use crate::ffi;
+use crate::merklehash::data_hash::DataHash;
 use crate::status::{answer, given};
 use std::{fmt, ptr};
 
 /// A hasher that takes a message in pieces. It takes no memory, and a clone is a copy of its 1864 bytes.
 ///
 /// ```
-/// use yurewha::merklehash::{blake3::Hasher, compute_data_hash};
+/// use yurewha::merklehash::compute_data_hash;
+/// use yurewha::own::Hasher;
 ///
 /// let mut hasher = Hasher::new_data();
 /// hasher.update(b"some ")?;
@@ -24,10 +25,11 @@ use std::{fmt, ptr};
 pub struct Hasher(ffi::yurewha_hasher);
 
 impl Hasher {
-    /// A hasher of the empty message that gives what [`compute_data_hash`](super::compute_data_hash) does.
+    /// A hasher of the empty message that gives what [`compute_data_hash`](crate::merklehash::compute_data_hash) does.
     ///
     /// ```
-    /// use yurewha::merklehash::{blake3::Hasher, compute_data_hash};
+    /// use yurewha::merklehash::compute_data_hash;
+    /// use yurewha::own::Hasher;
     ///
     /// assert_eq!(Hasher::new_data().finalize(), compute_data_hash(b""));
     /// ```
@@ -37,10 +39,11 @@ impl Hasher {
     }
 
     /// A hasher of the empty message that gives what
-    /// [`compute_internal_node_hash`](super::compute_internal_node_hash) does.
+    /// [`compute_internal_node_hash`](crate::merklehash::compute_internal_node_hash) does.
     ///
     /// ```
-    /// use yurewha::merklehash::{blake3::Hasher, compute_internal_node_hash};
+    /// use yurewha::merklehash::compute_internal_node_hash;
+    /// use yurewha::own::Hasher;
     ///
     /// assert_eq!(Hasher::new_internal_node().finalize(), compute_internal_node_hash(b""));
     /// ```
@@ -52,7 +55,8 @@ impl Hasher {
     /// A hasher of the empty message under a key.
     ///
     /// ```
-    /// use yurewha::merklehash::{blake3::Hasher, DataHash};
+    /// use yurewha::merklehash::DataHash;
+    /// use yurewha::own::Hasher;
     ///
     /// let (hash, key) = (DataHash::random_from_seed(1), DataHash::random_from_seed(2));
     /// let mut hasher = Hasher::new_keyed(&key.into());
@@ -74,7 +78,7 @@ impl Hasher {
     /// How many bytes the message has.
     ///
     /// ```
-    /// use yurewha::merklehash::blake3::Hasher;
+    /// use yurewha::own::Hasher;
     ///
     /// let mut hasher = Hasher::new_data();
     /// hasher.update(b"some ")?;
@@ -89,7 +93,7 @@ impl Hasher {
     /// Whether the message would have at most `u64::MAX` bytes with a piece of this length.
     ///
     /// ```
-    /// use yurewha::merklehash::blake3::Hasher;
+    /// use yurewha::own::Hasher;
     ///
     /// assert!(Hasher::new_data().has_room(1 << 20));
     /// ```
@@ -101,7 +105,8 @@ impl Hasher {
     /// [`SizeOverflow`](crate::error::CoreError::SizeOverflow).
     ///
     /// ```
-    /// use yurewha::merklehash::{blake3::Hasher, compute_data_hash};
+    /// use yurewha::merklehash::compute_data_hash;
+    /// use yurewha::own::Hasher;
     ///
     /// let mut hasher = Hasher::new_data();
     /// hasher.update(b"some data")?;
@@ -116,7 +121,7 @@ impl Hasher {
     /// The keyed hash of the message. The hasher can go on.
     ///
     /// ```
-    /// use yurewha::merklehash::blake3::Hasher;
+    /// use yurewha::own::Hasher;
     ///
     /// let mut hasher = Hasher::new_data();
     /// let empty = hasher.finalize();

@@ -1,19 +1,19 @@
-//! Upload sessions: the chunks of a file by their positions, which come in any order. This module is this crate's own.
+//! Upload sessions: the chunks of a file by their positions, which come in any order.
 
-use super::aggregated_hashes::Node;
-use super::data_hash::MerkleHash;
-use super::lent_chunks::lend;
-use super::merkle_hash_subtree::MerkleHashSubtree;
+use super::Node;
 use crate::error::Result;
 use crate::ffi;
 use crate::handle::Owned;
+use crate::lent_chunks::lend;
+use crate::merklehash::data_hash::MerkleHash;
+use crate::merklehash::merkle_hash_subtree::MerkleHashSubtree;
 use crate::status::{answer, looked_up, plain, told, Refusal};
 use std::fmt;
 
 /// Why a call of a session was refused, the least reason first. After a refusal nothing has changed.
 ///
 /// ```
-/// use yurewha::merklehash::session::SessionFault;
+/// use yurewha::own::SessionFault;
 ///
 /// assert_eq!(SessionFault::Overlap.to_string(), "a position is taken");
 /// ```
@@ -62,8 +62,8 @@ impl Refusal for SessionFault {
 /// them.
 ///
 /// ```
-/// use yurewha::merklehash::session::{Session, SessionFault};
 /// use yurewha::merklehash::{file_hash, MerkleHash};
+/// use yurewha::own::{Session, SessionFault};
 ///
 /// let [first, second, third] = [1, 2, 3].map(|seed| (MerkleHash::random_from_seed(seed), 100));
 /// let mut session = Session::new();
@@ -80,7 +80,7 @@ impl Refusal for SessionFault {
 ///
 /// ```compile_fail
 /// fn shared<T: Sync>() {}
-/// shared::<yurewha::merklehash::session::Session>();
+/// shared::<yurewha::own::Session>();
 /// ```
 pub struct Session(Owned<ffi::yurewha_session>);
 
@@ -88,7 +88,8 @@ impl Session {
     /// A session without chunks.
     ///
     /// ```
-    /// use yurewha::merklehash::{session::Session, MerkleHash};
+    /// use yurewha::merklehash::MerkleHash;
+    /// use yurewha::own::Session;
     ///
     /// assert_eq!(Session::new().finish(0), Ok(MerkleHash::default()));
     /// ```
@@ -96,6 +97,7 @@ impl Session {
     /// # Panics
     ///
     /// Where memory is refused; see [`try_new`](Self::try_new).
+    #[track_caller]
     pub fn new() -> Self {
         plain("Session::new", Self::try_new())
     }
@@ -103,7 +105,7 @@ impl Session {
     /// [`new`](Self::new), refused where memory is.
     ///
     /// ```
-    /// use yurewha::merklehash::session::Session;
+    /// use yurewha::own::Session;
     ///
     /// assert_eq!(Session::try_new()?.num_runs(), 0);
     /// # Ok::<(), yurewha::error::CoreError>(())
@@ -121,7 +123,8 @@ impl Session {
     /// had, each counted once. Without a chunk it tells 0 and changes nothing.
     ///
     /// ```
-    /// use yurewha::merklehash::{session::Session, MerkleHash};
+    /// use yurewha::merklehash::MerkleHash;
+    /// use yurewha::own::Session;
     ///
     /// let chunk = (MerkleHash::random_from_seed(1), 100);
     /// let mut session = Session::new();
@@ -146,12 +149,13 @@ impl Session {
     /// Whether a position is taken.
     ///
     /// ```
-    /// use yurewha::merklehash::{session::Session, MerkleHash};
+    /// use yurewha::merklehash::MerkleHash;
+    /// use yurewha::own::Session;
     ///
     /// let mut session = Session::new();
     /// session.put(7, &[(MerkleHash::default(), 100)])?;
     /// assert!(session.taken(7) && !session.taken(8));
-    /// # Ok::<(), yurewha::merklehash::session::SessionFault>(())
+    /// # Ok::<(), yurewha::own::SessionFault>(())
     /// ```
     pub fn taken(&self, position: u64) -> bool {
         // SAFETY: a handle, and a truth value to write to.
@@ -161,14 +165,15 @@ impl Session {
     /// How many runs of adjacent positions are taken.
     ///
     /// ```
-    /// use yurewha::merklehash::{session::Session, MerkleHash};
+    /// use yurewha::merklehash::MerkleHash;
+    /// use yurewha::own::Session;
     ///
     /// let chunk = (MerkleHash::default(), 100);
     /// let mut session = Session::new();
     /// session.put(7, &[chunk; 2])?;
     /// session.put(0, &[chunk; 2])?;
     /// assert_eq!(session.num_runs(), 2);
-    /// # Ok::<(), yurewha::merklehash::session::SessionFault>(())
+    /// # Ok::<(), yurewha::own::SessionFault>(())
     /// ```
     pub fn num_runs(&self) -> usize {
         // SAFETY: a handle, and a number to write to.
@@ -179,19 +184,21 @@ impl Session {
     /// counted from 0 by rising position; `None` where there is no such run. The time is in proportion to the index.
     ///
     /// ```
-    /// use yurewha::merklehash::{session::Session, MerkleHash};
+    /// use yurewha::merklehash::MerkleHash;
+    /// use yurewha::own::Session;
     ///
     /// let mut session = Session::new();
     /// session.put(7, &[(MerkleHash::default(), 100); 2])?;
     /// let (first, range) = session.range(0).unwrap();
     /// assert_eq!((first, range.total_size()), (7, 200));
     /// assert!(session.range(1).is_none());
-    /// # Ok::<(), yurewha::merklehash::session::SessionFault>(())
+    /// # Ok::<(), yurewha::own::SessionFault>(())
     /// ```
     ///
     /// # Panics
     ///
     /// Where memory is refused; see [`try_range`](Self::try_range).
+    #[track_caller]
     pub fn range(&self, index: usize) -> Option<(u64, MerkleHashSubtree)> {
         plain("Session::range", self.try_range(index))
     }
@@ -199,7 +206,7 @@ impl Session {
     /// [`range`](Self::range), refused where memory is.
     ///
     /// ```
-    /// use yurewha::merklehash::session::Session;
+    /// use yurewha::own::Session;
     ///
     /// assert!(Session::new().try_range(0)?.is_none());
     /// # Ok::<(), yurewha::error::CoreError>(())
@@ -215,7 +222,8 @@ impl Session {
     /// All runs by rising position, each as [`range`](Self::range) tells it.
     ///
     /// ```
-    /// use yurewha::merklehash::{session::Session, MerkleHash};
+    /// use yurewha::merklehash::MerkleHash;
+    /// use yurewha::own::Session;
     ///
     /// let chunk = (MerkleHash::default(), 100);
     /// let mut session = Session::new();
@@ -223,7 +231,7 @@ impl Session {
     /// session.put(0, &[chunk; 3])?;
     /// let sizes: Vec<_> = session.runs().map(|(first, range)| (first, range.total_size())).collect();
     /// assert_eq!(sizes, [(0, 300), (7, 200)]);
-    /// # Ok::<(), yurewha::merklehash::session::SessionFault>(())
+    /// # Ok::<(), yurewha::own::SessionFault>(())
     /// ```
     ///
     /// # Panics
@@ -236,13 +244,14 @@ impl Session {
     /// The root of all chunks by position.
     ///
     /// ```
-    /// use yurewha::merklehash::{session::Session, xorb_hash, MerkleHash};
+    /// use yurewha::merklehash::{xorb_hash, MerkleHash};
+    /// use yurewha::own::Session;
     ///
     /// let chunks = [1, 2, 3].map(|seed| (MerkleHash::random_from_seed(seed), 100));
     /// let mut session = Session::new();
     /// session.put(0, &chunks)?;
     /// assert_eq!(session.root(3), Ok(xorb_hash(&chunks)));
-    /// # Ok::<(), yurewha::merklehash::session::SessionFault>(())
+    /// # Ok::<(), yurewha::own::SessionFault>(())
     /// ```
     ///
     /// # Errors
@@ -257,14 +266,15 @@ impl Session {
     /// The file hash of all chunks by position, without a salt.
     ///
     /// ```
-    /// use yurewha::merklehash::{file_hash, session::Session, MerkleHash};
+    /// use yurewha::merklehash::{file_hash, MerkleHash};
+    /// use yurewha::own::Session;
     ///
     /// let chunks = [1, 2, 3].map(|seed| (MerkleHash::random_from_seed(seed), 100));
     /// let mut session = Session::new();
     /// session.put(1, &chunks[1..])?;
     /// session.put(0, &chunks[..1])?;
     /// assert_eq!(session.finish(3), Ok(file_hash(&chunks)));
-    /// # Ok::<(), yurewha::merklehash::session::SessionFault>(())
+    /// # Ok::<(), yurewha::own::SessionFault>(())
     /// ```
     ///
     /// # Errors
@@ -278,6 +288,7 @@ impl Session {
 
 impl Default for Session {
     /// A session without chunks.
+    #[track_caller]
     fn default() -> Self {
         Self::new()
     }
