@@ -2,6 +2,7 @@
 
 use crate::draws::{numbered, reference, Draws};
 use crate::json::forged;
+use serde::de::value::SeqDeserializer;
 use serde::{Deserialize, Serialize};
 use std::fmt::Debug;
 use std::hash::Hasher;
@@ -160,72 +161,26 @@ fn forged_json_is_refused_with_the_rule_in_the_text() {
     assert!(error_of("{\"nodes\":[}").is_syntax());
 }
 
+// What is replaced in the text of a subtree, by what, and the error of reading it.
+const FORGED_MEMBERS: &str = r#"
+[[1,0]] => null => invalid type: null, expected a sequence as `levels` (invalid JSON: rule 2) at line 2 column 13
+"levels" => "level" => missing field `levels`, expected a sequence as `levels` (invalid JSON: rule 2) at line 4 column 14
+start":true => start":1 => invalid type: integer `1`, expected a truth value as `at_start` (invalid JSON: rule 2) at line 3 column 12
+"size":1 => "size":-1 => invalid value: integer `-1`, expected a whole number below 2^64 as `size` (invalid JSON: rule 3) at line 1 column 94
+"size" => "length" => missing field `size`, expected a whole number below 2^64 as `size` (invalid JSON: rule 3) at line 1 column 96
+[1,0] => [1] => invalid length 1, expected a pair of numbers in `levels` (invalid JSON: rule 4) at line 2 column 13
+[1,0] => [1,0,0] => invalid length 3, expected a pair of numbers in `levels` (invalid JSON: rule 4) at line 2 column 17
+[1,0] => [2,0] => invalid JSON: rule 6 at line 4 column 14
+"#;
+
 #[test]
 fn an_error_names_the_field_and_the_place() {
     let node = format!(r#"{{"hash":"{}","size":1}}"#, DataHash::marker());
     let text = format!("{{\"nodes\":[{node}],\n\"levels\":[[1,0]],\n\"at_start\":true,\n\"at_end\":true}}");
     assert!(serde_json::from_str::<MerkleHashSubtree>(&text).is_ok());
-    let rule = |number: u8| format!("invalid JSON: rule {number}");
-    for (from, to, message) in [
-        (
-            "[[1,0]]",
-            "null",
-            format!(
-                "invalid type: null, expected a sequence as `levels` ({}) at line 2 column 13",
-                rule(2)
-            ),
-        ),
-        (
-            "\"levels\"",
-            "\"level\"",
-            format!(
-                "missing field `levels`, expected a sequence as `levels` ({}) at line 4 column 14",
-                rule(2)
-            ),
-        ),
-        (
-            "\"at_start\":true",
-            "\"at_start\":1",
-            format!(
-                "invalid type: integer `1`, expected a truth value as `at_start` ({}) at line 3 column 12",
-                rule(2)
-            ),
-        ),
-        (
-            "\"size\":1",
-            "\"size\":-1",
-            format!(
-                "invalid value: integer `-1`, expected a whole number below 2^64 as `size` ({}) at line 1 column 94",
-                rule(3)
-            ),
-        ),
-        (
-            "\"size\"",
-            "\"length\"",
-            format!(
-                "missing field `size`, expected a whole number below 2^64 as `size` ({}) at line 1 column 95",
-                rule(3)
-            ),
-        ),
-        (
-            "[1,0]",
-            "[1]",
-            format!(
-                "invalid length 1, expected a pair of numbers in `levels` ({}) at line 2 column 13",
-                rule(4)
-            ),
-        ),
-        (
-            "[1,0]",
-            "[1,0,0]",
-            format!(
-                "invalid length 3, expected a pair of numbers in `levels` ({}) at line 2 column 16",
-                rule(4)
-            ),
-        ),
-        ("[1,0]", "[2,0]", format!("{} at line 4 column 14", rule(6))),
-    ] {
-        assert_eq!(error_of(&text.replace(from, to)).to_string(), message);
+    for row in FORGED_MEMBERS.trim().lines() {
+        let [from, to, error] = row.split(" => ").collect::<Vec<_>>().try_into().unwrap();
+        assert_eq!(error_of(&text.replace(from, to)).to_string(), error);
     }
 }
 
@@ -419,6 +374,36 @@ fn a_map_is_a_sequence_of_pairs() {
         error.to_string().contains("a sequence of pairs of key and value"),
         "{error}"
     );
+}
+
+// An iterator that claims to have so many elements.
+struct Claiming<I>(I, usize);
+
+impl<I: Iterator> Iterator for Claiming<I> {
+    type Item = I::Item;
+
+    fn next(&mut self) -> Option<I::Item> {
+        self.0.next()
+    }
+
+    fn size_hint(&self) -> (usize, Option<usize>) {
+        (self.1, Some(self.1))
+    }
+}
+
+#[test]
+fn a_map_is_read_into_room_for_the_pairs_that_are_claimed() {
+    let capacity = |claimed| {
+        let pairs = Claiming([vec![7u64, 8]].into_iter(), claimed);
+        let pairs = SeqDeserializer::<_, serde::de::value::Error>::new(pairs);
+        let map = PassThroughHashMap::<u64, u64>::deserialize(pairs).unwrap();
+        assert_eq!((map.len(), map[&7]), (1, 8));
+        map.capacity()
+    };
+    assert!(capacity(1) < 1000);
+    assert!(capacity(100_000) >= 100_000);
+    // A forged claim isn't believed.
+    assert!(capacity(usize::MAX) < 1 << 26);
 }
 
 #[test]
