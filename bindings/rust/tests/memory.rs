@@ -225,6 +225,7 @@ fn sessions_are_refused() {
         }
     }
     assert_each_refusal(NO_MEMORY, || session.try_range(0));
+    assert_each_refusal(NO_MEMORY, || session.gaps(60));
     assert_each_refusal(SessionFault::Memory, || session.root(60));
     assert_each_refusal(SessionFault::Memory, || session.finish(60));
     assert_eq!(session.finish(60), Ok(file_hash(&nodes)));
@@ -310,7 +311,7 @@ fn other_calls_take_no_memory() {
         assert!(DataHash::from(bytes) == hash && hash <= DataHash::marker() && hash % 7 < 7);
         assert!(DataHash::from_hex(&text).is_ok());
         let mut hasher = own::Hasher::new_keyed(&bytes);
-        hasher.update(hash.as_bytes()).unwrap();
+        hasher.update(hash.as_bytes());
         assert!(hasher.finalize() == hash.hmac(hash));
         assert!(compute_data_hash(&bytes) != compute_internal_node_hash(&bytes));
         assert!(try_xorb_hash(&nodes[..1]).is_ok());

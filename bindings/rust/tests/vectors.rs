@@ -136,7 +136,7 @@ fn fault(it: &Value) -> SessionFault {
 
 fn keyed(key: &[u8; 32], data: &[u8]) -> DataHash {
     let mut hasher = Hasher::new_keyed(key);
-    hasher.update(data).unwrap();
+    hasher.update(data);
     hasher.finalize()
 }
 
@@ -157,7 +157,7 @@ fn piece_hash(it: &Value) {
     let (mut hasher, mut rest) = (Hasher::new_data(), &data[..]);
     for length in pieces {
         let (piece, after) = rest.split_at(length);
-        hasher.update(piece).unwrap();
+        hasher.update(piece);
         rest = after;
     }
     assert_eq!(hasher.finalize(), hash(it, "hash"));

@@ -22,7 +22,7 @@ const LENGTHS: [(&str, usize); 7] = [
 fn in_pieces(chunk: &[u8], length: usize) -> MerkleHash {
     let mut hasher = Hasher::new_data();
     for piece in chunk.chunks(length) {
-        hasher.update(piece).expect("a message below 2^64 bytes");
+        hasher.update(piece);
     }
     hasher.finalize()
 }

@@ -55,8 +55,7 @@ impl<W: Write> Write for HashedWrite<W> {
             return Err(ErrorKind::InvalidInput.into());
         }
         let taken = self.writer.write(slice)?;
-        let hashed = self.hasher.update(&slice[..taken.min(slice.len())]);
-        hashed.map_err(|_| ErrorKind::InvalidInput)?;
+        self.hasher.write_all(&slice[..taken.min(slice.len())])?;
         Ok(taken)
     }
 
