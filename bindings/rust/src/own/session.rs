@@ -4,11 +4,12 @@ use super::Node;
 use crate::error::Result;
 use crate::ffi;
 use crate::handle::Owned;
-use crate::lent_chunks::lend;
+use crate::lent_chunks::{lend, room};
 use crate::merklehash::data_hash::MerkleHash;
 use crate::merklehash::merkle_hash_subtree::MerkleHashSubtree;
 use crate::status::{answer, looked_up, plain, told, Refusal};
 use std::fmt;
+use std::ops::Range;
 
 /// Why a call of a session was refused, the least reason first. After a refusal nothing has changed.
 ///
@@ -18,6 +19,7 @@ use std::fmt;
 /// assert_eq!(SessionFault::Overlap.to_string(), "a position is taken");
 /// ```
 #[derive(Clone, Copy, Debug, PartialEq, Eq)]
+#[non_exhaustive]
 pub enum SessionFault {
     /// A position is taken.
     Overlap,
@@ -76,13 +78,18 @@ impl Refusal for SessionFault {
 /// assert_eq!(session.finish(5), Ok(file_hash(&[first, second, third, first, third])));
 /// ```
 ///
+/// A session can't be cloned or written: the library has no call that copies one, or that lists its hashes.
+///
 /// A session may move to another thread, but no two threads may use one at once:
 ///
 /// ```compile_fail
 /// fn shared<T: Sync>() {}
 /// shared::<yurewha::own::Session>();
 /// ```
-pub struct Session(Owned<ffi::yurewha_session>);
+pub struct Session {
+    handle: Owned<ffi::yurewha_session>,
+    total_size: u64,
+}
 
 impl Session {
     /// A session without chunks.
@@ -112,11 +119,12 @@ impl Session {
     /// ```
     pub fn try_new() -> Result<Self> {
         // SAFETY: an empty handle to write to.
-        answer(|made: &mut Owned<_>| unsafe { ffi::yurewha_session_new(made.handle()) }).map(Self)
+        let handle = answer(|made: &mut Owned<_>| unsafe { ffi::yurewha_session_new(made.handle()) })?;
+        Ok(Session { handle, total_size: 0 })
     }
 
     fn handle(&self) -> *mut ffi::yurewha_session {
-        self.0.handle()
+        self.handle.handle()
     }
 
     /// Places chunks at the positions from `first` on, and tells how many hashes among them no earlier accepted put
@@ -141,9 +149,27 @@ impl Session {
     pub fn put(&mut self, first: u64, chunks: &[Node]) -> std::result::Result<u64, SessionFault> {
         let chunks = lend(chunks).map_err(|_| SessionFault::Memory)?;
         // SAFETY: a handle, chunks of their number, and a number to write to.
-        answer(|new_hashes| unsafe {
+        let new_hashes = answer(|new_hashes| unsafe {
             ffi::yurewha_session_put(self.handle(), first, chunks.as_ptr(), chunks.len(), new_hashes)
-        })
+        })?;
+        // The library refuses sizes that pass `u64::MAX` in all.
+        self.total_size += chunks.iter().map(|chunk| chunk.size).sum::<u64>();
+        Ok(new_hashes)
+    }
+
+    /// The sum of the sizes of the chunks that were placed, in bytes.
+    ///
+    /// ```
+    /// use yurewha::merklehash::MerkleHash;
+    /// use yurewha::own::Session;
+    ///
+    /// let mut session = Session::new();
+    /// session.put(7, &[(MerkleHash::default(), 100); 3])?;
+    /// assert_eq!(session.total_size(), 300);
+    /// # Ok::<(), yurewha::own::SessionFault>(())
+    /// ```
+    pub fn total_size(&self) -> u64 {
+        self.total_size
     }
 
     /// Whether a position is taken.
@@ -219,7 +245,8 @@ impl Session {
         Ok(run.map(|(first, range)| (first, MerkleHashSubtree::of(range))))
     }
 
-    /// All runs by rising position, each as [`range`](Self::range) tells it.
+    /// All runs by rising position, each as [`range`](Self::range) tells it. The time of a walk grows with the square of
+    /// the number of runs.
     ///
     /// ```
     /// use yurewha::merklehash::MerkleHash;
@@ -239,6 +266,52 @@ impl Session {
     /// Where memory is refused.
     pub fn runs(&self) -> impl ExactSizeIterator<Item = (u64, MerkleHashSubtree)> + '_ {
         (0..self.num_runs()).map(|index| self.range(index).expect("a run that was counted"))
+    }
+
+    /// The ranges of positions below `total` that aren't taken, by rising position. The time grows with the square of the
+    /// number of runs, since the library tells a run by its index alone.
+    ///
+    /// ```
+    /// use yurewha::merklehash::MerkleHash;
+    /// use yurewha::own::Session;
+    ///
+    /// let chunk = (MerkleHash::default(), 100);
+    /// let mut session = Session::new();
+    /// session.put(7, &[chunk; 2])?;
+    /// session.put(1, &[chunk; 3])?;
+    /// assert_eq!(session.gaps(12)?, [0..1, 4..7, 9..12]);
+    /// # Ok::<(), Box<dyn std::error::Error>>(())
+    /// ```
+    ///
+    /// # Errors
+    ///
+    /// [`OutOfMemory`](crate::error::CoreError::OutOfMemory)
+    pub fn gaps(&self, total: u64) -> Result<Vec<Range<u64>>> {
+        let mut gaps = room(self.num_runs() + 1)?;
+        let mut run_before = None;
+        for index in 0..=self.num_runs() {
+            let next = self.try_range(index)?.map_or(total, |(first, _)| first.min(total));
+            let begin = run_before.map_or(0, |first| self.end_of_run(first, next));
+            if begin < next {
+                gaps.push(begin..next);
+            }
+            run_before = Some(next);
+        }
+        Ok(gaps)
+    }
+
+    // Where a run ends that begins at `first`, if no other one begins before `bound`.
+    fn end_of_run(&self, first: u64, bound: u64) -> u64 {
+        let (mut taken, mut free) = (first, bound);
+        while free - taken > 1 {
+            let middle = taken + (free - taken) / 2;
+            if self.taken(middle) {
+                taken = middle;
+            } else {
+                free = middle;
+            }
+        }
+        free
     }
 
     /// The root of all chunks by position.
