@@ -9,7 +9,8 @@ use std::ffi::c_char;
 use std::hash::{Hash, Hasher};
 use std::mem::{align_of, size_of};
 use std::ops::{Deref, DerefMut, Rem};
-use std::{fmt, ptr, slice, str};
+use std::str::{self, FromStr};
+use std::{fmt, ptr};
 
 pub(crate) mod errors;
 mod hashed_write;
@@ -55,6 +56,57 @@ const _: () = assert!(
 );
 
 impl DataHash {
+    /// The hash of four words.
+    ///
+    /// ```
+    /// use yurewha::merklehash::DataHash;
+    ///
+    /// const ONE: DataHash = DataHash::from_words([1, 0, 0, 0]);
+    /// assert_eq!(ONE, DataHash::from([1, 0, 0, 0]));
+    /// ```
+    #[inline]
+    pub const fn from_words(words: [u64; 4]) -> Self {
+        DataHash(words)
+    }
+
+    /// The hash of 32 bytes.
+    ///
+    /// ```
+    /// use yurewha::merklehash::DataHash;
+    ///
+    /// const ONES: DataHash = DataHash::from_bytes([0xff; 32]);
+    /// assert_eq!(ONES, DataHash::marker());
+    /// ```
+    #[inline]
+    pub const fn from_bytes(bytes: [u8; 32]) -> Self {
+        let mut words = [0; 4];
+        let mut index = 0;
+        while index < bytes.len() {
+            words[index / 8] |= (bytes[index] as u64) << (8 * (index % 8));
+            index += 1;
+        }
+        DataHash(words)
+    }
+
+    /// The 32 bytes of this hash.
+    ///
+    /// ```
+    /// use yurewha::merklehash::DataHash;
+    ///
+    /// const BYTES: [u8; 32] = DataHash::marker().to_bytes();
+    /// assert_eq!(BYTES, [0xff; 32]);
+    /// ```
+    #[inline]
+    pub const fn to_bytes(self) -> [u8; 32] {
+        *self.bytes()
+    }
+
+    #[inline]
+    const fn bytes(&self) -> &[u8; 32] {
+        // SAFETY: the words are 32 bytes without padding, and each byte is one of `u8`. The machine is little-endian.
+        unsafe { &*ptr::from_ref(&self.0).cast() }
+    }
+
     pub(crate) fn for_call(&self) -> *const ffi::yurewha_hash {
         ptr::from_ref(self).cast()
     }
@@ -175,9 +227,9 @@ impl DataHash {
     ///
     /// assert_eq!(DataHash::from([1, 0, 0, 0]).as_bytes()[..9], [1, 0, 0, 0, 0, 0, 0, 0, 0]);
     /// ```
+    #[inline]
     pub fn as_bytes(&self) -> &[u8] {
-        // SAFETY: the words are 32 bytes without padding, and each byte is one of `u8`. The machine is little-endian.
-        unsafe { slice::from_raw_parts(self.0.as_ptr().cast(), size_of::<Self>()) }
+        self.bytes()
     }
 
     /// The hash of 32 bytes. A slice of another length is refused.
@@ -274,12 +326,14 @@ pub fn compute_internal_node_hash(bytes: &[u8]) -> DataHash {
 impl Deref for DataHash {
     type Target = [u64; 4];
 
+    #[inline]
     fn deref(&self) -> &[u64; 4] {
         &self.0
     }
 }
 
 impl DerefMut for DataHash {
+    #[inline]
     fn deref_mut(&mut self) -> &mut [u64; 4] {
         &mut self.0
     }
@@ -287,13 +341,14 @@ impl DerefMut for DataHash {
 
 /// The order of the words, the first one first.
 impl Ord for DataHash {
+    #[inline]
     fn cmp(&self, other: &Self) -> Ordering {
-        // SAFETY: two hashes, which are only read.
-        unsafe { ffi::yurewha_compare(self.for_call(), other.for_call()) }.cmp(&0)
+        self.0.cmp(&other.0)
     }
 }
 
 impl PartialOrd for DataHash {
+    #[inline]
     fn partial_cmp(&self, other: &Self) -> Option<Ordering> {
         Some(self.cmp(other))
     }
@@ -301,6 +356,7 @@ impl PartialOrd for DataHash {
 
 /// The first word alone.
 impl Hash for DataHash {
+    #[inline]
     fn hash<H: Hasher>(&self, state: &mut H) {
         state.write_u64(self.0[0]);
     }
@@ -340,28 +396,30 @@ impl fmt::Debug for DataHash {
 
 /// The words.
 impl From<[u64; 4]> for DataHash {
+    #[inline]
     fn from(words: [u64; 4]) -> Self {
         DataHash(words)
     }
 }
 
 impl From<&[u8; 32]> for DataHash {
+    #[inline]
     fn from(bytes: &[u8; 32]) -> Self {
-        // SAFETY: 32 bytes, as the header's struct has them, and a hash to write to.
-        given(|hash: &mut Self| unsafe { ffi::yurewha_hash_from_bytes(ptr::from_ref(bytes).cast(), hash.out()) })
+        Self::from_bytes(*bytes)
     }
 }
 
 impl From<[u8; 32]> for DataHash {
+    #[inline]
     fn from(bytes: [u8; 32]) -> Self {
-        Self::from(&bytes)
+        Self::from_bytes(bytes)
     }
 }
 
 impl From<DataHash> for [u8; 32] {
+    #[inline]
     fn from(hash: DataHash) -> Self {
-        // SAFETY: a hash, and 32 bytes to write to, as the header's struct has them.
-        given(|bytes: &mut Self| unsafe { ffi::yurewha_hash_to_bytes(hash.for_call(), ptr::from_mut(bytes).cast()) })
+        hash.to_bytes()
     }
 }
 
@@ -385,13 +443,41 @@ impl TryFrom<&[u8]> for DataHash {
     }
 }
 
+/// Reads the 64 hex digits, as [`from_hex`](DataHash::from_hex) does.
+///
+/// ```
+/// use yurewha::merklehash::DataHash;
+///
+/// let hash: DataHash = "f".repeat(64).parse()?;
+/// assert_eq!(hash, DataHash::marker());
+/// # Ok::<(), yurewha::merklehash::DataHashHexParseError>(())
+/// ```
+impl FromStr for DataHash {
+    type Err = DataHashHexParseError;
+
+    fn from_str(text: &str) -> std::result::Result<Self, DataHashHexParseError> {
+        Self::from_hex(text)
+    }
+}
+
 impl AsRef<[u8]> for DataHash {
+    #[inline]
     fn as_ref(&self) -> &[u8] {
         self.as_bytes()
     }
 }
 
+/// There is no `Borrow<[u8; 32]>`, whose law is that both have the same `Hash` and the same order: a hash table gets
+/// the first word of a hash alone, and its order is that of the words.
+impl AsRef<[u8; 32]> for DataHash {
+    #[inline]
+    fn as_ref(&self) -> &[u8; 32] {
+        self.bytes()
+    }
+}
+
 impl AsRef<DataHash> for DataHash {
+    #[inline]
     fn as_ref(&self) -> &DataHash {
         self
     }
@@ -404,3 +490,65 @@ unsafe impl bytemuck::Zeroable for DataHash {}
 // SAFETY: four words without padding, of which any bits are a value; `Copy`, without references or interior mutability.
 #[cfg(feature = "bytemuck")]
 unsafe impl bytemuck::Pod for DataHash {}
+
+#[cfg(test)]
+mod tests {
+    use super::*;
+
+    // Drawn hashes, and hashes that differ in one bit of one word.
+    fn hashes() -> Vec<DataHash> {
+        let drawn = (0..50).map(DataHash::random_from_seed);
+        let bits = (0..256).map(|bit| {
+            let mut hash = DataHash::default();
+            hash[bit / 64] = 1 << (bit % 64);
+            hash
+        });
+        let ends = [DataHash::default(), DataHash::marker()];
+        drawn.chain(bits).chain(ends).collect()
+    }
+
+    // What stands here in Rust, for speed, is what the library's exports say.
+    #[test]
+    fn bytes_are_those_of_the_exports() {
+        for hash in hashes() {
+            // SAFETY: a hash, and 32 bytes to write to, as the header's struct has them.
+            let bytes: [u8; 32] = given(|bytes: &mut [u8; 32]| unsafe {
+                ffi::yurewha_hash_to_bytes(hash.for_call(), ptr::from_mut(bytes).cast())
+            });
+            assert_eq!(
+                (hash.to_bytes(), <[u8; 32]>::from(hash), hash.as_bytes()),
+                (bytes, bytes, &bytes[..])
+            );
+            // SAFETY: 32 bytes, as the header's struct has them, and a hash to write to.
+            let read = given(|hash: &mut DataHash| unsafe {
+                ffi::yurewha_hash_from_bytes(ptr::from_ref(&bytes).cast(), hash.out())
+            });
+            assert_eq!((DataHash::from_bytes(bytes), DataHash::from(&bytes)), (read, hash));
+        }
+    }
+
+    #[test]
+    fn the_order_is_that_of_the_exports() {
+        let hashes = hashes();
+        for first in &hashes {
+            for second in &hashes {
+                // SAFETY: two hashes, which are only read.
+                let order = unsafe { ffi::yurewha_compare(first.for_call(), second.for_call()) };
+                assert_eq!(first.cmp(second), order.cmp(&0));
+                assert_eq!((first == second, first < second), (order == 0, order < 0));
+            }
+        }
+    }
+
+    #[test]
+    fn the_remainder_is_that_of_the_exports() {
+        for hash in hashes() {
+            for divisor in [1, 2, 4, 7, 1 << 63, u64::MAX] {
+                // SAFETY: a hash, and a number to write to.
+                let remainder: Result<u64> =
+                    answer(|remainder| unsafe { ffi::yurewha_remainder(hash.for_call(), divisor, remainder) });
+                assert_eq!(remainder, Ok(hash % divisor));
+            }
+        }
+    }
+}

@@ -17,6 +17,7 @@ pub struct DataHashBytesParseError;
 
 /// Why a base64 text wasn't read.
 #[derive(Clone, Debug, PartialEq, Eq)]
+#[non_exhaustive]
 pub enum HashTextError {
     /// It isn't that of a hash.
     Bytes(DataHashBytesParseError),
