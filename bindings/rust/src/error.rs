@@ -13,6 +13,7 @@ use std::fmt;
 /// assert_eq!(CoreError::InvalidJson(6).to_string(), "invalid JSON: rule 6");
 /// ```
 #[derive(Clone, Copy, Debug, PartialEq, Eq)]
+#[non_exhaustive]
 pub enum CoreError {
     /// A range that another follows is marked at its end, or one that follows another at its start.
     InvalidArguments,
