@@ -213,7 +213,6 @@ fn a_client_looks_chunks_up() {
     assert_eq!(U64DirectHasher::<u64>::default().build_hasher().hash_one(7u64), 7);
 }
 
-#[cfg(feature = "serde")]
 mod with_serde {
     use super::*;
     use serde::{Deserialize, Serialize};
@@ -255,7 +254,6 @@ mod with_serde {
     }
 }
 
-#[cfg(feature = "bytemuck")]
 #[test]
 fn a_client_casts_hashes() {
     let words = [1u64, 2, 3, 4, 5, 6, 7, 8];
