@@ -142,6 +142,9 @@ fn check_machine(path: &Path, machine: u16) -> Answer<()> {
     let header = bytes.windows(20).find(|bytes| bytes.starts_with(b"\x7fELF"));
     match header.map(|header| u16::from_le_bytes([header[18], header[19]])) {
         Some(found) if found == machine => Ok(()),
-        _ => Err(format!("{} isn't for {}", path.display(), of_cargo("TARGET"))),
+        _ => {
+            let (path, target) = (path.display(), of_cargo("TARGET"));
+            Err(format!("{path} isn't for {target}: name another folder in {LIB_DIR}"))
+        }
     }
 }

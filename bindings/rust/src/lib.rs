@@ -26,10 +26,9 @@
 //!   depend on the order, and some orders give a wrong root.
 //! - **Sizes** that add up to more than `u64::MAX` bytes are refused. There they panic in debug builds and wrap
 //!   otherwise.
-//! - **Memory** that the system refuses is [`OutOfMemory`](error::CoreError::OutOfMemory), where a call returns a
-//!   `Result`.
-//! - **Panics.** Calls without a `Result` there have none here. Where such a call is refused, it panics with a message
-//!   that names the call and the cause. A call `try_..` returns a [`Result`](error::Result) instead.
+//! - **Memory** that the system refuses is the error [`OutOfMemory`](error::CoreError::OutOfMemory).
+//! - **Panics.** Calls without a `Result` there have none here. If such a call is refused, it panics with a message that
+//!   names the call and the cause. A call `try_..` returns a [`Result`](error::Result) instead.
 //! - **Subtrees that are read** are checked: one that is no subtree of a list is refused, in each format of serde.
 //! - **Threads.** [`MerkleHashSubtree`](merklehash::MerkleHashSubtree) and [`Session`](own::Session) are handles of the
 //!   library. They are `Send` and not `Sync`: a value may move to another thread, but no two threads may use one value

@@ -140,13 +140,13 @@ impl Hasher {
     ///
     /// # Panics
     ///
-    /// Where the message would have more than `u64::MAX` bytes; see [`try_update`](Self::try_update).
+    /// If the message would have more than `u64::MAX` bytes; see [`try_update`](Self::try_update).
     #[track_caller]
     pub fn update(&mut self, piece: &[u8]) -> &mut Self {
         plain("Hasher::update", self.try_update(piece))
     }
 
-    /// [`update`](Self::update), refused with [`SizeOverflow`](crate::error::CoreError::SizeOverflow) where the message
+    /// [`update`](Self::update), refused with [`SizeOverflow`](crate::error::CoreError::SizeOverflow) if the message
     /// would have more than `u64::MAX` bytes. It is as it was then.
     ///
     /// ```
@@ -176,8 +176,8 @@ impl Hasher {
     ///
     /// # Errors
     ///
-    /// That of the reader, or [`InvalidInput`](ErrorKind::InvalidInput) where the message would have more than
-    /// `u64::MAX` bytes. The message has what was read before.
+    /// That of the reader, or [`InvalidInput`](ErrorKind::InvalidInput) if the message would have more than `u64::MAX`
+    /// bytes. The message has what was read before.
     pub fn update_reader(&mut self, mut reader: impl Read) -> io::Result<&mut Self> {
         let mut piece = [0; PIECE];
         loop {
@@ -206,8 +206,8 @@ impl Hasher {
 }
 
 impl Write for Hasher {
-    /// Adds the whole piece, or fails with [`InvalidInput`](ErrorKind::InvalidInput) where the message would have more
-    /// than `u64::MAX` bytes.
+    /// Adds the whole piece, or fails with [`InvalidInput`](ErrorKind::InvalidInput) if the message would have more than
+    /// `u64::MAX` bytes.
     fn write(&mut self, piece: &[u8]) -> io::Result<usize> {
         self.try_update(piece).map_err(|_| ErrorKind::InvalidInput)?;
         Ok(piece.len())
@@ -218,7 +218,7 @@ impl Write for Hasher {
     }
 }
 
-/// The number of bytes alone: the rest would tell the key.
+/// The number of bytes alone: the rest would show the key.
 impl fmt::Debug for Hasher {
     fn fmt(&self, f: &mut fmt::Formatter<'_>) -> fmt::Result {
         f.debug_struct("Hasher")

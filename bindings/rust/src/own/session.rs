@@ -245,7 +245,7 @@ impl Session {
         Ok(run.map(|(first, range)| (first, MerkleHashSubtree::of(range))))
     }
 
-    /// All runs by rising position, each as [`range`](Self::range) tells it. The time of a walk grows with the square of
+    /// All runs by rising position, each as [`range`](Self::range) returns it. The time of a walk grows with the square of
     /// the number of runs.
     ///
     /// ```
@@ -269,7 +269,7 @@ impl Session {
     }
 
     /// The ranges of positions below `total` that aren't taken, by rising position. The time grows with the square of the
-    /// number of runs, since the library tells a run by its index alone.
+    /// number of runs, since the library finds a run by its index alone.
     ///
     /// ```
     /// use yurewha::merklehash::MerkleHash;
@@ -300,7 +300,7 @@ impl Session {
         Ok(gaps)
     }
 
-    // Where a run ends that begins at `first`, if no other one begins before `bound`.
+    // The end of the run that begins at `first`, or `bound`, before which no other run begins.
     fn end_of_run(&self, first: u64, bound: u64) -> u64 {
         let (mut taken, mut free) = (first, bound);
         while free - taken > 1 {

@@ -57,7 +57,7 @@ impl Serialize for MerkleHashSubtree {
 
 /// What breaks a rule of [`from_json`](MerkleHashSubtree::from_json) is refused, and the error's text has the text of
 /// [`CoreError::InvalidJson`](crate::error::CoreError::InvalidJson) with its number. Of the rules 1 to 4, which are
-/// about the form, it is the one that is met first; reading stops there, so that the format can tell the place. Of the
+/// about the form, it is the one that is met first; reading stops there, so that the format can name the place. Of the
 /// rules 5 to 13 it is the least. Other members are passed over. One that is written twice is refused.
 impl<'de> Deserialize<'de> for MerkleHashSubtree {
     fn deserialize<D: Deserializer<'de>>(deserializer: D) -> Result<Self, D::Error> {

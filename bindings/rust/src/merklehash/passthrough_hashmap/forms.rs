@@ -44,8 +44,8 @@ where
 
     fn visit_seq<A: SeqAccess<'de>>(self, mut pairs: A) -> Result<Self::Value, A::Error> {
         let mut map = PassThroughHashMap::new();
-        // Without room pairs in the order of a walk would crowd in a map that grows. The room is a help: where it is
-        // refused the map grows.
+        // Pairs that come in the order of a walk crowd in a map that grows, so that each takes long to insert. If the
+        // room is refused the map grows all the same.
         let most = MOST_BYTES / size_of::<(Key, Value)>().max(1);
         let _ = map.try_reserve(pairs.size_hint().unwrap_or(0).min(most));
         while let Some((key, value)) = pairs.next_element()? {
