@@ -117,7 +117,7 @@ fn map(count: usize) {
         map
     };
     let row = Row {
-        name: format!("`bincode::deserialize` of a map, {} million pairs", count / 1_000_000),
+        name: format!("a map of {} million pairs, read from its bytes", count / 1_000_000),
         ours: Task::call(|| read(black_box(&bytes))),
         peers: vec![("a map with room, filled", Task::call(fill))],
         tenfold: None,
