@@ -311,7 +311,8 @@ fn other_calls_take_no_memory() {
         assert!(DataHash::from(bytes) == hash && hash <= DataHash::marker() && hash % 7 < 7);
         assert!(DataHash::from_hex(&text).is_ok());
         let mut hasher = own::Hasher::new_keyed(&bytes);
-        hasher.update(hash.as_bytes());
+        hasher.update_reader(text.as_bytes()).unwrap();
+        hasher.reset().update(hash.as_bytes());
         assert!(hasher.finalize() == hash.hmac(hash));
         assert!(compute_data_hash(&bytes) != compute_internal_node_hash(&bytes));
         assert!(try_xorb_hash(&nodes[..1]).is_ok());

@@ -4,6 +4,7 @@ use crate::draws::{numbered, reference, Draws};
 use crate::json::forged;
 use serde::de::value::SeqDeserializer;
 use serde::{Deserialize, Serialize};
+use serde_json::{json, Value};
 use std::fmt::Debug;
 use std::hash::Hasher;
 use yurewha::error::CoreError;
@@ -96,7 +97,7 @@ fn left_nodes_stand_by_rising_level_and_right_nodes_by_falling_level() {
     let nodes = numbered(0..20);
     let subtree = MerkleHashSubtree::from_chunks(false, &nodes, false);
     let value = serde_json::to_value(&subtree).unwrap();
-    assert_eq!(value["levels"], serde_json::json!([[8, 4], [2, 0]]));
+    assert_eq!(value["levels"], json!([[8, 4], [2, 0]]));
     let hashes: Vec<_> = value["nodes"]
         .as_array()
         .unwrap()
@@ -147,7 +148,7 @@ fn error_of(text: &str) -> serde_json::Error {
 fn forged_json_is_refused_with_the_rule_in_the_text() {
     for (rule, text) in forged() {
         let named = format!("invalid JSON: rule {rule}");
-        let value: serde_json::Value = serde_json::from_str(&text).unwrap();
+        let value: Value = serde_json::from_str(&text).unwrap();
         for error in [
             error_of(&text),
             serde_json::from_reader::<_, MerkleHashSubtree>(text.as_bytes()).unwrap_err(),
@@ -205,6 +206,71 @@ fn a_number_is_no_object_of_a_member() {
         error.to_string().contains("in `levels` (invalid JSON: rule 4)"),
         "{error}"
     );
+}
+
+// Each value in a value, as a pointer of JSON.
+fn pointers(value: &Value, at: &str, found: &mut Vec<String>) {
+    found.push(at.to_owned());
+    match value {
+        Value::Array(elements) => {
+            let places = elements.iter().enumerate();
+            places.for_each(|(place, it)| pointers(it, &format!("{at}/{place}"), found));
+        }
+        Value::Object(members) => members
+            .iter()
+            .for_each(|(name, it)| pointers(it, &format!("{at}/{name}"), found)),
+        _ => {}
+    }
+}
+
+// The value with another one at a drawn place.
+fn forged_at_random(draws: &mut Draws, value: &Value) -> Value {
+    let others = [
+        json!(null),
+        json!(true),
+        json!(0),
+        json!(3),
+        json!(u64::MAX),
+        json!(-1),
+        json!(1.5),
+        json!(""),
+        json!(DataHash::marker().hex()),
+        json!([]),
+        json!([1, 0]),
+        json!({}),
+    ];
+    let mut found = Vec::new();
+    pointers(value, "", &mut found);
+    let mut forged = value.clone();
+    *forged.pointer_mut(&found[draws.below(found.len())]).unwrap() = others[draws.below(others.len())].clone();
+    forged
+}
+
+#[test]
+fn a_value_with_one_forged_place_is_refused_by_the_rule_that_the_library_names() {
+    let mut draws = Draws(15);
+    let mut seen = [0; 14];
+    for _ in 0..3000 {
+        let count = draws.below(30) as u64;
+        let subtree = MerkleHashSubtree::from_chunks(draws.truth(), &numbered(0..count), draws.truth());
+        let text = forged_at_random(&mut draws, &serde_json::to_value(&subtree).unwrap()).to_string();
+        match (
+            MerkleHashSubtree::from_json(&text),
+            serde_json::from_str::<MerkleHashSubtree>(&text),
+        ) {
+            (Ok(library), Ok(ours)) => assert_eq!(ours, library),
+            (Err(CoreError::InvalidJson(rule)), Err(error)) => {
+                let message = error.to_string().replace(')', " ");
+                assert!(
+                    message.contains(&format!("invalid JSON: rule {rule} ")),
+                    "{text}: {error}"
+                );
+                seen[usize::from(rule)] += 1;
+            }
+            (library, ours) => panic!("{text}: {library:?}, {ours:?}"),
+        }
+    }
+    assert!([1, 2, 3, 4, 6].iter().all(|&rule| seen[rule] > 20), "{seen:?}");
 }
 
 #[test]
@@ -292,8 +358,8 @@ struct Form {
 
 // The form that a JSON text says where it keeps the rules 1 to 4.
 fn form_of(text: &str) -> Form {
-    let value: serde_json::Value = serde_json::from_str(text).unwrap();
-    let hash = |node: &serde_json::Value| DataHash::from_hex(node["hash"].as_str().unwrap()).unwrap();
+    let value: Value = serde_json::from_str(text).unwrap();
+    let hash = |node: &Value| DataHash::from_hex(node["hash"].as_str().unwrap()).unwrap();
     let nodes = value["nodes"].as_array().unwrap();
     Form {
         nodes: nodes
