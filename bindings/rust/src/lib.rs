@@ -30,9 +30,8 @@
 //! - **Panics.** Calls without a `Result` there have none here. If such a call is refused, it panics with a message that
 //!   names the call and the cause. A call `try_..` returns a [`Result`](error::Result) instead.
 //! - **Subtrees that are read** are checked: one that is no subtree of a list is refused, in each format of serde.
-//! - **Threads.** [`MerkleHashSubtree`](merklehash::MerkleHashSubtree) and [`Session`](own::Session) are handles of the
-//!   library. They are `Send` and not `Sync`: a value may move to another thread, but no two threads may use one value
-//!   at once. Put one that is to be shared into a `Mutex`, or give each thread a clone.
+//! - **Threads** that look at one [`MerkleHashSubtree`](merklehash::MerkleHashSubtree) or [`Session`](own::Session) at
+//!   once take turns. Give each a clone if that is too slow.
 //! - **Errors.** [`CoreError`](error::CoreError) has the variants that these calls return, with texts of their own.
 //! - **Targets** are Linux with glibc, on x86-64 and aarch64.
 //!

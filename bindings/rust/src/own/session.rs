@@ -10,6 +10,7 @@ use crate::merklehash::merkle_hash_subtree::MerkleHashSubtree;
 use crate::status::{answer, looked_up, plain, told, Refusal};
 use std::fmt;
 use std::ops::Range;
+use std::sync::MutexGuard;
 
 /// Why a call of a session was refused, the least reason first. After a refusal nothing has changed.
 ///
@@ -80,12 +81,7 @@ impl Refusal for SessionFault {
 ///
 /// A session can't be cloned or written: the library has no call that copies one, or that lists its hashes.
 ///
-/// A session may move to another thread, but no two threads may use one at once:
-///
-/// ```compile_fail
-/// fn shared<T: Sync>() {}
-/// shared::<yurewha::own::Session>();
-/// ```
+/// Threads may share a session. Those that look at one at once take turns, each for the time of a call.
 pub struct Session {
     handle: Owned<ffi::yurewha_session>,
     total_size: u64,
@@ -119,12 +115,13 @@ impl Session {
     /// ```
     pub fn try_new() -> Result<Self> {
         // SAFETY: an empty handle to write to.
-        let handle = answer(|made: &mut Owned<_>| unsafe { ffi::yurewha_session_new(made.handle()) })?;
+        let handle = answer(|made: &mut Owned<_>| unsafe { ffi::yurewha_session_new(made.get_mut()) })?;
         Ok(Session { handle, total_size: 0 })
     }
 
-    fn handle(&self) -> *mut ffi::yurewha_session {
-        self.handle.handle()
+    // The handle, for one call.
+    fn lock(&self) -> MutexGuard<'_, ffi::yurewha_session> {
+        self.handle.lock()
     }
 
     /// Places chunks at the positions from `first` on, and tells how many hashes among them no earlier accepted put
@@ -150,7 +147,7 @@ impl Session {
         let chunks = lend(chunks).map_err(|_| SessionFault::Memory)?;
         // SAFETY: a handle, chunks of their number, and a number to write to.
         let new_hashes = answer(|new_hashes| unsafe {
-            ffi::yurewha_session_put(self.handle(), first, chunks.as_ptr(), chunks.len(), new_hashes)
+            ffi::yurewha_session_put(self.handle.get_mut(), first, chunks.as_ptr(), chunks.len(), new_hashes)
         })?;
         // The library refuses sizes that pass `u64::MAX` in all.
         self.total_size += chunks.iter().map(|chunk| chunk.size).sum::<u64>();
@@ -185,7 +182,7 @@ impl Session {
     /// ```
     pub fn taken(&self, position: u64) -> bool {
         // SAFETY: a handle, and a truth value to write to.
-        told(|taken| unsafe { ffi::yurewha_session_taken(self.handle(), position, taken) })
+        told(|taken| unsafe { ffi::yurewha_session_taken(&mut *self.lock(), position, taken) })
     }
 
     /// How many runs of adjacent positions are taken.
@@ -203,7 +200,7 @@ impl Session {
     /// ```
     pub fn num_runs(&self) -> usize {
         // SAFETY: a handle, and a number to write to.
-        told(|count| unsafe { ffi::yurewha_session_num_runs(self.handle(), count) })
+        told(|count| unsafe { ffi::yurewha_session_num_runs(&mut *self.lock(), count) })
     }
 
     /// The first position of a run, and a copy of the subtree of its chunks, which is open at both ends. Runs are
@@ -240,7 +237,7 @@ impl Session {
     pub fn try_range(&self, index: usize) -> Result<Option<(u64, MerkleHashSubtree)>> {
         // SAFETY: a handle, a number to write to, and an empty handle to write to.
         let run = looked_up(|(first, range): &mut (u64, Owned<_>)| unsafe {
-            ffi::yurewha_session_run(self.handle(), index, first, range.handle())
+            ffi::yurewha_session_run(&mut *self.lock(), index, first, range.get_mut())
         })?;
         Ok(run.map(|(first, range)| (first, MerkleHashSubtree::of(range))))
     }
@@ -333,7 +330,7 @@ impl Session {
     /// [`Memory`](SessionFault::Memory)
     pub fn root(&self, total: u64) -> std::result::Result<MerkleHash, SessionFault> {
         // SAFETY: a handle, and a hash to write to.
-        answer(|root: &mut MerkleHash| unsafe { ffi::yurewha_session_root(self.handle(), total, root.out()) })
+        answer(|root: &mut MerkleHash| unsafe { ffi::yurewha_session_root(&mut *self.lock(), total, root.out()) })
     }
 
     /// The file hash of all chunks by position, without a salt.
@@ -355,7 +352,7 @@ impl Session {
     /// As of [`root`](Self::root)
     pub fn finish(&self, total: u64) -> std::result::Result<MerkleHash, SessionFault> {
         // SAFETY: a handle, and a hash to write to.
-        answer(|hash: &mut MerkleHash| unsafe { ffi::yurewha_session_finish(self.handle(), total, hash.out()) })
+        answer(|hash: &mut MerkleHash| unsafe { ffi::yurewha_session_finish(&mut *self.lock(), total, hash.out()) })
     }
 }
 
