@@ -1,8 +1,8 @@
 //! Pairs of hash and size as the chunks of the header.
 
-use super::aggregated_hashes::Node;
 use crate::error::{CoreError, Result};
 use crate::ffi::{yurewha_chunk, yurewha_hash};
+use crate::own::Node;
 use std::borrow::Cow;
 use std::mem::{align_of, offset_of, size_of};
 use std::slice;
@@ -26,10 +26,7 @@ pub(crate) fn lend(nodes: &[Node]) -> Result<Cow<'_, [yurewha_chunk]>> {
 
 fn copied(nodes: &[Node]) -> Result<Vec<yurewha_chunk>> {
     let mut chunks = room(nodes.len())?;
-    chunks.extend(nodes.iter().map(|&(hash, size)| yurewha_chunk {
-        hash: yurewha_hash { words: *hash },
-        size,
-    }));
+    chunks.extend(nodes.iter().copied().map(chunk_of));
     Ok(chunks)
 }
 
@@ -38,6 +35,12 @@ pub(crate) fn room<T>(count: usize) -> Result<Vec<T>> {
     let mut room = Vec::new();
     room.try_reserve_exact(count).map_err(|_| CoreError::OutOfMemory)?;
     Ok(room)
+}
+
+/// The chunk that a pair is.
+pub(crate) fn chunk_of((hash, size): Node) -> yurewha_chunk {
+    let hash = yurewha_hash { words: *hash };
+    yurewha_chunk { hash, size }
 }
 
 /// The pair that a chunk is.
