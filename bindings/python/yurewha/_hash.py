@@ -3,11 +3,12 @@
 from __future__ import annotations
 
 import ctypes
+import threading
 from operator import index
-from typing import Any, Tuple, Union, final
+from typing import Any, Optional, Tuple, Union, final
 
 from ._declarations import LENGTHS
-from ._errors import DivisionByZero, InvalidArguments, InvalidText, error_of
+from ._errors import DivisionByZero, InvalidArguments, InvalidText, ReentrantCall, YurewhaError, error_of
 from ._guard import Guarded
 from ._library import LONG_BYTES, CBytes, CHash, CHasher, calls_for, short
 
@@ -310,6 +311,16 @@ def _add(state: CHasher, piece: bytes) -> None:
         raise error_of(status)
 
 
+def _flat(view: memoryview) -> Optional[memoryview]:
+    """The bytes of a view one after the other, or None where they don't lie so."""
+    if not view.c_contiguous:
+        return None
+    try:
+        return view.cast("B")
+    except (TypeError, ValueError):
+        return None
+
+
 @final
 class Hasher(Guarded):
     """A hasher that takes a message in pieces, as those of `hashlib` do. It gives what `data_hash` does.
@@ -320,19 +331,23 @@ class Hasher(Guarded):
     True
     """
 
-    __slots__ = ("_state", "_name")
+    __slots__ = ("_state", "_name", "_by_pieces")
 
     digest_size: int = 32
     block_size: int = 64
 
+    # It stays at one place, so that a call that a signal's handler makes between two steps of another one isn't lost.
     _state: CHasher
     _name: str
+    # Held while a long update is under way, by whose end the state is written over.
+    _by_pieces: threading.Lock
 
     def __new__(cls, data: BytesLike = b"") -> Hasher:
         self = object.__new__(cls)
         self._guard()
         self._state = CHasher()
         self._name = "yurewha-data"
+        self._by_pieces = threading.Lock()
         short.yurewha_hasher_begin_data(self._state)
         self.update(data)
         return self
@@ -389,30 +404,37 @@ class Hasher(Guarded):
     def update(self, data: BytesLike) -> None:
         """Adds a piece to the message; `SizeOverflow` where it would have more than 2^64 - 1 bytes.
 
-        Bytes that others may change, as a `bytearray` or an array, are taken in copies of a MiB at most.
+        Bytes that others may change, as a `bytearray` or an array, are taken in copies of a MiB at most. While more than
+        that are taken, `update` by a signal's handler raises `ReentrantCall`; each other update by a handler counts.
 
         >>> Hasher(bytearray(b"abc")).count
         3
         """
         if type(data) is bytes:
             with self._locked():
-                _add(self._state, data)
+                self._add(data)
             return
         with memoryview(data) as view, self._locked():
-            if view.nbytes <= _PIECE or not view.c_contiguous:
-                _add(self._state, view.tobytes())
-                return
-            try:
-                flat = view.cast("B")
-            except (TypeError, ValueError):
-                _add(self._state, view.tobytes())
+            flat = _flat(view) if view.nbytes > _PIECE else None
+            if flat is None:
+                self._add(view.tobytes())
                 return
             with flat:
-                # The hasher takes all of it or, where that ends early, nothing.
-                state = CHasher.from_buffer_copy(self._state)
-                for start in range(0, flat.nbytes, _PIECE):
-                    _add(state, flat[start:start + _PIECE].tobytes())
-                self._state = state
+                self._add_by_pieces(flat)
+
+    def _add(self, data: bytes) -> None:
+        if self._by_pieces.locked():
+            raise ReentrantCall("a signal's handler called update while a long update of the same hasher was under way")
+        _add(self._state, data)
+
+    def _add_by_pieces(self, data: memoryview) -> None:
+        """Adds all of it or, where that ends early, nothing."""
+        self._add(b"")
+        with self._by_pieces:
+            state = CHasher.from_buffer_copy(self._state)
+            for start in range(0, data.nbytes, _PIECE):
+                _add(state, data[start:start + _PIECE].tobytes())
+            ctypes.memmove(ctypes.byref(self._state), ctypes.byref(state), ctypes.sizeof(CHasher))
 
     def hash(self) -> Hash:
         """The hash of the message so far; the hasher can go on.
@@ -464,4 +486,7 @@ class Hasher(Guarded):
         raise TypeError("a Hasher can't be pickled")
 
     def __repr__(self) -> str:
-        return f"<yurewha.Hasher {self._name}, {self.count} bytes>"
+        try:
+            return f"<yurewha.Hasher {self._name}, {self.count} bytes>"
+        except YurewhaError:
+            return "<yurewha.Hasher that can't be read>"
