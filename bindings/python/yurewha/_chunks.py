@@ -19,7 +19,23 @@ ChunksLike = Union["Chunks", Iterable[Chunk], BytesLike]
 
 _SIZE = 40
 _PAIR = struct.Struct("<32sQ")
-_FIELD_NAME = re.compile(r":[^:]*:")
+
+# What a block may be, as the buffer protocol writes it: the bytes of an item, and its format. In a format, `(4)L` are four
+# words of the machine's own, and `<Q` is a word of eight bytes, the least first. A field's name stands after its type.
+_WORD = "[@^=<]?[QL]"
+_HASH_FIELD = rf"(?:32[sx]|\(32\)[@^=<]?[Bbc]|\(4\){_WORD}|T\{{\(4\){_WORD}:words:\}}):(?:hash|words):"
+_SIZE_FIELD = rf"{_WORD}:size:"
+_SIZE_FIRST = re.compile(rf"T\{{{_SIZE_FIELD}{_HASH_FIELD}\}}")
+_FORMS = (
+    (1, re.compile("[@^=<]?[Bbc]")),
+    (8, re.compile(_WORD)),
+    (_SIZE, re.compile(rf"{_SIZE}[sx]|\({_SIZE}\)[@^=<]?[Bbc]")),
+    (_SIZE, re.compile(rf"T\{{{_HASH_FIELD}{_SIZE_FIELD}\}}")),
+    (_SIZE, _SIZE_FIRST),
+)
+_EXPECTED = (
+    "packed chunks are bytes, unsigned words of 8 bytes, or items of 40 bytes: plain ones, or ones with the fields `hash` (or "
+    "`words`) of 32 bytes and `size`, an unsigned word; each word has its least byte first")
 
 
 def _pack(pairs: Iterable[Any]) -> bytes:
@@ -40,40 +56,49 @@ def _pack(pairs: Iterable[Any]) -> bytes:
     return bytes(packed)
 
 
+def _fits(view: memoryview) -> bool:
+    """Whether a block has 40 bytes for each chunk, in rows where it has rows."""
+    in_a_row = _SIZE // view.itemsize
+    if in_a_row == 1:
+        return True
+    return (view.shape or ())[-1:] == (in_a_row,) if view.ndim != 1 else view.nbytes % _SIZE == 0
+
+
 def _unpack(packed: BytesLike) -> bytes:
     try:
         view = memoryview(packed)
     except (ValueError, BufferError) as error:
-        raise InvalidArguments(f"packed chunks are bytes: {error}") from None
+        raise InvalidArguments(f"{_EXPECTED}: {error}") from None
     with view:
-        letters = _FIELD_NAME.sub("", view.format)
-        if ">" in letters or "!" in letters:
-            raise InvalidArguments("packed chunks have the least byte of each number first")
-        if view.itemsize == _SIZE and re.fullmatch(r"[T{}()\d,<=@^BbcsxQLI]*", letters):
-            fits = True
-        elif view.itemsize == 8 and letters.strip("<=@^") in ("Q", "L"):
-            fits = (view.shape or ())[-1:] == (5,) if view.ndim != 1 else view.nbytes % _SIZE == 0
-        elif view.itemsize == 1 and letters.strip("<=@^") in ("B", "b", "c"):
-            fits = (view.shape or ())[-1:] == (_SIZE,) if view.ndim != 1 else view.nbytes % _SIZE == 0
-        else:
-            raise InvalidArguments(
-                f"packed chunks are bytes, words of 8 bytes, or items of {_SIZE} bytes, not '{view.format}'")
-        if not fits:
-            raise InvalidArguments(f"packed chunks have {_SIZE} bytes each")
+        if not any(view.itemsize == size and form.fullmatch(view.format) for size, form in _FORMS):
+            raise InvalidArguments(f"{_EXPECTED}, not '{view.format}'")
+        if not _fits(view):
+            raise InvalidArguments(f"{_EXPECTED}, and there are 40 bytes for each chunk")
         obj = view.obj
         if type(obj) is bytes and len(obj) == view.nbytes and view.c_contiguous:
             return obj
-        return view.tobytes()
+        block = view.tobytes()
+        return _hash_first(block) if _SIZE_FIRST.fullmatch(view.format) else block
+
+
+def _hash_first(block: bytes) -> bytes:
+    """Chunks with their hashes first, of chunks with their sizes first."""
+    out = bytearray(len(block))
+    given, made = memoryview(block).cast("Q"), memoryview(out).cast("Q")
+    for word in range(5):
+        made[(word - 1) % 5::5] = given[word::5]
+    return bytes(out)
 
 
 @final
 class Chunks(Sequence[Chunk]):
     """A list of chunks in one block: for each the 32 bytes of its hash, then its size in eight bytes, the least first.
 
-    It is made from pairs, or from a block: `bytes`, or anything with the buffer protocol, among it NumPy arrays of 40
-    bytes an item, of five words of eight bytes a row, or of bytes. It can't be changed; a block that others may change is
-    copied once. A million chunks so go to the library in one call, without a million objects. NumPy sees it as an array of
-    `words` and `size`: `numpy.asarray(chunks)`.
+    It is made from pairs, or from a block: `bytes`, or anything with the buffer protocol, among it NumPy arrays of bytes, of
+    five unsigned words of eight bytes a row, or of items of 40 bytes. Items with fields are taken by their names and types:
+    `hash` (or `words`) of 32 bytes and `size`, in either order; any other is refused. It can't be changed; a block that
+    others may change is copied once. A million chunks so go to the library in one call, without a million objects. NumPy
+    sees it as an array of `words` and `size`: `numpy.asarray(chunks)`.
 
     >>> chunks = Chunks([(Hash.random_from_seed(1), 100), (Hash.random_from_seed(2), 200)])
     >>> len(chunks), chunks[1][1], len(chunks.packed)
