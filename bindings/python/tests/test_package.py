@@ -15,7 +15,7 @@ from pathlib import Path
 import pytest
 
 import yurewha as y
-from yurewha import _declarations, _library
+from yurewha import _declarations, _library, _processor
 
 PACKAGE = Path(y.__file__).resolve().parent
 REPOSITORY = Path(__file__).resolve().parents[3]
@@ -134,7 +134,7 @@ def test_where_the_library_is_found(tmp_path):
     faster = own / "x86-64-v3"
     faster.mkdir()
     shutil.copy(built, faster / _library.NAME)
-    expected = faster if os.uname().machine == "x86_64" and _library._has_v3() else own
+    expected = faster if os.uname().machine == "x86_64" and _processor.level() == "x86-64-v3" else own
     assert found(place, tmp_path) == str(expected / _library.NAME)
 
 
@@ -147,6 +147,59 @@ def test_a_library_without_a_call(tmp_path):
     shutil.copytree(PACKAGE, copy, ignore=shutil.ignore_patterns("lib", "__pycache__"))
     told = found({"PYTHONPATH": str(copy.parent), "YUREWHA_LIB_DIR": str(tmp_path)}, tmp_path)
     assert told == f"ImportError: yurewha: {tmp_path / _library.NAME} has no yurewha_internal_node_hash"
+
+
+WITH_FLAGS = """
+import builtins, io
+plain = builtins.open
+builtins.open = lambda path, *rest, **names: io.StringIO({told!r}) if path == "/proc/cpuinfo" else plain(path, *rest, **names)
+import yurewha
+print("hashed", yurewha.data_hash(b"abc").hex()[:16])
+"""
+FLAGS_OF_V2 = "fpu sse2 cx16 lahf_lm pni popcnt sse4_1 sse4_2 ssse3"
+HASHED = "hashed a8803506f7aff014"
+
+
+def of_flags(flags):
+    told = f"processor\t: 0\nflags\t\t: {flags}\n\nprocessor\t: 1\n"
+    return found({"PYTHONPATH": str(PACKAGE.parent), "YUREWHA_LIB_DIR": LIBRARY}, "/", WITH_FLAGS.format(told=told))
+
+
+LIBRARY = str(Path(_library.PATH).resolve().parent)
+ON_X86_64 = pytest.mark.skipif(os.uname().machine != "x86_64", reason="it is about x86-64")
+
+
+@ON_X86_64
+def test_a_processor_below_the_librarys_level():
+    assert of_flags(FLAGS_OF_V2) == HASHED
+    for flag in FLAGS_OF_V2.split()[2:]:
+        lacking = " ".join(word for word in FLAGS_OF_V2.split() if word != flag)
+        assert of_flags(lacking) == (
+            f"ImportError: yurewha: the library needs a processor of the level x86-64-v2, and this one has no {flag}")
+    assert of_flags("fpu sse2 cx16 lahf_lm pni").endswith("has no popcnt, no sse4_1, no sse4_2, no ssse3")
+
+
+@ON_X86_64
+@pytest.mark.skipif(not shutil.which("qemu-x86_64"), reason="there is no qemu-x86_64")
+@pytest.mark.parametrize("processor, expected", [
+    ("qemu64", "ImportError: yurewha: the library needs a processor of the level x86-64-v2, and this one has no popcnt, "
+               "no sse4_1, no sse4_2, no ssse3"),
+    ("Nehalem", HASHED + " x86-64-v2"),
+])
+def test_emulated_processors(processor, expected):
+    statement = "import yurewha, yurewha._library as l; print('hashed', yurewha.data_hash(b'abc').hex()[:16], l.LEVEL)"
+    values = {**os.environ, "PYTHONPATH": str(PACKAGE.parent), "YUREWHA_LIB_DIR": LIBRARY}
+    done = subprocess.run(
+        ["qemu-x86_64", "-cpu", processor, sys.executable, "-c", statement], env=values, capture_output=True, text=True,
+        check=False)
+    assert (done.stdout.strip() or done.stderr.strip().rpartition("\n")[2]) == expected
+
+
+@ON_X86_64
+def test_flags_that_nobody_tells(monkeypatch):
+    monkeypatch.setattr(_processor, "_flags_of_the_kernel", lambda: None)
+    monkeypatch.setattr(_processor, "_flags_of_glibc", lambda: None)
+    assert _processor.flags() is None and _processor.level() == "x86-64-v2"
 
 
 TYPED = """
