@@ -244,12 +244,14 @@ def test_freed_twice():
     assert repr(tree) == "<yurewha.Subtree that can't be read>"
     again = y.Subtree.from_chunks(False, [ONE], False)
     assert again.num_nodes == 1
+    assert repr(freed_session()) == "<yurewha.Session that can't be read>"
 
 
 def test_what_the_exceptions_are():
     for error in (y.InvalidArguments, y.SizeOverflow, y.InvalidText, y.InvalidJson, y.SessionOverlap, y.SessionPositions,
                   y.SessionSizes, y.SessionGap, y.EmptyHandle):
         assert issubclass(error, y.YurewhaError) and issubclass(error, ValueError)
+    assert issubclass(y.ReentrantCall, RuntimeError) and issubclass(y.ReentrantCall, y.YurewhaError)
     assert issubclass(y.OutOfMemory, MemoryError) and issubclass(y.OutOfMemory, y.YurewhaError)
     of_status = {status: type(_errors.error_of(status)) for status in range(1, 45)}
     assert of_status[1] is y.InvalidArguments and of_status[2] is y.SizeOverflow and of_status[3] is y.OutOfMemory

@@ -6,7 +6,7 @@ import ctypes
 from typing import Any, List, Tuple, final
 
 from ._chunks import Chunks, ChunksLike
-from ._errors import error_of
+from ._errors import YurewhaError, error_of
 from ._guard import Guarded
 from ._hash import Hash, checked_u64
 from ._library import LONG_CHUNKS, CChunk, CHash, CSession, calls_for, long, short
@@ -164,4 +164,7 @@ class Session(Guarded):
         raise TypeError("a Session can't be pickled; its runs can")
 
     def __repr__(self) -> str:
-        return f"<yurewha.Session of {self.num_runs} runs>"
+        try:
+            return f"<yurewha.Session of {self.num_runs} runs>"
+        except YurewhaError:
+            return "<yurewha.Session that can't be read>"
