@@ -5,17 +5,18 @@ from __future__ import annotations
 import re
 import struct
 from operator import index
-from typing import Any, Dict, Iterable, Iterator, Sequence, Tuple, Union, final, overload
+from typing import Dict, Iterable, Iterator, Optional, Sequence, SupportsIndex, Tuple, Type, Union, cast, final, overload
 
 from ._errors import InvalidArguments
-from ._hash import BytesLike, Hash
+from ._hash import Hash
+from ._types import BytesLike, view_of
 
 __all__ = ["Chunks"]
 
 #: A chunk: its hash, and its size in bytes.
 Chunk = Tuple[Hash, int]
 #: What a call takes as chunks.
-ChunksLike = Union["Chunks", Iterable[Chunk], BytesLike]
+ChunksLike = Union["Chunks", Iterable[Tuple[Hash, SupportsIndex]], BytesLike]
 
 _SIZE = 40
 _PAIR = struct.Struct("<32sQ")
@@ -38,7 +39,7 @@ _EXPECTED = (
     "`words`) of 32 bytes and `size`, an unsigned word; each word has its least byte first")
 
 
-def _pack(pairs: Iterable[Any]) -> bytes:
+def _pack(pairs: Iterable[Tuple[Hash, SupportsIndex]]) -> bytes:
     packed = bytearray()
     add, pack = packed.extend, _PAIR.pack
     for pair in pairs:
@@ -64,11 +65,19 @@ def _fits(view: memoryview) -> bool:
     return (view.shape or ())[-1:] == (in_a_row,) if view.ndim != 1 else view.nbytes % _SIZE == 0
 
 
-def _unpack(packed: BytesLike) -> bytes:
+def _block(chunks: ChunksLike) -> Optional[memoryview]:
+    """A view of a block of chunks, or None where they are pairs."""
+    if isinstance(chunks, (list, tuple)):
+        return None
     try:
-        view = memoryview(packed)
+        return view_of(chunks)
+    except TypeError:
+        return None
     except (ValueError, BufferError) as error:
         raise InvalidArguments(f"{_EXPECTED}: {error}") from None
+
+
+def _unpack(view: memoryview) -> bytes:
     with view:
         if not any(view.itemsize == size and form.fullmatch(view.format) for size, form in _FORMS):
             raise InvalidArguments(f"{_EXPECTED}, not '{view.format}'")
@@ -116,9 +125,10 @@ class Chunks(Sequence[Chunk]):
             return chunks
         if isinstance(chunks, str):
             raise TypeError("chunks are pairs of a Hash and an int, or a block of bytes, not a str")
-        if isinstance(chunks, (list, tuple)) or not _has_buffer(chunks):
-            return cls._of(_pack(chunks))
-        return cls._of(_unpack(chunks))
+        view = _block(chunks)
+        if view is None:
+            return cls._of(_pack(cast(Iterable[Tuple[Hash, int]], chunks)))
+        return cls._of(_unpack(view))
 
     def __init_subclass__(cls) -> None:
         raise TypeError("Chunks isn't made to be derived from")
@@ -129,7 +139,7 @@ class Chunks(Sequence[Chunk]):
         object.__setattr__(self, "_packed", packed)
         return self
 
-    def __setattr__(self, name: str, value: Any) -> None:
+    def __setattr__(self, name: str, value: object) -> None:
         raise AttributeError("chunks can't be changed")
 
     def __delattr__(self, name: str) -> None:
@@ -145,7 +155,7 @@ class Chunks(Sequence[Chunk]):
         return self._packed
 
     @property
-    def __array_interface__(self) -> Dict[str, Any]:
+    def __array_interface__(self) -> Dict[str, object]:
         """How NumPy shares the block, read-only.
 
         >>> Chunks([(Hash(), 1)]).__array_interface__["shape"]
@@ -207,18 +217,8 @@ class Chunks(Sequence[Chunk]):
     def __copy__(self) -> Chunks:
         return self
 
-    def __deepcopy__(self, memo: Any) -> Chunks:
+    def __deepcopy__(self, memo: object) -> Chunks:
         return self
 
-    def __reduce__(self) -> Tuple[Any, ...]:
+    def __reduce__(self) -> Tuple[Type[Chunks], Tuple[bytes]]:
         return Chunks, (self._packed,)
-
-
-def _has_buffer(value: Any) -> bool:
-    try:
-        memoryview(value).release()
-    except TypeError:
-        return False
-    except (ValueError, BufferError):
-        return True
-    return True

@@ -5,12 +5,13 @@ from __future__ import annotations
 import ctypes
 import threading
 from operator import index
-from typing import Any, Optional, Tuple, Union, final
+from typing import NoReturn, Optional, SupportsIndex, Tuple, Type, final
 
 from ._declarations import LENGTHS
 from ._errors import DivisionByZero, InvalidArguments, InvalidText, ReentrantCall, YurewhaError, error_of
 from ._guard import Guarded
 from ._library import LONG_BYTES, CBytes, CHash, CHasher, calls_for, short
+from ._types import BytesLike, view_of
 
 __all__ = ["Hash", "Hasher", "data_hash", "internal_node_hash"]
 
@@ -21,12 +22,10 @@ _BASE64_LENGTH = LENGTHS["YUREWHA_BASE64_LENGTH"]
 _CHex = ctypes.c_char * _HEX_LENGTH
 _CBase64 = ctypes.c_char * _BASE64_LENGTH
 
-#: Anything with the buffer protocol: `bytes`, `bytearray`, `memoryview`, `mmap.mmap`, `array.array`, NumPy arrays.
-BytesLike = Union[bytes, bytearray, memoryview, Any]
 _Bytes = bytes
 
 
-def checked_u64(value: Any, what: str) -> int:
+def checked_u64(value: SupportsIndex, what: str) -> int:
     """A whole number from 0 to 2^64 - 1.
 
     >>> checked_u64(7, "a size")
@@ -38,7 +37,7 @@ def checked_u64(value: Any, what: str) -> int:
     return number
 
 
-def checked_bool(value: Any, what: str) -> bool:
+def checked_bool(value: object, what: str) -> bool:
     """True or False, and nothing that is like them.
 
     >>> checked_bool(True, "at_start")
@@ -49,7 +48,7 @@ def checked_bool(value: Any, what: str) -> bool:
     return value
 
 
-def checked_text(value: Any, what: str) -> bytes:
+def checked_text(value: object, what: str) -> bytes:
     """The bytes of a text.
 
     >>> checked_text("a", "the text")
@@ -71,7 +70,7 @@ def own_bytes(value: BytesLike) -> bytes:
     """
     if type(value) is bytes:
         return value
-    with memoryview(value) as view:
+    with view_of(value) as view:
         return view.tobytes()
 
 
@@ -116,7 +115,7 @@ class Hash:
         object.__setattr__(self, "_raw", raw)
         return self
 
-    def __setattr__(self, name: str, value: Any) -> None:
+    def __setattr__(self, name: str, value: object) -> None:
         raise AttributeError("a hash can't be changed")
 
     def __delattr__(self, name: str) -> None:
@@ -272,10 +271,10 @@ class Hash:
     def __copy__(self) -> Hash:
         return self
 
-    def __deepcopy__(self, memo: Any) -> Hash:
+    def __deepcopy__(self, memo: object) -> Hash:
         return self
 
-    def __reduce__(self) -> Tuple[Any, ...]:
+    def __reduce__(self) -> Tuple[Type[Hash], Tuple[_Bytes]]:
         return Hash, (self.bytes,)
 
 
@@ -414,7 +413,7 @@ class Hasher(Guarded):
             with self._locked():
                 self._add(data)
             return
-        with memoryview(data) as view, self._locked():
+        with view_of(data) as view, self._locked():
             flat = _flat(view) if view.nbytes > _PIECE else None
             if flat is None:
                 self._add(view.tobytes())
@@ -479,10 +478,10 @@ class Hasher(Guarded):
     def __copy__(self) -> Hasher:
         return self.copy()
 
-    def __deepcopy__(self, memo: Any) -> Hasher:
+    def __deepcopy__(self, memo: object) -> Hasher:
         return self.copy()
 
-    def __reduce__(self) -> Tuple[Any, ...]:
+    def __reduce__(self) -> NoReturn:
         raise TypeError("a Hasher can't be pickled")
 
     def __repr__(self) -> str:

@@ -3,7 +3,7 @@
 from __future__ import annotations
 
 import ctypes
-from typing import Any, List, Tuple, final
+from typing import List, NoReturn, Tuple, final
 
 from ._chunks import Chunks, ChunksLike
 from ._errors import YurewhaError, error_of
@@ -154,13 +154,13 @@ class Session(Guarded):
             raise error_of(status)
         return Hash._of(bytes(out))
 
-    def __copy__(self) -> Session:
+    def __copy__(self) -> NoReturn:
         raise TypeError("a Session can't be copied")
 
-    def __deepcopy__(self, memo: Any) -> Session:
+    def __deepcopy__(self, memo: object) -> NoReturn:
         raise TypeError("a Session can't be copied")
 
-    def __reduce__(self) -> Tuple[Any, ...]:
+    def __reduce__(self) -> NoReturn:
         raise TypeError("a Session can't be pickled; its runs can")
 
     def __repr__(self) -> str:

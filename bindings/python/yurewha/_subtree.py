@@ -5,12 +5,25 @@ from __future__ import annotations
 import ctypes
 import os
 import struct
-from typing import Any, Iterable, List, NamedTuple, Optional, Sequence, Tuple, Union, final
+from typing import (
+    TYPE_CHECKING,
+    Callable,
+    Iterable,
+    List,
+    NamedTuple,
+    NoReturn,
+    Optional,
+    Sequence,
+    SupportsIndex,
+    Tuple,
+    Union,
+    final,
+)
 
 from ._chunks import Chunks, ChunksLike
 from ._errors import InvalidArguments, YurewhaError, error_of
 from ._guard import Guarded, all_locked, both_locked
-from ._hash import BytesLike, Hash, checked_32, checked_bool, checked_text, checked_u64
+from ._hash import Hash, checked_32, checked_bool, checked_text, checked_u64
 from ._library import (
     LONG_BYTES,
     LONG_CHUNKS,
@@ -23,11 +36,13 @@ from ._library import (
     short,
 )
 from ._picture import picture_of
+from ._types import BytesLike, view_of
 
 __all__ = ["Flat", "Subtree", "file_hash", "find_stable_end", "find_stable_start", "xorb_hash"]
 
 _LEVEL = struct.Struct("<QQ")
 _CHUNK_SIZE = ctypes.sizeof(CChunk)
+_FromFlat = Callable[[bool, Iterable[Sequence[SupportsIndex]], ChunksLike, bool], "Subtree"]
 
 
 def xorb_hash(chunks: ChunksLike) -> Hash:
@@ -127,11 +142,17 @@ class Subtree(Guarded):
     # An instance can be changed, so it is no key.
     __hash__ = None  # type: ignore[assignment]
 
-    def __new__(cls, *arguments: Any, **names: Any) -> Subtree:
-        return cls._empty()
+    if TYPE_CHECKING:
 
-    def __init__(self, *arguments: Any, **names: Any) -> None:
-        raise TypeError("a Subtree is made by Subtree.from_chunks, .merge_all, .from_json or .from_flat")
+        def __init__(self, there_is_no_such_call: NoReturn) -> None: ...
+
+    else:
+
+        def __new__(cls, *arguments: object, **names: object) -> Subtree:
+            return cls._empty()
+
+        def __init__(self, *arguments: object, **names: object) -> None:
+            raise TypeError("a Subtree is made by Subtree.from_chunks, .merge_all, .from_json or .from_flat")
 
     def __init_subclass__(cls) -> None:
         raise TypeError("Subtree isn't made to be derived from")
@@ -234,7 +255,7 @@ class Subtree(Guarded):
         """
         return self._count(short.yurewha_subtree_num_levels)
 
-    def _count(self, call: Any) -> int:
+    def _count(self, call: Callable[[CSubtree, ctypes.c_size_t], int]) -> int:
         out = ctypes.c_size_t()
         with self._locked():
             status = call(self._handle, out)
@@ -411,7 +432,7 @@ class Subtree(Guarded):
     def __copy__(self) -> Subtree:
         return self.copy()
 
-    def __deepcopy__(self, memo: Any) -> Subtree:
+    def __deepcopy__(self, memo: object) -> Subtree:
         return self.copy()
 
     def __eq__(self, other: object) -> bool:
@@ -463,7 +484,7 @@ class Subtree(Guarded):
         elif type(text) is bytes:
             data = text
         else:
-            with memoryview(text) as view:
+            with view_of(text) as view:
                 data = view.tobytes()
         self = Subtree._empty()
         status = calls_for(len(data), LONG_BYTES).yurewha_subtree_from_json(data, len(data), self._handle)
@@ -494,7 +515,7 @@ class Subtree(Guarded):
         return Flat(at_start, counts, Chunks._of(packed), at_end)
 
     @staticmethod
-    def from_flat(at_start: bool, levels: Iterable[Sequence[int]], nodes: ChunksLike, at_end: bool) -> Subtree:
+    def from_flat(at_start: bool, levels: Iterable[Sequence[SupportsIndex]], nodes: ChunksLike, at_end: bool) -> Subtree:
         """The subtree that flat lists say, as `to_flat` gives them; `InvalidJson` with the least rule that they break.
 
         >>> Subtree.from_flat(True, [(1, 0)], [(Hash(), 7)], False).total_size
@@ -517,7 +538,7 @@ class Subtree(Guarded):
             raise error_of(status)
         return self
 
-    def __reduce__(self) -> Tuple[Any, ...]:
+    def __reduce__(self) -> Tuple[_FromFlat, Tuple[bool, Tuple[Tuple[int, int], ...], bytes, bool]]:
         # By flat lists, which are checked as JSON is. A pickle that was changed so gives a subtree or InvalidJson.
         flat = self.to_flat()
         return Subtree.from_flat, (flat.at_start, flat.levels, flat.nodes.packed, flat.at_end)
