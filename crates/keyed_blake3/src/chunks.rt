@@ -4,9 +4,7 @@ ghost use Rattle.std.specs.Prelude.{◌≡◌, ℕ, ◌+◌, ◌*◌, ◌^◌, �
 ghost use Rattle.keyed_blake3.specs.Blake3.{block, chunk_value, compress, words_at};
 ghost use Rattle.keyed_blake3.specs.Steps.Lanes.{AreFull, chunk_at, lane};
 
-use crate::chunk::{
-    BLOCK_LEN, BLOCKS_PER_CHUNK, CHUNK_END, CHUNK_LEN, KEYED_HASH, start_flag,
-};
+use crate::chunk::{BLOCK_LEN, BLOCKS_PER_CHUNK, CHUNK_END, CHUNK_LEN, KEYED_HASH, start_flag};
 use crate::compression::lanes::{LANES, Lanes, compress_each};
 use crate::transposition::Transposed;
 use std::simd::prelude::*;

@@ -124,9 +124,9 @@ row_words n bytes fits long =
     let below : Each1 (λ x. x < 256) row = below_from_Fits w8 row (chunk-fits w8 0 (4 * n) bytes fits) in
     fill_by_all (λ (k : ℕ). from_le_bytes w32 (drop (4 * k) bytes)) (digits_l (2 ^ 32) n (number_l 256 row)) n 0 (length-digits (2 ^ 32) n (number_l 256 row))
     (λ k h.
-        let after : ℕ = 4 * n - 4 * k in
-        let whole : 4 * k + after ≡ 4 * n = omega arith in
-        let size : length (drop (4 * k) bytes) ≡ length bytes - 4 * k = length-drop (4 * k) bytes in
-        get_or_wider 256 4 (2 ^ 32) n row k refl below h
-        ∙ ap (number_l 256) (ap (take 4) (rw whole at (drop-take (4 * k) after bytes)) ∙ take-take 4 after (drop (4 * k) bytes) (omega arith))
-        ∙ word_of_four (drop (4 * k) bytes) (omega arith))
+    let after : ℕ = 4 * n - 4 * k in
+    let whole : 4 * k + after ≡ 4 * n = omega arith in
+    let size : length (drop (4 * k) bytes) ≡ length bytes - 4 * k = length-drop (4 * k) bytes in
+    get_or_wider 256 4 (2 ^ 32) n row k refl below h
+    ∙ ap (number_l 256) (ap (take 4) (rw whole at (drop-take (4 * k) after bytes)) ∙ take-take 4 after (drop (4 * k) bytes) (omega arith))
+    ∙ word_of_four (drop (4 * k) bytes) (omega arith))

@@ -1,4 +1,4 @@
-use Rattle.std.proofs.Common.{◌≡◌, ℕ, ◌+◌, ◌-◌, ◌*◌, ◌<◌, ◌≤◌, ◌⊎◌, inl, inr, List, [], drop, get_or, length, arith, refl, sym, ap, ◌∙◌, length-drop}
+use Rattle.std.proofs.Common.{◌≡◌, ℕ, ◌+◌, ◌-◌, ◌*◌, ◌<◌, ◌≤◌, ◌⊎◌, inl, inr, List, [], drop, get_or, length, arith, sym, ap, ◌∙◌, length-drop}
 use Rattle.std.proofs.lemmas.Bool.{cases_lt}
 use Rattle.std.proofs.lemmas.List.{drop-drop, length-map, length-take-le}
 use Rattle.std.proofs.lemmas.List.FromFn.{fill_by_all, get_or-map-range_with_len}
@@ -24,8 +24,8 @@ rows-preserved c =
     (rw width at c.copy_from_slice.ensures.len) ∙ length-take-le LANES (drop (LANES * i) words) (omega (arith, length-drop (LANES * i) words)) in
     let rows : (j : ℕ) → j < LANES → lane j part ≡ get_or c.row_of_each.result j [] =
     λ j h. ap (lane j) c.copy_from_slice.ensures.after
-        ∙ sym (get_or-map-range_with_len (λ j. lane j c.transposed-columns.result) 0 LANES j j [] h (omega arith))
-        ∙ ap (λ (rows : List (List ℕ)). get_or rows j []) (c.transposed-columns.ensures.lanes c.row_of_each.ensures.full) in
+    ∙ sym (get_or-map-range_with_len (λ j. lane j c.transposed-columns.result) 0 LANES j j [] h (omega arith))
+    ∙ ap (λ (rows : List (List ℕ)). get_or rows j []) (c.transposed-columns.ensures.lanes c.row_of_each.ensures.full) in
     rw width record {
       size = length-written (LANES * i) LANES words part room size ∙ c.rows.invariant.size;
       words = λ k below j h long. elim (cases_lt k (LANES * i)) [
