@@ -9,6 +9,7 @@ import time
 import pytest
 
 import yurewha as y
+from yurewha import _library
 
 rng = random.Random(11)
 PAIRS = [(y.Hash.random_from_seed(i), rng.getrandbits(40)) for i in range(50)]
@@ -89,6 +90,55 @@ def test_numpy():
     with pytest.raises(TypeError):
         y.xorb_hash([(h, float(size)) for h, size in PAIRS])
     assert y.xorb_hash([(h, numpy.uint64(size)) for h, size in PAIRS]) == y.xorb_hash(PAIRS)
+
+
+def rows_of(numpy, fields, align=False):
+    """The chunks as an array with these fields, of which those named `size` and otherwise have the sizes and hashes."""
+    kind = numpy.dtype(fields, align=align)
+    rows = numpy.zeros(len(PAIRS), dtype=kind)
+    for name in kind.names:
+        if name == "size":
+            rows[name] = [size for _, size in PAIRS]
+        elif kind[name].subdtype and kind[name].base.itemsize == 1:
+            rows[name] = [list(h.bytes) for h, _ in PAIRS]
+        elif kind[name].subdtype:
+            rows[name] = [h.words[:kind[name].shape[0]] for h, _ in PAIRS]
+        elif kind[name].itemsize == 32:
+            rows[name] = [numpy.void(h.bytes) if kind[name].kind == "V" else h.bytes for h, _ in PAIRS]
+    return rows
+
+
+HASHES = [("hash", "V32"), ("hash", "S32"), ("hash", "u1", 32), ("hash", "<u8", 4), ("words", "<u8", 4)]
+
+
+@pytest.mark.parametrize("hash_", HASHES, ids=str)
+@pytest.mark.parametrize("size_first", [False, True])
+def test_fields_are_taken_by_their_names(hash_, size_first):
+    numpy = pytest.importorskip("numpy")
+    fields = [hash_, ("size", "<u8")]
+    rows = rows_of(numpy, fields[::-1] if size_first else fields)
+    assert y.Chunks(rows) == y.Chunks(PAIRS) and y.Chunks(rows[:0]) == y.Chunks()
+    assert list(y.Chunks(rows[::-2])) == PAIRS[::-2] and list(y.Chunks(rows[3])) == PAIRS[3:4]
+
+
+@pytest.mark.parametrize("fields", [
+    [("f", "<u4", 10)], [("hash", "<u4", 8), ("size", "<u8")], [("hash", "V32"), ("size", "<u4", 2)],
+    [("hash", "V32"), ("length", "<u8")], [("key", "V32"), ("size", "<u8")], [("size", "V32"), ("hash", "<u8")],
+    [("hash", "V32"), ("size", "<i8")], [("hash", "V32"), ("size", "<f8")], [("hash", "V32"), ("size", ">u8")],
+    [("words", ">u8", 4), ("size", "<u8")], [("words", "<i8", 4), ("size", "<u8")], [("words", "<u8", (2, 2)), ("size", "<u8")],
+    [("hash", "V31"), ("a", "u1"), ("size", "<u8")], [("hash", "V32"), ("size", "<u8"), ("more", "<u8")],
+    [("hash", "V32"), ("size", "V8")], [("a", "<u8"), ("b", "<u8"), ("c", "<u8"), ("d", "<u8"), ("e", "<u8")],
+], ids=str)
+def test_other_fields_are_refused_by_name(fields):
+    numpy = pytest.importorskip("numpy")
+    for rows in (numpy.zeros(4, dtype=fields), numpy.zeros(4, dtype=numpy.dtype(fields, align=True))):
+        with pytest.raises(y.InvalidArguments, match="`hash` .* of 32 bytes and `size`, an unsigned word"):
+            y.Chunks(rows)
+
+
+def test_blocks_of_c_structs():
+    block = (_library.CChunk * len(PAIRS)).from_buffer_copy(PACKED)
+    assert y.Chunks(block) == y.Chunks(PAIRS)
 
 
 def test_great_messages():

@@ -1,5 +1,6 @@
 """The package itself: doctests, declarations, types, and how the library is found."""
 
+import ast
 import ctypes
 import doctest
 import importlib
@@ -15,7 +16,7 @@ from pathlib import Path
 import pytest
 
 import yurewha as y
-from yurewha import _declarations, _library
+from yurewha import _declarations, _library, _processor
 
 PACKAGE = Path(y.__file__).resolve().parent
 REPOSITORY = Path(__file__).resolve().parents[3]
@@ -99,6 +100,7 @@ def test_nothing_but_the_standard_library():
     text = "".join(path.read_text(encoding="utf-8") for path in PACKAGE.glob("*.py"))
     taken = set(re.findall(r"^\s*(?:import|from) (\w+)", text, flags=re.M))
     standard = getattr(sys, "stdlib_module_names", taken)
+    taken -= {"_typeshed", "typing_extensions"}  # for type checkers alone
     assert taken <= set(standard), taken - set(standard)
     assert (PACKAGE / "py.typed").exists()
 
@@ -134,8 +136,16 @@ def test_where_the_library_is_found(tmp_path):
     faster = own / "x86-64-v3"
     faster.mkdir()
     shutil.copy(built, faster / _library.NAME)
-    expected = faster if os.uname().machine == "x86_64" and _library._has_v3() else own
+    expected = faster if os.uname().machine == "x86_64" and _processor.level() == "x86-64-v3" else own
     assert found(place, tmp_path) == str(expected / _library.NAME)
+
+
+def test_what_is_installed():
+    told = subprocess.run(
+        [sys.executable, "-m", "yurewha"], env={**os.environ, "PYTHONPATH": str(PACKAGE.parent), "YUREWHA_LIB_DIR": LIBRARY},
+        cwd="/", capture_output=True, text=True, check=True).stdout
+    assert told == f"yurewha {y.__version__}\nlibrary: {_library.PATH}\nprocessor: {_processor.level()}\n"
+    assert _processor.level() in ("x86-64-v2", "x86-64-v3", os.uname().machine)
 
 
 def test_a_library_without_a_call(tmp_path):
@@ -149,7 +159,62 @@ def test_a_library_without_a_call(tmp_path):
     assert told == f"ImportError: yurewha: {tmp_path / _library.NAME} has no yurewha_internal_node_hash"
 
 
+WITH_FLAGS = """
+import builtins, io
+plain = builtins.open
+builtins.open = lambda path, *rest, **names: io.StringIO({told!r}) if path == "/proc/cpuinfo" else plain(path, *rest, **names)
+import yurewha
+print("hashed", yurewha.data_hash(b"abc").hex()[:16])
+"""
+FLAGS_OF_V2 = "fpu sse2 cx16 lahf_lm pni popcnt sse4_1 sse4_2 ssse3"
+HASHED = "hashed a8803506f7aff014"
+
+
+def of_flags(flags):
+    told = f"processor\t: 0\nflags\t\t: {flags}\n\nprocessor\t: 1\n"
+    return found({"PYTHONPATH": str(PACKAGE.parent), "YUREWHA_LIB_DIR": LIBRARY}, "/", WITH_FLAGS.format(told=told))
+
+
+LIBRARY = str(Path(_library.PATH).resolve().parent)
+ON_X86_64 = pytest.mark.skipif(os.uname().machine != "x86_64", reason="it is about x86-64")
+
+
+@ON_X86_64
+def test_a_processor_below_the_librarys_level():
+    assert of_flags(FLAGS_OF_V2) == HASHED
+    for flag in FLAGS_OF_V2.split()[2:]:
+        lacking = " ".join(word for word in FLAGS_OF_V2.split() if word != flag)
+        assert of_flags(lacking) == (
+            f"ImportError: yurewha: the library needs a processor of the level x86-64-v2, and this one has no {flag}")
+    assert of_flags("fpu sse2 cx16 lahf_lm pni").endswith("has no popcnt, no sse4_1, no sse4_2, no ssse3")
+
+
+@ON_X86_64
+@pytest.mark.skipif(not shutil.which("qemu-x86_64"), reason="there is no qemu-x86_64")
+@pytest.mark.parametrize("processor, expected", [
+    ("qemu64", "ImportError: yurewha: the library needs a processor of the level x86-64-v2, and this one has no popcnt, "
+               "no sse4_1, no sse4_2, no ssse3"),
+    ("Nehalem", HASHED + " x86-64-v2"),
+])
+def test_emulated_processors(processor, expected):
+    statement = "import yurewha, yurewha._library as l; print('hashed', yurewha.data_hash(b'abc').hex()[:16], l.LEVEL)"
+    values = {**os.environ, "PYTHONPATH": str(PACKAGE.parent), "YUREWHA_LIB_DIR": LIBRARY}
+    done = subprocess.run(
+        ["qemu-x86_64", "-cpu", processor, sys.executable, "-c", statement], env=values, capture_output=True, text=True,
+        check=False)
+    assert (done.stdout.strip() or done.stderr.strip().rpartition("\n")[2]) == expected
+
+
+@ON_X86_64
+def test_flags_that_nobody_tells(monkeypatch):
+    monkeypatch.setattr(_processor, "_flags_of_the_kernel", lambda: None)
+    monkeypatch.setattr(_processor, "_flags_of_glibc", lambda: None)
+    assert _processor.flags() is None and _processor.level() == "x86-64-v2"
+
+
 TYPED = """
+import array
+import mmap
 from typing import List, Optional, Tuple
 import yurewha as y
 one: Tuple[y.Hash, int] = (y.Hash.random_from_seed(1), 100)
@@ -166,28 +231,132 @@ first: Tuple[y.Hash, int] = packed[0]
 some: y.Chunks = packed[1:]
 data: bytes = root.bytes + y.Hasher(b"a").digest()
 text: str = root.hex() + y.Hasher(b"a").hexdigest()
+tree = y.Subtree.from_json(tree.to_json().encode())
+tree = y.Subtree.from_flat(True, [[1, 0]], [one], False)
+tree = y.Subtree.from_flat(*tree.to_flat())
+root = y.xorb_hash(pair for pair in [one])
+for view in (memoryview(b""), memoryview(bytearray())):
+    root = y.data_hash(view)
+    root = y.xorb_hash(view)
+root = y.data_hash(bytearray())
+root = y.data_hash(array.array("Q"))
+root = y.xorb_hash(mmap.mmap(-1, 40))
+root = y.data_hash(bytearray(), nobody_writes=True)
+hashes: y.Hashes = y.data_hashes(b"abc", [0, 3])
+hashes = y.data_hashes(b"abc", array.array("q", [0, 3])) + hashes[:1]
+root = hashes[0]
+texts: List[str] = hashes.hex()
+hashes = y.Hashes.from_hex(texts)
+packed = y.Chunks.from_columns(hashes, packed.sizes)
+packed = y.Chunks.from_columns([root, bytes(32)], [1, 2])
+for position, part in session:
+    tree = tree + part
 """
-WRONG = """
+TYPED_NUMPY = """
+import numpy
 import yurewha as y
-y.Subtree.from_chunks(True, [], "no")
-y.Hash.from_hex(7)
-y.Session().put("0", [])
-tree: y.Subtree = y.xorb_hash([])
+words = numpy.zeros((2, 5), dtype="<u8")
+root: y.Hash = y.xorb_hash(words)
+root = y.data_hash(words)
+root = y.xorb_hash([(y.Hash(), numpy.uint64(1))])
+chunks: y.Chunks = y.Chunks.from_columns(words[:, :4], words[:, 4])
+hashes: y.Hashes = y.data_hashes(words, numpy.zeros(3, dtype="i8"))
 """
+WRONG = [
+    'y.data_hash("text")',
+    "y.data_hash(None)",
+    "y.data_hash(7)",
+    "y.data_hash(y.Chunks())",
+    'y.data_hash(b"", True)',
+    'y.data_hashes("text", [0, 1])',
+    'y.data_hashes(b"abc", 7)',
+    'y.data_hashes(b"abc", [0, 1.5])',
+    'y.Hashes(64 * "0")',
+    "y.Hashes([1, 2])",
+    "y.Hashes.from_hex([bytes(64)])",
+    "y.Chunks.from_columns([1], [2])",
+    'y.Chunks.from_columns([y.Hash()], ["1"])',
+    "y.Chunks.from_columns(y.Chunks())",
+    "y.internal_node_hash(7.5)",
+    "y.xorb_hash(5)",
+    'y.xorb_hash("text")',
+    "y.xorb_hash([(bytes(32), 1)])",
+    "y.xorb_hash([(y.Hash(), 1.5)])",
+    "y.xorb_hash([y.Hash()])",
+    'y.file_hash([], salt="pepper")',
+    "y.find_stable_start([]) + 1",
+    "y.Hash(7)",
+    'y.Hash.from_hex(b"00")',
+    "y.Hash() < bytes(32)",
+    "y.Hash() % 1.5",
+    "y.Hash().hmac(bytes(32))",
+    "text: str = y.Hash().bytes",
+    "y.Hash.random_from_seed(1.0)",
+    'y.Hasher().update("text")',
+    "y.Hasher.keyed(32)",
+    "y.Subtree()",
+    "y.Subtree(1, 2, 3)",
+    "y.Subtree.from_json(7)",
+    'y.Subtree.from_chunks(True, [], "no")',
+    "y.Subtree.from_flat(False, [7], [], False)",
+    "y.Subtree.merge_all([None])",
+    "tree + 1",
+    "tree.merge(session)",
+    "tree.final_hash().hex()",
+    "root: y.Subtree = y.xorb_hash([])",
+    'session.put("0", [])',
+    "session.put([])",
+    "session.root()",
+]
+WRONG_FRAME = "import yurewha as y\ntree, session = y.Subtree.merge_all([]), y.Session()\n"
+
+
+def mypy(tmp_path, *arguments):
+    """The lines at which mypy finds an error, and all that it says."""
+    values = {**os.environ, "MYPYPATH": str(PACKAGE.parent)}
+    told = subprocess.run(
+        ["mypy", "--strict", "--no-error-summary", "--cache-dir", str(tmp_path / "cache"), *arguments],
+        capture_output=True, text=True, env=values, cwd=tmp_path, check=False)
+    return [int(number) for number in re.findall(r":(\d+): error", told.stdout)], told.stdout + told.stderr
 
 
 @pytest.mark.skipif(not shutil.which("mypy"), reason="there is no mypy")
 def test_types(tmp_path):
-    mypy = ["mypy", "--strict", "--no-error-summary", "--cache-dir", str(tmp_path / "cache")]
-    values = {**os.environ, "MYPYPATH": str(PACKAGE.parent)}
     (tmp_path / "typed.py").write_text(TYPED)
-    (tmp_path / "wrong.py").write_text(WRONG)
+    (tmp_path / "wrong.py").write_text(WRONG_FRAME + "\n".join(WRONG))
     for arguments, expected in (
-        (["--python-version", "3.9", "-p", "yurewha"], []), ([str(tmp_path / "typed.py")], []),
-        ([str(tmp_path / "wrong.py")], [3, 4, 5, 6]),
+        (["--python-version", "3.9", "-p", "yurewha"], []),
+        (["typed.py"], []),
+        (["wrong.py"], list(range(3, 3 + len(WRONG)))),
     ):
-        told = subprocess.run(mypy + arguments, capture_output=True, text=True, env=values, cwd=tmp_path, check=False).stdout
-        assert [int(number) for number in re.findall(r":(\d+): error", told)] == expected, told
+        lines, told = mypy(tmp_path, *arguments)
+        assert sorted(set(lines)) == expected, told
+
+
+@pytest.mark.skipif(not shutil.which("mypy"), reason="there is no mypy")
+def test_types_of_numpy(tmp_path):
+    pytest.importorskip("numpy")
+    (tmp_path / "typed.py").write_text(TYPED_NUMPY)
+    lines, told = mypy(tmp_path, "typed.py")
+    assert lines == [], told
+
+
+def public_signatures():
+    """Each annotation of a call or a name that a user may see, with where it stands."""
+    for path in sorted(PACKAGE.glob("*.py")):
+        for node in ast.walk(ast.parse(path.read_text(encoding="utf-8"))):
+            if isinstance(node, ast.FunctionDef) and (not node.name.startswith("_") or node.name.endswith("__")):
+                kinds = node.args
+                arguments = [*kinds.posonlyargs, *kinds.args, *kinds.kwonlyargs, kinds.vararg, kinds.kwarg]
+                for annotation in [node.returns, *(argument.annotation for argument in arguments if argument)]:
+                    if annotation is not None:
+                        yield f"{path.name}: {node.name}", ast.unparse(annotation)
+
+
+def test_no_public_signature_takes_anything():
+    seen = list(public_signatures())
+    assert len(seen) > 200
+    assert [(place, text) for place, text in seen if re.search(r"\bAny\b", text)] == []
 
 
 def test_the_example_of_the_readme():

@@ -5,6 +5,7 @@ import multiprocessing
 import os
 import pickle
 import random
+import signal
 import threading
 import time
 
@@ -173,3 +174,42 @@ def test_forks_under_a_long_call():
         stop.set()
         thread.join()
     assert all(answer.endswith("True)") for answer in told) and told
+
+
+class Interrupted:
+    """A lock whose first look by this process is interrupted by a signal."""
+
+    def __init__(self, lock):
+        self.lock, self.looks = lock, 0
+
+    def acquire(self, blocking=True):
+        self.looks += 1
+        if self.looks == 1:
+            signal.raise_signal(signal.SIGUSR1)
+        return self.lock.acquire(blocking=blocking)
+
+    def release(self):
+        self.lock.release()
+
+    def __enter__(self):
+        return self.acquire()
+
+    def __exit__(self, *_):
+        self.release()
+
+
+@pytest.mark.parametrize("same", [False, True])
+def test_a_handler_uses_an_object_first_while_another_is_taken_over(same):
+    tree, other = piece(1), piece(2)
+    used = tree if same else other
+
+    def work():
+        counts = []
+        signal.signal(signal.SIGALRM, signal.SIG_DFL)
+        signal.alarm(20)  # a child that waits for ever ends by this
+        signal.signal(signal.SIGUSR1, lambda number, frame: counts.append(used.num_nodes))
+        tree._lock = Interrupted(tree._lock)
+        counts.append(tree.num_nodes)
+        return counts
+
+    assert in_child(work) == str([used.num_nodes, tree.num_nodes])

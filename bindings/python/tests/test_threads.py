@@ -1,5 +1,6 @@
 """Threads with objects of their own, and with shared ones."""
 
+import contextlib
 import pickle
 import random
 import signal
@@ -9,6 +10,7 @@ import time
 import pytest
 
 import yurewha as y
+from yurewha import _hash
 
 
 def run(*calls):
@@ -29,6 +31,10 @@ def run(*calls):
         assert not thread.is_alive(), "a thread waits for ever"
     if raised:
         raise raised[0]
+
+
+#: So many bytes of a block that others may change are taken in several copies.
+LONG = (3 << 20) + 17
 
 
 def block(seed, count):
@@ -108,9 +114,10 @@ def test_one_hasher_shared():
             hasher.update(piece)
             hasher.update(bytearray(piece))
             hasher.copy().update(b"lost")
+        hasher.update(bytearray(LONG))
 
     run(*(8 * [feed]))
-    assert hasher.count == 8 * 100 * 10_000
+    assert hasher.count == 8 * (100 * 10_000 + LONG)
     assert hasher.hash() == y.data_hash(bytes(hasher.count))
 
 
@@ -214,3 +221,112 @@ def test_signals_that_use_the_object_or_end_the_call():
     assert count[0] > 50 and count[1] > 10
     assert one == other == expected and one + other == twice
     assert 0 < session.num_runs <= count[0] and hasher.count <= count[0]
+
+
+@contextlib.contextmanager
+def handled(number, handler):
+    before = signal.signal(number, handler)
+    try:
+        yield
+    finally:
+        signal.signal(number, before)
+
+
+@pytest.mark.parametrize("given", [b"a", bytearray(b"a"), bytearray(LONG)], ids=["bytes", "bytearray", "long"])
+@pytest.mark.parametrize("under_way", [b"abc", bytearray(b"abc"), bytearray(LONG)], ids=["bytes", "bytearray", "long"])
+def test_a_handlers_update_counts_or_is_refused(monkeypatch, under_way, given):
+    """The handler runs within the other update, before its first piece."""
+    hasher, taken, refused, interrupted = y.Hasher(b"first"), [], [], []
+
+    def handler(number, frame):
+        try:
+            hasher.update(given)
+            taken.append(bytes(given))
+        except y.ReentrantCall:
+            refused.append(hasher.hash())
+
+    def add(state, *piece, plain=_hash._add):
+        if piece[0] and not interrupted:
+            interrupted.append(True)
+            signal.raise_signal(signal.SIGUSR1)
+        plain(state, *piece)
+
+    with handled(signal.SIGUSR1, handler):
+        monkeypatch.setattr(_hash, "_add", add)
+        hasher.update(under_way)
+        monkeypatch.undo()
+    assert len(taken) + len(refused) == 1
+    assert hasher.hash() == y.data_hash(b"first" + b"".join(taken) + bytes(under_way))
+    assert refused == (len(under_way) == LONG) * [y.data_hash(b"first")]
+
+
+def test_a_handler_that_ends_a_long_update(monkeypatch):
+    hasher = y.Hasher(b"first")
+
+    class Ended(Exception):
+        pass
+
+    def handler(number, frame):
+        raise Ended
+
+    def add(state, *piece, plain=_hash._add):
+        plain(state, *piece)
+        if piece[0]:
+            signal.raise_signal(signal.SIGUSR1)
+
+    with handled(signal.SIGUSR1, handler):
+        monkeypatch.setattr(_hash, "_add", add)
+        with pytest.raises(Ended):
+            hasher.update(bytearray(LONG))
+        monkeypatch.undo()
+    assert hasher.hash() == y.data_hash(b"first")
+    hasher.update(bytearray(LONG))
+    hasher.update(b"last")
+    assert hasher.hash() == y.data_hash(b"first" + bytes(LONG) + b"last")
+
+
+def test_runs_while_a_handler_joins_some(monkeypatch):
+    """The handler puts what joins the first two of three runs, after one of them was looked at."""
+    session, chunks = y.Session(), block(8, 3)
+    for place in range(3):
+        session.put(2 * place, chunks[place:place + 1])
+    looked = []
+
+    def look(self, at, plain=y.Session.run):
+        found = plain(self, at)
+        looked.append(at)
+        if len(looked) == 1:
+            signal.raise_signal(signal.SIGUSR1)
+        return found
+
+    with handled(signal.SIGUSR1, lambda number, frame: session.put(1, chunks[:1])):
+        monkeypatch.setattr(y.Session, "run", look)
+        runs = session.runs()
+        monkeypatch.undo()
+    assert [first for first, _ in runs] == [0, 4] and runs == session.runs()
+
+
+def test_no_update_by_a_handler_is_lost():
+    """Signals by the clock, at any place of the other updates."""
+    hasher, counts = y.Hasher(), {"taken": 0, "refused": 0}
+    data = bytearray(LONG)
+
+    def handler(number, frame):
+        try:
+            hasher.update(b"a")
+            counts["taken"] += 1
+        except y.ReentrantCall:
+            counts["refused"] += 1
+
+    long_ones, began = 0, time.monotonic()
+    with handled(signal.SIGALRM, handler):
+        try:
+            while sum(counts.values()) < 100 and time.monotonic() < began + 60:
+                signal.setitimer(signal.ITIMER_REAL, 0.0005, 0.0005)
+                hasher.update(data)
+                hasher.update(b"bc")
+                long_ones += 1
+        finally:
+            signal.setitimer(signal.ITIMER_REAL, 0)
+    assert sum(counts.values()) >= 100
+    assert hasher.count == long_ones * (LONG + 2) + counts["taken"]

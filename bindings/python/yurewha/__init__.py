@@ -20,6 +20,7 @@ from ._errors import (
     InvalidJson,
     InvalidText,
     OutOfMemory,
+    ReentrantCall,
     SessionError,
     SessionGap,
     SessionOverlap,
@@ -29,6 +30,7 @@ from ._errors import (
     YurewhaError,
 )
 from ._hash import Hash, Hasher, data_hash, internal_node_hash
+from ._hashes import Hashes, data_hashes
 from ._session import Session
 from ._subtree import (
     Flat,
@@ -50,11 +52,13 @@ __all__ = [
     "Flat",
     "Hash",
     "Hasher",
+    "Hashes",
     "InUseAtFork",
     "InvalidArguments",
     "InvalidJson",
     "InvalidText",
     "OutOfMemory",
+    "ReentrantCall",
     "Session",
     "SessionError",
     "SessionGap",
@@ -65,6 +69,7 @@ __all__ = [
     "Subtree",
     "YurewhaError",
     "data_hash",
+    "data_hashes",
     "file_hash",
     "find_stable_end",
     "find_stable_start",

@@ -13,6 +13,7 @@ __all__ = [
     "InvalidJson",
     "InvalidText",
     "OutOfMemory",
+    "ReentrantCall",
     "SessionError",
     "SessionGap",
     "SessionOverlap",
@@ -115,6 +116,14 @@ class InUseAtFork(YurewhaError, RuntimeError):
     """This process was forked while another thread used the object, which may be half changed: make a new one.
 
     >>> issubclass(InUseAtFork, RuntimeError)
+    True
+    """
+
+
+class ReentrantCall(YurewhaError, RuntimeError):
+    """A signal's handler called `update` of a hasher while a long `update` of it was under way in the same thread.
+
+    >>> issubclass(ReentrantCall, RuntimeError)
     True
     """
 

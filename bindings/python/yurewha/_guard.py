@@ -6,6 +6,9 @@ call on an object holds the object's own lock, also where it keeps the interpret
 A forked process has the objects of its parent as they were. An object that another thread held at that moment may be half
 changed, and its lock is never given back. So the first use of an object in a forked process tries its lock once: where it
 isn't to be had, `InUseAtFork` is raised, now and at each later use, and the object is never freed.
+
+A signal's handler may run between any two steps below, and use any object. So each lock may be taken again by the thread that
+has it.
 """
 
 from __future__ import annotations
@@ -19,15 +22,16 @@ from ._errors import InUseAtFork
 
 
 class _Process:
-    """How often this process was forked from another, and a lock for taking objects over from there."""
+    """How often this process was forked from another, and a lock for taking objects over from there.
+
+    Both change at once, since a handler may run before and after.
+    """
 
     def __init__(self) -> None:
-        self.generation = 0
-        self.taking_over = threading.Lock()
+        self.now = (0, threading.RLock())
 
     def forked(self) -> None:
-        self.generation += 1
-        self.taking_over = threading.Lock()
+        self.now = (self.now[0] + 1, threading.RLock())
 
 
 _process = _Process()
@@ -50,20 +54,19 @@ class Guarded:
     def _guard(self) -> None:
         """Makes the lock; the first thing that is done with a new object."""
         self._lock = threading.RLock()
-        self._generation = _process.generation
+        self._generation = _process.now[0]
 
     def _is_ours(self) -> bool:
         """Whether no other thread used the object when this process was forked."""
-        if self._generation == _process.generation:
+        generation, taking_over = _process.now
+        if self._generation == generation:
             return True
-        with _process.taking_over:
-            if self._generation == _process.generation:
-                return True
-            if not self._lock.acquire(blocking=False):
-                return False
-            self._lock.release()
-            self._generation = _process.generation
-            return True
+        with taking_over:
+            if self._lock.acquire(blocking=False):
+                self._lock.release()
+                self._generation = generation
+            # Where another thread has the lock, it may have taken the object over itself.
+            return self._generation == generation
 
     def _locked(self) -> threading.RLock:
         """The lock, to be held during each call on the object."""

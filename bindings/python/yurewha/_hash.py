@@ -3,41 +3,60 @@
 from __future__ import annotations
 
 import ctypes
+import threading
+from functools import partial
 from operator import index
-from typing import Any, Tuple, Union, final
+from typing import Callable, NoReturn, SupportsIndex, Tuple, Type, TypeVar, Union, final
 
 from ._declarations import LENGTHS
-from ._errors import DivisionByZero, InvalidArguments, InvalidText, error_of
+from ._errors import DivisionByZero, InvalidArguments, InvalidText, ReentrantCall, YurewhaError, error_of
 from ._guard import Guarded
+from ._lent import Lent, bytes_of, is_read_only, is_whole
 from ._library import LONG_BYTES, CBytes, CHash, CHasher, calls_for, short
+from ._types import BytesLike, view_of
 
 __all__ = ["Hash", "Hasher", "data_hash", "internal_node_hash"]
 
 _MAX_U64 = 2**64 - 1
+# So many bytes are copied at once. Fewer than the second number are always copied, which takes less time than lending them.
 _PIECE = 1 << 20
+_SHORT = 2048
 _HEX_LENGTH = LENGTHS["YUREWHA_HEX_LENGTH"]
 _BASE64_LENGTH = LENGTHS["YUREWHA_BASE64_LENGTH"]
 _CHex = ctypes.c_char * _HEX_LENGTH
 _CBase64 = ctypes.c_char * _BASE64_LENGTH
 
-#: Anything with the buffer protocol: `bytes`, `bytearray`, `memoryview`, `mmap.mmap`, `array.array`, NumPy arrays.
-BytesLike = Union[bytes, bytearray, memoryview, Any]
 _Bytes = bytes
+#: Where bytes begin that are handed to the library.
+Start = Union[bytes, ctypes.c_char_p]
+_Result = TypeVar("_Result")
 
 
-def checked_u64(value: Any, what: str) -> int:
+def whole_number(value: SupportsIndex, what: str) -> int:
+    """A whole number.
+
+    >>> whole_number(-7, "an offset")
+    -7
+    """
+    try:
+        return index(value)
+    except TypeError:
+        raise TypeError(f"{what} is a whole number, not {type(value).__name__}") from None
+
+
+def checked_u64(value: SupportsIndex, what: str) -> int:
     """A whole number from 0 to 2^64 - 1.
 
     >>> checked_u64(7, "a size")
     7
     """
-    number = index(value)
+    number = whole_number(value, what)
     if not 0 <= number <= _MAX_U64:
         raise InvalidArguments(f"{what} is a whole number from 0 to 2^64 - 1")
     return number
 
 
-def checked_bool(value: Any, what: str) -> bool:
+def checked_bool(value: object, what: str) -> bool:
     """True or False, and nothing that is like them.
 
     >>> checked_bool(True, "at_start")
@@ -48,7 +67,7 @@ def checked_bool(value: Any, what: str) -> bool:
     return value
 
 
-def checked_text(value: Any, what: str) -> bytes:
+def checked_text(value: object, what: str) -> bytes:
     """The bytes of a text.
 
     >>> checked_text("a", "the text")
@@ -70,8 +89,8 @@ def own_bytes(value: BytesLike) -> bytes:
     """
     if type(value) is bytes:
         return value
-    with memoryview(value) as view:
-        return view.tobytes()
+    with view_of(value) as view:
+        return bytes_of(view)
 
 
 def checked_32(value: BytesLike, what: str) -> bytes:
@@ -90,9 +109,16 @@ def checked_32(value: BytesLike, what: str) -> bytes:
 class Hash:
     """A hash: 32 bytes. It can't be changed, can be a key of a dict, and has the order of its hex text.
 
-    `Hash()` is the default hash, whose bytes are 0; `Hash(b)` has the 32 bytes `b`.
+    `Hash()` is the default hash, whose bytes are 0; `Hash(b)` has the 32 bytes `b`. Its text is its hex text, also in formats.
+    JSON has it as that text, which `default=Hash.hex` writes and `Hash.from_hex` reads.
 
     >>> Hash().hex() == 64 * "0"
+    True
+    >>> f"{Hash.random_from_seed(1):.8}"
+    'cfc5d07f'
+    >>> import json
+    >>> text = json.dumps({"root": Hash()}, default=Hash.hex)
+    >>> Hash.from_hex(json.loads(text)["root"]) == Hash()
     True
     """
 
@@ -115,7 +141,7 @@ class Hash:
         object.__setattr__(self, "_raw", raw)
         return self
 
-    def __setattr__(self, name: str, value: Any) -> None:
+    def __setattr__(self, name: str, value: object) -> None:
         raise AttributeError("a hash can't be changed")
 
     def __delattr__(self, name: str) -> None:
@@ -265,47 +291,75 @@ class Hash:
     def __str__(self) -> str:
         return self.hex()
 
+    def __format__(self, spec: str) -> str:
+        return format(self.hex(), spec)
+
     def __repr__(self) -> str:
         return f"Hash.from_hex('{self.hex()}')"
 
     def __copy__(self) -> Hash:
         return self
 
-    def __deepcopy__(self, memo: Any) -> Hash:
+    def __deepcopy__(self, memo: object) -> Hash:
         return self
 
-    def __reduce__(self) -> Tuple[Any, ...]:
+    def __reduce__(self) -> Tuple[Type[Hash], Tuple[_Bytes]]:
         return Hash, (self.bytes,)
 
 
-def data_hash(data: BytesLike) -> Hash:
+def data_hash(data: BytesLike, *, nobody_writes: bool = False) -> Hash:
     """The hash of a chunk, whose data these bytes are.
+
+    Read-only bytes are hashed where they are. Others are copied, a MiB at a time, since somebody may write to them meanwhile;
+    with `nobody_writes=True` the caller promises that nobody does, and they aren't copied.
 
     >>> data_hash(b"abc").hex()[:16]
     'a8803506f7aff014'
+    >>> data_hash(bytearray(b"abc"), nobody_writes=True) == data_hash(b"abc")
+    True
     """
-    if type(data) is not bytes:
-        return Hasher(data).hash()
-    out = CHash()
-    calls_for(len(data), LONG_BYTES).yurewha_data_hash(data, len(data), out)
-    return Hash._of(bytes(out))
+    return _handed(data, nobody_writes, partial(_hashed, "yurewha_data_hash"), lambda lent: Hasher()._hash_by_pieces(lent))
 
 
-def internal_node_hash(data: BytesLike) -> Hash:
-    """The hash of an inner node of the tree, whose text these bytes are.
+def internal_node_hash(data: BytesLike, *, nobody_writes: bool = False) -> Hash:
+    """The hash of an inner node of the tree, whose text these bytes are; taken as by `data_hash`.
 
     >>> internal_node_hash(b"") == Hasher.internal_node().hash()
     True
     """
-    if type(data) is not bytes:
-        return Hasher.internal_node(data).hash()
+    return _handed(
+        data, nobody_writes, partial(_hashed, "yurewha_internal_node_hash"),
+        lambda lent: Hasher.internal_node()._hash_by_pieces(lent))
+
+
+def _hashed(which: str, start: Start, length: int) -> Hash:
     out = CHash()
-    calls_for(len(data), LONG_BYTES).yurewha_internal_node_hash(data, len(data), out)
+    getattr(calls_for(length, LONG_BYTES), which)(start, length, out)
     return Hash._of(bytes(out))
 
 
-def _add(state: CHasher, piece: bytes) -> None:
-    status = calls_for(len(piece), LONG_BYTES).yurewha_hasher_update(state, piece, len(piece))
+def _handed(
+    data: BytesLike, nobody_writes: bool, at_once: Callable[[Start, int], _Result], by_pieces: Callable[[Lent], _Result]
+) -> _Result:
+    """Hands bytes over at once, as they are where nobody writes to them, or as one copy; or lends them to be copied by pieces."""
+    checked_bool(nobody_writes, "nobody_writes")
+    if type(data) is bytes:
+        return at_once(data, len(data))
+    with Lent(data) as lent:
+        view = lent.view
+        if view.nbytes < _SHORT or not view.c_contiguous or is_whole(view):
+            own = bytes_of(view)
+            return at_once(own, len(own))
+        lent.hold()
+        if nobody_writes or is_read_only(view):
+            return at_once(lent.at(0), lent.length)
+        if lent.length <= _PIECE:
+            return at_once(lent.piece(0, lent.length), lent.length)
+        return by_pieces(lent)
+
+
+def _add(state: CHasher, start: Start, length: int) -> None:
+    status = calls_for(length, LONG_BYTES).yurewha_hasher_update(state, start, length)
     if status:
         raise error_of(status)
 
@@ -320,19 +374,23 @@ class Hasher(Guarded):
     True
     """
 
-    __slots__ = ("_state", "_name")
+    __slots__ = ("_state", "_name", "_by_pieces")
 
     digest_size: int = 32
     block_size: int = 64
 
+    # It stays at one place, so that a call that a signal's handler makes between two steps of another one isn't lost.
     _state: CHasher
     _name: str
+    # Held while a long update is under way, by whose end the state is written over.
+    _by_pieces: threading.Lock
 
     def __new__(cls, data: BytesLike = b"") -> Hasher:
         self = object.__new__(cls)
         self._guard()
         self._state = CHasher()
         self._name = "yurewha-data"
+        self._by_pieces = threading.Lock()
         short.yurewha_hasher_begin_data(self._state)
         self.update(data)
         return self
@@ -386,33 +444,39 @@ class Hasher(Guarded):
         with self._locked():
             return int(short.yurewha_hasher_count(self._state))
 
-    def update(self, data: BytesLike) -> None:
+    def update(self, data: BytesLike, *, nobody_writes: bool = False) -> None:
         """Adds a piece to the message; `SizeOverflow` where it would have more than 2^64 - 1 bytes.
 
-        Bytes that others may change, as a `bytearray` or an array, are taken in copies of a MiB at most.
+        Bytes are taken as by `data_hash`. While more than a MiB is copied, `update` by a signal's handler raises
+        `ReentrantCall`; each other update by a handler counts.
 
         >>> Hasher(bytearray(b"abc")).count
         3
         """
-        if type(data) is bytes:
-            with self._locked():
-                _add(self._state, data)
-            return
-        with memoryview(data) as view, self._locked():
-            if view.nbytes <= _PIECE or not view.c_contiguous:
-                _add(self._state, view.tobytes())
-                return
-            try:
-                flat = view.cast("B")
-            except (TypeError, ValueError):
-                _add(self._state, view.tobytes())
-                return
-            with flat:
-                # The hasher takes all of it or, where that ends early, nothing.
-                state = CHasher.from_buffer_copy(self._state)
-                for start in range(0, flat.nbytes, _PIECE):
-                    _add(state, flat[start:start + _PIECE].tobytes())
-                self._state = state
+        with self._locked():
+            _handed(data, nobody_writes, self._add, self._add_by_pieces)
+
+    def _refuse_reentry(self) -> None:
+        if self._by_pieces.locked():
+            raise ReentrantCall("a signal's handler called update while a long update of the same hasher was under way")
+
+    def _add(self, start: Start, length: int) -> None:
+        self._refuse_reentry()
+        _add(self._state, start, length)
+
+    def _add_by_pieces(self, lent: Lent) -> None:
+        """Adds all of it or, where that ends early, nothing."""
+        self._refuse_reentry()
+        with self._by_pieces:
+            state = CHasher.from_buffer_copy(self._state)
+            for start in range(0, lent.length, _PIECE):
+                stop = min(start + _PIECE, lent.length)
+                _add(state, lent.piece(start, stop), stop - start)
+            ctypes.memmove(ctypes.byref(self._state), ctypes.byref(state), ctypes.sizeof(CHasher))
+
+    def _hash_by_pieces(self, lent: Lent) -> Hash:
+        self._add_by_pieces(lent)
+        return self.hash()
 
     def hash(self) -> Hash:
         """The hash of the message so far; the hasher can go on.
@@ -457,11 +521,14 @@ class Hasher(Guarded):
     def __copy__(self) -> Hasher:
         return self.copy()
 
-    def __deepcopy__(self, memo: Any) -> Hasher:
+    def __deepcopy__(self, memo: object) -> Hasher:
         return self.copy()
 
-    def __reduce__(self) -> Tuple[Any, ...]:
+    def __reduce__(self) -> NoReturn:
         raise TypeError("a Hasher can't be pickled")
 
     def __repr__(self) -> str:
-        return f"<yurewha.Hasher {self._name}, {self.count} bytes>"
+        try:
+            return f"<yurewha.Hasher {self._name}, {self.count} bytes>"
+        except YurewhaError:
+            return "<yurewha.Hasher that can't be read>"

@@ -12,15 +12,20 @@ import platform
 import sys
 from pathlib import Path
 from types import SimpleNamespace
-from typing import Any, Dict, List, Optional
+from typing import Any, Dict, Optional
 
 from ._declarations import DECLARATIONS, STRUCTS
+from ._processor import flags, lacking, level
 
 NAME = "libyurewha.so.1"
 
-#: Messages of so many bytes, lists of so many chunks or nodes, and longer ones, give up the interpreter's lock.
-LONG_BYTES = 2048
-LONG_CHUNKS = 64
+#: The level of this processor.
+LEVEL: str = level()
+
+#: Messages of so many bytes, lists of so many chunks or nodes, and longer ones, give up the interpreter's lock. Shorter ones
+#: take less time than handing it over does, where several threads want it.
+LONG_BYTES = 1 << 14
+LONG_CHUNKS = 256
 LONG_NODES = 512
 
 
@@ -95,20 +100,6 @@ _TYPES: Dict[str, Any] = {
     **{f"{name} *": ctypes.POINTER(struct) for name, struct in STRUCT_TYPES.items()},
 }
 
-# What a processor of the level x86-64-v3 tells of itself in /proc/cpuinfo.
-_V3_FLAGS = {"abm", "avx", "avx2", "bmi1", "bmi2", "f16c", "fma", "movbe", "xsave"}
-
-
-def _has_v3() -> bool:
-    try:
-        with open("/proc/cpuinfo", encoding="ascii", errors="replace") as lines:
-            for line in lines:
-                if line.startswith("flags"):
-                    return _V3_FLAGS <= set(line.partition(":")[2].split())
-    except OSError:
-        pass
-    return False
-
 
 def find(package: Optional[Path] = None) -> str:
     """The file of the library, or its bare name where the loader has to find it.
@@ -117,13 +108,8 @@ def find(package: Optional[Path] = None) -> str:
     True
     """
     package = Path(__file__).resolve().parent if package is None else package
-    machine = platform.machine()
     own = package / "lib"
-    candidates: List[Path] = []
-    if machine == "x86_64" and (own / "x86-64-v3" / NAME).exists() and _has_v3():
-        candidates.append(own / "x86-64-v3" / NAME)
-    candidates.append(own / NAME)
-    for candidate in candidates:
+    for candidate in (own / LEVEL / NAME, own / NAME):
         if candidate.exists():
             return str(candidate)
     folder = os.environ.get("YUREWHA_LIB_DIR")
@@ -133,7 +119,7 @@ def find(package: Optional[Path] = None) -> str:
             raise ImportError(f"yurewha: YUREWHA_LIB_DIR is {folder}, where there is no {NAME}")
         return str(named.resolve())
     if package.parent.name == "python" and package.parent.parent.name == "bindings":
-        built = package.parent.parent / "out" / machine / "lib" / NAME
+        built = package.parent.parent / "out" / platform.machine() / "lib" / NAME
         if built.exists():
             return str(built)
     return NAME
@@ -164,7 +150,17 @@ def _check_machine() -> None:
         raise ImportError("yurewha: it is there for CPython alone")
 
 
+def _check_processor() -> None:
+    if platform.machine() != "x86_64":
+        return
+    missing = lacking(flags())
+    if missing:
+        raise ImportError(
+            "yurewha: the library needs a processor of the level x86-64-v2, and this one has no " + ", no ".join(missing))
+
+
 _check_machine()
+_check_processor()
 
 #: The file that was loaded.
 PATH: str = find()

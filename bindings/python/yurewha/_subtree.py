@@ -5,12 +5,26 @@ from __future__ import annotations
 import ctypes
 import os
 import struct
-from typing import Any, Iterable, List, NamedTuple, Optional, Sequence, Tuple, Union, final
+from typing import (
+    TYPE_CHECKING,
+    Callable,
+    Iterable,
+    List,
+    NamedTuple,
+    NoReturn,
+    Optional,
+    Sequence,
+    SupportsIndex,
+    Tuple,
+    Union,
+    final,
+)
 
 from ._chunks import Chunks, ChunksLike
+from ._declarations import STATUSES
 from ._errors import InvalidArguments, YurewhaError, error_of
 from ._guard import Guarded, all_locked, both_locked
-from ._hash import BytesLike, Hash, checked_32, checked_bool, checked_text, checked_u64
+from ._hash import Hash, checked_32, checked_bool, checked_text, checked_u64, own_bytes
 from ._library import (
     LONG_BYTES,
     LONG_CHUNKS,
@@ -23,11 +37,13 @@ from ._library import (
     short,
 )
 from ._picture import picture_of
+from ._types import BytesLike
 
 __all__ = ["Flat", "Subtree", "file_hash", "find_stable_end", "find_stable_start", "xorb_hash"]
 
 _LEVEL = struct.Struct("<QQ")
 _CHUNK_SIZE = ctypes.sizeof(CChunk)
+_FromFlat = Callable[[bool, Iterable[Sequence[SupportsIndex]], ChunksLike, bool], "Subtree"]
 
 
 def xorb_hash(chunks: ChunksLike) -> Hash:
@@ -127,11 +143,17 @@ class Subtree(Guarded):
     # An instance can be changed, so it is no key.
     __hash__ = None  # type: ignore[assignment]
 
-    def __new__(cls, *arguments: Any, **names: Any) -> Subtree:
-        return cls._empty()
+    if TYPE_CHECKING:
 
-    def __init__(self, *arguments: Any, **names: Any) -> None:
-        raise TypeError("a Subtree is made by Subtree.from_chunks, .merge_all, .from_json or .from_flat")
+        def __init__(self, there_is_no_such_call: NoReturn) -> None: ...
+
+    else:
+
+        def __new__(cls, *arguments: object, **names: object) -> Subtree:
+            return cls._empty()
+
+        def __init__(self, *arguments: object, **names: object) -> None:
+            raise TypeError("a Subtree is made by Subtree.from_chunks, .merge_all, .from_json or .from_flat")
 
     def __init_subclass__(cls) -> None:
         raise TypeError("Subtree isn't made to be derived from")
@@ -234,7 +256,7 @@ class Subtree(Guarded):
         """
         return self._count(short.yurewha_subtree_num_levels)
 
-    def _count(self, call: Any) -> int:
+    def _count(self, call: Callable[[CSubtree, ctypes.c_size_t], int]) -> int:
         out = ctypes.c_size_t()
         with self._locked():
             status = call(self._handle, out)
@@ -373,7 +395,7 @@ class Subtree(Guarded):
         seen = set()
         for item in ranges:
             if not isinstance(item, Subtree):
-                raise TypeError(f"a range is a Subtree, not {type(item).__name__}")
+                raise TypeError(f"range {len(items)} is a Subtree, not {type(item).__name__}")
             # An object that comes again is copied, since the handles of a call are all different.
             items.append(item.copy() if id(item) in seen else item)
             seen.add(id(item))
@@ -387,8 +409,10 @@ class Subtree(Guarded):
                 handles[place].at = item._handle.at
                 item._handle = handles[place]
             status = calls_for(nodes, LONG_NODES).yurewha_subtree_merge(handles, len(items), merged._handle)
+            if status == STATUSES["YUREWHA_ARGUMENTS"]:
+                raise InvalidArguments(_misplaced(items))
         if status:
-            raise error_of(status, "a range other than the first is at the start, or one other than the last at the end")
+            raise error_of(status)
         return merged
 
     # ---- Copies and forms
@@ -411,7 +435,7 @@ class Subtree(Guarded):
     def __copy__(self) -> Subtree:
         return self.copy()
 
-    def __deepcopy__(self, memo: Any) -> Subtree:
+    def __deepcopy__(self, memo: object) -> Subtree:
         return self.copy()
 
     def __eq__(self, other: object) -> bool:
@@ -458,13 +482,7 @@ class Subtree(Guarded):
         >>> Subtree.from_json('{"at_end":true,"at_start":true,"levels":[[0,0]],"nodes":[]}').is_empty
         True
         """
-        if isinstance(text, str):
-            data = checked_text(text, "JSON")
-        elif type(text) is bytes:
-            data = text
-        else:
-            with memoryview(text) as view:
-                data = view.tobytes()
+        data = checked_text(text, "JSON") if isinstance(text, str) else own_bytes(text)
         self = Subtree._empty()
         status = calls_for(len(data), LONG_BYTES).yurewha_subtree_from_json(data, len(data), self._handle)
         if status:
@@ -494,7 +512,7 @@ class Subtree(Guarded):
         return Flat(at_start, counts, Chunks._of(packed), at_end)
 
     @staticmethod
-    def from_flat(at_start: bool, levels: Iterable[Sequence[int]], nodes: ChunksLike, at_end: bool) -> Subtree:
+    def from_flat(at_start: bool, levels: Iterable[Sequence[SupportsIndex]], nodes: ChunksLike, at_end: bool) -> Subtree:
         """The subtree that flat lists say, as `to_flat` gives them; `InvalidJson` with the least rule that they break.
 
         >>> Subtree.from_flat(True, [(1, 0)], [(Hash(), 7)], False).total_size
@@ -503,12 +521,13 @@ class Subtree(Guarded):
         checked_bool(at_start, "at_start")
         checked_bool(at_end, "at_end")
         packed_levels = bytearray()
-        for level in levels:
+        for number, level in enumerate(levels):
             try:
                 left, right = level
             except (TypeError, ValueError):
-                raise TypeError("a level is a pair of numbers, of left and of right nodes") from None
-            packed_levels += _LEVEL.pack(checked_u64(left, "a count"), checked_u64(right, "a count"))
+                raise TypeError(f"level {number} is a pair of numbers, of left and of right nodes") from None
+            what = f"a count of level {number}"
+            packed_levels += _LEVEL.pack(checked_u64(left, what), checked_u64(right, what))
         packed = Chunks(nodes).packed
         count, self = len(packed) // _CHUNK_SIZE, Subtree._empty()
         status = calls_for(count, LONG_NODES).yurewha_subtree_from_flat(
@@ -517,7 +536,7 @@ class Subtree(Guarded):
             raise error_of(status)
         return self
 
-    def __reduce__(self) -> Tuple[Any, ...]:
+    def __reduce__(self) -> Tuple[_FromFlat, Tuple[bool, Tuple[Tuple[int, int], ...], bytes, bool]]:
         # By flat lists, which are checked as JSON is. A pickle that was changed so gives a subtree or InvalidJson.
         flat = self.to_flat()
         return Subtree.from_flat, (flat.at_start, flat.levels, flat.nodes.packed, flat.at_end)
@@ -561,6 +580,16 @@ class Subtree(Guarded):
         write_svg(path, [self], [caption])
 
 
+def _misplaced(ranges: Sequence[Subtree]) -> str:
+    """Which of some ranges is marked at an end that is inside them all."""
+    for place, item in enumerate(ranges):
+        if place > 0 and item.at_start:
+            return f"range {place} is at the start, and isn't the first"
+        if place < len(ranges) - 1 and item.at_end:
+            return f"range {place} is at the end, and isn't the last"
+    return "the ranges don't follow one another"
+
+
 def sides_of(flat: Flat) -> List[Tuple[Chunks, Chunks]]:
     """The left and the right nodes of each level.
 
@@ -588,7 +617,7 @@ def svg_of(subtrees: Sequence[Subtree], captions: Sequence[str] = ()) -> str:
     drawn = []
     for place, subtree in enumerate(subtrees):
         if not isinstance(subtree, Subtree):
-            raise TypeError(f"a picture is of a Subtree, not of {type(subtree).__name__}")
+            raise TypeError(f"picture {place} is of a Subtree, not of {type(subtree).__name__}")
         flat = subtree.to_flat()
         caption = captions[place] if place < len(captions) else ""
         drawn.append((caption, flat.at_start, flat.at_end, sides_of(flat)))

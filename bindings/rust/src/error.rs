@@ -12,7 +12,20 @@ use std::fmt;
 /// assert_eq!(CoreError::SizeOverflow.to_string(), "size overflow");
 /// assert_eq!(CoreError::InvalidJson(6).to_string(), "invalid JSON: rule 6");
 /// ```
+///
+/// There may be more variants later, so that a `match` needs an arm for others:
+///
+/// ```compile_fail,E0004
+/// # use yurewha::error::CoreError;
+/// fn is_of_a_text(error: CoreError) -> bool {
+///     match error {
+///         CoreError::InvalidText | CoreError::InvalidJson(_) => true,
+///         CoreError::InvalidArguments | CoreError::SizeOverflow | CoreError::OutOfMemory => false,
+///     }
+/// }
+/// ```
 #[derive(Clone, Copy, Debug, PartialEq, Eq)]
+#[non_exhaustive]
 pub enum CoreError {
     /// A range that another follows is marked at its end, or one that follows another at its start.
     InvalidArguments,

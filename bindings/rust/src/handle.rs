@@ -1,11 +1,11 @@
 //! Handles that are owned by one value.
 
 use crate::ffi;
-use std::cell::UnsafeCell;
-use std::panic::RefUnwindSafe;
+use std::ptr;
+use std::sync::{Mutex, MutexGuard, PoisonError};
 
 /// A handle of the library: one pointer, whose default is the empty handle.
-pub(crate) trait Handle: Default {
+pub(crate) trait Handle: Default + Send {
     /// The call that frees what the handle owns and leaves it empty.
     const FREE: unsafe extern "C" fn(*mut Self);
 }
@@ -18,32 +18,47 @@ impl Handle for ffi::yurewha_session {
     const FREE: unsafe extern "C" fn(*mut Self) = ffi::yurewha_session_free;
 }
 
+// SAFETY: a handle is a pointer to memory of `malloc` that one value alone owns; nothing of the library is bound to a
+// thread, and `free` takes memory of any thread.
+unsafe impl Send for ffi::yurewha_subtree {}
+
+// SAFETY: as above.
+unsafe impl Send for ffi::yurewha_session {}
+
 /// A handle with one owner, which frees it.
 ///
-/// Calls that only look at a handle get a pointer to it that isn't `const`, and may write to it: they take the object
-/// out and put it back. Hence the cell.
+/// Calls that only look at a handle write to it all the same: they take the object out and put it back. So each call
+/// has the handle for itself, and threads that look at one value take turns.
 #[derive(Default)]
-#[repr(transparent)]
-pub(crate) struct Owned<H: Handle>(UnsafeCell<H>);
-
-// SAFETY: a handle is a pointer to memory of `malloc` that this value alone owns; nothing of the library is bound to a
-// thread, and `free` takes memory of any thread. So the value may move. It isn't `Sync`, as its cell isn't: calls that
-// only look at a handle may write to it, and so no two threads may use one at once.
-unsafe impl<H: Handle> Send for Owned<H> {}
-
-// No call of the library unwinds, so that no panic sees a handle that a call has taken the object out of.
-impl<H: Handle> RefUnwindSafe for Owned<H> {}
+pub(crate) struct Owned<H: Handle>(Mutex<H>);
 
 impl<H: Handle> Owned<H> {
-    /// The handle for a call. It is valid while this value is borrowed, and writing through it is allowed.
-    pub(crate) fn handle(&self) -> *mut H {
-        self.0.get()
+    /// The handle, for one call. The library doesn't unwind, so that a handle is whole after each panic.
+    pub(crate) fn lock(&self) -> MutexGuard<'_, H> {
+        self.0.lock().unwrap_or_else(PoisonError::into_inner)
+    }
+
+    /// The handles of two values, which aren't one. Whoever locks several handles goes by rising address, so that no two
+    /// threads wait for each other.
+    pub(crate) fn lock_both<'a>(first: &'a Self, second: &'a Self) -> (MutexGuard<'a, H>, MutexGuard<'a, H>) {
+        if ptr::from_ref(first) < ptr::from_ref(second) {
+            let first = first.lock();
+            (first, second.lock())
+        } else {
+            let second = second.lock();
+            (first.lock(), second)
+        }
+    }
+
+    /// The handle of a value that nobody else looks at.
+    pub(crate) fn get_mut(&mut self) -> &mut H {
+        self.0.get_mut().unwrap_or_else(PoisonError::into_inner)
     }
 }
 
 impl<H: Handle> Drop for Owned<H> {
     fn drop(&mut self) {
         // SAFETY: the handle is empty or owns its memory, and is used for the last time.
-        unsafe { H::FREE(self.handle()) }
+        unsafe { H::FREE(self.get_mut()) }
     }
 }

@@ -67,10 +67,15 @@ fn refused_question<T>(error: CoreError) -> T {
     panic!("yurewha refused a question: {error}")
 }
 
-/// The answer of a call that the Rust crate has without a `Result`. A refusal ends in a panic that names it.
+/// The answer of a call that the Rust crate has without a `Result`. A refusal ends in a panic that names call and
+/// cause, at the line of the user's call: each caller is marked in the same way.
 #[track_caller]
 pub(crate) fn plain<T>(call: &str, answer: Result<T>) -> T {
-    answer.unwrap_or_else(|error| panic!("{call}: {error}"))
+    // A closure would be the place of the panic.
+    match answer {
+        Ok(answer) => answer,
+        Err(error) => panic!("{call}: {error}"),
+    }
 }
 
 #[cfg(test)]

@@ -10,11 +10,12 @@ use std::fmt::Debug;
 use std::panic::{catch_unwind, AssertUnwindSafe};
 use std::ptr;
 use yurewha::error::CoreError;
-use yurewha::merklehash::aggregated_hashes::{try_file_hash, try_file_hash_with_salt, try_xorb_hash, Node};
-use yurewha::merklehash::session::{Session, SessionFault};
 use yurewha::merklehash::{
-    blake3, compute_data_hash, compute_internal_node_hash, file_hash, try_find_stable_end, try_find_stable_start,
-    xorb_hash, DataHash, HashTextError, MerkleHashSubtree,
+    compute_data_hash, compute_internal_node_hash, file_hash, xorb_hash, DataHash, MerkleHashSubtree,
+};
+use yurewha::own::{
+    self, try_file_hash, try_file_hash_with_salt, try_find_stable_end, try_find_stable_start, try_xorb_hash,
+    HashTextError, Node, Session, SessionFault,
 };
 
 extern "C" {
@@ -136,6 +137,49 @@ fn roots_and_subtrees_are_refused() {
     assert_eq!(MerkleHashSubtree::from_json(&text), Ok(subtree));
 }
 
+// A place for text that takes no memory.
+struct Nowhere;
+
+impl std::fmt::Write for Nowhere {
+    fn write_str(&mut self, _: &str) -> std::fmt::Result {
+        Ok(())
+    }
+}
+
+#[test]
+fn debug_output_is_refused() {
+    let subtree = MerkleHashSubtree::from_chunks(false, &nodes(60), false);
+    assert_each_refusal(std::fmt::Error, || {
+        std::fmt::Write::write_fmt(&mut Nowhere, format_args!("{subtree:?}"))
+    });
+}
+
+#[cfg(feature = "serde")]
+#[test]
+fn forms_of_serde_are_refused() {
+    // An error takes memory of its own, which is there again.
+    fn is_no_memory(error: impl std::fmt::Display) -> bool {
+        error.to_string().contains("out of memory")
+    }
+    let subtree = MerkleHashSubtree::from_chunks(false, &nodes(60), false);
+    let (text, bytes) = (
+        serde_json::to_string(&subtree).unwrap(),
+        bincode::serialize(&subtree).unwrap(),
+    );
+    assert_each_refusal(true, || {
+        serde_json::to_writer(std::io::sink(), &subtree).map_err(is_no_memory)
+    });
+    assert_each_refusal(true, || {
+        bincode::serialize_into(std::io::sink(), &subtree).map_err(is_no_memory)
+    });
+    assert_each_refusal(true, || {
+        serde_json::from_str::<MerkleHashSubtree>(&text).map_err(is_no_memory)
+    });
+    assert_each_refusal(true, || {
+        bincode::deserialize::<MerkleHashSubtree>(&bytes).map_err(is_no_memory)
+    });
+}
+
 #[test]
 fn a_refused_merge_changes_nothing() {
     let nodes = nodes(80);
@@ -181,6 +225,7 @@ fn sessions_are_refused() {
         }
     }
     assert_each_refusal(NO_MEMORY, || session.try_range(0));
+    assert_each_refusal(NO_MEMORY, || session.gaps(60));
     assert_each_refusal(SessionFault::Memory, || session.root(60));
     assert_each_refusal(SessionFault::Memory, || session.finish(60));
     assert_eq!(session.finish(60), Ok(file_hash(&nodes)));
@@ -265,8 +310,9 @@ fn other_calls_take_no_memory() {
         let bytes: [u8; 32] = hash.into();
         assert!(DataHash::from(bytes) == hash && hash <= DataHash::marker() && hash % 7 < 7);
         assert!(DataHash::from_hex(&text).is_ok());
-        let mut hasher = blake3::Hasher::new_keyed(&bytes);
-        hasher.update(hash.as_bytes()).unwrap();
+        let mut hasher = own::Hasher::new_keyed(&bytes);
+        hasher.update_reader(text.as_bytes()).unwrap();
+        hasher.reset().update(hash.as_bytes());
         assert!(hasher.finalize() == hash.hmac(hash));
         assert!(compute_data_hash(&bytes) != compute_internal_node_hash(&bytes));
         assert!(try_xorb_hash(&nodes[..1]).is_ok());

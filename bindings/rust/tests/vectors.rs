@@ -4,11 +4,9 @@ use serde_json::Value;
 use std::fs;
 use std::path::Path;
 use yurewha::error::CoreError;
-use yurewha::merklehash::aggregated_hashes::{try_file_hash, try_file_hash_with_salt, try_xorb_hash, Node};
-use yurewha::merklehash::blake3::Hasher;
-use yurewha::merklehash::session::{Session, SessionFault};
 use yurewha::merklehash::{compute_data_hash, compute_internal_node_hash, DataHash, MerkleHashSubtree};
 use yurewha::merklehash::{find_stable_end, find_stable_start, xorb_hash};
+use yurewha::own::{try_file_hash, try_file_hash_with_salt, try_xorb_hash, Hasher, Node, Session, SessionFault};
 
 // Every member that is asked for is there, or the test fails.
 fn text<'a>(it: &'a Value, name: &str) -> &'a str {
@@ -138,7 +136,7 @@ fn fault(it: &Value) -> SessionFault {
 
 fn keyed(key: &[u8; 32], data: &[u8]) -> DataHash {
     let mut hasher = Hasher::new_keyed(key);
-    hasher.update(data).unwrap();
+    hasher.update(data);
     hasher.finalize()
 }
 
@@ -159,7 +157,7 @@ fn piece_hash(it: &Value) {
     let (mut hasher, mut rest) = (Hasher::new_data(), &data[..]);
     for length in pieces {
         let (piece, after) = rest.split_at(length);
-        hasher.update(piece).unwrap();
+        hasher.update(piece);
         rest = after;
     }
     assert_eq!(hasher.finalize(), hash(it, "hash"));

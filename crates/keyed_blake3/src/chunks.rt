@@ -1,31 +1,43 @@
 // The chaining values of whole chunks, side by side (BLAKE3 specification, 2.4): lane j belongs to chunk j.
 
-ghost use Rattle.std.specs.Prelude.{◌≡◌, ℕ, ◌+◌, ◌*◌, ◌^◌, ◌<◌, ◌≤◌, drop, length, slice_index};
-ghost use Rattle.std.specs.Int.{from_le_bytes, w32};
+ghost use Rattle.std.specs.Prelude.{◌≡◌, ℕ, ◌+◌, ◌*◌, ◌^◌, ◌<◌, ◌≤◌, [], drop, get_or, length};
 ghost use Rattle.keyed_blake3.specs.Blake3.{block, chunk_value, compress, words_at};
 ghost use Rattle.keyed_blake3.specs.Steps.Lanes.{AreFull, chunk_at, lane};
 
-use crate::chunk::{
-    BLOCK_LEN, BLOCKS_PER_CHUNK, CHUNK_END, CHUNK_LEN, KEYED_HASH, start_flag, word_at,
-};
+use crate::chunk::{BLOCK_LEN, BLOCKS_PER_CHUNK, CHUNK_END, CHUNK_LEN, KEYED_HASH, start_flag};
 use crate::compression::lanes::{LANES, Lanes, compress_each};
+use crate::transposition::Transposed;
 use std::simd::prelude::*;
 
-// The word at place `at` of each chunk, and of the last one again in the lanes that are left over.
+// The bytes of a vector, and the vectors that hold a block's words.
+const ROW_LEN: usize = 4 * LANES;
+
+const ROWS_PER_BLOCK: usize = 16 / LANES;
+
+// The first `LANES` words of some bytes.
 #[inline(always)]
-fn word_of_each(chunks: &[u8], at: usize) -> Lanes
+fn row(bytes: &[u8]) -> Lanes
+    requires { 4 * LANES ≤ length bytes.now }
+    ensures { result ≡ words_at LANES bytes.now }
+{
+    Lanes::from_le_bytes(Simd::<u8, ROW_LEN>::from_slice(bytes))
+}
+
+// `LANES` words of each chunk from place `at` on, and of the last chunk again in the rows that are left over.
+#[inline(always)]
+fn row_of_each(chunks: &[u8], at: usize) -> [Lanes; LANES]
     requires chunks { 1024 ≤ length chunks.now }
-    requires at { at + 4 ≤ 1024 }
-    ensures full { length result ≡ LANES }
-    ensures lanes { (j : ℕ) → j < LANES → 1024 * j + 1024 ≤ length chunks.now
-        → slice_index result j ≡ from_le_bytes w32 (drop (1024 * j + at) chunks.now) }
+    requires at { at + 4 * LANES ≤ 1024 }
+    ensures full { AreFull result }
+    ensures rows { (j : ℕ) → j < LANES → 1024 * j + 1024 ≤ length chunks.now
+        → get_or result j [] ≡ words_at LANES (drop (1024 * j + at) chunks.now) }
 {
     let last = chunks.len() / CHUNK_LEN - 1;
-    let mut lanes = [0u32; LANES];
-    'lanes: for j in 0..LANES {
-        lanes[j] = word_at(chunks, CHUNK_LEN * j.min(last) + at);
+    let mut rows = [Simd::splat(0u32); LANES];
+    'rows: for j in 0..LANES {
+        rows[j] = row(&chunks[CHUNK_LEN * j.min(last) + at..]);
     }
-    Simd::from_array(lanes)
+    rows
 }
 
 // The words of block number `n` of each chunk.
@@ -37,8 +49,9 @@ fn block_of_each(chunks: &[u8], n: usize) -> [Lanes; 16]
         → lane j result ≡ words_at 16 (block (chunk_at j chunks.now) n) }
 {
     let mut words = [Simd::splat(0u32); 16];
-    'words: for k in 0..16 {
-        words[k] = word_of_each(chunks, BLOCK_LEN * n + 4 * k);
+    'rows: for i in 0..ROWS_PER_BLOCK {
+        let columns = row_of_each(chunks, BLOCK_LEN * n + ROW_LEN * i).transposed();
+        words[LANES * i..LANES * i + LANES].copy_from_slice(&columns);
     }
     words
 }

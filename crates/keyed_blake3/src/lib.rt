@@ -13,6 +13,7 @@ mod chunk;
 mod chunks;
 mod compression;
 mod hasher;
+mod transposition;
 mod tree;
 
 use chunk::{CHUNK_LEN, chunk_value, words};

@@ -2,3 +2,4 @@ pub mod Lines
 pub mod Pieces
 pub mod Inputs
 pub mod Answering
+pub mod Requests

@@ -1,5 +1,5 @@
 -- What a call promises that reads an input and writes its answer.
-use Rattle.std.specs.Prelude.{◌≡◌, ◌≢◌, ℕ, List, ◌++◌, Option, Result, Err, IfSome, IfErr, OnOk}
+use Rattle.std.specs.Prelude.{◌≡◌, ◌≢◌, ℕ, List, ◌++◌, Option, Result, Ok, Err, IfSome, IfErr, OnOk}
 use Rattle.std.specs.Io.KnownBytes.{Appends, IsAtEnd, Keeps}
 
 -- a call got from a reader, which had an input and has some of it left, what it wrote to a writer, which held some bytes
@@ -14,3 +14,8 @@ pub record AnswersInput {F : Type 0} (is_answer : List ℕ → List ℕ → Type
   pub unwritten : IfErr result (λ fault. fault ≢ write_failed → Keeps before after)
   pub begun : result ≡ Err write_failed → IfSome input (λ text. (written rest : List ℕ) × is_answer text (written ++ rest)
       × Appends before after written)
+
+-- a call ended so that was to write a text to a writer, which held some bytes before and holds others after
+abbrev pub WritesOut : {F : Type 0} → List ℕ → F → Option (List ℕ) → Option (List ℕ) → Result (Unit {0}) F → Type 0
+WritesOut text write_failed before after (Ok done) = Appends before after text
+WritesOut text write_failed before after (Err fault) = fault ≡ write_failed

@@ -1,4 +1,5 @@
 pub mod Lines
 pub mod Faults
 pub mod Answers
+pub mod Requests
 pub mod Steps

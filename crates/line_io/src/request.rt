@@ -1,8 +1,9 @@
 //! What a program is asked for by its arguments, and how it tells that it can't do it.
 
-ghost use Rattle.std.specs.Prelude.{◌≡◌, ◌≤◌, IfOk, IsOkAnd};
-ghost use Rattle.std.specs.Vec.Iter.{into_iter_len};
-ghost use Rattle.line_io.specs.declared.request.Request.TheVariants.{Nothing};
+ghost use Rattle.std.specs.Prelude.{◌≡◌, ◌↔◌, IfErr, IfOk, IsErr, IsOkAnd};
+ghost use Rattle.std.specs.IoError.{error_kind};
+ghost use Rattle.line_io.specs.Requests.{AskFor, words_of};
+ghost use Rattle.line_io.specs.declared.request.Request.TheVariants.{Unknown};
 
 use crate::devices::write_all;
 use arrayvec::ArrayString;
@@ -14,10 +15,10 @@ use std::io::{self, ErrorKind, Write};
 /// The status after a wrong argument, as `sysexits.h` has it.
 pub const WRONG_ARGUMENT: u8 = 64;
 
-// The most bytes of a line on standard error.
-const MAX_LINE_LEN: usize = 100;
+// The most bytes of a line that is written in one piece.
+const ONE_PIECE_LEN: usize = 100;
 
-/// What a program is asked for.
+/// What a program is asked for by the words after its name.
 #[derive(Debug, PartialEq, Eq, Drop)]
 pub enum Request {
     /// No word follows the program's name.
@@ -28,14 +29,18 @@ pub enum Request {
     Version,
     /// Another word.
     Word(String),
-    /// Several words, or one that isn't UTF-8.
+    /// Several words, or arguments that can't be read, as one that isn't UTF-8.
     Unknown,
 }
 
 impl Request {
-    /// What some arguments ask for, of which the first is the program's name. It fails where memory was refused to them.
+    /// What some arguments ask for, of which the first is the program's name.
+    ///
+    /// It fails only if the arguments can't be read since memory was refused to them.
     pub fn read(args: io::Result<Args>) -> Result<Request, AllocError>
-        ensures nothing { IsOkAnd args (λ args. into_iter_len args ≤ 1) → IfOk result (λ request. request ≡ Nothing) }
+        ensures words { IfOk args (λ args. IsOkAnd result (λ request. AskFor (words_of args) request)) }
+        ensures unreadable { IfErr args (λ _. IfOk result (λ request. request ≡ Unknown)) }
+        ensures refused { IfErr args (λ error. IsErr result ↔ (error_kind error ≡ ErrorKind.OutOfMemory)) }
     {
         let mut args = match args {
             Ok(args) => args,
@@ -57,9 +62,24 @@ impl Request {
     }
 }
 
-/// Writes a text and a newline in one piece, at most 100 bytes. Where that can't be done, the status still tells it.
+/// Writes a text and a newline, whole however long they are: in one piece up to 100 bytes, and past that in the pieces in
+/// which the text comes. After a failed write nothing more of them is written; the caller's status still tells the fault.
 pub fn print_line<W: Write>(w: &mut W, text: impl fmt::Display + Drop) {
-    let mut line: ArrayString<MAX_LINE_LEN> = ArrayString::new();
-    let _ = writeln!(line, "{text}");
-    let _ = write_all(w, line.as_str().as_bytes());
+    let mut line: ArrayString<ONE_PIECE_LEN> = ArrayString::new();
+    let _ = match writeln!(line, "{text}") {
+        Ok(()) => Pieces { w }.write_str(line.as_str()),
+        Err(_) => writeln!(Pieces { w }, "{text}"),
+    };
+}
+
+// Writes each piece of a text as it comes.
+#[derive(Drop)]
+struct Pieces<'a, W: Write> {
+    w: &'a mut W,
+}
+
+impl<W: Write> fmt::Write for Pieces<'_, W> {
+    fn write_str(&mut self, piece: &str) -> fmt::Result {
+        write_all(self.w, piece.as_bytes()).map_err(|_| fmt::Error)
+    }
 }

@@ -1,12 +1,16 @@
 //! Devices that fail, that are interrupted, and that give or take little, at each call that reads lines.
 
+mod lines_of_pairs;
+
 use std::alloc::Global;
 use std::io::{self, ErrorKind, Read, Write};
 use std::test::Fail;
 use test_support::texts::{NO_CHUNK, lines_of_row, two_fields};
 use xet_merkle::plain_range::PlainRange;
+use xetrange_text::fault::RangeFault;
 use xetrange_text::join::{join, root};
 use xetrange_text::make::make;
+use xetroot_text::fault::Fault;
 use xetroot_text::run::{run, run_with};
 
 // A call that reads lines.
@@ -37,18 +41,52 @@ fn line_of(call: Call) -> &'static str {
     }
 }
 
-// The status of a call's fault, or 0.
-fn status<R: Read, W: Write>(alloc: Global, call: Call, r: &mut R, w: &mut W) -> u8 {
-    let result = match call {
-        Call::Run => run(alloc, r, w).map_err(|fault| fault.status()),
-        Call::RunOverPlainRanges => {
-            run_with::<PlainRange, _, _>(alloc, r, w).map_err(|fault| fault.status())
-        }
-        Call::Make => make(alloc, alloc, r, w).map_err(|fault| fault.status()),
-        Call::Join => join(alloc, alloc, r, w).map_err(|fault| fault.status()),
-        Call::Root => root(alloc, alloc, r, w).map_err(|fault| fault.status()),
+// The status of a fault, and the line that it names.
+#[derive(Clone, Copy, Debug, PartialEq, Eq)]
+struct End {
+    status: u8,
+    line: Option<u64>,
+}
+
+const DONE: End = End {
+    status: 0,
+    line: None,
+};
+
+fn end_of_run(fault: Fault) -> End {
+    let line = match fault {
+        Fault::BadLine(line) | Fault::Sizes(line) | Fault::Overlap(line) => Some(line),
+        Fault::Memory | Fault::Read | Fault::Write | Fault::Gap => None,
     };
-    result.err().unwrap_or(0)
+    End {
+        status: fault.status(),
+        line,
+    }
+}
+
+fn end_of_range(fault: RangeFault) -> End {
+    let line = match fault {
+        RangeFault::BadLine(line) | RangeFault::Sizes(line) | RangeFault::BadRange(line, _) => {
+            Some(line)
+        }
+        RangeFault::Memory | RangeFault::Read | RangeFault::Write => None,
+    };
+    End {
+        status: fault.status(),
+        line,
+    }
+}
+
+// How a call ends.
+fn end_of_call<R: Read, W: Write>(alloc: Global, call: Call, r: &mut R, w: &mut W) -> End {
+    let result = match call {
+        Call::Run => run(alloc, r, w).map_err(end_of_run),
+        Call::RunOverPlainRanges => run_with::<PlainRange, _, _>(alloc, r, w).map_err(end_of_run),
+        Call::Make => make(alloc, alloc, r, w).map_err(end_of_range),
+        Call::Join => join(alloc, alloc, r, w).map_err(end_of_range),
+        Call::Root => root(alloc, alloc, r, w).map_err(end_of_range),
+    };
+    result.err().unwrap_or(DONE)
 }
 
 // How the calls of a device go. Each is for at most so many bytes, and is interrupted so often before it is done. The call
@@ -194,11 +232,11 @@ const ALL_SLOW: Manners = Manners {
     flush: SLOW,
 };
 
-// What a run did: its status, the numbers of its reads, writes and flushes, the most bytes that were read at once, and what
-// it wrote.
+// What a run did: how it ended, the numbers of its reads, writes and flushes, the most bytes that were read at once, and
+// what it wrote.
 #[derive(Drop)]
 struct Outcome {
-    status: u8,
+    end: End,
     calls: (usize, usize, usize),
     largest: usize,
     written: Vec<u8>,
@@ -215,14 +253,14 @@ fn outcome_of(alloc: Global, call: Call, text: &[u8], manners: Manners) -> Outco
         device: Device::new(manners.write),
         flush: Device::new(manners.flush),
     };
-    let status = status(alloc, call, &mut r, &mut w);
+    let end = end_of_call(alloc, call, &mut r, &mut w);
     let Output {
         bytes,
         device,
         flush,
     } = w;
     Outcome {
-        status,
+        end,
         calls: (r.device.calls, device.calls, flush.calls),
         largest: r.largest,
         written: bytes,
@@ -265,7 +303,7 @@ fn is_borne(even: &Outcome, late: &Outcome, place: Place, times: usize) -> bool 
         Place::Write => writes = writes.saturating_add(times),
         Place::Flush => flushes = flushes.saturating_add(times),
     }
-    late.status == 0 && late.calls == (reads, writes, flushes) && late.written == even.written
+    late.end == DONE && late.calls == (reads, writes, flushes) && late.written == even.written
 }
 
 // Whether a run has the fault of a place, at which the calls before the odd one were done, and which makes no call after it.
@@ -278,7 +316,7 @@ fn is_fault(even: &Outcome, failed: &Outcome, place: Place, manner: Manner) -> b
         Place::Write => (5, (reads, calls, 0), manner.most.saturating_mul(done)),
         Place::Flush => (5, (reads, writes, calls), even.written.len()),
     };
-    failed.status == status
+    failed.end == End { status, line: None }
         && failed.calls == expected
         && failed.written.len() == len
         && even.written.starts_with(&failed.written)
@@ -293,7 +331,7 @@ fn each_call_is_made_once_and_repeated_sixteen_times_where_it_is_interrupted(rt:
         // The last read finds the end.
         let reads = text.len().div_ceil(20).saturating_add(1);
         let writes = even.written.len().div_ceil(20);
-        let is_even = even.status == 0 && even.calls == (reads, writes, 1);
+        let is_even = even.end == DONE && even.calls == (reads, writes, 1);
         assert!(rt; is_even && even.largest == 65536, "{call:?}");
         for (place, odd_call) in PLACES {
             for times in [1, 15, 16] {
@@ -313,7 +351,7 @@ fn each_call_is_made_once_and_repeated_sixteen_times_where_it_is_interrupted(rt:
         }
         let slow = outcome_of(rt.alloc(), call, text, ALL_SLOW);
         assert!(rt;
-            slow.status == 0 && slow.written == even.written,
+            slow.end == DONE && slow.written == even.written,
             "{call:?}"
         );
     }
@@ -373,7 +411,7 @@ fn a_failed_write_leaves_a_beginning(rt: HostRuntime) {
             let done = odd_call - 1;
             let is_beginning = even.written.starts_with(&failed.written);
             assert!(rt;
-                failed.status == 5 && failed.written.len() == done && is_beginning,
+                failed.end.status == 5 && failed.written.len() == done && is_beginning,
                 "{call:?} {done}"
             );
         }
@@ -391,7 +429,7 @@ fn the_first_end_of_the_input_is_its_end(rt: HostRuntime) -> Result<(), Fail> {
         let ended = outcome_of(rt.alloc(), call, lines.as_bytes(), manners);
         let single = outcome_of(rt.alloc(), call, line.as_bytes(), ALL_EVEN);
         assert!(rt;
-            ended.status == 0 && ended.calls.0 == 2 && ended.written == single.written,
+            ended.end == DONE && ended.calls.0 == 2 && ended.written == single.written,
             "{call:?}"
         );
     }
@@ -421,7 +459,7 @@ fn a_failed_read_is_a_fault_unless_a_line_before_it_is_faulty(rt: HostRuntime) -
         for call in [Call::Run, Call::RunOverPlainRanges] {
             let failed = outcome_of(rt.alloc(), call, input.as_bytes(), manners);
             assert!(rt;
-                failed.status == status && failed.written.is_empty(),
+                failed.end.status == status && failed.written.is_empty(),
                 "{call:?} {row}"
             );
         }

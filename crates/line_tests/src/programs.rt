@@ -1,8 +1,10 @@
 //! Runs of both programs over arguments and devices: the status, and the text on each stream.
 
+use line_io::request::print_line;
 use refusing_allocator::RefusingAllocator;
 use std::alloc::Global;
 use std::env::Args;
+use std::fmt;
 use std::io::{self, ErrorKind, Read, Write};
 use std::test::Fail;
 use test_support::texts::{four_fields, with_hashes};
@@ -47,9 +49,42 @@ xetrange|nothing||64||xetrange: expected make, join, root, --help or --version;
 xetrange |nothing||64||xetrange: expected make, join, root, --help or --version;
 xetrange unmake|nothing||64||xetrange: expected make, join, root, --help or --version;
 xetrange make join|nothing||64||xetrange: expected make, join, root, --help or --version;
+xetrange make |nothing||64||xetrange: expected make, join, root, --help or --version;
+xetrange  make|nothing||64||xetrange: expected make, join, root, --help or --version;
 xetrange make|text of arguments||64||xetrange: expected make, join, root, --help or --version;
 xetrange --version|nothing|zz|0|xetrange 1.0.0 (hashes of xet-core-structures 1.5.2);|
 xetrange --help|output|zz|5||xetrange: fault 5;"#;
+
+// Words that are wrong for each program, with a space between two; the first row is one empty word.
+const WRONG_WORDS: &str = "
+-
+--
+-?
+-V
+-v
+-H
+help
+version
+--Help
+--help=
+--helper
+--hel
+--version1
+--versio
+merge
+Join
+Make
+ROOT
+makes
+mak
+--help --help
+--version --version
+--help --version
+make join
+make join root
+join root --help
+root root root root
+-h -h -h";
 
 // A reader of a text that gives it or fails.
 #[derive(Drop)]
@@ -67,10 +102,11 @@ impl Read for Input<'_> {
     }
 }
 
-// A writer that keeps what it is given or fails.
+// A writer that keeps what it is given or fails, and counts the writes.
 #[derive(Drop)]
 struct Output {
     bytes: Vec<u8>,
+    writes: usize,
     fails: bool,
 }
 
@@ -79,6 +115,7 @@ impl Write for Output {
         if self.fails {
             return Err(io::Error::from(ErrorKind::Other));
         }
+        self.writes = self.writes.saturating_add(1);
         self.bytes.write(buf)
     }
 
@@ -114,10 +151,12 @@ fn outcome(alloc: Global, command: &str, failing: &str, input: &str) -> Result<S
     };
     let mut w = Output {
         bytes: Vec::new(alloc),
+        writes: 0,
         fails: failing == "output",
     };
     let mut errors = Output {
         bytes: Vec::new(alloc),
+        writes: 0,
         fails: failing == "errors",
     };
     let status = if command.starts_with("xetroot") {
@@ -157,6 +196,72 @@ fn help_goes_to_standard_output(rt: HostRuntime) -> Result<(), Fail> {
             found.as_str().starts_with(start) && found.as_str().ends_with(";|"),
             "{command}"
         );
+    }
+    Ok(())
+}
+
+#[test]
+fn wrong_words_are_refused_by_both_programs(rt: HostRuntime) -> Result<(), Fail> {
+    for words in WRONG_WORDS.lines() {
+        for (program, known) in [("xetroot", "no argument"), ("xetrange", "make, join, root")] {
+            let command = format!(in rt.alloc(); "{program} {words}")?;
+            let expected = format!(in rt.alloc();
+                "64||{program}: expected {known}, --help or --version;"
+            )?;
+            let found = outcome(rt.alloc(), command.as_str(), "nothing", "")?;
+            assert!(rt; found == expected, "{command}: {found}");
+        }
+    }
+    Ok(())
+}
+
+// A text of two pieces, of so many letters each.
+#[derive(Drop)]
+struct TwoPieces(String, String);
+
+impl TwoPieces {
+    fn new(alloc: Global, front: usize, back: usize) -> Result<Self, Fail> {
+        let (front, back) = ("a".repeat(alloc, front)?, "b".repeat(alloc, back)?);
+        Ok(TwoPieces(front, back))
+    }
+}
+
+impl fmt::Display for TwoPieces {
+    fn fmt<W: fmt::Write>(&self, f: &mut fmt::Formatter<W>) -> fmt::Result {
+        f.write_str(self.0.as_str())?;
+        f.write_str(self.1.as_str())
+    }
+}
+
+// The letters of each piece, and whether the line is one write.
+const LINES: [(usize, usize, bool); 9] = [
+    (0, 0, true),
+    (1, 0, true),
+    (50, 49, true),
+    (99, 0, true),
+    (0, 99, true),
+    (50, 50, false),
+    (100, 0, false),
+    (0, 101, false),
+    (500, 7000, false),
+];
+
+#[test]
+fn a_line_is_printed_whole_however_long(rt: HostRuntime) -> Result<(), Fail> {
+    for (front, back, is_one_write) in LINES {
+        let mut printed = Output {
+            bytes: Vec::new(rt.alloc()),
+            writes: 0,
+            fails: false,
+        };
+        print_line(&mut printed, TwoPieces::new(rt.alloc(), front, back)?);
+        let text = TwoPieces::new(rt.alloc(), front, back)?;
+        let expected = format!(in rt.alloc(); "{text}\n")?;
+        assert!(rt;
+            printed.bytes.as_slice() == expected.as_bytes(),
+            "{front} {back}"
+        );
+        assert!(rt; printed.writes == 1 || !is_one_write, "{front} {back}");
     }
     Ok(())
 }

@@ -1,5 +1,5 @@
 -- What a map's calls find around positions that are free, and what is left when the run there is put in.
-use Rattle.std.proofs.Common.{arith, nat_cmp, ◌≡◌, ◌<◌, ◌≤◌, ℕ, List, [], ◌∷◌, ◌++◌, refl, sym, ap, subst, ◌∙◌, append_assoc}
+use Rattle.std.proofs.Common.{arith, nat_cmp, ◌≡◌, ◌<◌, ◌≤◌, ℕ, true, List, [], ◌∷◌, ◌++◌, refl, sym, ap, subst, ◌∙◌, append_assoc}
 use Rattle.std.specs.Prelude.{All, Option, None, Some, IfSome, option_map, is_some}
 use Rattle.std.specs.BTreeMap.{insert_entry, is_at}
 use Rattle.std.specs.Map.{lookup, remove_entry, set_value}
@@ -12,7 +12,16 @@ use Rattle.upload_session.specs.Session.{PlacedRun}
 use Rattle.upload_session.specs.Steps.Neighbours.{EndsAt, NoneEndsAt, AreAround}
 use Rattle.upload_session.proofs.Neighbours.{Around, with_run}
 use Rattle.upload_session.proofs.Positions.{holds_of_last}
-use Rattle.upload_session.proofs.SortedEntries.{upto, upto-both, lookup-none, lookup-at, set_value-at, insert-between, remove-none, remove-at}
+use Rattle.upload_session.proofs.SortedEntries.{upto, upto-both, upto-found, upto-near, lookup-none, lookup-at, set_value-at, insert-between, remove-none, remove-at}
+
+-- a run that ends just before a position begins at it or before it, and is found where it begins
+pub ends-near : {C : Type 0} (position begin : ℕ) (runs : List (PlacedRun C)) → EndsAt runs position begin → begin ≤ position
+ends-near {C} position begin runs (front, run, is, ends) =
+    holds_of_last (λ (run : PlacedRun C). run.0 ≤ position) front (begin, run) []
+    (subst (λ (l : List (PlacedRun C)). All (λ (run : PlacedRun C). run.0 ≤ position) l) is (upto-near position runs))
+
+pub ends-found : {C : Type 0} (position begin : ℕ) (runs : List (PlacedRun C)) → EndsAt runs position begin → is_some (lookup (is_at (nat_cmp begin)) runs) ≡ true
+ends-found position begin runs (front, run, is, ends) = upto-found position runs front begin run is
 
 module _ {C : Type 0} (first after : ℕ) (ahead : first < after) where
   more : (P : PlacedRun C → Type 0) (next : Option (PlacedRun C)) (runs : List (PlacedRun C)) → IfSome next P → All P runs → All P (with_run next runs)

@@ -3,6 +3,7 @@ pub mod Exchanging
 pub mod Hashes
 pub mod Joining
 pub mod Neighbours
+pub mod OpenRuns
 pub mod Placing
 pub mod Positions
 pub mod Refusals

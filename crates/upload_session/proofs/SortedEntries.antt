@@ -1,5 +1,5 @@
 -- What a map over numbers does to entries that stand in order.
-use Rattle.std.proofs.Common.{arith, nat_cmp, is_lt, is_eq, ◌≡◌, ◌<◌, ◌≤◌, ℕ, Bool, true, false, not, List, [], ◌∷◌, ◌++◌, nat_lt, refl, sym, ap, subst, ◌∙◌}
+use Rattle.std.proofs.Common.{arith, nat_cmp, is_lt, is_eq, ◌≡◌, ◌<◌, ◌≤◌, ℕ, Bool, true, false, not, List, [], ◌∷◌, ◌++◌, drop, get_or, length, nat_lt, refl, sym, ap, subst, ◌∙◌}
 use Rattle.std.specs.Prelude.{All, None, Some, cond, is_some}
 use Rattle.std.specs.declared.cmp.Ordering.{Ordering}
 use Rattle.std.proofs.lemmas.Bool.{true≢false}
@@ -12,6 +12,7 @@ use Rattle.std.specs.Ordering.{match_ordering}
 use Rattle.std.specs.List.Sorted.{IsStrictlySortedBy}
 use Rattle.std.specs.Map.{keys_of}
 use Rattle.std.proofs.lemmas.List.Elements.{All-nil, All-cons, All-head, All-tail}
+use Rattle.std.proofs.lemmas.List.{length-append}
 use Rattle.std.proofs.lemmas.Map.Keys.{sorted_tail}
 use Rattle.std.proofs.lemmas.Map.Views.{All-after_first}
 
@@ -56,6 +57,35 @@ module _ {X : Type 0} (k : ℕ) where
   upto-both (e ∷ front) back low high =
       ap (λ b. cond b (e ∷ upto (front ++ back)) (upto (front ++ back))) (near k e.0 (All-head (λ (e : ℕ × X). e.0 ≤ k) e front low))
       ∙ ap (λ l. e ∷ l) (upto-both front back (All-tail (λ (e : ℕ × X). e.0 ≤ k) e front low) high)
+
+  pub upto-near : (entries : List (ℕ × X)) → All (λ (e : ℕ × X). e.0 ≤ k) (upto entries)
+  upto-near [] = All-nil (λ (e : ℕ × X). e.0 ≤ k)
+  upto-near (e ∷ entries) = choose (upto-near entries) (is_lt (nat_cmp k e.0)) refl
+    where
+      choose : All (λ (e : ℕ × X). e.0 ≤ k) (upto entries) → (b : Bool) → is_lt (nat_cmp k e.0) ≡ b
+          → All (λ (e : ℕ × X). e.0 ≤ k) (cond (not b) (e ∷ upto entries) (upto entries))
+      choose others true past = others
+      choose others false begun = All-cons (λ (e : ℕ × X). e.0 ≤ k) e (upto entries) (grind (arith, begun)) others
+
+  -- the last of them is found
+  pub upto-found : (entries front : List (ℕ × X)) (n : ℕ) (x : X) → upto entries ≡ front ++ (n, x) ∷ [] → is_some (lookup (test n) entries) ≡ true
+  upto-found [] front n x is = absurd (omega (arith, ap length is, length-append front ((n, x) ∷ [])))
+  upto-found (e ∷ entries) front n x is =
+      choose (λ front is. upto-found entries front n x is) (is_lt (nat_cmp k e.0)) refl front is
+    where
+      later : (b : Bool) → is_some (lookup (test n) entries) ≡ true → is_some (cond b (Some e.1) (lookup (test n) entries)) ≡ true
+      later true found = refl
+      later false found = found
+
+      choose : ((front : List (ℕ × X)) → upto entries ≡ front ++ (n, x) ∷ [] → is_some (lookup (test n) entries) ≡ true)
+          → (b : Bool) → is_lt (nat_cmp k e.0) ≡ b
+          → (front : List (ℕ × X)) → cond (not b) (e ∷ upto entries) (upto entries) ≡ front ++ (n, x) ∷ [] → is_some (lookup (test n) (e ∷ entries)) ≡ true
+      choose others true past front is = later (is_eq (nat_cmp n e.0)) (others front is)
+      choose others false begun [] is =
+          let same : e.0 ≡ n = ap (λ (l : List (ℕ × X)). (get_or l 0 e).0) is in
+          let there : is_eq (nat_cmp n e.0) ≡ true = grind (arith, same) in
+          ap (λ b. is_some (cond b (Some e.1) (lookup (test n) entries))) there
+      choose others false begun (first ∷ front) is = later (is_eq (nat_cmp n e.0)) (others front (ap (drop 1) is))
 
   lookup-above : (back : List (ℕ × X)) → AllAbove back → lookup (test k) back ≡ None
   lookup-above [] all = refl

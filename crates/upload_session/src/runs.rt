@@ -1,12 +1,14 @@
 //! Ranges of chunks by their positions, joined as they become adjacent.
 
-ghost use Rattle.std.specs.Prelude.{◌≡◌, ◌+◌, ◌^◌, ◌<◌, List, ℕ, [], ◌∷◌, ◌++◌, false, length, option_map, slice_get, Some, None, IfOk, IfErr, IfSome, IfNone, IsSome, IsTrue, OnOk, OnErr};
+ghost use Rattle.std.specs.Prelude.{◌≡◌, ◌≢◌, ◌+◌, ◌^◌, ◌<◌, ◌≤◌, List, ℕ, [], ◌∷◌, ◌++◌, false, length, option_map, slice_get, Some, None, IfOk, IfErr, IfSome, IfNone, IsSome, IsTrue, OnOk, OnErr};
 ghost use Rattle.std.specs.Ordering.{nat_cmp};
 ghost use Rattle.std.specs.BTreeMap.{is_at};
 ghost use Rattle.std.specs.Map.{lookup};
 ghost use Rattle.upload_session.specs.declared.runs.Run.{Run};
 ghost use Rattle.xet_merkle.specs.Groups.{Node};
+ghost use Rattle.xet_merkle.specs.Roots.{total_size};
 ghost use Rattle.upload_session.specs.Steps.Neighbours.{EndsAt, NoneEndsAt, IsWithNext, AreAround, IsPutBefore, Places};
+ghost use Rattle.upload_session.specs.Steps.OpenRuns.{IsOpen, AreOpen, AreOpenUpTo, HaveRoom, size_at, sizes_of};
 ghost use Rattle.upload_session.specs.Session.{Placed, PlacedRun, place, chunks_of, is_taken, overlaps, IsWhole, StandFor};
 
 use crate::session_fault::SessionFault;
@@ -103,6 +105,7 @@ impl<C: ChunkRange> Runs<C> {
     /// The range of all chunks, or `None` where there is none. It fails with [`SessionFault::Gap`] where the positions taken
     /// aren't exactly those below a total, and takes no memory.
     pub fn whole_range(&self, total: u64) -> Result<Option<&C>, SessionFault>
+        requires { AreOpen C.ChunkRange self.now }
         ensures whole { OnOk result ((placed : List Placed) →
             StandFor C.ChunkRange self.now placed → IsWhole total placed) }
         ensures gap { OnErr result ((placed : List Placed) → StandFor C.ChunkRange self.now placed →
@@ -113,6 +116,7 @@ impl<C: ChunkRange> Runs<C> {
         ensures range { (placed : List Placed) → StandFor C.ChunkRange self.now placed →
             IfOk result (λ whole. IfSome whole (λ range.
             C.stands range.now (chunks_of placed) × (0 < length (chunks_of placed)))) }
+        ensures marks { IfOk result (λ whole. IfSome whole (λ range. IsOpen C.ChunkRange range.now)) }
     {
         let Some((first, run)) = self.runs.first_key_value() else {
             return if total == 0 {
@@ -131,11 +135,16 @@ impl<C: ChunkRange> Runs<C> {
     ///
     /// Of the run before them and the run after them the range that keeps more nodes is changed in place.
     pub fn place(&mut self, first: u64, chunks: &[Node]) -> Result<(), CoreError>
-        requires { first + length chunks.now < 2 ^ 64 }
+        requires positions { first + length chunks.now < 2 ^ 64 }
+        requires some { 0 < length chunks.now }
+        requires room { HaveRoom C.ChunkRange (total_size chunks.now) self.old }
         ensures placed { OnOk result ((placed : List Placed) →
             StandFor C.ChunkRange self.old placed → 0 < length chunks.now →
             overlaps placed first (length chunks.now) ≡ false →
             StandFor C.ChunkRange self.new (place placed first chunks.now)) }
+        ensures sizes { OnOk result (AreOpenUpTo C.ChunkRange
+            (sizes_of C.ChunkRange self.old + total_size chunks.now) self.new) }
+        ensures errors { IfErr result (λ e. e ≡ CoreError.OutOfMemory) }
         ensures unchanged { OnErr result (self.new ≡ self.old) }
     {
         let after = first + chunks.len() as u64;
@@ -178,7 +187,13 @@ impl<C: ChunkRange> Runs<C> {
     ) -> Result<(), CoreError>
         requires some { IfSome previous (λ begin. EndsAt self.old first begin) }
         requires none { IfNone previous (NoneEndsAt self.old first) }
+        requires ahead { first < after }
+        requires made { IsOpen C.ChunkRange made }
+        requires room { HaveRoom C.ChunkRange (C.total made) self.old }
         ensures placed { OnOk result (Places C.ChunkRange self.old first after made self.new) }
+        ensures sizes { OnOk result (AreOpenUpTo C.ChunkRange
+            (sizes_of C.ChunkRange self.old + C.total made) self.new) }
+        ensures errors { IfErr result (λ e. e ≡ CoreError.OutOfMemory) }
         ensures unchanged { OnErr result (self.new ≡ self.old) }
     {
         let made = self.with_next(made, after)?;
@@ -207,9 +222,15 @@ impl<C: ChunkRange> Runs<C> {
     ) -> Result<(), CoreError>
         requires some { IfSome previous (λ begin. EndsAt self.old first begin) }
         requires none { IfNone previous (NoneEndsAt self.old first) }
+        requires ahead { first < after }
+        requires made { IsOpen C.ChunkRange made }
+        requires room { HaveRoom C.ChunkRange (C.total made) self.old }
         requires next { IsSome (lookup (is_at (nat_cmp after)) self.old) }
         requires free { IfNone previous (lookup (is_at (nat_cmp first)) self.old ≡ None) }
         ensures placed { OnOk result (Places C.ChunkRange self.old first after made self.new) }
+        ensures sizes { OnOk result (AreOpenUpTo C.ChunkRange
+            (sizes_of C.ChunkRange self.old + C.total made) self.new) }
+        ensures errors { IfErr result (λ e. e ≡ CoreError.OutOfMemory) }
         ensures unchanged { OnErr result (self.new ≡ self.old) }
     {
         match previous {
@@ -225,9 +246,19 @@ impl<C: ChunkRange> Runs<C> {
     // Puts a range before that of the run at `after`, in place. This run then stands at `begin`, in the place of the run
     // there, whose chunks are those that `front` begins with.
     fn put_before_next(&mut self, begin: u64, front: C, after: u64) -> Result<(), CoreError>
+        requires begin { IsSome (lookup (is_at (nat_cmp begin)) self.old) }
+        requires next { IsSome (lookup (is_at (nat_cmp after)) self.old) }
+        requires apart { begin ≢ after }
+        requires front { IsOpen C.ChunkRange front }
+        requires room { AreOpen C.ChunkRange self.old
+            × (C.total front + size_at C.ChunkRange after self.old < 2 ^ 64) }
         ensures put { OnOk result ((others : List (PlacedRun C)) (last next : Run C) (back : List (PlacedRun C)) →
             self.old ≡ others ++ (begin, last) ∷ (after, next) ∷ back → AreAround begin after others back →
             IsPutBefore C.ChunkRange begin front next others back self.new) }
+        ensures sizes { OnOk result (AreOpen C.ChunkRange self.new
+            × (sizes_of C.ChunkRange self.new + size_at C.ChunkRange begin self.old
+            ≤ sizes_of C.ChunkRange self.old + C.total front)) }
+        ensures errors { IfErr result (λ e. e ≡ CoreError.OutOfMemory) }
         ensures unchanged { OnErr result (self.new ≡ self.old) }
     {
         if let Some(next) = self.runs.get_mut(&after) {
@@ -244,10 +275,17 @@ impl<C: ChunkRange> Runs<C> {
     // Puts a range before that of the run at `after`, in place. This run then stands at `first`. The entry there is made
     // before, since it takes memory, and is taken out again where the run can't be changed.
     fn begin_before_next(&mut self, first: u64, made: C, after: u64) -> Result<(), CoreError>
-        requires { lookup (is_at (nat_cmp first)) self.old ≡ None }
+        requires free { lookup (is_at (nat_cmp first)) self.old ≡ None }
+        requires next { IsSome (lookup (is_at (nat_cmp after)) self.old) }
+        requires ahead { first < after }
+        requires made { IsOpen C.ChunkRange made }
+        requires room { HaveRoom C.ChunkRange (C.total made) self.old }
         ensures put { OnOk result ((others : List (PlacedRun C)) (next : Run C) (back : List (PlacedRun C)) →
             self.old ≡ others ++ (after, next) ∷ back → AreAround first after others back →
             IsPutBefore C.ChunkRange first made next others back self.new) }
+        ensures sizes { OnOk result (AreOpenUpTo C.ChunkRange
+            (sizes_of C.ChunkRange self.old + C.total made) self.new) }
+        ensures errors { IfErr result (λ e. e ≡ CoreError.OutOfMemory) }
         ensures unchanged { OnErr result (self.new ≡ self.old) }
     {
         let range = C::from_chunks(self.alloc.clone()?, false, &[], false)?;
@@ -263,11 +301,17 @@ impl<C: ChunkRange> Runs<C> {
 
     // A range of the chunks of the run at `begin` and then of those of `made`.
     fn with_previous(&self, begin: u64, made: &C) -> Result<C, CoreError>
+        requires made { IsOpen C.ChunkRange made.now }
+        requires room { AreOpen C.ChunkRange self.now
+            × (size_at C.ChunkRange begin self.now + C.total made.now < 2 ^ 64) }
         ensures stands { IfOk result (λ front. (last : Run C) →
             lookup (is_at (nat_cmp begin)) self.now ≡ Some last → (a b : List Node) →
             C.stands last.range a → C.stands made.now b → C.stands front (a ++ b)) }
         ensures start { IfOk result (λ front. C.start front ≡ false) }
         ensures end { IfOk result (λ front. C.end front ≡ C.end made.now) }
+        ensures total { IfOk result (λ front.
+            C.total front ≡ size_at C.ChunkRange begin self.now + C.total made.now) }
+        ensures errors { IfErr result (λ e. e ≡ CoreError.OutOfMemory) }
     {
         let mut front = C::from_chunks(self.alloc.clone()?, false, &[], false)?;
         if let Some(run) = self.runs.get(&begin) {
@@ -279,8 +323,15 @@ impl<C: ChunkRange> Runs<C> {
 
     // A run of the chunks of `made` and then of those of the run at `after`, where there is one.
     fn with_next(&self, made: C, after: u64) -> Result<Run<C>, CoreError>
-        ensures { IfOk result (λ run. (chunks : List Node) → C.stands made chunks →
+        requires made { IsOpen C.ChunkRange made }
+        requires room { AreOpen C.ChunkRange self.now
+            × (C.total made + size_at C.ChunkRange after self.now < 2 ^ 64) }
+        ensures stands { IfOk result (λ run. (chunks : List Node) → C.stands made chunks →
             C.start made ≡ false → C.end made ≡ false → IsWithNext C.ChunkRange self.now after chunks run) }
+        ensures marks { IfOk result (λ run. IsOpen C.ChunkRange run.range) }
+        ensures total { IfOk result (λ run.
+            C.total run.range ≡ C.total made + size_at C.ChunkRange after self.now) }
+        ensures errors { IfErr result (λ e. e ≡ CoreError.OutOfMemory) }
     {
         let mut range = made;
         let end = match self.runs.get(&after) {

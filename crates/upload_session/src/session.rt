@@ -33,6 +33,7 @@ pub struct SessionOf<C: ChunkRange, H = SeenHashes<<C as ChunkRange>::Alloc>> {
 
 impl<C: ChunkRange, H> Model for SessionOf<C, H> {
     ghost use Rattle.upload_session.specs.Session.{Parts};
+    ghost use Rattle.upload_session.specs.Steps.OpenRuns.{AreOpenUpTo};
 
     ghost Value = { Parts C H };
 
@@ -41,6 +42,8 @@ impl<C: ChunkRange, H> Model for SessionOf<C, H> {
       kept = stored.kept;
       size = stored.size;
     } };
+
+    ghost invariant = { λ stored. AreOpenUpTo C.ChunkRange stored.size stored.runs };
 }
 
 impl<C: ChunkRange<Alloc = Global>, H: KeptHashes<Global>> SessionOf<C, H> {
@@ -227,10 +230,13 @@ fn add_sizes(size: u64, chunks: &[Node]) -> Option<u64>
     Some(sum)
 }
 
-// The fault of calls on ranges that run out of memory: nothing else refuses them, since a run's range is open at both ends,
-// and sizes were tested.
-fn out_of_memory(_error: CoreError) -> SessionFault
+// The fault of a call on ranges that is refused for memory alone.
+fn out_of_memory(error: CoreError) -> SessionFault
+    requires { error ≡ CoreError.OutOfMemory }
     ensures { result ≡ SessionFault.Memory }
 {
-    SessionFault::Memory
+    match error {
+        CoreError::OutOfMemory => SessionFault::Memory,
+        _ => unreachable!(),
+    }
 }

@@ -131,10 +131,7 @@ pub fn hashes_of_open<C: ChunkRange>(
     if !is_open(range) {
         return Err(CoreError::InvalidArguments);
     }
-    // Neither marks nor sizes refuse it.
-    let Ok(root) = root_of_open(alloc, range) else {
-        return Err(CoreError::OutOfMemory);
-    };
+    let root = root_of_open(alloc, range)?;
     Ok((root, file_hash_of_root(root, range.is_none(), &[0; 32])))
 }
 
@@ -149,14 +146,18 @@ fn is_open<C: ChunkRange>(range: Option<&C>) -> bool
     }
 }
 
-// The root of the chunks of a range that is open at both ends, or of no chunk.
+// The root of the chunks of a range that is open at both ends, or of no chunk. It is refused for memory alone.
 fn root_of_open<C: ChunkRange>(alloc: &C::Alloc, range: Option<&C>) -> Result<MerkleHash, CoreError>
+    requires { IfSome range (λ range. (C.start range.now ≡ false) × (C.end range.now ≡ false)) }
     ensures none { IfNone range.entry (IfOk result (IsRoot [])) }
     ensures some { IfSome range.entry (λ range. (chunks : List Node) → C.stands range.now chunks →
         IfOk result (IsRoot chunks)) }
+    ensures errors { IfErr result (λ e. e ≡ CoreError.OutOfMemory) }
 {
     let mut all = C::from_chunks(alloc.clone()?, true, &[], false)?;
     if let Some(range) = range {
+        // It is at most `u64::MAX`, so no size refuses the join.
+        let _total = range.total_size();
         all.join(range)?;
     }
     let end = C::from_chunks(alloc.clone()?, false, &[], true)?;

@@ -1,4 +1,5 @@
 pub mod Status
+pub mod Words
 pub mod Ranges
 pub mod Answers
 pub mod Cutting

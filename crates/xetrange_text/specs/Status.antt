@@ -1,5 +1,5 @@
 -- The numbers of the faults, and why an input has no answer as one of them.
-use Rattle.std.specs.Prelude.{ℕ}
+use Rattle.std.specs.Prelude.{◌≡◌, ℕ, Result, Ok, Err}
 use Rattle.line_io.specs.declared.fault.AnswerFault.{AnswerFault}
 use Rattle.line_io.specs.declared.fault.AnswerFault.TheVariants.{Input, Answer, Write as write_failed}
 use Rattle.line_io.specs.declared.fault.InputFault.TheVariants.{Line, Memory as input_memory, Read as read_failed}
@@ -18,6 +18,15 @@ status_of Memory = 3
 status_of Read = 4
 status_of Write = 5
 status_of (BadRange number rule) = 8
+
+-- the exit status of a call that ended so
+abbrev pub exit_status : Result (Unit {0}) RangeFault → ℕ
+exit_status (Ok done) = 0
+exit_status (Err fault) = status_of fault
+
+-- a status is that of a call which ended as is said
+abbrev pub IsStatusOf : ℕ → (Result (Unit {0}) RangeFault → Type 0) → Type 0
+IsStatusOf status Ended = (done : Result (Unit {0}) RangeFault) × (status ≡ exit_status done) × Ended done
 
 -- why an input of pairs has no answer, as a fault
 abbrev pub make_fault_of : {T : Type 0} → AnswerFault PairFault T → RangeFault

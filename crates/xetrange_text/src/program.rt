@@ -1,8 +1,13 @@
 //! The program `xetrange` over its arguments and devices.
 
-ghost use Rattle.std.specs.Prelude.{◌≡◌, ◌≢◌, IfErr, IfNone, IfSome};
+ghost use Rattle.std.specs.Prelude.{◌≡◌, ◌≢◌, [], ◌∷◌, codes, IfErr, IfNone, IfSome, IsNone, IsOkAnd, IsSomeAnd};
 ghost use Rattle.std.specs.Io.KnownBytes.{Keeps};
-ghost use Rattle.xetrange_text.specs.Status.{status_of};
+ghost use Rattle.std.specs.IoError.{error_kind};
+ghost use Rattle.line_io.specs.Answers.{AnswersInput, WritesOut};
+ghost use Rattle.line_io.specs.Requests.{AskForHelp, AskForVersion, HasWords, words_of};
+ghost use Rattle.xetrange_text.specs.Answers.{IsJoinedOf, IsMadeOf, IsMakeFaultOf, IsRangeFaultOf, IsRootOf};
+ghost use Rattle.xetrange_text.specs.Status.{IsStatusOf, status_of};
+ghost use Rattle.xetrange_text.specs.Words.{AreKnown};
 ghost use Rattle.xetrange_text.specs.declared.fault.RangeFault.{RangeFault};
 
 use crate::fault::RangeFault;
@@ -12,7 +17,7 @@ use line_io::devices::write_all;
 use line_io::request::{Request, WRONG_ARGUMENT, print_line};
 use std::alloc::{Allocator, Global};
 use std::env::Args;
-use std::io::{self, Read, Write};
+use std::io::{self, ErrorKind, Read, Write};
 
 const HELP: &str = "\
 Usage: xetrange make|join|root
@@ -29,7 +34,7 @@ line, 2 sizes that pass 2^64 - 1, 3 out of memory, 4 a failed read, 5 a failed
 write, 8 a line that is no range. The status is 64 after a wrong argument.
 
   -h, --help    prints this text
-  --version     prints the version of xet-core-structures whose ranges these are
+  --version     prints the versions of xetrange and of xet-core-structures
 ";
 
 const VERSION: &str = "xetrange 1.0.0 (hashes of xet-core-structures 1.5.2)\n";
@@ -46,6 +51,20 @@ pub fn program<R: Read, W: Write, E: Write>(
     w: &mut W,
     errors: &mut E,
 ) -> u8
+    // With one of these words it does what the call of this name does, and the status says how that ended.
+    ensures make { HasWords args (codes "make" ∷ []) → IsStatusOf result (AnswersInput IsMadeOf IsMakeFaultOf
+        RangeFault.Write (R.remaining r.old) (R.remaining r.new) (W.contents w.old) (W.contents w.new)) }
+    ensures join { HasWords args (codes "join" ∷ []) → IsStatusOf result (AnswersInput IsJoinedOf IsRangeFaultOf
+        RangeFault.Write (R.remaining r.old) (R.remaining r.new) (W.contents w.old) (W.contents w.new)) }
+    ensures root { HasWords args (codes "root" ∷ []) → IsStatusOf result (AnswersInput IsRootOf IsRangeFaultOf
+        RangeFault.Write (R.remaining r.old) (R.remaining r.new) (W.contents w.old) (W.contents w.new)) }
+    ensures help { IsOkAnd args (λ args. AskForHelp (words_of args)) → IsStatusOf result (
+        WritesOut HELP.now RangeFault.Write (W.contents w.old) (W.contents w.new)) }
+    ensures version { IsOkAnd args (λ args. AskForVersion (words_of args)) → IsStatusOf result (
+        WritesOut VERSION.now RangeFault.Write (W.contents w.old) (W.contents w.new)) }
+    ensures wrong { IsOkAnd args (λ args. ¬ (AreKnown (words_of args))) → result ≡ WRONG_ARGUMENT }
+    ensures unreadable { IfErr args (λ error. (error_kind error ≡ ErrorKind.OutOfMemory → result ≡ 3)
+        × (error_kind error ≢ ErrorKind.OutOfMemory → result ≡ WRONG_ARGUMENT)) }
     ensures status { result ≢ 0 → result ≢ WRONG_ARGUMENT → (fault : RangeFault) × (result ≡ status_of fault) }
     ensures unwritten { result ≢ 0 → result ≢ 5 → Keeps (W.contents w.old) (W.contents w.new) }
     ensures silent { result ≡ 0 → Keeps (E.contents errors.old) (E.contents errors.new) }
@@ -74,6 +93,20 @@ fn perform<R: Read, W: Write>(
     r: &mut R,
     w: &mut W,
 ) -> Option<Result<(), RangeFault>>
+    ensures make { HasWords args (codes "make" ∷ []) → IsSomeAnd result (AnswersInput IsMadeOf IsMakeFaultOf
+        RangeFault.Write (R.remaining r.old) (R.remaining r.new) (W.contents w.old) (W.contents w.new)) }
+    ensures join { HasWords args (codes "join" ∷ []) → IsSomeAnd result (AnswersInput IsJoinedOf IsRangeFaultOf
+        RangeFault.Write (R.remaining r.old) (R.remaining r.new) (W.contents w.old) (W.contents w.new)) }
+    ensures root { HasWords args (codes "root" ∷ []) → IsSomeAnd result (AnswersInput IsRootOf IsRangeFaultOf
+        RangeFault.Write (R.remaining r.old) (R.remaining r.new) (W.contents w.old) (W.contents w.new)) }
+    ensures help { IsOkAnd args (λ args. AskForHelp (words_of args)) → IsSomeAnd result (
+        WritesOut HELP.now RangeFault.Write (W.contents w.old) (W.contents w.new)) }
+    ensures version { IsOkAnd args (λ args. AskForVersion (words_of args)) → IsSomeAnd result (
+        WritesOut VERSION.now RangeFault.Write (W.contents w.old) (W.contents w.new)) }
+    ensures wrong { IsOkAnd args (λ args. ¬ (AreKnown (words_of args))) → IsNone result }
+    ensures unreadable { IfErr args (λ error.
+        (error_kind error ≡ ErrorKind.OutOfMemory → result ≡ Some (Err RangeFault.Memory))
+        × (error_kind error ≢ ErrorKind.OutOfMemory → IsNone result)) }
     ensures none { IfNone result (Keeps (W.contents w.old) (W.contents w.new)) }
     ensures unwritten { IfSome result (λ done. IfErr done (λ fault. fault ≢ RangeFault.Write →
         Keeps (W.contents w.old) (W.contents w.new))) }
@@ -93,7 +126,7 @@ fn perform<R: Read, W: Write>(
 }
 
 fn write_text<W: Write>(w: &mut W, text: &str) -> Result<(), RangeFault>
-    ensures { IfErr result (λ fault. fault ≡ RangeFault.Write) }
+    ensures { WritesOut text.now RangeFault.Write (W.contents w.old) (W.contents w.new) result }
 {
     Ok(write_all(w, text.as_bytes())?)
 }

@@ -1,4 +1,7 @@
 pub mod Status
+pub mod Words
 pub mod Answer
 pub mod WithoutPositions
 pub mod Steps
+pub use Rattle.upload_session.specs.Hashes
+pub use Rattle.upload_session.specs.Session

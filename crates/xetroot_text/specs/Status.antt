@@ -1,5 +1,5 @@
 -- The numbers of the faults, and why an input has no answer as one of them.
-use Rattle.std.specs.Prelude.{ℕ}
+use Rattle.std.specs.Prelude.{◌≡◌, ℕ, Result, Ok, Err}
 use Rattle.line_io.specs.declared.fault.AnswerFault.{AnswerFault}
 use Rattle.line_io.specs.declared.fault.AnswerFault.TheVariants.{Input, Answer, Write as write_failed}
 use Rattle.line_io.specs.declared.fault.InputFault.TheVariants.{Line, Memory as input_memory, Read as read_failed}
@@ -19,6 +19,15 @@ status_of Read = 4
 status_of Write = 5
 status_of (Overlap number) = 6
 status_of Gap = 7
+
+-- the exit status of a call that ended so
+abbrev pub exit_status : Result (Unit {0}) Fault → ℕ
+exit_status (Ok done) = 0
+exit_status (Err fault) = status_of fault
+
+-- a status is that of a call which ended as is said
+abbrev pub IsStatusOf : ℕ → (Result (Unit {0}) Fault → Type 0) → Type 0
+IsStatusOf status Ended = (done : Result (Unit {0}) Fault) × (status ≡ exit_status done) × Ended done
 
 -- why an input has no answer, as a fault
 abbrev pub fault_of : AnswerFault LineFault NoWhole → Fault

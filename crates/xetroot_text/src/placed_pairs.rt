@@ -184,7 +184,7 @@ impl<C: ChunkRange> PlacedPairs<C> {
         match self.session.hashes(self.count) {
             Ok(hashes) => Ok(hashes),
             Err(SessionFault::Gap) => Err(Refusal::Faulty(Gap)),
-            Err(_) => Err(Refusal::Memory),
+            Err(error) => Err(out_of_memory(error).into()),
         }
     }
 }
@@ -213,7 +213,7 @@ impl<C: ChunkRange> TakeSaid for PlacedPairs<C> {
     }
 }
 
-// The error of a put that is refused for memory alone.
+// The error of a call of the session that is refused for memory alone.
 fn out_of_memory(error: SessionFault) -> AllocError
     requires { error ≡ SessionFault.Memory }
 {

@@ -1,10 +1,13 @@
 //! The program `xetroot` over its arguments and devices.
 
-ghost use Rattle.std.specs.Prelude.{◌≡◌, ◌≢◌, ◌≤◌, ◌++◌, List, ℕ, IfErr, IfNone, IfSome, IsOkAnd, OnOk};
-ghost use Rattle.std.specs.Io.KnownBytes.{Appends, Keeps};
-ghost use Rattle.std.specs.Vec.Iter.{into_iter_len};
+ghost use Rattle.std.specs.Prelude.{◌≡◌, ◌≢◌, [], IfErr, IfNone, IfSome, IsNone, IsOkAnd, IsSomeAnd};
+ghost use Rattle.std.specs.Io.KnownBytes.{Keeps};
+ghost use Rattle.std.specs.IoError.{error_kind};
+ghost use Rattle.line_io.specs.Answers.{AnswersInput, WritesOut};
+ghost use Rattle.line_io.specs.Requests.{AskForHelp, AskForVersion, HasWords, words_of};
 ghost use Rattle.xetroot_text.specs.Answer.{IsAnswer, IsFaultOf};
-ghost use Rattle.xetroot_text.specs.Status.{status_of};
+ghost use Rattle.xetroot_text.specs.Status.{IsStatusOf, status_of};
+ghost use Rattle.xetroot_text.specs.Words.{AreKnown};
 
 use crate::fault::Fault;
 use crate::run::run;
@@ -12,7 +15,7 @@ use line_io::devices::write_all;
 use line_io::request::{Request, WRONG_ARGUMENT, print_line};
 use std::alloc::Allocator;
 use std::env::Args;
-use std::io::{self, Read, Write};
+use std::io::{self, ErrorKind, Read, Write};
 
 const HELP: &str = "\
 Usage: xetroot
@@ -30,7 +33,7 @@ line, 2 sizes that pass 2^64 - 1, 3 out of memory, 4 a failed read, 5 a failed w
 6 a position that is taken, 7 a gap. The status is 64 after a wrong argument.
 
   -h, --help    prints this text
-  --version     prints the version of xet-core-structures whose hashes these are
+  --version     prints the versions of xetroot and of xet-core-structures
 ";
 
 const VERSION: &str = "xetroot 1.0.0 (hashes of xet-core-structures 1.5.2)\n";
@@ -46,9 +49,16 @@ pub fn program<R: Read, W: Write, E: Write>(
     w: &mut W,
     errors: &mut E,
 ) -> u8
-    // With no argument, what was written is the answer to the whole input.
-    ensures answer { IsOkAnd args (λ args. into_iter_len args ≤ 1) → result ≡ 0 → IfSome (R.remaining r.old) (λ text.
-        (output : List ℕ) × IsAnswer text output × Appends (W.contents w.old) (W.contents w.new) output) }
+    // Without a word it does what `run` does, and the status says how that ended.
+    ensures run { HasWords args [] → IsStatusOf result (AnswersInput IsAnswer IsFaultOf Fault.Write
+        (R.remaining r.old) (R.remaining r.new) (W.contents w.old) (W.contents w.new)) }
+    ensures help { IsOkAnd args (λ args. AskForHelp (words_of args)) → IsStatusOf result (
+        WritesOut HELP.now Fault.Write (W.contents w.old) (W.contents w.new)) }
+    ensures version { IsOkAnd args (λ args. AskForVersion (words_of args)) → IsStatusOf result (
+        WritesOut VERSION.now Fault.Write (W.contents w.old) (W.contents w.new)) }
+    ensures wrong { IsOkAnd args (λ args. ¬ (AreKnown (words_of args))) → result ≡ WRONG_ARGUMENT }
+    ensures unreadable { IfErr args (λ error. (error_kind error ≡ ErrorKind.OutOfMemory → result ≡ 3)
+        × (error_kind error ≢ ErrorKind.OutOfMemory → result ≡ WRONG_ARGUMENT)) }
     ensures fault { result ≢ 0 → result ≢ WRONG_ARGUMENT → IfSome (R.remaining r.old) (λ text.
         (fault : Fault) × (result ≡ status_of fault) × IsFaultOf text fault) }
     ensures unwritten { result ≢ 0 → result ≢ 5 → Keeps (W.contents w.old) (W.contents w.new) }
@@ -74,9 +84,16 @@ fn perform<R: Read, W: Write>(
     r: &mut R,
     w: &mut W,
 ) -> Option<Result<(), Fault>>
-    ensures answer { IsOkAnd args (λ args. into_iter_len args ≤ 1) → IfSome result (λ done. OnOk done (
-        IfSome (R.remaining r.old) (λ text.
-        (output : List ℕ) × IsAnswer text output × Appends (W.contents w.old) (W.contents w.new) output))) }
+    ensures run { HasWords args [] → IsSomeAnd result (AnswersInput IsAnswer IsFaultOf Fault.Write
+        (R.remaining r.old) (R.remaining r.new) (W.contents w.old) (W.contents w.new)) }
+    ensures help { IsOkAnd args (λ args. AskForHelp (words_of args)) → IsSomeAnd result (
+        WritesOut HELP.now Fault.Write (W.contents w.old) (W.contents w.new)) }
+    ensures version { IsOkAnd args (λ args. AskForVersion (words_of args)) → IsSomeAnd result (
+        WritesOut VERSION.now Fault.Write (W.contents w.old) (W.contents w.new)) }
+    ensures wrong { IsOkAnd args (λ args. ¬ (AreKnown (words_of args))) → IsNone result }
+    ensures unreadable { IfErr args (λ error.
+        (error_kind error ≡ ErrorKind.OutOfMemory → result ≡ Some (Err Fault.Memory))
+        × (error_kind error ≢ ErrorKind.OutOfMemory → IsNone result)) }
     ensures fault { IfSome result (λ done. IfErr done (λ fault.
         IfSome (R.remaining r.old) (λ text. IsFaultOf text fault))) }
     ensures unwritten { IfSome result (λ done. IfErr done (λ fault. fault ≢ Fault.Write →
@@ -93,7 +110,7 @@ fn perform<R: Read, W: Write>(
 }
 
 fn write_text<W: Write>(w: &mut W, text: &str) -> Result<(), Fault>
-    ensures { IfErr result (λ fault. fault ≡ Fault.Write) }
+    ensures { WritesOut text.now Fault.Write (W.contents w.old) (W.contents w.new) result }
 {
     Ok(write_all(w, text.as_bytes())?)
 }

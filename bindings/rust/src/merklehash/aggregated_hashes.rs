@@ -1,14 +1,8 @@
 //! The hashes of lists of chunks: of a xorb, and of a file.
 
 use super::data_hash::MerkleHash;
-use super::lent_chunks::lend;
-use crate::error::Result;
-use crate::ffi;
-use crate::status::{answer, plain};
-use std::ptr;
-
-/// A chunk, or any other node of the tree: its hash, and its size in bytes.
-pub type Node = (MerkleHash, u64);
+use crate::own::{try_file_hash, try_file_hash_with_salt, try_xorb_hash};
+use crate::status::plain;
 
 /// How many nodes a parent has on average.
 pub const AGGREGATED_HASHES_MEAN_TREE_BRANCHING_FACTOR: u64 = 4;
@@ -28,23 +22,9 @@ pub const AGGREGATED_HASHES_MEAN_TREE_BRANCHING_FACTOR: u64 = 4;
 /// # Panics
 ///
 /// Where the sizes add up to more than `u64::MAX`, or memory is refused; see [`try_xorb_hash`].
-pub fn xorb_hash(chunks: &[Node]) -> MerkleHash {
+#[track_caller]
+pub fn xorb_hash(chunks: &[(MerkleHash, u64)]) -> MerkleHash {
     plain("xorb_hash", try_xorb_hash(chunks))
-}
-
-/// [`xorb_hash`], refused where the sizes add up to more than `u64::MAX`, or memory is refused.
-///
-/// ```
-/// use yurewha::error::CoreError;
-/// use yurewha::merklehash::{aggregated_hashes::try_xorb_hash, MerkleHash};
-///
-/// let chunk = (MerkleHash::default(), u64::MAX);
-/// assert_eq!(try_xorb_hash(&[chunk; 2]), Err(CoreError::SizeOverflow));
-/// ```
-pub fn try_xorb_hash(chunks: &[Node]) -> Result<MerkleHash> {
-    let chunks = lend(chunks)?;
-    // SAFETY: chunks of their number, and a hash to write to.
-    answer(|root: &mut MerkleHash| unsafe { ffi::yurewha_xorb_hash(chunks.as_ptr(), chunks.len(), root.out()) })
 }
 
 /// The file hash of a list of chunks: the default hash of no chunk, else the root's hmac under 32 zero bytes.
@@ -59,22 +39,9 @@ pub fn try_xorb_hash(chunks: &[Node]) -> Result<MerkleHash> {
 /// # Panics
 ///
 /// As [`xorb_hash`] does; see [`try_file_hash`].
-pub fn file_hash(chunks: &[Node]) -> MerkleHash {
+#[track_caller]
+pub fn file_hash(chunks: &[(MerkleHash, u64)]) -> MerkleHash {
     plain("file_hash", try_file_hash(chunks))
-}
-
-/// [`file_hash`], refused as [`try_xorb_hash`] is.
-///
-/// ```
-/// use yurewha::merklehash::{aggregated_hashes::try_file_hash, MerkleHash};
-///
-/// assert_eq!(try_file_hash(&[])?, MerkleHash::default());
-/// # Ok::<(), yurewha::error::CoreError>(())
-/// ```
-pub fn try_file_hash(chunks: &[Node]) -> Result<MerkleHash> {
-    let chunks = lend(chunks)?;
-    // SAFETY: chunks of their number, and a hash to write to.
-    answer(|hash: &mut MerkleHash| unsafe { ffi::yurewha_file_hash(chunks.as_ptr(), chunks.len(), hash.out()) })
 }
 
 /// The file hash of a list of chunks under a salt: the default hash of no chunk, else the root's hmac under the salt.
@@ -90,23 +57,7 @@ pub fn try_file_hash(chunks: &[Node]) -> Result<MerkleHash> {
 /// # Panics
 ///
 /// As [`xorb_hash`] does; see [`try_file_hash_with_salt`].
-pub fn file_hash_with_salt(chunks: &[Node], salt: &[u8; 32]) -> MerkleHash {
+#[track_caller]
+pub fn file_hash_with_salt(chunks: &[(MerkleHash, u64)], salt: &[u8; 32]) -> MerkleHash {
     plain("file_hash_with_salt", try_file_hash_with_salt(chunks, salt))
-}
-
-/// [`file_hash_with_salt`], refused as [`try_xorb_hash`] is.
-///
-/// ```
-/// use yurewha::merklehash::{aggregated_hashes::try_file_hash_with_salt, MerkleHash};
-///
-/// assert_eq!(try_file_hash_with_salt(&[], &[7; 32])?, MerkleHash::default());
-/// # Ok::<(), yurewha::error::CoreError>(())
-/// ```
-pub fn try_file_hash_with_salt(chunks: &[Node], salt: &[u8; 32]) -> Result<MerkleHash> {
-    let chunks = lend(chunks)?;
-    let salt = ptr::from_ref(salt).cast();
-    // SAFETY: chunks of their number, 32 bytes, as the header's struct has them, and a hash to write to.
-    answer(|hash: &mut MerkleHash| unsafe {
-        ffi::yurewha_file_hash_with_salt(chunks.as_ptr(), chunks.len(), salt, hash.out())
-    })
 }

@@ -2,20 +2,22 @@
 
 use crate::error::{CoreError, Result};
 use crate::ffi;
+use crate::own::HashTextError;
 use crate::status::{answer, given, plain};
 use std::cmp::Ordering;
 use std::ffi::c_char;
 use std::hash::{Hash, Hasher};
-use std::mem::{align_of, size_of};
+use std::mem::{align_of, size_of, transmute};
 use std::ops::{Deref, DerefMut, Rem};
-use std::{fmt, ptr, slice, str};
+use std::str::{self, FromStr};
+use std::{fmt, ptr};
 
-mod errors;
+pub(crate) mod errors;
 mod hashed_write;
 #[cfg(feature = "serde")]
 pub mod hex;
 
-pub use errors::{DataHashBytesParseError, DataHashHexParseError, HashTextError};
+pub use errors::{DataHashBytesParseError, DataHashHexParseError};
 pub use hashed_write::HashedWrite;
 
 /// A Merkle hash of 256 bits: four words, which it dereferences to.
@@ -54,6 +56,52 @@ const _: () = assert!(
 );
 
 impl DataHash {
+    /// The hash of four words.
+    ///
+    /// ```
+    /// use yurewha::merklehash::DataHash;
+    ///
+    /// const ONE: DataHash = DataHash::from_words([1, 0, 0, 0]);
+    /// assert_eq!(ONE, DataHash::from([1, 0, 0, 0]));
+    /// ```
+    #[inline]
+    pub const fn from_words(words: [u64; 4]) -> Self {
+        DataHash(words)
+    }
+
+    /// The hash of 32 bytes.
+    ///
+    /// ```
+    /// use yurewha::merklehash::DataHash;
+    ///
+    /// const ONES: DataHash = DataHash::from_bytes([0xff; 32]);
+    /// assert_eq!(ONES, DataHash::marker());
+    /// ```
+    #[inline]
+    pub const fn from_bytes(bytes: [u8; 32]) -> Self {
+        // SAFETY: 32 bytes are four words, of which any bits are a value. The machine is little-endian.
+        DataHash(unsafe { transmute::<[u8; 32], [u64; 4]>(bytes) })
+    }
+
+    /// The 32 bytes of this hash.
+    ///
+    /// ```
+    /// use yurewha::merklehash::DataHash;
+    ///
+    /// const BYTES: [u8; 32] = DataHash::marker().to_bytes();
+    /// assert_eq!(BYTES, [0xff; 32]);
+    /// ```
+    #[inline]
+    pub const fn to_bytes(self) -> [u8; 32] {
+        *self.bytes()
+    }
+
+    #[inline]
+    const fn bytes(&self) -> &[u8; 32] {
+        // SAFETY: the words are 32 bytes without padding, and each byte is one of `u8`. The machine is little-endian.
+        unsafe { &*ptr::from_ref(&self.0).cast() }
+    }
+
     pub(crate) fn for_call(&self) -> *const ffi::yurewha_hash {
         ptr::from_ref(self).cast()
     }
@@ -90,6 +138,26 @@ impl DataHash {
     /// assert!(DataHash::from_hex("f").is_err());
     /// ```
     pub fn from_hex(text: &str) -> std::result::Result<Self, DataHashHexParseError> {
+        // To write a hash takes the library a fraction of the time that it takes to read one.
+        match Self::guessed(text) {
+            Some(hash) if hash.hex_digits() == *text.as_bytes() => Ok(hash),
+            _ => Self::read_by_library(text),
+        }
+    }
+
+    // What lower-case hex digits say. What other texts say means nothing.
+    fn guessed(text: &str) -> Option<Self> {
+        let text: &[u8; ffi::YUREWHA_HEX_LENGTH] = text.as_bytes().try_into().ok()?;
+        let mut words = [0; 4];
+        for (word, digits) in words.iter_mut().zip(text.chunks_exact(16)) {
+            *word = digits
+                .iter()
+                .fold(0, |word, digit| word << 4 | u64::from((digit & 15) + 9 * (digit >> 6)));
+        }
+        Some(DataHash(words))
+    }
+
+    fn read_by_library(text: &str) -> std::result::Result<Self, DataHashHexParseError> {
         // SAFETY: a text of its length, and a hash to write to.
         answer(|hash: &mut Self| unsafe { ffi::yurewha_from_hex(text.as_ptr().cast(), text.len(), hash.out()) })
             .map_err(|_: CoreError| DataHashHexParseError)
@@ -106,6 +174,7 @@ impl DataHash {
     /// # Panics
     ///
     /// Where memory is refused; see [`try_base64`](Self::try_base64).
+    #[track_caller]
     pub fn base64(&self) -> String {
         plain("DataHash::base64", self.try_base64())
     }
@@ -143,6 +212,7 @@ impl DataHash {
     /// # Panics
     ///
     /// Where memory is refused; see [`try_from_base64`](Self::try_from_base64).
+    #[track_caller]
     pub fn from_base64(text: &str) -> std::result::Result<Self, DataHashBytesParseError> {
         match Self::try_from_base64(text) {
             Ok(hash) => Ok(hash),
@@ -154,7 +224,8 @@ impl DataHash {
     /// [`from_base64`](Self::from_base64), which also tells where memory is refused.
     ///
     /// ```
-    /// use yurewha::merklehash::{DataHash, HashTextError};
+    /// use yurewha::merklehash::DataHash;
+    /// use yurewha::own::HashTextError;
     ///
     /// assert_eq!(DataHash::try_from_base64(&"A".repeat(43)).unwrap(), DataHash::default());
     /// assert!(matches!(DataHash::try_from_base64("?"), Err(HashTextError::Bytes(_))));
@@ -171,9 +242,9 @@ impl DataHash {
     ///
     /// assert_eq!(DataHash::from([1, 0, 0, 0]).as_bytes()[..9], [1, 0, 0, 0, 0, 0, 0, 0, 0]);
     /// ```
+    #[inline]
     pub fn as_bytes(&self) -> &[u8] {
-        // SAFETY: the words are 32 bytes without padding, and each byte is one of `u8`. The machine is little-endian.
-        unsafe { slice::from_raw_parts(self.0.as_ptr().cast(), size_of::<Self>()) }
+        self.bytes()
     }
 
     /// The hash of 32 bytes. A slice of another length is refused.
@@ -270,12 +341,14 @@ pub fn compute_internal_node_hash(bytes: &[u8]) -> DataHash {
 impl Deref for DataHash {
     type Target = [u64; 4];
 
+    #[inline]
     fn deref(&self) -> &[u64; 4] {
         &self.0
     }
 }
 
 impl DerefMut for DataHash {
+    #[inline]
     fn deref_mut(&mut self) -> &mut [u64; 4] {
         &mut self.0
     }
@@ -283,13 +356,14 @@ impl DerefMut for DataHash {
 
 /// The order of the words, the first one first.
 impl Ord for DataHash {
+    #[inline]
     fn cmp(&self, other: &Self) -> Ordering {
-        // SAFETY: two hashes, which are only read.
-        unsafe { ffi::yurewha_compare(self.for_call(), other.for_call()) }.cmp(&0)
+        self.0.cmp(&other.0)
     }
 }
 
 impl PartialOrd for DataHash {
+    #[inline]
     fn partial_cmp(&self, other: &Self) -> Option<Ordering> {
         Some(self.cmp(other))
     }
@@ -297,6 +371,7 @@ impl PartialOrd for DataHash {
 
 /// The first word alone.
 impl Hash for DataHash {
+    #[inline]
     fn hash<H: Hasher>(&self, state: &mut H) {
         state.write_u64(self.0[0]);
     }
@@ -306,11 +381,10 @@ impl Hash for DataHash {
 impl Rem<u64> for DataHash {
     type Output = u64;
 
+    #[inline]
+    #[track_caller]
     fn rem(self, divisor: u64) -> u64 {
-        // SAFETY: a hash, and a number to write to.
-        answer(|remainder| unsafe { ffi::yurewha_remainder(self.for_call(), divisor, remainder) }).unwrap_or_else(
-            |_: CoreError| panic!("attempt to calculate the remainder of a hash with a divisor of zero"),
-        )
+        self.0[3] % divisor
     }
 }
 
@@ -337,28 +411,30 @@ impl fmt::Debug for DataHash {
 
 /// The words.
 impl From<[u64; 4]> for DataHash {
+    #[inline]
     fn from(words: [u64; 4]) -> Self {
         DataHash(words)
     }
 }
 
 impl From<&[u8; 32]> for DataHash {
+    #[inline]
     fn from(bytes: &[u8; 32]) -> Self {
-        // SAFETY: 32 bytes, as the header's struct has them, and a hash to write to.
-        given(|hash: &mut Self| unsafe { ffi::yurewha_hash_from_bytes(ptr::from_ref(bytes).cast(), hash.out()) })
+        Self::from_bytes(*bytes)
     }
 }
 
 impl From<[u8; 32]> for DataHash {
+    #[inline]
     fn from(bytes: [u8; 32]) -> Self {
-        Self::from(&bytes)
+        Self::from_bytes(bytes)
     }
 }
 
 impl From<DataHash> for [u8; 32] {
+    #[inline]
     fn from(hash: DataHash) -> Self {
-        // SAFETY: a hash, and 32 bytes to write to, as the header's struct has them.
-        given(|bytes: &mut Self| unsafe { ffi::yurewha_hash_to_bytes(hash.for_call(), ptr::from_mut(bytes).cast()) })
+        hash.to_bytes()
     }
 }
 
@@ -382,13 +458,41 @@ impl TryFrom<&[u8]> for DataHash {
     }
 }
 
+/// Reads the 64 hex digits, as [`from_hex`](DataHash::from_hex) does.
+///
+/// ```
+/// use yurewha::merklehash::DataHash;
+///
+/// let hash: DataHash = "f".repeat(64).parse()?;
+/// assert_eq!(hash, DataHash::marker());
+/// # Ok::<(), yurewha::merklehash::DataHashHexParseError>(())
+/// ```
+impl FromStr for DataHash {
+    type Err = DataHashHexParseError;
+
+    fn from_str(text: &str) -> std::result::Result<Self, DataHashHexParseError> {
+        Self::from_hex(text)
+    }
+}
+
 impl AsRef<[u8]> for DataHash {
+    #[inline]
     fn as_ref(&self) -> &[u8] {
         self.as_bytes()
     }
 }
 
+/// There is no `Borrow<[u8; 32]>`, whose law is that both have the same `Hash` and the same order: a hash table gets
+/// the first word of a hash alone, and its order is that of the words.
+impl AsRef<[u8; 32]> for DataHash {
+    #[inline]
+    fn as_ref(&self) -> &[u8; 32] {
+        self.bytes()
+    }
+}
+
 impl AsRef<DataHash> for DataHash {
+    #[inline]
     fn as_ref(&self) -> &DataHash {
         self
     }
@@ -401,3 +505,81 @@ unsafe impl bytemuck::Zeroable for DataHash {}
 // SAFETY: four words without padding, of which any bits are a value; `Copy`, without references or interior mutability.
 #[cfg(feature = "bytemuck")]
 unsafe impl bytemuck::Pod for DataHash {}
+
+#[cfg(test)]
+mod tests {
+    use super::*;
+
+    // Drawn hashes, and hashes that differ in one bit of one word.
+    fn hashes() -> Vec<DataHash> {
+        let drawn = (0..50).map(DataHash::random_from_seed);
+        let bits = (0..256).map(|bit| {
+            let mut hash = DataHash::default();
+            hash[bit / 64] = 1 << (bit % 64);
+            hash
+        });
+        let ends = [DataHash::default(), DataHash::marker()];
+        drawn.chain(bits).chain(ends).collect()
+    }
+
+    // What stands here in Rust, for speed, is what the library's exports say.
+    #[test]
+    fn bytes_are_those_of_the_exports() {
+        for hash in hashes() {
+            // SAFETY: a hash, and 32 bytes to write to, as the header's struct has them.
+            let bytes: [u8; 32] = given(|bytes: &mut [u8; 32]| unsafe {
+                ffi::yurewha_hash_to_bytes(hash.for_call(), ptr::from_mut(bytes).cast())
+            });
+            assert_eq!(
+                (hash.to_bytes(), <[u8; 32]>::from(hash), hash.as_bytes()),
+                (bytes, bytes, &bytes[..])
+            );
+            // SAFETY: 32 bytes, as the header's struct has them, and a hash to write to.
+            let read = given(|hash: &mut DataHash| unsafe {
+                ffi::yurewha_hash_from_bytes(ptr::from_ref(&bytes).cast(), hash.out())
+            });
+            assert_eq!((DataHash::from_bytes(bytes), DataHash::from(&bytes)), (read, hash));
+        }
+    }
+
+    // At each place of a text each byte that a text may have there.
+    #[test]
+    fn a_text_is_what_the_library_reads() {
+        let mut texts = vec![String::new(), "0".repeat(63), "0".repeat(65), "é".repeat(32)];
+        for text in [DataHash::default(), DataHash::random_from_seed(1)].map(|hash| hash.hex()) {
+            for (place, byte) in (0..64).flat_map(|place| (0..128u8).map(move |byte| (place, byte))) {
+                let mut text = text.clone();
+                text.replace_range(place..=place, &char::from(byte).to_string());
+                texts.push(text);
+            }
+        }
+        for text in texts {
+            assert_eq!(DataHash::from_hex(&text), DataHash::read_by_library(&text), "{text}");
+        }
+    }
+
+    #[test]
+    fn the_order_is_that_of_the_exports() {
+        let hashes = hashes();
+        for first in &hashes {
+            for second in &hashes {
+                // SAFETY: two hashes, which are only read.
+                let order = unsafe { ffi::yurewha_compare(first.for_call(), second.for_call()) };
+                assert_eq!(first.cmp(second), order.cmp(&0));
+                assert_eq!((first == second, first < second), (order == 0, order < 0));
+            }
+        }
+    }
+
+    #[test]
+    fn the_remainder_is_that_of_the_exports() {
+        for hash in hashes() {
+            for divisor in [1, 2, 4, 7, 1 << 63, u64::MAX] {
+                // SAFETY: a hash, and a number to write to.
+                let remainder: Result<u64> =
+                    answer(|remainder| unsafe { ffi::yurewha_remainder(hash.for_call(), divisor, remainder) });
+                assert_eq!(remainder, Ok(hash % divisor));
+            }
+        }
+    }
+}

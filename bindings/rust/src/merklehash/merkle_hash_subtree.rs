@@ -1,18 +1,17 @@
 //! Subtrees: what is kept of a range of chunks, to merge it with its neighbours without the chunks.
 
-use super::aggregated_hashes::Node;
 use super::data_hash::MerkleHash;
-use super::lent_chunks::{lend, node_of, room};
 use crate::error::Result;
 use crate::ffi;
 use crate::handle::Owned;
-use crate::status::{answer, looked_up, plain, told, told_if_there};
-use std::{fmt, ptr};
+use crate::lent_chunks::{lend, node_of, room};
+use crate::own::{try_find_stable_end, try_find_stable_start};
+use crate::status::{answer, plain, told, told_if_there};
+use std::sync::MutexGuard;
+use std::{fmt, mem, ptr};
 
 #[cfg(feature = "serde")]
 mod forms;
-#[cfg(feature = "serde")]
-mod json_text;
 
 /// The canonical subtree of some chunks: what is kept of them, to merge them with their neighbours.
 ///
@@ -37,19 +36,13 @@ mod json_text;
 /// With serde a subtree is a struct of `nodes`, `levels`, `at_start` and `at_end`. What breaks a rule of
 /// [`from_json`](Self::from_json) is refused, in every format, with the rule in the error's text.
 ///
-/// A subtree may move to another thread, but no two threads may use one at once:
-///
-/// ```compile_fail
-/// fn shared<T: Sync>() {}
-/// shared::<yurewha::merklehash::MerkleHashSubtree>();
-/// ```
-#[repr(transparent)]
+/// Threads may share a subtree. Those that look at one at once take turns, each for the time of a call.
 pub struct MerkleHashSubtree(Owned<ffi::yurewha_subtree>);
 
 impl MerkleHashSubtree {
     // The subtree that a call makes in an empty handle.
     fn made(make: impl FnOnce(*mut ffi::yurewha_subtree) -> ffi::yurewha_status) -> Result<Self> {
-        answer(|made: &mut Owned<_>| make(made.handle())).map(Self)
+        answer(|made: &mut Owned<_>| make(made.get_mut())).map(Self)
     }
 
     // A subtree of a handle that another call fills.
@@ -57,8 +50,9 @@ impl MerkleHashSubtree {
         MerkleHashSubtree(handle)
     }
 
-    fn handle(&self) -> *mut ffi::yurewha_subtree {
-        self.0.handle()
+    // The handle, for one call.
+    fn lock(&self) -> MutexGuard<'_, ffi::yurewha_subtree> {
+        self.0.lock()
     }
 
     /// The canonical subtree of some chunks, under marks.
@@ -75,7 +69,8 @@ impl MerkleHashSubtree {
     ///
     /// Where the sizes add up to more than `u64::MAX`, or memory is refused; see
     /// [`try_from_chunks`](Self::try_from_chunks).
-    pub fn from_chunks(at_start: bool, chunks: &[Node], at_end: bool) -> Self {
+    #[track_caller]
+    pub fn from_chunks(at_start: bool, chunks: &[(MerkleHash, u64)], at_end: bool) -> Self {
         plain(
             "MerkleHashSubtree::from_chunks",
             Self::try_from_chunks(at_start, chunks, at_end),
@@ -93,7 +88,7 @@ impl MerkleHashSubtree {
     /// let refused = MerkleHashSubtree::try_from_chunks(true, &[chunk; 2], true);
     /// assert_eq!(refused, Err(CoreError::SizeOverflow));
     /// ```
-    pub fn try_from_chunks(at_start: bool, chunks: &[Node], at_end: bool) -> Result<Self> {
+    pub fn try_from_chunks(at_start: bool, chunks: &[(MerkleHash, u64)], at_end: bool) -> Result<Self> {
         let chunks = lend(chunks)?;
         // SAFETY: chunks of their number, and an empty handle to write to.
         Self::made(|made| unsafe {
@@ -112,13 +107,13 @@ impl MerkleHashSubtree {
     /// ```
     pub fn try_clone(&self) -> Result<Self> {
         // SAFETY: a handle, and another one that is empty to write to.
-        Self::made(|made| unsafe { ffi::yurewha_subtree_clone(self.handle(), made) })
+        Self::made(|made| unsafe { ffi::yurewha_subtree_clone(&mut *self.lock(), made) })
     }
 
     // Both marks.
     fn marks(&self) -> (bool, bool) {
         // SAFETY: a handle, and two truth values to write to.
-        told(|(at_start, at_end)| unsafe { ffi::yurewha_subtree_marks(self.handle(), at_start, at_end) })
+        told(|(at_start, at_end)| unsafe { ffi::yurewha_subtree_marks(&mut *self.lock(), at_start, at_end) })
     }
 
     /// Whether no chunk comes before.
@@ -153,7 +148,7 @@ impl MerkleHashSubtree {
     /// ```
     pub fn total_size(&self) -> u64 {
         // SAFETY: a handle, and a number to write to.
-        told(|size| unsafe { ffi::yurewha_subtree_total_size(self.handle(), size) })
+        told(|size| unsafe { ffi::yurewha_subtree_total_size(&mut *self.lock(), size) })
     }
 
     /// How many nodes are kept.
@@ -166,7 +161,7 @@ impl MerkleHashSubtree {
     /// ```
     pub fn num_nodes(&self) -> usize {
         // SAFETY: a handle, and a number to write to.
-        told(|count| unsafe { ffi::yurewha_subtree_num_nodes(self.handle(), count) })
+        told(|count| unsafe { ffi::yurewha_subtree_num_nodes(&mut *self.lock(), count) })
     }
 
     /// How many levels there are: one at least.
@@ -179,7 +174,7 @@ impl MerkleHashSubtree {
     /// ```
     pub fn num_levels(&self) -> usize {
         // SAFETY: a handle, and a number to write to.
-        told(|count| unsafe { ffi::yurewha_subtree_num_levels(self.handle(), count) })
+        told(|count| unsafe { ffi::yurewha_subtree_num_levels(&mut *self.lock(), count) })
     }
 
     /// Whether no node is kept, which is so where there is no chunk.
@@ -223,7 +218,7 @@ impl MerkleHashSubtree {
     /// [`OutOfMemory`]: crate::error::CoreError::OutOfMemory
     pub fn merge_into(&mut self, other: &MerkleHashSubtree) -> Result<()> {
         // SAFETY: two handles, which are two objects, since one is borrowed for itself alone.
-        answer(|(): &mut ()| unsafe { ffi::yurewha_subtree_merge_into(self.handle(), other.handle()) })
+        answer(|(): &mut ()| unsafe { ffi::yurewha_subtree_merge_into(self.0.get_mut(), &mut *other.lock()) })
     }
 
     /// [`merge_into`](Self::merge_into), with the number of parents that were hashed for it, or `u64::MAX` where it is
@@ -240,7 +235,9 @@ impl MerkleHashSubtree {
     /// ```
     pub fn merge_into_counted(&mut self, other: &MerkleHashSubtree) -> Result<u64> {
         // SAFETY: two handles, which are two objects, since one is borrowed for itself alone, and a number to write to.
-        answer(|parents| unsafe { ffi::yurewha_subtree_merge_into_counted(self.handle(), other.handle(), parents) })
+        answer(|parents| unsafe {
+            ffi::yurewha_subtree_merge_into_counted(self.0.get_mut(), &mut *other.lock(), parents)
+        })
     }
 
     /// The subtree of adjacent ranges, in order: of none the empty one with both marks, of one a copy.
@@ -266,10 +263,17 @@ impl MerkleHashSubtree {
     /// [`SizeOverflow`]: crate::error::CoreError::SizeOverflow
     /// [`OutOfMemory`]: crate::error::CoreError::OutOfMemory
     pub fn merge(ranges: &[MerkleHashSubtree]) -> Result<MerkleHashSubtree> {
-        // A subtree is a handle in a cell, so that the ranges are an array of handles, which may be written to.
-        let handles = ranges.as_ptr().cast_mut().cast();
-        // SAFETY: handles of their number, and an empty one to write to.
-        Self::made(|made| unsafe { ffi::yurewha_subtree_merge(handles, ranges.len(), made) })
+        let (mut locked, mut handles) = (room(ranges.len())?, room(ranges.len())?);
+        // By rising address, as ranges lie.
+        locked.extend(ranges.iter().map(Self::lock));
+        handles.extend(locked.iter_mut().map(|handle| mem::take(&mut **handle)));
+        // SAFETY: handles of their number, each the only one of its object, and an empty one to write to.
+        let merged =
+            Self::made(|made| unsafe { ffi::yurewha_subtree_merge(handles.as_mut_ptr(), handles.len(), made) });
+        for (range, handle) in locked.iter_mut().zip(handles) {
+            **range = handle;
+        }
+        merged
     }
 
     /// The root of the chunks, or `None` unless both ends are marked.
@@ -282,7 +286,7 @@ impl MerkleHashSubtree {
     /// ```
     pub fn final_hash(&self) -> Option<MerkleHash> {
         // SAFETY: a handle, and a hash to write to.
-        told_if_there(|hash: &mut MerkleHash| unsafe { ffi::yurewha_subtree_final_hash(self.handle(), hash.out()) })
+        told_if_there(|hash: &mut MerkleHash| unsafe { ffi::yurewha_subtree_final_hash(&mut *self.lock(), hash.out()) })
     }
 
     /// This subtree as compact JSON text, with the members in the order `at_end`, `at_start`, `levels`, `nodes`.
@@ -298,7 +302,7 @@ impl MerkleHashSubtree {
         let mut text: Vec<u8> = zeros(self.json_length_at_most())?;
         // SAFETY: a handle, a room of the length that goes with it, and a length to write to.
         let length = answer(|length| unsafe {
-            ffi::yurewha_subtree_to_json(self.handle(), text.as_mut_ptr().cast(), text.len(), length)
+            ffi::yurewha_subtree_to_json(&mut *self.lock(), text.as_mut_ptr().cast(), text.len(), length)
         })?;
         text.truncate(length);
         Ok(String::from_utf8(text).expect("JSON texts of subtrees are ASCII"))
@@ -360,20 +364,23 @@ fn zeros<T: Clone + Default>(count: usize) -> Result<Vec<T>> {
     Ok(zeros)
 }
 
-// A subtree's levels and nodes as flat lists, in the order of `from_json`.
+// A subtree as marks and flat lists, in the order of `from_json`. It may say none.
 struct Flat {
-    nodes: Vec<Node>,
-    levels: Vec<(usize, usize)>,
+    nodes: Vec<ffi::yurewha_chunk>,
+    levels: Vec<ffi::yurewha_level>,
+    at_start: bool,
+    at_end: bool,
 }
 
 impl Flat {
     fn of(subtree: &MerkleHashSubtree) -> Result<Flat> {
-        let mut levels: Vec<ffi::yurewha_level> = zeros(subtree.num_levels())?;
-        let mut nodes: Vec<ffi::yurewha_chunk> = zeros(subtree.num_nodes())?;
+        let (at_start, at_end) = subtree.marks();
+        let mut levels = zeros(subtree.num_levels())?;
+        let mut nodes = zeros(subtree.num_nodes())?;
         // SAFETY: a handle, two rooms of the lengths that go with them, and two numbers to write to.
         let _: (usize, usize) = answer(|(level_count, node_count)| unsafe {
             ffi::yurewha_subtree_to_flat(
-                subtree.handle(),
+                &mut *subtree.lock(),
                 levels.as_mut_ptr(),
                 levels.len(),
                 nodes.as_mut_ptr(),
@@ -383,10 +390,25 @@ impl Flat {
             )
         })?;
         Ok(Flat {
-            nodes: nodes.iter().map(node_of).collect(),
-            levels: levels.iter().map(|level| (level.left, level.right)).collect(),
+            nodes,
+            levels,
+            at_start,
+            at_end,
         })
     }
+}
+
+// The elements of a list in another form, which are made one by one, so that they take no memory.
+struct InForm<'a, T, F>(&'a [T], F);
+
+impl<T, U: fmt::Debug, F: Fn(&T) -> U> fmt::Debug for InForm<'_, T, F> {
+    fn fmt(&self, f: &mut fmt::Formatter<'_>) -> fmt::Result {
+        f.debug_list().entries(self.0.iter().map(&self.1)).finish()
+    }
+}
+
+fn pair_of(level: &ffi::yurewha_level) -> (usize, usize) {
+    (level.left, level.right)
 }
 
 /// A copy.
@@ -395,6 +417,7 @@ impl Flat {
 ///
 /// Where memory is refused; see [`try_clone`](MerkleHashSubtree::try_clone).
 impl Clone for MerkleHashSubtree {
+    #[track_caller]
     fn clone(&self) -> Self {
         plain("MerkleHashSubtree::clone", self.try_clone())
     }
@@ -404,9 +427,12 @@ impl Clone for MerkleHashSubtree {
 impl PartialEq for MerkleHashSubtree {
     fn eq(&self, other: &Self) -> bool {
         // A call gets two objects.
-        ptr::eq(self, other)
-            // SAFETY: two handles, which are two objects, and a truth value to write to.
-            || told(|equal| unsafe { ffi::yurewha_subtree_equal(self.handle(), other.handle(), equal) })
+        if ptr::eq(self, other) {
+            return true;
+        }
+        let (mut first, mut second) = Owned::lock_both(&self.0, &other.0);
+        // SAFETY: two handles, which are two objects, and a truth value to write to.
+        told(|equal| unsafe { ffi::yurewha_subtree_equal(&mut *first, &mut *second, equal) })
     }
 }
 
@@ -416,12 +442,11 @@ impl Eq for MerkleHashSubtree {}
 impl fmt::Debug for MerkleHashSubtree {
     fn fmt(&self, f: &mut fmt::Formatter<'_>) -> fmt::Result {
         let flat = Flat::of(self).map_err(|_| fmt::Error)?;
-        let (at_start, at_end) = self.marks();
         f.debug_struct("MerkleHashSubtree")
-            .field("nodes", &flat.nodes)
-            .field("levels", &flat.levels)
-            .field("at_start", &at_start)
-            .field("at_end", &at_end)
+            .field("nodes", &InForm(&flat.nodes, node_of))
+            .field("levels", &InForm(&flat.levels, pair_of))
+            .field("at_start", &flat.at_start)
+            .field("at_end", &flat.at_end)
             .finish()
     }
 }
@@ -441,22 +466,9 @@ impl fmt::Debug for MerkleHashSubtree {
 /// # Panics
 ///
 /// Where memory is refused; see [`try_find_stable_start`].
-pub fn find_stable_start(nodes: &[Node]) -> Option<usize> {
+#[track_caller]
+pub fn find_stable_start(nodes: &[(MerkleHash, u64)]) -> Option<usize> {
     plain("find_stable_start", try_find_stable_start(nodes))
-}
-
-/// [`find_stable_start`], refused where memory is.
-///
-/// ```
-/// use yurewha::merklehash::try_find_stable_start;
-///
-/// assert_eq!(try_find_stable_start(&[])?, None);
-/// # Ok::<(), yurewha::error::CoreError>(())
-/// ```
-pub fn try_find_stable_start(nodes: &[Node]) -> Result<Option<usize>> {
-    let nodes = lend(nodes)?;
-    // SAFETY: nodes of their number, and a number to write to.
-    looked_up(|point| unsafe { ffi::yurewha_find_stable_start(nodes.as_ptr(), nodes.len(), point) })
 }
 
 /// The last stable point of some nodes, as [`find_stable_start`] tells the first.
@@ -471,20 +483,7 @@ pub fn try_find_stable_start(nodes: &[Node]) -> Result<Option<usize>> {
 /// # Panics
 ///
 /// Where memory is refused; see [`try_find_stable_end`].
-pub fn find_stable_end(nodes: &[Node]) -> Option<usize> {
+#[track_caller]
+pub fn find_stable_end(nodes: &[(MerkleHash, u64)]) -> Option<usize> {
     plain("find_stable_end", try_find_stable_end(nodes))
-}
-
-/// [`find_stable_end`], refused where memory is.
-///
-/// ```
-/// use yurewha::merklehash::try_find_stable_end;
-///
-/// assert_eq!(try_find_stable_end(&[])?, None);
-/// # Ok::<(), yurewha::error::CoreError>(())
-/// ```
-pub fn try_find_stable_end(nodes: &[Node]) -> Result<Option<usize>> {
-    let nodes = lend(nodes)?;
-    // SAFETY: nodes of their number, and a number to write to.
-    looked_up(|point| unsafe { ffi::yurewha_find_stable_end(nodes.as_ptr(), nodes.len(), point) })
 }

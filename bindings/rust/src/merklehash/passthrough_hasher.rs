@@ -23,6 +23,7 @@ pub trait U64HashExtractable {
 
 /// The number itself.
 impl U64HashExtractable for u64 {
+    #[inline]
     fn u64_hash_value(&self) -> u64 {
         *self
     }
@@ -30,6 +31,7 @@ impl U64HashExtractable for u64 {
 
 /// The first word.
 impl U64HashExtractable for DataHash {
+    #[inline]
     fn u64_hash_value(&self) -> u64 {
         self[0]
     }

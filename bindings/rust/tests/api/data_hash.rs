@@ -3,10 +3,11 @@
 use crate::draws::{hash, Draws};
 use std::collections::HashSet;
 use std::hash::{DefaultHasher, Hash, Hasher};
+use std::io::{self, ErrorKind, Read, Write};
 use yurewha::merklehash::{
-    blake3, compute_data_hash, compute_internal_node_hash, DataHash, DataHashBytesParseError, DataHashHexParseError,
-    HMACKey, HashTextError,
+    compute_data_hash, compute_internal_node_hash, DataHash, DataHashBytesParseError, DataHashHexParseError, HMACKey,
 };
+use yurewha::own::{self, HashTextError};
 
 const TEXT: &str = "d6834b04843aaf16f29903e2428a99be635099f9ea5056cc4e95e7ec8a41509f";
 
@@ -199,12 +200,12 @@ fn pieces_have_the_hash_of_the_whole() {
         let whole = message(length);
         for cut in [0, 1, 1023, 1024, 1025, length] {
             let (first, second) = whole.split_at(cut.min(length));
-            let begun = [blake3::Hasher::new_data(), blake3::Hasher::new_internal_node()];
+            let begun = [own::Hasher::new_data(), own::Hasher::new_internal_node()];
             let hashes = begun.map(|mut hasher| {
-                hasher.update(first).unwrap();
+                hasher.update(first);
                 let mut other = hasher.clone();
-                other.update(b"another end").unwrap();
-                hasher.update(second).unwrap();
+                other.update(b"another end");
+                hasher.update(second);
                 assert_eq!(hasher.count(), length as u64);
                 hasher.finalize()
             });
@@ -216,10 +217,87 @@ fn pieces_have_the_hash_of_the_whole() {
 #[test]
 fn a_keyed_hasher_is_an_hmac_and_keeps_its_key_to_itself() {
     for (message, key) in drawn().zip(drawn().skip(1)) {
-        let mut hasher = blake3::Hasher::new_keyed(&key.into());
-        hasher.update(message.as_bytes()).unwrap();
+        let mut hasher = own::Hasher::new_keyed(&key.into());
+        hasher.update(message.as_bytes());
         assert_eq!(hasher.finalize(), message.hmac(key));
         assert_eq!(format!("{hasher:?}"), "Hasher { count: 32, .. }");
     }
-    assert!(blake3::Hasher::new_data().has_room(usize::MAX));
+    assert!(own::Hasher::new_data().has_room(usize::MAX));
+}
+
+#[test]
+fn a_hasher_begins_again_under_its_key() {
+    let key = [7; 32];
+    for begin in [own::Hasher::new_data, own::Hasher::new_internal_node, || {
+        own::Hasher::new_keyed(&[7; 32])
+    }] {
+        let mut hasher = begin();
+        hasher.update(&message(3000));
+        assert_eq!(hasher.reset().count(), 0);
+        assert_eq!(hasher.finalize(), begin().finalize());
+        assert_eq!(hasher.update(b"abc").finalize(), begin().update(b"abc").finalize());
+    }
+    let keyed = own::Hasher::new_keyed(&key)
+        .update(DataHash::default().as_bytes())
+        .finalize();
+    assert_eq!(keyed, DataHash::default().hmac(DataHash::from(key)));
+}
+
+// A reader that is interrupted before each piece of so many bytes, and fails at its end if it is told to.
+struct Pieces<'a>(&'a [u8], usize, bool, Option<ErrorKind>);
+
+impl Read for Pieces<'_> {
+    fn read(&mut self, room: &mut [u8]) -> io::Result<usize> {
+        self.2 = !self.2;
+        if self.2 {
+            return Err(ErrorKind::Interrupted.into());
+        }
+        match self.3 {
+            Some(kind) if self.0.is_empty() => Err(kind.into()),
+            _ => self.0.read(&mut room[..self.1]),
+        }
+    }
+}
+
+#[test]
+fn a_reader_is_hashed_to_its_end() {
+    for length in [0, 1, 1024, 16_384, 16_385, 100_000] {
+        let message = message(length);
+        let hash = compute_data_hash(&message);
+        for piece in [1000, 16_384] {
+            let mut hasher = own::Hasher::new_data();
+            let read = hasher
+                .update_reader(Pieces(&message, piece, false, None))
+                .unwrap()
+                .finalize();
+            assert_eq!(read, hash);
+            assert_eq!(io::copy(&mut &message[..], hasher.reset()).unwrap(), length as u64);
+            assert_eq!(hasher.finalize(), hash);
+            // What was read before an error is hashed.
+            let failing = Pieces(&message, piece, false, Some(ErrorKind::BrokenPipe));
+            let error = hasher.reset().update_reader(failing).unwrap_err();
+            assert_eq!((error.kind(), hasher.finalize()), (ErrorKind::BrokenPipe, hash));
+        }
+    }
+    let mut hasher = own::Hasher::new_data();
+    write!(hasher, "{}-{}", 1, 2).unwrap();
+    hasher.flush().unwrap();
+    assert_eq!(hasher.finalize(), compute_data_hash(b"1-2"));
+}
+
+#[test]
+fn hashes_are_made_when_a_program_is_compiled() {
+    const WORDS: DataHash = DataHash::from_words([1, 2, 3, 4]);
+    const FROM_BYTES: DataHash = DataHash::from_bytes(BYTES);
+    const TO_BYTES: [u8; 32] = FROM_BYTES.to_bytes();
+    assert_eq!(WORDS, DataHash::from([1, 2, 3, 4]));
+    assert_eq!((FROM_BYTES, TO_BYTES), (hash(TEXT), BYTES));
+    assert_eq!(AsRef::<[u8; 32]>::as_ref(&FROM_BYTES), &BYTES);
+}
+
+#[test]
+fn a_text_is_parsed_as_by_from_hex() {
+    assert_eq!(TEXT.parse(), Ok(hash(TEXT)));
+    assert_eq!(TEXT.to_uppercase().parse(), Ok(hash(TEXT)));
+    assert_eq!(TEXT[1..].parse::<DataHash>(), Err(DataHashHexParseError));
 }

@@ -1,7 +1,8 @@
 //! A plain reading of the definitions: groups, roots, stable points and canonical subtrees of whole lists.
 
 use std::fmt::Write;
-use yurewha::merklehash::{aggregated_hashes::Node, compute_internal_node_hash, MerkleHash};
+use yurewha::merklehash::{compute_internal_node_hash, MerkleHash};
+use yurewha::own::Node;
 
 fn is_cut(node: &Node) -> bool {
     node.0[3] % 4 == 0

@@ -1,6 +1,7 @@
 //! Drawn values, the same in every run, and the nodes of the worked examples.
 
-use yurewha::merklehash::{aggregated_hashes::Node, DataHash};
+use yurewha::merklehash::DataHash;
+use yurewha::own::Node;
 
 /// A generator of numbers (SplitMix64).
 pub struct Draws(pub u64);

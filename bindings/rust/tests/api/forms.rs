@@ -1,10 +1,13 @@
-//! serde's forms: JSON, and bincode as a binary format.
+//! serde's forms: JSON and RON, which people read, and bincode as a binary format.
 
 use crate::draws::{numbered, reference, Draws};
 use crate::json::forged;
+use serde::de::value::SeqDeserializer;
 use serde::{Deserialize, Serialize};
+use serde_json::{json, Value};
 use std::fmt::Debug;
 use std::hash::Hasher;
+use yurewha::error::CoreError;
 use yurewha::merklehash::{self, DataHash, MerkleHashSubtree, PassThroughHashMap, U64DirectHasher};
 
 // That a value has this JSON text and these bytes of bincode, and is read back from both.
@@ -15,6 +18,7 @@ fn assert_forms<T: Serialize + for<'de> Deserialize<'de> + PartialEq + Debug>(va
     assert_eq!(serde_json::from_reader::<_, T>(text.as_bytes()).unwrap(), *value);
     let tree = serde_json::to_value(value).unwrap();
     assert_eq!(serde_json::from_value::<T>(tree).unwrap(), *value);
+    assert_eq!(ron::from_str::<T>(&ron::to_string(value).unwrap()).unwrap(), *value);
     assert_eq!(bincode::serialize(value).unwrap(), bytes);
     assert_eq!(bincode::deserialize::<T>(bytes).unwrap(), *value);
 }
@@ -93,7 +97,7 @@ fn left_nodes_stand_by_rising_level_and_right_nodes_by_falling_level() {
     let nodes = numbered(0..20);
     let subtree = MerkleHashSubtree::from_chunks(false, &nodes, false);
     let value = serde_json::to_value(&subtree).unwrap();
-    assert_eq!(value["levels"], serde_json::json!([[8, 4], [2, 0]]));
+    assert_eq!(value["levels"], json!([[8, 4], [2, 0]]));
     let hashes: Vec<_> = value["nodes"]
         .as_array()
         .unwrap()
@@ -121,6 +125,8 @@ fn drawn_subtrees_are_read_back() {
         assert_eq!(serde_json::from_str::<MerkleHashSubtree>(&own).unwrap(), subtree);
         let bytes = bincode::serialize(&subtree).unwrap();
         assert_eq!(bincode::deserialize::<MerkleHashSubtree>(&bytes).unwrap(), subtree);
+        let text = ron::ser::to_string_pretty(&subtree, ron::ser::PrettyConfig::default().struct_names(true)).unwrap();
+        assert_eq!(ron::from_str::<MerkleHashSubtree>(&text).unwrap(), subtree);
     }
 }
 
@@ -133,18 +139,212 @@ fn members_may_stand_in_any_order_with_others_between() {
     assert_eq!(serde_json::from_str::<MerkleHashSubtree>(&spaced).unwrap(), empty);
 }
 
+// The error of reading a text.
+fn error_of(text: &str) -> serde_json::Error {
+    serde_json::from_str::<MerkleHashSubtree>(text).unwrap_err()
+}
+
 #[test]
-fn forged_json_is_refused_with_the_least_rule_in_the_text() {
+fn forged_json_is_refused_with_the_rule_in_the_text() {
     for (rule, text) in forged() {
-        let error = serde_json::from_str::<MerkleHashSubtree>(&text).unwrap_err();
-        assert_eq!(error.to_string(), format!("invalid JSON: rule {rule}"), "{text}");
-        let value: serde_json::Value = serde_json::from_str(&text).unwrap();
-        let error = serde_json::from_value::<MerkleHashSubtree>(value).unwrap_err();
-        assert_eq!(error.to_string(), format!("invalid JSON: rule {rule}"), "{text}");
+        let named = format!("invalid JSON: rule {rule}");
+        let value: Value = serde_json::from_str(&text).unwrap();
+        for error in [
+            error_of(&text),
+            serde_json::from_reader::<_, MerkleHashSubtree>(text.as_bytes()).unwrap_err(),
+            serde_json::from_value::<MerkleHashSubtree>(value).unwrap_err(),
+        ] {
+            assert!(error.is_data(), "{text}: {error}");
+            assert!(error.to_string().replace(')', " ").contains(&named), "{text}: {error}");
+        }
     }
-    assert!(serde_json::from_str::<MerkleHashSubtree>("{\"nodes\":[")
-        .unwrap_err()
-        .is_eof());
+    assert!(error_of("{\"nodes\":[").is_eof());
+    assert!(error_of("{\"nodes\":[}").is_syntax());
+}
+
+// What is replaced in the text of a subtree, by what, and the error of reading it.
+const FORGED_MEMBERS: &str = r#"
+[[1,0]] => null => invalid type: null, expected a sequence as `levels` (invalid JSON: rule 2) at line 2 column 13
+"levels" => "level" => missing field `levels`, expected a sequence as `levels` (invalid JSON: rule 2) at line 4 column 14
+start":true => start":1 => invalid type: integer `1`, expected a truth value as `at_start` (invalid JSON: rule 2) at line 3 column 12
+"size":1 => "size":-1 => invalid value: integer `-1`, expected a whole number below 2^64 as `size` (invalid JSON: rule 3) at line 1 column 94
+"size" => "length" => missing field `size`, expected a whole number below 2^64 as `size` (invalid JSON: rule 3) at line 1 column 96
+[1,0] => [1] => invalid length 1, expected a pair of numbers in `levels` (invalid JSON: rule 4) at line 2 column 13
+[1,0] => [1,0,0] => invalid length 3, expected a pair of numbers in `levels` (invalid JSON: rule 4) at line 2 column 17
+[1,0] => [2,0] => invalid JSON: rule 6 at line 4 column 14
+"#;
+
+#[test]
+fn an_error_names_the_field_and_the_place() {
+    let node = format!(r#"{{"hash":"{}","size":1}}"#, DataHash::marker());
+    let text = format!("{{\"nodes\":[{node}],\n\"levels\":[[1,0]],\n\"at_start\":true,\n\"at_end\":true}}");
+    assert!(serde_json::from_str::<MerkleHashSubtree>(&text).is_ok());
+    for row in FORGED_MEMBERS.trim().lines() {
+        let [from, to, error] = row.split(" => ").collect::<Vec<_>>().try_into().unwrap();
+        assert_eq!(error_of(&text.replace(from, to)).to_string(), error);
+    }
+}
+
+#[test]
+fn a_number_is_no_object_of_a_member() {
+    let number = r#"{"$serde_json::private::Number":"5"}"#;
+    let node = |size: &str| format!(r#"{{"hash":"{}","size":{size}}}"#, DataHash::marker());
+    let text = |size: &str, left: &str| {
+        format!(
+            r#"{{"nodes":[{}],"levels":[[{left},0]],"at_start":true,"at_end":true}}"#,
+            node(size)
+        )
+    };
+    assert!(serde_json::from_str::<MerkleHashSubtree>(&text("5", "1")).is_ok());
+    let error = error_of(&text(number, "1"));
+    assert!(
+        error.to_string().contains("as `size` (invalid JSON: rule 3)"),
+        "{error}"
+    );
+    let error = error_of(&text("5", &number.replace('5', "1")));
+    assert!(
+        error.to_string().contains("in `levels` (invalid JSON: rule 4)"),
+        "{error}"
+    );
+}
+
+// Each value in a value, as a pointer of JSON.
+fn pointers(value: &Value, at: &str, found: &mut Vec<String>) {
+    found.push(at.to_owned());
+    match value {
+        Value::Array(elements) => {
+            let places = elements.iter().enumerate();
+            places.for_each(|(place, it)| pointers(it, &format!("{at}/{place}"), found));
+        }
+        Value::Object(members) => members
+            .iter()
+            .for_each(|(name, it)| pointers(it, &format!("{at}/{name}"), found)),
+        _ => {}
+    }
+}
+
+// The value with another one at a drawn place.
+fn forged_at_random(draws: &mut Draws, value: &Value) -> Value {
+    let others = [
+        json!(null),
+        json!(true),
+        json!(0),
+        json!(3),
+        json!(u64::MAX),
+        json!(-1),
+        json!(1.5),
+        json!(""),
+        json!(DataHash::marker().hex()),
+        json!([]),
+        json!([1, 0]),
+        json!({}),
+    ];
+    let mut found = Vec::new();
+    pointers(value, "", &mut found);
+    let mut forged = value.clone();
+    *forged.pointer_mut(&found[draws.below(found.len())]).unwrap() = others[draws.below(others.len())].clone();
+    forged
+}
+
+#[test]
+fn a_value_with_one_forged_place_is_refused_by_the_rule_that_the_library_names() {
+    let mut draws = Draws(15);
+    let mut seen = [0; 14];
+    for _ in 0..3000 {
+        let count = draws.below(30) as u64;
+        let subtree = MerkleHashSubtree::from_chunks(draws.truth(), &numbered(0..count), draws.truth());
+        let text = forged_at_random(&mut draws, &serde_json::to_value(&subtree).unwrap()).to_string();
+        match (
+            MerkleHashSubtree::from_json(&text),
+            serde_json::from_str::<MerkleHashSubtree>(&text),
+        ) {
+            (Ok(library), Ok(ours)) => assert_eq!(ours, library),
+            (Err(CoreError::InvalidJson(rule)), Err(error)) => {
+                let message = error.to_string().replace(')', " ");
+                assert!(
+                    message.contains(&format!("invalid JSON: rule {rule} ")),
+                    "{text}: {error}"
+                );
+                seen[usize::from(rule)] += 1;
+            }
+            (library, ours) => panic!("{text}: {library:?}, {ours:?}"),
+        }
+    }
+    assert!([1, 2, 3, 4, 6].iter().all(|&rule| seen[rule] > 20), "{seen:?}");
+}
+
+#[test]
+fn of_several_broken_rules_of_form_the_first_that_is_met_is_named() {
+    let text = r#"{"nodes":[{}],"levels":null}"#;
+    assert!(error_of(text).to_string().contains("invalid JSON: rule 3"));
+    assert_eq!(MerkleHashSubtree::from_json(text), Err(CoreError::InvalidJson(2)));
+}
+
+#[test]
+fn a_member_that_is_written_twice_is_refused() {
+    let node = format!(r#"{{"hash":"{}","size":1}}"#, DataHash::marker());
+    let text = format!(r#"{{"nodes":[{node}],"levels":[[1,0]],"at_start":true,"at_end":true}}"#);
+    for member in [
+        "\"levels\":[[1,0]]",
+        "\"at_start\":true",
+        "\"at_end\":true",
+        "\"size\":1",
+        &format!("\"nodes\":[{node}]"),
+    ] {
+        let error = error_of(&text.replace(member, &format!("{member},{member}")));
+        assert!(error.to_string().starts_with("duplicate field `"), "{error}");
+    }
+}
+
+#[test]
+fn ron_reads_what_it_wrote_and_names_what_is_wrong() {
+    let subtree = MerkleHashSubtree::from_chunks(false, &numbered(0..24), false);
+    let text = ron::to_string(&subtree).unwrap();
+    assert_eq!(ron::from_str::<MerkleHashSubtree>(&text).unwrap(), subtree);
+    for (from, to, rule) in [
+        ("at_start:false", "at_start:0", 2),
+        ("size:1", "size:-1", 3),
+        ("(8,4)", "(8,-4)", 4),
+        ("(8,4)", "(9,4)", 6),
+    ] {
+        let forged = text.replacen(from, to, 1);
+        assert_ne!(forged, text);
+        let error = ron::from_str::<MerkleHashSubtree>(&forged).unwrap_err().to_string();
+        assert!(
+            rule < 5 || error.contains(&format!("invalid JSON: rule {rule}")),
+            "{error}"
+        );
+    }
+}
+
+// A subtree among other members of the same object, which serde reads into values of its own first.
+#[derive(Serialize, Deserialize, PartialEq, Debug)]
+struct Among {
+    name: String,
+    #[serde(flatten)]
+    subtree: MerkleHashSubtree,
+}
+
+#[derive(Serialize, Deserialize, PartialEq, Debug)]
+#[serde(untagged)]
+enum Either {
+    Name(String),
+    Subtree(MerkleHashSubtree),
+}
+
+#[test]
+fn a_subtree_stands_wherever_a_struct_may() {
+    let subtree = || MerkleHashSubtree::from_chunks(false, &numbered(0..24), false);
+    let among = Among {
+        name: "a range".to_owned(),
+        subtree: subtree(),
+    };
+    let text = serde_json::to_string(&among).unwrap();
+    assert_eq!(serde_json::from_str::<Among>(&text).unwrap(), among);
+    for either in [Either::Name("a range".to_owned()), Either::Subtree(subtree())] {
+        let text = serde_json::to_string(&either).unwrap();
+        assert_eq!(serde_json::from_str::<Either>(&text).unwrap(), either);
+    }
 }
 
 // The form of a subtree in a binary format, which may say none.
@@ -158,8 +358,8 @@ struct Form {
 
 // The form that a JSON text says where it keeps the rules 1 to 4.
 fn form_of(text: &str) -> Form {
-    let value: serde_json::Value = serde_json::from_str(text).unwrap();
-    let hash = |node: &serde_json::Value| DataHash::from_hex(node["hash"].as_str().unwrap()).unwrap();
+    let value: Value = serde_json::from_str(text).unwrap();
+    let hash = |node: &Value| DataHash::from_hex(node["hash"].as_str().unwrap()).unwrap();
     let nodes = value["nodes"].as_array().unwrap();
     Form {
         nodes: nodes
@@ -240,6 +440,36 @@ fn a_map_is_a_sequence_of_pairs() {
         error.to_string().contains("a sequence of pairs of key and value"),
         "{error}"
     );
+}
+
+// An iterator that claims to have so many elements.
+struct Claiming<I>(I, usize);
+
+impl<I: Iterator> Iterator for Claiming<I> {
+    type Item = I::Item;
+
+    fn next(&mut self) -> Option<I::Item> {
+        self.0.next()
+    }
+
+    fn size_hint(&self) -> (usize, Option<usize>) {
+        (self.1, Some(self.1))
+    }
+}
+
+#[test]
+fn a_map_is_read_into_room_for_the_pairs_that_are_claimed() {
+    let capacity = |claimed| {
+        let pairs = Claiming([vec![7u64, 8]].into_iter(), claimed);
+        let pairs = SeqDeserializer::<_, serde::de::value::Error>::new(pairs);
+        let map = PassThroughHashMap::<u64, u64>::deserialize(pairs).unwrap();
+        assert_eq!((map.len(), map[&7]), (1, 8));
+        map.capacity()
+    };
+    assert!(capacity(1) < 1000);
+    assert!(capacity(100_000) >= 100_000);
+    // A forged claim isn't believed.
+    assert!(capacity(usize::MAX) < 1 << 26);
 }
 
 #[test]

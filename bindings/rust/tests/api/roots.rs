@@ -4,8 +4,8 @@ use crate::definitions;
 use crate::draws::{hash, numbered, reference, with_cuts, Draws};
 use std::panic::catch_unwind;
 use yurewha::error::CoreError;
-use yurewha::merklehash::aggregated_hashes::{try_file_hash, try_file_hash_with_salt, try_xorb_hash, Node};
 use yurewha::merklehash::{file_hash, file_hash_with_salt, xorb_hash, DataHash, HMACKey};
+use yurewha::own::{try_file_hash, try_file_hash_with_salt, try_xorb_hash, Node};
 
 #[test]
 fn the_least_lists_have_their_hashes() {

@@ -4,8 +4,8 @@ use crate::draws::{hash, reference, Draws};
 use std::collections::HashSet;
 use std::mem::size_of;
 use yurewha::error::CoreError;
-use yurewha::merklehash::session::{Session, SessionFault};
-use yurewha::merklehash::{aggregated_hashes::Node, file_hash, xorb_hash, MerkleHash, MerkleHashSubtree};
+use yurewha::merklehash::{file_hash, xorb_hash, MerkleHash, MerkleHashSubtree};
+use yurewha::own::{Node, Session, SessionFault};
 
 #[test]
 fn the_example_is_answered() {
@@ -115,6 +115,57 @@ fn drawn_orders_give_the_file_hash_of_the_whole() {
         assert_eq!(session.root(total), Ok(xorb_hash(&chunks)));
         assert_eq!(session.finish(total + 1), Err(SessionFault::Gap));
         assert_eq!(session.num_runs(), usize::from(!chunks.is_empty()));
+    }
+}
+
+#[test]
+fn gaps_are_the_positions_that_are_not_taken() {
+    let chunk = (MerkleHash::default(), 1);
+    let mut session = Session::new();
+    let gaps = |session: &Session, total| format!("{:?}", session.gaps(total).unwrap());
+    assert_eq!([0, 3].map(|total| gaps(&session, total)), ["[]", "[0..3]"]);
+    session.put(u64::MAX - 1, &[chunk]).unwrap();
+    session.put(5, &[chunk; 3]).unwrap();
+    session.put(9, &[chunk]).unwrap();
+    let last = u64::MAX - 1;
+    assert_eq!(gaps(&session, u64::MAX), format!("[0..5, 8..9, 10..{last}]"));
+    for (total, text) in [
+        (last, &*format!("[0..5, 8..9, 10..{last}]")),
+        (20, "[0..5, 8..9, 10..20]"),
+        (10, "[0..5, 8..9]"),
+        (9, "[0..5, 8..9]"),
+        (8, "[0..5]"),
+        (6, "[0..5]"),
+        (5, "[0..5]"),
+        (3, "[0..3]"),
+        (0, "[]"),
+    ] {
+        assert_eq!(gaps(&session, total), text);
+    }
+}
+
+#[test]
+fn drawn_sessions_have_the_gaps_and_the_size_of_what_was_placed() {
+    let mut draws = Draws(14);
+    for _ in 0..100 {
+        let (mut session, mut taken, mut size) = (Session::new(), [false; 60], 0);
+        for _ in 0..draws.below(12) {
+            let (first, count) = (draws.below(40), draws.below(8));
+            let chunks = draws.nodes(count);
+            let free = !taken[first..first + count].contains(&true);
+            assert_eq!(session.put(first as u64, &chunks).is_ok(), free);
+            if free {
+                taken[first..first + count].fill(true);
+                size += chunks.iter().map(|chunk| chunk.1).sum::<u64>();
+            }
+            assert_eq!(session.total_size(), size);
+        }
+        let total = draws.below(60);
+        let gaps = session.gaps(total as u64).unwrap();
+        let of_gaps: Vec<u64> = gaps.iter().cloned().flatten().collect();
+        let free: Vec<u64> = (0..total).filter(|&at| !taken[at]).map(|at| at as u64).collect();
+        assert_eq!(of_gaps, free);
+        assert!(gaps.windows(2).all(|pair| pair[0].end < pair[1].start));
     }
 }
 

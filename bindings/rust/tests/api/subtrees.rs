@@ -3,10 +3,8 @@
 use crate::definitions;
 use crate::draws::{numbered, reference, with_cuts, Draws};
 use yurewha::error::CoreError;
-use yurewha::merklehash::{
-    find_stable_end, find_stable_start, try_find_stable_end, try_find_stable_start, xorb_hash, MerkleHash,
-    MerkleHashSubtree,
-};
+use yurewha::merklehash::{find_stable_end, find_stable_start, xorb_hash, MerkleHash, MerkleHashSubtree};
+use yurewha::own::{try_find_stable_end, try_find_stable_start};
 
 const MARKS: [(bool, bool); 4] = [(false, false), (false, true), (true, false), (true, true)];
 

@@ -1,38 +1,22 @@
-//! What may go to another thread, and what may not.
+//! What goes to other threads, and what they share.
 
 use crate::draws::Draws;
+use std::future::Future;
 use std::panic::{RefUnwindSafe, UnwindSafe};
+use std::sync::{Arc, OnceLock};
 use std::thread;
-use yurewha::merklehash::session::Session;
-use yurewha::merklehash::{blake3, file_hash, xorb_hash, DataHash, MerkleHashSubtree};
-
-// A type that is `Sync` has two ways to name `SOME`, so that naming it doesn't compile.
-trait IsNotSync<Way> {
-    const SOME: () = ();
-}
-
-impl<T: ?Sized> IsNotSync<()> for T {}
-
-struct OfSync;
-
-impl<T: ?Sized + Sync> IsNotSync<OfSync> for T {}
-
-const _: [(); 2] = [
-    <MerkleHashSubtree as IsNotSync<_>>::SOME,
-    <Session as IsNotSync<_>>::SOME,
-];
-
-const fn assert_send<T: Send>() {}
+use yurewha::merklehash::{file_hash, xorb_hash, DataHash, MerkleHashSubtree};
+use yurewha::own::{self, Session, SessionFault};
 
 const fn assert_send_and_sync<T: Send + Sync>() {}
 
 const fn assert_unwind_safe<T: UnwindSafe + RefUnwindSafe>() {}
 
 const _: () = {
-    assert_send::<MerkleHashSubtree>();
-    assert_send::<Session>();
+    assert_send_and_sync::<MerkleHashSubtree>();
+    assert_send_and_sync::<Session>();
     assert_send_and_sync::<DataHash>();
-    assert_send_and_sync::<blake3::Hasher>();
+    assert_send_and_sync::<own::Hasher>();
     assert_unwind_safe::<MerkleHashSubtree>();
     assert_unwind_safe::<Session>();
 };
@@ -92,5 +76,75 @@ fn threads_work_on_values_of_their_own() {
                 }
             });
         }
+    });
+}
+
+// So many threads that look at the same values at once.
+const THREADS: usize = 8;
+
+#[test]
+fn threads_look_at_the_same_subtrees() {
+    let nodes = Draws(16).nodes(600);
+    let ranges: Vec<_> = nodes
+        .chunks(100)
+        .map(|range| MerkleHashSubtree::from_chunks(false, range, false))
+        .collect();
+    let whole = MerkleHashSubtree::from_chunks(false, &nodes, false);
+    let closed = Arc::new(MerkleHashSubtree::from_chunks(true, &nodes, true));
+    let (root, text) = (xorb_hash(&nodes), whole.to_json().unwrap());
+    thread::scope(|scope| {
+        for _ in 0..THREADS {
+            let closed = Arc::clone(&closed);
+            scope.spawn(|| {
+                let closed = closed;
+                for _ in 0..100 {
+                    assert_eq!(closed.final_hash(), Some(root));
+                    assert_eq!(MerkleHashSubtree::merge(&ranges).as_ref(), Ok(&whole));
+                    let mut merged = ranges[0].clone();
+                    ranges[1..].iter().for_each(|range| merged.merge_into(range).unwrap());
+                    assert_eq!(merged, whole);
+                    // Two handles at once, in both orders.
+                    assert_ne!(whole, *closed);
+                    assert_ne!(*closed, whole);
+                    assert_eq!(whole.to_json().as_ref(), Ok(&text));
+                    assert_eq!(format!("{whole:?}").len(), format!("{merged:?}").len());
+                }
+            });
+        }
+    });
+    assert_eq!(closed.total_size(), whole.total_size());
+}
+
+#[test]
+fn threads_look_at_the_same_session() {
+    let nodes = Draws(17).nodes(300);
+    let mut session = Session::new();
+    for (first, range) in nodes.chunks(10).enumerate().rev() {
+        session.put(first as u64 * 10, range).unwrap();
+    }
+    session.put(310, &nodes[..1]).unwrap();
+    thread::scope(|scope| {
+        for _ in 0..THREADS {
+            scope.spawn(|| {
+                for _ in 0..100 {
+                    assert!(session.taken(299) && !session.taken(300));
+                    assert_eq!((session.runs().count(), session.root(300)), (2, Err(SessionFault::Gap)));
+                    assert_eq!(session.gaps(311).unwrap().len(), 1);
+                }
+            });
+        }
+    });
+}
+
+#[test]
+fn a_subtree_stands_in_a_static_and_in_a_future_that_is_sent() {
+    static EMPTY: OnceLock<MerkleHashSubtree> = OnceLock::new();
+    let empty = EMPTY.get_or_init(|| MerkleHashSubtree::from_chunks(true, &[], true));
+    assert!(empty.is_empty());
+    fn sent<T: Future + Send>(_: T) {}
+    sent(async {
+        let held: &MerkleHashSubtree = empty;
+        std::future::ready(()).await;
+        held.num_nodes()
     });
 }

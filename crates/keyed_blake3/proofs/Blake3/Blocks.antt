@@ -1,13 +1,17 @@
 -- Blocks and chunks of a message, as the code takes them.
-use Rattle.std.proofs.Common.{◌≡◌, ℕ, zero, suc, ◌+◌, ◌-◌, ◌*◌, ◌^◌, ◌<◌, ◌≤◌, List, [], ◌++◌, length, take, drop, replicate, refl, sym, ap, ◌∙◌, arith, length-drop, add-one}
+use Rattle.std.proofs.Common.{◌≡◌, ℕ, zero, suc, ◌+◌, ◌-◌, ◌*◌, ◌/◌, ◌^◌, ◌<◌, ◌≤◌, List, [], ◌++◌, length, take, drop, replicate, refl, sym, ap, ◌∙◌, arith, length-drop, add-one, get_or, Fits, w8}
 use Rattle.std.proofs.lemmas.List.{append-nil, drop_at, get_or-take, take_all, take_at, take-append-le, take-take, drop-drop, drop-replicate, drop-take, length-take-le, take-replicate}
 use borrow.Rule.Slice.PartMut.{put_mid}
 use Rattle.std.proofs.Math.Seq.{take-append-add}
 use Rattle.std.proofs.lemmas.Bool.Decides.{nat_tests}
 use Rattle.std.proofs.lemmas.Nat.{pow_pos}
+use Rattle.std.proofs.lemmas.List.FromFn.{fill_by_all}
+use Rattle.std.proofs.lemmas.Simd.{below_from_Fits, chunk-fits, get_or_wider}
 use Rattle.std.specs.Int.{from_le_bytes, w32}
 use Rattle.keyed_blake3.specs.Steps.Lanes.{chunk_at}
 use Rattle.keyed_blake3.specs.Blake3.{after_blocks, block, chunk_value, compress, keyed_hash_flag, start_flag, subtree_value, words_at}
+use Rattle.keyed_blake3.proofs.Blake3.Rows.{four}
+use lib.Lanes.{Each1, digits_l, number_l}
 
 -- a whole block is not filled up
 pub block_whole : (m : List ℕ) (n : ℕ) → 64 * n + 64 ≤ length m → block m n ≡ take 64 (drop (64 * n) m)
@@ -95,3 +99,34 @@ chunk_at_from m c n j h =
     let place : 1024 * c + 1024 * j ≡ 1024 * (c + j) = omega arith in
     ap (take 1024) (rw whole at (drop-take (1024 * j) after rest)) ∙ take-take 1024 after (drop (1024 * j) rest) (omega arith)
     ∙ ap (take 1024) (drop-drop (1024 * j) (1024 * c) m ∙ ap (λ (k : ℕ). drop k m) place)
+
+-- ---- words of a vector's bytes
+
+word_of_four : (bytes : List ℕ) → 4 ≤ length bytes → number_l 256 (take 4 bytes) ≡ from_le_bytes w32 bytes
+word_of_four bytes h =
+    rw (
+      four (take 4 bytes) (length-take-le 4 bytes h),
+      get_or-take 4 bytes 0 0 (omega arith),
+      get_or-take 4 bytes 1 0 (omega arith),
+      get_or-take 4 bytes 2 0 (omega arith),
+      get_or-take 4 bytes 3 0 (omega arith),
+    ) (omega arith)
+
+length-digits : (p n x : ℕ) → length (digits_l p n x) ≡ n
+length-digits p zero x = refl
+length-digits p (suc n) x = ap suc (length-digits p n (x / p))
+
+pub row_words : (n : ℕ) (bytes : List ℕ) → ((k : ℕ) → Fits w8 (get_or bytes k 0)) → 4 * n ≤ length bytes
+    → digits_l (2 ^ 32) n (number_l 256 (take (4 * n) bytes)) ≡ words_at n bytes
+unfolding words_at
+row_words n bytes fits long =
+    let row : List ℕ = take (4 * n) bytes in
+    let below : Each1 (λ x. x < 256) row = below_from_Fits w8 row (chunk-fits w8 0 (4 * n) bytes fits) in
+    fill_by_all (λ (k : ℕ). from_le_bytes w32 (drop (4 * k) bytes)) (digits_l (2 ^ 32) n (number_l 256 row)) n 0 (length-digits (2 ^ 32) n (number_l 256 row))
+    (λ k h.
+    let after : ℕ = 4 * n - 4 * k in
+    let whole : 4 * k + after ≡ 4 * n = omega arith in
+    let size : length (drop (4 * k) bytes) ≡ length bytes - 4 * k = length-drop (4 * k) bytes in
+    get_or_wider 256 4 (2 ^ 32) n row k refl below h
+    ∙ ap (number_l 256) (ap (take 4) (rw whole at (drop-take (4 * k) after bytes)) ∙ take-take 4 after (drop (4 * k) bytes) (omega arith))
+    ∙ word_of_four (drop (4 * k) bytes) (omega arith))

@@ -1,15 +1,17 @@
 -- Compressions side by side: each lane of the vectors is the compression of its own words.
-use Rattle.std.proofs.Common.{◌≡◌, ℕ, ◌+◌, ◌/◌, ◌%◌, ◌^◌, ◌<◌, List, [], ◌∷◌, ◌++◌, length, map, get_or, set, bit_xor, refl, sym, ap, subst, ◌∙◌, arith, length-set}
+use Rattle.std.proofs.Common.{◌≡◌, ℕ, ◌+◌, ◌/◌, ◌%◌, ◌^◌, ◌<◌, ◌≤◌, List, [], ◌∷◌, ◌++◌, length, map, take, drop, get_or, set, bit_xor, refl, sym, ap, subst, ◌∙◌, arith, length-append, length-drop, length-set}
 use Rattle.std.proofs.Math.ListN.{get_or-map}
-use Rattle.std.proofs.lemmas.List.{get_or-map as get_or-map-at, get_or_default, length-map, map-set}
+use Rattle.std.proofs.lemmas.List.{get_or-append-add, get_or-map as get_or-map-at, get_or-take, get_or_default, length-map, length-take-le, map-set}
 use Rattle.std.proofs.lemmas.List.Elements.{All-append, All-get_or, All-set}
 use Rattle.std.proofs.lemmas.List.FromFn.{fill_by_all, get_or-map-range_with_len}
+use Rattle.std.proofs.lemmas.Slice.{take-put_mid, take-put_mid_below}
 use Rattle.std.proofs.lemmas.Simd.{Each1-get_or, get_or-zip2, length-zip2}
 use Rattle.std.specs.Int.{rotate_right, w32}
-use Rattle.std.specs.List.{range_with_len}
+use Rattle.std.specs.List.{All, range_with_len}
 use Rattle.keyed_blake3.specs.Blake3.{add32, first_state, folded, half_mix, mix, round}
 use Rattle.keyed_blake3.specs.Steps.Lanes.{AreFull, lane}
 use Rattle.keyed_blake3.specs.declared.compression.lanes.TheConstants.{LANES}
+use borrow.Rule.Slice.PartMut.{put_mid}
 use lib.Lanes.{Each1, zip2}
 
 -- ---- one vector
@@ -31,6 +33,30 @@ both_at f j x y h hx hy = get_or-zip2 f x y j 0 0 0 (rw hx h) (rw hy h)
 
 both_full : (f : ℕ → ℕ → ℕ) (x y : List ℕ) → length x ≡ LANES → length y ≡ LANES → length (zip2 f x y) ≡ LANES
 both_full f x y hx hy = length-zip2 f x y (hx ∙ sym hy) ∙ hx
+
+-- the words of a square table, row by row
+pub words_of_rows : (n : ℕ) (rows : List (List ℕ)) → length rows ≡ n → All (λ row. length row ≡ n) rows
+    → map (λ i. map (λ k. get_or (get_or rows i []) k 0) (range_with_len 0 n)) (range_with_len 0 n) ≡ rows
+words_of_rows n rows size full =
+    sym (fill_by_all (λ (i : ℕ). map (λ k. get_or (get_or rows i []) k 0) (range_with_len 0 n)) rows n [] size
+    (λ i fits. fill_by_all (λ (k : ℕ). get_or (get_or rows i []) k 0) (get_or rows i []) n 0
+    (All-get_or (λ (row : List ℕ). length row ≡ n) rows i [] (rw size fits) full) (λ k below. refl)))
+
+-- vectors written over others from place a on: those before them stay, and they follow
+pub written_before : (a k i : ℕ) (v w : List (List ℕ)) → a + k ≤ length v → length w ≡ k → i < a → get_or (put_mid a k v w) i [] ≡ get_or v i []
+written_before a k i v w fits size h =
+    sym (get_or-take a (put_mid a k v w) i [] h) ∙ ap (λ (l : List (List ℕ)). get_or l i []) (take-put_mid_below a k v w a (omega arith) (omega arith)) ∙ get_or-take a v i [] h
+
+pub written_at : (a k i : ℕ) (v w : List (List ℕ)) → a + k ≤ length v → length w ≡ k → i < k → get_or (put_mid a k v w) (a + i) [] ≡ get_or w i []
+written_at a k i v w fits size h =
+    let front : length (take a v) ≡ a = length-take-le a v (omega arith) in
+    sym (get_or-take (a + k) (put_mid a k v w) (a + i) [] (omega arith))
+    ∙ ap (λ (l : List (List ℕ)). get_or l (a + i) []) (take-put_mid a k v w (a + k) (omega arith) (omega arith))
+    ∙ (rw front at (get_or-append-add (take a v) w i []))
+
+pub length-written : (a k : ℕ) (v w : List (List ℕ)) → a + k ≤ length v → length w ≡ k → length (put_mid a k v w) ≡ length v
+length-written a k v w fits size =
+    length-append (take a v) (w ++ drop k (drop a v)) ∙ omega (arith, length-take-le a v (omega arith), length-append w (drop k (drop a v)), length-drop k (drop a v), length-drop a v)
 
 -- ---- half of G
 

@@ -12,6 +12,10 @@ use lib.Lanes.{zip2}
 pub four : (x : List ℕ) → length x ≡ 4 → x ≡ get_or x 0 0 ∷ get_or x 1 0 ∷ get_or x 2 0 ∷ get_or x 3 0 ∷ []
 four x h = fill_by_all (λ k. get_or x k 0) x 4 0 h (λ k fits. refl)
 
+-- eight words
+pub eight : (x : List ℕ) → length x ≡ 8 → x ≡ map (λ k. get_or x k 0) (range_with_len 0 8)
+eight x h = fill_by_all (λ k. get_or x k 0) x 8 0 h (λ k fits. refl)
+
 -- sixteen words
 pub sixteen : (x : List ℕ) → length x ≡ 16 → x ≡ map (λ k. get_or x k 0) (range_with_len 0 16)
 sixteen x h = fill_by_all (λ k. get_or x k 0) x 16 0 h (λ k fits. refl)

@@ -4,8 +4,8 @@ use driver::drawn::Cuts;
 use driver::plain;
 use driver::rows::{Row, Task, HEAD};
 use std::hint::black_box;
-use yurewha::merklehash::blake3::Hasher;
 use yurewha::merklehash::{compute_data_hash, MerkleHash};
+use yurewha::own::Hasher;
 
 const PEER: &str = if cfg!(feature = "portable") { "`blake3`, no SIMD" } else { "`blake3`, SIMD" };
 
@@ -22,7 +22,7 @@ const LENGTHS: [(&str, usize); 7] = [
 fn in_pieces(chunk: &[u8], length: usize) -> MerkleHash {
     let mut hasher = Hasher::new_data();
     for piece in chunk.chunks(length) {
-        hasher.update(piece).expect("a message below 2^64 bytes");
+        hasher.update(piece);
     }
     hasher.finalize()
 }

@@ -1,5 +1,6 @@
 //! Prints one part of the tables; `bench/table` runs it.
 
+mod forms;
 mod hashes;
 mod json;
 mod kept;
@@ -10,7 +11,8 @@ mod sessions;
 
 use driver::drawn::{self, Cuts};
 use driver::plain;
-use yurewha::merklehash::{MerkleHash, Node};
+use yurewha::merklehash::MerkleHash;
+use yurewha::own::Node;
 
 // Drawn chunks as the crate has them.
 fn chunks(seed: u64, cuts: Cuts, count: usize) -> Vec<Node> {
@@ -24,6 +26,7 @@ fn node_of((hash, size): plain::Node) -> Node {
 fn main() {
     let part = std::env::args().nth(1).unwrap_or_default();
     match part.as_str() {
+        "forms" => forms::print(),
         "hashes" => hashes::print_hashes(),
         "hex" => hashes::print_hex(),
         "roots" => roots::print(),

@@ -3,7 +3,8 @@
 use driver::drawn::Cuts;
 use driver::rows::{Row, Task, HEAD};
 use std::hint::black_box;
-use yurewha::merklehash::{MerkleHashSubtree, Node};
+use yurewha::merklehash::MerkleHashSubtree;
+use yurewha::own::Node;
 
 /// All rows.
 pub fn print() {

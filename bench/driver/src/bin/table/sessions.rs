@@ -6,8 +6,8 @@ use driver::xet_bench;
 use std::collections::HashMap;
 use std::hash::{BuildHasherDefault, Hash, Hasher};
 use std::hint::black_box;
-use yurewha::merklehash::session::Session;
-use yurewha::merklehash::{xorb_hash, MerkleHash, Node};
+use yurewha::merklehash::{xorb_hash, MerkleHash};
+use yurewha::own::{Node, Session};
 
 // How many chunks a put has.
 const LENGTH: usize = 1000;

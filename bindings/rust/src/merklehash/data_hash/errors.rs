@@ -5,6 +5,7 @@ use crate::ffi;
 use crate::status::Refusal;
 use std::error::Error;
 use std::fmt;
+use std::num::ParseIntError;
 
 /// A text isn't 64 hex digits.
 #[derive(Clone, Debug, PartialEq, Eq)]
@@ -16,6 +17,7 @@ pub struct DataHashBytesParseError;
 
 /// Why a base64 text wasn't read.
 #[derive(Clone, Debug, PartialEq, Eq)]
+#[non_exhaustive]
 pub enum HashTextError {
     /// It isn't that of a hash.
     Bytes(DataHashBytesParseError),
@@ -41,6 +43,13 @@ impl fmt::Display for HashTextError {
             HashTextError::Bytes(error) => error.fmt(f),
             HashTextError::OutOfMemory => CoreError::OutOfMemory.fmt(f),
         }
+    }
+}
+
+/// For callers that read the digits of a word as a number.
+impl From<ParseIntError> for DataHashHexParseError {
+    fn from(_: ParseIntError) -> Self {
+        DataHashHexParseError
     }
 }
 

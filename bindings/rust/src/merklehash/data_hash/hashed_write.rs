@@ -1,7 +1,7 @@
 //! A writer that hashes what is written.
 
 use super::DataHash;
-use crate::merklehash::blake3::Hasher;
+use crate::own::Hasher;
 use std::io::{self, ErrorKind, Write};
 
 /// A writer that hands what it is given to an inner writer, and hashes what that one takes.
@@ -55,8 +55,7 @@ impl<W: Write> Write for HashedWrite<W> {
             return Err(ErrorKind::InvalidInput.into());
         }
         let taken = self.writer.write(slice)?;
-        let hashed = self.hasher.update(&slice[..taken.min(slice.len())]);
-        hashed.map_err(|_| ErrorKind::InvalidInput)?;
+        self.hasher.write_all(&slice[..taken.min(slice.len())])?;
         Ok(taken)
     }
 

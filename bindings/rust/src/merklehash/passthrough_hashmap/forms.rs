@@ -6,6 +6,10 @@ use serde::{Deserialize, Deserializer, Serialize, Serializer};
 use std::fmt;
 use std::hash::Hash;
 use std::marker::PhantomData;
+use std::mem::size_of;
+
+// Room is made at once for the number of pairs that a format claims, up to so many bytes: the claim may be forged.
+const MOST_BYTES: usize = 1 << 28;
 
 /// A sequence of pairs, in the order of a walk.
 impl<Key: U64HashExtractable + Serialize, Value: Serialize> Serialize for PassThroughHashMap<Key, Value> {
@@ -40,6 +44,10 @@ where
 
     fn visit_seq<A: SeqAccess<'de>>(self, mut pairs: A) -> Result<Self::Value, A::Error> {
         let mut map = PassThroughHashMap::new();
+        // Pairs that come in the order of a walk crowd in a map that grows, so that each takes long to insert. If the
+        // room is refused the map grows all the same.
+        let most = MOST_BYTES / size_of::<(Key, Value)>().max(1);
+        let _ = map.try_reserve(pairs.size_hint().unwrap_or(0).min(most));
         while let Some((key, value)) = pairs.next_element()? {
             map.insert(key, value);
         }

@@ -1,17 +1,23 @@
-use Rattle.std.proofs.Common.{arith, nat_cmp, ◌≡◌, ◌+◌, ◌<◌, length, sym, subst, ◌∙◌, ap}
-use Rattle.std.specs.Prelude.{is_some, IfSome, IfNone}
+use Rattle.std.proofs.Common.{arith, nat_cmp, ◌≡◌, ◌≢◌, ◌+◌, ◌^◌, ◌<◌, List, length, sym, subst, ◌∙◌, ap}
+use Rattle.std.specs.Prelude.{Err, Some, is_some, IfErr, IfSome, IfNone}
 use Rattle.std.proofs.lemmas.Bool.{true≢false}
 use Rattle.std.proofs.lemmas.Option.{same_Some}
 use Rattle.std.specs.BTreeMap.{is_at, insert_entry}
-use Rattle.std.specs.Map.{lookup, remove_entry, set_value}
+use Rattle.std.specs.List.Sorted.{IsStrictlySortedBy}
+use Rattle.std.specs.Map.{keys_of, lookup, remove_entry, set_value}
 use Rattle.std.proofs.lemmas.Map.Steps.{set_value_same}
+use Rattle.std.proofs.lemmas.Result.{err_from_is_err_and}
+use Rattle.xet_merkle.specs.declared.error.CoreError.TheVariants.{OutOfMemory}
 use Rattle.upload_session.specs.declared.runs.Run.{Run}
+use Rattle.upload_session.specs.Session.{PlacedRun}
 use Rattle.upload_session.specs.Steps.Neighbours.{EndsAt, NoneEndsAt, IsWithNext}
-use Rattle.upload_session.proofs.AroundEntries.{previous-some, previous-none, previous-found}
+use Rattle.upload_session.specs.Steps.OpenRuns.{IsOpen, AreOpenUpTo, sizes_of}
+use Rattle.upload_session.proofs.AroundEntries.{previous-some, previous-none, previous-found, ends-near, ends-found}
 use Rattle.upload_session.proofs.Joining.{made-with, placed-alone, placed-joined}
 use Rattle.upload_session.proofs.Neighbours.{around, run_to}
+use Rattle.upload_session.proofs.OpenRuns.{alone-open, joined-open, one-within, open_at, size-at, two-within}
 use Rattle.upload_session.proofs.Positions.{overlaps-runs}
-use Rattle.upload_session.proofs.Refusals.{at_error}
+use Rattle.upload_session.proofs.Refusals.{at_error, memory_alone}
 use Rattle.upload_session.proofs.runs.Runs.place_after_previous.Goals as goal
 use Rattle.upload_session.proofs.runs.Runs.place_after_previous.Goals.{in-Some, in-Some-get_mut+in_ok-join-in-Some, in_default, in-None+in_ok-insert-in-None}
 
@@ -37,7 +43,7 @@ returns-clause-placed g c = λ placed chunks stand some after_is free meant open
     let at = around kind first count runs placed stand (sym (overlaps-runs first count some kind runs placed stand) ∙ free) in
     let made = c.in_ok-made.made in
     let of_made = made-with kind first chunks some runs at placed stand made
-    (subst (λ n. IsWithNext kind runs n chunks made) after_is (c.in_ok-made.ensures chunks meant opens closes)) in
+    (subst (λ n. IsWithNext kind runs n chunks made) after_is (c.in_ok-made.ensures.stands chunks meant opens closes)) in
     let view = c.self.view_is in
     let test = is_at (nat_cmp after) in
     elim c.match-previous.branch [
@@ -71,4 +77,73 @@ returns-clause-placed g c = λ placed chunks stand some after_is free meant open
           ∙ ap (λ inside. remove_entry test inside.runs.entries) w.self-inside-is
           ∙ ap (remove_entry test) w.in_ok-insert-in-None.ensures.entries
           ∙ ap (λ runs. remove_entry test (insert_entry nat_cmp runs first made)) view)
+    ]
+
+pub with_next-requires-clause-room : goal.with_next-requires-clause-room
+with_next-requires-clause-room g c =
+    (c.requires.room.0, omega (arith, c.requires.room.1, one-within g.C.ChunkRange c.args.after c.args.self.now))
+
+pub returns-in_err-join-in-Some-clause-errors : goal.returns-in_err-join-in-Some-clause-errors
+returns-in_err-join-in-Some-clause-errors g c =
+    let kind = g.C.ChunkRange in
+    let runs = c.args.self.now in
+    let begin = c.in-Some.begin in
+    let after = c.args.after in
+    let run = c.in-Some-get_mut.run'.now in
+    let ends = subst (λ p. IfSome p (λ begin. EndsAt runs c.args.first begin)) c.in-Some.is c.requires.some in
+    let near = ends-near c.args.first begin runs ends in
+    let apart : begin ≢ after = λ same. omega (arith, same, near, c.requires.ahead) in
+    let is : lookup (is_at (nat_cmp begin)) runs ≡ Some run = sym (c.in-Some-get_mut.ensures.value ∙ ap (λ runs. lookup (is_at (nat_cmp begin)) runs) c.self.view_is) in
+    let fits : kind.total run.range + kind.total c.in_ok-made.made.range < 2 ^ 64 =
+    omega (arith, c.in_ok-made.ensures.total, two-within kind begin after apart runs, size-at kind begin runs (Some run) is, c.requires.room.1) in
+    let p = err_from_is_err_and c.from_residual-in_err-join-in-Some.result c.from_residual-in_err-join-in-Some.ensures.1 in
+    subst (λ answer. IfErr answer (λ e. e ≡ OutOfMemory)) (sym (p.1 ∙ ap Err p.2))
+    (memory_alone (kind.total run.range + kind.total c.in_ok-made.made.range) (Err c.in_err-join-in-Some.field-0.0) c.in_err-join-in-Some.ensures.refusals
+    ((open_at kind begin runs run c.requires.room.0 is).1, c.in_ok-made.ensures.marks.0) fits)
+
+pub returns-clause-sizes : goal.returns-clause-sizes
+returns-clause-sizes g c =
+    let kind = g.C.ChunkRange in
+    let runs = c.args.self.now in
+    let first = c.args.first in
+    let after = c.args.after in
+    let size = kind.total c.args.made in
+    let made = c.in_ok-made.made in
+    let of_made : IsOpen kind made.range = c.in_ok-made.ensures.marks in
+    let view = c.self.view_is in
+    let test = is_at (nat_cmp after) in
+    let ahead = c.requires.ahead in
+    elim c.match-previous.branch [
+      | in-Some w ↦
+          let begin = w.in-Some.begin in
+          let ends = subst (λ p. IfSome p (λ begin. EndsAt runs first begin)) w.in-Some.is c.requires.some in
+          let near = ends-near first begin runs ends in
+          let apart : after ≢ begin = λ same. omega (arith, same, near, ahead) in
+          elim w.match-get_mut.branch [
+            | in-Some-get_mut+in_ok-join-in-Some w' ↦
+                let last = w'.in-Some-get_mut.run'.now in
+                let is : lookup (is_at (nat_cmp begin)) runs ≡ Some last = sym (w'.in-Some-get_mut.ensures.value ∙ ap (λ runs. lookup (is_at (nat_cmp begin)) runs) view) in
+                let new : Run g.row.C.Denot = run_to made.end w'.join.new.self in
+                let joined = w'.in_ok-join-in-Some.ensures in
+                let of_new : IsOpen kind new.range = (joined.start ∙ (open_at kind begin runs last c.requires.room.0 is).0, joined.end ∙ of_made.1) in
+                subst (λ (now : List (PlacedRun g.row.C.Denot)). AreOpenUpTo kind (sizes_of kind runs + size) now)
+                (sym (c.remove.ensures.entries
+                ∙ ap (λ inside. remove_entry test inside.runs.entries) w.self-inside-is
+                ∙ ap (λ inside. remove_entry test inside.runs.entries) w'.self-inside-is
+                ∙ ap (remove_entry test) (w.get_mut.follows.holds new).0
+                ∙ ap (λ runs. remove_entry test (set_value (is_at (nat_cmp begin)) runs new)) view))
+                (joined-open kind runs c.requires.room.0 new of_new begin after apart last is size
+                (joined.total ∙ ap (λ n. kind.total last.range + n) c.in_ok-made.ensures.total))
+            | in_default w' ↦
+                absurd (true≢false (sym (ends-found first begin runs ends) ∙ sym (ap is_some (w'.in_default.ensures.value ∙ ap (λ runs. lookup (is_at (nat_cmp begin)) runs) view))))
+          ]
+      | in-None+in_ok-insert-in-None w ↦
+          let sorted = subst (λ (runs : List (PlacedRun g.row.C.Denot)). IsStrictlySortedBy nat_cmp (keys_of runs)) view w.in_ok-insert-in-None.ensures.was_ordered in
+          let apart : after ≢ first = λ same. omega (arith, same, ahead) in
+          subst (λ (now : List (PlacedRun g.row.C.Denot)). AreOpenUpTo kind (sizes_of kind runs + size) now)
+          (sym (c.remove.ensures.entries
+          ∙ ap (λ inside. remove_entry test inside.runs.entries) w.self-inside-is
+          ∙ ap (remove_entry test) w.in_ok-insert-in-None.ensures.entries
+          ∙ ap (λ runs. remove_entry test (insert_entry nat_cmp runs first made)) view))
+          (alone-open kind runs c.requires.room.0 made of_made first after apart sorted size c.in_ok-made.ensures.total)
     ]

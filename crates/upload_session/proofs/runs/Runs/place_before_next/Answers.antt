@@ -1,12 +1,13 @@
-use Rattle.std.proofs.Common.{arith, nat_cmp, ◌≡◌, ◌+◌, ◌<◌, ◌∷◌, ◌++◌, length, refl, sym, ap, subst, ◌∙◌}
+use Rattle.std.proofs.Common.{arith, nat_cmp, ◌≡◌, ◌≢◌, ◌+◌, ◌<◌, ◌∷◌, ◌++◌, length, refl, sym, ap, subst, ◌∙◌}
 use Rattle.std.specs.Prelude.{Option, Some, None, IfSome, IfNone, IsSome}
 use Rattle.std.specs.BTreeMap.{is_at}
 use Rattle.std.specs.Map.{lookup}
 use Rattle.std.proofs.lemmas.Bool.{true≢false}
 use Rattle.upload_session.specs.Steps.Neighbours.{EndsAt, NoneEndsAt, AreAround}
-use Rattle.upload_session.proofs.AroundEntries.{previous-some, previous-none, previous-found, next-found, around-previous, around-first}
+use Rattle.upload_session.proofs.AroundEntries.{previous-some, previous-none, previous-found, next-found, around-previous, around-first, ends-near, ends-found}
 use Rattle.upload_session.proofs.Joining.{placed-before, placed-first}
 use Rattle.upload_session.proofs.Neighbours.{around, with_run}
+use Rattle.upload_session.proofs.OpenRuns.{one-within, two-within}
 use Rattle.upload_session.proofs.Positions.{overlaps-runs}
 use Rattle.upload_session.proofs.runs.Runs.place_before_next.Goals as goal
 
@@ -59,3 +60,27 @@ returns-in_ok-begin_before_next-in-None-clause-placed g c = λ placed chunks sta
     let apart = subst (λ n. AreAround first n at.front at.back) (sym after_is) (around-first first after ahead runs at) in
     placed-first kind first chunks some runs at placed stand c.begin_before_next.new.self next c.args.made previous next_is meant opens
     (c.in_ok-begin_before_next-in-None.ensures.put at.front next at.back split apart)
+
+pub with_previous-requires-clause-room : goal.with_previous-requires-clause-room
+with_previous-requires-clause-room g c =
+    (c.requires.room.0, omega (arith, c.requires.room.1, one-within g.C.ChunkRange c.in-Some.begin c.args.self.now))
+
+pub put_before_next-requires-clause-begin : goal.put_before_next-requires-clause-begin
+put_before_next-requires-clause-begin g c =
+    ends-found c.args.first c.in-Some.begin c.args.self.now
+    (subst (λ p. IfSome p (λ begin. EndsAt c.args.self.now c.args.first begin)) c.in-Some.is c.requires.some)
+
+pub put_before_next-requires-clause-apart : goal.put_before_next-requires-clause-apart
+put_before_next-requires-clause-apart g c =
+    let ends = subst (λ p. IfSome p (λ begin. EndsAt c.args.self.now c.args.first begin)) c.in-Some.is c.requires.some in
+    let near = ends-near c.args.first c.in-Some.begin c.args.self.now ends in
+    let ahead = c.requires.ahead in
+    λ same. omega (arith, same, near, ahead)
+
+pub put_before_next-requires-clause-room : goal.put_before_next-requires-clause-room
+put_before_next-requires-clause-room g c =
+    let ends = subst (λ p. IfSome p (λ begin. EndsAt c.args.self.now c.args.first begin)) c.in-Some.is c.requires.some in
+    let near = ends-near c.args.first c.in-Some.begin c.args.self.now ends in
+    let ahead = c.requires.ahead in
+    let apart : c.in-Some.begin ≢ c.args.after = λ same. omega (arith, same, near, ahead) in
+    (c.requires.room.0, omega (arith, c.requires.room.1, c.in_ok-front-in-Some.ensures.total, two-within g.C.ChunkRange c.in-Some.begin c.args.after apart c.args.self.now))

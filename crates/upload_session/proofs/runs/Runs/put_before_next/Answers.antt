@@ -1,4 +1,4 @@
-use Rattle.std.proofs.Common.{arith, nat_cmp, ◌≡◌, ◌<◌, ℕ, List, [], ◌∷◌, ◌++◌, sym, ap, subst, ◌∙◌, append_assoc}
+use Rattle.std.proofs.Common.{arith, nat_cmp, ◌≡◌, ◌+◌, ◌<◌, ◌≤◌, ℕ, List, [], ◌∷◌, ◌++◌, sym, ap, subst, ◌∙◌, append_assoc}
 use Rattle.std.specs.Prelude.{All, Some, is_some}
 use Rattle.std.specs.BTreeMap.{is_at}
 use Rattle.std.specs.Map.{lookup, remove_entry, set_value}
@@ -9,7 +9,9 @@ use Rattle.std.proofs.lemmas.Option.{same_Some}
 use Rattle.upload_session.specs.declared.runs.Run.{Run}
 use Rattle.upload_session.specs.Session.{PlacedRun}
 use Rattle.upload_session.specs.Steps.Neighbours.{AreAround}
+use Rattle.upload_session.specs.Steps.OpenRuns.{IsOpen, AreOpen, sizes_of, size_at}
 use Rattle.upload_session.proofs.Neighbours.{run_to}
+use Rattle.upload_session.proofs.OpenRuns.{lookup-changed, lookup-removed, lookup-set, moved-open, open_at}
 use Rattle.upload_session.proofs.Refusals.{at_error}
 use Rattle.upload_session.proofs.SortedEntries.{lookup-at, set_value-at, remove-at}
 use Rattle.upload_session.proofs.runs.Runs.put_before_next.Goals as goal
@@ -74,4 +76,46 @@ returns-clause-put g c = λ others last next back is around.
             | in_default-remove v ↦ absurd (true≢false (ap is_some (sym value ∙ v.in_default-remove.is)))
           ]
       | in_default w ↦ absurd (true≢false (sym (ap is_some (w.in_default.ensures.value ∙ found))))
+    ]
+
+pub returns-clause-sizes : goal.returns-clause-sizes
+returns-clause-sizes g c =
+    let kind = g.C.ChunkRange in
+    let runs = c.args.self.now in
+    let begin = c.args.begin in
+    let after = c.args.after in
+    let test = is_at (nat_cmp after) in
+    let at_begin = is_at (nat_cmp begin) in
+    let Kept : List (PlacedRun g.row.C.Denot) → Type 0 =
+    λ now. AreOpen kind now × (sizes_of kind now + size_at kind begin runs ≤ sizes_of kind runs + kind.total c.args.front) in
+    elim c.match-get_mut.branch [
+      | in-Some+in_ok-prepend w ↦
+          let next = w.in-Some.next.now in
+          let is : lookup test runs ≡ Some next = sym (w.in-Some.ensures.value ∙ ap (λ runs. lookup test runs) c.self.view_is) in
+          let run : Run g.row.C.Denot = run_to next.end w.prepend.new.self in
+          let of_run : IsOpen kind run.range =
+          (w.in_ok-prepend.ensures.start ∙ c.requires.front.0, w.in_ok-prepend.ensures.end ∙ (open_at kind after runs next c.requires.room.0 is).1) in
+          let changed : c.match-get_mut.self-inside.runs.entries ≡ set_value test runs run =
+          ap (λ inside. inside.runs.entries) w.self-inside-is ∙ (c.get_mut.follows.holds run).0 ∙ ap (λ runs. set_value test runs run) c.self.view_is in
+          let rest = remove_entry test (set_value test runs run) in
+          let removed : c.remove.new.self.entries ≡ rest = c.remove.ensures.entries ∙ ap (λ runs. remove_entry test runs) changed in
+          let value : c.remove.result ≡ Some run = c.remove.ensures.value ∙ ap (λ runs. lookup test runs) changed ∙ lookup-changed after runs next run is in
+          elim c.match-remove.branch [
+            | in-Some-remove+in-Some-get_mut v ↦
+                let taken : v.in-Some-remove.next ≡ run = same_Some _ _ (sym v.in-Some-remove.is ∙ value) in
+                let final : c.match-remove.self ≡ set_value at_begin rest run =
+                v.self-is ∙ (v.get_mut-in-Some-remove.follows.holds v.in-Some-remove.next).0
+                ∙ ap (λ runs. set_value at_begin runs v.in-Some-remove.next) removed
+                ∙ ap (λ (run : Run g.row.C.Denot). set_value at_begin rest run) taken in
+                let last = v.in-Some-get_mut.run'.now in
+                let there : lookup at_begin rest ≡ Some last = sym (v.in-Some-get_mut.ensures.value ∙ ap (λ runs. lookup at_begin runs) removed) in
+                subst Kept (sym final)
+                (moved-open kind runs c.requires.room.0 run of_run begin after c.requires.apart next is (kind.total c.args.front) w.in_ok-prepend.ensures.total last there)
+            | in-Some-remove+in_default-get_mut v ↦
+                absurd (true≢false (sym c.requires.begin
+                ∙ ap is_some (sym (lookup-removed begin after c.requires.apart (set_value test runs run) ∙ lookup-set begin after c.requires.apart runs run)
+                ∙ ap (λ runs. lookup at_begin runs) (sym removed) ∙ sym v.in_default-get_mut.ensures.value)))
+            | in_default-remove v ↦ absurd (true≢false (ap is_some (sym value ∙ v.in_default-remove.is)))
+          ]
+      | in_default w ↦ absurd (true≢false (sym c.requires.next ∙ sym (ap is_some (w.in_default.ensures.value ∙ ap (λ runs. lookup test runs) c.self.view_is))))
     ]

@@ -1,6 +1,7 @@
 use Rattle.std.proofs.Common.{arith, ◌≤◌, [], ◌∷◌, List, length, sym, subst, ◌∙◌, ap}
 use Rattle.std.specs.Prelude.{slice_get}
 use Rattle.upload_session.specs.Session.{Placed, PlacedRun, StandFor}
+use Rattle.upload_session.proofs.OpenRuns.{first_open}
 use Rattle.upload_session.proofs.Whole.{only, of-one, one-whole, whole-first}
 use Rattle.upload_session.proofs.runs.Runs.whole_range.Given.{Over}
 use Rattle.upload_session.proofs.runs.Runs.whole_range.Goals as goal
@@ -38,3 +39,8 @@ returns-clause-range g c = λ placed stand.
     let (_, of_run) = of-one g.C.ChunkRange (c.in-Some.first.now, c.in-Some.run'.now) placed
     (of_first g c placed stand) in
     (of_run.2, of_run.0)
+
+pub returns-clause-marks : goal.returns-clause-marks
+returns-clause-marks g c =
+    first_open g.C.ChunkRange c.args.self.now (c.in-Some.first.now, c.in-Some.run'.now) c.requires
+    (ap (λ (runs : List (PlacedRun g.row.C.Denot)). slice_get runs 0) (sym c.self.view_is) ∙ c.in-Some.ensures.first)

@@ -1,0 +1,102 @@
+"""What the processor can do, and which library that asks for.
+
+The compiled libraries are for levels of x86-64, as its ABI names them. On a processor below its level a library ends the
+process by an illegal instruction, so the package looks before it loads one.
+"""
+
+from __future__ import annotations
+
+import ctypes
+import platform
+from typing import Any, Dict, FrozenSet, List, Optional, Tuple
+
+#: Where glibc tells each flag: the number that it has for the leaf of `cpuid`, the register from eax on, and the bit.
+_PLACES: Dict[str, Tuple[int, int, int]] = {
+    "pni": (0, 2, 0),
+    "ssse3": (0, 2, 9),
+    "fma": (0, 2, 12),
+    "cx16": (0, 2, 13),
+    "sse4_1": (0, 2, 19),
+    "sse4_2": (0, 2, 20),
+    "movbe": (0, 2, 22),
+    "popcnt": (0, 2, 23),
+    "xsave": (0, 2, 27),  # as the system has switched it on, which AVX needs
+    "avx": (0, 2, 28),
+    "f16c": (0, 2, 29),
+    "bmi1": (1, 1, 3),
+    "avx2": (1, 1, 5),
+    "bmi2": (1, 1, 8),
+    "lahf_lm": (2, 2, 0),
+    "abm": (2, 2, 5),
+}
+
+_V2 = ("cx16", "lahf_lm", "pni", "popcnt", "sse4_1", "sse4_2", "ssse3")
+_V3 = ("abm", "avx", "avx2", "bmi1", "bmi2", "f16c", "fma", "movbe", "xsave")
+
+
+class _Leaf(ctypes.Structure):
+    _fields_ = [("cpuid", ctypes.c_uint32 * 4), ("active", ctypes.c_uint32 * 4)]
+
+
+def _flags_of_the_kernel() -> Optional[FrozenSet[str]]:
+    """The flags in /proc/cpuinfo, or None where it can't be read."""
+    try:
+        with open("/proc/cpuinfo", encoding="ascii", errors="replace") as lines:
+            for line in lines:
+                if line.startswith("flags"):
+                    return frozenset(line.partition(":")[2].split())
+    except OSError:
+        pass
+    return None
+
+
+def _flags_of_glibc() -> Optional[FrozenSet[str]]:
+    """The flags that glibc asked the processor for, or None before glibc 2.33. Under an emulator these alone are right."""
+    try:
+        leaf: Any = ctypes.CDLL(None)["__x86_get_cpuid_feature_leaf"]
+    except (AttributeError, OSError):
+        return None
+    leaf.restype, leaf.argtypes = ctypes.POINTER(_Leaf), [ctypes.c_uint32]
+    leaves = [leaf(number).contents for number in range(3)]
+    return frozenset(
+        name for name, (number, register, bit) in _PLACES.items() if leaves[number].cpuid[register] >> bit & 1)
+
+
+def flags() -> Optional[FrozenSet[str]]:
+    """The flags of the processor that the kernel and glibc both know of, or None where neither says any.
+
+    >>> flags() is None or "avx512_made_up" not in flags()
+    True
+    """
+    told = [found for found in (_flags_of_the_kernel(), _flags_of_glibc()) if found is not None]
+    if not told:
+        return None
+    return frozenset.intersection(*told)
+
+
+def lacking(flags_: Optional[FrozenSet[str]]) -> List[str]:
+    """What a processor with these flags lacks of the level x86-64-v2, without which no library runs.
+
+    >>> lacking(frozenset({"cx16", "lahf_lm", "pni", "popcnt", "ssse3"}))
+    ['sse4_1', 'sse4_2']
+    >>> lacking(None)
+    []
+    """
+    if flags_ is None:
+        return []
+    return [name for name in _V2 if name not in flags_]
+
+
+def level() -> str:
+    """The level of the processor that libraries are made for: `x86-64-v3`, `x86-64-v2`, or its name on other machines.
+
+    >>> level() != ""
+    True
+    """
+    machine = platform.machine()
+    if machine != "x86_64":
+        return machine
+    found = flags()
+    if lacking(found):
+        return "x86-64"
+    return "x86-64-v3" if found is not None and found.issuperset(_V3) else "x86-64-v2"

@@ -1,0 +1,21 @@
+//! What the Rust crate doesn't have: sessions, a hasher that takes a message in pieces, and calls that return a
+//! [`Result`](crate::error::Result) in place of a panic.
+//!
+//! These items stand here so that a glob of [`merklehash`](crate::merklehash) brings in the names of the Rust crate
+//! and no others. Import them by name.
+
+use crate::merklehash::data_hash::MerkleHash;
+
+mod hasher;
+mod roots;
+mod session;
+mod stable_points;
+
+pub use crate::merklehash::data_hash::errors::HashTextError;
+pub use hasher::Hasher;
+pub use roots::{try_file_hash, try_file_hash_with_salt, try_xorb_hash};
+pub use session::{Session, SessionFault};
+pub use stable_points::{try_find_stable_end, try_find_stable_start};
+
+/// A chunk, or any other node of the tree: its hash, and its size in bytes.
+pub type Node = (MerkleHash, u64);

@@ -1,0 +1,249 @@
+//! Keyed BLAKE3 of a message that comes in pieces.
+
+use crate::error::Result;
+use crate::ffi;
+use crate::merklehash::data_hash::DataHash;
+use crate::status::{answer, given, plain};
+use std::io::{self, ErrorKind, Read, Write};
+use std::{fmt, ptr};
+
+/// A hasher that takes a message in pieces, also as a writer. It takes no memory; a clone copies its state, which has
+/// about two kilobytes.
+///
+/// ```
+/// use yurewha::merklehash::compute_data_hash;
+/// use yurewha::own::Hasher;
+///
+/// let mut hasher = Hasher::new_data();
+/// hasher.update(b"some ");
+/// let mut other = hasher.clone();
+/// assert_eq!(hasher.update(b"data").finalize(), compute_data_hash(b"some data"));
+/// assert_eq!(other.update(b"more").finalize(), compute_data_hash(b"some more"));
+/// ```
+#[derive(Clone)]
+pub struct Hasher {
+    state: ffi::yurewha_hasher,
+    key: Key,
+}
+
+// What a hasher is begun with.
+#[derive(Clone, Copy)]
+enum Key {
+    Data,
+    InternalNode,
+    Own([u8; 32]),
+}
+
+// How many bytes `update_reader` reads at once.
+const PIECE: usize = 16 * 1024;
+
+impl Hasher {
+    /// A hasher of the empty message that gives what [`compute_data_hash`](crate::merklehash::compute_data_hash) does.
+    ///
+    /// ```
+    /// use yurewha::merklehash::compute_data_hash;
+    /// use yurewha::own::Hasher;
+    ///
+    /// assert_eq!(Hasher::new_data().finalize(), compute_data_hash(b""));
+    /// ```
+    pub fn new_data() -> Self {
+        Self::begun(Key::Data)
+    }
+
+    /// A hasher of the empty message that gives what
+    /// [`compute_internal_node_hash`](crate::merklehash::compute_internal_node_hash) does.
+    ///
+    /// ```
+    /// use yurewha::merklehash::compute_internal_node_hash;
+    /// use yurewha::own::Hasher;
+    ///
+    /// assert_eq!(Hasher::new_internal_node().finalize(), compute_internal_node_hash(b""));
+    /// ```
+    pub fn new_internal_node() -> Self {
+        Self::begun(Key::InternalNode)
+    }
+
+    /// A hasher of the empty message under a key.
+    ///
+    /// ```
+    /// use yurewha::merklehash::DataHash;
+    /// use yurewha::own::Hasher;
+    ///
+    /// let (hash, key) = (DataHash::random_from_seed(1), DataHash::random_from_seed(2));
+    /// let mut hasher = Hasher::new_keyed(&key.into());
+    /// assert_eq!(hasher.update(hash.as_bytes()).finalize(), hash.hmac(key));
+    /// ```
+    pub fn new_keyed(key: &[u8; 32]) -> Self {
+        Self::begun(Key::Own(*key))
+    }
+
+    fn begun(key: Key) -> Self {
+        let mut state = ffi::yurewha_hasher::ROOM;
+        // SAFETY: a hasher to write to, and 32 bytes, as the header's struct has them.
+        unsafe {
+            match &key {
+                Key::Data => ffi::yurewha_hasher_begin_data(&mut state),
+                Key::InternalNode => ffi::yurewha_hasher_begin_internal(&mut state),
+                Key::Own(key) => ffi::yurewha_hasher_begin_keyed(&mut state, ptr::from_ref(key).cast()),
+            }
+        }
+        Hasher { state, key }
+    }
+
+    /// Goes back to the empty message, under the same key.
+    ///
+    /// ```
+    /// use yurewha::merklehash::compute_data_hash;
+    /// use yurewha::own::Hasher;
+    ///
+    /// let mut hasher = Hasher::new_data();
+    /// hasher.update(b"another message");
+    /// assert_eq!(hasher.reset().update(b"some data").finalize(), compute_data_hash(b"some data"));
+    /// ```
+    pub fn reset(&mut self) -> &mut Self {
+        *self = Self::begun(self.key);
+        self
+    }
+
+    /// How many bytes the message has.
+    ///
+    /// ```
+    /// use yurewha::own::Hasher;
+    ///
+    /// assert_eq!(Hasher::new_data().update(b"some ").count(), 5);
+    /// ```
+    pub fn count(&self) -> u64 {
+        // SAFETY: a hasher that was begun.
+        unsafe { ffi::yurewha_hasher_count(&self.state) }
+    }
+
+    /// Whether the message would have at most `u64::MAX` bytes with a piece of this length.
+    ///
+    /// ```
+    /// use yurewha::own::Hasher;
+    ///
+    /// assert!(Hasher::new_data().has_room(1 << 20));
+    /// ```
+    pub fn has_room(&self, length: usize) -> bool {
+        u64::try_from(length).is_ok_and(|length| self.count().checked_add(length).is_some())
+    }
+
+    /// Adds a piece to the message.
+    ///
+    /// ```
+    /// use yurewha::merklehash::compute_data_hash;
+    /// use yurewha::own::Hasher;
+    ///
+    /// let hash = Hasher::new_data().update(b"some ").update(b"data").finalize();
+    /// assert_eq!(hash, compute_data_hash(b"some data"));
+    /// ```
+    ///
+    /// # Panics
+    ///
+    /// If the message would have more than `u64::MAX` bytes; see [`try_update`](Self::try_update).
+    #[track_caller]
+    pub fn update(&mut self, piece: &[u8]) -> &mut Self {
+        plain("Hasher::update", self.try_update(piece))
+    }
+
+    /// [`update`](Self::update), refused with [`SizeOverflow`](crate::error::CoreError::SizeOverflow) if the message
+    /// would have more than `u64::MAX` bytes. It is as it was then.
+    ///
+    /// ```
+    /// use yurewha::merklehash::compute_data_hash;
+    /// use yurewha::own::Hasher;
+    ///
+    /// let mut hasher = Hasher::new_data();
+    /// assert_eq!(hasher.try_update(b"some data")?.finalize(), compute_data_hash(b"some data"));
+    /// # Ok::<(), yurewha::error::CoreError>(())
+    /// ```
+    pub fn try_update(&mut self, piece: &[u8]) -> Result<&mut Self> {
+        // SAFETY: a hasher that was begun, and bytes of their length.
+        answer(|(): &mut ()| unsafe { ffi::yurewha_hasher_update(&mut self.state, piece.as_ptr(), piece.len()) })?;
+        Ok(self)
+    }
+
+    /// Adds what a reader gives up to its end. A read that was interrupted is repeated.
+    ///
+    /// ```
+    /// use yurewha::merklehash::compute_data_hash;
+    /// use yurewha::own::Hasher;
+    ///
+    /// let mut hasher = Hasher::new_data();
+    /// assert_eq!(hasher.update_reader(&b"some data"[..])?.finalize(), compute_data_hash(b"some data"));
+    /// # Ok::<(), std::io::Error>(())
+    /// ```
+    ///
+    /// # Errors
+    ///
+    /// That of the reader, or [`InvalidInput`](ErrorKind::InvalidInput) if the message would have more than `u64::MAX`
+    /// bytes. The message has what was read before.
+    pub fn update_reader(&mut self, mut reader: impl Read) -> io::Result<&mut Self> {
+        let mut piece = [0; PIECE];
+        loop {
+            match reader.read(&mut piece) {
+                Ok(0) => return Ok(self),
+                Ok(length) => self.write_all(&piece[..length])?,
+                Err(error) if error.kind() == ErrorKind::Interrupted => {}
+                Err(error) => return Err(error),
+            }
+        }
+    }
+
+    /// The keyed hash of the message. The hasher can go on.
+    ///
+    /// ```
+    /// use yurewha::own::Hasher;
+    ///
+    /// let mut hasher = Hasher::new_data();
+    /// let empty = hasher.finalize();
+    /// assert_ne!(hasher.update(b"some data").finalize(), empty);
+    /// ```
+    pub fn finalize(&self) -> DataHash {
+        // SAFETY: a hasher that was begun, and a hash to write to.
+        given(|hash: &mut DataHash| unsafe { ffi::yurewha_hasher_finalize(&self.state, hash.out()) })
+    }
+}
+
+impl Write for Hasher {
+    /// Adds the whole piece, or fails with [`InvalidInput`](ErrorKind::InvalidInput) if the message would have more than
+    /// `u64::MAX` bytes.
+    fn write(&mut self, piece: &[u8]) -> io::Result<usize> {
+        self.try_update(piece).map_err(|_| ErrorKind::InvalidInput)?;
+        Ok(piece.len())
+    }
+
+    fn flush(&mut self) -> io::Result<()> {
+        Ok(())
+    }
+}
+
+/// The number of bytes alone: the rest would show the key.
+impl fmt::Debug for Hasher {
+    fn fmt(&self, f: &mut fmt::Formatter<'_>) -> fmt::Result {
+        f.debug_struct("Hasher")
+            .field("count", &self.count())
+            .finish_non_exhaustive()
+    }
+}
+
+#[cfg(test)]
+mod tests {
+    use super::*;
+    use crate::error::CoreError;
+    use std::panic::{catch_unwind, AssertUnwindSafe};
+
+    #[test]
+    fn a_message_past_the_greatest_length_is_refused_and_left_as_it_was() {
+        let mut hasher = Hasher::new_data();
+        hasher.state.count = u64::MAX - 5;
+        assert!(hasher.has_room(5) && !hasher.has_room(6));
+        assert_eq!(hasher.try_update(&[0; 6]).err(), Some(CoreError::SizeOverflow));
+        assert_eq!(hasher.write(&[0; 6]).unwrap_err().kind(), ErrorKind::InvalidInput);
+        let error = hasher.update_reader(&[0; 6][..]).unwrap_err();
+        assert_eq!(error.kind(), ErrorKind::InvalidInput);
+        let panic = catch_unwind(AssertUnwindSafe(|| _ = hasher.update(&[0; 6]))).unwrap_err();
+        assert_eq!(panic.downcast_ref::<String>().unwrap(), "Hasher::update: size overflow");
+        assert_eq!(hasher.count(), u64::MAX - 5);
+    }
+}

@@ -1,0 +1,395 @@
+//! Upload sessions: the chunks of a file by their positions, which come in any order.
+
+use super::Node;
+use crate::error::Result;
+use crate::ffi;
+use crate::handle::Owned;
+use crate::lent_chunks::{lend, room};
+use crate::merklehash::data_hash::MerkleHash;
+use crate::merklehash::merkle_hash_subtree::MerkleHashSubtree;
+use crate::status::{answer, looked_up, plain, told, Refusal};
+use std::fmt;
+use std::ops::Range;
+use std::sync::MutexGuard;
+
+/// Why a call of a session was refused, the least reason first. After a refusal nothing has changed.
+///
+/// ```
+/// use yurewha::own::SessionFault;
+///
+/// assert_eq!(SessionFault::Overlap.to_string(), "a position is taken");
+/// ```
+#[derive(Clone, Copy, Debug, PartialEq, Eq)]
+#[non_exhaustive]
+pub enum SessionFault {
+    /// A position is taken.
+    Overlap,
+    /// The first position plus the number of chunks passes `u64::MAX`.
+    Positions,
+    /// The sizes of all chunks add up to more than `u64::MAX` bytes.
+    Sizes,
+    /// An allocation was refused.
+    Memory,
+    /// The positions taken aren't exactly those below the total.
+    Gap,
+}
+
+impl fmt::Display for SessionFault {
+    fn fmt(&self, f: &mut fmt::Formatter<'_>) -> fmt::Result {
+        f.write_str(match self {
+            SessionFault::Overlap => "a position is taken",
+            SessionFault::Positions => "positions past 2^64 - 1",
+            SessionFault::Sizes => "sizes past 2^64 - 1",
+            SessionFault::Memory => "out of memory",
+            SessionFault::Gap => "a position isn't taken, or one is past the total",
+        })
+    }
+}
+
+impl std::error::Error for SessionFault {}
+
+impl Refusal for SessionFault {
+    fn of(status: ffi::yurewha_status) -> Option<Self> {
+        match status {
+            ffi::YUREWHA_SESSION_OVERLAP => Some(SessionFault::Overlap),
+            ffi::YUREWHA_SESSION_POSITIONS => Some(SessionFault::Positions),
+            ffi::YUREWHA_SESSION_SIZES => Some(SessionFault::Sizes),
+            ffi::YUREWHA_SESSION_MEMORY => Some(SessionFault::Memory),
+            ffi::YUREWHA_SESSION_GAP => Some(SessionFault::Gap),
+            _ => None,
+        }
+    }
+}
+
+/// A session: ranges of a file's chunks that come in any order, joined as they become adjacent, and the hashes among
+/// them.
+///
+/// ```
+/// use yurewha::merklehash::{file_hash, MerkleHash};
+/// use yurewha::own::{Session, SessionFault};
+///
+/// let [first, second, third] = [1, 2, 3].map(|seed| (MerkleHash::random_from_seed(seed), 100));
+/// let mut session = Session::new();
+/// assert_eq!(session.put(2, &[third]), Ok(1)); // one hash that is new
+/// assert_eq!(session.put(0, &[first, second]), Ok(2));
+/// assert_eq!(session.put(1, &[third]), Err(SessionFault::Overlap)); // nothing has changed
+/// assert_eq!(session.put(4, &[third]), Ok(0)); // its hash was seen
+/// assert_eq!(session.finish(4), Err(SessionFault::Gap));
+/// assert_eq!(session.put(3, &[first]), Ok(0));
+/// assert_eq!(session.finish(5), Ok(file_hash(&[first, second, third, first, third])));
+/// ```
+///
+/// A session can't be cloned or written: the library has no call that copies one, or that lists its hashes.
+///
+/// Threads may share a session. Those that look at one at once take turns, each for the time of a call.
+pub struct Session {
+    handle: Owned<ffi::yurewha_session>,
+    total_size: u64,
+}
+
+impl Session {
+    /// A session without chunks.
+    ///
+    /// ```
+    /// use yurewha::merklehash::MerkleHash;
+    /// use yurewha::own::Session;
+    ///
+    /// assert_eq!(Session::new().finish(0), Ok(MerkleHash::default()));
+    /// ```
+    ///
+    /// # Panics
+    ///
+    /// Where memory is refused; see [`try_new`](Self::try_new).
+    #[track_caller]
+    pub fn new() -> Self {
+        plain("Session::new", Self::try_new())
+    }
+
+    /// [`new`](Self::new), refused where memory is.
+    ///
+    /// ```
+    /// use yurewha::own::Session;
+    ///
+    /// assert_eq!(Session::try_new()?.num_runs(), 0);
+    /// # Ok::<(), yurewha::error::CoreError>(())
+    /// ```
+    pub fn try_new() -> Result<Self> {
+        // SAFETY: an empty handle to write to.
+        let handle = answer(|made: &mut Owned<_>| unsafe { ffi::yurewha_session_new(made.get_mut()) })?;
+        Ok(Session { handle, total_size: 0 })
+    }
+
+    // The handle, for one call.
+    fn lock(&self) -> MutexGuard<'_, ffi::yurewha_session> {
+        self.handle.lock()
+    }
+
+    /// Places chunks at the positions from `first` on, and tells how many hashes among them no earlier accepted put
+    /// had, each counted once. Without a chunk it tells 0 and changes nothing.
+    ///
+    /// ```
+    /// use yurewha::merklehash::MerkleHash;
+    /// use yurewha::own::Session;
+    ///
+    /// let chunk = (MerkleHash::random_from_seed(1), 100);
+    /// let mut session = Session::new();
+    /// assert_eq!(session.put(7, &[chunk; 3]), Ok(1));
+    /// assert_eq!(session.put(0, &[chunk]), Ok(0));
+    /// ```
+    ///
+    /// # Errors
+    ///
+    /// - [`Overlap`](SessionFault::Overlap) where one of the positions is taken
+    /// - else [`Positions`](SessionFault::Positions) where `first` plus the number of chunks passes `u64::MAX`
+    /// - else [`Sizes`](SessionFault::Sizes) where the sizes of all chunks add up to more than `u64::MAX`
+    /// - [`Memory`](SessionFault::Memory)
+    pub fn put(&mut self, first: u64, chunks: &[Node]) -> std::result::Result<u64, SessionFault> {
+        let chunks = lend(chunks).map_err(|_| SessionFault::Memory)?;
+        // SAFETY: a handle, chunks of their number, and a number to write to.
+        let new_hashes = answer(|new_hashes| unsafe {
+            ffi::yurewha_session_put(self.handle.get_mut(), first, chunks.as_ptr(), chunks.len(), new_hashes)
+        })?;
+        // The library refuses sizes that pass `u64::MAX` in all.
+        self.total_size += chunks.iter().map(|chunk| chunk.size).sum::<u64>();
+        Ok(new_hashes)
+    }
+
+    /// The sum of the sizes of the chunks that were placed, in bytes.
+    ///
+    /// ```
+    /// use yurewha::merklehash::MerkleHash;
+    /// use yurewha::own::Session;
+    ///
+    /// let mut session = Session::new();
+    /// session.put(7, &[(MerkleHash::default(), 100); 3])?;
+    /// assert_eq!(session.total_size(), 300);
+    /// # Ok::<(), yurewha::own::SessionFault>(())
+    /// ```
+    pub fn total_size(&self) -> u64 {
+        self.total_size
+    }
+
+    /// Whether a position is taken.
+    ///
+    /// ```
+    /// use yurewha::merklehash::MerkleHash;
+    /// use yurewha::own::Session;
+    ///
+    /// let mut session = Session::new();
+    /// session.put(7, &[(MerkleHash::default(), 100)])?;
+    /// assert!(session.taken(7) && !session.taken(8));
+    /// # Ok::<(), yurewha::own::SessionFault>(())
+    /// ```
+    pub fn taken(&self, position: u64) -> bool {
+        // SAFETY: a handle, and a truth value to write to.
+        told(|taken| unsafe { ffi::yurewha_session_taken(&mut *self.lock(), position, taken) })
+    }
+
+    /// How many runs of adjacent positions are taken.
+    ///
+    /// ```
+    /// use yurewha::merklehash::MerkleHash;
+    /// use yurewha::own::Session;
+    ///
+    /// let chunk = (MerkleHash::default(), 100);
+    /// let mut session = Session::new();
+    /// session.put(7, &[chunk; 2])?;
+    /// session.put(0, &[chunk; 2])?;
+    /// assert_eq!(session.num_runs(), 2);
+    /// # Ok::<(), yurewha::own::SessionFault>(())
+    /// ```
+    pub fn num_runs(&self) -> usize {
+        // SAFETY: a handle, and a number to write to.
+        told(|count| unsafe { ffi::yurewha_session_num_runs(&mut *self.lock(), count) })
+    }
+
+    /// The first position of a run, and a copy of the subtree of its chunks, which is open at both ends. Runs are
+    /// counted from 0 by rising position; `None` where there is no such run. The time is in proportion to the index.
+    ///
+    /// ```
+    /// use yurewha::merklehash::MerkleHash;
+    /// use yurewha::own::Session;
+    ///
+    /// let mut session = Session::new();
+    /// session.put(7, &[(MerkleHash::default(), 100); 2])?;
+    /// let (first, range) = session.range(0).unwrap();
+    /// assert_eq!((first, range.total_size()), (7, 200));
+    /// assert!(session.range(1).is_none());
+    /// # Ok::<(), yurewha::own::SessionFault>(())
+    /// ```
+    ///
+    /// # Panics
+    ///
+    /// Where memory is refused; see [`try_range`](Self::try_range).
+    #[track_caller]
+    pub fn range(&self, index: usize) -> Option<(u64, MerkleHashSubtree)> {
+        plain("Session::range", self.try_range(index))
+    }
+
+    /// [`range`](Self::range), refused where memory is.
+    ///
+    /// ```
+    /// use yurewha::own::Session;
+    ///
+    /// assert!(Session::new().try_range(0)?.is_none());
+    /// # Ok::<(), yurewha::error::CoreError>(())
+    /// ```
+    pub fn try_range(&self, index: usize) -> Result<Option<(u64, MerkleHashSubtree)>> {
+        // SAFETY: a handle, a number to write to, and an empty handle to write to.
+        let run = looked_up(|(first, range): &mut (u64, Owned<_>)| unsafe {
+            ffi::yurewha_session_run(&mut *self.lock(), index, first, range.get_mut())
+        })?;
+        Ok(run.map(|(first, range)| (first, MerkleHashSubtree::of(range))))
+    }
+
+    /// All runs by rising position, each as [`range`](Self::range) returns it. The time of a walk grows with the square of
+    /// the number of runs.
+    ///
+    /// ```
+    /// use yurewha::merklehash::MerkleHash;
+    /// use yurewha::own::Session;
+    ///
+    /// let chunk = (MerkleHash::default(), 100);
+    /// let mut session = Session::new();
+    /// session.put(7, &[chunk; 2])?;
+    /// session.put(0, &[chunk; 3])?;
+    /// let sizes: Vec<_> = session.runs().map(|(first, range)| (first, range.total_size())).collect();
+    /// assert_eq!(sizes, [(0, 300), (7, 200)]);
+    /// # Ok::<(), yurewha::own::SessionFault>(())
+    /// ```
+    ///
+    /// # Panics
+    ///
+    /// Where memory is refused.
+    pub fn runs(&self) -> impl ExactSizeIterator<Item = (u64, MerkleHashSubtree)> + '_ {
+        (0..self.num_runs()).map(|index| self.range(index).expect("a run that was counted"))
+    }
+
+    /// The ranges of positions below `total` that aren't taken, by rising position. The time grows with the square of the
+    /// number of runs, since the library finds a run by its index alone.
+    ///
+    /// ```
+    /// use yurewha::merklehash::MerkleHash;
+    /// use yurewha::own::Session;
+    ///
+    /// let chunk = (MerkleHash::default(), 100);
+    /// let mut session = Session::new();
+    /// session.put(7, &[chunk; 2])?;
+    /// session.put(1, &[chunk; 3])?;
+    /// assert_eq!(session.gaps(12)?, [0..1, 4..7, 9..12]);
+    /// # Ok::<(), Box<dyn std::error::Error>>(())
+    /// ```
+    ///
+    /// # Errors
+    ///
+    /// [`OutOfMemory`](crate::error::CoreError::OutOfMemory)
+    pub fn gaps(&self, total: u64) -> Result<Vec<Range<u64>>> {
+        let mut gaps = room(self.num_runs() + 1)?;
+        let mut run_before = None;
+        for index in 0..=self.num_runs() {
+            let next = self.try_range(index)?.map_or(total, |(first, _)| first.min(total));
+            let begin = run_before.map_or(0, |first| self.end_of_run(first, next));
+            if begin < next {
+                gaps.push(begin..next);
+            }
+            run_before = Some(next);
+        }
+        Ok(gaps)
+    }
+
+    // The end of the run that begins at `first`, or `bound`, before which no other run begins.
+    fn end_of_run(&self, first: u64, bound: u64) -> u64 {
+        let (mut taken, mut free) = (first, bound);
+        while free - taken > 1 {
+            let middle = taken + (free - taken) / 2;
+            if self.taken(middle) {
+                taken = middle;
+            } else {
+                free = middle;
+            }
+        }
+        free
+    }
+
+    /// The root of all chunks by position.
+    ///
+    /// ```
+    /// use yurewha::merklehash::{xorb_hash, MerkleHash};
+    /// use yurewha::own::Session;
+    ///
+    /// let chunks = [1, 2, 3].map(|seed| (MerkleHash::random_from_seed(seed), 100));
+    /// let mut session = Session::new();
+    /// session.put(0, &chunks)?;
+    /// assert_eq!(session.root(3), Ok(xorb_hash(&chunks)));
+    /// # Ok::<(), yurewha::own::SessionFault>(())
+    /// ```
+    ///
+    /// # Errors
+    ///
+    /// [`Gap`](SessionFault::Gap) exactly where the positions taken aren't those from 0 to `total` - 1, and
+    /// [`Memory`](SessionFault::Memory)
+    pub fn root(&self, total: u64) -> std::result::Result<MerkleHash, SessionFault> {
+        // SAFETY: a handle, and a hash to write to.
+        answer(|root: &mut MerkleHash| unsafe { ffi::yurewha_session_root(&mut *self.lock(), total, root.out()) })
+    }
+
+    /// The file hash of all chunks by position, without a salt.
+    ///
+    /// ```
+    /// use yurewha::merklehash::{file_hash, MerkleHash};
+    /// use yurewha::own::Session;
+    ///
+    /// let chunks = [1, 2, 3].map(|seed| (MerkleHash::random_from_seed(seed), 100));
+    /// let mut session = Session::new();
+    /// session.put(1, &chunks[1..])?;
+    /// session.put(0, &chunks[..1])?;
+    /// assert_eq!(session.finish(3), Ok(file_hash(&chunks)));
+    /// # Ok::<(), yurewha::own::SessionFault>(())
+    /// ```
+    ///
+    /// # Errors
+    ///
+    /// As of [`root`](Self::root)
+    pub fn finish(&self, total: u64) -> std::result::Result<MerkleHash, SessionFault> {
+        // SAFETY: a handle, and a hash to write to.
+        answer(|hash: &mut MerkleHash| unsafe { ffi::yurewha_session_finish(&mut *self.lock(), total, hash.out()) })
+    }
+}
+
+impl Default for Session {
+    /// A session without chunks.
+    #[track_caller]
+    fn default() -> Self {
+        Self::new()
+    }
+}
+
+/// The number of runs.
+impl fmt::Debug for Session {
+    fn fmt(&self, f: &mut fmt::Formatter<'_>) -> fmt::Result {
+        f.debug_struct("Session")
+            .field("num_runs", &self.num_runs())
+            .finish_non_exhaustive()
+    }
+}
+
+#[cfg(test)]
+mod tests {
+    use super::*;
+
+    #[test]
+    fn each_status_has_its_fault() {
+        let faults = [
+            SessionFault::Overlap,
+            SessionFault::Positions,
+            SessionFault::Sizes,
+            SessionFault::Memory,
+            SessionFault::Gap,
+        ];
+        let statuses = ffi::YUREWHA_SESSION_OVERLAP..=ffi::YUREWHA_SESSION_GAP;
+        assert!(statuses.map(SessionFault::of).eq(faults.map(Some)));
+        for status in [ffi::YUREWHA_MEMORY, ffi::YUREWHA_EMPTY_HANDLE, 32, 38] {
+            assert_eq!(SessionFault::of(status), None);
+        }
+    }
+}

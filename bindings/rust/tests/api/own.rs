@@ -1,0 +1,100 @@
+//! What the Rust crate doesn't have, and that it stands in nobody's way.
+
+use yurewha::error::{CoreError, Result};
+use yurewha::merklehash::{self, MerkleHash, MerkleHashSubtree as Subtree};
+use yurewha::own;
+
+type Pairs<'a> = &'a [own::Node];
+type Point = Result<Option<usize>>;
+
+#[test]
+fn own_items_have_their_signatures() {
+    let _: [fn(Pairs) -> Result<MerkleHash>; 2] = [own::try_xorb_hash, own::try_file_hash];
+    let _: fn(Pairs, &[u8; 32]) -> Result<MerkleHash> = own::try_file_hash_with_salt;
+    let _: [fn(Pairs) -> Point; 2] = [own::try_find_stable_start, own::try_find_stable_end];
+    let _: fn(bool, Pairs, bool) -> Result<Subtree> = Subtree::try_from_chunks;
+    let _: fn(&Subtree) -> Result<Subtree> = Subtree::try_clone;
+    let _: [fn(&Subtree) -> bool; 2] = [Subtree::at_start, Subtree::at_end];
+    let _: fn(&mut Subtree, &Subtree) -> Result<u64> = Subtree::merge_into_counted;
+    let _: fn(&Subtree) -> u64 = Subtree::total_size;
+    let _: fn(&Subtree) -> Result<String> = Subtree::to_json;
+    let _: fn(&str) -> Result<Subtree> = Subtree::from_json;
+}
+
+#[test]
+fn errors_and_subtrees_can_be_compared() {
+    fn error<T: std::error::Error + Clone + PartialEq + Send + Sync + 'static>() {}
+    error::<CoreError>();
+    error::<own::HashTextError>();
+    error::<own::SessionFault>();
+    error::<merklehash::DataHashHexParseError>();
+    error::<merklehash::DataHashBytesParseError>();
+    fn subtree<T: PartialEq + Eq>() {}
+    subtree::<Subtree>();
+}
+
+// Names of a user's own, each the name of an item or module of this crate that the Rust crate doesn't have. If a glob
+// brought one of them in as well, its use below would be an error.
+#[allow(dead_code)]
+mod of_the_user {
+    macro_rules! unit_structs {
+        ($($name:ident)*) => { $(pub struct $name;)* };
+    }
+    macro_rules! constants {
+        ($($name:ident)*) => { $(pub const $name: u8 = 0;)* };
+    }
+    macro_rules! modules {
+        ($($name:ident)*) => { $(pub mod $name { pub const ONE: u8 = 1; })* };
+    }
+    unit_structs!(Node Session SessionFault Hasher HashTextError CoreError Result Owned);
+    pub fn try_xorb_hash() {}
+    pub fn try_file_hash() {}
+    pub fn try_file_hash_with_salt() {}
+    pub fn try_find_stable_start() {}
+    pub fn try_find_stable_end() {}
+    constants!(DATA_KEY);
+    modules!(blake3 session own error errors forms lent_chunks hashed_write roots stable_points json_text serde);
+}
+
+mod through_globs {
+    use super::of_the_user::*;
+    #[allow(unused_imports)]
+    use yurewha::merklehash::{
+        aggregated_hashes::*, data_hash::*, merkle_hash_subtree::*, passthrough_hasher::*, passthrough_hashmap::*, *,
+    };
+
+    #[test]
+    fn a_glob_leaves_names_of_the_user_alone() {
+        let _ = (
+            Node,
+            Session,
+            SessionFault,
+            Hasher,
+            HashTextError,
+            CoreError,
+            Result,
+            Owned,
+        );
+        try_xorb_hash();
+        try_file_hash();
+        try_file_hash_with_salt();
+        try_find_stable_start();
+        try_find_stable_end();
+        let modules = [
+            blake3::ONE,
+            session::ONE,
+            own::ONE,
+            error::ONE,
+            errors::ONE,
+            forms::ONE,
+            lent_chunks::ONE,
+            hashed_write::ONE,
+            roots::ONE,
+            stable_points::ONE,
+            json_text::ONE,
+            serde::ONE,
+        ];
+        assert_eq!(modules, [1; 12]);
+        assert_eq!(DATA_KEY, 0);
+    }
+}

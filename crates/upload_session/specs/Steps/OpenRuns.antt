@@ -1,0 +1,34 @@
+-- The marks and the sizes of the runs' ranges, which private contracts and proofs speak of.
+use Rattle.std.specs.Prelude.{◌≡◌, ℕ, ◌+◌, ◌^◌, ◌<◌, ◌≤◌, false, List, All, option_map, unwrap_or, sum_by}
+use Rattle.std.specs.Ordering.{nat_cmp}
+use Rattle.std.specs.BTreeMap.{is_at}
+use Rattle.std.specs.Map.{lookup, values_of}
+use Rattle.xet_merkle.specs.declared.chunk_range.ChunkRange as chunk_range
+use Rattle.upload_session.specs.declared.runs.Run.{Run}
+use Rattle.upload_session.specs.Session.{PlacedRun}
+
+module _ {C A : Type 0} (kind : chunk_range.Ghosts C A) where
+  -- a range is open at both ends
+  abbrev pub IsOpen : C → Type 0
+  IsOpen range = (kind.start range ≡ false) × (kind.end range ≡ false)
+
+  -- so is that of each run
+  abbrev pub AreOpen : List (PlacedRun C) → Type 0
+  AreOpen runs = All (λ (run : Run C). IsOpen run.range) (values_of runs)
+
+  -- the sum of the sizes of all runs
+  abbrev pub sizes_of : List (PlacedRun C) → ℕ
+  sizes_of runs = sum_by (λ (run : Run C). kind.total run.range) (values_of runs)
+
+  -- the size of the run that begins at a position, 0 where there is none
+  abbrev pub size_at : ℕ → List (PlacedRun C) → ℕ
+  size_at first runs =
+      unwrap_or (option_map (λ (run : Run C). kind.total run.range) (lookup (is_at (nat_cmp first)) runs)) 0
+
+  -- runs are open, and their sizes and some more fit in 64 bits
+  abbrev pub HaveRoom : ℕ → List (PlacedRun C) → Type 0
+  HaveRoom size runs = AreOpen runs × (sizes_of runs + size < 2 ^ 64)
+
+  -- runs are open, and their sizes pass no bound
+  abbrev pub AreOpenUpTo : ℕ → List (PlacedRun C) → Type 0
+  AreOpenUpTo bound runs = AreOpen runs × (sizes_of runs ≤ bound)
