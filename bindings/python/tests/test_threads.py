@@ -245,11 +245,11 @@ def test_a_handlers_update_counts_or_is_refused(monkeypatch, under_way, given):
         except y.ReentrantCall:
             refused.append(hasher.hash())
 
-    def add(state, piece, plain=_hash._add):
-        if piece and not interrupted:
+    def add(state, *piece, plain=_hash._add):
+        if piece[0] and not interrupted:
             interrupted.append(True)
             signal.raise_signal(signal.SIGUSR1)
-        plain(state, piece)
+        plain(state, *piece)
 
     with handled(signal.SIGUSR1, handler):
         monkeypatch.setattr(_hash, "_add", add)
@@ -269,9 +269,9 @@ def test_a_handler_that_ends_a_long_update(monkeypatch):
     def handler(number, frame):
         raise Ended
 
-    def add(state, piece, plain=_hash._add):
-        plain(state, piece)
-        if piece:
+    def add(state, *piece, plain=_hash._add):
+        plain(state, *piece)
+        if piece[0]:
             signal.raise_signal(signal.SIGUSR1)
 
     with handled(signal.SIGUSR1, handler):
@@ -283,6 +283,27 @@ def test_a_handler_that_ends_a_long_update(monkeypatch):
     hasher.update(bytearray(LONG))
     hasher.update(b"last")
     assert hasher.hash() == y.data_hash(b"first" + bytes(LONG) + b"last")
+
+
+def test_runs_while_a_handler_joins_some(monkeypatch):
+    """The handler puts what joins the first two of three runs, after one of them was looked at."""
+    session, chunks = y.Session(), block(8, 3)
+    for place in range(3):
+        session.put(2 * place, chunks[place:place + 1])
+    looked = []
+
+    def look(self, at, plain=y.Session.run):
+        found = plain(self, at)
+        looked.append(at)
+        if len(looked) == 1:
+            signal.raise_signal(signal.SIGUSR1)
+        return found
+
+    with handled(signal.SIGUSR1, lambda number, frame: session.put(1, chunks[:1])):
+        monkeypatch.setattr(y.Session, "run", look)
+        runs = session.runs()
+        monkeypatch.undo()
+    assert [first for first, _ in runs] == [0, 4] and runs == session.runs()
 
 
 def test_no_update_by_a_handler_is_lost():

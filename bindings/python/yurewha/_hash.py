@@ -4,25 +4,44 @@ from __future__ import annotations
 
 import ctypes
 import threading
+from functools import partial
 from operator import index
-from typing import NoReturn, Optional, SupportsIndex, Tuple, Type, final
+from typing import Callable, NoReturn, SupportsIndex, Tuple, Type, TypeVar, Union, final
 
 from ._declarations import LENGTHS
 from ._errors import DivisionByZero, InvalidArguments, InvalidText, ReentrantCall, YurewhaError, error_of
 from ._guard import Guarded
+from ._lent import Lent, bytes_of, is_read_only, is_whole
 from ._library import LONG_BYTES, CBytes, CHash, CHasher, calls_for, short
 from ._types import BytesLike, view_of
 
 __all__ = ["Hash", "Hasher", "data_hash", "internal_node_hash"]
 
 _MAX_U64 = 2**64 - 1
+# So many bytes are copied at once. Fewer than the second number are always copied, which takes less time than lending them.
 _PIECE = 1 << 20
+_SHORT = 2048
 _HEX_LENGTH = LENGTHS["YUREWHA_HEX_LENGTH"]
 _BASE64_LENGTH = LENGTHS["YUREWHA_BASE64_LENGTH"]
 _CHex = ctypes.c_char * _HEX_LENGTH
 _CBase64 = ctypes.c_char * _BASE64_LENGTH
 
 _Bytes = bytes
+#: Where bytes begin that are handed to the library.
+Start = Union[bytes, ctypes.c_char_p]
+_Result = TypeVar("_Result")
+
+
+def whole_number(value: SupportsIndex, what: str) -> int:
+    """A whole number.
+
+    >>> whole_number(-7, "an offset")
+    -7
+    """
+    try:
+        return index(value)
+    except TypeError:
+        raise TypeError(f"{what} is a whole number, not {type(value).__name__}") from None
 
 
 def checked_u64(value: SupportsIndex, what: str) -> int:
@@ -31,7 +50,7 @@ def checked_u64(value: SupportsIndex, what: str) -> int:
     >>> checked_u64(7, "a size")
     7
     """
-    number = index(value)
+    number = whole_number(value, what)
     if not 0 <= number <= _MAX_U64:
         raise InvalidArguments(f"{what} is a whole number from 0 to 2^64 - 1")
     return number
@@ -71,7 +90,7 @@ def own_bytes(value: BytesLike) -> bytes:
     if type(value) is bytes:
         return value
     with view_of(value) as view:
-        return view.tobytes()
+        return bytes_of(view)
 
 
 def checked_32(value: BytesLike, what: str) -> bytes:
@@ -90,9 +109,16 @@ def checked_32(value: BytesLike, what: str) -> bytes:
 class Hash:
     """A hash: 32 bytes. It can't be changed, can be a key of a dict, and has the order of its hex text.
 
-    `Hash()` is the default hash, whose bytes are 0; `Hash(b)` has the 32 bytes `b`.
+    `Hash()` is the default hash, whose bytes are 0; `Hash(b)` has the 32 bytes `b`. Its text is its hex text, also in formats.
+    JSON has it as that text, which `default=Hash.hex` writes and `Hash.from_hex` reads.
 
     >>> Hash().hex() == 64 * "0"
+    True
+    >>> f"{Hash.random_from_seed(1):.8}"
+    'cfc5d07f'
+    >>> import json
+    >>> text = json.dumps({"root": Hash()}, default=Hash.hex)
+    >>> Hash.from_hex(json.loads(text)["root"]) == Hash()
     True
     """
 
@@ -265,6 +291,9 @@ class Hash:
     def __str__(self) -> str:
         return self.hex()
 
+    def __format__(self, spec: str) -> str:
+        return format(self.hex(), spec)
+
     def __repr__(self) -> str:
         return f"Hash.from_hex('{self.hex()}')"
 
@@ -278,46 +307,59 @@ class Hash:
         return Hash, (self.bytes,)
 
 
-def data_hash(data: BytesLike) -> Hash:
+def data_hash(data: BytesLike, *, nobody_writes: bool = False) -> Hash:
     """The hash of a chunk, whose data these bytes are.
+
+    Read-only bytes are hashed where they are. Others are copied, a MiB at a time, since somebody may write to them meanwhile;
+    with `nobody_writes=True` the caller promises that nobody does, and they aren't copied.
 
     >>> data_hash(b"abc").hex()[:16]
     'a8803506f7aff014'
+    >>> data_hash(bytearray(b"abc"), nobody_writes=True) == data_hash(b"abc")
+    True
     """
-    if type(data) is not bytes:
-        return Hasher(data).hash()
-    out = CHash()
-    calls_for(len(data), LONG_BYTES).yurewha_data_hash(data, len(data), out)
-    return Hash._of(bytes(out))
+    return _handed(data, nobody_writes, partial(_hashed, "yurewha_data_hash"), lambda lent: Hasher()._hash_by_pieces(lent))
 
 
-def internal_node_hash(data: BytesLike) -> Hash:
-    """The hash of an inner node of the tree, whose text these bytes are.
+def internal_node_hash(data: BytesLike, *, nobody_writes: bool = False) -> Hash:
+    """The hash of an inner node of the tree, whose text these bytes are; taken as by `data_hash`.
 
     >>> internal_node_hash(b"") == Hasher.internal_node().hash()
     True
     """
-    if type(data) is not bytes:
-        return Hasher.internal_node(data).hash()
+    return _handed(
+        data, nobody_writes, partial(_hashed, "yurewha_internal_node_hash"),
+        lambda lent: Hasher.internal_node()._hash_by_pieces(lent))
+
+
+def _hashed(which: str, start: Start, length: int) -> Hash:
     out = CHash()
-    calls_for(len(data), LONG_BYTES).yurewha_internal_node_hash(data, len(data), out)
+    getattr(calls_for(length, LONG_BYTES), which)(start, length, out)
     return Hash._of(bytes(out))
 
 
-def _add(state: CHasher, piece: bytes) -> None:
-    status = calls_for(len(piece), LONG_BYTES).yurewha_hasher_update(state, piece, len(piece))
+def _handed(
+    data: BytesLike, nobody_writes: bool, at_once: Callable[[Start, int], _Result], by_pieces: Callable[[Lent], _Result]
+) -> _Result:
+    """Hands bytes over at once, as they are where nobody writes to them, or as one copy; or lends them to be copied by pieces."""
+    if type(data) is bytes:
+        return at_once(data, len(data))
+    with Lent(data) as lent:
+        view = lent.view
+        at_one_place = view.c_contiguous and lent.length >= _SHORT and not is_whole(view)
+        if at_one_place and (nobody_writes or is_read_only(view)):
+            lent.hold()
+            return at_once(lent.at(0), lent.length)
+        if at_one_place and lent.length > _PIECE:
+            lent.hold()
+            return by_pieces(lent)
+        return at_once(bytes_of(view), lent.length)
+
+
+def _add(state: CHasher, start: Start, length: int) -> None:
+    status = calls_for(length, LONG_BYTES).yurewha_hasher_update(state, start, length)
     if status:
         raise error_of(status)
-
-
-def _flat(view: memoryview) -> Optional[memoryview]:
-    """The bytes of a view one after the other, or None where they don't lie so."""
-    if not view.c_contiguous:
-        return None
-    try:
-        return view.cast("B")
-    except (TypeError, ValueError):
-        return None
 
 
 @final
@@ -400,40 +442,39 @@ class Hasher(Guarded):
         with self._locked():
             return int(short.yurewha_hasher_count(self._state))
 
-    def update(self, data: BytesLike) -> None:
+    def update(self, data: BytesLike, *, nobody_writes: bool = False) -> None:
         """Adds a piece to the message; `SizeOverflow` where it would have more than 2^64 - 1 bytes.
 
-        Bytes that others may change, as a `bytearray` or an array, are taken in copies of a MiB at most. While more than
-        that are taken, `update` by a signal's handler raises `ReentrantCall`; each other update by a handler counts.
+        Bytes are taken as by `data_hash`. While more than a MiB is copied, `update` by a signal's handler raises
+        `ReentrantCall`; each other update by a handler counts.
 
         >>> Hasher(bytearray(b"abc")).count
         3
         """
-        if type(data) is bytes:
-            with self._locked():
-                self._add(data)
-            return
-        with view_of(data) as view, self._locked():
-            flat = _flat(view) if view.nbytes > _PIECE else None
-            if flat is None:
-                self._add(view.tobytes())
-                return
-            with flat:
-                self._add_by_pieces(flat)
+        with self._locked():
+            _handed(data, nobody_writes, self._add, self._add_by_pieces)
 
-    def _add(self, data: bytes) -> None:
+    def _refuse_reentry(self) -> None:
         if self._by_pieces.locked():
             raise ReentrantCall("a signal's handler called update while a long update of the same hasher was under way")
-        _add(self._state, data)
 
-    def _add_by_pieces(self, data: memoryview) -> None:
+    def _add(self, start: Start, length: int) -> None:
+        self._refuse_reentry()
+        _add(self._state, start, length)
+
+    def _add_by_pieces(self, lent: Lent) -> None:
         """Adds all of it or, where that ends early, nothing."""
-        self._add(b"")
+        self._refuse_reentry()
         with self._by_pieces:
             state = CHasher.from_buffer_copy(self._state)
-            for start in range(0, data.nbytes, _PIECE):
-                _add(state, data[start:start + _PIECE].tobytes())
+            for start in range(0, lent.length, _PIECE):
+                stop = min(start + _PIECE, lent.length)
+                _add(state, lent.piece(start, stop), stop - start)
             ctypes.memmove(ctypes.byref(self._state), ctypes.byref(state), ctypes.sizeof(CHasher))
+
+    def _hash_by_pieces(self, lent: Lent) -> Hash:
+        self._add_by_pieces(lent)
+        return self.hash()
 
     def hash(self) -> Hash:
         """The hash of the message so far; the hasher can go on.

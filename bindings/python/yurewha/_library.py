@@ -22,9 +22,10 @@ NAME = "libyurewha.so.1"
 #: The level of this processor.
 LEVEL: str = level()
 
-#: Messages of so many bytes, lists of so many chunks or nodes, and longer ones, give up the interpreter's lock.
-LONG_BYTES = 2048
-LONG_CHUNKS = 64
+#: Messages of so many bytes, lists of so many chunks or nodes, and longer ones, give up the interpreter's lock. Shorter ones
+#: take less time than handing it over does, where several threads want it.
+LONG_BYTES = 1 << 14
+LONG_CHUNKS = 256
 LONG_NODES = 512
 
 

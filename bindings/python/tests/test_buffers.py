@@ -1,0 +1,176 @@
+"""Bytes of other objects: which ones cross where they are, which are copied, and that each is given back."""
+
+import array
+import mmap
+import random
+import sys
+import tracemalloc
+
+import pytest
+
+import yurewha as y
+from yurewha import _declarations, _library
+
+MIB = 1 << 20
+DATA = random.Random(21).randbytes(4 * MIB + 3)
+EXPECTED = y.data_hash(DATA)
+
+
+def copied(call):
+    """The most memory that was taken at once while a call ran."""
+    tracemalloc.start()
+    try:
+        call()
+        return tracemalloc.get_traced_memory()[1]
+    finally:
+        tracemalloc.stop()
+
+
+def read_only_forms(tmp_path):
+    yield "a view of bytes", memoryview(b"a" + DATA)[1:]
+    yield "a view of all bytes", memoryview(DATA)
+    yield "a view of words", memoryview(DATA[:4 * MIB]).cast("Q")
+    path = tmp_path / "data"
+    path.write_bytes(DATA)
+    with open(path, "rb") as file:
+        yield "a file mapped to be read", mmap.mmap(file.fileno(), 0, access=mmap.ACCESS_READ)
+    numpy = pytest.importorskip("numpy")
+    yield "an array over bytes", numpy.frombuffer(b"a" + DATA, dtype="u1")[1:]
+    yield "an array over a file", numpy.memmap(path, mode="r")
+    own = numpy.frombuffer(DATA, dtype="u1").copy()
+    own.flags.writeable = False
+    yield "a read-only array", own
+    yield "a read-only array of rows", own[:4 * MIB].view("<u8").reshape(-1, 8)
+
+
+def writable_forms():
+    yield "a bytearray", bytearray(DATA)
+    yield "a view of a bytearray", memoryview(bytearray(b"a" + DATA))[1:]
+    yield "a read-only view of a bytearray", memoryview(bytearray(DATA)).toreadonly()
+    yield "an array", array.array("B", DATA)
+    numpy = pytest.importorskip("numpy")
+    own = numpy.frombuffer(DATA, dtype="u1").copy()
+    yield "an array of NumPy", own
+    shown = own.view()
+    shown.flags.writeable = False
+    yield "a read-only view of it", shown
+    yield "an array over a read-only view", numpy.frombuffer(memoryview(bytearray(DATA)).toreadonly(), dtype="u1")
+
+
+def test_read_only_bytes_are_hashed_where_they_are(tmp_path):
+    for name, form in read_only_forms(tmp_path):
+        expected = EXPECTED if memoryview(form).nbytes == len(DATA) else y.data_hash(DATA[:4 * MIB])
+        assert y.data_hash(form) == y.Hasher(form).hash() == expected, name
+        for call in (lambda: y.data_hash(form), lambda: y.internal_node_hash(form), lambda: y.Hasher().update(form)):
+            assert copied(call) < MIB // 16, name
+
+
+def test_others_are_copied_a_piece_at_a_time_or_cross_by_promise():
+    for name, form in writable_forms():
+        assert y.data_hash(form) == y.Hasher(form).hash() == y.data_hash(form, nobody_writes=True) == EXPECTED, name
+        for call in (y.data_hash, y.internal_node_hash, y.Hasher().update):
+            assert MIB <= copied(lambda: call(form)) < MIB + MIB // 16, name
+            assert copied(lambda: call(form, nobody_writes=True)) < MIB // 16, name
+
+
+@pytest.mark.parametrize("length", [0, 1, 2047, 2048, 2049, MIB - 1, MIB, MIB + 1, 2 * MIB, 2 * MIB + 1])
+def test_the_same_hashes_at_each_length(length):
+    data = DATA[:length]
+    inner = y.internal_node_hash(data)
+    for form in (bytearray(data), memoryview(b"a" + data)[1:], memoryview(bytearray(data + b"a"))[:-1], array.array("B", data)):
+        for promised in (False, True):
+            assert y.data_hash(form, nobody_writes=promised) == y.data_hash(data)
+            assert y.internal_node_hash(form, nobody_writes=promised) == inner
+            hasher = y.Hasher(b"first")
+            hasher.update(form, nobody_writes=promised)
+            assert hasher.hash() == y.data_hash(b"first" + data)
+
+
+def test_bytes_that_do_not_lie_one_after_the_other():
+    view = memoryview(DATA)[::-3]
+    for promised in (False, True):
+        assert y.data_hash(view, nobody_writes=promised) == y.data_hash(DATA[::-3])
+
+
+def test_each_buffer_is_given_back():
+    """A `bytearray` can't grow while somebody has its place."""
+    full = y.Hasher()
+    full._state.count = 2**64 - 1
+    for length in (10, 3000, MIB + 1):
+        for promised in (False, True):
+            block = bytearray(length)
+            y.data_hash(block, nobody_writes=promised)
+            y.data_hashes(block, [0, length], nobody_writes=promised)
+            with pytest.raises(y.SizeOverflow):
+                full.update(block, nobody_writes=promised)
+            with pytest.raises(y.InvalidArguments):
+                y.data_hashes(block, [0, length + 1], nobody_writes=promised)
+            block.append(0)
+    assert full.count == 2**64 - 1
+
+
+@pytest.fixture
+def crossings(monkeypatch):
+    """The calls of the library, in order: each name, and whether the interpreter's lock is given up."""
+    made = []
+    for calls in (_library.short, _library.long):
+        for name in _declarations.DECLARATIONS:
+            def spied(*arguments, call=getattr(calls, name), told=(name[8:], calls is _library.long)):
+                made.append(told)
+                return call(*arguments)
+            monkeypatch.setattr(calls, name, spied)
+    return made
+
+
+def test_how_often_a_call_crosses(crossings):
+    """64 KiB cross in one call, which gives up the lock; a hundred chunks in one that is too short to."""
+    data = bytes(1 << 16)
+    chunks, hasher = y.Chunks(40 * 100 * b"\0"), y.Hasher()
+    for call, expected in (
+        (lambda: y.data_hash(data), [("data_hash", True)]),
+        (lambda: y.data_hash(memoryview(b"a" + data)[1:]), [("data_hash", True)]),
+        (lambda: y.data_hash(bytearray(data)), [("data_hash", True)]),
+        (lambda: y.data_hash(bytearray(data), nobody_writes=True), [("data_hash", True)]),
+        (lambda: y.internal_node_hash(memoryview(data)), [("internal_node_hash", True)]),
+        (lambda: hasher.update(memoryview(b"a" + data)[1:]), [("hasher_update", True)]),
+        (lambda: y.data_hashes(data, range(0, (1 << 16) + 1, 1 << 14)), 4 * [("data_hash", True)]),
+        (lambda: y.data_hashes(data, range(0, 65, 16)), 4 * [("data_hash", False)]),
+        (lambda: y.data_hash(data[:2000]), [("data_hash", False)]),
+        (lambda: y.Subtree.from_chunks(False, chunks, False), [("subtree_from_chunks", False)]),
+        (lambda: y.Subtree.from_chunks(False, y.Chunks(10 * chunks.packed), False), [("subtree_from_chunks", True)]),
+        (lambda: y.Chunks.from_columns(chunks.hashes, chunks.sizes), []),
+        (lambda: y.Hashes.from_hex(chunks.hashes.hex()), []),
+    ):
+        crossings.clear()
+        call()
+        assert crossings == expected
+
+
+@pytest.mark.skipif(sys.version_info < (3, 12), reason="classes have no buffers before Python 3.12")
+def test_a_buffer_that_is_another_one_each_time():
+    """The bytes that were looked at are the ones that are hashed."""
+    class Changing:
+        def __init__(self):
+            self.lengths = [1 << 16, 1, 1 << 16, 1]
+
+        def __buffer__(self, flags):
+            return memoryview(bytes(self.lengths.pop(0)))
+
+    whole = bytes(1 << 16)
+    for promised in (False, True):
+        assert y.data_hash(Changing(), nobody_writes=promised) == y.data_hash(whole)
+        assert y.data_hashes(Changing(), [0, 1 << 16], nobody_writes=promised)[0] == y.data_hash(whole)
+
+
+def test_owners_without_end():
+    class Endless(bytes):
+        """Bytes that name themselves as their owner."""
+
+        base = property(lambda self: self)
+
+    assert y.data_hash(Endless(DATA)) == y.data_hash(Endless(DATA), nobody_writes=True) == EXPECTED
+
+
+def test_the_promise_is_named():
+    with pytest.raises(TypeError):
+        y.data_hash(bytearray(3), True)

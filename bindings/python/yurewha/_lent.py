@@ -1,0 +1,147 @@
+"""Bytes of other objects where they are: their place in memory, for as long as a call needs them."""
+
+from __future__ import annotations
+
+import ctypes
+from typing import Optional, Type, cast
+
+from ._types import BytesLike, view_of
+
+
+class _CBuffer(ctypes.Structure):
+    """`Py_buffer` of CPython."""
+
+    _fields_ = [
+        ("buf", ctypes.c_void_p),
+        ("obj", ctypes.c_void_p),
+        ("len", ctypes.c_ssize_t),
+        ("itemsize", ctypes.c_ssize_t),
+        ("readonly", ctypes.c_int),
+        ("ndim", ctypes.c_int),
+        ("format", ctypes.c_char_p),
+        ("shape", ctypes.c_void_p),
+        ("strides", ctypes.c_void_p),
+        ("suboffsets", ctypes.c_void_p),
+        ("internal", ctypes.c_void_p),
+    ]
+
+
+_python = ctypes.PyDLL(None)
+_get_buffer = _python["PyObject_GetBuffer"]
+_get_buffer.argtypes, _get_buffer.restype = [ctypes.py_object, ctypes.POINTER(_CBuffer), ctypes.c_int], ctypes.c_int
+_release_buffer = _python["PyBuffer_Release"]
+_release_buffer.argtypes, _release_buffer.restype = [ctypes.POINTER(_CBuffer)], None
+
+#: So many owners of a buffer are looked at, each the owner of the one before.
+_OWNERS = 16
+
+#: Bytes that lie one after the other, of whatever items.
+_PLAIN = 0
+
+
+class Lent:
+    """The bytes of a buffer, which stay where they are until the end of the `with`.
+
+    >>> with Lent(memoryview(b"abc")[1:]) as lent:
+    ...     lent.hold()
+    ...     lent.piece(0, lent.length)
+    b'bc'
+    """
+
+    __slots__ = ("view", "length", "_start", "_buffer")
+
+    #: What the buffer shows, and how many bytes it has.
+    view: memoryview
+    length: int
+    _start: int
+    _buffer: _CBuffer
+
+    def __init__(self, data: BytesLike) -> None:
+        self._buffer = _CBuffer()
+        self.view = view = view_of(data)
+        self.length = view.nbytes
+
+    def __enter__(self) -> Lent:
+        return self
+
+    def __exit__(self, kind: Optional[Type[BaseException]], error: object, trace: object) -> None:
+        self._give_back()
+        self.view.release()
+
+    def __del__(self) -> None:
+        self._give_back()  # where a signal's handler raised before the `with`
+
+    def _give_back(self) -> None:
+        if self._buffer.obj:
+            _release_buffer(self._buffer)
+
+    def hold(self) -> None:
+        """Takes the place in memory, which the calls below need. The bytes of the view lie one after the other.
+
+        >>> with Lent(b"abc") as lent:
+        ...     lent.hold()
+        """
+        _get_buffer(self.view, self._buffer, _PLAIN)
+        self._start = self._buffer.buf or 0
+
+    def at(self, place: int) -> ctypes.c_char_p:
+        """Where the byte at a place is, as a call takes it.
+
+        >>> with Lent(b"abc") as lent:
+        ...     lent.hold()
+        ...     ctypes.string_at(lent.at(1), 2)
+        b'bc'
+        """
+        return ctypes.c_char_p(self._start + place)
+
+    def piece(self, start: int, stop: int) -> bytes:
+        """A copy of the bytes from one place up to another.
+
+        >>> with Lent(b"abc") as lent:
+        ...     lent.hold()
+        ...     lent.piece(1, 3)
+        b'bc'
+        """
+        return ctypes.string_at(self._start + start, stop - start)
+
+
+def is_whole(view: memoryview) -> bool:
+    """Whether a view shows a `bytes` object from its beginning to its end.
+
+    >>> is_whole(memoryview(b"abc")), is_whole(memoryview(b"abc")[1:])
+    (True, False)
+    """
+    return type(view.obj) is bytes and len(view.obj) == view.nbytes and view.c_contiguous
+
+
+def bytes_of(view: memoryview) -> bytes:
+    """The bytes in an object that nobody changes: the one that the view shows, where that is such, else a copy.
+
+    >>> bytes_of(memoryview(b"abc")[1:])
+    b'bc'
+    """
+    if is_whole(view):
+        return cast(bytes, view.obj)
+    return view.tobytes()
+
+
+def is_read_only(view: memoryview) -> bool:
+    """Whether neither the buffer nor any object that it shows can be written to.
+
+    >>> is_read_only(memoryview(b"abc")), is_read_only(memoryview(bytearray(3)).toreadonly())
+    (True, False)
+    """
+    if not view.readonly or type(view.obj) is bytes:  # one of them, mostly
+        return view.readonly
+    owner: object = view
+    for _ in range(_OWNERS):
+        if owner is None:
+            return True
+        try:
+            with view_of(owner) as shown:
+                if not shown.readonly:
+                    return False
+        except (TypeError, ValueError, BufferError):
+            return False  # it isn't known
+        owner = owner.obj if isinstance(owner, memoryview) else getattr(owner, "base", None)
+    return False
