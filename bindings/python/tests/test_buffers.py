@@ -171,6 +171,11 @@ def test_owners_without_end():
     assert y.data_hash(Endless(DATA)) == y.data_hash(Endless(DATA), nobody_writes=True) == EXPECTED
 
 
-def test_the_promise_is_named():
+def test_the_promise_is_named_and_a_bool():
     with pytest.raises(TypeError):
         y.data_hash(bytearray(3), True)
+    calls = (y.data_hash, y.internal_node_hash, y.Hasher().update, lambda data, **names: y.data_hashes(data, [0], **names))
+    for value in (1, 0, None, "no"):
+        for call in calls:
+            with pytest.raises(TypeError, match="nobody_writes is a bool"):
+                call(bytearray(3), nobody_writes=value)

@@ -140,6 +140,14 @@ def test_where_the_library_is_found(tmp_path):
     assert found(place, tmp_path) == str(expected / _library.NAME)
 
 
+def test_what_is_installed():
+    told = subprocess.run(
+        [sys.executable, "-m", "yurewha"], env={**os.environ, "PYTHONPATH": str(PACKAGE.parent), "YUREWHA_LIB_DIR": LIBRARY},
+        cwd="/", capture_output=True, text=True, check=True).stdout
+    assert told == f"yurewha {y.__version__}\nlibrary: {_library.PATH}\nprocessor: {_processor.level()}\n"
+    assert _processor.level() in ("x86-64-v2", "x86-64-v3", os.uname().machine)
+
+
 def test_a_library_without_a_call(tmp_path):
     if not shutil.which("gcc"):
         pytest.skip("there is no compiler")
@@ -233,6 +241,16 @@ for view in (memoryview(b""), memoryview(bytearray())):
 root = y.data_hash(bytearray())
 root = y.data_hash(array.array("Q"))
 root = y.xorb_hash(mmap.mmap(-1, 40))
+root = y.data_hash(bytearray(), nobody_writes=True)
+hashes: y.Hashes = y.data_hashes(b"abc", [0, 3])
+hashes = y.data_hashes(b"abc", array.array("q", [0, 3])) + hashes[:1]
+root = hashes[0]
+texts: List[str] = hashes.hex()
+hashes = y.Hashes.from_hex(texts)
+packed = y.Chunks.from_columns(hashes, packed.sizes)
+packed = y.Chunks.from_columns([root, bytes(32)], [1, 2])
+for position, part in session:
+    tree = tree + part
 """
 TYPED_NUMPY = """
 import numpy
@@ -241,12 +259,24 @@ words = numpy.zeros((2, 5), dtype="<u8")
 root: y.Hash = y.xorb_hash(words)
 root = y.data_hash(words)
 root = y.xorb_hash([(y.Hash(), numpy.uint64(1))])
+chunks: y.Chunks = y.Chunks.from_columns(words[:, :4], words[:, 4])
+hashes: y.Hashes = y.data_hashes(words, numpy.zeros(3, dtype="i8"))
 """
 WRONG = [
     'y.data_hash("text")',
     "y.data_hash(None)",
     "y.data_hash(7)",
     "y.data_hash(y.Chunks())",
+    'y.data_hash(b"", True)',
+    'y.data_hashes("text", [0, 1])',
+    'y.data_hashes(b"abc", 7)',
+    'y.data_hashes(b"abc", [0, 1.5])',
+    'y.Hashes(64 * "0")',
+    "y.Hashes([1, 2])",
+    "y.Hashes.from_hex([bytes(64)])",
+    "y.Chunks.from_columns([1], [2])",
+    'y.Chunks.from_columns([y.Hash()], ["1"])',
+    "y.Chunks.from_columns(y.Chunks())",
     "y.internal_node_hash(7.5)",
     "y.xorb_hash(5)",
     'y.xorb_hash("text")',

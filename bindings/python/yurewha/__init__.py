@@ -30,6 +30,7 @@ from ._errors import (
     YurewhaError,
 )
 from ._hash import Hash, Hasher, data_hash, internal_node_hash
+from ._hashes import Hashes, data_hashes
 from ._session import Session
 from ._subtree import (
     Flat,
@@ -51,6 +52,7 @@ __all__ = [
     "Flat",
     "Hash",
     "Hasher",
+    "Hashes",
     "InUseAtFork",
     "InvalidArguments",
     "InvalidJson",
@@ -67,6 +69,7 @@ __all__ = [
     "Subtree",
     "YurewhaError",
     "data_hash",
+    "data_hashes",
     "file_hash",
     "find_stable_end",
     "find_stable_start",

@@ -4,12 +4,13 @@ from __future__ import annotations
 
 import re
 import struct
-from operator import index
-from typing import Dict, Iterable, Iterator, Optional, Sequence, SupportsIndex, Tuple, Type, Union, cast, final, overload
+from typing import Dict, Iterable, Iterator, SupportsIndex, Tuple, Union, cast, final
 
 from ._errors import InvalidArguments
-from ._hash import Hash
-from ._types import BytesLike, view_of
+from ._hash import Hash, checked_u64
+from ._hashes import Hashes, HashesLike
+from ._packed import BYTE, HASH, WORD, Packed, block_or_items, checked_block
+from ._types import BytesLike
 
 __all__ = ["Chunks"]
 
@@ -18,25 +19,26 @@ Chunk = Tuple[Hash, int]
 #: What a call takes as chunks.
 ChunksLike = Union["Chunks", Iterable[Tuple[Hash, SupportsIndex]], BytesLike]
 
+#: What a call takes as sizes.
+SizesLike = Union[Iterable[SupportsIndex], BytesLike]
+
 _SIZE = 40
 _PAIR = struct.Struct("<32sQ")
 
-# What a block may be, as the buffer protocol writes it: the bytes of an item, and its format. In a format, `(4)L` are four
-# words of the machine's own, and `<Q` is a word of eight bytes, the least first. A field's name stands after its type.
-_WORD = "[@^=<]?[QL]"
-_HASH_FIELD = rf"(?:32[sx]|\(32\)[@^=<]?[Bbc]|\(4\){_WORD}|T\{{\(4\){_WORD}:words:\}}):(?:hash|words):"
-_SIZE_FIELD = rf"{_WORD}:size:"
+_HASH_FIELD = f"{HASH}:(?:hash|words):"
+_SIZE_FIELD = f"{WORD}:size:"
 _SIZE_FIRST = re.compile(rf"T\{{{_SIZE_FIELD}{_HASH_FIELD}\}}")
 _FORMS = (
-    (1, re.compile("[@^=<]?[Bbc]")),
-    (8, re.compile(_WORD)),
-    (_SIZE, re.compile(rf"{_SIZE}[sx]|\({_SIZE}\)[@^=<]?[Bbc]")),
+    (1, re.compile(BYTE)),
+    (8, re.compile(WORD)),
+    (_SIZE, re.compile(rf"{_SIZE}[sx]|\({_SIZE}\){BYTE}")),
     (_SIZE, re.compile(rf"T\{{{_HASH_FIELD}{_SIZE_FIELD}\}}")),
     (_SIZE, _SIZE_FIRST),
 )
 _EXPECTED = (
     "packed chunks are bytes, unsigned words of 8 bytes, or items of 40 bytes: plain ones, or ones with the fields `hash` (or "
     "`words`) of 32 bytes and `size`, an unsigned word; each word has its least byte first")
+_EXPECTED_SIZES = "a column of sizes has whole numbers, or eight bytes for each, the least first"
 
 
 def _pack(pairs: Iterable[Tuple[Hash, SupportsIndex]]) -> bytes:
@@ -46,48 +48,20 @@ def _pack(pairs: Iterable[Tuple[Hash, SupportsIndex]]) -> bytes:
         try:
             hash_, size = pair
         except (TypeError, ValueError):
-            raise TypeError("a chunk is a pair of a Hash and an int") from None
+            raise TypeError(f"chunk {len(packed) // _SIZE} isn't a pair of a Hash and an int") from None
         if type(hash_) is not Hash:
-            raise TypeError(f"a chunk is a pair of a Hash and an int, not of {type(hash_).__name__}")
+            raise TypeError(f"the hash of chunk {len(packed) // _SIZE} is a Hash, not {type(hash_).__name__}")
         try:
             add(pack(hash_._raw, size))
         except struct.error:
-            index(size)  # a TypeError where it's no whole number
-            raise InvalidArguments("a size is a whole number from 0 to 2^64 - 1") from None
+            checked_u64(size, f"the size of chunk {len(packed) // _SIZE}")
+            raise
     return bytes(packed)
 
 
-def _fits(view: memoryview) -> bool:
-    """Whether a block has 40 bytes for each chunk, in rows where it has rows."""
-    in_a_row = _SIZE // view.itemsize
-    if in_a_row == 1:
-        return True
-    return (view.shape or ())[-1:] == (in_a_row,) if view.ndim != 1 else view.nbytes % _SIZE == 0
-
-
-def _block(chunks: ChunksLike) -> Optional[memoryview]:
-    """A view of a block of chunks, or None where they are pairs."""
-    if isinstance(chunks, (list, tuple)):
-        return None
-    try:
-        return view_of(chunks)
-    except TypeError:
-        return None
-    except (ValueError, BufferError) as error:
-        raise InvalidArguments(f"{_EXPECTED}: {error}") from None
-
-
 def _unpack(view: memoryview) -> bytes:
-    with view:
-        if not any(view.itemsize == size and form.fullmatch(view.format) for size, form in _FORMS):
-            raise InvalidArguments(f"{_EXPECTED}, not '{view.format}'")
-        if not _fits(view):
-            raise InvalidArguments(f"{_EXPECTED}, and there are 40 bytes for each chunk")
-        obj = view.obj
-        if type(obj) is bytes and len(obj) == view.nbytes and view.c_contiguous:
-            return obj
-        block = view.tobytes()
-        return _hash_first(block) if _SIZE_FIRST.fullmatch(view.format) else block
+    block = checked_block(view, _SIZE, _FORMS, _EXPECTED)
+    return _hash_first(block) if _SIZE_FIRST.fullmatch(view.format) else block
 
 
 def _hash_first(block: bytes) -> bytes:
@@ -99,8 +73,28 @@ def _hash_first(block: bytes) -> bytes:
     return bytes(out)
 
 
+def _packed_sizes(sizes: SizesLike) -> bytes:
+    """Eight bytes for each size of a column, the least first."""
+    given = block_or_items(sizes, _EXPECTED_SIZES)
+    if not isinstance(given, memoryview):
+        return _pack_sizes(cast(Iterable[SupportsIndex], given))
+    with given:
+        kind = (given.ndim, given.itemsize)
+        if kind == (1, 8) and re.fullmatch(WORD, given.format):
+            return given.tobytes()
+        if kind == (1, 1) and re.fullmatch(BYTE, given.format) and given.nbytes % 8 == 0:
+            return given.tobytes()
+        if given.ndim == 1 and re.fullmatch("@?[hHiIlq]", given.format):
+            return _pack_sizes(given.tolist())
+        raise InvalidArguments(f"{_EXPECTED_SIZES}, not '{given.format}'")
+
+
+def _pack_sizes(sizes: Iterable[SupportsIndex]) -> bytes:
+    return b"".join(checked_u64(size, f"size {place}").to_bytes(8, "little") for place, size in enumerate(sizes))
+
+
 @final
-class Chunks(Sequence[Chunk]):
+class Chunks(Packed[Chunk]):
     """A list of chunks in one block: for each the 32 bytes of its hash, then its size in eight bytes, the least first.
 
     It is made from pairs, or from a block: `bytes`, or anything with the buffer protocol, among it NumPy arrays of bytes, of
@@ -116,43 +110,66 @@ class Chunks(Sequence[Chunk]):
     True
     """
 
-    __slots__ = ("_packed",)
+    __slots__ = ()
 
-    _packed: bytes
+    _SIZE = _SIZE
 
     def __new__(cls, chunks: ChunksLike = ()) -> Chunks:
         if isinstance(chunks, Chunks):
             return chunks
         if isinstance(chunks, str):
             raise TypeError("chunks are pairs of a Hash and an int, or a block of bytes, not a str")
-        view = _block(chunks)
-        if view is None:
-            return cls._of(_pack(cast(Iterable[Tuple[Hash, int]], chunks)))
-        return cls._of(_unpack(view))
+        given = block_or_items(chunks, _EXPECTED)
+        if not isinstance(given, memoryview):
+            return cls._of(_pack(cast(Iterable[Tuple[Hash, SupportsIndex]], given)))
+        with given:
+            return cls._of(_unpack(given))
 
     def __init_subclass__(cls) -> None:
         raise TypeError("Chunks isn't made to be derived from")
 
-    @classmethod
-    def _of(cls, packed: bytes) -> Chunks:
-        self = object.__new__(cls)
-        object.__setattr__(self, "_packed", packed)
-        return self
+    @staticmethod
+    def from_columns(hashes: HashesLike, sizes: SizesLike) -> Chunks:
+        """The chunks of a column of hashes and a column of sizes, which are lists, or columns of NumPy, pandas or Arrow.
 
-    def __setattr__(self, name: str, value: object) -> None:
-        raise AttributeError("chunks can't be changed")
+        Hashes are taken as by `Hashes`. Sizes are whole numbers from 0 to 2^64 - 1, also in signed columns; or a buffer of
+        eight bytes for each, as Arrow's `uint64` and `int64` without nulls have it. `InvalidArguments` with the index of the
+        first size that is none, or where there are more hashes than sizes or fewer.
 
-    def __delattr__(self, name: str) -> None:
-        raise AttributeError("chunks can't be changed")
-
-    @property
-    def packed(self) -> bytes:
-        """The block, without a copy. `memoryview(chunks.packed)` hands it to whatever reads buffers.
-
-        >>> Chunks([(Hash(), 1)]).packed == bytes(32) + b"\\x01" + bytes(7)
+        >>> Chunks.from_columns([Hash(), Hash()], [1, 2]) == Chunks([(Hash(), 1), (Hash(), 2)])
         True
         """
-        return self._packed
+        column, packed_sizes = Hashes(hashes), _packed_sizes(sizes)
+        if len(packed_sizes) != 8 * len(column):
+            raise InvalidArguments(f"there are {len(column)} hashes and {len(packed_sizes) // 8} sizes")
+        out = bytearray(_SIZE * len(column))
+        made, words = memoryview(out).cast("Q"), memoryview(column.packed).cast("Q")
+        for word in range(4):
+            made[word::5] = words[word::4]
+        made[4::5] = memoryview(packed_sizes).cast("Q")
+        return Chunks._of(bytes(out))
+
+    @property
+    def hashes(self) -> Hashes:
+        """The column of the hashes.
+
+        >>> Chunks([(Hash(), 1)]).hashes == Hashes([Hash()])
+        True
+        """
+        out = bytearray(32 * len(self))
+        made, given = memoryview(out).cast("Q"), memoryview(self._packed).cast("Q")
+        for word in range(4):
+            made[word::4] = given[word::5]
+        return Hashes._of(bytes(out))
+
+    @property
+    def sizes(self) -> memoryview:
+        """The column of the sizes, which NumPy takes as it is: `numpy.asarray(chunks.sizes)`.
+
+        >>> list(Chunks([(Hash(), 1), (Hash(), 2)]).sizes)
+        [1, 2]
+        """
+        return memoryview(self._packed).cast("Q")[4::5]
 
     @property
     def __array_interface__(self) -> Dict[str, object]:
@@ -169,28 +186,8 @@ class Chunks(Sequence[Chunk]):
             "data": self._packed,
         }
 
-    def __len__(self) -> int:
-        return len(self._packed) // _SIZE
-
-    @overload
-    def __getitem__(self, at: int) -> Chunk: ...
-
-    @overload
-    def __getitem__(self, at: slice) -> Chunks: ...
-
-    def __getitem__(self, at: Union[int, slice]) -> Union[Chunk, Chunks]:
-        if isinstance(at, slice):
-            start, stop, step = at.indices(len(self))
-            if step == 1:
-                return Chunks._of(self._packed[_SIZE * start:_SIZE * max(start, stop)])
-            places = range(start, stop, step)
-            return Chunks._of(b"".join(self._packed[_SIZE * i:_SIZE * (i + 1)] for i in places))
-        place = index(at)
-        if place < 0:
-            place += len(self)
-        if not 0 <= place < len(self):
-            raise IndexError("no such chunk")
-        raw, size = _PAIR.unpack_from(self._packed, _SIZE * place)
+    def _item(self, start: int) -> Chunk:
+        raw, size = _PAIR.unpack_from(self._packed, start)
         return Hash._of(raw), size
 
     def __iter__(self) -> Iterator[Chunk]:
@@ -199,26 +196,3 @@ class Chunks(Sequence[Chunk]):
 
     def __add__(self, other: ChunksLike) -> Chunks:
         return Chunks._of(self._packed + Chunks(other)._packed)
-
-    def __eq__(self, other: object) -> bool:
-        if not isinstance(other, Chunks):
-            return NotImplemented
-        return self._packed == other._packed
-
-    def __hash__(self) -> int:
-        return hash(self._packed)
-
-    def __bytes__(self) -> bytes:
-        return self._packed
-
-    def __repr__(self) -> str:
-        return f"<yurewha.Chunks of {len(self)}>"
-
-    def __copy__(self) -> Chunks:
-        return self
-
-    def __deepcopy__(self, memo: object) -> Chunks:
-        return self
-
-    def __reduce__(self) -> Tuple[Type[Chunks], Tuple[bytes]]:
-        return Chunks, (self._packed,)

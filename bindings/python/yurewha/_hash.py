@@ -342,6 +342,7 @@ def _handed(
     data: BytesLike, nobody_writes: bool, at_once: Callable[[Start, int], _Result], by_pieces: Callable[[Lent], _Result]
 ) -> _Result:
     """Hands bytes over at once, as they are where nobody writes to them, or as one copy; or lends them to be copied by pieces."""
+    checked_bool(nobody_writes, "nobody_writes")
     if type(data) is bytes:
         return at_once(data, len(data))
     with Lent(data) as lent:

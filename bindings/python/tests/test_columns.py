@@ -1,0 +1,217 @@
+"""Columns of hashes and sizes, many chunks in one call, and hex texts in bulk."""
+
+import array
+import copy
+import pickle
+import random
+import struct
+
+import pytest
+
+import yurewha as y
+
+rng = random.Random(31)
+MAX = 2**64 - 1
+HASHES = [y.Hash.random_from_seed(seed) for seed in range(60)]
+SIZES = [rng.getrandbits(40) for _ in HASHES]
+CHUNKS = y.Chunks(zip(HASHES, SIZES))
+RAW = b"".join(hash_.bytes for hash_ in HASHES)
+RAW_SIZES = struct.pack("<60Q", *SIZES)
+
+
+def test_plain_columns():
+    for hashes in (HASHES, tuple(HASHES), [h.bytes for h in HASHES], RAW, bytearray(RAW), memoryview(RAW),
+                   memoryview(RAW).cast("B", (60, 32)), memoryview(RAW).cast("Q"), memoryview(RAW).cast("Q").cast("B"),
+                   y.Hashes(RAW), CHUNKS.hashes):
+        for sizes in (SIZES, tuple(SIZES), array.array("Q", SIZES), array.array("q", SIZES), RAW_SIZES, CHUNKS.sizes):
+            assert y.Chunks.from_columns(hashes, sizes) == CHUNKS
+    assert y.Chunks.from_columns(iter(HASHES), iter(SIZES)) == CHUNKS
+    assert y.Chunks.from_columns([], []) == y.Chunks.from_columns(b"", b"") == y.Chunks()
+    assert y.Chunks.from_columns([y.Hash()], [MAX]) == y.Chunks([(y.Hash(), MAX)])
+    assert list(CHUNKS.hashes) == HASHES and list(CHUNKS.sizes) == SIZES
+    assert list(y.Chunks().hashes) == list(y.Chunks().sizes) == []
+
+
+def test_columns_of_numpy():
+    numpy = pytest.importorskip("numpy")
+    words = numpy.frombuffer(RAW, dtype="<u8").reshape(60, 4)
+    plain = numpy.frombuffer(RAW, dtype="u1").reshape(60, 32)
+    sizes = numpy.array(SIZES, dtype="<u8")
+    for hashes in (words, plain, words.copy(), numpy.asfortranarray(words), plain.T.copy().T, plain[:, :],
+                   numpy.frombuffer(RAW, dtype="V32"), numpy.frombuffer(RAW, dtype="S32"), words.reshape(-1),
+                   numpy.asarray(CHUNKS)["words"], numpy.array([h.bytes for h in HASHES], dtype=object)):
+        for column in (sizes, sizes.astype("i8"), sizes.view("u1"), numpy.asarray(CHUNKS)["size"], sizes.astype(object)):
+            assert y.Chunks.from_columns(hashes, column) == CHUNKS
+    assert y.Chunks.from_columns(words[::-2], sizes[::-2]) == CHUNKS[::-2]
+    for kind in ("u2", "i2", "u4", "i4"):
+        small = numpy.arange(60, dtype=kind)
+        assert list(y.Chunks.from_columns(words, small).sizes) == list(range(60))
+    assert numpy.array_equal(numpy.asarray(y.Hashes(HASHES)), words) and numpy.array_equal(numpy.asarray(CHUNKS.sizes), sizes)
+    assert not numpy.asarray(y.Hashes(HASHES)).flags.writeable
+
+
+def test_columns_of_pandas():
+    pandas = pytest.importorskip("pandas")
+    frame = pandas.DataFrame({"hash": [h.bytes for h in HASHES], "made": HASHES, "size": SIZES})
+    for hashes in (frame["hash"], frame["made"], y.Hashes.from_hex(frame["made"].map(str))):
+        for sizes in (frame["size"], frame["size"].astype("uint64"), frame["size"].astype("Int64")):
+            assert y.Chunks.from_columns(hashes, sizes) == CHUNKS
+    with pytest.raises(TypeError, match="size 3 "):
+        y.Chunks.from_columns(frame["hash"], frame["size"].astype("Int64").where(frame.index != 3))
+    with pytest.raises(y.InvalidArguments, match="not 'd'"):
+        y.Chunks.from_columns(frame["hash"], frame["size"].where(frame.index != 3))
+    with pytest.raises(TypeError, match="hash 3 "):
+        y.Chunks.from_columns(frame["hash"].where(frame.index != 3), frame["size"])
+
+
+class ArrowArray:
+    """What `pyarrow.Array` has: its buffers, and a conversion to NumPy."""
+
+    def __init__(self, raw, plain):
+        self._raw, self._plain = raw, plain
+
+    def buffers(self):
+        return [None, memoryview(self._raw)]
+
+    def __array__(self, dtype=None):
+        return self._plain
+
+
+def test_columns_of_arrow():
+    numpy = pytest.importorskip("numpy")
+    hashes = ArrowArray(RAW, numpy.array([h.bytes for h in HASHES], dtype=object))
+    sizes = ArrowArray(RAW_SIZES, numpy.array(SIZES, dtype="u8"))
+    assert y.Chunks.from_columns(hashes, sizes) == CHUNKS
+    assert y.Chunks.from_columns(hashes.buffers()[1], sizes.buffers()[1]) == CHUNKS
+
+
+WRONG_COLUMNS = [
+    (y.InvalidArguments, "there are 2 hashes and 1 sizes", 2 * [y.Hash()], [1]),
+    (y.InvalidArguments, "there are 1 hashes and 2 sizes", [y.Hash()], [1, 2]),
+    (y.InvalidArguments, "there are 0 hashes and 1 sizes", [], b"12345678"),
+    (y.InvalidArguments, "size 1 is a whole number from 0", 2 * [y.Hash()], [1, -1]),
+    (y.InvalidArguments, "size 1 is a whole number from 0", 2 * [y.Hash()], [1, MAX + 1]),
+    (y.InvalidArguments, "size 1 is a whole number from 0", 2 * [y.Hash()], array.array("q", [1, -1])),
+    (TypeError, "size 1 is a whole number, not float", 2 * [y.Hash()], [1, 1.0]),
+    (TypeError, "size 1 is a whole number, not NoneType", 2 * [y.Hash()], [1, None]),
+    (y.InvalidArguments, "whole numbers, .* not 'd'", 2 * [y.Hash()], array.array("d", [1, 2])),
+    (y.InvalidArguments, "whole numbers, .* not 'B'", 2 * [y.Hash()], bytes(15)),
+    (TypeError, "hash 1 is a Hash or 32 bytes, not str", [y.Hash(), 64 * "0"], [1, 2]),
+    (TypeError, "hash 1 is a Hash or 32 bytes, not NoneType", [y.Hash(), None], [1, 2]),
+    (y.InvalidArguments, "hash 1 has 32 bytes, not 31", [y.Hash(), bytes(31)], [1, 2]),
+    (y.InvalidArguments, "there are 32 bytes for each", bytes(63), [1, 2]),
+    (y.InvalidArguments, "four unsigned words .* not 'q'", array.array("q", range(8)), [1, 2]),
+    (y.InvalidArguments, "four unsigned words .* not 'I'", array.array("I", range(16)), [1, 2]),
+    (y.InvalidArguments, "there are 32 bytes for each", memoryview(bytes(64)).cast("B", (32, 2)), [1, 2]),
+    (TypeError, "Hashes.from_hex reads texts", 64 * "0", [1]),
+    (TypeError, "", 7, [1]),
+    (TypeError, "", [y.Hash()], 7),
+    (TypeError, "", [y.Hash()], None),
+]
+
+
+@pytest.mark.parametrize("number", range(len(WRONG_COLUMNS)))
+def test_wrong_columns(number):
+    error, text, hashes, sizes = WRONG_COLUMNS[number]
+    with pytest.raises(error, match=text):
+        y.Chunks.from_columns(hashes, sizes)
+
+
+def test_wrong_columns_of_numpy():
+    numpy = pytest.importorskip("numpy")
+    for hashes in (numpy.zeros((2, 4), ">u8"), numpy.zeros((2, 4), "i8"), numpy.zeros((2, 4)), numpy.zeros((4, 2), "u8"),
+                   numpy.zeros((2, 8), "u4"), numpy.zeros(2, "V31"), numpy.zeros(2, [("a", "V16"), ("b", "V16")]),
+                   numpy.zeros((2, 31), "u1"), numpy.zeros(2, "M8[s]")):
+        with pytest.raises(y.InvalidArguments):
+            y.Hashes(hashes)
+    for sizes in (numpy.zeros(2), numpy.zeros(2, ">u8"), numpy.zeros((1, 2), "u8"), numpy.zeros(2, "?"), numpy.zeros(2, "c16")):
+        with pytest.raises(y.InvalidArguments):
+            y.Chunks.from_columns(2 * [y.Hash()], sizes)
+
+
+def test_hashes_are_a_sequence():
+    hashes = y.Hashes(HASHES)
+    assert hashes.packed == bytes(hashes) == RAW and len(hashes) == 60 and list(hashes) == HASHES
+    assert hashes[0] == HASHES[0] and hashes[-1] == HASHES[-1] and list(hashes[3:20:5]) == HASHES[3:20:5]
+    assert hashes[:7] + hashes[7:] == hashes == y.Hashes(RAW) and hashes[:7] + HASHES[7:] == hashes
+    assert HASHES[7] in hashes and hashes.index(HASHES[7]) == 7 and hash(hashes) == hash(y.Hashes(RAW))
+    assert hashes != HASHES and hashes != CHUNKS and y.Hashes(hashes) is hashes and repr(hashes) == "<yurewha.Hashes of 60>"
+    assert pickle.loads(pickle.dumps(hashes)) == copy.copy(hashes) == copy.deepcopy(hashes) == hashes
+    for call in (lambda: hashes[60], lambda: hashes[-61]):
+        with pytest.raises(IndexError):
+            call()
+    for call in (lambda: setattr(hashes, "_packed", b""), lambda: delattr(hashes, "_packed")):
+        with pytest.raises(AttributeError):
+            call()
+    with pytest.raises(TypeError):
+        type("Other", (y.Hashes,), {})
+
+
+def test_hex_in_bulk():
+    hashes = y.Hashes(HASHES)
+    texts = [hash_.hex() for hash_ in HASHES]
+    assert hashes.hex() == texts and y.Hashes.from_hex(texts) == hashes
+    assert y.Hashes.from_hex(text.upper() for text in texts) == hashes
+    assert y.Hashes().hex() == [] and y.Hashes.from_hex([]) == y.Hashes()
+
+
+@pytest.mark.parametrize("text", [
+    "", 63 * "0", 65 * "0", 128 * "0", 62 * "0" + "0g", 62 * "0" + " 0", " " + 63 * "0", 63 * "0" + "\n",
+    62 * "0" + "\u0660\u0661", 63 * "0" + "\ud800", 62 * "0" + "0x", 62 * "0" + "  ",
+], ids=ascii)
+def test_hex_texts_that_are_none(text):
+    for texts in ([64 * "0", text], [64 * "0", text, text], [64 * "0", text, 64 * "0"]):
+        with pytest.raises(y.InvalidText, match="^text 1: "):
+            y.Hashes.from_hex(texts)
+
+
+def test_wrong_types_of_hex_texts():
+    for value in (None, 7, b"00", 64 * b"0"):
+        with pytest.raises(TypeError, match="^text 1: hex is a str"):
+            y.Hashes.from_hex([64 * "0", value])
+    for value in (64 * "0", 7, None):
+        with pytest.raises(TypeError):
+            y.Hashes.from_hex(value)
+
+
+def drawn_offsets(end, count):
+    return [0, *sorted(rng.randrange(end + 1) for _ in range(count - 1)), end]
+
+
+@pytest.mark.parametrize("end, count", [(0, 1), (0, 5), (1, 3), (1000, 100), (50_000, 7), (3_000_000, 40), (2_200_000, 1)])
+def test_many_chunks_in_one_call(end, count):
+    data, offsets = rng.randbytes(end), drawn_offsets(end, count)
+    expected = y.Hashes(y.data_hash(data[start:stop]) for start, stop in zip(offsets, offsets[1:]))
+    for form in (data, bytearray(data), memoryview(data), memoryview(b"a" + data)[1:]):
+        for promised in (False, True):
+            assert y.data_hashes(form, offsets, nobody_writes=promised) == expected
+    assert y.data_hashes(memoryview(data[::-1])[::-1], iter(offsets)) == expected
+    for kind in "iIqQ":
+        assert y.data_hashes(data, array.array(kind, offsets)) == expected
+    assert y.data_hashes(data, offsets[1:]) == expected[1:] and y.data_hashes(data, offsets[:1]) == y.Hashes()
+    pairs = y.Chunks.from_columns(expected, [stop - start for start, stop in zip(offsets, offsets[1:])])
+    assert list(pairs) == [(y.data_hash(data[a:b]), b - a) for a, b in zip(offsets, offsets[1:])]
+
+
+@pytest.mark.parametrize("offsets, error, text", [
+    ([], y.InvalidArguments, "there is none"),
+    ([0, 3, 2], y.InvalidArguments, "offset 2 is 2, which is less than 3"),
+    ([-1, 3], y.InvalidArguments, "offset 0 is -1, which is less than 0"),
+    ([0, 11], y.InvalidArguments, "the last offset is 11, and there are 10 bytes"),
+    ([0, 2**64], y.InvalidArguments, "the last offset"),
+    ([0, 1.5], TypeError, "offset 1 is a whole number, not float"),
+    ([0, None], TypeError, "offset 1 is a whole number, not NoneType"),
+    (array.array("d", [0, 1]), y.InvalidArguments, "not 'd'"),
+    (b"\0\1", y.InvalidArguments, "not 'B'"),
+    (7, TypeError, ""),
+    ("07", TypeError, ""),
+])
+def test_wrong_offsets(offsets, error, text):
+    with pytest.raises(error, match=text):
+        y.data_hashes(bytes(10), offsets)
+
+
+def test_wrong_data_for_many_chunks():
+    for data in ("text", None, 7, [1, 2]):
+        with pytest.raises(TypeError):
+            y.data_hashes(data, [0, 1])

@@ -1,0 +1,179 @@
+"""Lists of hashes in one block, and hashing many chunks in one call."""
+
+from __future__ import annotations
+
+import ctypes
+import re
+from typing import Dict, Iterable, Iterator, List, SupportsIndex, Union, cast, final
+
+from ._errors import InvalidArguments, InvalidText
+from ._hash import Hash, checked_32, checked_bool, whole_number
+from ._lent import Lent, is_read_only
+from ._library import LONG_BYTES, CHash, calls_for
+from ._packed import BYTE, HASH, WORD, Packed, block_or_items, checked_block
+from ._types import BytesLike
+
+__all__ = ["Hashes", "data_hashes"]
+
+#: What a call takes as hashes.
+HashesLike = Union["Hashes", Iterable[Union[Hash, bytes]], BytesLike]
+
+_SIZE = 32
+_FORMS = ((1, re.compile(BYTE)), (8, re.compile(WORD)), (_SIZE, re.compile(HASH)))
+_EXPECTED = (
+    "packed hashes are bytes, four unsigned words of 8 bytes in a row, each with its least byte first, or plain items of 32 "
+    "bytes")
+
+
+def _raw(hash_: object, place: int) -> bytes:
+    if type(hash_) is Hash:
+        return hash_._raw
+    if type(hash_) is bytes:
+        return checked_32(hash_, f"hash {place}")
+    raise TypeError(f"hash {place} is a Hash or 32 bytes, not {type(hash_).__name__}")
+
+
+@final
+class Hashes(Packed[Hash]):
+    """A list of hashes in one block, 32 bytes each: a column of hashes.
+
+    It is made from hashes, each a `Hash` or 32 `bytes`; or from a block: `bytes`, or anything with the buffer protocol, among
+    it NumPy arrays of `V32`, of 32 bytes a row, or of four unsigned words of eight bytes a row, and Arrow's buffers of
+    `fixed_size_binary(32)`. It can't be changed. NumPy sees it as rows of four words: `numpy.asarray(hashes)`.
+
+    >>> hashes = Hashes([Hash.random_from_seed(1), Hash.random_from_seed(2)])
+    >>> len(hashes), hashes[1] == Hash.random_from_seed(2), len(hashes.packed)
+    (2, True, 64)
+    >>> Hashes(hashes.packed) == hashes
+    True
+    """
+
+    __slots__ = ()
+
+    _SIZE = _SIZE
+
+    def __new__(cls, hashes: HashesLike = ()) -> Hashes:
+        if isinstance(hashes, Hashes):
+            return hashes
+        if isinstance(hashes, str):
+            raise TypeError("hashes are a list of them, or a block of bytes; Hashes.from_hex reads texts")
+        given = block_or_items(hashes, _EXPECTED)
+        if not isinstance(given, memoryview):
+            return cls._of(b"".join(_raw(hash_, place) for place, hash_ in enumerate(given)))
+        with given:
+            return cls._of(checked_block(given, _SIZE, _FORMS, _EXPECTED))
+
+    def __init_subclass__(cls) -> None:
+        raise TypeError("Hashes isn't made to be derived from")
+
+    @staticmethod
+    def from_hex(texts: Iterable[str]) -> Hashes:
+        """The hashes of hex texts, each as `Hash.from_hex` reads it; `InvalidText` with the index of the first that is none.
+
+        >>> Hashes.from_hex([64 * "0", 63 * "0" + "A"])[1].hex()[-2:]
+        '0a'
+        """
+        if isinstance(texts, str):
+            raise TypeError("hex texts are a list of them, not a str")
+        listed = list(texts)
+        try:
+            packed = bytes.fromhex("".join(listed))
+        except (TypeError, ValueError):
+            packed = b""
+        if len(packed) != _SIZE * len(listed) or any(len(text) != 2 * _SIZE for text in listed):
+            return Hashes(_read_hex(text, place) for place, text in enumerate(listed))
+        return Hashes._of(_words_reversed(packed))
+
+    def hex(self) -> List[str]:
+        """The hex text of each hash, as `Hash.hex` gives it.
+
+        >>> Hashes([Hash(bytes(range(32)))]).hex()[0][:16]
+        '0706050403020100'
+        """
+        text = _words_reversed(self._packed).hex()
+        return [text[start:start + 2 * _SIZE] for start in range(0, len(text), 2 * _SIZE)]
+
+    @property
+    def __array_interface__(self) -> Dict[str, object]:
+        """How NumPy shares the block, read-only.
+
+        >>> Hashes([Hash()]).__array_interface__["shape"]
+        (1, 4)
+        """
+        return {"version": 3, "shape": (len(self), 4), "typestr": "<u8", "data": self._packed}
+
+    def _item(self, start: int) -> Hash:
+        return Hash._of(self._packed[start:start + _SIZE])
+
+    def __iter__(self) -> Iterator[Hash]:
+        for start in range(0, len(self._packed), _SIZE):
+            yield self._item(start)
+
+    def __add__(self, other: HashesLike) -> Hashes:
+        return Hashes._of(self._packed + Hashes(other)._packed)
+
+
+def _words_reversed(packed: bytes) -> bytes:
+    """Each eight bytes in reverse, as hex texts have them."""
+    out = bytearray(len(packed))
+    for place in range(8):
+        out[place::8] = packed[7 - place::8]
+    return bytes(out)
+
+
+def _read_hex(text: str, place: int) -> Hash:
+    try:
+        return Hash.from_hex(text)
+    except (InvalidText, TypeError) as error:
+        raise type(error)(f"text {place}: {error}") from None
+
+
+def data_hashes(
+    data: BytesLike, offsets: Union[Iterable[SupportsIndex], BytesLike], *, nobody_writes: bool = False
+) -> Hashes:
+    """The hash of each chunk of some bytes, as `data_hash` gives it. Chunk i begins at offset i and ends before offset i + 1.
+
+    `InvalidArguments` where there is no offset, or one is less than the one before it or passes the end. Chunks of read-only
+    bytes are hashed where they are; others are copied one by one, but under the promise `nobody_writes=True`. The
+    interpreter's lock is given up while a chunk of 16 KiB or more is hashed, and held between two of them.
+
+    >>> from yurewha import data_hash
+    >>> data_hashes(b"abcd", [0, 3, 4]) == Hashes([data_hash(b"abc"), data_hash(b"d")])
+    True
+    """
+    checked_bool(nobody_writes, "nobody_writes")
+    with Lent(data) as lent:
+        view = lent.view
+        places = _checked_offsets(offsets, lent.length)
+        if not view.c_contiguous:
+            return data_hashes(view.tobytes(), places)
+        lent.hold()
+        as_they_are = nobody_writes or is_read_only(view)
+        out = (CHash * (len(places) - 1))()
+        for start, stop, hash_ in zip(places, places[1:], out):
+            given = lent.at(start) if as_they_are else lent.piece(start, stop)
+            calls_for(stop - start, LONG_BYTES).yurewha_data_hash(given, stop - start, hash_)
+    return Hashes._of(bytes(out))
+
+
+def _checked_offsets(offsets: Union[Iterable[SupportsIndex], BytesLike], end: int) -> List[int]:
+    expected = "offsets are whole numbers, one more than there are chunks"
+    given = block_or_items(offsets, expected)
+    if isinstance(given, memoryview):
+        with given:
+            if not re.fullmatch("@?[hHiIlLqQ]", given.format) or given.ndim != 1:
+                raise InvalidArguments(f"{expected}, not '{given.format}'")
+            places = given.tolist()
+    else:
+        listed = cast(Iterable[SupportsIndex], given)
+        places = [whole_number(offset, f"offset {number}") for number, offset in enumerate(listed)]
+    if not places:
+        raise InvalidArguments(f"{expected}, and there is none")
+    before = 0
+    for number, place in enumerate(places):
+        if place < before:
+            raise InvalidArguments(f"offset {number} is {place}, which is less than {before}")
+        before = place
+    if before > end:
+        raise InvalidArguments(f"the last offset is {before}, and there are {end} bytes")
+    return places

@@ -1,0 +1,145 @@
+"""Items of one size, packed one after the other in one block of bytes."""
+
+from __future__ import annotations
+
+from operator import index
+from typing import Any, ClassVar, Iterable, Pattern, Sequence, Tuple, Type, TypeVar, Union, cast, overload
+
+from ._errors import InvalidArguments
+from ._lent import bytes_of
+from ._types import view_of
+
+_Item = TypeVar("_Item")
+_Self = TypeVar("_Self", bound="Packed[Any]")
+
+#: What a block may be, as the buffer protocol writes it: the bytes of an item, and its format.
+Forms = Sequence[Tuple[int, Pattern[str]]]
+
+# In a format, `(4)L` are four words of the machine's own, and `<Q` is a word of eight bytes, the least first. The name of a
+# field stands after its type.
+BYTE = "[@^=<]?[Bbc]"
+WORD = "[@^=<]?[QL]"
+HASH = rf"(?:32[sx]|\(32\){BYTE}|\(4\){WORD}|T\{{\(4\){WORD}:words:\}})"
+
+
+def block_or_items(values: object, expected: str) -> Union[memoryview, Iterable[object]]:
+    """A view of a block; or the items, where it is none. Columns of pandas and Arrow are taken as the arrays that they make.
+
+    >>> block_or_items(b"abc", "bytes").nbytes, block_or_items([1, 2], "numbers")
+    (3, [1, 2])
+    """
+    if isinstance(values, (list, tuple)):
+        return values
+    make = getattr(values, "__array__", None)
+    if make is not None:
+        values = make()
+    try:
+        view = view_of(values)
+    except TypeError:
+        return cast(Iterable[object], values)
+    except (ValueError, BufferError) as error:
+        raise InvalidArguments(f"{expected}: {error}") from None
+    return cast(Iterable[object], values) if view.format == "O" else view
+
+
+def checked_block(view: memoryview, size: int, forms: Forms, expected: str) -> bytes:
+    """The bytes of a block of items of one size, whose rows are items where it has rows.
+
+    >>> import re
+    >>> checked_block(memoryview(bytes(64)), 32, [(1, re.compile("B"))], "hashes are bytes") == bytes(64)
+    True
+    """
+    if not any(view.itemsize == bytes_ and form.fullmatch(view.format) for bytes_, form in forms):
+        raise InvalidArguments(f"{expected}, not '{view.format}'")
+    in_a_row = size // view.itemsize
+    if view.ndim == 1 or in_a_row == 1:
+        fits = view.nbytes % size == 0
+    else:
+        fits = (view.shape or ())[-1:] == (in_a_row,)
+    if not fits:
+        raise InvalidArguments(f"{expected}, and there are {size} bytes for each")
+    return bytes_of(view)
+
+
+class Packed(Sequence[_Item]):
+    """Items of one size in one block, which can't be changed."""
+
+    __slots__ = ("_packed",)
+
+    #: The bytes of an item.
+    _SIZE: ClassVar[int]
+    _packed: bytes
+
+    @classmethod
+    def _of(cls: Type[_Self], packed: bytes) -> _Self:
+        self = object.__new__(cls)
+        object.__setattr__(self, "_packed", packed)
+        return self
+
+    def _item(self, start: int) -> _Item:
+        """The item that begins at a place of the block."""
+        raise NotImplementedError
+
+    def __setattr__(self, name: str, value: object) -> None:
+        raise AttributeError(f"{type(self).__name__} can't be changed")
+
+    def __delattr__(self, name: str) -> None:
+        raise AttributeError(f"{type(self).__name__} can't be changed")
+
+    @property
+    def packed(self) -> bytes:
+        """The block, without a copy. `memoryview(chunks.packed)` hands it to whatever reads buffers.
+
+        >>> from yurewha import Chunks, Hash
+        >>> Chunks([(Hash(), 1)]).packed == bytes(32) + b"\\x01" + bytes(7)
+        True
+        """
+        return self._packed
+
+    def __len__(self) -> int:
+        return len(self._packed) // self._SIZE
+
+    @overload
+    def __getitem__(self, at: int) -> _Item: ...
+
+    @overload
+    def __getitem__(self: _Self, at: slice) -> _Self: ...
+
+    def __getitem__(self: _Self, at: Union[int, slice]) -> Union[_Item, _Self]:
+        size = self._SIZE
+        if isinstance(at, slice):
+            start, stop, step = at.indices(len(self))
+            if step == 1:
+                return self._of(self._packed[size * start:size * max(start, stop)])
+            places = range(start, stop, step)
+            return self._of(b"".join(self._packed[size * place:size * (place + 1)] for place in places))
+        place = index(at)
+        if place < 0:
+            place += len(self)
+        if not 0 <= place < len(self):
+            raise IndexError(f"there is no item {index(at)} in {self!r}")
+        item: _Item = self._item(size * place)
+        return item
+
+    def __eq__(self, other: object) -> bool:
+        if not isinstance(other, type(self)):
+            return NotImplemented
+        return self._packed == other._packed
+
+    def __hash__(self) -> int:
+        return hash(self._packed)
+
+    def __bytes__(self) -> bytes:
+        return self._packed
+
+    def __repr__(self) -> str:
+        return f"<yurewha.{type(self).__name__} of {len(self)}>"
+
+    def __copy__(self: _Self) -> _Self:
+        return self
+
+    def __deepcopy__(self: _Self, memo: object) -> _Self:
+        return self
+
+    def __reduce__(self: _Self) -> Tuple[Type[_Self], Tuple[bytes]]:
+        return type(self), (self._packed,)
