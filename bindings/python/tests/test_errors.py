@@ -247,6 +247,32 @@ def test_freed_twice():
     assert repr(freed_session()) == "<yurewha.Session that can't be read>"
 
 
+NAMED = [
+    ("chunk 2 ", lambda: y.xorb_hash([ONE, ONE, 7])),
+    ("chunk 2 isn't a pair", lambda: y.xorb_hash([ONE, ONE, (Z, 1, 2)])),
+    ("the hash of chunk 2 ", lambda: y.xorb_hash([ONE, ONE, (1, Z)])),
+    ("the size of chunk 2 ", lambda: y.xorb_hash([ONE, ONE, (Z, -1)])),
+    ("the size of chunk 2 ", lambda: y.Chunks([ONE, ONE, (Z, MAX + 1)])),
+    ("the size of chunk 1 ", lambda: session().put(0, [ONE, (Z, 1.5), ONE])),
+    ("the size of chunk 1 ", lambda: y.Subtree.from_chunks(True, iter([ONE, (Z, None)]), True)),
+    ("range 1 is a Subtree", lambda: y.Subtree.merge_all([open_tree(), None])),
+    ("range 1 is at the start", lambda: y.Subtree.merge_all([open_tree(), closed_tree(), open_tree()])),
+    ("range 0 is at the end", lambda: y.Subtree.merge_all([closed_tree(), open_tree()])),
+    ("level 1 ", lambda: y.Subtree.from_flat(False, [(1, 0), 7], [], False)),
+    ("a count of level 1 ", lambda: y.Subtree.from_flat(False, [(1, 0), (0, -1)], [], False)),
+    ("picture 1 ", lambda: y.svg_of([open_tree(), 7])),
+    ("position 3 is taken", lambda: session(3).put(0, 5 * [ONE])),
+    ("hash 1 ", lambda: y.Hashes([Z, 7])),
+]
+
+
+@pytest.mark.parametrize("number", range(len(NAMED)))
+def test_an_error_in_a_list_names_its_place(number):
+    text, call = NAMED[number]
+    with pytest.raises((TypeError, y.YurewhaError), match="^" + text):
+        call()
+
+
 def test_what_the_exceptions_are():
     for error in (y.InvalidArguments, y.SizeOverflow, y.InvalidText, y.InvalidJson, y.SessionOverlap, y.SessionPositions,
                   y.SessionSizes, y.SessionGap, y.EmptyHandle):

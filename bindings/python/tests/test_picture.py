@@ -49,6 +49,27 @@ def test_the_same_picture_in_a_file(tmp_path):
     assert words[0] == "<a> & b "
 
 
+def test_rules_are_for_the_picture_alone():
+    """A notebook shows the picture in its page, where a rule without the class would be for the whole page."""
+    root, _, _ = read(y.Subtree.from_chunks(True, numbered(0, 30), False).svg())
+    assert root.get("class") == "yurewha"
+    (style,) = root.iter(SVG + "style")
+    selectors = [rule.partition("{")[0] for rule in style.text.split("}") if rule]
+    assert len(selectors) > 5 and all(selector.startswith(".yurewha ") for selector in selectors)
+
+
+def test_long_captions_stand_in_several_lines():
+    tree = y.Subtree.from_chunks(True, numbered(0, 30), True)
+    caption = "a caption of many words, " * 20
+    plain, long = tree.svg("a caption"), tree.svg(caption)
+    root, words, _ = read(long)
+    lines = [element.text for element in root.iter(SVG + "text") if element.get("class") == "c"]
+    assert " ".join(lines) == caption.strip() and 5 < len(lines) < 10 and max(map(len, lines)) <= 90
+    assert int(root.get("height")) == int(read(plain)[0].get("height")) + 18 * (len(lines) - 1)
+    _, words, _ = read(tree.svg(200 * "a"))
+    assert words[:3] == [90 * "a", 90 * "a", 20 * "a"]
+
+
 def test_several():
     left, right = (y.Subtree.from_chunks(False, numbered(*ends), False) for ends in ((0, 19), (20, 23)))
     _, words, nodes = read(y.svg_of([left, right, left + right], ["left", "right", "both"]))

@@ -1,5 +1,7 @@
 """Reference hashes and worked examples."""
 
+import json
+
 import pytest
 import xet_model as m
 from reference import load
@@ -47,6 +49,21 @@ def test_texts_of_a_hash():
     assert Z.base64() == 43 * "A" and y.Hash(32 * b"\xff").base64() == 42 * "_" + "8"
     assert y.Hash(32 * b"\xff") % 4 == 3 and Z % 4 == 0
     assert repr(it) == f"Hash.from_hex('{it.hex()}')" and f"{it}" == it.hex()
+
+
+def test_formats_of_a_hash():
+    it = y.Hash.random_from_seed(1)
+    assert f"{it:.8}" == format(it, ".8") == it.hex()[:8] and f"{it!s:>66}" == f"{it:>66}" == "  " + it.hex()
+    with pytest.raises(ValueError):
+        format(it, "d")
+
+
+def test_a_hash_in_json():
+    value = {"root": y.Hash.random_from_seed(1), "hashes": [Z, Z]}
+    read = json.loads(json.dumps(value, default=y.Hash.hex))
+    assert y.Hash.from_hex(read["root"]) == value["root"] and list(map(y.Hash.from_hex, read["hashes"])) == value["hashes"]
+    with pytest.raises((AttributeError, TypeError)):
+        json.dumps({"root": object()}, default=y.Hash.hex)
 
 
 def test_chunks_of_data():
@@ -161,5 +178,6 @@ def test_the_session():
         session.finish(3)
     with pytest.raises(y.SessionOverlap):
         session.put(3, [seeded(3)])
+    assert list(session) == session.runs() == [(0, session.run(0)[1])] and dict(session)[0].total_size == 600
     assert session.num_runs == 1 and session.run(0)[1] == y.Subtree.from_chunks(False, [one, two] * 2, False)
     assert y.Session().finish(0) == y.Session().root(0) == Z and repr(session) == "<yurewha.Session of 1 runs>"

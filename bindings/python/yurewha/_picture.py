@@ -3,6 +3,7 @@
 from __future__ import annotations
 
 import html
+import textwrap
 from typing import List, Sequence, Tuple
 
 from ._chunks import Chunks
@@ -17,17 +18,20 @@ _ROW = 46
 _SHOWN = 12
 _ROWS = 24
 
-_STYLE = (
-    "text{font:11px sans-serif;fill:#222}"
-    ".c{font-weight:bold;font-size:13px}"
-    ".s{font-size:9px;fill:#555}"
-    ".n{fill:#cfe0f5;stroke:#3b6ea5}"
-    ".k{fill:#3b6ea5;stroke:#234a75}"
-    ".g{fill:#f3f3f3;stroke:#aaa;stroke-dasharray:3 3}"
-    ".u{stroke:#aaa;stroke-dasharray:3 3}"
-    ".m{stroke:#222;stroke-width:4}"
-    ".o{stroke:#aaa;stroke-dasharray:2 4;stroke-width:2}"
-)
+_CAPTION = 90  # so many letters of a caption stand in a line
+
+# A notebook takes the picture into its page, so each rule is for what stands in such a picture alone.
+_STYLE = "".join(f".yurewha {rule}" for rule in (
+    "text{font:11px sans-serif;fill:#222}",
+    ".c{font-weight:bold;font-size:13px}",
+    ".s{font-size:9px;fill:#555}",
+    ".n{fill:#cfe0f5;stroke:#3b6ea5}",
+    ".k{fill:#3b6ea5;stroke:#234a75}",
+    ".g{fill:#f3f3f3;stroke:#aaa;stroke-dasharray:3 3}",
+    ".u{stroke:#aaa;stroke-dasharray:3 3}",
+    ".m{stroke:#222;stroke-width:4}",
+    ".o{stroke:#aaa;stroke-dasharray:2 4;stroke-width:2}",
+))
 
 
 def _text(x: int, y: int, text: str, kind: str = "", anchor: str = "") -> str:
@@ -83,8 +87,8 @@ def _one(drawn: Drawn, top: int) -> Tuple[List[str], int]:
     caption, at_start, at_end, levels = drawn
     out: List[str] = []
     y = top + 18
-    if caption:
-        out.append(_text(10, y, caption, "c"))
+    for line in textwrap.wrap(caption, _CAPTION) if len(caption) > _CAPTION else filter(None, [caption]):
+        out.append(_text(10, y, line, "c"))
         y += 18
     of_level = [sum(size for _, size in left) + sum(size for _, size in right) for left, right in levels]
     nodes = sum(len(left) + len(right) for left, right in levels)
@@ -143,7 +147,7 @@ def picture_of(drawn: Sequence[Drawn]) -> str:
         _text(_LEFT + 298, y + 10, "nodes whose parents are the row above", "s"),
     ]
     return "\n".join([
-        f'<svg xmlns="http://www.w3.org/2000/svg" width="{_WIDTH}" height="{high}" viewBox="0 0 {_WIDTH} {high}">',
+        f'<svg xmlns="http://www.w3.org/2000/svg" class="yurewha" width="{_WIDTH}" height="{high}" viewBox="0 0 {_WIDTH} {high}">',
         f"<style>{_STYLE}</style>",
         f'<rect width="{_WIDTH}" height="{high}" fill="#fff"/>',
         *parts,

@@ -3,10 +3,11 @@
 from __future__ import annotations
 
 import ctypes
-from typing import List, NoReturn, Tuple, final
+from typing import Iterator, List, NoReturn, Tuple, final
 
 from ._chunks import Chunks, ChunksLike
-from ._errors import YurewhaError, error_of
+from ._declarations import STATUSES
+from ._errors import InvalidArguments, SessionOverlap, YurewhaError, error_of
 from ._guard import Guarded
 from ._hash import Hash, checked_u64
 from ._library import LONG_CHUNKS, CChunk, CHash, CSession, calls_for, long, short
@@ -29,14 +30,17 @@ class Session(Guarded):
     '284ea045e5a579e9'
     """
 
-    __slots__ = ("_handle",)
+    __slots__ = ("_handle", "_puts")
 
     _handle: CSession
+    # How many calls of `put` began, by which a call that looks several times sees that a signal's handler made one.
+    _puts: int
 
     def __new__(cls) -> Session:
         self = object.__new__(cls)
         self._guard()
         self._handle = CSession()
+        self._puts = 0
         status = short.yurewha_session_new(self._handle)
         if status:
             raise error_of(status)
@@ -70,7 +74,11 @@ class Session(Guarded):
         packed = Chunks(chunks).packed
         count, out = len(packed) // _CHUNK_SIZE, ctypes.c_uint64()
         with self._locked():
+            self._puts += 1
             status = calls_for(count, LONG_CHUNKS).yurewha_session_put(self._handle, place, packed, count, out)
+            if status == STATUSES["YUREWHA_SESSION_OVERLAP"]:
+                taken = next(filter(self.taken, range(place, min(place + count, 2**64))), place)
+                raise SessionOverlap(f"position {taken} is taken")
         if status:
             raise error_of(status)
         return out.value
@@ -121,14 +129,30 @@ class Session(Guarded):
         return first.value, subtree
 
     def runs(self) -> List[Tuple[int, Subtree]]:
-        """All runs by rising position: of each its first position and its subtree.
+        """All runs by rising position: of each its first position and its subtree. The time is with the square of their number.
 
         >>> session = Session(); _ = session.put(3, [(Hash(), 1)]), session.put(5, [(Hash(), 1)])
         >>> [first for first, _ in session.runs()]
         [3, 5]
         """
         with self._locked():
-            return [self.run(number) for number in range(self.num_runs)]
+            while True:
+                puts = self._puts
+                try:
+                    runs = [self.run(number) for number in range(self.num_runs)]
+                except InvalidArguments:
+                    runs = []  # a handler joined two runs
+                if puts == self._puts:
+                    return runs
+
+    def __iter__(self) -> Iterator[Tuple[int, Subtree]]:
+        """The runs as they are when this is called, as `runs` has them.
+
+        >>> session = Session(); _ = session.put(3, [(Hash(), 1)]), session.put(5, [(Hash(), 1)])
+        >>> dict(session)[5].total_size
+        1
+        """
+        return iter(self.runs())
 
     def root(self, total: int) -> Hash:
         """The root of all chunks by position; `SessionGap` where the positions taken aren't those from 0 to total - 1.
@@ -155,13 +179,13 @@ class Session(Guarded):
         return Hash._of(bytes(out))
 
     def __copy__(self) -> NoReturn:
-        raise TypeError("a Session can't be copied")
+        raise TypeError("a Session can't be copied, since the library has no call that copies one; its runs can")
 
     def __deepcopy__(self, memo: object) -> NoReturn:
-        raise TypeError("a Session can't be copied")
+        raise TypeError("a Session can't be copied, since the library has no call that copies one; its runs can")
 
     def __reduce__(self) -> NoReturn:
-        raise TypeError("a Session can't be pickled; its runs can")
+        raise TypeError("a Session can't be pickled, since the library has no call that lists its hashes; its runs can")
 
     def __repr__(self) -> str:
         try:

@@ -21,9 +21,10 @@ from typing import (
 )
 
 from ._chunks import Chunks, ChunksLike
+from ._declarations import STATUSES
 from ._errors import InvalidArguments, YurewhaError, error_of
 from ._guard import Guarded, all_locked, both_locked
-from ._hash import Hash, checked_32, checked_bool, checked_text, checked_u64
+from ._hash import Hash, checked_32, checked_bool, checked_text, checked_u64, own_bytes
 from ._library import (
     LONG_BYTES,
     LONG_CHUNKS,
@@ -36,7 +37,7 @@ from ._library import (
     short,
 )
 from ._picture import picture_of
-from ._types import BytesLike, view_of
+from ._types import BytesLike
 
 __all__ = ["Flat", "Subtree", "file_hash", "find_stable_end", "find_stable_start", "xorb_hash"]
 
@@ -394,7 +395,7 @@ class Subtree(Guarded):
         seen = set()
         for item in ranges:
             if not isinstance(item, Subtree):
-                raise TypeError(f"a range is a Subtree, not {type(item).__name__}")
+                raise TypeError(f"range {len(items)} is a Subtree, not {type(item).__name__}")
             # An object that comes again is copied, since the handles of a call are all different.
             items.append(item.copy() if id(item) in seen else item)
             seen.add(id(item))
@@ -408,8 +409,10 @@ class Subtree(Guarded):
                 handles[place].at = item._handle.at
                 item._handle = handles[place]
             status = calls_for(nodes, LONG_NODES).yurewha_subtree_merge(handles, len(items), merged._handle)
+            if status == STATUSES["YUREWHA_ARGUMENTS"]:
+                raise InvalidArguments(_misplaced(items))
         if status:
-            raise error_of(status, "a range other than the first is at the start, or one other than the last at the end")
+            raise error_of(status)
         return merged
 
     # ---- Copies and forms
@@ -479,13 +482,7 @@ class Subtree(Guarded):
         >>> Subtree.from_json('{"at_end":true,"at_start":true,"levels":[[0,0]],"nodes":[]}').is_empty
         True
         """
-        if isinstance(text, str):
-            data = checked_text(text, "JSON")
-        elif type(text) is bytes:
-            data = text
-        else:
-            with view_of(text) as view:
-                data = view.tobytes()
+        data = checked_text(text, "JSON") if isinstance(text, str) else own_bytes(text)
         self = Subtree._empty()
         status = calls_for(len(data), LONG_BYTES).yurewha_subtree_from_json(data, len(data), self._handle)
         if status:
@@ -524,12 +521,13 @@ class Subtree(Guarded):
         checked_bool(at_start, "at_start")
         checked_bool(at_end, "at_end")
         packed_levels = bytearray()
-        for level in levels:
+        for number, level in enumerate(levels):
             try:
                 left, right = level
             except (TypeError, ValueError):
-                raise TypeError("a level is a pair of numbers, of left and of right nodes") from None
-            packed_levels += _LEVEL.pack(checked_u64(left, "a count"), checked_u64(right, "a count"))
+                raise TypeError(f"level {number} is a pair of numbers, of left and of right nodes") from None
+            what = f"a count of level {number}"
+            packed_levels += _LEVEL.pack(checked_u64(left, what), checked_u64(right, what))
         packed = Chunks(nodes).packed
         count, self = len(packed) // _CHUNK_SIZE, Subtree._empty()
         status = calls_for(count, LONG_NODES).yurewha_subtree_from_flat(
@@ -582,6 +580,16 @@ class Subtree(Guarded):
         write_svg(path, [self], [caption])
 
 
+def _misplaced(ranges: Sequence[Subtree]) -> str:
+    """Which of some ranges is marked at an end that is inside them all."""
+    for place, item in enumerate(ranges):
+        if place > 0 and item.at_start:
+            return f"range {place} is at the start, and isn't the first"
+        if place < len(ranges) - 1 and item.at_end:
+            return f"range {place} is at the end, and isn't the last"
+    return "the ranges don't follow one another"
+
+
 def sides_of(flat: Flat) -> List[Tuple[Chunks, Chunks]]:
     """The left and the right nodes of each level.
 
@@ -609,7 +617,7 @@ def svg_of(subtrees: Sequence[Subtree], captions: Sequence[str] = ()) -> str:
     drawn = []
     for place, subtree in enumerate(subtrees):
         if not isinstance(subtree, Subtree):
-            raise TypeError(f"a picture is of a Subtree, not of {type(subtree).__name__}")
+            raise TypeError(f"picture {place} is of a Subtree, not of {type(subtree).__name__}")
         flat = subtree.to_flat()
         caption = captions[place] if place < len(captions) else ""
         drawn.append((caption, flat.at_start, flat.at_end, sides_of(flat)))
