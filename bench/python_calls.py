@@ -1,11 +1,12 @@
 """Times calls of the Python package on a million packed chunks beside the calls of the C library that they make, in
-turn, and prints the table. `bench/bindings` runs it."""
+turn, and counts what four threads do in the time of one; prints both tables. `bench/bindings` runs it."""
 
 from __future__ import annotations
 
 import ctypes
 import os
 import random
+import threading
 import time
 from typing import Callable
 
@@ -13,6 +14,7 @@ from yurewha import Chunks, Subtree, data_hash, xorb_hash
 
 TURNS = 15
 COUNT = 1_000_000
+SECONDS = 0.05
 
 
 def best(tasks: list[Callable[[], object]]) -> list[float]:
@@ -59,6 +61,49 @@ def main() -> None:
     for name, ours, call in rows:
         package, library_call = best([ours, call])
         print(f"| {name} | {package:.3f} | {library_call:.3f} | {package / library_call:.3f} |")
+    print("\n| Calls in a second | one thread | four threads | gain |\n|---|---|---|---|")
+    hundred = chunks[:100]
+    lent, written = memoryview(raw)[1:65537], bytearray(message)
+    for name, task in [
+        ("`data_hash` of 64 KiB of `bytes`", lambda: data_hash(message)),
+        ("of a `memoryview`", lambda: data_hash(lent)),
+        ("of a `bytearray`", lambda: data_hash(written)),
+        ("of a `bytearray` that nobody writes to", lambda: data_hash(written, nobody_writes=True)),
+        ("`Subtree.from_chunks` of 100", lambda: Subtree.from_chunks(False, hundred, False)),
+    ]:
+        one, four = most(task)
+        print(f"| {name} | {one:,.0f} | {four:,.0f} | {four / one:.2f} |")
+
+
+def most(task: Callable[[], object]) -> tuple[float, float]:
+    """The most calls in a second by one thread, and by four at once, taken in turn."""
+    turns = [[in_a_second(task, threads) for threads in (1, 4)] for _ in range(2 * TURNS)]
+    return max(one for one, _ in turns), max(four for _, four in turns)
+
+
+def in_a_second(task: Callable[[], object], threads: int) -> float:
+    """How many calls some threads make together in a second, by what they make in a part of one."""
+    counts, ended, begin = [], threading.Event(), threading.Barrier(threads + 1)
+
+    def work() -> None:
+        begin.wait()
+        count = 0
+        while not ended.is_set():
+            task()
+            count += 1
+        counts.append(count)
+
+    started = [threading.Thread(target=work) for _ in range(threads)]
+    for thread in started:
+        thread.start()
+    begin.wait()
+    start = time.perf_counter()
+    time.sleep(SECONDS)
+    ended.set()
+    taken = time.perf_counter() - start
+    for thread in started:
+        thread.join()
+    return sum(counts) / taken
 
 
 main()
