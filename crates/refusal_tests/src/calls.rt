@@ -5,6 +5,7 @@
 
 mod examples;
 mod hashes;
+mod large;
 mod lines;
 mod maps;
 mod no_memory;
@@ -223,7 +224,7 @@ fn attempt(
         | Call::OrDefault
         | Call::InsertEntry
         | Call::VacantInsert
-        | Call::VacantInsertEntry => maps::fill(call, alloc, granted),
+        | Call::VacantInsertEntry => maps::fill(call, alloc, granted, 100),
         Call::XorbHash | Call::FileHash | Call::FileHashWithSalt => {
             hashes::of_chunks(call, alloc, granted, chunks)?
         }

@@ -26,14 +26,14 @@ make|
 join|
 root|";
 
-// The two lines of a list of nodes.
-fn answer_to(memory: Global, nodes: &[Node]) -> Result<String, Fail> {
+/// The two lines of a list of nodes.
+pub fn answer_to(memory: Global, nodes: &[Node]) -> Result<String, Fail> {
     let (root, file) = (xorb_hash(memory, nodes)?, file_hash(memory, nodes)?);
     Ok(format!(in memory; "xorb {root}\nfile {file}\n")?)
 }
 
-// The line of the range of some nodes.
-fn range_of(memory: Global, nodes: &[Node]) -> Result<String, Fail> {
+/// The line of the range of some nodes.
+pub fn range_of(memory: Global, nodes: &[Node]) -> Result<String, Fail> {
     let range = MerkleHashSubtree::from_chunks(memory, false, nodes, false)?;
     let mut line = range.to_json(memory)?.to_string(memory)?;
     line.push('\n')?;
@@ -74,8 +74,8 @@ fn input_and_answer(memory: Global, call: &str, lines: &str) -> Result<(String, 
     ))
 }
 
-// The status of what a call comes to, or 0.
-fn status_of(
+/// The status of what a call comes to, or 0.
+pub fn status_of(
     alloc: &Refusing,
     memory: Global,
     call: &str,

@@ -80,11 +80,11 @@ fn put(call: Call, map: &mut Numbers<'_>, number: u64) -> Result<u64, AllocError
     }
 }
 
-/// Tries to put the numbers up to 99 into a map. After a refusal it should have the numbers before the refused one.
-pub fn fill(call: Call, alloc: &Refusing, granted: u32) -> Outcome {
+/// Tries to put the numbers up to a count into a map. After a refusal it should have the numbers before the refused one.
+pub fn fill(call: Call, alloc: &Refusing, granted: u32, count: u64) -> Outcome {
     let mut map = PassThroughHashMap::new(alloc);
     alloc.grant(granted);
-    for number in 0..100 {
+    for number in 0..count {
         match put(call, &mut map, number) {
             Ok(value) if value == number => {}
             Ok(_) => return Outcome::Wrong,
@@ -97,5 +97,5 @@ pub fn fill(call: Call, alloc: &Refusing, granted: u32) -> Outcome {
             }
         }
     }
-    outcome_of(alloc, Ok(has_numbers(&map, 100)), true)
+    outcome_of(alloc, Ok(has_numbers(&map, count)), true)
 }

@@ -1,0 +1,359 @@
+//! Calls on long lists, on long texts and on many ranges, with memory to spare: a call is out of memory for no other reason
+//! than a refused request. Each answer is compared with that of another call, or with what the values were made of.
+//!
+//! Lines, and lists that are hashed, are shorter than other values, so that these tests take seconds.
+
+use super::lines::{answer_to, range_of, status_of};
+use super::maps::{Numbers, fill, has_numbers};
+use super::ranges::Kind;
+use super::{Call, Chunks, OF_CHUNKS, Outcome, Refusing, attempt, refusing};
+use rand_core::SeedableRng;
+use rand_xoshiro::Xoshiro256PlusPlus;
+use std::alloc::Global;
+use std::fmt::Write;
+use std::test::Fail;
+use test_support::drawn_nodes;
+use test_support::trees::join;
+use upload_session::session::SessionOf;
+use xet_hash::data_hash::{DataHash, HashTextError, MerkleHash, compute_data_hash};
+use xet_hash::passthrough_hashmap::PassThroughHashMap;
+use xet_merkle::CoreError;
+use xet_merkle::aggregated_hashes::{Node, file_hash, xorb_hash};
+use xet_merkle::merge_tree::MergeTree;
+use xet_merkle::merkle_hash_subtree::MerkleHashSubtree;
+use xet_merkle::plain_range::PlainRange;
+
+// How many nodes, ranges, lines, numbers or bytes there are: a few more than 10^3, 10^4 and 10^5.
+const MANY: usize = 1_001;
+
+const MORE: usize = 10_001;
+
+const MOST: usize = 100_001;
+
+// So many nodes that are no natural cuts.
+fn uncut(alloc: Global, count: usize) -> Result<Vec<Node>, Fail> {
+    let mut nodes = Vec::new(alloc);
+    for number in 0..count as u64 {
+        nodes.push((MerkleHash::from([number, 0, 0, 1]), 1))?;
+    }
+    Ok(nodes)
+}
+
+// So many nodes of which a quarter are natural cuts.
+fn drawn(alloc: Global, count: usize) -> Result<Vec<Node>, Fail> {
+    let mut generator = Xoshiro256PlusPlus::seed_from_u64(21);
+    Ok(drawn_nodes(&mut generator, alloc, count, 1)?)
+}
+
+#[test]
+fn calls_on_long_lists_are_answered(rt: HostRuntime) -> Result<(), Fail> {
+    for count in [MANY, MORE] {
+        let nodes = uncut(rt.alloc(), count)?;
+        for (number, (call, _)) in OF_CHUNKS.iter().enumerate() {
+            // The root of a range is asked for where both ends are marked.
+            let is_marked = matches!(call, Call::RootOfPlain);
+            let chunks = Chunks {
+                alloc: rt.alloc(),
+                at_start: is_marked,
+                nodes: &nodes,
+                at_end: is_marked,
+            };
+            let outcome = attempt(*call, &refusing(rt.alloc()), u32::MAX, &chunks)?;
+            assert!(rt;
+                matches!(outcome, Outcome::Answered),
+                "call {number} of the table, {count}"
+            );
+        }
+    }
+    Ok(())
+}
+
+#[test]
+fn the_longest_lists_are_answered(rt: HostRuntime) -> Result<(), Fail> {
+    let nodes = uncut(rt.alloc(), MOST)?;
+    let (front, back) = nodes.split_at(MORE.min(nodes.len()));
+    let mut merged = MerkleHashSubtree::from_chunks(rt.alloc(), true, front, false)?;
+    merged.merge_into(&MerkleHashSubtree::from_chunks(rt.alloc(), false, back, false)?)?;
+    assert!(rt; merged.num_nodes() == MOST && merged.left(0) == nodes.as_slice());
+    assert!(rt; merged.try_clone()? == merged);
+    let counts = [(MOST, 0)].to_vec(rt.alloc())?;
+    let kept = nodes.to_vec(rt.alloc())?;
+    assert!(rt; MerkleHashSubtree::from_flat(rt.alloc(), true, counts, kept, false)? == merged);
+    merged.merge_into(&MerkleHashSubtree::from_chunks(rt.alloc(), false, &[], true)?)?;
+    assert!(rt; merged.final_hash() == Some(xorb_hash(rt.alloc(), &nodes)?));
+    Ok(())
+}
+
+// Whether the range of some chunks is that of none with theirs after them.
+fn is_made<'a, R: Kind<Alloc = &'a Refusing>>(
+    alloc: &'a Refusing,
+    nodes: &[Node],
+) -> Result<bool, CoreError> {
+    let range = R::from_chunks(alloc, false, nodes, false)?;
+    let mut joined = R::from_chunks(alloc, false, &[], false)?;
+    joined.join(&range)?;
+    Ok(joined.equals(&range))
+}
+
+#[test]
+fn ranges_of_each_length_are_answered(rt: HostRuntime) -> Result<(), Fail> {
+    let alloc = refusing(rt.alloc());
+    let nodes = uncut(rt.alloc(), MANY)?;
+    for count in 0..=nodes.len() {
+        let (front, _) = nodes.split_at(count);
+        assert!(rt;
+            is_made::<MerkleHashSubtree<&Refusing>>(&alloc, front)?,
+            "{count}"
+        );
+        assert!(rt; is_made::<PlainRange<&Refusing>>(&alloc, front)?, "{count}");
+    }
+    Ok(())
+}
+
+// The calls that fill a map.
+const OF_MAPS: [Call; 8] = [
+    Call::MapInsert,
+    Call::OrInsert,
+    Call::OrInsertWith,
+    Call::OrInsertWithKey,
+    Call::OrDefault,
+    Call::InsertEntry,
+    Call::VacantInsert,
+    Call::VacantInsertEntry,
+];
+
+// Whether maps of so many numbers are made and copied.
+fn are_maps_made(alloc: &Refusing, count: u64) -> Result<bool, Fail> {
+    let room: Numbers<'_> = PassThroughHashMap::with_capacity(alloc, count as usize)?;
+    let numbers = PassThroughHashMap::from_pairs(alloc, (0..count).zip(0..count))?;
+    Ok(room.is_empty() && has_numbers(&numbers, count) && has_numbers(&numbers.try_clone()?, count))
+}
+
+#[test]
+fn maps_of_many_numbers_are_filled(rt: HostRuntime) -> Result<(), Fail> {
+    let alloc = refusing(rt.alloc());
+    for count in [MANY, MORE] {
+        assert!(rt; are_maps_made(&alloc, count as u64)?, "{count}");
+        for (number, call) in OF_MAPS.iter().enumerate() {
+            let outcome = fill(*call, &alloc, u32::MAX, count as u64);
+            assert!(rt;
+                matches!(outcome, Outcome::Answered),
+                "call {number} of the table, {count}"
+            );
+        }
+    }
+    Ok(())
+}
+
+// Whether a session takes chunks one by one, those at even positions first, and then those at odd ones; each hash is new.
+fn takes_one_by_one<'a, R: Kind<Alloc = &'a Refusing>>(
+    alloc: &'a Refusing,
+    nodes: &[Node],
+) -> Result<bool, Fail> {
+    let mut session: SessionOf<R> = SessionOf::new_in(alloc)?;
+    for odd in [0, 1] {
+        for (position, node) in (0..).zip(nodes) {
+            if position % 2 == odd && session.put(position, &[*node]) != Ok(1) {
+                return Ok(false);
+            }
+        }
+    }
+    Ok(session.finish(nodes.len() as u64) == Ok(file_hash(alloc, nodes)?))
+}
+
+// Whether a session takes chunks, whose hashes are all new, by one put.
+fn takes_at_once<'a, R: Kind<Alloc = &'a Refusing>>(
+    alloc: &'a Refusing,
+    nodes: &[Node],
+) -> Result<bool, Fail> {
+    let mut session: SessionOf<R> = SessionOf::new_in(alloc)?;
+    let all = R::from_chunks(alloc, false, nodes, false)?;
+    let is_put = session.put(0, nodes) == Ok(nodes.len() as u64);
+    Ok(match session.range(0) {
+        Some((first, range)) => is_put && first == 0 && range.equals(&all),
+        None => false,
+    })
+}
+
+// Whether a tree of ranges of a chunk each, each joined with all before it, gives the range of all chunks.
+fn is_run<'a, R: Kind<Alloc = &'a Refusing>>(
+    alloc: &'a Refusing,
+    memory: Global,
+    nodes: &[Node],
+) -> Result<bool, Fail> {
+    let mut tree: MergeTree<R> = MergeTree::Leaf(R::from_chunks(alloc, false, &[], false)?);
+    for node in nodes {
+        let leaf = MergeTree::Leaf(R::from_chunks(alloc, false, &[*node], false)?);
+        tree = join(memory, tree, leaf)?;
+    }
+    Ok(
+        tree.run()?
+            .equals(&R::from_chunks(alloc, false, nodes, false)?),
+    )
+}
+
+// Whether ranges of a chunk each are merged to that of all chunks.
+fn are_merged(alloc: &Refusing, memory: Global, nodes: &[Node]) -> Result<bool, Fail> {
+    let mut ranges = Vec::new(memory);
+    for node in nodes {
+        ranges.push(MerkleHashSubtree::from_chunks(alloc, false, &[*node], false)?)?;
+    }
+    let merged = MerkleHashSubtree::merge(alloc, &ranges)?;
+    Ok(merged == MerkleHashSubtree::from_chunks(alloc, false, nodes, false)?)
+}
+
+// Whether calls that take ranges of a chunk each are answered for one kind of range.
+fn are_ranges_taken<'a, R: Kind<Alloc = &'a Refusing>>(
+    alloc: &'a Refusing,
+    memory: Global,
+    nodes: &[Node],
+) -> Result<bool, Fail> {
+    Ok(
+        takes_one_by_one::<R>(alloc, nodes)?
+            && takes_at_once::<R>(alloc, nodes)?
+            && is_run::<R>(alloc, memory, nodes)?,
+    )
+}
+
+#[test]
+fn many_ranges_are_merged(rt: HostRuntime) -> Result<(), Fail> {
+    let (alloc, memory) = (refusing(rt.alloc()), rt.alloc());
+    for nodes in [drawn(memory, MANY)?, uncut(memory, MORE)?] {
+        let count = nodes.len();
+        assert!(rt; are_merged(&alloc, memory, &nodes)?, "{count}");
+        let are_taken = are_ranges_taken::<MerkleHashSubtree<&Refusing>>(&alloc, memory, &nodes)?
+            && are_ranges_taken::<PlainRange<&Refusing>>(&alloc, memory, &nodes)?;
+        assert!(rt; are_taken, "{count}");
+    }
+    Ok(())
+}
+
+#[test]
+fn a_session_takes_the_most_chunks_at_once(rt: HostRuntime) -> Result<(), Fail> {
+    let alloc = refusing(rt.alloc());
+    let nodes = uncut(rt.alloc(), MOST)?;
+    assert!(rt; takes_at_once::<MerkleHashSubtree<&Refusing>>(&alloc, &nodes)?);
+    Ok(())
+}
+
+// Lines of pairs, or of ranges of a chunk each.
+fn lines_of(memory: Global, nodes: &[Node], are_pairs: bool) -> Result<String, Fail> {
+    let mut lines = String::new(memory);
+    for node in nodes {
+        if are_pairs {
+            writeln!(lines, "{} {}", node.0, node.1)?;
+        } else {
+            lines.push_str(&range_of(memory, &[*node])?)?;
+        }
+    }
+    Ok(lines)
+}
+
+// Lines of pairs by position: those at even positions first, and then those at odd ones.
+fn lines_by_position(memory: Global, nodes: &[Node]) -> Result<String, Fail> {
+    let mut lines = String::new(memory);
+    for odd in [0, 1] {
+        for (position, (hash, size)) in (0u64..).zip(nodes) {
+            if position % 2 == odd {
+                writeln!(lines, "@{position}\n{hash} {size}")?;
+            }
+        }
+    }
+    Ok(lines)
+}
+
+// A line of so many letters after a first one.
+fn long_line(memory: Global, first: char, count: usize) -> Result<String, Fail> {
+    let mut line = String::new(memory);
+    line.push(first)?;
+    for _ in 0..count {
+        line.push('a')?;
+    }
+    line.push('\n')?;
+    Ok(line)
+}
+
+// Whether a call answers lines as told.
+fn is_answered(memory: Global, call: &str, input: &String, answer: &String) -> Result<bool, Fail> {
+    let mut output = Vec::new(memory);
+    let status = status_of(
+        &refusing(memory),
+        memory,
+        call,
+        input.as_bytes(),
+        &mut output,
+    );
+    Ok(status == 0 && output.as_slice() == answer.as_bytes())
+}
+
+#[test]
+fn many_pairs_are_answered(rt: HostRuntime) -> Result<(), Fail> {
+    let memory = rt.alloc();
+    for nodes in [drawn(memory, MANY)?, uncut(memory, MORE)?] {
+        let count = nodes.len();
+        let answer = answer_to(memory, &nodes)?;
+        let (pairs, placed) = (
+            lines_of(memory, &nodes, true)?,
+            lines_by_position(memory, &nodes)?,
+        );
+        assert!(rt; is_answered(memory, "run", &pairs, &answer)?, "{count}");
+        assert!(rt; is_answered(memory, "run", &placed, &answer)?, "{count}");
+        assert!(rt;
+            is_answered(memory, "run over plain ranges", &placed, &answer)?,
+            "{count}"
+        );
+    }
+    Ok(())
+}
+
+#[test]
+fn many_ranges_are_read_and_written(rt: HostRuntime) -> Result<(), Fail> {
+    let memory = rt.alloc();
+    let nodes = uncut(memory, MANY)?;
+    let (answer, range) = (answer_to(memory, &nodes)?, range_of(memory, &nodes)?);
+    let (pairs, ranges) = (
+        lines_of(memory, &nodes, true)?,
+        lines_of(memory, &nodes, false)?,
+    );
+    assert!(rt; is_answered(memory, "make", &pairs, &range)?);
+    assert!(rt; is_answered(memory, "join", &ranges, &range)?);
+    assert!(rt; is_answered(memory, "root", &ranges, &answer)?);
+    assert!(rt; is_answered(memory, "root", &range, &answer)?);
+    Ok(())
+}
+
+#[test]
+fn long_lines_are_answered(rt: HostRuntime) -> Result<(), Fail> {
+    let memory = rt.alloc();
+    for count in [MANY, MORE, MOST] {
+        let chunk = long_line(memory, '+', count)?;
+        let data = chunk.as_bytes().get(1..=count).unwrap_or_default();
+        let answer = answer_to(memory, &[(compute_data_hash(data), count as u64)])?;
+        assert!(rt; is_answered(memory, "run", &chunk, &answer)?, "{count}");
+        assert!(rt;
+            is_answered(memory, "run over plain ranges", &chunk, &answer)?,
+            "{count}"
+        );
+        let bad = long_line(memory, 'a', count)?;
+        for call in ["run", "run over plain ranges", "make", "join", "root"] {
+            let mut output = Vec::new(memory);
+            let alloc = refusing(memory);
+            let status = status_of(&alloc, memory, call, bad.as_bytes(), &mut output);
+            assert!(rt; status == 1 || status == 8, "{call}, {count}");
+        }
+    }
+    Ok(())
+}
+
+#[test]
+fn long_texts_are_no_hashes(rt: HostRuntime) -> Result<(), Fail> {
+    let memory = rt.alloc();
+    for count in [MANY, MORE, MOST] {
+        for first in ['a', '='] {
+            let text = long_line(memory, first, count)?;
+            let answer = DataHash::from_base64(&refusing(memory), text.as_str().trim());
+            assert!(rt; matches!(answer, Err(HashTextError::Bytes(_))), "{count}");
+        }
+    }
+    Ok(())
+}
