@@ -347,15 +347,14 @@ def _handed(
         return at_once(data, len(data))
     with Lent(data) as lent:
         view = lent.view
-        if view.nbytes < _SHORT or not view.c_contiguous or is_whole(view):
-            own = bytes_of(view)
-            return at_once(own, len(own))
-        lent.hold()
-        if nobody_writes or is_read_only(view):
+        at_one_place = view.c_contiguous and lent.length >= _SHORT and not is_whole(view)
+        if at_one_place and (nobody_writes or is_read_only(view)):
+            lent.hold()
             return at_once(lent.at(0), lent.length)
-        if lent.length <= _PIECE:
-            return at_once(lent.piece(0, lent.length), lent.length)
-        return by_pieces(lent)
+        if at_one_place and lent.length > _PIECE:
+            lent.hold()
+            return by_pieces(lent)
+        return at_once(bytes_of(view), lent.length)
 
 
 def _add(state: CHasher, start: Start, length: int) -> None:

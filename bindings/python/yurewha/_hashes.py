@@ -144,7 +144,7 @@ def data_hashes(
     checked_bool(nobody_writes, "nobody_writes")
     with Lent(data) as lent:
         view = lent.view
-        places = _checked_offsets(offsets, view.nbytes)
+        places = _checked_offsets(offsets, lent.length)
         if not view.c_contiguous:
             return data_hashes(view.tobytes(), places)
         lent.hold()

@@ -48,15 +48,18 @@ class Lent:
     b'bc'
     """
 
-    __slots__ = ("view", "_buffer")
+    __slots__ = ("view", "length", "_start", "_buffer")
 
-    #: What the buffer shows.
+    #: What the buffer shows, and how many bytes it has.
     view: memoryview
+    length: int
+    _start: int
     _buffer: _CBuffer
 
     def __init__(self, data: BytesLike) -> None:
         self._buffer = _CBuffer()
-        self.view = view_of(data)
+        self.view = view = view_of(data)
+        self.length = view.nbytes
 
     def __enter__(self) -> Lent:
         return self
@@ -79,17 +82,7 @@ class Lent:
         ...     lent.hold()
         """
         _get_buffer(self.view, self._buffer, _PLAIN)
-
-    @property
-    def length(self) -> int:
-        """How many bytes there are.
-
-        >>> with Lent(b"abc") as lent:
-        ...     lent.hold()
-        ...     lent.length
-        3
-        """
-        return int(self._buffer.len)
+        self._start = self._buffer.buf or 0
 
     def at(self, place: int) -> ctypes.c_char_p:
         """Where the byte at a place is, as a call takes it.
@@ -99,7 +92,7 @@ class Lent:
         ...     ctypes.string_at(lent.at(1), 2)
         b'bc'
         """
-        return ctypes.c_char_p(self._buffer.buf + place)
+        return ctypes.c_char_p(self._start + place)
 
     def piece(self, start: int, stop: int) -> bytes:
         """A copy of the bytes from one place up to another.
@@ -109,7 +102,7 @@ class Lent:
         ...     lent.piece(1, 3)
         b'bc'
         """
-        return ctypes.string_at(self._buffer.buf + start, stop - start)
+        return ctypes.string_at(self._start + start, stop - start)
 
 
 def is_whole(view: memoryview) -> bool:
@@ -138,9 +131,11 @@ def is_read_only(view: memoryview) -> bool:
     >>> is_read_only(memoryview(b"abc")), is_read_only(memoryview(bytearray(3)).toreadonly())
     (True, False)
     """
+    if not view.readonly or type(view.obj) is bytes:  # one of them, mostly
+        return view.readonly
     owner: object = view
     for _ in range(_OWNERS):
-        if owner is None or type(owner) is bytes:
+        if owner is None:
             return True
         try:
             with view_of(owner) as shown:

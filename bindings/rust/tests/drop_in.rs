@@ -94,7 +94,7 @@ fn types_have_their_traits() {
     map_traits::<PassThroughHashMap<u64, u8>>();
     fn writer<T: Write>() {}
     writer::<HashedWrite<Vec<u8>>>();
-    fn subtree<T: Clone + Debug + Send>() {}
+    fn subtree<T: Clone + Debug + Send + Sync>() {}
     subtree::<MerkleHashSubtree>();
     fn error<T: std::error::Error + Send + Sync + 'static>() {}
     error::<CoreError>();

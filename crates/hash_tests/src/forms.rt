@@ -26,7 +26,8 @@ impl fmt::Display for LowerHexOf {
 
 #[test]
 fn takes_32_bytes(rt: HostRuntime) -> Result<(), Fail> {
-    let hash = DataHash::from(BYTES);
+    let hash = DataHash::from_hex(HEX).ok().ok_or("no hash")?;
+    assert!(rt; DataHash::from(BYTES) == hash);
     assert!(rt; DataHash::from_slice(&BYTES).ok() == Some(hash));
     assert!(rt; DataHash::try_from(&BYTES[..]).ok() == Some(hash));
     assert!(rt; hash.to_vec(rt.alloc())?.as_slice() == BYTES.as_slice());

@@ -1,17 +1,37 @@
-//! An allocator for tests, which refuses requests.
+//! An allocator for tests, which refuses requests and counts those that it grants.
 #![tactic(auto)]
 
 use std::alloc::{AllocError, Allocator};
 use std::cell::Cell;
 
+/// How many requests an allocator granted, and of how many bytes in all.
+#[derive(Clone, Copy, Debug, PartialEq, Eq)]
+pub struct Granted {
+    pub requests: u64,
+    pub bytes: u64,
+}
+
+// No request.
+const NONE: Granted = Granted {
+    requests: 0,
+    bytes: 0,
+};
+
+// The requests since some were last granted.
+#[derive(Clone, Copy)]
+struct Counts {
+    // How many more are granted, and below zero once one was refused.
+    left: i64,
+    granted: Granted,
+}
+
 /// An allocator that grants its first requests, by handing them on to another allocator, and refuses each
-/// later one. The growth of a collection is a request. Collections that take a `&` to it share its count.
+/// later one. The growth of a collection is a request. Collections that take a `&` to it share its counts.
 ///
-/// No contract can speak of the count, which changes behind a `&`.
+/// No contract can speak of the counts, which change behind a `&`.
 pub struct RefusingAllocator<B: Allocator> {
     inner: B,
-    // How many more requests are granted, and below zero once one was refused.
-    left: Cell<i64>,
+    counts: Cell<Counts>,
 }
 
 impl<B: Allocator> RefusingAllocator<B> {
@@ -19,38 +39,61 @@ impl<B: Allocator> RefusingAllocator<B> {
     pub fn new(inner: B, granted: u32) -> Self {
         RefusingAllocator {
             inner,
-            left: Cell::new(i64::from(granted)),
+            counts: Cell::new(first(granted)),
         }
     }
 
     /// Grants so many requests from here on, and refuses each later one.
     pub fn grant(&self, granted: u32) {
-        self.left.set(i64::from(granted));
+        self.counts.set(first(granted));
     }
 
     /// Whether a request was refused since requests were last granted.
     pub fn has_refused(&self) -> bool {
-        self.left.get() < 0
+        self.counts.get().left < 0
+    }
+
+    /// The requests that were made and granted since requests were last granted.
+    pub fn granted(&self) -> Granted {
+        self.counts.get().granted
     }
 }
 
 impl<B: Allocator> Drop for RefusingAllocator<B> {
     fn drop(self) {
-        let Self { inner: _, left: _ } = self;
+        let Self {
+            inner: _,
+            counts: _,
+        } = self;
     }
 }
 
-// Counts a request, and tells whether it is refused.
-fn refuses(left: &Cell<i64>) -> bool {
-    left.set(left.get().saturating_sub(1));
-    left.get() < 0
+// So many requests are granted, and none was made yet.
+fn first(granted: u32) -> Counts {
+    Counts {
+        left: i64::from(granted),
+        granted: NONE,
+    }
+}
+
+// Counts a request for so many bytes, and tells whether it is refused.
+fn refuses(counts: &Cell<Counts>, size: usize) -> bool {
+    let Counts { left, mut granted } = counts.get();
+    let left = left.saturating_sub(1);
+    let is_refused = left < 0;
+    if !is_refused {
+        granted.requests = granted.requests.saturating_add(1);
+        granted.bytes = granted.bytes.saturating_add(size as u64);
+    }
+    counts.set(Counts { left, granted });
+    is_refused
 }
 
 unsafe impl<B: Allocator> Allocator for RefusingAllocator<B> {
     ghost dealloc_token = { λ heap ty ptr. B.dealloc_token heap.inner ty ptr };
 
     fn allocate(&self, size: usize, align: usize) -> Result<*mut u8, AllocError> {
-        if refuses(&self.left) {
+        if refuses(&self.counts, size) {
             return Err(AllocError);
         }
         self.inner.allocate(size, align)

@@ -13,7 +13,7 @@ use Rattle.std.proofs.lemmas.Map.Entries.{none_past_head}
 use Rattle.passthrough_map.specs.declared.passthrough_hashmap.entry.Entry.{Entry}
 use Rattle.passthrough_map.specs.declared.passthrough_hashmap.entry.OccupiedEntry.{OccupiedEntry}
 use Rattle.passthrough_map.specs.declared.passthrough_hashmap.entry.VacantEntry.{VacantEntry}
-use Rattle.passthrough_map.specs.Entry.{Occupied, Vacant, entry_map, entry_key, entry_value, IsFilled, IsLive, IsPlaceAfter}
+use Rattle.passthrough_map.specs.Entry.{Occupied, Vacant, entry_map, entry_key, entry_value, IsLive}
 use Rattle.passthrough_map.specs.FiniteMap.{key_at, value_at, IsFiniteMap, IsPut, Puts, Sets}
 
 -- what holds of each value holds of the one that is there
@@ -153,26 +153,3 @@ module _ {K V A : Type 0} {eq : K → K → Bool} (laws : IsEquivalence eq) wher
   UnwrapsOrElse-made place vacant is live P (Ok r) value made there =
       subst (λ found. UnwrapsOrElse found P r.now) (sym (ap (entry_value eq) is ∙ subst (IsLive eq) is live)) (subst P (sym there) made)
   UnwrapsOrElse-made place vacant is live P (Err e) value made there = there
-
-  -- a place that has a value is filled with the one that is written there
-  IsFilled-written : (place new : OccupiedEntry K V A) → IsLive eq (Occupied place) → (value : V)
-      → IsPlaceAfter (Occupied place) (Occupied new) (set_value (eq place.key) place.map.now value)
-      → IsFilled eq (Occupied place) value new
-  IsFilled-written place new live value after =
-      let there : value_at eq new.map.now new.key ≡ Some value =
-      ap (λ entries. value_at eq entries new.key) after.after
-      ∙ ap (value_at eq (set_value (eq place.key) place.map.now value)) after.same_key
-      ∙ value_at-written laws place.map.now place.key value live in
-      record {
-        same_map = after.same_map;
-        same_key = after.same_key;
-        live = ap is_some there;
-        value_there = there;
-        put = subst (IsPut eq place.map.now place.key value) (sym after.after) (IsPut-written laws place.map.now place.key value live);
-      }
-
-  pub IsFilled-there : (place : Entry K V A) (occupied new : OccupiedEntry K V A) → place ≡ Occupied occupied → IsLive eq place → (value : V)
-      → IsPlaceAfter (Occupied occupied) (Occupied new) (set_value (eq occupied.key) occupied.map.now value)
-      → IsFilled eq place value new
-  IsFilled-there place occupied new is live value after =
-      subst (λ p. IsFilled eq p value new) (sym is) (IsFilled-written occupied new (subst (IsLive eq) is live) value after)

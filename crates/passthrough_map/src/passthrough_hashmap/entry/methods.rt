@@ -134,14 +134,12 @@ impl<'a, Key: U64HashExtractable + Hash + Eq + Copy, Val: Drop, A: Allocator + C
     /// It fails where there was no value and no memory for one more entry. The map is then unchanged.
     pub fn insert_entry(self, value: Val) -> Result<OccupiedEntry<'a, Key, Val, A>, AllocError>
         requires { IsLive Key.eq self }
+        ensures* refused { sem 𝓛 (stays_if_refused Key.row Val.row A.row Key.U64HashExtractable Key.Hash A.Allocator self.entry result) }
         ensures written { IfOk result (IsFilled Key.eq self.entry value) }
         ensures absent { OnErr result (entry_value Key.eq self.entry ≡ None) }
     {
         match self {
-            Entry::Occupied(mut place) => {
-                place.insert(value);
-                Ok(place)
-            }
+            Entry::Occupied(place) => place.insert_entry(value),
             Entry::Vacant(place) => place.insert_entry(value),
         }
     }
@@ -200,6 +198,25 @@ impl<'a, Key: U64HashExtractable + Hash + Eq, Val, A: Allocator> OccupiedEntry<'
             (set_value (Key.eq (entry_key (Occupied self.old))) (entry_map (Occupied self.old)).now value) }
     {
         mem::replace(self.map.get_mut(&self.key).unwrap(), value)
+    }
+}
+
+impl<'a, Key: U64HashExtractable + Hash + Eq + Copy, Val: Drop, A: Allocator + Clone> OccupiedEntry<
+    'a,
+    Key,
+    Val,
+    A,
+> {
+    // Puts `value` at the place.
+    fn insert_entry(self, value: Val) -> Result<OccupiedEntry<'a, Key, Val, A>, AllocError>
+        requires { IsLive Key.eq (Occupied self) }
+        ensures* refused { sem 𝓛 (stays_if_refused Key.row Val.row A.row Key.U64HashExtractable Key.Hash A.Allocator (Occupied self.entry) result) }
+        ensures written { IfOk result (IsFilled Key.eq (Occupied self.entry) value) }
+        ensures absent { OnErr result (entry_value Key.eq (Occupied self.entry) ≡ None) }
+    {
+        let OccupiedEntry { map, key } = self;
+        map.insert(key, value)?;
+        Ok(Self { map, key })
     }
 }
 
