@@ -1,4 +1,4 @@
-/* The sizes of the types, where their members stand, and the numbers of the statuses. */
+/* The sizes of the types, where their members stand, and the numbers of the statuses and of the version. */
 #include "harness.h"
 
 void test_layout(void)
@@ -39,4 +39,8 @@ void test_layout(void)
         row("%s: %zu", rows[i].name, rows[i].found);
         EXPECT(rows[i].found == rows[i].wanted);
     }
+    char version[40];
+    row("version");
+    snprintf(version, sizeof version, "%d.%d.%d", YUREWHA_VERSION_MAJOR, YUREWHA_VERSION_MINOR, YUREWHA_VERSION_PATCH);
+    EXPECT(strcmp(version, YUREWHA_VERSION) == 0);
 }

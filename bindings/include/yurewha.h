@@ -41,6 +41,15 @@
 extern "C" {
 #endif
 
+/* ---- Version */
+
+/* The version of this header and of the library that it was packed with. A program may use a library of a later version with the
+ * same first number. */
+#define YUREWHA_VERSION "1.0.0"
+#define YUREWHA_VERSION_MAJOR 1
+#define YUREWHA_VERSION_MINOR 0
+#define YUREWHA_VERSION_PATCH 0
+
 /* ---- Statuses */
 
 typedef uint32_t yurewha_status;
