@@ -1,6 +1,7 @@
 -- A subtree is added to those that wait, as a 1 to a binary number: with a carry.
-use Rattle.std.proofs.Common.{◌≡◌, ℕ, get_or, set, subst, zero, suc, ◌+◌, ◌-◌, ◌*◌, ◌/◌, ◌%◌, ◌^◌, ◌<◌, ◌≤◌, List, [], ◌∷◌, ◌++◌, length, take, refl, sym, ap, ◌∙◌, arith}
-use Rattle.std.proofs.lemmas.List.{length-take-le, length_push, same_from_push, take_more, take_more_set}
+use Rattle.std.proofs.Common.{◌≡◌, ℕ, get_or, set, subst, zero, suc, ◌+◌, ◌-◌, ◌*◌, ◌/◌, ◌%◌, ◌^◌, ◌<◌, ◌≤◌, inl, inr, List, [], ◌∷◌, ◌++◌, length, take, refl, sym, ap, ◌∙◌, arith}
+use Rattle.std.proofs.lemmas.Bool.{cases_lt}
+use Rattle.std.proofs.lemmas.List.{get_or-set_same, take-set, length-take-le, length_push, same_from_push, take_more, take_more_set}
 use Rattle.std.proofs.lemmas.Nat.{ones-le}
 use Rattle.std.specs.Int.RustNames.{count_ones}
 use Rattle.std.proofs.Math.Nat.{pow-succ', one-mul}
@@ -98,7 +99,25 @@ pub ones_below : (n : ℕ) → n < 2 ^ 54 → count_ones n ≤ 54
 unfolding count_ones
 ones_below n h = ones-le 54 n h
 
+-- a number with a larger one of as many bits has a bit that is 0
+pub ones_lt : (bits n : ℕ) → n + 1 < 2 ^ bits → count_ones n < bits
+ones_lt zero n h = absurd (omega arith)
+ones_lt (suc bits) n h =
+    let twice : 2 ^ suc bits ≡ 2 * 2 ^ bits = pow-succ' 2 bits in
+    elim (cases_lt (n % 2) 1) [
+      | inl even ↦
+          let e : n ≡ 2 * (n / 2) = omega arith in
+          let same : count_ones n ≡ count_ones (n / 2) = ap count_ones e ∙ ones-even (n / 2) in
+          omega (arith, ones-le bits (n / 2) (omega arith))
+      | inr odd ↦ omega (arith, ones_of_odd n (omega arith), ones_lt bits (n / 2) (omega arith))
+    ]
+
 -- ---- as the code does it
+
+-- the value of chunk number c put on top of what waits before it
+pub unjoined_put : (key : List ℕ) (stack : List (List ℕ)) (c : ℕ) (m v : List ℕ) → IsWaiting key stack c m → count_ones c < length stack → v ≡ subtree_at key 0 c m
+    → IsWaiting key (set stack (count_ones c) v) c m × (get_or (set stack (count_ones c) v) (count_ones c) [] ≡ subtree_at key 0 c m)
+unjoined_put key stack c m v waits fits is = (take-set stack (count_ones c) v ∙ waits, get_or-set_same stack (count_ones c) v [] fits ∙ is)
 
 -- a join of the top of the stack
 pub IsMerging-join : (key : List ℕ) (chunk : ℕ) (m : List ℕ) (stack : List (List ℕ)) (w value : List ℕ) (used rest : ℕ)

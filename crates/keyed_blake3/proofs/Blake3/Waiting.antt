@@ -8,7 +8,7 @@ use Rattle.std.proofs.lemmas.Nat.{pow_pos, ones_cat}
 use Rattle.std.proofs.Math.Nat.{pow-succ', mul_assoc}
 use Rattle.std.specs.Int.RustNames.{count_ones}
 use Rattle.keyed_blake3.specs.Blake3.{parent_value, subtree_value}
-use Rattle.keyed_blake3.specs.Steps.Tree.{subtree_at, waiting}
+use Rattle.keyed_blake3.specs.Steps.Tree.{joined, subtree_at, waiting}
 
 -- ---- even and odd numbers
 
@@ -153,11 +153,6 @@ waiting-none key zero k m = refl
 waiting-none key (suc bits) k m = rw (waiting-none key bits (suc k) m) refl
 
 -- ---- the end of a message
-
--- the waiting values joined with what is on their right, x; the flags are those of the last parent
-unfoldable pub joined : List ℕ → List (List ℕ) → (ℕ → List ℕ) → ℕ → List ℕ
-joined key [] x flags = x flags
-joined key (w ∷ ws) x flags = parent_value key w (joined key ws x 0) flags
 
 pub joined_push : (key : List ℕ) (ws : List (List ℕ)) (w : List ℕ) (x : ℕ → List ℕ) (flags : ℕ)
     → joined key (ws ++ w ∷ []) x flags ≡ joined key ws (λ f. parent_value key w (x 0) f) flags

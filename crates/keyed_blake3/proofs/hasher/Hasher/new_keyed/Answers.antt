@@ -1,13 +1,17 @@
-use Rattle.std.proofs.Common.{[], refl, sym}
-use Rattle.keyed_blake3.specs.Blake3.{after_blocks, words_at}
+use Rattle.std.proofs.Common.{[], arith, refl, sym}
 use Rattle.std.specs.Int.RustNames.{count_ones}
-use Rattle.keyed_blake3.specs.Blake3Hasher.{Holds, count_of}
+use Rattle.keyed_blake3.specs.Blake3.{after_blocks, words_at}
+use Rattle.keyed_blake3.specs.Blake3Hasher.{Holds, IsTaken, count_of}
 use Rattle.keyed_blake3.proofs.Blake3.Waiting.{waiting-none}
 use Rattle.keyed_blake3.proofs.hasher.Hasher.new_keyed.Goals as goal
 
 pub returns-clause-message : goal.returns-clause-message
-unfolding Holds after_blocks count_ones
-returns-clause-message c = (refl, (c.words-key.ensures, c.words-key.ensures, sym (waiting-none (words_at 8 c.args.key.now) 54 0 [])), refl)
+unfolding Holds IsTaken after_blocks count_ones
+returns-clause-message c = (
+  refl,
+  λ one. (refl, (c.words-key.ensures, c.words-key.ensures, sym (waiting-none (words_at 8 c.args.key.now) 54 0 [])), refl),
+  λ several whole. absurd (omega (arith, several)),
+)
 
 pub returns-clause-count : goal.returns-clause-count
 unfolding count_of
