@@ -118,6 +118,18 @@ fn chunks_are_put_in_any_order(rt: HostRuntime) -> Result<(), Fail> {
     Ok(())
 }
 
+#[test]
+fn the_program_passes_on_the_session(rt: HostRuntime) {
+    let mut session: xetroot_text::session::Session = SessionOf::new(rt.alloc());
+    assert!(rt; session.put(0, &[node(1, 100)]) == Ok(1));
+    let refused = xetroot_text::session_fault::SessionFault::Overlap;
+    assert!(rt; session.put(0, &[node(1, 100)]) == Err(refused));
+    let mut of_roots: SessionOf<PlainRange, xetroot_text::kept_hashes::NoHashes> = SessionOf::new(
+        rt.alloc(),
+    );
+    assert!(rt; of_roots.put(0, &[node(1, 100)]) == Ok(0));
+}
+
 // Whether a range of a session is the subtree of some chunks, from a position on.
 fn lends(
     alloc: Global,
