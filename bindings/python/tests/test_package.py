@@ -21,7 +21,7 @@ from yurewha import _declarations, _library, _processor
 PACKAGE = Path(y.__file__).resolve().parent
 REPOSITORY = Path(__file__).resolve().parents[3]
 HEADER = REPOSITORY / "bindings" / "include" / "yurewha.h"
-LIBRARY = os.environ.get("YUREWHA_LIB_DIR") or str(REPOSITORY / "bindings" / "out" / os.uname().machine / "lib")
+LIBRARY = os.path.realpath(os.environ.get("YUREWHA_LIB_DIR") or REPOSITORY / "bindings" / "out" / os.uname().machine / "lib")
 MODULES = sorted(module.name for module in pkgutil.iter_modules([str(PACKAGE)]))
 
 
@@ -198,7 +198,7 @@ def test_emulated_processors(processor, levels):
     hashed, path, *found = done.stdout.split()
     assert (hashed, found) == ("a8803506f7aff014", levels)
     places = [*(Path(LIBRARY, "glibc-hwcaps", level) for level in levels), Path(LIBRARY)]
-    assert path == next(str((it / _library.NAME).resolve()) for it in places if (it / _library.NAME).exists())
+    assert path == next(str(it / _library.NAME) for it in places if (it / _library.NAME).exists())
 
 
 TYPED = """

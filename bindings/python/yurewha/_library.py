@@ -123,10 +123,10 @@ def find(package: Optional[Path] = None) -> str:
         return str(own)
     folder = os.environ.get("YUREWHA_LIB_DIR")
     if folder:
-        named = best_of(Path(folder))
+        named = best_of(Path(folder).resolve())
         if not named:
             raise ImportError(f"yurewha: YUREWHA_LIB_DIR is {folder}, where there is no {NAME}")
-        return str(named.resolve())
+        return str(named)
     if package.parent.name == "python" and package.parent.parent.name == "bindings":
         built = best_of(package.parent.parent / "out" / platform.machine() / "lib")
         if built:
