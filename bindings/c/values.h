@@ -1,7 +1,7 @@
 /*
  * The expected values of the C tests. Made from model/ by
  *
- *     bindings/c/make_values > bindings/c/values.h
+ *     bindings/c/make_values_header > bindings/c/values.h
  *
  * A list is a pattern or drawn. Of a pattern, node i has the words i, 0, 0 and w, and the size 1; w is 0 where character i is
  * '|', which makes a natural cut, else 1. A pattern that is shorter than its list is repeated. Of a drawn list, node i has the

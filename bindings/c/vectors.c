@@ -1,4 +1,4 @@
-/* The test vectors of vectors/, as lines that make_vectors prints; YUREWHA_VECTORS is their file. */
+/* The test vectors of vectors/, as lines that make_vector_lines prints; YUREWHA_VECTORS is their file. */
 #include "harness.h"
 
 #include <inttypes.h>
@@ -562,7 +562,7 @@ void test_vectors(void)
     const char *name = getenv("YUREWHA_VECTORS");
     FILE *file = name == NULL ? NULL : fopen(name, "rb");
     if (file == NULL || fseek(file, 0, SEEK_END) != 0) {
-        printf("vectors      skipped: YUREWHA_VECTORS is no file of lines that make_vectors prints\n");
+        printf("vectors      skipped: YUREWHA_VECTORS is no file of lines that make_vector_lines prints\n");
         return;
     }
     const size_t size = (size_t)ftell(file);

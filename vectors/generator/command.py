@@ -1,4 +1,4 @@
-"""What `vectors/make` and `vectors/check` do."""
+"""What `vectors/make_vectors` and `vectors/check` do."""
 
 from __future__ import annotations
 

@@ -8,7 +8,7 @@ from typing import Any, Sequence
 from . import lists
 from .files import File, Group, Test, invalid, valid
 from .lists import MARKS
-from .model import gen_vectors, m
+from .model import drawn_cases, m
 
 RULES = {
     1: "it is an object",
@@ -210,7 +210,7 @@ def drawn() -> Group:
     """Drawn changes of drawn values, some for each rule."""
     wanted = {rule: 6 for rule in (*RULES, 0)}
     tests = []
-    for line in gen_vectors.vectors("json", 1, 20000):  # type: ignore[no-untyped-call]
+    for line in drawn_cases.cases("json", 1, 20000):  # type: ignore[no-untyped-call]
         if len(line["input"]) > 2600 or "not_json" in line:
             continue
         rule = line.get("rule", 0)

@@ -21,6 +21,7 @@ from yurewha import _declarations, _library, _processor
 PACKAGE = Path(y.__file__).resolve().parent
 REPOSITORY = Path(__file__).resolve().parents[3]
 HEADER = REPOSITORY / "bindings" / "include" / "yurewha.h"
+LIBRARY = os.path.realpath(os.environ.get("YUREWHA_LIB_DIR") or REPOSITORY / "bindings" / "out" / os.uname().machine / "lib")
 MODULES = sorted(module.name for module in pkgutil.iter_modules([str(PACKAGE)]))
 
 
@@ -133,11 +134,15 @@ def test_where_the_library_is_found(tmp_path):
     own.mkdir()
     shutil.copy(built, own / _library.NAME)
     assert found({**place, "YUREWHA_LIB_DIR": str(loader)}, tmp_path) == str(own / _library.NAME)
-    faster = own / "x86-64-v3"
-    faster.mkdir()
-    shutil.copy(built, faster / _library.NAME)
-    expected = faster if os.uname().machine == "x86_64" and _processor.level() == "x86-64-v3" else own
-    assert found(place, tmp_path) == str(expected / _library.NAME)
+    for folder in (own, loader, out):
+        for level in ("x86-64-v2", "x86-64-v3", "x86-64-v9"):
+            (folder / "glibc-hwcaps" / level).mkdir(parents=True)
+            shutil.copy(built, folder / "glibc-hwcaps" / level / _library.NAME)
+    best = Path("glibc-hwcaps", _processor.level()) if _processor.levels() else Path()
+    assert found(place, tmp_path) == str(own / best / _library.NAME)
+    shutil.rmtree(own)
+    assert found({**place, "YUREWHA_LIB_DIR": str(loader)}, tmp_path) == str(loader / best / _library.NAME)
+    assert found(place, tmp_path) == str(out / best / _library.NAME)
 
 
 def test_what_is_installed():
@@ -159,57 +164,41 @@ def test_a_library_without_a_call(tmp_path):
     assert told == f"ImportError: yurewha: {tmp_path / _library.NAME} has no yurewha_internal_node_hash"
 
 
-WITH_FLAGS = """
-import builtins, io
-plain = builtins.open
-builtins.open = lambda path, *rest, **names: io.StringIO({told!r}) if path == "/proc/cpuinfo" else plain(path, *rest, **names)
-import yurewha
-print("hashed", yurewha.data_hash(b"abc").hex()[:16])
-"""
-FLAGS_OF_V2 = "fpu sse2 cx16 lahf_lm pni popcnt sse4_1 sse4_2 ssse3"
-HASHED = "hashed a8803506f7aff014"
-
-
-def of_flags(flags):
-    told = f"processor\t: 0\nflags\t\t: {flags}\n\nprocessor\t: 1\n"
-    return found({"PYTHONPATH": str(PACKAGE.parent), "YUREWHA_LIB_DIR": LIBRARY}, "/", WITH_FLAGS.format(told=told))
-
-
-LIBRARY = str(Path(_library.PATH).resolve().parent)
 ON_X86_64 = pytest.mark.skipif(os.uname().machine != "x86_64", reason="it is about x86-64")
+FLAGS_OF_V2 = "cx16 lahf_lm pni popcnt sse4_1 sse4_2 ssse3"
+FLAGS_OF_V3 = "abm avx avx2 bmi1 bmi2 f16c fma movbe xsave"
 
 
 @ON_X86_64
-def test_a_processor_below_the_librarys_level():
-    assert of_flags(FLAGS_OF_V2) == HASHED
-    for flag in FLAGS_OF_V2.split()[2:]:
-        lacking = " ".join(word for word in FLAGS_OF_V2.split() if word != flag)
-        assert of_flags(lacking) == (
-            f"ImportError: yurewha: the library needs a processor of the level x86-64-v2, and this one has no {flag}")
-    assert of_flags("fpu sse2 cx16 lahf_lm pni").endswith("has no popcnt, no sse4_1, no sse4_2, no ssse3")
+def test_the_levels_of_a_processor(monkeypatch):
+    def levels_of(flags):
+        monkeypatch.setattr(_processor, "_flags_of_the_kernel", lambda: frozenset(flags.split()))
+        return _processor.levels()
+
+    monkeypatch.setattr(_processor, "_flags_of_glibc", lambda: None)
+    assert levels_of(f"fpu sse2 {FLAGS_OF_V2} {FLAGS_OF_V3}") == ["x86-64-v3", "x86-64-v2"]
+    for flag in FLAGS_OF_V3.split():
+        assert levels_of(f"{FLAGS_OF_V2} {FLAGS_OF_V3}".replace(flag, "")) == ["x86-64-v2"], flag
+    for flag in FLAGS_OF_V2.split():
+        assert levels_of(f"{FLAGS_OF_V2} {FLAGS_OF_V3}".replace(flag, "")) == [], flag
+    monkeypatch.setattr(_processor, "_flags_of_the_kernel", lambda: None)
+    assert _processor.flags() is None and _processor.levels() == [] and _processor.level() == "x86_64"
 
 
 @ON_X86_64
 @pytest.mark.skipif(not shutil.which("qemu-x86_64"), reason="there is no qemu-x86_64")
-@pytest.mark.parametrize("processor, expected", [
-    ("qemu64", "ImportError: yurewha: the library needs a processor of the level x86-64-v2, and this one has no popcnt, "
-               "no sse4_1, no sse4_2, no ssse3"),
-    ("Nehalem", HASHED + " x86-64-v2"),
-])
-def test_emulated_processors(processor, expected):
-    statement = "import yurewha, yurewha._library as l; print('hashed', yurewha.data_hash(b'abc').hex()[:16], l.LEVEL)"
-    values = {**os.environ, "PYTHONPATH": str(PACKAGE.parent), "YUREWHA_LIB_DIR": LIBRARY}
+@pytest.mark.parametrize("processor, levels", [
+    ("qemu64", []), ("Nehalem", ["x86-64-v2"]), ("Haswell", ["x86-64-v3", "x86-64-v2"])])
+def test_emulated_processors(processor, levels):
+    """On each the package takes the highest library that runs there."""
+    statement = "import yurewha, yurewha._library as l; print(yurewha.data_hash(b'abc').hex()[:16], l.PATH, *l.levels())"
     done = subprocess.run(
-        ["qemu-x86_64", "-cpu", processor, sys.executable, "-c", statement], env=values, capture_output=True, text=True,
-        check=False)
-    assert (done.stdout.strip() or done.stderr.strip().rpartition("\n")[2]) == expected
-
-
-@ON_X86_64
-def test_flags_that_nobody_tells(monkeypatch):
-    monkeypatch.setattr(_processor, "_flags_of_the_kernel", lambda: None)
-    monkeypatch.setattr(_processor, "_flags_of_glibc", lambda: None)
-    assert _processor.flags() is None and _processor.level() == "x86-64-v2"
+        ["qemu-x86_64", "-cpu", processor, sys.executable, "-c", statement], cwd="/", capture_output=True, text=True,
+        env={**os.environ, "PYTHONPATH": str(PACKAGE.parent), "YUREWHA_LIB_DIR": LIBRARY}, check=True)
+    hashed, path, *found = done.stdout.split()
+    assert (hashed, found) == ("a8803506f7aff014", levels)
+    places = [*(Path(LIBRARY, "glibc-hwcaps", level) for level in levels), Path(LIBRARY)]
+    assert path == next(str(it / _library.NAME) for it in places if (it / _library.NAME).exists())
 
 
 TYPED = """

@@ -15,7 +15,7 @@ from types import SimpleNamespace
 from typing import Any, Dict, Optional
 
 from ._declarations import DECLARATIONS, STRUCTS
-from ._processor import flags, lacking, level
+from ._processor import level, levels
 
 NAME = "libyurewha.so.1"
 
@@ -101,6 +101,16 @@ _TYPES: Dict[str, Any] = {
 }
 
 
+def best_of(folder: Path) -> Optional[Path]:
+    """Of a folder with libraries, the one for the highest level that this processor has.
+
+    >>> best_of(Path("/nowhere")) is None
+    True
+    """
+    places = [*(folder / "glibc-hwcaps" / name for name in levels()), folder]
+    return next((place / NAME for place in places if (place / NAME).exists()), None)
+
+
 def find(package: Optional[Path] = None) -> str:
     """The file of the library, or its bare name where the loader has to find it.
 
@@ -108,19 +118,18 @@ def find(package: Optional[Path] = None) -> str:
     True
     """
     package = Path(__file__).resolve().parent if package is None else package
-    own = package / "lib"
-    for candidate in (own / LEVEL / NAME, own / NAME):
-        if candidate.exists():
-            return str(candidate)
+    own = best_of(package / "lib")
+    if own:
+        return str(own)
     folder = os.environ.get("YUREWHA_LIB_DIR")
     if folder:
-        named = Path(folder) / NAME
-        if not named.exists():
+        named = best_of(Path(folder).resolve())
+        if not named:
             raise ImportError(f"yurewha: YUREWHA_LIB_DIR is {folder}, where there is no {NAME}")
-        return str(named.resolve())
+        return str(named)
     if package.parent.name == "python" and package.parent.parent.name == "bindings":
-        built = package.parent.parent / "out" / platform.machine() / "lib" / NAME
-        if built.exists():
+        built = best_of(package.parent.parent / "out" / platform.machine() / "lib")
+        if built:
             return str(built)
     return NAME
 
@@ -150,17 +159,7 @@ def _check_machine() -> None:
         raise ImportError("yurewha: it is there for CPython alone")
 
 
-def _check_processor() -> None:
-    if platform.machine() != "x86_64":
-        return
-    missing = lacking(flags())
-    if missing:
-        raise ImportError(
-            "yurewha: the library needs a processor of the level x86-64-v2, and this one has no " + ", no ".join(missing))
-
-
 _check_machine()
-_check_processor()
 
 #: The file that was loaded.
 PATH: str = find()

@@ -1,6 +1,6 @@
 """What the processor can do, and which library that asks for.
 
-The compiled libraries are for levels of x86-64, as its ABI names them. On a processor below its level a library ends the
+There are libraries for three levels of x86-64, as its ABI names them. One for a higher level than the processor has ends the
 process by an illegal instruction, so the package looks before it loads one.
 """
 
@@ -31,7 +31,10 @@ _PLACES: Dict[str, Tuple[int, int, int]] = {
 }
 
 _V2 = ("cx16", "lahf_lm", "pni", "popcnt", "sse4_1", "sse4_2", "ssse3")
-_V3 = ("abm", "avx", "avx2", "bmi1", "bmi2", "f16c", "fma", "movbe", "xsave")
+_V3 = (*_V2, "abm", "avx", "avx2", "bmi1", "bmi2", "f16c", "fma", "movbe", "xsave")
+
+#: The levels above the one that every x86-64 processor has, the highest first, with the flags that each needs.
+_LEVELS: Dict[str, Tuple[str, ...]] = {"x86-64-v3": _V3, "x86-64-v2": _V2}
 
 
 class _Leaf(ctypes.Structure):
@@ -74,29 +77,20 @@ def flags() -> Optional[FrozenSet[str]]:
     return frozenset.intersection(*told)
 
 
-def lacking(flags_: Optional[FrozenSet[str]]) -> List[str]:
-    """What a processor with these flags lacks of the level x86-64-v2, without which no library runs.
+def levels() -> List[str]:
+    """The levels of this processor above the one that every x86-64 processor has, the highest first.
 
-    >>> lacking(frozenset({"cx16", "lahf_lm", "pni", "popcnt", "ssse3"}))
-    ['sse4_1', 'sse4_2']
-    >>> lacking(None)
-    []
+    >>> set(levels()) <= {"x86-64-v3", "x86-64-v2"}
+    True
     """
-    if flags_ is None:
-        return []
-    return [name for name in _V2 if name not in flags_]
+    found = flags() if platform.machine() == "x86_64" else None
+    return [name for name, needed in _LEVELS.items() if found is not None and found.issuperset(needed)]
 
 
 def level() -> str:
-    """The level of the processor that libraries are made for: `x86-64-v3`, `x86-64-v2`, or its name on other machines.
+    """The highest of these levels, or the name of the processor if there is none.
 
     >>> level() != ""
     True
     """
-    machine = platform.machine()
-    if machine != "x86_64":
-        return machine
-    found = flags()
-    if lacking(found):
-        return "x86-64"
-    return "x86-64-v3" if found is not None and found.issuperset(_V3) else "x86-64-v2"
+    return next(iter(levels()), platform.machine())
