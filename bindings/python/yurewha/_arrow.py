@@ -147,7 +147,8 @@ def _joined(stream: _CStream) -> memoryview:
     at, schema, array = ctypes.addressof(stream), _CSchema(), _CArray()
     _check(stream, stream.get_schema(at, schema))
     try:
-        row, parts, count = _row_of(schema), [], 0
+        row, count = _row_of(schema), 0
+        parts: List[bytes] = []
         while True:
             _check(stream, stream.get_next(at, array))
             if not array.release:
