@@ -183,7 +183,7 @@ def test_columns_by_arrows_c_data_interface(kind):
     for cuts in ([], [(0, 60)], [(3, 20), (23, 0), (23, 37)]):
         hashes = Stream("w:32", *((RAW, offset, count, None) for offset, count in cuts))
         column = Stream(kind, *((sizes, offset, count, None) for offset, count in cuts))
-        assert y.Chunks.from_columns(hashes, column) == expected[cuts[0][0]:] if cuts else y.Chunks()
+        assert y.Chunks.from_columns(hashes, column) == (expected[cuts[0][0]:] if cuts else y.Chunks())
         # The struct of a stream is the capsule's.
         assert len(hashes.lent) == len(column.lent) == 1
 
@@ -228,7 +228,7 @@ def test_what_gives_no_column_of_arrow():
     released.release = lambda words, at: words
     with pytest.raises(y.InvalidArguments, match="given away before"):
         y.Hashes(released)
-    for given in (None, (1, 2), ("a", "b"), (released.capsule(b"arrow_stream", 5, released.lend_schema),) * 2):
+    for given in (None, (1, 2), ("a", "b"), (released.capsule(b"arrow_stream", 9, released.lend_schema),) * 2):
         other = type("Other", (), {"__arrow_c_array__": lambda self, given=given: given})()
         with pytest.raises((TypeError, ValueError)):
             y.Hashes(other)
