@@ -215,6 +215,15 @@ def test_wrong_sizes_of_arrow():
             y.Chunks.from_columns(HASHES, column)
 
 
+def test_columns_of_arrow_of_another_type_that_give_their_items():
+    """As the type `binary` has it: items of any length."""
+    numpy = pytest.importorskip("numpy")
+    for lender, given in ((Array, {"__array__": lambda self: numpy.array(HASHES, dtype=object)}),
+                          (Array, {"__iter__": lambda self: iter(HASHES)}), (Stream, {"__iter__": lambda self: iter(HASHES)})):
+        column = type("Column", (lender,), given)("z", (RAW, 0, 60, None))
+        assert y.Chunks.from_columns(column, SIZES) == CHUNKS
+
+
 def test_a_column_that_makes_an_array_and_is_no_stream():
     """As a column of pandas that holds objects."""
     numpy = pytest.importorskip("numpy")

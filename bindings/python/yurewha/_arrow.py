@@ -70,7 +70,8 @@ _Row = Tuple[str, int]
 
 
 def block_of_array(column: object) -> Optional[memoryview]:
-    """A copy of an array of Arrow as a block: of whole numbers, or of rows of bytes. None if it isn't one.
+    """A copy of an array of Arrow as a block: of whole numbers, or of rows of bytes. None if it isn't one, or gives its items in
+    another way.
 
     >>> block_of_array(b"abc") is None
     True
@@ -79,8 +80,8 @@ def block_of_array(column: object) -> Optional[memoryview]:
     if give is None:
         return None
     schema, array = give()
-    row = _row_of(_held(schema, b"arrow_schema", _CSchema))
-    return _shaped(row, [_values(row, _held(array, b"arrow_array", _CArray), 0)])
+    row = _row_of(_held(schema, b"arrow_schema", _CSchema), column)
+    return None if row is None else _shaped(row, [_values(row, _held(array, b"arrow_array", _CArray), 0)])
 
 
 def block_of_stream(column: object) -> Optional[memoryview]:
@@ -93,7 +94,7 @@ def block_of_stream(column: object) -> Optional[memoryview]:
     if give is None:
         return None
     capsule = give()
-    return _joined(_held(capsule, b"arrow_array_stream", _CStream))
+    return _joined(_held(capsule, b"arrow_array_stream", _CStream), column)
 
 
 def _held(capsule: object, name: bytes, kind: Type[_CStruct]) -> _CStruct:
@@ -104,13 +105,18 @@ def _held(capsule: object, name: bytes, kind: Type[_CStruct]) -> _CStruct:
     return held
 
 
-def _row_of(schema: _CSchema) -> _Row:
+def _row_of(schema: _CSchema, column: object) -> Optional[_Row]:
+    """What the items of a column are, or None if they can be had from its array or one by one alone."""
     text = schema.format.decode("ascii", "replace")
     bytes_ = re.fullmatch("w:([1-9][0-9]{0,8})", text)
-    if schema.dictionary or not (bytes_ or text in _NUMBERS):
-        kind = "a dictionary" if schema.dictionary else f"'{text}'"
-        raise InvalidArguments(f"a column of Arrow has whole numbers of 16 bits or more, or bytes of one size, not {kind}")
-    return ("B", int(bytes_[1])) if bytes_ else (_NUMBERS[text], 1)
+    if bytes_ and not schema.dictionary:
+        return "B", int(bytes_[1])
+    if text in _NUMBERS and not schema.dictionary:
+        return _NUMBERS[text], 1
+    if hasattr(column, "__array__") or hasattr(column, "__iter__"):
+        return None
+    kind = "a dictionary" if schema.dictionary else f"'{text}'"
+    raise InvalidArguments(f"a column of Arrow has whole numbers of 16 bits or more, or bytes of one size, not {kind}")
 
 
 def _values(row: _Row, array: _CArray, before: int) -> bytes:
@@ -142,24 +148,28 @@ def _shaped(row: _Row, parts: List[bytes]) -> memoryview:
     return block.cast(format_, (len(block) // count, count))
 
 
-def _joined(stream: _CStream) -> memoryview:
+def _joined(stream: _CStream, column: object) -> Optional[memoryview]:
     """The parts of a column, one after the other. Each is given back once it is copied."""
-    at, schema, array = ctypes.addressof(stream), _CSchema(), _CArray()
-    _check(stream, stream.get_schema(at, schema))
+    schema = _CSchema()
+    _check(stream, stream.get_schema(ctypes.addressof(stream), schema))
     try:
-        row, count = _row_of(schema), 0
-        parts: List[bytes] = []
-        while True:
-            _check(stream, stream.get_next(at, array))
-            if not array.release:
-                return _shaped(row, parts)
-            try:
-                parts.append(_values(row, array, count))
-                count += array.length
-            finally:
-                array.release(ctypes.addressof(array))
+        row = _row_of(schema, column)
+        return None if row is None else _shaped(row, list(_parts(stream, row)))
     finally:
         schema.release(ctypes.addressof(schema))
+
+
+def _parts(stream: _CStream, row: _Row) -> Iterator[bytes]:
+    array, before = _CArray(), 0
+    while True:
+        _check(stream, stream.get_next(ctypes.addressof(stream), array))
+        if not array.release:
+            return
+        try:
+            yield _values(row, array, before)
+            before += array.length
+        finally:
+            array.release(ctypes.addressof(array))
 
 
 def _check(stream: _CStream, status: int) -> None:
