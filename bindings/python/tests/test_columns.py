@@ -2,6 +2,7 @@
 
 import array
 import copy
+import ctypes
 import pickle
 import random
 import struct
@@ -83,6 +84,163 @@ def test_columns_of_arrow():
     sizes = ArrowArray(RAW_SIZES, numpy.array(SIZES, dtype="u8"))
     assert y.Chunks.from_columns(hashes, sizes) == CHUNKS
     assert y.Chunks.from_columns(hashes.buffers()[1], sizes.buffers()[1]) == CHUNKS
+
+
+WITHOUT = ctypes.CFUNCTYPE(None, ctypes.c_void_p)
+NEXT = ctypes.CFUNCTYPE(ctypes.c_int, ctypes.c_void_p, ctypes.c_void_p)
+LAST = ctypes.CFUNCTYPE(ctypes.c_void_p, ctypes.c_void_p)
+new_capsule = ctypes.pythonapi["PyCapsule_New"]
+new_capsule.argtypes, new_capsule.restype = [ctypes.c_void_p, ctypes.c_char_p, ctypes.c_void_p], ctypes.py_object
+
+
+class Lender:
+    """Lends a column as other packages do, by C structs that are written word by word as Arrow's page has them.
+
+    A part is its bytes, its offset, how many items it has, and its bitmap or None. The structs that weren't given back yet are
+    in `lent`.
+    """
+
+    def __init__(self, kind, *parts, dictionary=0, fails=False):
+        self.kind, self.parts, self.dictionary, self.fails = kind, list(parts), dictionary, fails
+        self.kept, self.lent = [], []
+
+    def place(self, value):
+        self.kept.append(value)
+        return ctypes.cast(value, ctypes.c_void_p).value
+
+    def release(self, words, at):
+        """A callback that takes a struct back, of which this word says so."""
+        def back(address):
+            self.lent.remove(address)
+            ctypes.c_uint64.from_address(address + 8 * at).value = 0
+
+        words[at] = self.place(WITHOUT(back))
+        return words
+
+    def lend(self, words, address):
+        self.lent.append(address)
+        ctypes.memmove(address, (ctypes.c_uint64 * len(words))(*words), 8 * len(words))
+
+    def lend_schema(self, address):
+        text = ctypes.c_char_p(self.kind.encode())
+        self.lend(self.release([self.place(text), 0, 0, 0, 0, 0, self.dictionary, 0, 0], 7), address)
+
+    def lend_array(self, part, address):
+        values, offset, count, bitmap = part
+        buffers = (ctypes.c_void_p * 2)(bitmap and self.place(ctypes.c_char_p(bitmap)), self.place(ctypes.c_char_p(values)))
+        nulls = 0 if bitmap is None else 2**64 - 1
+        self.lend(self.release([count, nulls, offset, 2, 0, self.place(buffers), 0, 0, 0, 0], 8), address)
+
+    def capsule(self, name, words, lend):
+        address = self.place((ctypes.c_uint64 * words)())
+        lend(address)
+        return new_capsule(address, name, None)
+
+
+class Array(Lender):
+    def __arrow_c_array__(self, requested_schema=None):
+        return (self.capsule(b"arrow_schema", 9, self.lend_schema),
+                self.capsule(b"arrow_array", 10, lambda address: self.lend_array(self.parts[0], address)))
+
+
+class Stream(Lender):
+    def next_part(self, _, address):
+        if not self.parts and self.fails:
+            return 5
+        if self.parts:
+            self.lend_array(self.parts.pop(0), address)
+        else:
+            ctypes.memset(address, 0, 80)
+        return 0
+
+    def get_schema(self, _, address):
+        self.lend_schema(address)
+        return 0
+
+    def lend_stream(self, address):
+        told = self.place(ctypes.c_char_p(b"a disk failed"))
+        calls = [NEXT(self.get_schema), NEXT(self.next_part), LAST(lambda _: told)]
+        self.lend(self.release([*map(self.place, calls), 0, 0], 3), address)
+
+    def __arrow_c_stream__(self, requested_schema=None):
+        return self.capsule(b"arrow_array_stream", 5, self.lend_stream)
+
+
+NUMBERS = {"s": "h", "S": "H", "i": "i", "I": "I", "l": "q", "L": "Q"}
+
+
+@pytest.mark.parametrize("kind", NUMBERS)
+def test_columns_by_arrows_c_data_interface(kind):
+    small = [size % 30_000 for size in SIZES]
+    sizes = struct.pack(f"=60{NUMBERS[kind]}", *small)
+    expected = y.Chunks(zip(HASHES, small))
+    for offset, count in ((0, 60), (7, 20), (59, 1), (60, 0)):
+        lent = Array("w:32", (RAW, offset, count, None)), Array(kind, (sizes, offset, count, None))
+        assert y.Chunks.from_columns(*lent) == expected[offset:offset + count]
+        valid = b"\xff" * 8
+        assert y.Chunks.from_columns(Array("w:32", (RAW, offset, count, valid)), small[offset:offset + count]) == (
+            expected[offset:offset + count])
+    for cuts in ([], [(0, 60)], [(3, 20), (23, 0), (23, 37)]):
+        hashes = Stream("w:32", *((RAW, offset, count, None) for offset, count in cuts))
+        column = Stream(kind, *((sizes, offset, count, None) for offset, count in cuts))
+        assert y.Chunks.from_columns(hashes, column) == (expected[cuts[0][0]:] if cuts else y.Chunks())
+        # The struct of a stream is the capsule's.
+        assert len(hashes.lent) == len(column.lent) == 1
+
+
+@pytest.mark.parametrize("column, text", [
+    (Array("w:32", (RAW, 3, 20, b"\xff\xef\xff")), "item 9 of the column of Arrow is null"),
+    (Stream("w:32", (RAW, 0, 4, None), (RAW, 4, 9, b"\xff\xfe")), "item 8 of the column of Arrow is null"),
+    (Array("w:32", (RAW, 0, 1, None), dictionary=1), "not a dictionary"),
+    (Array("w:31", (RAW, 0, 32, None)), "32 bytes for each"),
+    (Array("w:16", (RAW, 0, 120, None)), "32 bytes for each"),
+    (Array("L", (RAW, 0, 3, None)), "32 bytes for each"),
+    (Array("l", (RAW, 0, 240, None)), "not 'q'"),
+    (Array("C", (RAW, 0, 1920, None)), "not 'C'"),
+    (Array("w:0", (RAW, 0, 0, None)), "not 'w:0'"),
+    (Array("z", (RAW, 0, 1, None)), "not 'z'"),
+    (Array("+s", (RAW, 0, 1, None)), "not '\\+s'"),
+    (Stream("w:32", (RAW, 0, 4, None), fails=True), "a disk failed"),
+])
+def test_columns_of_arrow_that_are_none(column, text):
+    with pytest.raises(y.InvalidArguments, match=text):
+        y.Hashes(column)
+    assert len(column.lent) == (1 if isinstance(column, Stream) else 2)
+
+
+def test_wrong_sizes_of_arrow():
+    for column, text in ((Array("w:8", (RAW_SIZES, 0, 60, None)), "whole numbers"), (Array("g", (RAW, 0, 60, None)), "not 'g'"),
+                         (Array("l", (struct.pack("<q", -1) + RAW_SIZES, 0, 60, None)), "size 0 is a whole number")):
+        with pytest.raises(y.InvalidArguments, match=text):
+            y.Chunks.from_columns(HASHES, column)
+
+
+def test_columns_of_arrow_of_another_type_that_give_their_items():
+    """As the type `binary` has it: items of any length."""
+    numpy = pytest.importorskip("numpy")
+    for lender, given in ((Array, {"__array__": lambda self: numpy.array(HASHES, dtype=object)}),
+                          (Array, {"__iter__": lambda self: iter(HASHES)}), (Stream, {"__iter__": lambda self: iter(HASHES)})):
+        column = type("Column", (lender,), given)("z", (RAW, 0, 60, None))
+        assert y.Chunks.from_columns(column, SIZES) == CHUNKS
+
+
+def test_a_column_that_makes_an_array_and_is_no_stream():
+    """As a column of pandas that holds objects."""
+    numpy = pytest.importorskip("numpy")
+    column = ArrowArray(RAW, numpy.array(HASHES, dtype=object))
+    column.__arrow_c_stream__ = lambda: 1 / 0
+    assert y.Chunks.from_columns(column, SIZES) == CHUNKS
+
+
+def test_what_gives_no_column_of_arrow():
+    released = Array("w:32", (RAW, 0, 1, None))
+    released.release = lambda words, at: words
+    with pytest.raises(y.InvalidArguments, match="given away before"):
+        y.Hashes(released)
+    for given in (None, (1, 2), ("a", "b"), (released.capsule(b"arrow_stream", 9, released.lend_schema),) * 2):
+        other = type("Other", (), {"__arrow_c_array__": lambda self, given=given: given})()
+        with pytest.raises((TypeError, ValueError)):
+            y.Hashes(other)
 
 
 WRONG_COLUMNS = [

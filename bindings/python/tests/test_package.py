@@ -153,6 +153,19 @@ def test_what_is_installed():
     assert _processor.level() in ("x86-64-v2", "x86-64-v3", os.uname().machine)
 
 
+@pytest.mark.skipif(not Path("/proc/self/maps").exists(), reason="it needs /proc")
+def test_what_is_installed_where_the_loader_finds_the_library(tmp_path):
+    shutil.copytree(PACKAGE, tmp_path / "yurewha", ignore=shutil.ignore_patterns("lib", "__pycache__"))
+    folder = tmp_path / "loader"
+    folder.mkdir()
+    shutil.copy(Path(_library.PATH).resolve(), folder / _library.NAME)
+    names = {"PYTHONPATH": str(tmp_path), "LD_LIBRARY_PATH": str(folder)}
+    told = subprocess.run(
+        [sys.executable, "-m", "yurewha"], env={**os.environ, **names, "YUREWHA_LIB_DIR": ""}, cwd="/", capture_output=True,
+        text=True, check=True).stdout
+    assert f"library: {folder / _library.NAME}\n" in told
+
+
 def test_a_library_without_a_call(tmp_path):
     if not shutil.which("gcc"):
         pytest.skip("there is no compiler")

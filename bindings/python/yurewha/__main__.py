@@ -1,9 +1,25 @@
 """`python -m yurewha`: what is installed, and what it runs on."""
 
 from . import __version__
-from ._library import LEVEL, PATH
+from ._library import LEVEL, NAME, PATH
+
+
+def loaded() -> str:
+    """The file of the library, also where the loader found it.
+
+    >>> NAME in loaded()
+    True
+    """
+    if "/" not in PATH:
+        with open("/proc/self/maps", encoding="utf-8") as maps:
+            for line in maps:
+                file = line.rstrip("\n").split(maxsplit=5)[-1]
+                if file.rpartition("/")[2].startswith(NAME):
+                    return file
+    return PATH
+
 
 if __name__ == "__main__":
     print(f"yurewha {__version__}")
-    print(f"library: {PATH}")
+    print(f"library: {loaded()}")
     print(f"processor: {LEVEL}")

@@ -4,14 +4,13 @@ from __future__ import annotations
 
 import ctypes
 import threading
-from functools import partial
 from operator import index
 from typing import Callable, NoReturn, SupportsIndex, Tuple, Type, TypeVar, Union, final
 
 from ._declarations import LENGTHS
 from ._errors import DivisionByZero, InvalidArguments, InvalidText, ReentrantCall, YurewhaError, error_of
 from ._guard import Guarded
-from ._lent import Lent, bytes_of, is_read_only, is_whole
+from ._lent import Lent, bytes_of, in_place, is_read_only, is_whole
 from ._library import LONG_BYTES, CBytes, CHash, CHasher, calls_for, short
 from ._types import BytesLike, view_of
 
@@ -318,7 +317,7 @@ def data_hash(data: BytesLike, *, nobody_writes: bool = False) -> Hash:
     >>> data_hash(bytearray(b"abc"), nobody_writes=True) == data_hash(b"abc")
     True
     """
-    return _handed(data, nobody_writes, partial(_hashed, "yurewha_data_hash"), lambda lent: Hasher()._hash_by_pieces(lent))
+    return _handed(data, nobody_writes, _data_hashed, _data_hashed_by_pieces)
 
 
 def internal_node_hash(data: BytesLike, *, nobody_writes: bool = False) -> Hash:
@@ -327,34 +326,49 @@ def internal_node_hash(data: BytesLike, *, nobody_writes: bool = False) -> Hash:
     >>> internal_node_hash(b"") == Hasher.internal_node().hash()
     True
     """
-    return _handed(
-        data, nobody_writes, partial(_hashed, "yurewha_internal_node_hash"),
-        lambda lent: Hasher.internal_node()._hash_by_pieces(lent))
+    return _handed(data, nobody_writes, _node_hashed, _node_hashed_by_pieces)
 
 
-def _hashed(which: str, start: Start, length: int) -> Hash:
+def _data_hashed(start: Start, length: int) -> Hash:
     out = CHash()
-    getattr(calls_for(length, LONG_BYTES), which)(start, length, out)
+    calls_for(length, LONG_BYTES).yurewha_data_hash(start, length, out)
     return Hash._of(bytes(out))
+
+
+def _node_hashed(start: Start, length: int) -> Hash:
+    out = CHash()
+    calls_for(length, LONG_BYTES).yurewha_internal_node_hash(start, length, out)
+    return Hash._of(bytes(out))
+
+
+def _data_hashed_by_pieces(lent: Lent) -> Hash:
+    return Hasher()._hash_by_pieces(lent)
+
+
+def _node_hashed_by_pieces(lent: Lent) -> Hash:
+    return Hasher.internal_node()._hash_by_pieces(lent)
 
 
 def _handed(
     data: BytesLike, nobody_writes: bool, at_once: Callable[[Start, int], _Result], by_pieces: Callable[[Lent], _Result]
 ) -> _Result:
     """Hands bytes over at once, as they are where nobody writes to them, or as one copy; or lends them to be copied by pieces."""
-    checked_bool(nobody_writes, "nobody_writes")
+    if nobody_writes is not False:
+        checked_bool(nobody_writes, "nobody_writes")
     if type(data) is bytes:
         return at_once(data, len(data))
-    with Lent(data) as lent:
-        view = lent.view
-        at_one_place = view.c_contiguous and lent.length >= _SHORT and not is_whole(view)
-        if at_one_place and (nobody_writes or is_read_only(view)):
-            lent.hold()
-            return at_once(lent.at(0), lent.length)
-        if at_one_place and lent.length > _PIECE:
+    with view_of(data) as view:
+        length, owner = view.nbytes, view.obj
+        of_bytes = type(owner) is bytes
+        if length < _SHORT or not view.c_contiguous or of_bytes and is_whole(view):
+            return at_once(bytes_of(view), length)
+        if nobody_writes or of_bytes or is_read_only(view):
+            return in_place(view, at_once)
+        if length <= _PIECE:
+            return at_once(view.tobytes(), length)
+        with Lent(view) as lent:
             lent.hold()
             return by_pieces(lent)
-        return at_once(bytes_of(view), lent.length)
 
 
 def _add(state: CHasher, start: Start, length: int) -> None:

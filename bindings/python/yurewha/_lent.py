@@ -3,7 +3,7 @@
 from __future__ import annotations
 
 import ctypes
-from typing import Optional, Type, cast
+from typing import Callable, Optional, Type, TypeVar, cast
 
 from ._types import BytesLike, view_of
 
@@ -31,6 +31,8 @@ _get_buffer = _python["PyObject_GetBuffer"]
 _get_buffer.argtypes, _get_buffer.restype = [ctypes.py_object, ctypes.POINTER(_CBuffer), ctypes.c_int], ctypes.c_int
 _release_buffer = _python["PyBuffer_Release"]
 _release_buffer.argtypes, _release_buffer.restype = [ctypes.POINTER(_CBuffer)], None
+
+_Result = TypeVar("_Result")
 
 #: So many owners of a buffer are looked at, each the owner of the one before.
 _OWNERS = 16
@@ -103,6 +105,21 @@ class Lent:
         b'bc'
         """
         return ctypes.string_at(self._start + start, stop - start)
+
+
+def in_place(view: memoryview, call: Callable[[ctypes.c_char_p, int], _Result]) -> _Result:
+    """What a call makes of the bytes of a view, which it gets where they are. They lie one after the other.
+
+    >>> in_place(memoryview(b"abc")[1:], ctypes.string_at)
+    b'bc'
+    """
+    buffer = _CBuffer()
+    at = ctypes.byref(buffer)
+    try:
+        _get_buffer(view, at, _PLAIN)
+        return call(ctypes.c_char_p(buffer.buf), view.nbytes)
+    finally:
+        _release_buffer(at)  # which does nothing if the buffer wasn't had
 
 
 def is_whole(view: memoryview) -> bool:

@@ -5,6 +5,7 @@ from __future__ import annotations
 from operator import index
 from typing import Any, ClassVar, Iterable, Pattern, Sequence, Tuple, Type, TypeVar, Union, cast, overload
 
+from ._arrow import block_of_array, block_of_stream
 from ._errors import InvalidArguments
 from ._lent import bytes_of
 from ._types import view_of
@@ -23,7 +24,7 @@ HASH = rf"(?:32[sx]|\(32\){BYTE}|\(4\){WORD}|T\{{\(4\){WORD}:words:\}})"
 
 
 def block_or_items(values: object, expected: str) -> Union[memoryview, Iterable[object]]:
-    """A view of a block; or the items, where it is none. Columns of pandas and Arrow are taken as the arrays that they make.
+    """A view of a block; or the items, where it is none. Columns are taken as Arrow has them, or as the arrays that they make.
 
     >>> block_or_items(b"abc", "bytes").nbytes, block_or_items([1, 2], "numbers")
     (3, [1, 2])
@@ -31,6 +32,11 @@ def block_or_items(values: object, expected: str) -> Union[memoryview, Iterable[
     if isinstance(values, (list, tuple)):
         return values
     make = getattr(values, "__array__", None)
+    column = block_of_array(values)
+    if column is None and make is None:  # a column of pandas has both, and may hold what Arrow has no type for
+        column = block_of_stream(values)
+    if column is not None:
+        return column
     if make is not None:
         values = make()
     try:

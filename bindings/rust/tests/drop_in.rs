@@ -210,7 +210,41 @@ fn a_client_looks_chunks_up() {
             .sum::<u8>(),
         6
     );
-    assert_eq!(U64DirectHasher::<u64>::default().build_hasher().hash_one(7u64), 7);
+    assert!(PassThroughHashMap::<u64, u8>::default().is_empty());
+}
+
+#[test]
+fn a_client_walks_over_a_map() {
+    let mut sizes = PassThroughHashMap::from([(DataHash::marker(), 3u64)]);
+    for (_, size) in sizes.iter_mut() {
+        *size += 1;
+    }
+    for (hash, size) in sizes.iter() {
+        assert_eq!((*hash, *size), (DataHash::marker(), 4));
+    }
+    *sizes.entry(DataHash::default()).or_insert(0) += 5;
+    assert_eq!(sizes.values().sum::<u64>(), 9);
+}
+
+#[test]
+fn a_client_hashes_keys_by_their_numbers() {
+    let mut hasher = U64DirectHasher::<u64>::default().build_hasher();
+    hasher.write_u64(7);
+    assert_eq!(hasher.finish(), 7);
+    hasher.write(&8u64.to_le_bytes());
+    assert_eq!(hasher.finish(), 8);
+    assert_eq!(U64DirectHasher::<u64>::default().hash_one(7u64), 7);
+}
+
+#[test]
+fn a_client_tells_what_was_wrong() {
+    let texts = [
+        DataHash::from_hex("g").unwrap_err().to_string(),
+        DataHash::from_base64("?").unwrap_err().to_string(),
+        DataHash::from_slice(&[1]).unwrap_err().to_string(),
+        CoreError::InvalidArguments.to_string(),
+    ];
+    assert!(texts.iter().all(|text| !text.is_empty()));
 }
 
 mod with_serde {
@@ -227,6 +261,16 @@ mod with_serde {
         range: MerkleHashSubtree,
         sizes: PassThroughHashMap<MerkleHash, u64>,
         hasher: U64DirectHasher<MerkleHash>,
+    }
+
+    #[test]
+    fn a_client_calls_what_serde_calls() -> std::result::Result<(), serde_json::Error> {
+        let hash = DataHash::random_from_seed(1);
+        let text = data_hash::hex::serde::serialize(&hash, serde_json::value::Serializer)?;
+        assert_eq!(text, hash.hex());
+        assert_eq!(data_hash::hex::serde::deserialize(text)?, hash);
+        assert_eq!(serde_json::to_value(hash)?, serde_json::json!(*hash));
+        Ok(())
     }
 
     #[test]

@@ -7,8 +7,9 @@
 use std::cell::Cell;
 use std::ffi::c_void;
 use std::fmt::Debug;
-use std::panic::{catch_unwind, AssertUnwindSafe};
+use std::panic::{self, catch_unwind, AssertUnwindSafe};
 use std::ptr;
+use std::sync::Once;
 use yurewha::error::CoreError;
 use yurewha::merklehash::{
     compute_data_hash, compute_internal_node_hash, file_hash, xorb_hash, DataHash, MerkleHashSubtree,
@@ -31,6 +32,8 @@ thread_local! {
     static REQUESTS: Cell<u64> = const { Cell::new(0) };
     // How many more blocks this thread took by `malloc` than it freed.
     static BLOCKS: Cell<i64> = const { Cell::new(0) };
+    // The file of the last panic of this thread.
+    static PLACE: Cell<Option<String>> = const { Cell::new(None) };
 }
 
 // Counts a request, and tells whether it is refused.
@@ -264,10 +267,24 @@ fn a_value_that_is_dropped_frees_its_memory() {
     assert!(kept > 0);
 }
 
-// The message of the panic of a call, the first request of which is refused.
+// Keeps the file of each panic of a thread in `PLACE`.
+fn keep_places() {
+    static HOOK: Once = Once::new();
+    HOOK.call_once(|| {
+        let before = panic::take_hook();
+        panic::set_hook(Box::new(move |info| {
+            PLACE.set(info.location().map(|place| place.file().to_owned()));
+            before(info);
+        }));
+    });
+}
+
+// The message of the panic of a call, the first request of which is refused. Its place is in this file.
 fn panic_of<T: Debug>(call: impl FnOnce() -> T) -> String {
+    keep_places();
     let (answer, refused) = with_refusal(0, || catch_unwind(AssertUnwindSafe(call)));
     assert!(refused);
+    assert_eq!(PLACE.take().as_deref(), Some(file!()));
     *answer.unwrap_err().downcast().unwrap()
 }
 
@@ -293,7 +310,8 @@ fn calls_without_a_result_name_call_and_cause_in_a_panic() {
         panic_of(|| DataHash::from_base64(&base64)),
         "DataHash::from_base64: out of memory"
     );
-    assert_eq!(panic_of(Session::new), "Session::new: out of memory");
+    assert_eq!(panic_of(|| drop(Session::new())), "Session::new: out of memory");
+    assert_eq!(panic_of(|| drop(Session::default())), "Session::new: out of memory");
     assert_eq!(panic_of(|| session.range(0)), "Session::range: out of memory");
 }
 

@@ -2,7 +2,7 @@
 
 use crate::draws::{hash, Draws};
 use std::collections::HashSet;
-use std::hash::{DefaultHasher, Hash, Hasher};
+use std::hash::{BuildHasher, DefaultHasher, Hash, Hasher, RandomState};
 use std::io::{self, ErrorKind, Read, Write};
 use yurewha::merklehash::{
     compute_data_hash, compute_internal_node_hash, DataHash, DataHashBytesParseError, DataHashHexParseError, HMACKey,
@@ -143,6 +143,16 @@ fn a_hash_table_gets_the_first_word() {
     let hash = DataHash::from([1, 2, 3, 4]);
     assert_eq!(state(&|hasher| hash.hash(hasher)), state(&|hasher| hasher.write_u64(1)));
     assert_eq!(drawn().collect::<HashSet<_>>().len(), 200);
+}
+
+// So a hash can't be looked up by its bytes, and has no `Borrow<[u8; 32]>`.
+#[test]
+fn a_hash_and_its_bytes_have_other_orders_and_other_hashes() {
+    let hashes = [DataHash::from([1, 0, 0, 0]), DataHash::from([256, 0, 0, 0])];
+    let bytes = hashes.map(DataHash::to_bytes);
+    assert!(hashes[0] < hashes[1] && bytes[0] > bytes[1]);
+    let state = RandomState::new();
+    assert_ne!(state.hash_one(hashes[0]), state.hash_one(bytes[0]));
 }
 
 #[test]

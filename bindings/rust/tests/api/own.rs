@@ -33,6 +33,26 @@ fn errors_and_subtrees_can_be_compared() {
     subtree::<Subtree>();
 }
 
+// An arm for other variants can be reached, though each variant of today has one: there may be more later.
+#[deny(unreachable_patterns)]
+#[test]
+fn errors_may_get_more_variants() {
+    let _ = |error: CoreError| match error {
+        CoreError::InvalidArguments | CoreError::SizeOverflow | CoreError::OutOfMemory => 1,
+        CoreError::InvalidText | CoreError::InvalidJson(_) => 2,
+        _ => 3,
+    };
+    let _ = |error: own::HashTextError| match error {
+        own::HashTextError::Bytes(_) | own::HashTextError::OutOfMemory => 1,
+        _ => 2,
+    };
+    let _ = |fault: own::SessionFault| match fault {
+        own::SessionFault::Overlap | own::SessionFault::Positions | own::SessionFault::Sizes => 1,
+        own::SessionFault::Memory | own::SessionFault::Gap => 2,
+        _ => 3,
+    };
+}
+
 // Names of a user's own, each the name of an item or module of this crate that the Rust crate doesn't have. If a glob
 // brought one of them in as well, its use below would be an error.
 #[allow(dead_code)]
