@@ -48,7 +48,8 @@ export function startFiles(report) {
 
     const hashFiles = (files) => files.length > 0 && begin({ kind: "chunks", files: [...files] });
     get("chunks-of").addEventListener("change", (event) => hashFiles(event.target.files));
-    get("pairs-of").addEventListener("change", ({ target }) => target.files.length > 0 && begin({ kind: "pairs", file: target.files[0] }));
+    const readPairs = ([file]) => file && begin({ kind: "pairs", file });
+    get("pairs-of").addEventListener("change", (event) => readPairs(event.target.files));
     const drop = get("drop");
     for (const kind of ["dragenter", "dragover", "dragleave", "drop"]) {
         drop.addEventListener(kind, (event) => {

@@ -2,7 +2,7 @@
 
 const PAIR = /^([0-9a-fA-F]{64}) (0|[1-9][0-9]{0,19})$/;
 
-/** The chunks that lines of pairs say. Throws an Error that names the first line that is none; empty lines at the end don't count. */
+/** The chunks that lines of pairs say; space at the end doesn't count. Throws an Error that names the first line that is none. */
 export function chunksOfLines(yurewha, text) {
     const lines = text.replace(/\s+$/, "").split(/\r?\n/);
     const pairs = lines.map((line, k) => {

@@ -15,15 +15,19 @@ export const plural = (count, one) => `${count} ${one}${count === 1 ? "" : "s"}`
 export const chunksOf = ({ start, end }) => (start + 1 === end ? `chunk ${end}` : `chunks ${start + 1} to ${end}`);
 
 function box(node, what, isKept = true) {
-    const attributes = { class: `node${node.isCut ? " cut" : ""}${isKept ? "" : " hidden"}`, title: `${what}\n${node.hex}\n${node.size} bytes` };
-    const notes = [...(node.isCut ? [hidden(", natural cut")] : []), ...(isKept ? [] : [hidden(", hashed away")])];
-    return element("span", attributes, node.hex.slice(0, 4), ...notes);
+    const made = element("span", { class: "node", title: `${what}\n${node.hex}\n${node.size} bytes` }, node.hex.slice(0, 4));
+    made.classList.toggle("cut", node.isCut);
+    made.classList.toggle("hidden", !isKept);
+    if (node.isCut) made.append(hidden(", natural cut"));
+    if (!isKept) made.append(hidden(", hashed away"));
+    return made;
 }
 
 /** The button at a position between two chunks, which cuts or merges there. */
 function boundary(position, isCut, press) {
-    const label = isCut ? `Merge the ranges between chunk ${position} and chunk ${position + 1}` : `Cut between chunk ${position} and chunk ${position + 1}`;
-    const button = element("button", { type: "button", id: `between-${position}`, class: isCut ? "merge" : "cut-here", "aria-label": label, title: label }, isCut ? "merge" : "✂");
+    const label = `${isCut ? "Merge the ranges" : "Cut"} between chunk ${position} and chunk ${position + 1}`;
+    const attributes = { type: "button", id: `between-${position}`, class: isCut ? "merge" : "cut-here", "aria-label": label, title: label };
+    const button = element("button", attributes, isCut ? "merge" : "✂");
     button.addEventListener("click", () => press(position));
     return button;
 }
@@ -58,7 +62,8 @@ function sidesOf({ levels, nodes }, nodeOf) {
 function figures({ subtree, start, end, last }) {
     const kept = `Keeps ${plural(subtree.numNodes, "node")} of ${plural(end - start, "chunk")}.`;
     if (!last) return kept;
-    return `${kept} The merge hashed ${plural(last.parents, "parent")}, and may hash at most ${last.bound}: half of the ${last.before} nodes that both kept, and one for each level.`;
+    const bound = `at most ${last.bound}: half of the ${last.before} nodes that both kept, and one for each level`;
+    return `${kept} The merge hashed ${plural(last.parents, "parent")}, and may hash ${bound}.`;
 }
 
 function card(ranges, range, press) {
@@ -68,9 +73,10 @@ function card(ranges, range, press) {
     for (let level = sides.length - 1; level >= 0; level--) {
         const [left, right] = sides[level];
         const name = level === 0 ? "Chunks" : `Level ${level}`;
-        const counts = `${left.length} left, ${right.length} right`;
-        const row = level === 0 ? chunkRow(ranges, range, flat.levels[0], press) : nodeRow(left, right, level, level === sides.length - 1);
-        levels.append(element("li", {}, element("div", { class: "label" }, `${name}: ${counts}`), row));
+        const label = element("div", { class: "label" }, `${name}: ${left.length} left, ${right.length} right`);
+        const isTop = level === sides.length - 1;
+        const row = level === 0 ? chunkRow(ranges, range, flat.levels[0], press) : nodeRow(left, right, level, isTop);
+        levels.append(element("li", {}, label, row));
     }
     const title = chunksOf(range);
     const heading = element("h3", {}, title[0].toUpperCase() + title.slice(1));

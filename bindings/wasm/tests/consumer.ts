@@ -39,8 +39,8 @@ const levels: [number, number][] = y.Subtree.fromFlat(flat).levels;
 const final: Hash | null = whole.finalHash();
 const session: Session = new y.Session();
 const fresh: number = session.put(0, chunks);
-const [[position, run]] = session.runs();
-const start: bigint = position + run!.totalSize;
+const [position, run] = session.runs()[0]!;
+const start: bigint = position + run.totalSize;
 const point: number | null = y.findStableStart(chunks) ?? y.findStableEnd(chunks);
 
 try {

@@ -73,6 +73,7 @@ export class Handle {
 
 /** Lets `using` free objects of a class, in engines that have it. */
 export function disposable(kind) {
-    if (Symbol.dispose) Object.defineProperty(kind.prototype, Symbol.dispose, { value: kind.prototype.free, writable: true, configurable: true });
+    const value = kind.prototype.free;
+    if (Symbol.dispose) Object.defineProperty(kind.prototype, Symbol.dispose, { value, writable: true, configurable: true });
     return kind;
 }

@@ -6,6 +6,8 @@ import { InvalidArguments, check } from "./errors.js";
 export const HASH_LENGTH = 32;
 const HEX_LENGTH = 64;
 const BASE64_LENGTH = 43;
+const NO_HEX = "the hex text of a hash is 64 hex digits";
+const NO_BASE64 = "the base64 text of a hash is 43 characters that base64() gives";
 const decoder = new TextDecoder();
 
 /** A copy of 32 bytes. */
@@ -37,11 +39,11 @@ export function makeHash(library) {
         }
 
         static fromHex(hex) {
-            return parsed("yurewha_from_hex", text(hex, "hex"), "the hex text of a hash is 64 hex digits");
+            return parsed("yurewha_from_hex", text(hex, "hex"), NO_HEX);
         }
 
         static fromBase64(base64) {
-            return parsed("yurewha_from_base64", text(base64, "base64"), "the base64 text of a hash is 43 characters that base64() gives");
+            return parsed("yurewha_from_base64", text(base64, "base64"), NO_BASE64);
         }
 
         static randomFromSeed(seed) {

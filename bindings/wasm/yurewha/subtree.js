@@ -46,12 +46,20 @@ export function makeSubtree(library, { result }, { Chunks, packedOf }) {
         }
 
         static merge(ranges) {
-            const given = Array.from(ranges);
-            const distinct = given.map((range, k) => (given.indexOf(range) < k ? range.clone() : range));
+            const seen = new Set();
+            const copies = [];
+            // The handles of one call are distinct, so a range that comes again is copied.
+            const distinct = (range) => {
+                pointerOf(range);
+                if (seen.has(range)) copies.push(range.clone());
+                const found = seen.has(range) ? copies.at(-1) : range;
+                seen.add(range);
+                return found;
+            };
             try {
-                return mergedAll(distinct);
+                return mergedAll(Array.from(ranges, distinct));
             } finally {
-                distinct.forEach((range, k) => range !== given[k] && range.free());
+                copies.forEach((copy) => copy.free());
             }
         }
 
@@ -203,7 +211,8 @@ function packedLevels(levels) {
     const counts = new DataView(new ArrayBuffer(LEVEL_LENGTH * pairs.length));
     pairs.forEach((pair, k) => {
         if (!Array.isArray(pair) || pair.length !== 2) throw new TypeError(`level ${k} is a pair of counts, of left and right nodes`);
-        pair.forEach((count, side) => counts.setBigUint64(LEVEL_LENGTH * k + 8 * side, u64(count, `a count of level ${k}`), true));
+        const said = pair.map((count) => u64(count, `a count of level ${k}`));
+        said.forEach((count, side) => counts.setBigUint64(LEVEL_LENGTH * k + 8 * side, count, true));
     });
     return new Uint8Array(counts.buffer);
 }
