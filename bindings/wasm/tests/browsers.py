@@ -76,14 +76,19 @@ class Firefox:
         }
         lines = [f"user_pref({json.dumps(name)}, {json.dumps(value)});\n" for name, value in settings.items()]
         Path(self.profile, "user.js").write_text("".join(lines))
-        command = ["firefox-esr", "--headless", "--marionette", "--no-remote", "--profile", self.profile]
+        # Its console is read with access to the browser's own scripts.
+        command = ["firefox-esr", "--headless", "--marionette", "-remote-allow-system-access", "--no-remote", "--profile", self.profile]
         self.process = subprocess.Popen(command, stdout=subprocess.DEVNULL, stderr=subprocess.DEVNULL)
-        self.socket = connected(port)
         self.number = 0
-        self._received()
-        self.capabilities = self._ask("WebDriver:NewSession", {"capabilities": {"alwaysMatch": {}}})["capabilities"]
-        self._ask("WebDriver:SetWindowRect", {"width": width, "height": 1400})
-        self._in_chrome("Services.console.reset();")
+        try:
+            self.socket = connected(port)
+            self._received()
+            self.capabilities = self._ask("WebDriver:NewSession", {"capabilities": {"alwaysMatch": {}}})["capabilities"]
+            self._ask("WebDriver:SetWindowRect", {"width": width, "height": 1400})
+            self._in_chrome("Services.console.reset();")
+        except BaseException:
+            self.process.kill()
+            raise
 
     def _received(self) -> Any:
         length = b""
@@ -133,12 +138,14 @@ class Firefox:
         """What pages wrote to the console, and each error and warning of a page: of a script, a style sheet or a policy."""
         return self._in_chrome(
             """
-            const { ConsoleAPIStorage } = { ConsoleAPIStorage: Cc["@mozilla.org/consoleAPI-storage;1"].getService(Ci.nsIConsoleAPIStorage) };
-            const written = ConsoleAPIStorage.getEvents().map((it) => `${it.level}: ${Array.from(it.arguments).join(" ")}`);
+            const storage = Cc["@mozilla.org/consoleAPI-storage;1"].getService(Ci.nsIConsoleAPIStorage);
+            const written = storage.getEvents()
+                .filter((it) => /^http:/.test(it.filename))
+                .map((it) => `${it.level}: ${Array.from(it.arguments).join(" ")}`);
             const logged = Services.console.getMessageArray()
-                .filter((it) => it instanceof Ci.nsIScriptError && /^http:/.test(it.sourceName || it.cssSelectors || ""))
+                .filter((it) => it instanceof Ci.nsIScriptError && /^http:/.test(it.sourceName))
                 .map((it) => `${it.sourceName}: ${it.errorMessage}`);
-            return [...written.filter((it) => !/resource:|chrome:/.test(it)), ...logged];
+            return [...written, ...logged];
             """
         )
 
