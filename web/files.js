@@ -4,58 +4,61 @@ import { element } from "./picture.js";
 
 const get = (id) => document.getElementById(id);
 
-export function startFiles(report) {
-    let worker = null;
+function showProgress(share, said) {
+    get("progress").value = share;
+    get("progress-said").textContent = said;
+}
 
-    /** Begins anew with some work for the worker; what an earlier worker still does is given up. */
-    function begin(work) {
-        worker?.terminate();
-        worker = new Worker(new URL("./worker.js", import.meta.url), { type: "module" });
+/** What is done with each kind of message from the worker. */
+const RECEIVED = {
+    progress: ({ share }) => showProgress(share, `${Math.floor(100 * share)} %`),
+    chunk({ name, size, hash }) {
+        const cells = [name, `${size}`, element("code", {}, hash)].map((shown) => element("td", {}, shown));
+        get("hashed").append(element("tr", {}, ...cells));
+    },
+    roots({ count, root, file }) {
+        get("files-count").textContent = `${count}`;
+        get("files-root").textContent = root;
+        get("files-hash").textContent = file;
+        get("files-roots").hidden = false;
+        showProgress(1, "Done.");
+    },
+    error({ text }) {
+        showProgress(0, "");
+        throw new Error(text);
+    },
+};
+
+/** The tab. `report` runs something, and shows what it throws. */
+export class Files {
+    #report;
+    #worker = null;
+
+    constructor(report) {
+        this.#report = report;
+        const hash = (files) => files.length > 0 && this.#begin({ kind: "chunks", files: [...files] });
+        get("chunks-of").addEventListener("change", (event) => hash(event.target.files));
+        const read = ([file]) => file && this.#begin({ kind: "pairs", file });
+        get("pairs-of").addEventListener("change", (event) => read(event.target.files));
+        for (const kind of ["dragenter", "dragover", "dragleave", "drop"]) {
+            get("drop").addEventListener(kind, (event) => {
+                event.preventDefault();
+                get("drop").classList.toggle("over", kind === "dragenter" || kind === "dragover");
+                if (kind === "drop") hash(event.dataTransfer.files);
+            });
+        }
+    }
+
+    /** Begins some work in a new worker; what an earlier one still does is given up. */
+    #begin(work) {
+        this.#worker?.terminate();
+        this.#worker = new Worker(new URL("./worker.js", import.meta.url), { type: "module" });
         get("hashed").replaceChildren();
         get("files-roots").hidden = true;
-        progress(0, "Working.");
-        const fail = (message) => {
-            progress(0, "");
-            report(() => {
-                throw new Error(message);
-            });
-        };
-        worker.addEventListener("error", () => fail("the worker can't run"));
-        worker.addEventListener("message", ({ data }) => received(data, fail));
-        report(() => worker.postMessage(work));
-    }
-
-    function progress(share, said) {
-        get("progress").value = share;
-        get("progress-said").textContent = said;
-    }
-
-    function received(message, fail) {
-        if (message.kind === "progress") progress(message.share, `${Math.floor(100 * message.share)} %`);
-        if (message.kind === "error") fail(message.text);
-        if (message.kind === "chunk") {
-            const cells = [message.name, `${message.size}`].map((text) => element("td", {}, text));
-            get("hashed").append(element("tr", {}, ...cells, element("td", {}, element("code", {}, message.hash))));
-        }
-        if (message.kind === "roots") {
-            get("files-count").textContent = `${message.count}`;
-            get("files-root").textContent = message.root;
-            get("files-hash").textContent = message.file;
-            get("files-roots").hidden = false;
-            progress(1, "Done.");
-        }
-    }
-
-    const hashFiles = (files) => files.length > 0 && begin({ kind: "chunks", files: [...files] });
-    get("chunks-of").addEventListener("change", (event) => hashFiles(event.target.files));
-    const readPairs = ([file]) => file && begin({ kind: "pairs", file });
-    get("pairs-of").addEventListener("change", (event) => readPairs(event.target.files));
-    const drop = get("drop");
-    for (const kind of ["dragenter", "dragover", "dragleave", "drop"]) {
-        drop.addEventListener(kind, (event) => {
-            event.preventDefault();
-            drop.classList.toggle("over", kind === "dragenter" || kind === "dragover");
-            if (kind === "drop") hashFiles(event.dataTransfer.files);
-        });
+        showProgress(0, "Working.");
+        const received = (message) => this.#report(() => RECEIVED[message.kind](message));
+        this.#worker.addEventListener("message", (event) => received(event.data));
+        this.#worker.addEventListener("error", () => received({ kind: "error", text: "the worker can't run" }));
+        this.#worker.postMessage(work);
     }
 }

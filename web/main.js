@@ -1,18 +1,20 @@
 // Loads the module and starts both tabs.
 
 import { load } from "./yurewha/index.js";
-import { startFiles } from "./files.js";
-import { startMerging } from "./merging.js";
+import { Files } from "./files.js";
+import { Merging } from "./merging.js";
 
-/** Runs something, and shows the message of what it throws. */
+/** Runs something, shows the message of what it throws, and returns whether it threw nothing. */
 function report(run) {
     const error = document.getElementById("error");
     error.hidden = true;
     try {
         run();
+        return true;
     } catch ({ message }) {
-        error.textContent = message[0].toUpperCase() + message.slice(1) + ".";
+        error.textContent = `${message[0].toUpperCase()}${message.slice(1)}.`;
         error.hidden = false;
+        return false;
     }
 }
 
@@ -38,10 +40,10 @@ function startTabs() {
 }
 
 startTabs();
-startFiles(report);
+new Files(report);
 try {
     const yurewha = await load();
-    report(() => startMerging(yurewha, report));
+    report(() => new Merging(yurewha, report));
 } catch (error) {
     report(() => {
         throw new Error(`the module can't be loaded: ${error.message}`);
