@@ -20,7 +20,8 @@ ALLOCA = re.compile(r"  (%\S+) = alloca ptr, align 8")
 LOAD_PAIR = re.compile(rf"  (%\S+) = load \{{ (\w+), (\w+) \}}, ({PLACE})")
 #: A pointer within a type that is laid out in memory: of what is loaded, stored, reserved, stepped over, passed or global.
 UNKNOWN = re.compile(
-    r"\b(?:load|store|alloca|getelementptr|cmpxchg|atomicrmw|va_arg)\b(?: \w+)*? (?:ptr\b(?! [%@])|[{\[<][^%@]*\bptr\b[^%@]*[}\]>])"
+    r"\b(?:load|store|alloca|getelementptr)\b(?: \w+)*? (?:ptr\b(?! [%@])|[{\[<][^%@]*\bptr\b[^%@]*[}\]>])"
+    r"|\b(?:cmpxchg|atomicrmw)\b.*, ptr\b|\bva_arg\b.*, .*\bptr\b"
     r"|\b(?:sret|byval|inalloca|preallocated|elementtype)\([^)]*\bptr\b"
     r"|^[%@].* (?:type|global|constant) .*\bptr\b"
 )
