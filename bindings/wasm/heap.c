@@ -8,16 +8,17 @@ void *malloc(size_t size);
 void *realloc(void *old, size_t size);
 void free(void *old);
 
-/* Two words, as the System V ABI returns a bool and a pointer. A pointer is never null, not even where there is no block. */
+/* Whether there is a block, and where: two words, as the code for x86-64 gets them. The second has zeros above a narrow pointer.
+ * A pointer is never null, not even where there is no block. */
 struct tried {
     uint64_t ok;
-    uint8_t *at;
+    uint64_t at;
 };
 
 static struct tried tried(uint8_t *at)
 {
     static const uint8_t nothing = 0;
-    return (struct tried){at != NULL, at != NULL ? at : (uint8_t *)(uintptr_t)&nothing};
+    return (struct tried){at != NULL, (uintptr_t)(at != NULL ? at : &nothing)};
 }
 
 /* A block has at least one byte; a size that this machine doesn't have is refused. */

@@ -98,5 +98,5 @@ test("the cases have each error and each rule of JSON texts", () => {
     for (const wanted of ["InvalidArguments", "SizeOverflow", "InvalidText", "SessionOverlap", "SessionPositions", "SessionSizes", "SessionGap"]) {
         assert.ok(seen.has(wanted), wanted);
     }
-    for (let rule = 1; rule <= 8; rule++) assert.ok(seen.has(rule), `rule ${rule}`);
+    for (let rule = 1; rule <= 13; rule++) assert.ok(seen.has(rule), `rule ${rule}`);
 });

@@ -55,7 +55,7 @@ export function makeChunks({ Hash, rawOf }) {
     }
 
     function packed(chunks) {
-        const pairs = Array.from(chunks);
+        const pairs = [...chunks];
         const block = new Uint8Array(CHUNK_LENGTH * pairs.length);
         const view = new DataView(block.buffer);
         pairs.forEach((pair, k) => {

@@ -57,7 +57,7 @@ export function makeSubtree(library, { result }, { Chunks, packedOf }) {
                 return found;
             };
             try {
-                return mergedAll(Array.from(ranges, distinct));
+                return mergedAll([...ranges].map(distinct));
             } finally {
                 copies.forEach((copy) => copy.free());
             }
@@ -207,7 +207,7 @@ export function makeSubtree(library, { result }, { Chunks, packedOf }) {
 }
 
 function packedLevels(levels) {
-    const pairs = Array.from(levels);
+    const pairs = [...levels];
     const counts = new DataView(new ArrayBuffer(LEVEL_LENGTH * pairs.length));
     pairs.forEach((pair, k) => {
         if (!Array.isArray(pair) || pair.length !== 2) throw new TypeError(`level ${k} is a pair of counts, of left and right nodes`);
