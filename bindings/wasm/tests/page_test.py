@@ -21,8 +21,9 @@ import xet_model as m  # noqa: E402
 from browsers import Chromium, Firefox  # noqa: E402
 
 Browser = Union[Chromium, Firefox]
-COUNT, CUTS = 32, (5, 14, 22)
-ORDERS = ((5, 14, 22), (22, 14, 5), (5, 22, 14))
+# What the page draws when it is opened, and where the list is cut and merged.
+SEED, COUNT, CUTS = 122, 64, (16, 32, 48)
+ORDERS = ((16, 32, 48), (48, 32, 16), (16, 48, 32))
 
 
 @functools.lru_cache(maxsize=None)
@@ -80,7 +81,7 @@ def text(browser: Browser, name: str) -> str:
 
 def merge_in_each_order(browser: Browser, photo: Callable[[str], None]) -> None:
     """The list is cut at three places, and merged in three bracketings."""
-    nodes = drawn(1, COUNT)
+    nodes = drawn(SEED, COUNT)
     wanted = m.to_hex(m.root(nodes, maker))
     same(text(browser, "root-at-once"), wanted)
     same(browser.run("return document.querySelectorAll('.row .node.cut').length >= 1"), True)
@@ -111,7 +112,7 @@ def merge_in_each_order(browser: Browser, photo: Callable[[str], None]) -> None:
 
 def use_the_keyboard(browser: Browser) -> None:
     """A cut and a merge by the keys, after which the button has the focus; and the tabs by arrows."""
-    browser.type("#between-9", "\n")
+    browser.type("#between-9", "\ue007")
     same(browser.run("return document.querySelectorAll('.range').length"), 2)
     same(browser.run("return document.activeElement.id"), "between-9")
     browser.type("#between-9", " ")
@@ -171,19 +172,21 @@ def hash_files(browser: Browser, folder: Path, photo: Callable[[str], None]) -> 
 
 
 def stay_on_the_page(browser: Browser) -> None:
-    """Nothing overflows; a request to another place is refused by the policy, and so is code from a text."""
+    """Nothing overflows; a request to another place is refused by the policy, and so is a script that is written into the page."""
     width = browser.run("return [document.documentElement.scrollWidth, innerWidth]")
     same(width[0] <= width[1], True)
     refused = """
-        const done = {};
-        window.done = done;
-        fetch("http://127.0.0.1:9/").then(() => (done.fetch = "sent"), () => (done.fetch = "refused"));
-        document.addEventListener("securitypolicyviolation", (event) => (done.policy = event.effectiveDirective), { once: true });
-        try { new Function("return 1")(); done.code = "ran"; } catch { done.code = "refused"; }
+        window.done = { policy: [] };
+        document.addEventListener("securitypolicyviolation", (event) => window.done.policy.push(event.effectiveDirective));
+        fetch("http://127.0.0.1:9/").then(() => (window.done.fetch = "sent"), () => (window.done.fetch = "refused"));
+        const script = document.createElement("script");
+        script.textContent = "window.done.script = 'ran'";
+        document.body.append(script);
     """
     browser.run(refused)
-    wait(browser, "window.done.fetch && window.done.policy && window.done.code")
-    same(browser.run("return [done.fetch, done.code]"), ["refused", "refused"])
+    wait(browser, "window.done.fetch && window.done.policy.length === 2")
+    found = browser.run("return [window.done.fetch, window.done.script ?? null, window.done.policy.sort()]")
+    same(found, ["refused", None, ["connect-src", "script-src-elem"]])
 
 
 def whole(kind: Callable[[int, bool], Browser], url: str, width: int, dark: bool, photos: Path) -> None:
