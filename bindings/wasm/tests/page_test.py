@@ -160,6 +160,14 @@ def hash_files(browser: Browser, folder: Path, photo: Callable[[str], None]) -> 
     same([text(browser, "files-root"), text(browser, "files-hash")], [m.to_hex(m.root(nodes)), m.to_hex(m.file_root(nodes))])
     same([text(browser, "progress-said"), browser.run("return document.getElementById('progress').value")], ["Done.", 1])
     photo("files")
+    drop = """
+        const files = new DataTransfer();
+        files.items.add(new File(["a chunk"], "dropped"));
+        document.getElementById("drop").dispatchEvent(new DragEvent("drop", { dataTransfer: files, bubbles: true, cancelable: true }));
+    """
+    browser.run(drop)
+    wait(browser, "document.getElementById('hashed').rows.length === 1 && !document.getElementById('files-roots').hidden")
+    same(text(browser, "files-root"), m.to_hex(m.compute_data_hash(b"a chunk")))
     (folder / "pairs.txt").write_text("".join(f"{m.to_hex(hash_)} {size}\n" for hash_, size in drawn(1, 200)))
     browser.type("#pairs-of", str(folder / "pairs.txt"))
     wait(browser, "document.getElementById('files-count').textContent === '200'")
