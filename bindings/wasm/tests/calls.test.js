@@ -234,6 +234,24 @@ test("a subtree says what it keeps, and reads back from JSON and flat lists", ()
     }
 });
 
+test("deep and long texts are refused, and thousands of levels merged, without a trap", () => {
+    for (const [name, it] of all) {
+        for (const text of ["[".repeat(1e6), '{"a":'.repeat(1e6), "[".repeat(1e6) + "]".repeat(1e6)]) {
+            assert.throws(() => it.Subtree.fromJSON(text), errors.InvalidText, name);
+        }
+        assert.throws(() => it.Subtree.fromJSON(JSON.stringify("a".repeat(1e7))), errors.InvalidJson, name);
+        const hash = (last) => new it.Hash(Uint8Array.from({ length: 32 }, (_, k) => (k === 24 ? last : 0)));
+        const [plain, cut] = [[hash(5), 1], [hash(4), 1]];
+        const count = 20_000;
+        const levels = Array(count).fill([0, 3]);
+        const nodes = [plain, ...Array(count).fill([plain, plain, cut]).flat()];
+        const front = it.Subtree.fromFlat({ atStart: true, levels: [...levels, [1, 0]], nodes, atEnd: false });
+        front.mergeInto(it.Subtree.fromChunks(false, [plain], true));
+        assert.equal(front.totalSize, BigInt(nodes.length + 1));
+        assert.ok(it.Subtree.fromJSON(front.toJSON()).equals(front));
+    }
+});
+
 test("a range merged with itself is the list twice", () => {
     const chunks = list(40);
     const range = y.Subtree.fromChunks(false, chunks, false);
