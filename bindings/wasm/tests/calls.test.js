@@ -1,0 +1,310 @@
+// What the vectors don't show: types of arguments, forms of lists, each error, large inputs, and the sources of load().
+
+import assert from "node:assert/strict";
+import { execFileSync } from "node:child_process";
+import { readFileSync } from "node:fs";
+import { test } from "node:test";
+import { fileURLToPath } from "node:url";
+import * as errors from "../yurewha/index.js";
+import { STATUS, errorOf } from "../yurewha/errors.js";
+import { BYTES, ROOT, chunksOf, loadAll } from "./support.js";
+
+const MAX = 2n ** 64n - 1n;
+const all = await loadAll();
+const [[, y]] = all;
+const list = (count) => chunksOf(y, { drawn: { firstSeed: "1", count } });
+const bytesOf = (length) => Uint8Array.from({ length }, (_, k) => (7 * k + (k >> 8)) % 256);
+
+test("a number is a BigInt or a safe integer, and of 64 bits", () => {
+    const hash = new y.Hash();
+    const session = new y.Session();
+    const calls = {
+        "a seed": (value) => y.Hash.randomFromSeed(value),
+        "a divisor": (value) => hash.remainder(value),
+        "the size of chunk 0": (value) => y.xorbHash([[hash, value]]),
+        "a count of level 0": (value) => y.Subtree.fromFlat({ atStart: true, levels: [[value, 0]], nodes: [], atEnd: true }),
+        "a position": (value) => session.taken(value),
+        "the place of a run": (value) => session.run(value),
+        "the total": (value) => session.root(value),
+    };
+    for (const [what, call] of Object.entries(calls)) {
+        for (const value of [1.5, 2 ** 53, NaN, Infinity, "1", null, undefined, true, {}, [1], Symbol("1")]) {
+            assert.throws(() => call(value), new TypeError(`${what} is a BigInt or a safe integer`));
+        }
+        for (const value of [-1, -1n, MAX + 1n]) assert.throws(() => call(value), RangeError);
+    }
+    assert.equal(y.Hash.randomFromSeed(5).hex(), y.Hash.randomFromSeed(5n).hex());
+    assert.throws(() => session.put("0", []), TypeError);
+    assert.throws(() => session.finish(1.5), TypeError);
+});
+
+test("bytes are a Uint8Array", () => {
+    const hash = new y.Hash();
+    const calls = [
+        y.dataHash,
+        y.internalNodeHash,
+        (value) => new y.Hasher().update(value),
+        (value) => y.Hasher.keyed(value),
+        (value) => new y.Hash(value),
+        (value) => new y.Chunks(value),
+        (value) => y.fileHash([[hash, 1]], value),
+        (value) => y.Subtree.fromJSON(value),
+    ];
+    for (const call of calls) {
+        for (const value of [null, 1, [1], {}, new ArrayBuffer(32), new DataView(new ArrayBuffer(32)), new Int8Array(32), new Uint16Array(16)]) {
+            assert.throws(() => call(value), TypeError);
+        }
+    }
+    assert.ok(y.dataHash(Buffer.from("abc")).equals(y.dataHash(new TextEncoder().encode("abc"))));
+    assert.throws(() => y.dataHash("abc"), TypeError);
+});
+
+test("texts are strings, marks are true or false, and lists are of pairs", () => {
+    for (const value of [null, 1, [], new Uint8Array(64)]) {
+        assert.throws(() => y.Hash.fromHex(value), TypeError);
+        assert.throws(() => y.Hash.fromBase64(value), TypeError);
+    }
+    for (const value of [0, 1, "true", null, undefined]) {
+        assert.throws(() => y.Subtree.fromChunks(value, [], false), TypeError);
+        assert.throws(() => y.Subtree.fromChunks(false, [], value), TypeError);
+        assert.throws(() => y.Subtree.fromFlat({ atStart: value, levels: [], nodes: [], atEnd: true }), TypeError);
+        assert.throws(() => y.Subtree.fromFlat({ atStart: true, levels: [], nodes: [], atEnd: value }), TypeError);
+    }
+    const hash = new y.Hash();
+    for (const value of [null, 5, [hash], [[hash]], [[hash, 1, 2]], [["00", 1]], [[null, 1]], ["ab"]]) {
+        assert.throws(() => y.xorbHash(value), TypeError);
+        assert.throws(() => y.findStableStart(value), TypeError);
+    }
+    for (const levels of [null, [1], [[1]], [[1, 2, 3]]]) {
+        assert.throws(() => y.Subtree.fromFlat({ atStart: true, levels, nodes: [], atEnd: true }), TypeError);
+    }
+});
+
+test("an object of another instance is none of this one", () => {
+    const [, other] = all[1];
+    const [here, there] = [y, other].map((it) => it.Subtree.fromChunks(false, [[new it.Hash(), 1]], false));
+    assert.throws(() => new y.Hash().compare(new other.Hash()), TypeError);
+    assert.throws(() => new y.Hash().hmac(new other.Hash()), TypeError);
+    assert.throws(() => y.xorbHash([[new other.Hash(), 1]]), TypeError);
+    assert.throws(() => here.mergeInto(there), TypeError);
+    assert.throws(() => here.equals(there), TypeError);
+    assert.throws(() => y.Subtree.merge([here, there]), TypeError);
+    for (const value of [null, undefined, 1, {}, []]) {
+        assert.throws(() => here.mergeInto(value), TypeError);
+        assert.throws(() => new y.Hash().equals(value), TypeError);
+    }
+    assert.throws(() => new y.Subtree(), TypeError);
+});
+
+test("lengths that don't fit are invalid arguments", () => {
+    for (const length of [0, 31, 33]) {
+        const given = new Uint8Array(length);
+        for (const call of [() => new y.Hash(given), () => y.Hasher.keyed(given), () => y.fileHash([], given)]) {
+            assert.throws(call, errors.InvalidArguments);
+        }
+    }
+    assert.throws(() => new y.Chunks(new Uint8Array(41)), errors.InvalidArguments);
+    assert.throws(() => new y.Hash().remainder(0), errors.InvalidArguments);
+    assert.throws(() => new y.Session().run(0), errors.InvalidArguments);
+});
+
+test("each status of the header has its error", () => {
+    const header = readFileSync(new URL("bindings/include/yurewha.h", ROOT), "utf8");
+    const stated = Object.fromEntries([...header.matchAll(/#define YUREWHA_(\w+) (\d+)u/g)].map(([, name, number]) => [name, Number(number)]));
+    for (const [name, number] of Object.entries(STATUS)) assert.equal(stated[name], number);
+    const lengths = Object.keys(stated).filter((name) => /_LENGTH$|^VERSION/.test(name));
+    assert.deepEqual(Object.keys(stated).filter((name) => !lengths.includes(name)).sort(), Object.keys(STATUS).sort());
+    const wanted = {
+        ARGUMENTS: "InvalidArguments",
+        SIZES: "SizeOverflow",
+        MEMORY: "OutOfMemory",
+        TEXT: "InvalidText",
+        EMPTY_HANDLE: "EmptyHandle",
+        SESSION_OVERLAP: "SessionOverlap",
+        SESSION_POSITIONS: "SessionPositions",
+        SESSION_SIZES: "SessionSizes",
+        SESSION_MEMORY: "OutOfMemory",
+        SESSION_GAP: "SessionGap",
+    };
+    for (const [name, kind] of Object.entries(wanted)) {
+        const error = errorOf(STATUS[name], "a message");
+        assert.equal(error.name, kind);
+        assert.ok(error instanceof errors[kind] && error instanceof errors.YurewhaError && error.message.length > 0);
+        assert.equal(error instanceof errors.SessionError, /^SESSION_(?!MEMORY)/.test(name));
+    }
+    for (let rule = 1; rule <= 13; rule++) {
+        const error = errorOf(STATUS.RULE + rule);
+        assert.ok(error instanceof errors.InvalidJson && error.rule === rule && error.message.startsWith(`rule ${rule}: `));
+    }
+    assert.equal(errorOf(99).name, "YurewhaError");
+});
+
+test("a hash has its texts, also in JSON, and doesn't change", () => {
+    const raw = bytesOf(32);
+    const hash = new y.Hash(raw);
+    raw.fill(0);
+    hash.bytes.fill(0);
+    assert.deepEqual(hash.bytes, bytesOf(32));
+    assert.equal(`${hash}`, hash.hex());
+    assert.equal(JSON.stringify({ hash }), `{"hash":"${hash.hex()}"}`);
+    assert.ok(new y.Hash().equals(y.Hash.fromHex("0".repeat(64))));
+    assert.ok(y.Hash.fromBase64(hash.base64()).equals(hash));
+});
+
+test("chunks are packed once, and sliced as arrays are", () => {
+    const pairs = list(10);
+    const chunks = y.Chunks.from(pairs);
+    const plain = (them) => Array.from(them, ([hash, size]) => [hash.hex(), BigInt(size)]);
+    assert.equal(chunks.length, 10);
+    assert.equal(y.Chunks.from(chunks), chunks);
+    assert.deepEqual(plain(chunks), plain(pairs));
+    assert.deepEqual(new y.Chunks(chunks.bytes).bytes, chunks.bytes);
+    for (const [start, end] of [[], [3], [3, 7], [-3], [0, -2], [7, 3], [20], [-20, 4], [2.5, 4.5]]) {
+        assert.deepEqual(plain(chunks.slice(start, end)), plain(pairs).slice(start, end));
+    }
+    assert.deepEqual(plain([chunks.at(9)]), plain(pairs.slice(9)));
+    for (const place of [-1, 10, 0.5, NaN]) assert.equal(chunks.at(place), undefined);
+    for (const form of [pairs, chunks, new Set(pairs), pairs.values()]) assert.equal(y.xorbHash(form).hex(), y.xorbHash(pairs).hex());
+    assert.equal(new y.Chunks().length, 0);
+});
+
+test("long messages and lists go through every module alike", () => {
+    const data = bytesOf(3_000_001);
+    const hashes = all.map(([, it]) => [it.dataHash(data), it.internalNodeHash(data), new it.Hasher().update(data).digest()].map(String));
+    const roots = all.map(([, it]) => {
+        const chunks = it.Chunks.from(chunksOf(it, { drawn: { firstSeed: "9", count: 60_000 } }));
+        const [front, back] = [it.Subtree.fromChunks(true, chunks.slice(0, 31_000), false), it.Subtree.fromChunks(false, chunks.slice(31_000), true)];
+        const parents = front.mergeInto(back);
+        assert.ok(front.finalHash().equals(it.xorbHash(chunks)));
+        return [front.finalHash().hex(), parents, front.toJSON()];
+    });
+    for (const found of hashes) assert.deepEqual(found, hashes[0]);
+    for (const found of roots) assert.deepEqual(found, roots[0]);
+    assert.equal(hashes[0][0], hashes[0][2]);
+});
+
+test("the model gives the same hash of a message of 40 KiB and 1 byte", () => {
+    const model = "import sys; sys.path.insert(0, 'model'); import xet_model as m; print(m.to_hex(m.compute_data_hash(bytes(k % 251 for k in range(40961)))))";
+    const said = execFileSync("python3", ["-c", model], { cwd: fileURLToPath(ROOT), encoding: "utf8" }).trim();
+    assert.equal(y.dataHash(Uint8Array.from({ length: 40961 }, (_, k) => k % 251)).hex(), said);
+});
+
+test("a hasher goes on after it was asked, and its copies are apart", () => {
+    const hasher = new y.Hasher().update(bytesOf(100));
+    assert.ok(hasher.digest().equals(y.dataHash(bytesOf(100))));
+    const copy = hasher.clone();
+    hasher.update(bytesOf(200).subarray(100));
+    assert.ok(hasher.digest().equals(y.dataHash(bytesOf(200))));
+    assert.ok(copy.digest().equals(y.dataHash(bytesOf(100))));
+    assert.deepEqual([hasher.count, copy.count], [200n, 100n]);
+    assert.ok(y.Hasher.internalNode().update(bytesOf(5)).digest().equals(y.internalNodeHash(bytesOf(5))));
+});
+
+test("a stream is hashed by its pieces, and cancelled at a piece that is none", async () => {
+    const data = bytesOf(1_500_000);
+    assert.ok((await y.hashStream(new Blob([data]).stream())).equals(y.dataHash(data)));
+    assert.ok((await y.hashStream(ReadableStream.from([]))).equals(y.dataHash(new Uint8Array())));
+    let reason;
+    const odd = new ReadableStream({
+        pull: (controller) => controller.enqueue("text"),
+        cancel: (why) => (reason = why),
+    });
+    await assert.rejects(y.hashStream(odd), TypeError);
+    assert.ok(reason instanceof TypeError);
+    assert.equal(odd.locked, false);
+    const failing = new ReadableStream({ pull: (controller) => controller.error(new Error("lost")) });
+    await assert.rejects(y.hashStream(failing), new Error("lost"));
+});
+
+test("a subtree says what it keeps, and reads back from JSON and flat lists", () => {
+    for (const [atStart, atEnd] of [[false, false], [true, false], [false, true], [true, true]]) {
+        const chunks = list(300);
+        const range = y.Subtree.fromChunks(atStart, chunks, atEnd);
+        assert.deepEqual([range.atStart, range.atEnd], [atStart, atEnd]);
+        assert.equal(range.totalSize, chunks.reduce((sum, [, size]) => sum + BigInt(size), 0n));
+        assert.equal(range.numNodes, range.levels.flat().reduce((sum, count) => sum + count));
+        assert.equal(range.numLevels, range.levels.length);
+        assert.equal(range.finalHash()?.hex(), atStart && atEnd ? y.xorbHash(chunks).hex() : undefined);
+        const json = JSON.parse(JSON.stringify({ range })).range;
+        for (const other of [y.Subtree.fromJSON(json), y.Subtree.fromJSON(Buffer.from(json)), y.Subtree.fromFlat(range.toFlat()), range.clone()]) {
+            assert.ok(other.equals(range) && other !== range);
+        }
+        assert.ok(range.equals(range));
+        assert.ok(!range.equals(y.Subtree.fromChunks(atStart, chunks.slice(1), atEnd)));
+    }
+});
+
+test("deep and long texts are refused, and thousands of levels merged, without a trap", () => {
+    for (const [name, it] of all) {
+        for (const text of ["[".repeat(1e6), '{"a":'.repeat(1e6), "[".repeat(1e6) + "]".repeat(1e6)]) {
+            assert.throws(() => it.Subtree.fromJSON(text), errors.InvalidText, name);
+        }
+        assert.throws(() => it.Subtree.fromJSON(JSON.stringify("a".repeat(1e7))), errors.InvalidJson, name);
+        const hash = (last) => new it.Hash(Uint8Array.from({ length: 32 }, (_, k) => (k === 24 ? last : 0)));
+        const [plain, cut] = [[hash(5), 1], [hash(4), 1]];
+        const count = 20_000;
+        const levels = Array(count).fill([0, 3]);
+        const nodes = [plain, ...Array(count).fill([plain, plain, cut]).flat()];
+        const front = it.Subtree.fromFlat({ atStart: true, levels: [...levels, [1, 0]], nodes, atEnd: false });
+        front.mergeInto(it.Subtree.fromChunks(false, [plain], true));
+        assert.equal(front.totalSize, BigInt(nodes.length + 1));
+        assert.ok(it.Subtree.fromJSON(front.toJSON()).equals(front));
+    }
+});
+
+test("a range merged with itself is the list twice", () => {
+    const chunks = list(40);
+    const range = y.Subtree.fromChunks(false, chunks, false);
+    const twice = y.Subtree.fromChunks(false, [...chunks, ...chunks], false);
+    assert.ok(y.Subtree.merge([range, range]).equals(twice));
+    range.mergeInto(range);
+    assert.ok(range.equals(twice));
+});
+
+test("of no range the merge is the empty list's", () => {
+    const merged = y.Subtree.merge([]);
+    assert.deepEqual([merged.atStart, merged.atEnd, merged.numNodes], [true, true, 0]);
+    assert.ok(merged.finalHash().equals(new y.Hash()));
+});
+
+test("a session's faults have their classes", () => {
+    const session = new y.Session();
+    const hash = new y.Hash();
+    assert.equal(session.put(5, [[hash, 1]]), 1);
+    assert.throws(() => session.put(4, [[hash, 1], [hash, 1]]), errors.SessionOverlap);
+    assert.throws(() => session.put(MAX, [[hash, 1], [hash, 1]]), errors.SessionPositions);
+    assert.throws(() => session.put(7, [[hash, MAX]]), errors.SessionSizes);
+    assert.throws(() => session.root(6), errors.SessionGap);
+    assert.throws(() => session.finish(6), errors.SessionGap);
+    assert.deepEqual([session.numRuns, session.taken(5), session.taken(4)], [1, true, false]);
+    const [first, range] = session.run(0);
+    assert.deepEqual([first, range.totalSize], [5n, 1n]);
+});
+
+test("load takes an address, bytes, a compiled module and a response", async () => {
+    const bytes = BYTES.wasm32;
+    const file = new URL("bindings/wasm/yurewha/yurewha.wasm", ROOT);
+    const buffer = bytes.buffer.slice(bytes.byteOffset, bytes.byteOffset + bytes.length);
+    const sources = [undefined, file, file.href, bytes, buffer, await WebAssembly.compile(bytes), new Response(bytes), Promise.resolve(bytes)];
+    for (const source of sources) assert.ok((await errors.load(source)).dataHash(bytesOf(9)).hex() === y.dataHash(bytesOf(9)).hex());
+    await assert.rejects(errors.load(new Uint8Array(8)), WebAssembly.CompileError);
+    await assert.rejects(errors.load(new URL("none.wasm", file)));
+});
+
+test("each declared name is there, and each that is there is declared", () => {
+    const declared = readFileSync(new URL("bindings/wasm/yurewha/index.d.ts", ROOT), "utf8");
+    const members = (name) => {
+        const [, body] = new RegExp(`export interface ${name} (?:extends [^{]*)?\\{\\n(.*?)\\n\\}`, "s").exec(declared);
+        return [...body.matchAll(/^ {4}(?:readonly )?(\w+)[(:?]/gm)].map(([, member]) => member);
+    };
+    const own = (it) => Object.getOwnPropertyNames(it);
+    assert.deepEqual(own(y).sort(), members("Yurewha").sort());
+    for (const name of ["Hash", "Chunks", "Hasher", "Subtree", "Session"]) {
+        const freed = name === "Subtree" || name === "Session" ? ["free"] : [];
+        assert.deepEqual(own(y[name].prototype).filter((it) => it !== "constructor").sort(), [...members(name), ...freed].sort());
+        const statics = own(y[name]).filter((it) => !["length", "name", "prototype"].includes(it));
+        assert.deepEqual(statics.sort(), members(`${name}Constructor`).filter((it) => it !== "prototype").sort());
+    }
+    const exported = [...declared.matchAll(/^export (?:class|function) (\w+)/gm)].map(([, name]) => name);
+    assert.deepEqual(Object.keys(errors).sort(), exported.sort());
+});

@@ -1,0 +1,138 @@
+// Memory that can't grow: each call that takes memory, with the growth or the block refused at each point in turn.
+
+import assert from "node:assert/strict";
+import { test } from "node:test";
+import { OutOfMemory, load } from "../yurewha/index.js";
+import { BYTES, capped, chunksOf, pagesOf, wrapped } from "./support.js";
+
+const COUNT = 300;
+const plain = (range) => [range.atStart, range.atEnd, range.levels, Buffer.from(range.toFlat().nodes.bytes).toString("hex")];
+
+/** Objects of an instance, what they are, and the calls on them that take memory, each with what it gives. */
+function scene(y) {
+    const chunks = y.Chunks.from(chunksOf(y, { drawn: { firstSeed: "1", count: COUNT } }));
+    const front = y.Subtree.fromChunks(true, chunks.slice(0, 140), false);
+    const back = y.Subtree.fromChunks(false, chunks.slice(140), true);
+    const session = new y.Session();
+    session.put(0, chunks.slice(0, 100));
+    session.put(200, chunks.slice(200));
+    const json = front.toJSON();
+    const flat = back.toFlat();
+    const hash = y.Hash.randomFromSeed(1);
+    const base64 = hash.base64();
+    const state = () => [
+        plain(front), plain(back), session.numRuns, [0, 99, 100, 199, 200, 299, 300].map((position) => session.taken(position)), hash.hex(),
+    ];
+    const calls = {
+        base64: () => hash.base64(),
+        fromBase64: () => y.Hash.fromBase64(base64).hex(),
+        xorbHash: () => y.xorbHash(chunks).hex(),
+        fileHash: () => y.fileHash(chunks).hex(),
+        "fileHash with a salt": () => y.fileHash(chunks, new Uint8Array(32)).hex(),
+        findStableStart: () => y.findStableStart(chunks),
+        findStableEnd: () => y.findStableEnd(chunks),
+        fromChunks: () => plain(y.Subtree.fromChunks(false, chunks, false)),
+        clone: () => plain(front.clone()),
+        merge: () => plain(y.Subtree.merge([front, back])),
+        toJSON: () => front.toJSON(),
+        fromJSON: () => plain(y.Subtree.fromJSON(json)),
+        fromFlat: () => plain(y.Subtree.fromFlat(flat)),
+        "new Session": () => new y.Session().numRuns,
+        run: () => plain(session.run(1)[1]),
+        // These change an object, so they come last.
+        put: () => [session.put(100, chunks.slice(100, 200)), session.numRuns],
+        root: () => session.root(COUNT).hex(),
+        finish: () => session.finish(COUNT).hex(),
+        mergeInto: () => [front.mergeInto(back), plain(front)],
+    };
+    return { state, calls };
+}
+
+/** Takes all memory that the instance has: a list of blocks, the smallest last. */
+function filled(exports) {
+    const blocks = [];
+    for (let size = 1n << 22n; size >= 1n; size >>= 1n) {
+        for (let block; (block = exports.allocate(size)); ) blocks.push(block);
+    }
+    return blocks;
+}
+
+for (const [name, bytes] of Object.entries(BYTES)) {
+    // The heap of wasm64 joins no freed blocks to greater ones, so that it can't be emptied little by little.
+    test(`${name}: each block refused in turn`, { skip: name === "wasm64" }, async () => {
+        const expected = scene(await load(bytes)).calls;
+        const { exports: free } = await wrapped(bytes, (exports) => exports);
+        const cap = pagesOf(free) + 64;
+        const { exports, yurewha } = await wrapped(capped(bytes, cap), (it) => it);
+        const { state, calls } = scene(yurewha);
+        let refusals = 0;
+        for (const [call, run] of Object.entries(calls)) {
+            const wanted = expected[call]();
+            const before = state();
+            const blocks = filled(exports);
+            let found;
+            let refused = 0;
+            while (found === undefined) {
+                try {
+                    found = run();
+                } catch (error) {
+                    assert.ok(error instanceof OutOfMemory, `${call}: ${error.stack}`);
+                    assert.deepEqual(state(), before, call);
+                    refused++;
+                    assert.ok(blocks.length > 0, `${call}: never done`);
+                    exports.release(blocks.pop());
+                }
+            }
+            assert.deepEqual(found, wanted, call);
+            if (!call.startsWith("findStable")) assert.ok(refused > 0, `${call}: never refused`);
+            refusals += refused;
+            blocks.forEach((block) => exports.release(block));
+        }
+        assert.ok(refusals > 50, `${refusals} refusals`);
+    });
+
+    test(`${name}: each growth refused in turn`, async () => {
+        const big = (y) => y.Chunks.from(chunksOf(y, { drawn: { firstSeed: "1", count: 30_000 } }));
+        const work = (y, chunks) => {
+            const [front, back] = [y.Subtree.fromChunks(true, chunks.slice(0, 20_000), false), y.Subtree.fromChunks(false, chunks.slice(20_000), true)];
+            front.mergeInto(back);
+            return front.finalHash().hex();
+        };
+        const whole = await wrapped(bytes, (it) => it);
+        const least = pagesOf(whole.exports);
+        const wanted = work(whole.yurewha, big(whole.yurewha));
+        const most = pagesOf(whole.exports);
+        assert.ok(most > least);
+        for (let pages = least; pages <= most; pages++) {
+            const { exports, yurewha } = await wrapped(capped(bytes, pages), (it) => it);
+            const chunks = big(yurewha);
+            const kept = yurewha.Subtree.fromChunks(false, chunks.slice(0, 50), false);
+            const before = plain(kept);
+            try {
+                assert.equal(work(yurewha, chunks), wanted);
+                assert.ok(pages > least);
+            } catch (error) {
+                assert.ok(error instanceof OutOfMemory, `${pages}: ${error.stack}`);
+            }
+            assert.deepEqual(plain(kept), before);
+            assert.equal(kept.mergeInto(kept.clone()) >= 0, true);
+            assert.ok(pagesOf(exports) <= pages);
+        }
+    });
+
+    test(`${name}: no memory at all is refused by load, and no view outlives a growth`, async () => {
+        const { exports, yurewha: y } = await wrapped(bytes, (it) => it);
+        const hash = y.Hash.randomFromSeed(3);
+        const range = y.Subtree.fromChunks(true, [[hash, 7]], true);
+        const text = hash.hex();
+        for (let k = 0; k < 5; k++) {
+            const { buffer } = exports.memory;
+            exports.allocate(1n << 23n);
+            assert.equal(buffer.byteLength, 0);
+            assert.equal(hash.hex(), text);
+            assert.equal(range.finalHash().hex(), text);
+            assert.equal(y.dataHash(new Uint8Array(70_000)).hex(), y.dataHash(new Uint8Array(70_000)).hex());
+        }
+        await assert.rejects(load(capped(bytes, 1)), OutOfMemory);
+    });
+}

@@ -1,0 +1,232 @@
+"""The page web/ in Chromium and Firefox: ranges are cut and merged, and files hashed. Roots and counts are compared with the
+model's, and each state is photographed.
+
+    page_test.py FOLDER
+"""
+
+from __future__ import annotations
+
+import functools
+import http.server
+import sys
+import tempfile
+import threading
+import time
+from pathlib import Path
+from typing import Any, Callable, List, Union
+
+ROOT = Path(__file__).resolve().parents[3]
+sys.path[:0] = [str(ROOT / "model"), str(Path(__file__).parent)]
+import xet_model as m  # noqa: E402
+from browsers import Chromium, Firefox  # noqa: E402
+
+Browser = Union[Chromium, Firefox]
+# What the page draws when it is opened, and where the list is cut and merged.
+SEED, COUNT, CUTS = 122, 64, (16, 32, 48)
+ORDERS = ((16, 32, 48), (48, 32, 16), (16, 48, 32))
+
+
+@functools.lru_cache(maxsize=None)
+def maker(group: tuple[m.Node, ...]) -> m.Hash:
+    return m.blake_maker(group)
+
+
+def drawn(seed: int, count: int) -> List[m.Node]:
+    return [(m.random_from_seed(seed + k), 100 + 977 * k % 9901) for k in range(count)]
+
+
+def parents_of(nodes: List[m.Node], order: tuple[int, ...]) -> List[int]:
+    """How many parents each merge at these positions hashes."""
+    ends = [0, *CUTS, len(nodes)]
+    leaves = {b: m.Leaf(tuple(nodes[a:b]), a == 0, b == len(nodes)) for a, b in zip(ends, ends[1:])}
+    counts = []
+    for position in order:
+        front = leaves.pop(position)
+        end = min(end for end in leaves if end > position)
+        counts.append(m.joined_count(front, leaves[end], maker))
+        leaves[end] = m.join_ranges(front, leaves[end])
+    return counts
+
+
+class Server(http.server.SimpleHTTPRequestHandler):
+    """`python3 -m http.server` without its log."""
+
+    def log_message(self, *words: Any) -> None:
+        pass
+
+
+def served() -> http.server.ThreadingHTTPServer:
+    handler = functools.partial(Server, directory=str(ROOT / "web"))
+    server = http.server.ThreadingHTTPServer(("127.0.0.1", 0), handler)
+    threading.Thread(target=server.serve_forever, daemon=True).start()
+    return server
+
+
+def same(found: Any, wanted: Any) -> None:
+    if found != wanted:
+        raise AssertionError(f"{found!r} was found, {wanted!r} is wanted")
+
+
+def wait(browser: Browser, script: str, seconds: int = 60) -> None:
+    for _ in range(seconds * 10):
+        if browser.run(f"return Boolean({script})"):
+            return
+        time.sleep(0.1)
+    raise AssertionError(f"never true: {script}")
+
+
+def text(browser: Browser, name: str) -> str:
+    return browser.run("return document.getElementById(arguments[0]).textContent", name)
+
+
+def merge_in_each_order(browser: Browser, photo: Callable[[str], None]) -> None:
+    """The list is cut at three places, and merged in three bracketings."""
+    nodes = drawn(SEED, COUNT)
+    wanted = m.to_hex(m.root(nodes, maker))
+    same(text(browser, "root-at-once"), wanted)
+    same(browser.run("return document.querySelectorAll('.row .node.cut').length >= 1"), True)
+    cuts = browser.run("return [...document.querySelectorAll('.pair .node')].map((it) => it.classList.contains('cut'))")
+    same(cuts, [m.is_cut(node) for node in nodes])
+    for position in CUTS:
+        browser.click(f"#between-{position}")
+    same(browser.run("return document.querySelectorAll('.range').length"), 4)
+    same(browser.run("return document.activeElement.id"), f"between-{CUTS[-1]}")
+    photo("cut")
+    for number, order in enumerate(ORDERS):
+        if number:
+            browser.click("#cut-again")
+        for position, parents in zip(order, parents_of(nodes, order)):
+            browser.click(f"#between-{position}")
+            same(f"{parents} parent{'s' * (parents != 1)} hashed" in text(browser, "said"), True)
+        same(text(browser, "root-merged"), wanted)
+        same(text(browser, "verdict"), "The same.")
+        history = browser.run("return document.querySelector('#history li:last-child').textContent")
+        same(f", {sum(parents_of(nodes, order))} parent" in history and history.endswith(wanted), True)
+        photo(f"merged-{number + 1}")
+    roots = browser.run("return [...document.querySelectorAll('#history code')].map((it) => it.textContent)")
+    same(roots, [wanted] * 3)
+    kept = browser.run("return document.querySelector('.figures').textContent")
+    whole = m.canon(nodes, True, True, maker)
+    same(kept.startswith(f"Keeps {whole.num_nodes()} node{'s' * (whole.num_nodes() != 1)} of {COUNT} chunks."), True)
+
+
+def use_the_keyboard(browser: Browser) -> None:
+    """A cut and a merge by the keys, after which the button has the focus; and the tabs by arrows."""
+    browser.type("#between-9", "\ue007")
+    same(browser.run("return document.querySelectorAll('.range').length"), 2)
+    same(browser.run("return document.activeElement.id"), "between-9")
+    browser.type("#between-9", " ")
+    same(browser.run("return document.querySelectorAll('.range').length"), 1)
+    same(browser.run("return document.activeElement.id"), "between-9")
+    browser.type("#tab-ranges", "\ue014")
+    same(browser.run("return [document.activeElement.id, document.getElementById('ranges').hidden]"), ["tab-files", True])
+    browser.type("#tab-files", "\ue012")
+    same(browser.run("return document.getElementById('ranges').hidden"), False)
+
+
+def draw_paste_and_play(browser: Browser, photo: Callable[[str], None]) -> None:
+    nodes = drawn(7, 60)
+    browser.run("document.getElementById('seed').value = 7; document.getElementById('count').value = 60")
+    browser.click("#draw button")
+    same(text(browser, "root-at-once"), m.to_hex(m.root(nodes, maker)))
+    browser.click("#play")
+    wait(browser, "document.querySelectorAll('#history li').length === 1")
+    same(text(browser, "root-merged"), m.to_hex(m.root(nodes, maker)))
+    photo("played")
+    browser.click("summary")
+    pasted = [((k, 1, 2, 4 + k % 3), 2**64 - 100 + k if k == 0 else k) for k in range(12)]
+    lines = "".join(f"{m.to_hex(hash_)} {size}\n" for hash_, size in pasted)
+    browser.run("document.getElementById('pairs').value = arguments[0]", lines)
+    browser.click("#paste button")
+    same(text(browser, "root-at-once"), m.to_hex(m.root(pasted, maker)))
+    for bad, said in (("", "Line 1 is no pair"), (lines + "x\n", "Line 13 is no pair"), (lines + lines, "The sizes add up to more than")):
+        browser.run("document.getElementById('pairs').value = arguments[0]", bad)
+        browser.click("#paste button")
+        same(text(browser, "error").startswith(said) and not browser.run("return document.getElementById('error').hidden"), True)
+        same(text(browser, "root-at-once"), m.to_hex(m.root(pasted, maker)))
+    photo("refused")
+
+
+def hash_files(browser: Browser, folder: Path, photo: Callable[[str], None]) -> None:
+    datas = {"empty": b"", "short.txt": b"a chunk", "long.bin": bytes(k % 251 for k in range(30_000))}
+    for name, data in datas.items():
+        (folder / name).write_bytes(data)
+    nodes = [(m.compute_data_hash(data), len(data)) for data in datas.values()]
+    browser.click("#tab-files")
+    browser.type("#chunks-of", "\n".join(str(folder / name) for name in datas))
+    wait(browser, "!document.getElementById('files-roots').hidden")
+    hashes = browser.run("return [...document.querySelectorAll('#hashed tr')].map((row) => [...row.cells].map((it) => it.textContent))")
+    same(hashes, [[name, str(len(data)), m.to_hex(node[0])] for (name, data), node in zip(datas.items(), nodes)])
+    same([text(browser, "files-root"), text(browser, "files-hash")], [m.to_hex(m.root(nodes)), m.to_hex(m.file_root(nodes))])
+    same([text(browser, "progress-said"), browser.run("return document.getElementById('progress').value")], ["Done.", 1])
+    photo("files")
+    drop = """
+        const files = new DataTransfer();
+        files.items.add(new File(["a chunk"], "dropped"));
+        document.getElementById("drop").dispatchEvent(new DragEvent("drop", { dataTransfer: files, bubbles: true, cancelable: true }));
+    """
+    browser.run(drop)
+    wait(browser, "document.getElementById('hashed').rows.length === 1 && !document.getElementById('files-roots').hidden")
+    same(text(browser, "files-root"), m.to_hex(m.compute_data_hash(b"a chunk")))
+    (folder / "pairs.txt").write_text("".join(f"{m.to_hex(hash_)} {size}\n" for hash_, size in drawn(1, 200)))
+    browser.type("#pairs-of", str(folder / "pairs.txt"))
+    wait(browser, "document.getElementById('files-count').textContent === '200'")
+    same(text(browser, "files-root"), m.to_hex(m.root(drawn(1, 200), maker)))
+    (folder / "bad.txt").write_text("no pair\n")
+    browser.type("#pairs-of", str(folder / "bad.txt"))
+    wait(browser, "!document.getElementById('error').hidden")
+    same(text(browser, "error").startswith("Line 1 is no pair"), True)
+    browser.click("#tab-ranges")
+
+
+def stay_on_the_page(browser: Browser) -> None:
+    """Nothing overflows; a request to another place is refused by the policy, and so is a script that is written into the page."""
+    width = browser.run("return [document.documentElement.scrollWidth, innerWidth]")
+    same(width[0] <= width[1], True)
+    refused = """
+        window.done = { policy: [] };
+        document.addEventListener("securitypolicyviolation", (event) => window.done.policy.push(event.effectiveDirective));
+        fetch("http://127.0.0.1:9/").then(() => (window.done.fetch = "sent"), () => (window.done.fetch = "refused"));
+        const script = document.createElement("script");
+        script.textContent = "window.done.script = 'ran'";
+        document.body.append(script);
+    """
+    browser.run(refused)
+    wait(browser, "window.done.fetch && window.done.policy.length === 2")
+    found = browser.run("return [window.done.fetch, window.done.script ?? null, window.done.policy.sort()]")
+    same(found, ["refused", None, ["connect-src", "script-src-elem"]])
+
+
+def whole(kind: Callable[[int, bool], Browser], url: str, width: int, dark: bool, photos: Path) -> None:
+    browser = kind(width, dark)
+    name = f"{kind.__name__.lower()}-{width}-{'dark' if dark else 'light'}"
+    photo = lambda state: browser.screenshot(photos / f"{name}-{state}.png")  # noqa: E731
+    try:
+        browser.open(url)
+        wait(browser, "'ready' in document.documentElement.dataset")
+        same(browser.run("return document.getElementById('error').hidden"), True)
+        photo("opened")
+        merge_in_each_order(browser, photo)
+        use_the_keyboard(browser)
+        draw_paste_and_play(browser, photo)
+        with tempfile.TemporaryDirectory() as folder:
+            hash_files(browser, Path(folder), photo)
+        same(browser.messages(), [])
+        stay_on_the_page(browser)
+        print(f"{browser.version()}, {browser.run('return innerWidth')} pixels, {'dark' if dark else 'light'}: passed")
+    finally:
+        browser.close()
+
+
+def main() -> None:
+    photos = Path(sys.argv[1])
+    photos.mkdir(parents=True, exist_ok=True)
+    server = served()
+    url = f"http://127.0.0.1:{server.server_address[1]}/"
+    for kind in (Chromium, Firefox):
+        whole(kind, url, 1200, False, photos)
+        whole(kind, url, 360 if kind is Chromium else 500, True, photos)
+
+
+if __name__ == "__main__":
+    main()

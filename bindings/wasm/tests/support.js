@@ -1,0 +1,77 @@
+// The modules that `build` made, and instances of them.
+
+import { readFileSync } from "node:fs";
+import { load } from "../yurewha/index.js";
+import { instanceOver } from "../yurewha/instance.js";
+import { Library } from "../yurewha/library.js";
+
+export const ROOT = new URL("../../../", import.meta.url);
+const bytesOf = (path) => readFileSync(new URL(path, ROOT));
+export const BYTES = {
+    wasm32: bytesOf("bindings/wasm/yurewha/yurewha.wasm"),
+    "wasm32 without SIMD": bytesOf("bindings/out/wasm/yurewha_plain.wasm"),
+    wasm64: bytesOf("bindings/out/wasm/yurewha64.wasm"),
+};
+export const loadAll = () => Promise.all(Object.entries(BYTES).map(async ([name, bytes]) => [name, await load(bytes)]));
+
+/** A library whose exports pass through `wrap`, and the package over it. */
+export async function wrapped(bytes, wrap) {
+    const { instance } = await WebAssembly.instantiate(bytes, {});
+    const library = new Library(wrap(instance.exports));
+    return { exports: instance.exports, library, yurewha: instanceOver(library) };
+}
+
+const leb = (value) => {
+    const out = [];
+    do {
+        out.push((value & 127) | (value > 127 ? 128 : 0));
+        value >>>= 7;
+    } while (value);
+    return out;
+};
+const readLeb = (bytes, at) => {
+    let value = 0;
+    for (let shift = 0; ; shift += 7) {
+        const byte = bytes[at++];
+        value += (byte & 127) * 2 ** shift;
+        if (byte < 128) return [value, at];
+    }
+};
+
+/** The module with a memory of at most so many pages. */
+export function capped(bytes, pages) {
+    const MEMORY = 5;
+    for (let at = 8; at < bytes.length; ) {
+        const [length, start] = readLeb(bytes, at + 1);
+        if (bytes[at] === MEMORY) {
+            const [least] = readLeb(bytes, start + 2);
+            const body = [1, bytes[start + 1] | 1, ...leb(least), ...leb(Math.max(pages, least))];
+            return Uint8Array.from([...bytes.subarray(0, at), MEMORY, ...leb(body.length), ...body, ...bytes.subarray(start + length)]);
+        }
+        at = start + length;
+    }
+    throw new Error("there is no memory");
+}
+
+export const pagesOf = (exports) => exports.memory.buffer.byteLength / 65536;
+
+/** The chunks that a rule of the vectors says; vectors/README.md has the rules. */
+export function chunksOf({ Hash }, list) {
+    const [[rule, said]] = Object.entries(list);
+    const ofWords = (...words) => {
+        const block = new DataView(new ArrayBuffer(32));
+        words.forEach((word, k) => block.setBigUint64(8 * k, BigInt(word), true));
+        return new Hash(new Uint8Array(block.buffer));
+    };
+    const rules = {
+        pattern: () => [...said].map((letter, k) => [ofWords(k + 1, 2 * k + 2, 3 * k + 3, 4 * k + 4 + (letter === "|" ? 0 : 1)), 7 + 100 * k]),
+        drawn: () =>
+            Array.from({ length: said.count }, (_, k) => [
+                Hash.randomFromSeed(BigInt.asUintN(64, BigInt(said.firstSeed) + BigInt(k))),
+                100 + ((977 * k) % 9901),
+            ]),
+        seeds: () => said.map((seed) => [seed === "0" ? new Hash() : Hash.randomFromSeed(BigInt(seed)), 100n * BigInt(seed)]),
+        nodes: () => said.map(({ hash, size }) => [Hash.fromHex(hash), BigInt(size)]),
+    };
+    return rules[rule]();
+}

@@ -1,0 +1,91 @@
+// The errors, which have the names of the library's.
+
+/** What each of the rules 1 to 13 asks of the JSON form of a subtree. */
+const RULES = [
+    "the value is an object",
+    "`nodes` and `levels` are arrays, `at_start` and `at_end` truth values",
+    "a node is an object with `hash`, 64 hex digits, and `size`, a whole number below 2^64",
+    "a level is an array of two whole numbers below 2^64",
+    "there is a level",
+    "the counts of all levels add up to the number of nodes",
+    "the sizes of all nodes add up to at most 2^64 - 1",
+    "the top level has no right nodes, nor has any level under `at_end`",
+    "no level below the top has left nodes under `at_start`",
+    "with both marks, the top has at most one node",
+    "where there are several levels, the top has a node",
+    "without `at_start`, left nodes below the top end as those before a first stable point",
+    "without `at_end`, right nodes below the top begin as those after a last stable point",
+];
+
+export class YurewhaError extends Error {
+    constructor(message, options) {
+        super(message, options);
+        this.name = new.target.name;
+    }
+}
+export class InvalidArguments extends YurewhaError {}
+export class SizeOverflow extends YurewhaError {}
+export class OutOfMemory extends YurewhaError {}
+export class InvalidText extends YurewhaError {}
+export class EmptyHandle extends YurewhaError {}
+export class Trapped extends YurewhaError {}
+export class SessionError extends YurewhaError {}
+export class SessionOverlap extends SessionError {}
+export class SessionPositions extends SessionError {}
+export class SessionSizes extends SessionError {}
+export class SessionGap extends SessionError {}
+
+export class InvalidJson extends YurewhaError {
+    constructor(rule) {
+        super(`rule ${rule}: ${RULES[rule - 1]}`);
+        this.rule = rule;
+    }
+}
+
+/** The statuses of include/yurewha.h that a call of the package can meet. */
+export const STATUS = {
+    DONE: 0,
+    ARGUMENTS: 1,
+    SIZES: 2,
+    MEMORY: 3,
+    TEXT: 4,
+    ROOM: 5,
+    EMPTY_HANDLE: 6,
+    RULE: 16,
+    SESSION_OVERLAP: 33,
+    SESSION_POSITIONS: 34,
+    SESSION_SIZES: 35,
+    SESSION_MEMORY: 36,
+    SESSION_GAP: 37,
+};
+
+const SIZES = "the sizes add up to more than 2^64 - 1";
+const MEMORY = "an allocation was refused";
+const ERRORS = new Map([
+    [STATUS.ARGUMENTS, (what) => new InvalidArguments(what)],
+    [STATUS.SIZES, () => new SizeOverflow(SIZES)],
+    [STATUS.MEMORY, () => new OutOfMemory(MEMORY)],
+    [STATUS.TEXT, (what) => new InvalidText(what)],
+    [STATUS.EMPTY_HANDLE, () => new EmptyHandle("the object was freed")],
+    [STATUS.SESSION_OVERLAP, () => new SessionOverlap("a position is taken")],
+    [STATUS.SESSION_POSITIONS, () => new SessionPositions("the first position plus the number of chunks passes 2^64 - 1")],
+    [STATUS.SESSION_SIZES, () => new SessionSizes(SIZES)],
+    [STATUS.SESSION_MEMORY, () => new OutOfMemory(MEMORY)],
+    [STATUS.SESSION_GAP, () => new SessionGap("the positions taken aren't exactly those below the total")],
+]);
+
+/** The error of a status other than 0. `what` is the message of InvalidArguments and InvalidText. */
+export function errorOf(status, what) {
+    const make = ERRORS.get(status);
+    if (make) return make(what);
+    const rule = status - STATUS.RULE;
+    return rule >= 1 && rule <= RULES.length ? new InvalidJson(rule) : new YurewhaError(`the library returned status ${status}`);
+}
+
+/** Throws the error of a status, unless it is 0. */
+export function check(status, what = "the arguments don't fit together") {
+    if (status !== STATUS.DONE) throw errorOf(status, what);
+}
+
+export const outOfMemory = () => errorOf(STATUS.MEMORY);
+export const emptyHandle = () => errorOf(STATUS.EMPTY_HANDLE);

@@ -1,0 +1,110 @@
+// Hashes: values of 32 bytes.
+
+import { bytes, text, u64 } from "./arguments.js";
+import { InvalidArguments, check } from "./errors.js";
+
+export const HASH_LENGTH = 32;
+const HEX_LENGTH = 64;
+const BASE64_LENGTH = 43;
+const NO_HEX = "the hex text of a hash is 64 hex digits";
+const NO_BASE64 = "the base64 text of a hash is 43 characters that base64() gives";
+const decoder = new TextDecoder();
+
+/** A copy of 32 bytes. */
+export function thirtyTwo(value, what) {
+    if (bytes(value, what).length !== HASH_LENGTH) throw new InvalidArguments(`${what} has 32 bytes`);
+    return Uint8Array.from(value);
+}
+
+/**
+ * The class `Hash` over a library, and what looks into its objects. The memory of a module is little-endian, so the struct of a
+ * hash there is its 32 bytes.
+ */
+export function makeHash(library) {
+    let rawOf;
+    class Hash {
+        #raw;
+
+        static {
+            rawOf = (hash, what = "the hash") => {
+                if (typeof hash !== "object" || hash === null || !(#raw in hash)) {
+                    throw new TypeError(`${what} is a Hash of the same module`);
+                }
+                return hash.#raw;
+            };
+        }
+
+        constructor(raw = new Uint8Array(HASH_LENGTH)) {
+            this.#raw = thirtyTwo(raw, "a hash");
+        }
+
+        static fromHex(hex) {
+            return parsed("yurewha_from_hex", text(hex, "hex"), NO_HEX);
+        }
+
+        static fromBase64(base64) {
+            return parsed("yurewha_from_base64", text(base64, "base64"), NO_BASE64);
+        }
+
+        static randomFromSeed(seed) {
+            const number = u64(seed, "a seed");
+            return result([], (out) => library.call("yurewha_random_from_seed", number, out));
+        }
+
+        get bytes() {
+            return this.#raw.slice();
+        }
+
+        hex() {
+            return written("yurewha_hex", this.#raw, HEX_LENGTH);
+        }
+
+        base64() {
+            return written("yurewha_base64", this.#raw, BASE64_LENGTH);
+        }
+
+        hmac(key) {
+            return result([this.#raw, rawOf(key, "a key")], (...pointers) => library.call("yurewha_hmac", ...pointers));
+        }
+
+        remainder(divisor) {
+            const number = u64(divisor, "a divisor");
+            return library.over([this.#raw, 8], (hash, out) => {
+                check(library.call("yurewha_remainder", hash, number, out), "the divisor is 0");
+                return library.u64(out);
+            });
+        }
+
+        compare(other) {
+            return library.over([this.#raw, rawOf(other)], (first, second) => library.call("yurewha_compare", first, second));
+        }
+
+        equals(other) {
+            return this.compare(other) === 0;
+        }
+
+        toString() {
+            return this.hex();
+        }
+
+        toJSON() {
+            return this.hex();
+        }
+    }
+
+    /** The hash that a call writes to the last of its pointers. */
+    function result(parts, run) {
+        return library.over([...parts, HASH_LENGTH], (...pointers) => {
+            run(...pointers);
+            return new Hash(library.read(pointers.at(-1), HASH_LENGTH));
+        });
+    }
+    const parsed = (name, given, what) =>
+        result([given], (at, out) => check(library.call(name, at, BigInt(given.length), out), what));
+    const written = (name, raw, length) =>
+        library.over([raw, length, 8], (hash, room, out) => {
+            check(library.call(name, hash, room, BigInt(length), out));
+            return decoder.decode(library.read(room, length));
+        });
+    return { Hash, rawOf, result };
+}

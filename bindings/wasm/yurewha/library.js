@@ -1,0 +1,101 @@
+// The module's exports and its memory.
+
+import { Trapped, outOfMemory } from "./errors.js";
+
+/** So many bytes are kept for the arguments and results of a call. */
+export const AREA = 1 << 20;
+const ALIGNMENT = 16;
+
+/** Up to the next multiple of the alignment. */
+const aligned = (size) => Math.ceil(size / ALIGNMENT) * ALIGNMENT;
+
+/**
+ * The only place that calls the module and looks into its memory. A pointer is a Number in wasm32 and a BigInt in wasm64. Each
+ * view of the memory is made where it is used and kept nowhere, since a growth detaches it; what is read is copied.
+ */
+export class Library {
+    #exports;
+    #area;
+    #trap = null;
+
+    constructor(exports) {
+        this.#exports = exports;
+        this.#area = this.allocate(AREA);
+    }
+
+    /** Why the instance is never called again, or null. */
+    get trap() {
+        return this.#trap;
+    }
+
+    /** Calls an export. What it throws is a trap, after which nothing in the memory can be relied on. */
+    call(name, ...values) {
+        if (this.#trap) throw new Trapped("the module trapped in an earlier call; load() a new one", { cause: this.#trap });
+        try {
+            return this.#exports[name](...values);
+        } catch (error) {
+            this.#trap = error;
+            throw new Trapped(`the module trapped in ${name}; load() a new one`, { cause: error });
+        }
+    }
+
+    /** A pointer to a block of memory. */
+    allocate(size) {
+        const block = this.call("allocate", BigInt(size));
+        if (!block) throw outOfMemory();
+        return typeof block === "number" ? block >>> 0 : block;
+    }
+
+    /** Gives a block back; after a trap it does nothing. */
+    release(block) {
+        if (!this.#trap) this.call("release", block);
+    }
+
+    /**
+     * Calls `run` with pointers to parts: bytes to copy in, or how many bytes of room. They are valid until `run` returns, and
+     * `run` doesn't call `over`.
+     */
+    over(parts, run) {
+        let size = 0;
+        const offsets = parts.map((part) => {
+            const offset = size;
+            size += aligned(part.length ?? part);
+            return offset;
+        });
+        const inArea = size <= AREA;
+        const block = inArea ? this.#area : this.allocate(size);
+        try {
+            const pointers = offsets.map((offset) => (typeof block === "number" ? block + offset : block + BigInt(offset)));
+            parts.forEach((part, k) => part.length && this.#view(pointers[k], part.length).set(part));
+            return run(...pointers);
+        } finally {
+            if (!inArea) this.release(block);
+        }
+    }
+
+    #view(pointer, length) {
+        return new Uint8Array(this.#exports.memory.buffer, Number(pointer), length);
+    }
+
+    /** A copy of some bytes of the memory. */
+    read(pointer, length) {
+        return this.#view(pointer, length).slice();
+    }
+
+    write(pointer, bytes) {
+        this.#view(pointer, bytes.length).set(bytes);
+    }
+
+    u64(pointer) {
+        return new DataView(this.#exports.memory.buffer).getBigUint64(Number(pointer), true);
+    }
+
+    /** A number that counts objects in the memory, so that it is a safe integer. */
+    count(pointer) {
+        return Number(this.u64(pointer));
+    }
+
+    truth(pointer) {
+        return this.#view(pointer, 1)[0] !== 0;
+    }
+}

@@ -1,0 +1,225 @@
+// Subtrees: what is kept of a range of chunks.
+
+import { bytes, text, truth, u64 } from "./arguments.js";
+import { CHUNK_LENGTH } from "./chunks.js";
+import { STATUS, check } from "./errors.js";
+import { HANDLE_LENGTH, Handle, Handles, disposable } from "./handle.js";
+
+const LEVEL_LENGTH = 16;
+const decoder = new TextDecoder();
+const flag = (value) => (value ? 1 : 0);
+const misplaced = "of adjacent ranges, only the first may be marked at its start, and only the last at its end";
+
+/** The class `Subtree` over a library. `owned` makes one that a call writes to its handle. */
+export function makeSubtree(library, { result }, { Chunks, packedOf }) {
+    const handles = new Handles(library, "yurewha_subtree_free");
+    const owned = (fill) => new Subtree(handles.make(fill));
+    let pointerOf;
+
+    class Subtree {
+        #handle;
+
+        static {
+            pointerOf = (subtree) => {
+                if (typeof subtree !== "object" || subtree === null || !(#handle in subtree)) {
+                    throw new TypeError("a range is a Subtree of the same module");
+                }
+                return subtree.#handle.pointer;
+            };
+        }
+
+        constructor(handle) {
+            if (!(handle instanceof Handle)) throw new TypeError("a Subtree is made by fromChunks, merge, fromJSON or fromFlat");
+            this.#handle = handle;
+            handles.watch(this, handle);
+        }
+
+        static fromChunks(atStart, chunks, atEnd) {
+            const marks = [flag(truth(atStart, "atStart")), flag(truth(atEnd, "atEnd"))];
+            const packed = packedOf(chunks);
+            return library.over([packed], (at) =>
+                owned((made) => {
+                    const count = BigInt(packed.length / CHUNK_LENGTH);
+                    check(library.call("yurewha_subtree_from_chunks", marks[0], at, count, marks[1], made));
+                }),
+            );
+        }
+
+        static merge(ranges) {
+            const seen = new Set();
+            const copies = [];
+            // The handles of one call are distinct, so a range that comes again is copied.
+            const distinct = (range) => {
+                pointerOf(range);
+                if (seen.has(range)) copies.push(range.clone());
+                const found = seen.has(range) ? copies.at(-1) : range;
+                seen.add(range);
+                return found;
+            };
+            try {
+                return mergedAll([...ranges].map(distinct));
+            } finally {
+                copies.forEach((copy) => copy.free());
+            }
+        }
+
+        static fromJSON(json) {
+            const given = typeof json === "string" ? text(json, "JSON") : bytes(json, "JSON");
+            return library.over([given], (at) =>
+                owned((made) => {
+                    check(library.call("yurewha_subtree_from_json", at, BigInt(given.length), made), "the text is no JSON text");
+                }),
+            );
+        }
+
+        static fromFlat({ atStart, levels, nodes, atEnd }) {
+            const marks = [flag(truth(atStart, "atStart")), flag(truth(atEnd, "atEnd"))];
+            const counts = packedLevels(levels);
+            const packed = packedOf(nodes);
+            return library.over([counts, packed], (levelsAt, nodesAt) =>
+                owned((made) => {
+                    const lists = [levelsAt, BigInt(counts.length / LEVEL_LENGTH), nodesAt, BigInt(packed.length / CHUNK_LENGTH)];
+                    check(library.call("yurewha_subtree_from_flat", marks[0], ...lists, marks[1], made));
+                }),
+            );
+        }
+
+        get atStart() {
+            return marksOf(this)[0];
+        }
+
+        get atEnd() {
+            return marksOf(this)[1];
+        }
+
+        get totalSize() {
+            return told("yurewha_subtree_total_size", this);
+        }
+
+        get numNodes() {
+            return Number(told("yurewha_subtree_num_nodes", this));
+        }
+
+        get numLevels() {
+            return Number(told("yurewha_subtree_num_levels", this));
+        }
+
+        get levels() {
+            return this.toFlat().levels;
+        }
+
+        mergeInto(back) {
+            if (back === this) {
+                const copy = this.clone();
+                try {
+                    return this.mergeInto(copy);
+                } finally {
+                    copy.free();
+                }
+            }
+            const pointers = [pointerOf(this), pointerOf(back)];
+            return library.over([8], (parents) => {
+                check(library.call("yurewha_subtree_merge_into_counted", ...pointers, parents), misplaced);
+                return library.count(parents);
+            });
+        }
+
+        finalHash() {
+            if (!(this.atStart && this.atEnd)) return null;
+            return result([], (out) => check(library.call("yurewha_subtree_final_hash", pointerOf(this), out)));
+        }
+
+        clone() {
+            return owned((copy) => check(library.call("yurewha_subtree_clone", pointerOf(this), copy)));
+        }
+
+        equals(other) {
+            const pointers = [pointerOf(this), pointerOf(other)];
+            if (other === this) return true;
+            return library.over([1], (out) => {
+                check(library.call("yurewha_subtree_equal", ...pointers, out));
+                return library.truth(out);
+            });
+        }
+
+        toJSON() {
+            const length = jsonLength(this);
+            return library.over([length, 8], (room, out) => {
+                check(library.call("yurewha_subtree_to_json", pointerOf(this), room, BigInt(length), out));
+                return decoder.decode(library.read(room, length));
+            });
+        }
+
+        toFlat() {
+            const [atStart, atEnd] = marksOf(this);
+            const [levelCount, nodeCount] = [this.numLevels, this.numNodes];
+            const parts = [LEVEL_LENGTH * levelCount, CHUNK_LENGTH * nodeCount, 8, 8];
+            return library.over(parts, (levels, nodes, ...counts) => {
+                const rooms = [levels, BigInt(levelCount), nodes, BigInt(nodeCount)];
+                check(library.call("yurewha_subtree_to_flat", pointerOf(this), ...rooms, ...counts));
+                const packed = library.read(nodes, parts[1]);
+                return { atStart, levels: unpackedLevels(library.read(levels, parts[0])), nodes: new Chunks(packed), atEnd };
+            });
+        }
+
+        free() {
+            this.#handle.free();
+        }
+    }
+
+    /** A number that a call writes of a subtree. */
+    const told = (name, subtree) => {
+        const pointer = pointerOf(subtree);
+        return library.over([8], (out) => {
+            check(library.call(name, pointer, out));
+            return library.u64(out);
+        });
+    };
+
+    const marksOf = (subtree) => {
+        const pointer = pointerOf(subtree);
+        return library.over([1, 1], (...marks) => {
+            check(library.call("yurewha_subtree_marks", pointer, ...marks));
+            return marks.map((mark) => library.truth(mark));
+        });
+    };
+
+    /** Without room the call writes how long the text is. */
+    const jsonLength = (subtree) => {
+        const pointer = pointerOf(subtree);
+        return library.over([0, 8], (room, out) => {
+            const status = library.call("yurewha_subtree_to_json", pointer, room, 0n, out);
+            if (status !== STATUS.ROOM) check(status);
+            return library.count(out);
+        });
+    };
+
+    /** The merge of distinct ranges, whose handles are copied side by side. */
+    function mergedAll(ranges) {
+        const block = new Uint8Array(HANDLE_LENGTH * ranges.length);
+        ranges.forEach((range, k) => block.set(library.read(pointerOf(range), HANDLE_LENGTH), HANDLE_LENGTH * k));
+        return library.over([block], (at) =>
+            owned((made) => check(library.call("yurewha_subtree_merge", at, BigInt(ranges.length), made), misplaced)),
+        );
+    }
+
+    return { Subtree: disposable(Subtree), owned };
+}
+
+function packedLevels(levels) {
+    const pairs = [...levels];
+    const counts = new DataView(new ArrayBuffer(LEVEL_LENGTH * pairs.length));
+    pairs.forEach((pair, k) => {
+        if (!Array.isArray(pair) || pair.length !== 2) throw new TypeError(`level ${k} is a pair of counts, of left and right nodes`);
+        const said = pair.map((count) => u64(count, `a count of level ${k}`));
+        said.forEach((count, side) => counts.setBigUint64(LEVEL_LENGTH * k + 8 * side, count, true));
+    });
+    return new Uint8Array(counts.buffer);
+}
+
+function unpackedLevels(block) {
+    const counts = new DataView(block.buffer);
+    return Array.from({ length: block.length / LEVEL_LENGTH }, (_, k) =>
+        [0, 8].map((side) => Number(counts.getBigUint64(LEVEL_LENGTH * k + side, true))),
+    );
+}
