@@ -1,4 +1,4 @@
-//! Trees of joins over several kinds of range.
+//! Trees of merges over several kinds of range.
 
 ghost use Rattle.std.specs.Prelude.{◌≡◌};
 ghost use Rattle.xet_merkle.specs.Roots.{total_size};
@@ -7,7 +7,7 @@ use rand_core::{Rng, SeedableRng};
 use rand_xoshiro::Xoshiro256PlusPlus;
 use std::alloc::{AllocError, Global};
 use std::test::Fail;
-use test_support::trees::{BRACKETINGS, four_ranges, join, tree};
+use test_support::trees::{BRACKETINGS, four_ranges, merge, tree};
 use test_support::{EACH_FOURTH, MARKS, drawn_nodes, ranges, with_cuts};
 use xet_hash::data_hash::{DataHash, MerkleHash};
 use xet_merkle::CoreError;
@@ -17,11 +17,11 @@ use xet_merkle::merge_tree::MergeTree;
 use xet_merkle::merkle_hash_subtree::MerkleHashSubtree;
 use xet_merkle::plain_range::PlainRange;
 
-// A range that counts the joins that made it, and how deep they go, beside a range that keeps its chunks.
+// A range that counts the merges that made it, and how deep they go, beside a range that keeps its chunks.
 #[derive(Drop)]
 struct CountedRange {
     plain: PlainRange,
-    joins: u32,
+    merges: u32,
     depth: u32,
 }
 
@@ -44,7 +44,7 @@ impl ChunkRange for CountedRange {
     ) -> Result<Self, CoreError> {
         Ok(CountedRange {
             plain: PlainRange::from_chunks(alloc, at_start, chunks, at_end)?,
-            joins: 0,
+            merges: 0,
             depth: 0,
         })
     }
@@ -61,10 +61,10 @@ impl ChunkRange for CountedRange {
         self.plain.total_size()
     }
 
-    fn join(&mut self, right: &Self) -> Result<(), CoreError> {
-        self.plain.join(&right.plain)?;
-        self.joins = self.joins.wrapping_add(right.joins).wrapping_add(1);
-        self.depth = self.depth.max(right.depth).wrapping_add(1);
+    fn join(&mut self, back: &Self) -> Result<(), CoreError> {
+        self.plain.join(&back.plain)?;
+        self.merges = self.merges.wrapping_add(back.merges).wrapping_add(1);
+        self.depth = self.depth.max(back.depth).wrapping_add(1);
         Ok(())
     }
 
@@ -99,7 +99,7 @@ fn ranges_of_each_kind_have_the_root(rt: HostRuntime) -> Result<(), Fail> {
     for (bracketing, depth) in BRACKETINGS {
         let counted: CountedRange = run(rt.alloc(), bracketing)?;
         assert!(rt;
-            (counted.joins, counted.depth) == (3, depth),
+            (counted.merges, counted.depth) == (3, depth),
             "{bracketing}"
         );
         assert!(rt; counted.root()? == root);
@@ -137,16 +137,41 @@ fn drawn_bracketing(
     let mut trees = 0u64;
     for _ in 0..ranges {
         bracketing.push('.')?;
-        let joins = (generator.next_u64() % 3).min(trees);
-        for _ in 0..joins {
+        let merges = (generator.next_u64() % 3).min(trees);
+        for _ in 0..merges {
             bracketing.push('+')?;
         }
-        trees = trees.saturating_sub(joins).saturating_add(1);
+        trees = trees.saturating_sub(merges).saturating_add(1);
     }
     for _ in 1..trees {
         bracketing.push('+')?;
     }
     Ok(bracketing)
+}
+
+fn sum(lengths: &[usize]) -> usize {
+    let mut sum = 0usize;
+    for length in lengths {
+        sum = sum.saturating_add(*length);
+    }
+    sum
+}
+
+// Whether the tree of a bracketing over ranges of these lengths gives the subtree of all nodes.
+fn is_the_whole(
+    alloc: Global,
+    nodes: &[Node],
+    lengths: &[usize],
+    bracketing: &str,
+    marks: (bool, bool),
+) -> Result<bool, CoreError> {
+    // The last range takes all that is left, which is what the last length says.
+    let (_, others) = lengths.split_last().unwrap_or((&0, &[]));
+    let ranges = ranges(alloc, nodes, others, marks)?;
+    let Some(tree) = tree(alloc, bracketing, ranges)? else {
+        return Ok(false);
+    };
+    Ok(tree.run()? == MerkleHashSubtree::from_chunks(alloc, marks.0, nodes, marks.1)?)
 }
 
 #[test]
@@ -155,25 +180,22 @@ fn drawn_trees_give_the_subtree_of_the_whole(rt: HostRuntime) -> Result<(), Fail
     let mut generator = Xoshiro256PlusPlus::seed_from_u64(12);
     for number in 0..300usize {
         let cuts_in_four = [0, 1, 2, 4][number % 4];
-        let (at_start, at_end) = MARKS[number / 4 % 4];
+        let marks = MARKS[number / 4 % 4];
         let lengths = drawn_lengths(&mut generator, alloc)?;
-        let mut count = 0usize;
-        for length in lengths.iter() {
-            count = count.saturating_add(*length);
-        }
+        let count = sum(&lengths);
         let nodes = drawn_nodes(&mut generator, alloc, count, cuts_in_four)?;
         let bracketing = drawn_bracketing(&mut generator, alloc, lengths.len())?;
-        // The last range takes all that is left, which is what the last length says.
-        let (_, others) = lengths.split_last().unwrap_or((&0, &[]));
-        let ranges = ranges(alloc, nodes.as_slice(), others, (at_start, at_end))?;
-        let merged = match tree(alloc, &bracketing, ranges)? {
-            Some(tree) => tree.run()?,
-            None => return Err("no tree")?,
-        };
-        let whole = MerkleHashSubtree::from_chunks(alloc, at_start, nodes.as_slice(), at_end)?;
-        assert!(rt; merged == whole, "{number}: {bracketing}");
+        assert!(rt;
+            is_the_whole(alloc, &nodes, &lengths, &bracketing, marks)?,
+            "{number}: {bracketing}"
+        );
     }
     Ok(())
+}
+
+// A range of one node.
+fn one(alloc: Global, (start, end): (bool, bool), size: u64) -> Result<PlainRange, CoreError> {
+    PlainRange::from_chunks(alloc, start, &[(DataHash::random_from_seed(1), size)], end)
 }
 
 // Whether a tree of two ranges of one node each, with these marks and sizes, is refused with that.
@@ -183,13 +205,9 @@ fn is_refused(
     sizes: [u64; 2],
     refusal: CoreError,
 ) -> Result<bool, CoreError> {
-    let hash = DataHash::random_from_seed(1);
-    let [first, second] = [0, 1].map(|i: usize| (marks[i.min(1)], [(hash, sizes[i.min(1)])]));
-    let ((start, end), nodes) = first;
-    let left = PlainRange::from_chunks(alloc, start, &nodes, end)?;
-    let ((start, end), nodes) = second;
-    let right = PlainRange::from_chunks(alloc, start, &nodes, end)?;
-    let tree = join(alloc, MergeTree::Leaf(left), MergeTree::Leaf(right))?;
+    let front = one(alloc, marks[0], sizes[0])?;
+    let back = one(alloc, marks[1], sizes[1])?;
+    let tree = merge(alloc, MergeTree::Leaf(front), MergeTree::Leaf(back))?;
     Ok(tree.run().err() == Some(refusal))
 }
 
@@ -211,15 +229,19 @@ fn marks_are_refused_before_sizes(rt: HostRuntime) -> Result<(), Fail> {
     Ok(())
 }
 
-// A tree of so many joins of empty ranges, each on the left of the next, or on its right.
-fn leaning(alloc: Global, joins: u32, is_left: bool) -> Result<MergeTree<CountedRange>, CoreError> {
+// A tree of so many merges of empty ranges, each the front of the next, or its back.
+fn leaning(
+    alloc: Global,
+    merges: u32,
+    is_front: bool,
+) -> Result<MergeTree<CountedRange>, CoreError> {
     let mut tree = MergeTree::Leaf(CountedRange::from_chunks(alloc, false, &[], false)?);
-    for _ in 0..joins {
+    for _ in 0..merges {
         let leaf = MergeTree::Leaf(CountedRange::from_chunks(alloc, false, &[], false)?);
-        tree = if is_left {
-            join(alloc, tree, leaf)?
+        tree = if is_front {
+            merge(alloc, tree, leaf)?
         } else {
-            join(alloc, leaf, tree)?
+            merge(alloc, leaf, tree)?
         };
     }
     Ok(tree)
@@ -232,29 +254,29 @@ fn balanced(alloc: Global, height: u32) -> Result<MergeTree<CountedRange>, CoreE
         trees.push(MergeTree::Leaf(CountedRange::from_chunks(alloc, false, &[], false)?))?;
     }
     'levels: for _ in 0..height {
-        let mut joined = Vec::new(alloc);
+        let mut merged = Vec::new(alloc);
         let pairs = trees.len() / 2;
         let mut lower = trees.into_iter();
         'pairs: for _ in 0..pairs {
-            if let (Some(left), Some(right)) = (lower.next(), lower.next()) {
-                joined.push(join(alloc, left, right)?)?;
+            if let (Some(front), Some(back)) = (lower.next(), lower.next()) {
+                merged.push(merge(alloc, front, back)?)?;
             }
         }
-        trees = joined;
+        trees = merged;
     }
     Ok(trees.pop().ok_or(CoreError::OutOfMemory)?)
 }
 
 #[test]
 fn trees_of_great_depth_are_run(rt: HostRuntime) -> Result<(), Fail> {
-    for is_left in [true, false] {
-        let range = leaning(rt.alloc(), 100_000, is_left)?.run()?;
+    for is_front in [true, false] {
+        let range = leaning(rt.alloc(), 100_000, is_front)?.run()?;
         assert!(rt;
-            (range.joins, range.depth) == (100_000, 100_000),
-            "{is_left}"
+            (range.merges, range.depth) == (100_000, 100_000),
+            "{is_front}"
         );
     }
     let range = balanced(rt.alloc(), 17)?.run()?;
-    assert!(rt; (range.joins, range.depth) == (131_071, 17));
+    assert!(rt; (range.merges, range.depth) == (131_071, 17));
     Ok(())
 }

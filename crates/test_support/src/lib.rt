@@ -287,8 +287,8 @@ pub fn merge_into_previous(
 ) -> Result<(), CoreError> {
     if place < ranges.len() {
         let (before, after) = ranges.split_at_mut(place);
-        if let ([.., left], [right, ..]) = (before, after) {
-            left.merge_into(right)?;
+        if let ([.., front], [back, ..]) = (before, after) {
+            front.merge_into(back)?;
         }
         ranges.remove(place);
     }

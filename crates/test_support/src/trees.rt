@@ -7,7 +7,7 @@ use xet_merkle::aggregated_hashes::Node;
 use xet_merkle::chunk_range::ChunkRange;
 use xet_merkle::merge_tree::MergeTree;
 
-/// The five bracketings of four ranges, and how deep their joins go.
+/// The five bracketings of four ranges, and how deep their merges go.
 pub const BRACKETINGS: [(&str, u32); 5] = [
     ("..+.+.+", 3),
     ("...++.+", 3),
@@ -16,16 +16,16 @@ pub const BRACKETINGS: [(&str, u32); 5] = [
     ("....+++", 3),
 ];
 
-/// The tree that joins two.
-pub fn join<R: ChunkRange>(
+/// The tree that merges two.
+pub fn merge<R: ChunkRange>(
     alloc: Global,
-    left: MergeTree<R>,
-    right: MergeTree<R>,
+    front: MergeTree<R>,
+    back: MergeTree<R>,
 ) -> Result<MergeTree<R>, AllocError> {
-    Ok(MergeTree::Join(Box::new(alloc, left)?, Box::new(alloc, right)?))
+    Ok(MergeTree::Join(Box::new(alloc, front)?, Box::new(alloc, back)?))
 }
 
-/// The tree of a bracketing: a point stands for the next range, a plus joins the last two trees.
+/// The tree of a bracketing: a point stands for the next range, a plus merges the last two trees.
 pub fn tree<R: ChunkRange>(
     alloc: Global,
     bracketing: &str,
@@ -40,10 +40,10 @@ pub fn tree<R: ChunkRange>(
             };
             trees.push(MergeTree::Leaf(range))?;
         } else {
-            let (Some(right), Some(left)) = (trees.pop(), trees.pop()) else {
+            let (Some(back), Some(front)) = (trees.pop(), trees.pop()) else {
                 return Ok(None);
             };
-            trees.push(join(alloc, left, right)?)?;
+            trees.push(merge(alloc, front, back)?)?;
         }
     }
     Ok(trees.pop())

@@ -1,7 +1,7 @@
 pub mod AroundEntries
 pub mod Exchanging
 pub mod Hashes
-pub mod Joining
+pub mod Merging
 pub mod Neighbours
 pub mod OpenRuns
 pub mod Placing

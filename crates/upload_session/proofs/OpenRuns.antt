@@ -122,10 +122,10 @@ module _ {C A : Type 0} (kind : chunk_range.Ghosts C A) where
 
   module _ (runs : List (PlacedRun C)) (opened : AreOpen kind runs) (run : Run C) (of_run : IsOpen kind run.range) where
     -- a run changes, and that at another position is taken out
-    pub joined-open : (begin after : ℕ) → after ≢ begin → (last : Run C) → lookup (test begin) runs ≡ Some last
+    pub merged-open : (begin after : ℕ) → after ≢ begin → (last : Run C) → lookup (test begin) runs ≡ Some last
         → (more : ℕ) → size run ≡ size last + (more + size_at kind after runs)
         → AreOpenUpTo kind (sizes_of kind runs + more) (remove_entry (test after) (set_value (test begin) runs run))
-    joined-open begin after apart last is more sum =
+    merged-open begin after apart last is more sum =
         let set = set_value (test begin) runs run in (
           All-map-remove_entry (test after) (λ (e : PlacedRun C). e.1) IsOpenRun set (All-values-set_value (test begin) IsOpenRun runs run opened of_run),
           omega (

@@ -1,4 +1,4 @@
-//! Ranges of chunks by their positions, joined as they become adjacent.
+//! Ranges of chunks by their positions, merged as they become adjacent.
 
 ghost use Rattle.std.specs.Prelude.{◌≡◌, ◌≢◌, ◌+◌, ◌^◌, ◌<◌, ◌≤◌, List, ℕ, [], ◌∷◌, ◌++◌, false, length, option_map, slice_get, Some, None, IfOk, IfErr, IfSome, IfNone, IsSome, IsTrue, OnOk, OnErr};
 ghost use Rattle.std.specs.Ordering.{nat_cmp};

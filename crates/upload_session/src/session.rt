@@ -1,4 +1,4 @@
-//! A session: ranges of chunks that come in any order, joined as they become adjacent.
+//! A session: ranges of chunks that come in any order, merged as they become adjacent.
 
 ghost use Rattle.std.specs.Prelude.{◌≡◌, ℕ, ◌+◌, ◌^◌, ◌<◌, ◌≤◌, ◌↔◌, ◌⊎◌, List, [], false, length, replicate, sum_by, option_map, slice_get, Ok, IfOk, IfErr, IfSome, IfNone, SomeIff, OnOk, OnErr, IsOk, IsTrue, IsErrOf};
 ghost use Rattle.xet_merkle.specs.Groups.{Node};
@@ -154,6 +154,32 @@ impl<C: ChunkRange, H: KeptHashes<C::Alloc>> SessionOf<C, H> {
         }
         first.checked_add(count).ok_or(SessionFault::Positions)?;
         let size = add_sizes(size, chunks).ok_or(SessionFault::Sizes)?;
+        Ok(self.place(first, chunks, size)?)
+    }
+
+    /// Does what [`SessionOf::put`] does with chunks, one at least, whose positions and sizes the caller has tested: the
+    /// positions are free and at most `u64::MAX - 1`, and `size` is the sum of all sizes with theirs.
+    ///
+    /// It fails only where an allocation is refused, and the session is then as [`SessionOf::put`] leaves it.
+    pub fn place(&mut self, first: u64, chunks: &[Node], size: u64) -> Result<u64, AllocError>
+        requires some { 0 < length chunks.now }
+        requires free { (placed : List Placed) →
+            SessionStands C.ChunkRange H.KeptHashes self.old placed →
+            overlaps placed first (length chunks.now) ≡ false }
+        requires positions { first + length chunks.now < 2 ^ 64 }
+        requires sizes { size ≡ self.old.size + total_size chunks.now }
+        ensures placed { OnOk result ((placed : List Placed) →
+            SessionStands C.ChunkRange H.KeptHashes self.old placed →
+            SessionStands C.ChunkRange H.KeptHashes self.new (place placed first chunks.now)) }
+        ensures new { IfOk result (λ count. (placed : List Placed) →
+            SessionStands C.ChunkRange H.KeptHashes self.old placed →
+            (new : List Hash) × H.tells (hashes_of (chunks_of placed)) (hashes_of chunks.now) new
+            × (count ≡ length new)) }
+        ensures refused { OnErr result ((placed : List Placed) →
+            SessionStands C.ChunkRange H.KeptHashes self.old placed →
+            SessionStands C.ChunkRange H.KeptHashes self.new placed) }
+        ensures unchanged { OnErr result (self.new.runs ≡ self.old.runs) }
+    {
         let new = self.kept.keep(self.runs.allocator().clone()?, chunks)?;
         match self.runs.place(first, chunks) {
             Ok(()) => {
@@ -185,7 +211,7 @@ impl<C: ChunkRange, H: KeptHashes<C::Alloc>> SessionOf<C, H> {
         ensures errors { IfErr result (λ e. (e ≡ SessionFault.Gap) ⊎ (e ≡ SessionFault.Memory)) }
     {
         let whole = self.runs.whole_range(total)?;
-        hashes_of_open(self.runs.allocator(), whole).map_err(out_of_memory)
+        Ok(hashes_of_open(self.runs.allocator(), whole).map_err(out_of_memory)?)
     }
 
     /// The root of all chunks by position. It fails as [`SessionOf::hashes`] does.
@@ -230,13 +256,12 @@ fn add_sizes(size: u64, chunks: &[Node]) -> Option<u64>
     Some(sum)
 }
 
-// The fault of a call on ranges that is refused for memory alone.
-fn out_of_memory(error: CoreError) -> SessionFault
+// The error of a call on ranges that is refused for memory alone.
+fn out_of_memory(error: CoreError) -> AllocError
     requires { error ≡ CoreError.OutOfMemory }
-    ensures { result ≡ SessionFault.Memory }
 {
     match error {
-        CoreError::OutOfMemory => SessionFault::Memory,
+        CoreError::OutOfMemory => AllocError,
         _ => unreachable!(),
     }
 }

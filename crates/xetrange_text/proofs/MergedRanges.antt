@@ -50,33 +50,33 @@ size-push : (ranges : List Subtree) (range : Subtree) → ranges_size (ranges ++
 size-push ranges range =
     let sum = sum_by-append (λ (r : Subtree). levels_size r.levels) ranges (range ∷ []) in omega (arith, sum)
 
-module _ (before : List (List ℕ)) (ranges : List Subtree) (joined range more : Subtree) (line : List ℕ) (good : AreRanges before ranges)
-    (are_merged : AreMerged ranges joined) (merged : IsMerged joined range more) where
-  pub AreRanges-push : SaysRange (content line) range → ranges_size ranges + levels_size range.levels < 2 ^ 64
-      → length (concat before) + length line ≤ byte_limit → AreRanges (before ++ line ∷ []) (ranges ++ range ∷ [])
+module _ (before : List (List ℕ)) (ranges : List Subtree) (front back merged : Subtree) (line : List ℕ) (good : AreRanges before ranges)
+    (are_merged : AreMerged ranges front) (is_merged : IsMerged front back merged) where
+  pub AreRanges-push : SaysRange (content line) back → ranges_size ranges + levels_size back.levels < 2 ^ 64
+      → length (concat before) + length line ≤ byte_limit → AreRanges (before ++ line ∷ []) (ranges ++ back ∷ [])
   AreRanges-push says fits within = record {
-    say = zip-push (λ line range. SaysRange (content line) range) before ranges line range good.say says;
-    fits = omega (arith, fits, size-push ranges range);
+    say = zip-push (λ line range. SaysRange (content line) range) before ranges line back good.say says;
+    fits = omega (arith, fits, size-push ranges back);
     within = omega (arith, within, concat-push before line);
   }
 
-  pub AreMerged-push : range.at_end ≡ false → AreMerged (ranges ++ range ∷ []) more
+  pub AreMerged-push : back.at_end ≡ false → AreMerged (ranges ++ back ∷ []) merged
   AreMerged-push is_open = record {
-    is_open = (merged.spans.start ∙ are_merged.is_open.0, merged.spans.end ∙ is_open);
-    size = omega (arith, merged.spans.size, are_merged.size, size-push ranges range);
+    is_open = (is_merged.spans.start ∙ are_merged.is_open.0, is_merged.spans.end ∙ is_open);
+    size = omega (arith, is_merged.spans.size, are_merged.size, size-push ranges back);
     canonical = λ all zip.
-        let (lists, list, is, front, last) = zip-last IsCanonical ranges range all zip in
-        subst (IsCanonical more) (sym (ap (flat_map (λ l. l)) is ∙ flat-push lists list))
-        (merged.canonical (flat_map (λ l. l) lists) list (are_merged.canonical lists front) last);
+        let (lists, list, is, others, last) = zip-last IsCanonical ranges back all zip in
+        subst (IsCanonical merged) (sym (ap (flat_map (λ l. l)) is ∙ flat-push lists list))
+        (is_merged.canonical (flat_map (λ l. l) lists) list (are_merged.canonical lists others) last);
   }
 
 -- a merge that succeeds has sizes that fit
-pub sizes_fit : (ranges : List Subtree) (joined range : Subtree) (r : Result (Unit {0}) CoreError) (more : Subtree) → AreMerged ranges joined
-    → IsMerged joined range more → r ≡ Ok tt → MergeRefusals joined range r → ranges_size ranges + levels_size range.levels < 2 ^ 64
-sizes_fit ranges joined range r more are_merged merged ok refusals =
-    elim (cases_lt (ranges_size ranges + levels_size range.levels) (2 ^ 64)) [
+pub sizes_fit : (ranges : List Subtree) (front back : Subtree) (r : Result (Unit {0}) CoreError) (merged : Subtree) → AreMerged ranges front
+    → IsMerged front back merged → r ≡ Ok tt → MergeRefusals front back r → ranges_size ranges + levels_size back.levels < 2 ^ 64
+sizes_fit ranges front back r merged are_merged is_merged ok refusals =
+    elim (cases_lt (ranges_size ranges + levels_size back.levels) (2 ^ 64)) [
       | inl fits ↦ fits
       | inr past ↦
-          let refused = refusals.overflow.1 ((merged.spans.no_end, merged.spans.no_start), omega (arith, past, are_merged.size)) in
+          let refused = refusals.overflow.1 ((is_merged.spans.no_end, is_merged.spans.no_start), omega (arith, past, are_merged.size)) in
           let clash : ⊥ = cc (ok, refused) in absurd clash
     ]

@@ -77,7 +77,7 @@ impl<C: ChunkRange> Chunks<C> {
         Ok(self.ended)
     }
 
-    // Joins the last chunks to those before them.
+    // Merges the range of the last chunks into that of those before them.
     fn end_range(&mut self) -> Result<(), AllocError>
         ensures same { OnOk result ((chunks : List Node) → StandForChunks self.old chunks → StandForChunks self.new chunks) }
         ensures total { self.new.total ≡ self.old.total }

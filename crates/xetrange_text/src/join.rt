@@ -1,19 +1,26 @@
 //! Ranges merged to one, and to the hashes of the whole.
 
+ghost use Rattle.std.specs.Prelude.{◌≡◌, ◌<◌, List, length, replicate, IfNone, IfOk, IfSome};
 ghost use Rattle.line_io.specs.Answers.{AnswersInput};
+ghost use Rattle.xet_merkle.specs.Groups.{Node};
+ghost use Rattle.xet_merkle.specs.Roots.{IsFileHash, IsRoot};
+ghost use Rattle.xet_merkle.specs.Subtree.{IsCanonical};
 ghost use Rattle.xetrange_text.specs.Answers.{IsJoinedOf, IsRangeFaultOf, IsRootOf};
 
 use crate::fault::RangeFault;
-use crate::merged_lines::{MergedLines, close};
+use crate::merged_lines::MergedLines;
 use crate::range_line::write_range;
 use arrayvec::ArrayVec;
 use line_io::answer_lines::answer_lines;
 use line_io::fault::Refusal;
 use line_io::take_lines::AnswerLines;
 use pair_text::output::{OUTPUT_LEN, output};
-use std::alloc::{Allocator, Global};
+use std::alloc::{AllocError, Allocator, Global};
 use std::convert::Infallible;
 use std::io::{Read, Write};
+use xet_hash::data_hash::MerkleHash;
+use xet_merkle::chunk_range::hashes_of_open;
+use xet_merkle::merkle_hash_subtree::MerkleHashSubtree;
 
 /// Reads lines to the end of `r`, each the JSON text of a subtree that is open at both ends, and then writes that of the
 /// subtree that these make together in order, open at both ends too, and a newline to `w`, and flushes it.
@@ -36,7 +43,7 @@ pub fn join<R: Read, W: Write>(
 }
 
 /// Reads the lines that [`join`] reads, and writes the root and the file hash of what the subtree stands for that they are
-/// joined to, once both of its ends are marked: the two lines that [`xetroot_text::run::run`] writes.
+/// merged to, once both of its ends are marked: the two lines that [`xetroot_text::run::run`] writes.
 ///
 /// What it keeps, its faults and what was written after one are as for [`join`].
 pub fn root<R: Read, W: Write>(
@@ -94,4 +101,29 @@ impl<A: Allocator + Clone> AnswerLines<MergedLines<A>> for RootAndFile<A> {
         let (root, file) = close(self.alloc, &lines.merged)?;
         Ok(output(&root, &file))
     }
+}
+
+// The root and the file hash of a range that is open at both ends, once both are marked. It fails where an allocation is
+// refused.
+fn close<A: Allocator + Clone>(
+    alloc: A,
+    merged: &MerkleHashSubtree<A>,
+) -> Result<(MerkleHash, MerkleHash), AllocError>
+    ensures root { IfOk result (λ hashes. (chunks : List Node) → IsCanonical merged.now chunks → IsRoot chunks hashes.0) }
+    ensures file { IfOk result (λ hashes. (chunks : List Node) → IsCanonical merged.now chunks →
+        IsFileHash chunks (replicate 32 0) hashes.1) }
+{
+    let Ok(hashes) = hashes_of_open(&alloc, with_chunks(merged)) else {
+        return Err(AllocError);
+    };
+    Ok(hashes)
+}
+
+// A range, where it has a chunk.
+fn with_chunks<A: Allocator + Clone>(range: &MerkleHashSubtree<A>) -> Option<&MerkleHashSubtree<A>>
+    ensures none { IfNone result ((chunks : List Node) → IsCanonical range.now chunks → length chunks ≡ 0) }
+    ensures some { IfSome result (λ same. (same.now ≡ range.now)
+        × ((chunks : List Node) → IsCanonical range.now chunks → 0 < length chunks)) }
+{
+    if range.is_empty() { None } else { Some(range) }
 }

@@ -9,7 +9,7 @@ ghost use Rattle.xetrange_text.specs.Cutting.{InputOf};
 use xet_merkle::laws::{canonical_subtree_bounds, json_says_one_subtree};
 
 /// However the lines of a text are cut into pieces, what `root` answers to the ranges that `make` answers to the pieces, some
-/// adjacent ones joined before or none, is the answer to the text, in which no line names a position. So it is what
+/// adjacent ones merged before or none, is the answer to the text, in which no line names a position. So it is what
 /// `xetroot` writes.
 pub fn however_it_was_cut()
     ensures answer { (text output input : List ℕ) (pieces : List (List ℕ)) → lines_of text ≡ flat_map lines_of pieces →

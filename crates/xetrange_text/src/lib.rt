@@ -1,4 +1,4 @@
-//! What the program `xetrange` answers: ranges of a file that are made apart and joined without their chunks, each as a
+//! What the program `xetrange` answers: ranges of a file that are made apart and merged without their chunks, each as a
 //! line of JSON.
 #![tactic(auto)]
 

@@ -1,9 +1,6 @@
 //! Lines of ranges, merged in order.
 
-ghost use Rattle.std.specs.Prelude.{◌≡◌, ℕ, ◌<◌, List, [], length, replicate, IfOk, IfSome, IfNone};
-ghost use Rattle.xet_merkle.specs.Groups.{Node};
-ghost use Rattle.xet_merkle.specs.Roots.{IsRoot, IsFileHash};
-ghost use Rattle.xet_merkle.specs.Subtree.{IsCanonical};
+ghost use Rattle.std.specs.Prelude.{[], IfOk};
 ghost use Rattle.xetrange_text.specs.Answers.{IsLineFault};
 ghost use Rattle.xetrange_text.specs.Steps.MergedLines.{HasTaken};
 
@@ -12,8 +9,6 @@ use crate::range_line::read_range;
 use line_io::fault::Refusal;
 use line_io::take_lines::TakeLines;
 use std::alloc::{AllocError, Allocator, Global};
-use xet_hash::data_hash::MerkleHash;
-use xet_merkle::chunk_range::hashes_of_open;
 use xet_merkle::error::CoreError;
 use xet_merkle::merkle_hash_subtree::MerkleHashSubtree;
 
@@ -69,29 +64,4 @@ impl<A: Allocator + Clone> TakeLines for MergedLines<A> {
     fn past_limit(&self) -> LineFault {
         LineFault::Bad
     }
-}
-
-/// The root and the file hash of a range that is open at both ends, once both are marked. It fails where an allocation is
-/// refused.
-pub fn close<A: Allocator + Clone>(
-    alloc: A,
-    merged: &MerkleHashSubtree<A>,
-) -> Result<(MerkleHash, MerkleHash), AllocError>
-    ensures root { IfOk result (λ hashes. (chunks : List Node) → IsCanonical merged.now chunks → IsRoot chunks hashes.0) }
-    ensures file { IfOk result (λ hashes. (chunks : List Node) → IsCanonical merged.now chunks →
-        IsFileHash chunks (replicate 32 0) hashes.1) }
-{
-    let Ok(hashes) = hashes_of_open(&alloc, with_chunks(merged)) else {
-        return Err(AllocError);
-    };
-    Ok(hashes)
-}
-
-// A range, where it has a chunk.
-fn with_chunks<A: Allocator + Clone>(range: &MerkleHashSubtree<A>) -> Option<&MerkleHashSubtree<A>>
-    ensures none { IfNone result ((chunks : List Node) → IsCanonical range.now chunks → length chunks ≡ 0) }
-    ensures some { IfSome result (λ same. (same.now ≡ range.now)
-        × ((chunks : List Node) → IsCanonical range.now chunks → 0 < length chunks)) }
-{
-    if range.is_empty() { None } else { Some(range) }
 }

@@ -22,7 +22,7 @@ use std::io::{self, ErrorKind, Read, Write};
 const HELP: &str = "\
 Usage: xetrange make|join|root
 
-Ranges of a file's chunks, made apart and joined without their chunks. Each reads
+Ranges of a file's chunks, made apart and merged without their chunks. Each reads
 standard input and writes standard output.
 
   make    pairs, chunks and `--`, as xetroot reads them: the line of their range

@@ -1,16 +1,12 @@
 -- What is kept of placed pairs, as pairs are added and ranges end.
-use Rattle.std.proofs.Common.{arith, inl, inr, ◌≡◌, ◌+◌, ◌^◌, ◌<◌, ◌≤◌, ℕ, Bool, true, false, List, [], ◌∷◌, ◌++◌, ◌&&◌, ◌||◌, nat_eq, nat_lt, length, length-append, refl, sym, ap, subst, ◌∙◌}
-use Rattle.std.proofs.lemmas.Bool.{false≢true, or_from, or_parts}
-use Rattle.std.specs.Prelude.{Result, Ok, Err, IfErr, IsErrOf, IsTrue, ◌⊎◌}
-use Rattle.std.proofs.lemmas.Result.{IfErr-at_err}
+use Rattle.std.proofs.Common.{arith, ◌≡◌, ◌+◌, ◌^◌, ◌<◌, ◌≤◌, ℕ, Bool, true, false, List, [], ◌∷◌, ◌++◌, ◌&&◌, ◌||◌, nat_eq, nat_lt, length, length-append, refl, sym, ap, subst, ◌∙◌}
+use Rattle.std.proofs.lemmas.Bool.{or_from, or_parts}
 use Rattle.xet_merkle.specs.Groups.{Node}
 use Rattle.xet_merkle.specs.Roots.{total_size}
 use Rattle.upload_session.specs.Session.{Placed, Parts, SessionStands, chunks_of, is_taken, overlaps, place, placed_from}
 use Rattle.upload_session.specs.declared.kept_hashes.NoHashes.{NoHashes}
-use Rattle.upload_session.specs.declared.session_fault.SessionFault.{SessionFault}
-use Rattle.upload_session.specs.declared.session_fault.SessionFault.TheVariants.{Overlap, Positions, Sizes, Memory}
 use Rattle.upload_session.proofs.Placing.{any-placed, place-size}
-use Rattle.upload_session.proofs.Positions.{taken-overlaps}
+use Rattle.upload_session.proofs.Positions.{overlaps-runs, taken-overlaps}
 use Rattle.upload_session.proofs.Exchanging.{in_parts}
 use Rattle.xet_merkle.specs.declared.chunk_range.ChunkRange as chunk_range
 use Rattle.xetroot_text.specs.Steps.PlacedPairs.{Gathered, no_hashes, StandAmong, StandForPlaced, StandForPairs}
@@ -31,6 +27,12 @@ overlaps-more (p ∷ placed) first count free next =
     let (other, rest) = or_parts (nat_eq p.0 (first + count)) (is_taken placed (first + count)) next in
     or_from (nat_lt first (p.0 + 1) && nat_lt p.0 (first + (count + 1))) (overlaps placed first (count + 1)) (grind (arith, here, other))
     (overlaps-more placed first count others rest)
+
+-- some pairs take no position that was taken
+free-among : (before : List Placed) (first : ℕ) (range : List Node) (pairs : List Placed) → StandAmong before first range pairs → 0 < length range
+    → (overlaps before first (length range) ≡ false) × (pairs ≡ place before first range)
+free-among before first [] pairs is some = absurd (omega (arith, some))
+free-among before first (pair ∷ more) pairs is some = is
 
 taken-among : (before : List Placed) (first : ℕ) (range : List Node) (pairs : List Placed) → StandAmong before first range pairs
     → is_taken pairs (first + length range) ≡ is_taken before (first + length range)
@@ -85,42 +87,17 @@ module _ {C A : Type 0} (kind : chunk_range.Ghosts C A) where
       fits = fits;
     }
 
-    -- a session that stands for all pairs holds them
-    pub StandForPlaced-ended : (ended : Parts C NoHashes) → Stands ended pairs → StandIn ended [] next next total pairs
-    StandForPlaced-ended ended stand = record {
-      before = pairs;
-      ended = stand;
-      among = refl;
-      adjacent = omega arith;
-      low = h.low;
-      total_is = h.total_is;
-      fits = h.fits;
-    }
+    -- an open range with a pair is placed: no position is taken, and the sizes are the sum of all
+    pub StandForPlaced-free : 0 < length range → (placed : List Placed) → Stands session placed → overlaps placed first (length range) ≡ false
+    StandForPlaced-free some placed stand =
+        let count = length range in
+        overlaps-runs first count some kind session.runs placed stand.0 ∙ sym (overlaps-runs first count some kind session.runs h.before h.ended.0)
+        ∙ (free-among h.before first range pairs h.among some).0
 
-    -- another session that stands for the same
-    pub StandForPlaced-kept : (other : Parts C NoHashes) → Stands other h.before → StandIn other range first next total pairs
-    StandForPlaced-kept other stand = record {
-      before = h.before;
-      ended = stand;
-      among = h.among;
-      adjacent = h.adjacent;
-      low = h.low;
-      total_is = h.total_is;
-      fits = h.fits;
-    }
-
-  -- ranges that are ended can go on at any position
-  pub StandForPlaced-go_to : (session : Parts C NoHashes) (first next total position : ℕ) (pairs : List Placed) → StandIn session [] first next total pairs → position < 2 ^ 64
-      → StandIn session [] position position total pairs
-  StandForPlaced-go_to session first next total position pairs h low = record {
-    before = h.before;
-    ended = h.ended;
-    among = h.among;
-    adjacent = omega arith;
-    low = low;
-    total_is = h.total_is;
-    fits = h.fits;
-  }
+    pub StandForPlaced-total : 0 < length range → total ≡ session.size + total_size range
+    StandForPlaced-total some =
+        let size = ap (λ l. total_size (chunks_of l)) (free-among h.before first range pairs h.among some).1 ∙ place-size h.before first range in
+        omega (arith, size, h.total_is, h.ended.2)
 
   -- ranges that begin
   pub StandForPlaced-none : (session : Parts C NoHashes) (range : List Node) → Stands session [] → range ≡ [] → StandIn session range 0 0 0 []
@@ -133,33 +110,6 @@ module _ {C A : Type 0} (kind : chunk_range.Ghosts C A) where
     total_is = refl;
     fits = omega arith;
   })
-
-  -- what a put of an open range leaves
-  pub stands-put : (session made : Parts C NoHashes) (before pairs : List Placed) (first : ℕ) (range : List Node) → StandAmong before first range pairs
-      → Stands session before → ((placed : List Placed) → Stands session placed → Stands made (place placed first range)) → (length range ≡ 0 → made ≡ session)
-      → Stands made pairs
-  stands-put session made before pairs first [] is stand placed nothing =
-      subst (Stands made) (sym is) (subst (λ s. Stands s before) (sym (nothing refl)) stand)
-  stands-put session made before pairs first (pair ∷ more) (_, is) stand placed nothing = subst (Stands made) (sym is) (placed before stand)
-
-  -- a put of it is refused for memory alone
-  pub put-refused : (r : Result ℕ SessionFault) (session : Parts C NoHashes) (range : List Node) (first next total : ℕ) (pairs : List Placed)
-      → (h : StandIn session range first next total pairs)
-      → IfErr r (λ e. (e ≡ Overlap) ⊎ ((e ≡ Positions) ⊎ ((e ≡ Sizes) ⊎ (e ≡ Memory)))) → (length range ≡ 0 → r ≡ Ok 0)
-      → (IsErrOf r Overlap → IsTrue (overlaps h.before first (length range))) → (IsErrOf r Positions → 2 ^ 64 ≤ first + length range)
-      → (IsErrOf r Sizes → 2 ^ 64 ≤ total_size (chunks_of h.before) + total_size range)
-      → (e : SessionFault) → r ≡ Err e → e ≡ Memory
-  put-refused r session [] first next total pairs h errors nothing overlap positions sizes e is = cc (sym (nothing refl) ∙ is)
-  put-refused r session (pair ∷ more) first next total pairs h errors nothing overlap positions sizes e is =
-      elim (IfErr-at_err _ is errors) [
-        | inl overlaps ↦ absurd (false≢true (sym h.among.0 ∙ overlap (is ∙ ap Err overlaps)))
-        | inr (inl past) ↦ let far = positions (is ∙ ap Err past) in absurd (omega (arith, far, h.adjacent, h.low))
-        | inr (inr (inl large)) ↦
-            let many = sizes (is ∙ ap Err large) in
-            let size = ap (λ l. total_size (chunks_of l)) h.among.1 ∙ place-size h.before first (pair ∷ more) in
-            absurd (omega (arith, many, size, h.total_is, h.fits))
-        | inr (inr (inr memory)) ↦ memory
-      ]
 
   -- ranges with a pair more
   pub StandForPairs-push : (ranges : Gathered C) (pairs : List Placed) (next : ℕ) → StandForPairs kind ranges pairs next → is_taken pairs next ≡ false

@@ -156,9 +156,10 @@ impl<C: ChunkRange> PlacedPairs<C> {
             × (self.new.total ≡ self.old.total) }
         ensures none { OnOk result (self.new.range ≡ []) }
     {
-        self.session
-            .put(self.first, &self.range)
-            .map_err(out_of_memory)?;
+        if self.range.is_empty() {
+            return Ok(());
+        }
+        self.session.place(self.first, &self.range, self.total)?;
         self.range.clear();
         self.first = self.next;
         Ok(())

@@ -30,13 +30,13 @@ fn short_ranges_hash_each_level(rt: HostRuntime) -> Result<(), Fail> {
     let alloc = rt.alloc();
     for row in MERGES.lines() {
         let columns: Vec<&str> = row.splitn(5, ' ').collect(alloc)?;
-        let [left, right, count, root, counts] = columns.as_slice() else {
+        let [front, back, count, root, counts] = columns.as_slice() else {
             return Err("a row lacks a column")?;
         };
-        let (left, right) = (reference_list(alloc, left)?, reference_list(alloc, right)?);
-        let mut subtree = MerkleHashSubtree::from_chunks(alloc, true, left.as_slice(), false)?;
-        let right = MerkleHashSubtree::from_chunks(alloc, false, right.as_slice(), true)?;
-        assert!(rt; subtree.merge_into_counted(&right)? == count.parse()?);
+        let (front, back) = (reference_list(alloc, front)?, reference_list(alloc, back)?);
+        let mut subtree = MerkleHashSubtree::from_chunks(alloc, true, front.as_slice(), false)?;
+        let back = MerkleHashSubtree::from_chunks(alloc, false, back.as_slice(), true)?;
+        assert!(rt; subtree.merge_into_counted(&back)? == count.parse()?);
         assert!(rt; has_told_counts(alloc, &subtree, counts)?, "{row}");
         assert!(rt; subtree.final_hash() == Some(DataHash::from_hex(root)?));
     }
@@ -68,26 +68,26 @@ impl ParentMaker for LengthHashes {
 fn parents_have_the_hashes_of_their_maker(rt: HostRuntime) -> Result<(), Fail> {
     let nodes = with_cuts::<8>(&EACH_FOURTH);
     let (first, second) = nodes.split_at(4);
-    let mut left = MerkleHashSubtree::from_chunks(rt.alloc(), true, first, false)?;
-    let right = MerkleHashSubtree::from_chunks(rt.alloc(), false, second, true)?;
-    let mut own = left.try_clone()?;
-    let maker = left.merge_into_by(&right, LengthHashes { made: 0 })?;
+    let mut front = MerkleHashSubtree::from_chunks(rt.alloc(), true, first, false)?;
+    let back = MerkleHashSubtree::from_chunks(rt.alloc(), false, second, true)?;
+    let mut own = front.try_clone()?;
+    let maker = front.merge_into_by(&back, LengthHashes { made: 0 })?;
     assert!(rt; maker.made() == 3);
-    assert!(rt; has_counts(&left, &[(0, 0), (0, 0), (1, 0)]));
-    assert!(rt; left.final_hash() == Some(MerkleHash::from([2, 0, 0, 1])));
-    assert!(rt; own.merge_into_by(&right, ParentHashes::new())?.made() == 3);
+    assert!(rt; has_counts(&front, &[(0, 0), (0, 0), (1, 0)]));
+    assert!(rt; front.final_hash() == Some(MerkleHash::from([2, 0, 0, 1])));
+    assert!(rt; own.merge_into_by(&back, ParentHashes::new())?.made() == 3);
     Ok(())
 }
 
 // Merges a range into the one before it. False where that hashes more parents than half of the nodes of both and one for
 // each level of the result but the top.
 fn merge_within_bound(
-    left: &mut MerkleHashSubtree,
-    right: &MerkleHashSubtree,
+    front: &mut MerkleHashSubtree,
+    back: &MerkleHashSubtree,
 ) -> Result<bool, CoreError> {
-    let nodes = left.num_nodes().saturating_add(right.num_nodes());
-    let count = left.merge_into_counted(right)?;
-    let below_top = left.num_levels().saturating_sub(1);
+    let nodes = front.num_nodes().saturating_add(back.num_nodes());
+    let count = front.merge_into_counted(back)?;
+    let below_top = front.num_levels().saturating_sub(1);
     let most = nodes.saturating_add(below_top.saturating_mul(2));
     Ok(count.saturating_mul(2) <= most as u128)
 }
@@ -110,31 +110,31 @@ fn drawn_lists_stay_within_the_bounds(rt: HostRuntime) -> Result<(), Fail> {
         let whole = MerkleHashSubtree::from_chunks(alloc, false, nodes.as_slice(), false)?;
         assert!(rt; is_small(&whole, count), "{count}");
         let (first, second) = nodes.split_at(nodes.len() / 2);
-        let mut left = MerkleHashSubtree::from_chunks(alloc, false, first, false)?;
-        let right = MerkleHashSubtree::from_chunks(alloc, false, second, false)?;
-        assert!(rt; merge_within_bound(&mut left, &right)?, "{count}");
-        assert!(rt; left == whole && is_small(&left, count), "{count}");
+        let mut merged = MerkleHashSubtree::from_chunks(alloc, false, first, false)?;
+        let back = MerkleHashSubtree::from_chunks(alloc, false, second, false)?;
+        assert!(rt; merge_within_bound(&mut merged, &back)?, "{count}");
+        assert!(rt; merged == whole && is_small(&merged, count), "{count}");
     }
     Ok(())
 }
 
 #[test]
-fn ranges_stay_within_the_bounds_after_each_join(rt: HostRuntime) -> Result<(), Fail> {
+fn ranges_stay_within_the_bounds_after_each_merge(rt: HostRuntime) -> Result<(), Fail> {
     let alloc = rt.alloc();
     let mut generator = Xoshiro256PlusPlus::seed_from_u64(19);
     for count in [200u64, 500, 1000, 2000] {
         let nodes = drawn_list(&mut generator, alloc, count)?;
-        let mut joined = MerkleHashSubtree::from_chunks(alloc, false, &[], false)?;
+        let mut merged = MerkleHashSubtree::from_chunks(alloc, false, &[], false)?;
         let mut rest = nodes.as_slice();
         // Of 10 nodes or more each, these are more than all.
         for _ in 0..200 {
             let len = (generator.next_u64() % 40 + 10) as usize;
             let (range, after) = rest.split_at(len.min(rest.len()));
             let range = MerkleHashSubtree::from_chunks(alloc, false, range, false)?;
-            assert!(rt; merge_within_bound(&mut joined, &range)?, "{count}");
+            assert!(rt; merge_within_bound(&mut merged, &range)?, "{count}");
             rest = after;
             let chunks = count.saturating_sub(rest.len() as u64);
-            assert!(rt; is_small(&joined, chunks), "{count}");
+            assert!(rt; is_small(&merged, chunks), "{count}");
         }
         assert!(rt; rest.is_empty());
     }
@@ -172,17 +172,13 @@ fn of_no_list(
     let count = (generator.next_u64() % 12 + 1) as usize;
     let top = drawn_nodes(generator, alloc, count, 1)?;
     write!(counts, "[{count},0]")?;
-    let mut nodes = String::new(alloc);
+    sides.push(top)?;
     if at_start {
-        write_nodes(&mut nodes, top.as_slice())?;
-        for side in sides.iter().rev() {
-            write_nodes(&mut nodes, side.as_slice())?;
-        }
-    } else {
-        for side in sides.iter() {
-            write_nodes(&mut nodes, side.as_slice())?;
-        }
-        write_nodes(&mut nodes, top.as_slice())?;
+        sides.reverse();
+    }
+    let mut nodes = String::new(alloc);
+    for side in &sides {
+        write_nodes(&mut nodes, side)?;
     }
     let text = format!(in alloc;
         "{{\"at_end\":{},\"at_start\":{at_start},\"levels\":[{counts}],\"nodes\":[{nodes}]}}",
@@ -195,9 +191,9 @@ fn of_no_list(
 fn subtrees_of_no_list_stay_within_the_bound(rt: HostRuntime) -> Result<(), Fail> {
     let mut generator = Xoshiro256PlusPlus::seed_from_u64(20);
     for number in 0..100 {
-        let mut left = of_no_list(&mut generator, rt.alloc(), true)?;
-        let right = of_no_list(&mut generator, rt.alloc(), false)?;
-        assert!(rt; merge_within_bound(&mut left, &right)?, "{number}");
+        let mut front = of_no_list(&mut generator, rt.alloc(), true)?;
+        let back = of_no_list(&mut generator, rt.alloc(), false)?;
+        assert!(rt; merge_within_bound(&mut front, &back)?, "{number}");
     }
     Ok(())
 }

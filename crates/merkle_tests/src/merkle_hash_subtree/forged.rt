@@ -11,9 +11,9 @@ use xet_merkle::merkle_hash_subtree::MerkleHashSubtree;
 fn subtrees_of_no_list_merge_from_their_nodes(rt: HostRuntime) -> Result<(), Fail> {
     let mut texts = TEXTS.lines();
     for number in 0..6 {
-        let mut subtree = read_json(rt.alloc(), texts.next().ok_or("no left subtree")?)??;
-        let right = read_json(rt.alloc(), texts.next().ok_or("no right subtree")?)??;
-        subtree.merge_into(&right)?;
+        let mut subtree = read_json(rt.alloc(), texts.next().ok_or("no front subtree")?)??;
+        let back = read_json(rt.alloc(), texts.next().ok_or("no back subtree")?)??;
+        subtree.merge_into(&back)?;
         let text = subtree.to_json(rt.alloc())?.to_string(rt.alloc())?;
         assert!(rt; Some(text.as_str()) == texts.next(), "{number}");
     }
@@ -44,7 +44,7 @@ fn a_subtree_of_no_list_is_closed_within_the_bound(rt: HostRuntime) -> Result<()
     Ok(())
 }
 
-// For each merge the texts of a left and of a right subtree, and the one of their merged subtree.
+// For each merge the texts of a front and of a back subtree, and the one of their merged subtree.
 const TEXTS: &str =
     r#"{"at_end":false,"at_start":true,"levels":[[0,7],[5,0]],"nodes":[{"hash":"09bc3643e1c12409df9d7754bb241031d7e555d24f75c805a59ae4d73d5d4412","size":3000817672},{"hash":"bfc82cbb0c65d972e9ecff2f6f9b74a115a12a8aaafe3de2348c7780ffb8e18a","size":100},{"hash":"25d85249dde00cfc146153dd8c8a070a4c63ab8ea15fbd92ccd1ab4d3032b087","size":65536},{"hash":"9003c89b1516340b01cdd795e8bf21e2b558ccf2ebbe65909f23a12f0ce976f6","size":65536},{"hash":"149af0498e6440161bbffc4b4e72ef8bb18dd2ae7184c26ad6495fe90ad313a3","size":9},{"hash":"e91af324cd3aeab2287cc99424554cfa292bba01876b08e6174db5130153be41","size":10},{"hash":"d53b67b240633450f48546cdd28773e14260c74fe3b7b5172f708bfdad4b7d59","size":0},{"hash":"bddecc8e5b70eb2e1e1b3a91a197023f294b9baaf4d433a54649827246206347","size":100},{"hash":"1557c13fb5ce43f82107fcab9c844c1db201be2accd630f1f67dbde4ec73c509","size":65536},{"hash":"7d8a6d43a41acb148aa9e30d4c7cbf23fe09633ff7e3a96eaa9c56986f9d8e3b","size":10},{"hash":"180146f5d4bc4c36f95ec6a35bfbfc1343e504a3e30d19fff20554032f15fd5a","size":100},{"hash":"b4519842b87d50de0d03f6e252f353c2b2226bc09c181a994d07cee700447e44","size":65536}]}
 {"at_end":true,"at_start":false,"levels":[[0,0]],"nodes":[]}

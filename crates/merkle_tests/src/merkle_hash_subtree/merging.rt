@@ -22,7 +22,7 @@ fn merge_to_root(alloc: Global, nodes: &[Node], lengths: &[usize]) -> Result<boo
 }
 
 #[test]
-fn ranges_are_joined_to_the_root_of_the_whole(rt: HostRuntime) -> Result<(), Fail> {
+fn ranges_are_merged_to_the_root_of_the_whole(rt: HostRuntime) -> Result<(), Fail> {
     let alloc = rt.alloc();
     let all = with_cuts::<28>(&EACH_FOURTH);
     let (first, second) = all.split_at(11);
@@ -82,8 +82,8 @@ fn one_range_is_copied_whatever_its_marks(rt: HostRuntime) -> Result<(), Fail> {
 }
 
 // What a merge of two ranges is refused with, where their sizes don't fit together.
-fn refusal(left_at_end: bool, right_at_start: bool, overflows: bool) -> Option<CoreError> {
-    if left_at_end || right_at_start {
+fn refusal(front_at_end: bool, back_at_start: bool, overflows: bool) -> Option<CoreError> {
+    if front_at_end || back_at_start {
         Some(CoreError::InvalidArguments)
     } else if overflows {
         Some(CoreError::SizeOverflow)
@@ -106,29 +106,29 @@ fn largest(
 // What the merge of two ranges is refused with, by either call. The range that takes in the other stays the same then.
 fn refusals(
     alloc: Global,
-    left: MerkleHashSubtree,
-    right: MerkleHashSubtree,
+    front: MerkleHashSubtree,
+    back: MerkleHashSubtree,
 ) -> Result<[Option<CoreError>; 2], Fail> {
-    let mut merged = left.try_clone()?;
-    let refusal = merged.merge_into(&right).err();
-    if refusal.is_some() && merged != left {
+    let mut merged = front.try_clone()?;
+    let refusal = merged.merge_into(&back).err();
+    if refusal.is_some() && merged != front {
         return Err("refused, and changed")?;
     }
-    let answer = MerkleHashSubtree::merge(alloc, &[left, right]);
+    let answer = MerkleHashSubtree::merge(alloc, &[front, back]);
     Ok([refusal, answer.err()])
 }
 
 // Whether two ranges with these marks are refused as they should be, be they empty or too large together.
 fn marks_count_first(
     alloc: Global,
-    left_marks: (bool, bool),
-    right_marks: (bool, bool),
+    front_marks: (bool, bool),
+    back_marks: (bool, bool),
 ) -> Result<bool, Fail> {
-    for (left_empty, right_empty) in MARKS {
-        let left = largest(alloc, left_marks, left_empty)?;
-        let right = largest(alloc, right_marks, right_empty)?;
-        let expected = refusal(left.at_end(), right.at_start(), !left_empty && !right_empty);
-        if refusals(alloc, left, right)? != [expected; 2] {
+    for (front_empty, back_empty) in MARKS {
+        let front = largest(alloc, front_marks, front_empty)?;
+        let back = largest(alloc, back_marks, back_empty)?;
+        let expected = refusal(front.at_end(), back.at_start(), !front_empty && !back_empty);
+        if refusals(alloc, front, back)? != [expected; 2] {
             return Ok(false);
         }
     }
@@ -137,11 +137,11 @@ fn marks_count_first(
 
 #[test]
 fn marks_between_ranges_are_refused_before_sizes(rt: HostRuntime) -> Result<(), Fail> {
-    for left in MARKS {
-        for right in MARKS {
+    for front in MARKS {
+        for back in MARKS {
             assert!(rt;
-                marks_count_first(rt.alloc(), left, right)?,
-                "{left:?}, {right:?}"
+                marks_count_first(rt.alloc(), front, back)?,
+                "{front:?}, {back:?}"
             );
         }
     }
@@ -172,21 +172,21 @@ fn all_marks_are_looked_at_before_all_sizes(rt: HostRuntime) -> Result<(), Fail>
 }
 
 // What the merge of two nodes of these sizes is refused with. Where it isn't, the merged ones have the root of both.
-fn joint_refusal(alloc: Global, size: u64, next: u64) -> Result<Option<CoreError>, Fail> {
+fn refusal_of_sizes(alloc: Global, size: u64, next: u64) -> Result<Option<CoreError>, Fail> {
     let hash = DataHash::random_from_seed(3);
-    let left = MerkleHashSubtree::from_chunks(alloc, true, &[(hash, size)], false)?;
-    let right = MerkleHashSubtree::from_chunks(alloc, false, &[(hash, next)], true)?;
+    let front = MerkleHashSubtree::from_chunks(alloc, true, &[(hash, size)], false)?;
+    let back = MerkleHashSubtree::from_chunks(alloc, false, &[(hash, next)], true)?;
     let root = xorb_hash(alloc, &[(hash, size), (hash, next)]);
-    let mut merged = left.try_clone()?;
-    let refusal = merged.merge_into(&right).err();
-    if merged.final_hash() != root.ok() || refusal.is_some() && merged != left {
+    let mut merged = front.try_clone()?;
+    let refusal = merged.merge_into(&back).err();
+    if merged.final_hash() != root.ok() || refusal.is_some() && merged != front {
         return Err("another root, or refused and changed")?;
     }
     Ok(refusal)
 }
 
 #[test]
-fn joint_sizes_stay_below_two_to_the_64(rt: HostRuntime) -> Result<(), Fail> {
+fn merged_sizes_stay_below_two_to_the_64(rt: HostRuntime) -> Result<(), Fail> {
     for (size, next, fits) in [
         (u64::MAX, 0, true),
         (0, u64::MAX, true),
@@ -199,7 +199,7 @@ fn joint_sizes_stay_below_two_to_the_64(rt: HostRuntime) -> Result<(), Fail> {
         } else {
             Some(CoreError::SizeOverflow)
         };
-        let refusal = joint_refusal(rt.alloc(), size, next)?;
+        let refusal = refusal_of_sizes(rt.alloc(), size, next)?;
         assert!(rt; refusal == expected, "{size} and {next}");
     }
     Ok(())

@@ -96,12 +96,12 @@ fn a_list_of_cuts_alone_has_groups_of_three(rt: HostRuntime) -> Result<(), Fail>
     Ok(())
 }
 
-// The final hash of a list that is joined of its first nodes, so many, and the others.
+// The final hash of a list of which the first nodes, so many, and the others are merged.
 fn final_hash(alloc: Global, nodes: &[Node], len: usize) -> Result<Option<MerkleHash>, CoreError> {
     let (first, second) = nodes.split_at(len.min(nodes.len()));
-    let mut joined = MerkleHashSubtree::from_chunks(alloc, true, first, false)?;
-    joined.merge_into(&MerkleHashSubtree::from_chunks(alloc, false, second, true)?)?;
-    Ok(joined.final_hash())
+    let mut merged = MerkleHashSubtree::from_chunks(alloc, true, first, false)?;
+    merged.merge_into(&MerkleHashSubtree::from_chunks(alloc, false, second, true)?)?;
+    Ok(merged.final_hash())
 }
 
 #[test]

@@ -52,15 +52,15 @@ fn three_pairs(alloc: &Refusing) -> Result<bool, CoreError> {
 // Whether merging a range into the one before it gives the subtree of all their chunks and hashes so many parents. False,
 // too, where it is refused and the one before isn't as it was.
 fn merges_to<'a>(
-    left: &mut MerkleHashSubtree<&'a Refusing>,
-    right: &MerkleHashSubtree<&'a Refusing>,
+    front: &mut MerkleHashSubtree<&'a Refusing>,
+    back: &MerkleHashSubtree<&'a Refusing>,
     whole: &MerkleHashSubtree<&'a Refusing>,
     count: u128,
 ) -> Result<bool, CoreError> {
-    let before = left.try_clone()?;
-    match left.merge_into_counted(right) {
-        Ok(hashed) => Ok(hashed == count && *left == *whole),
-        Err(CoreError::OutOfMemory) if *left != before => Ok(false),
+    let before = front.try_clone()?;
+    match front.merge_into_counted(back) {
+        Ok(hashed) => Ok(hashed == count && *front == *whole),
+        Err(CoreError::OutOfMemory) if *front != before => Ok(false),
         Err(error) => Err(error),
     }
 }

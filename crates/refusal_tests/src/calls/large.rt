@@ -13,7 +13,7 @@ use std::alloc::Global;
 use std::fmt::Write;
 use std::test::Fail;
 use test_support::drawn_nodes;
-use test_support::trees::join;
+use test_support::trees::merge;
 use upload_session::session::SessionOf;
 use xet_hash::data_hash::{DataHash, HashTextError, MerkleHash, compute_data_hash};
 use xet_hash::passthrough_hashmap::PassThroughHashMap;
@@ -90,9 +90,9 @@ fn is_made<'a, R: Kind<Alloc = &'a Refusing>>(
     nodes: &[Node],
 ) -> Result<bool, CoreError> {
     let range = R::from_chunks(alloc, false, nodes, false)?;
-    let mut joined = R::from_chunks(alloc, false, &[], false)?;
-    joined.join(&range)?;
-    Ok(joined.equals(&range))
+    let mut merged = R::from_chunks(alloc, false, &[], false)?;
+    merged.join(&range)?;
+    Ok(merged.equals(&range))
 }
 
 #[test]
@@ -175,7 +175,7 @@ fn takes_at_once<'a, R: Kind<Alloc = &'a Refusing>>(
     })
 }
 
-// Whether a tree of ranges of a chunk each, each joined with all before it, gives the range of all chunks.
+// Whether a tree of ranges of a chunk each, each merged with all before it, gives the range of all chunks.
 fn is_run<'a, R: Kind<Alloc = &'a Refusing>>(
     alloc: &'a Refusing,
     memory: Global,
@@ -184,7 +184,7 @@ fn is_run<'a, R: Kind<Alloc = &'a Refusing>>(
     let mut tree: MergeTree<R> = MergeTree::Leaf(R::from_chunks(alloc, false, &[], false)?);
     for node in nodes {
         let leaf = MergeTree::Leaf(R::from_chunks(alloc, false, &[*node], false)?);
-        tree = join(memory, tree, leaf)?;
+        tree = merge(memory, tree, leaf)?;
     }
     Ok(
         tree.run()?

@@ -1,4 +1,4 @@
-//! Ranges of chunks of each kind, their joins and trees.
+//! Ranges of chunks of each kind, their merges and trees.
 
 use super::{Call, Chunks, Outcome, Refusing, outcome_of};
 use std::test::Fail;
@@ -51,15 +51,15 @@ pub fn try_clone(alloc: &Refusing, granted: u32, chunks: &Chunks<'_>) -> Result<
 // Whether a call merges a range into the one before it and tells the count of parents, where it tells one.
 fn merges<'a>(
     call: Call,
-    left: &mut MerkleHashSubtree<&'a Refusing>,
-    right: &MerkleHashSubtree<&'a Refusing>,
+    front: &mut MerkleHashSubtree<&'a Refusing>,
+    back: &MerkleHashSubtree<&'a Refusing>,
     count: u128,
 ) -> Result<bool, CoreError> {
     match call {
-        Call::MergeIntoCounted => Ok(left.merge_into_counted(right)? == count),
-        Call::MergeIntoBy => { Ok(left.merge_into_by(right, ParentHashes::new())?.made() == count) }
+        Call::MergeIntoCounted => Ok(front.merge_into_counted(back)? == count),
+        Call::MergeIntoBy => { Ok(front.merge_into_by(back, ParentHashes::new())?.made() == count) }
         _ => {
-            left.merge_into(right)?;
+            front.merge_into(back)?;
             Ok(true)
         }
     }
@@ -73,14 +73,14 @@ pub fn merge_into(
     parts: &[Chunks<'_>; 2],
 ) -> Result<Outcome, Fail> {
     let [first, second] = parts;
-    let (mut left, right) = (subtree(alloc, first)?, subtree(alloc, second)?);
-    let (left_before, right_before) = (left.try_clone()?, right.try_clone()?);
-    let mut merged = left.try_clone()?;
-    let count = merged.merge_into_counted(&right)?;
+    let (mut front, back) = (subtree(alloc, first)?, subtree(alloc, second)?);
+    let (front_before, back_before) = (front.try_clone()?, back.try_clone()?);
+    let mut merged = front.try_clone()?;
+    let count = merged.merge_into_counted(&back)?;
     alloc.grant(granted);
-    let answer = merges(call, &mut left, &right, count);
-    let is_merged = left == merged;
-    let is_same = left == left_before && right == right_before;
+    let answer = merges(call, &mut front, &back, count);
+    let is_merged = front == merged;
+    let is_same = front == front_before && back == back_before;
     Ok(outcome_of(alloc, answer.map(|is_right| is_right && is_merged), is_same))
 }
 
@@ -133,7 +133,7 @@ fn range<'a, R: Kind<Alloc = &'a Refusing>>(
     R::from_chunks(alloc, chunks.at_start, chunks.nodes, chunks.at_end)
 }
 
-/// Tries to join two parts of some chunks.
+/// Tries to merge two parts of some chunks by [`ChunkRange::join`].
 pub fn join<'a, R: Kind<Alloc = &'a Refusing>>(
     alloc: &'a Refusing,
     granted: u32,
@@ -141,13 +141,13 @@ pub fn join<'a, R: Kind<Alloc = &'a Refusing>>(
 ) -> Result<Outcome, Fail> {
     let [first, second] = chunks.split(100);
     let expected: R = range(alloc, chunks)?;
-    let (mut left, right): (R, R) = (range(alloc, &first)?, range(alloc, &second)?);
-    let (left_before, right_before): (R, R) = (range(alloc, &first)?, range(alloc, &second)?);
+    let (mut front, back): (R, R) = (range(alloc, &first)?, range(alloc, &second)?);
+    let (front_before, back_before): (R, R) = (range(alloc, &first)?, range(alloc, &second)?);
     alloc.grant(granted);
-    let answer = left.join(&right);
-    let is_same = left.equals(&left_before) && right.equals(&right_before);
+    let answer = front.join(&back);
+    let is_same = front.equals(&front_before) && back.equals(&back_before);
     match answer {
-        Ok(()) => Ok(outcome_of(alloc, Ok(left.equals(&expected)), is_same)),
+        Ok(()) => Ok(outcome_of(alloc, Ok(front.equals(&expected)), is_same)),
         Err(error) => Ok(outcome_of(alloc, Err(error), is_same)),
     }
 }
@@ -169,7 +169,7 @@ pub fn root<'a, R: Kind<Alloc = &'a Refusing>>(
     }
 }
 
-// The range of some chunks, as a tree without joins.
+// The range of some chunks, as a tree without merges.
 fn leaf<'a, R: Kind<Alloc = &'a Refusing>>(
     alloc: &'a Refusing,
     chunks: &Chunks<'_>,
@@ -177,7 +177,7 @@ fn leaf<'a, R: Kind<Alloc = &'a Refusing>>(
     Ok(Box::new(chunks.alloc, MergeTree::Leaf(range(alloc, chunks)?))?)
 }
 
-/// Tries to join three parts of some chunks, of which the last two are joined first.
+/// Tries to merge three parts of some chunks, of which the last two are merged first.
 pub fn run<'a, R: Kind<Alloc = &'a Refusing>>(
     alloc: &'a Refusing,
     granted: u32,
@@ -185,12 +185,12 @@ pub fn run<'a, R: Kind<Alloc = &'a Refusing>>(
 ) -> Result<Outcome, Fail> {
     let [first, rest] = chunks.split(60);
     let [second, third] = rest.split(70);
-    let joined = MergeTree::Join(leaf(alloc, &second)?, leaf(alloc, &third)?);
-    let tree: MergeTree<R> = MergeTree::Join(leaf(alloc, &first)?, Box::new(chunks.alloc, joined)?);
+    let merged = MergeTree::Join(leaf(alloc, &second)?, leaf(alloc, &third)?);
+    let tree: MergeTree<R> = MergeTree::Join(leaf(alloc, &first)?, Box::new(chunks.alloc, merged)?);
     let expected: R = range(alloc, chunks)?;
     alloc.grant(granted);
     match tree.run() {
-        Ok(joined) => Ok(outcome_of(alloc, Ok(joined.equals(&expected)), true)),
+        Ok(merged) => Ok(outcome_of(alloc, Ok(merged.equals(&expected)), true)),
         Err(error) => Ok(outcome_of(alloc, Err(error), true)),
     }
 }

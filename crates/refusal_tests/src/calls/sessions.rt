@@ -91,6 +91,36 @@ fn are_same<'a, R: Kind<Alloc = &'a Refusing>>(
     true
 }
 
+// How many chunks a session has in the end, their root and their file hash.
+#[derive(Drop)]
+struct End {
+    total: u64,
+    root: MerkleHash,
+    file: MerkleHash,
+}
+
+fn end_of(memory: Global, chunks: &[Node]) -> Result<End, CoreError> {
+    Ok(End {
+        total: chunks.len() as u64,
+        root: xorb_hash(memory, chunks)?,
+        file: file_hash(memory, chunks)?,
+    })
+}
+
+// Whether a session answers a put, or else its root or its file hash, as it should.
+fn answers<'a, R: Kind<Alloc = &'a Refusing>>(
+    session: &mut SessionOf<R>,
+    put: Option<Put>,
+    is_root: bool,
+    end: &End,
+) -> Result<bool, CoreError> {
+    match put {
+        Some(put) => is_right(session.put(put.first, &put.chunks), put.new),
+        None if is_root => is_right(session.root(end.total), end.root),
+        None => is_right(session.finish(end.total), end.file),
+    }
+}
+
 /// Tries a call of a session, and where it is refused goes on from the session as it was.
 pub fn attempt<'a, R: Kind<Alloc = &'a Refusing>>(
     alloc: &'a Refusing,
@@ -99,38 +129,31 @@ pub fn attempt<'a, R: Kind<Alloc = &'a Refusing>>(
     row: &str,
 ) -> Result<Outcome, Fail> {
     let (call, chunks, before, rest) = four_fields(row, '|')?;
-    let chunks = reference_list(memory, chunks)?;
-    let (total, root) = (chunks.len() as u64, xorb_hash(memory, &chunks)?);
-    let file = file_hash(memory, &chunks)?;
+    let end = end_of(memory, &reference_list(memory, chunks)?)?;
     let (mut session, mut other): (SessionOf<R>, SessionOf<R>) = (
         SessionOf::new_in(alloc)?,
         SessionOf::new_in(alloc)?,
     );
     let is_begun = are_put(memory, &mut session, before)? && are_put(memory, &mut other, before)?;
     let (first, others) = rest.split_once(' ').unwrap_or((rest, ""));
-    let answer = if call.starts_with("put") {
-        let put = read(memory, first)?;
-        alloc.grant(granted);
-        is_right(session.put(put.first, &put.chunks), put.new)
+    let put = if call.starts_with("put") {
+        Some(read(memory, first)?)
     } else {
-        alloc.grant(granted);
-        if call == "root" {
-            is_right(session.root(total), root)
-        } else {
-            is_right(session.finish(total), file)
-        }
+        None
     };
+    alloc.grant(granted);
+    let answer = answers(&mut session, put, call == "root", &end);
     let outcome = outcome_of(alloc, answer, are_same(&session, &other));
     alloc.grant(u32::MAX);
-    let rest = if matches!(outcome, Outcome::Refused) {
+    let remaining = if matches!(outcome, Outcome::Refused) {
         rest
     } else {
         others
     };
-    let is_ended = are_put(memory, &mut session, rest)?
-        && session.root(total) == Ok(root)
-        && session.finish(total) == Ok(file);
-    Ok(outcome.if_so(is_begun && is_ended))
+    let is_put = are_put(memory, &mut session, remaining)?;
+    let is_ended = answers(&mut session, None, true, &end)?
+        && answers(&mut session, None, false, &end)?;
+    Ok(outcome.if_so(is_begun && is_put && is_ended))
 }
 
 /// Tries to keep 100 hashes beside another one. After a refusal they should all be new again, and else none of them.

@@ -13,9 +13,9 @@ use Rattle.upload_session.specs.Session.{PlacedRun}
 use Rattle.upload_session.specs.Steps.Neighbours.{EndsAt, NoneEndsAt, IsWithNext}
 use Rattle.upload_session.specs.Steps.OpenRuns.{IsOpen, AreOpenUpTo, sizes_of}
 use Rattle.upload_session.proofs.AroundEntries.{previous-some, previous-none, previous-found, ends-near, ends-found}
-use Rattle.upload_session.proofs.Joining.{made-with, placed-alone, placed-joined}
+use Rattle.upload_session.proofs.Merging.{made-with, placed-alone, placed-merged}
 use Rattle.upload_session.proofs.Neighbours.{around, run_to}
-use Rattle.upload_session.proofs.OpenRuns.{alone-open, joined-open, one-within, open_at, size-at, two-within}
+use Rattle.upload_session.proofs.OpenRuns.{alone-open, merged-open, one-within, open_at, size-at, two-within}
 use Rattle.upload_session.proofs.Positions.{overlaps-runs}
 use Rattle.upload_session.proofs.Refusals.{at_error, memory_alone}
 use Rattle.upload_session.proofs.runs.Runs.place_after_previous.Goals as goal
@@ -56,10 +56,10 @@ returns-clause-placed g c = λ placed chunks stand some after_is free meant open
             | in-Some-get_mut+in_ok-join-in-Some w' ↦
                 let new : Run g.row.C.Denot = run_to made.end w'.join.new.self in
                 let same : w'.in-Some-get_mut.run'.now ≡ last = same_Some _ _ (w'.in-Some-get_mut.ensures.value ∙ found) in
-                let joined = w'.in_ok-join-in-Some.ensures in
-                placed-joined kind first chunks some runs at placed stand c.remove.new.self.entries made of_made begin last w'.join.new.self previous
-                (λ a b front back. joined.stands a b (subst (λ (run : Run g.row.C.Denot). kind.stands run.range a) (sym same) front) back)
-                (joined.start ∙ ap (λ (run : Run g.row.C.Denot). kind.start run.range) same) joined.end
+                let merged = w'.in_ok-join-in-Some.ensures in
+                placed-merged kind first chunks some runs at placed stand c.remove.new.self.entries made of_made begin last w'.join.new.self previous
+                (λ a b front back. merged.stands a b (subst (λ (run : Run g.row.C.Denot). kind.stands run.range a) (sym same) front) back)
+                (merged.start ∙ ap (λ (run : Run g.row.C.Denot). kind.start run.range) same) merged.end
                 (c.remove.ensures.entries
                 ∙ ap (λ n. remove_entry (is_at (nat_cmp n)) c.match-previous.self-inside.runs.entries) after_is
                 ∙ ap (λ inside. remove_entry test inside.runs.entries) w.self-inside-is
@@ -124,16 +124,16 @@ returns-clause-sizes g c =
                 let last = w'.in-Some-get_mut.run'.now in
                 let is : lookup (is_at (nat_cmp begin)) runs ≡ Some last = sym (w'.in-Some-get_mut.ensures.value ∙ ap (λ runs. lookup (is_at (nat_cmp begin)) runs) view) in
                 let new : Run g.row.C.Denot = run_to made.end w'.join.new.self in
-                let joined = w'.in_ok-join-in-Some.ensures in
-                let of_new : IsOpen kind new.range = (joined.start ∙ (open_at kind begin runs last c.requires.room.0 is).0, joined.end ∙ of_made.1) in
+                let merged = w'.in_ok-join-in-Some.ensures in
+                let of_new : IsOpen kind new.range = (merged.start ∙ (open_at kind begin runs last c.requires.room.0 is).0, merged.end ∙ of_made.1) in
                 subst (λ (now : List (PlacedRun g.row.C.Denot)). AreOpenUpTo kind (sizes_of kind runs + size) now)
                 (sym (c.remove.ensures.entries
                 ∙ ap (λ inside. remove_entry test inside.runs.entries) w.self-inside-is
                 ∙ ap (λ inside. remove_entry test inside.runs.entries) w'.self-inside-is
                 ∙ ap (remove_entry test) (w.get_mut.follows.holds new).0
                 ∙ ap (λ runs. remove_entry test (set_value (is_at (nat_cmp begin)) runs new)) view))
-                (joined-open kind runs c.requires.room.0 new of_new begin after apart last is size
-                (joined.total ∙ ap (λ n. kind.total last.range + n) c.in_ok-made.ensures.total))
+                (merged-open kind runs c.requires.room.0 new of_new begin after apart last is size
+                (merged.total ∙ ap (λ n. kind.total last.range + n) c.in_ok-made.ensures.total))
             | in_default w' ↦
                 absurd (true≢false (sym (ends-found first begin runs ends) ∙ sym (ap is_some (w'.in_default.ensures.value ∙ ap (λ runs. lookup (is_at (nat_cmp begin)) runs) view))))
           ]

@@ -5,7 +5,7 @@ use Rattle.std.specs.Map.{lookup}
 use Rattle.std.proofs.lemmas.Bool.{true≢false}
 use Rattle.upload_session.specs.Steps.Neighbours.{EndsAt, NoneEndsAt, AreAround}
 use Rattle.upload_session.proofs.AroundEntries.{previous-some, previous-none, previous-found, next-found, around-previous, around-first, ends-near, ends-found}
-use Rattle.upload_session.proofs.Joining.{placed-before, placed-first}
+use Rattle.upload_session.proofs.Merging.{placed-before, placed-first}
 use Rattle.upload_session.proofs.Neighbours.{around, with_run}
 use Rattle.upload_session.proofs.OpenRuns.{one-within, two-within}
 use Rattle.upload_session.proofs.Positions.{overlaps-runs}

@@ -15,7 +15,7 @@ returns-clause-stands g c = λ last is a b last_stands made_stands.
     elim c.match-get.branch [
       | in-Some+in_ok-join w ↦
           let same : w.in-Some.run'.now ≡ last = same_Some _ _ (w.in-Some.ensures.value ∙ found) in
-          let joined = w.in_ok-join.ensures.stands [] a c.in_ok-front.ensures.stands (subst (λ (run : Run g.row.C.Denot). kind.stands run.range a) (sym same) last_stands) in
-          c.in_ok-join-2.ensures.stands a b (subst (λ range. kind.stands range a) (sym w.front-is) joined) made_stands
+          let merged = w.in_ok-join.ensures.stands [] a c.in_ok-front.ensures.stands (subst (λ (run : Run g.row.C.Denot). kind.stands run.range a) (sym same) last_stands) in
+          c.in_ok-join-2.ensures.stands a b (subst (λ range. kind.stands range a) (sym w.front-is) merged) made_stands
       | in_default w ↦ absurd (true≢false (sym (ap is_some (w.in_default.ensures.value ∙ found))))
     ]

@@ -1,18 +1,29 @@
-use Rattle.std.proofs.Common.{sym, subst}
+use Rattle.std.proofs.Common.{arith, sym, subst}
+use Rattle.std.proofs.lemmas.Grind.{common_steps}
 use Rattle.xetroot_text.specs.Steps.PlacedPairs.{StandForPlaced}
-use Rattle.xetroot_text.proofs.Placing.{put-refused}
+use Rattle.xetroot_text.proofs.Placing.{StandForPlaced-free, StandForPlaced-total}
 use Rattle.xetroot_text.proofs.placed_pairs.PlacedPairs.end_range.Goals as goal
 
-pub map_err-requires : goal.map_err-requires
-map_err-requires g c = λ e is.
+pub place-requires-clause-free : goal.place-requires-clause-free
+place-requires-clause-free g c =
     let inside = c.self.inside in
     let (pairs, hold) = c.self.invariant in
     let range = sym c.deref.ensures.value in
     let held = subst (λ l. StandForPlaced g.C.ChunkRange inside.session l inside.first inside.next inside.total pairs) range hold in
-    let put = c.put.ensures in
-    put-refused g.C.ChunkRange c.put.result inside.session c.deref.result.now inside.first inside.next inside.total pairs held
-    put.errors (λ none. (put.nothing none).0)
-    (λ err. (put.overlap held.before held.ended).0 err)
-    (λ err. ((put.positions held.before held.ended).0 err).1)
-    (λ err. ((put.sizes held.before held.ended).0 err).2)
-    e is
+    StandForPlaced-free g.C.ChunkRange inside.session c.deref.result.now inside.first inside.next inside.total pairs held (grind (arith, common_steps))
+
+pub place-requires-clause-positions : goal.place-requires-clause-positions
+place-requires-clause-positions g c =
+    let inside = c.self.inside in
+    let (pairs, hold) = c.self.invariant in
+    let range = sym c.deref.ensures.value in
+    let held = subst (λ l. StandForPlaced g.C.ChunkRange inside.session l inside.first inside.next inside.total pairs) range hold in
+    omega (arith, held.adjacent, held.low)
+
+pub place-requires-clause-sizes : goal.place-requires-clause-sizes
+place-requires-clause-sizes g c =
+    let inside = c.self.inside in
+    let (pairs, hold) = c.self.invariant in
+    let range = sym c.deref.ensures.value in
+    let held = subst (λ l. StandForPlaced g.C.ChunkRange inside.session l inside.first inside.next inside.total pairs) range hold in
+    StandForPlaced-total g.C.ChunkRange inside.session c.deref.result.now inside.first inside.next inside.total pairs held (grind (arith, common_steps))

@@ -1,4 +1,4 @@
--- The range of chunks that are placed, joined with those that keep what stands just before and just after them.
+-- The range of chunks that are placed, merged with those that keep what stands just before and just after them.
 use Rattle.std.proofs.Common.{arith, nat_cmp, ◌≡◌, ◌+◌, ◌<◌, ℕ, false, List, [], ◌∷◌, ◌++◌, length, refl, sym, ap, subst, ◌∙◌}
 use Rattle.std.specs.Prelude.{All, Option, None, Some, option_map}
 use Rattle.std.specs.BTreeMap.{insert_entry, is_at}
@@ -74,11 +74,11 @@ module _ {C A : Type 0} (kind : chunk_range.Ghosts C A) where
       closes,
     )
 
-    between-some : (made : Run C) → IsMade made → (run : PlacedRun C) → at.previous ≡ Some run → (joined : C)
-        → ((a b : List Node) → kind.stands run.1.range a → kind.stands made.range b → kind.stands joined (a ++ b))
-        → kind.start joined ≡ kind.start run.1.range → kind.end joined ≡ kind.end made.range → IsBetween kind first chunks at.previous at.next joined
-    between-some made (ends, meant, opens, closes) run is joined joins starts finishes = (
-      λ front back keeps. λ meant_back. joins front (chunks ++ back) (subst (λ previous. Keeps kind first chunks previous front) is keeps) (meant back meant_back),
+    between-some : (made : Run C) → IsMade made → (run : PlacedRun C) → at.previous ≡ Some run → (merged : C)
+        → ((a b : List Node) → kind.stands run.1.range a → kind.stands made.range b → kind.stands merged (a ++ b))
+        → kind.start merged ≡ kind.start run.1.range → kind.end merged ≡ kind.end made.range → IsBetween kind first chunks at.previous at.next merged
+    between-some made (ends, meant, opens, closes) run is merged merges starts finishes = (
+      λ front back keeps. λ meant_back. merges front (chunks ++ back) (subst (λ previous. Keeps kind first chunks previous front) is keeps) (meant back meant_back),
       starts ∙ (previous-open run is).0,
       finishes ∙ closes,
     )
@@ -97,31 +97,31 @@ module _ {C A : Type 0} (kind : chunk_range.Ghosts C A) where
         subst (λ runs. StandFor kind runs (place placed first chunks)) (sym same)
         (placed-around kind first chunks some runs at made.range between placed stand)
 
-    -- the range is joined to that of the run before, and the run after taken out
-    pub placed-joined : (new : List (PlacedRun C)) (made : Run C) → IsMade made → (begin : ℕ) (last : Run C) (joined : C) → at.previous ≡ Some (begin, last)
-        → ((a b : List Node) → kind.stands last.range a → kind.stands made.range b → kind.stands joined (a ++ b))
-        → kind.start joined ≡ kind.start last.range → kind.end joined ≡ kind.end made.range
-        → new ≡ remove_entry (is_at (nat_cmp (first + length chunks))) (set_value (is_at (nat_cmp begin)) runs (run_to made.end joined))
+    -- the range is merged with that of the run before, and the run after taken out
+    pub placed-merged : (new : List (PlacedRun C)) (made : Run C) → IsMade made → (begin : ℕ) (last : Run C) (merged : C) → at.previous ≡ Some (begin, last)
+        → ((a b : List Node) → kind.stands last.range a → kind.stands made.range b → kind.stands merged (a ++ b))
+        → kind.start merged ≡ kind.start last.range → kind.end merged ≡ kind.end made.range
+        → new ≡ remove_entry (is_at (nat_cmp (first + length chunks))) (set_value (is_at (nat_cmp begin)) runs (run_to made.end merged))
         → StandFor kind new (place placed first chunks)
-    placed-joined new made of_made begin last joined previous joins starts finishes is =
-        let between = between-some made of_made (begin, last) previous joined joins starts finishes in
+    placed-merged new made of_made begin last merged previous merges starts finishes is =
+        let between = between-some made of_made (begin, last) previous merged merges starts finishes in
         let begins : begin ≡ begin_of kind first chunks at.previous = ap (begin_of kind first chunks) (sym previous) in
-        let same : new ≡ at.front ++ (begin_of kind first chunks at.previous, run_to (end_of kind first chunks at.next) joined) ∷ at.back =
-        is ∙ replaced first (first + length chunks) (omega (arith, some)) runs at (begin, last) (run_to made.end joined) previous
-        ∙ ap (λ n. at.front ++ (n, run_to made.end joined) ∷ at.back) begins
-        ∙ ap (λ n. at.front ++ (begin_of kind first chunks at.previous, run_to n joined) ∷ at.back) of_made.0 in
+        let same : new ≡ at.front ++ (begin_of kind first chunks at.previous, run_to (end_of kind first chunks at.next) merged) ∷ at.back =
+        is ∙ replaced first (first + length chunks) (omega (arith, some)) runs at (begin, last) (run_to made.end merged) previous
+        ∙ ap (λ n. at.front ++ (n, run_to made.end merged) ∷ at.back) begins
+        ∙ ap (λ n. at.front ++ (begin_of kind first chunks at.previous, run_to n merged) ∷ at.back) of_made.0 in
         subst (λ runs. StandFor kind runs (place placed first chunks)) (sym same)
-        (placed-around kind first chunks some runs at joined between placed stand)
+        (placed-around kind first chunks some runs at merged between placed stand)
 
     -- the range is put before that of the run after, which begins where that before did, or where the chunks do
     pub placed-before : (new : List (PlacedRun C)) (begin : ℕ) (last next : Run C) (front : C) → at.previous ≡ Some (begin, last) → at.next ≡ Some (first + length chunks, next)
         → ((a : List Node) → kind.stands last.range a → kind.stands front (a ++ chunks)) → kind.start front ≡ false
         → IsPutBefore kind begin front next at.front at.back new → StandFor kind new (place placed first chunks)
-    placed-before new begin last next front previous next_is meant opens (range, is, joins, starts, finishes) =
+    placed-before new begin last next front previous next_is meant opens (range, is, merges, starts, finishes) =
         let between : IsBetween kind first chunks at.previous at.next range = (
           λ a b keeps_a keeps_b.
               subst (kind.stands range) (append_assoc a chunks b)
-              (joins (a ++ chunks) b (meant a (subst (λ run. Keeps kind first chunks run a) previous keeps_a)) (subst (λ run. Keeps kind first chunks run b) next_is keeps_b)),
+              (merges (a ++ chunks) b (meant a (subst (λ run. Keeps kind first chunks run a) previous keeps_a)) (subst (λ run. Keeps kind first chunks run b) next_is keeps_b)),
           starts ∙ opens,
           finishes ∙ (next-open (first + length chunks, next) next_is).1,
         ) in
@@ -134,11 +134,11 @@ module _ {C A : Type 0} (kind : chunk_range.Ghosts C A) where
 
     pub placed-first : (new : List (PlacedRun C)) (next : Run C) (front : C) → at.previous ≡ None → at.next ≡ Some (first + length chunks, next)
         → kind.stands front chunks → kind.start front ≡ false → IsPutBefore kind first front next at.front at.back new → StandFor kind new (place placed first chunks)
-    placed-first new next front previous next_is meant opens (range, is, joins, starts, finishes) =
+    placed-first new next front previous next_is meant opens (range, is, merges, starts, finishes) =
         let between : IsBetween kind first chunks at.previous at.next range = (
           λ a b keeps_a keeps_b.
               let nothing : a ≡ [] = subst (λ run. Keeps kind first chunks run a) previous keeps_a in
-              subst (λ (l : List Node). kind.stands range (l ++ (chunks ++ b))) (sym nothing) (joins chunks b meant (subst (λ run. Keeps kind first chunks run b) next_is keeps_b)),
+              subst (λ (l : List Node). kind.stands range (l ++ (chunks ++ b))) (sym nothing) (merges chunks b meant (subst (λ run. Keeps kind first chunks run b) next_is keeps_b)),
           starts ∙ opens,
           finishes ∙ (next-open (first + length chunks, next) next_is).1,
         ) in

@@ -2,7 +2,7 @@ use Rattle.std.proofs.Common.{◌≡◌, ◌<◌, List, [], ◌∷◌, length, r
 use Rattle.xet_merkle.specs.Groups.{Node}
 use Rattle.xet_merkle.specs.Roots.{IsRoot, IsFileHash}
 use Rattle.xet_merkle.specs.Subtree.{Subtree, IsCanonical}
-use Rattle.xetrange_text.proofs.merged_lines.close.Goals as goal
+use Rattle.xetrange_text.proofs.join.close.Goals as goal
 
 -- what holds of no chunk, where there is no range with chunks, and of its chunks where there is one, holds of a range's chunks
 of_chunks : {R : Type 0} (found : Option R) (now : R → Subtree) (merged : Subtree) (P : List Node → Type 0)
