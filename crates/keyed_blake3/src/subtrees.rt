@@ -52,8 +52,8 @@ fn parent_values(key: &[u32; 8], left: &[Lanes; 8], right: &[Lanes; 8]) -> [Lane
     )
 }
 
-// The values of up to `LANES` subtrees of one size, of which the first begins with chunk number `first`. Where there are fewer, each
-// is a chunk.
+// The values of up to `LANES` subtrees of one size, of which the first begins with chunk number `first`. If there are fewer
+// than `LANES`, each is a chunk.
 pub(crate) fn subtree_values(key: &[u32; 8], chunks: &[u8], first: u64) -> [Lanes; 8]
     requires counter { first + length chunks.now / 1024 + LANES ≤ 2 ^ 64 }
     requires chunks { 1024 ≤ length chunks.now }

@@ -59,8 +59,8 @@ pub(crate) fn output(value: &[u32; 8]) -> [u8; 32]
     bytes
 }
 
-// Whether a value is joined with the last of the `used` values that wait, of which the first `kept` aren't joined: where the
-// number `rest` of subtrees of its size before it is odd.
+// Whether a value is joined with the last of the `used` values that wait: `rest`, the number of subtrees of its size before
+// it, is odd, and more than `kept` values wait.
 fn is_joined(rest: u64, used: usize, kept: usize) -> bool
     ensures joined { IsTrue result → (rest % 2 ≡ 1) × (kept < used) }
     ensures put { IsFalse result → rest % 2 ≡ 1 → used ≤ kept }
@@ -69,8 +69,8 @@ fn is_joined(rest: u64, used: usize, kept: usize) -> bool
 }
 
 // Adds the value of subtree number `number` of one size to those that wait, joined with each of its size on its left: as
-// a 1 is added to a binary number, with a carry for each join. The first `kept` values aren't joined: none where more bytes
-// follow, and one where the message ends, since that join may make the root.
+// a 1 is added to a binary number, with a carry for each join. The first `kept` values aren't joined: `kept` is 0 if more
+// bytes follow, and 1 if the message ends, since that join may make the root.
 fn add_subtree_value(
     cv_stack: &mut [[u32; 8]; MAX_DEPTH],
     key: &[u32; 8],
@@ -97,8 +97,8 @@ fn add_subtree_value(
     cv_stack[used] = value;
 }
 
-// The number of chunks of a subtree where `LANES` subtrees of one size stand side by side: the largest power of two that
-// `first`, the number of their first chunk, is a multiple of, and of which there is room for all in `chunks`.
+// The number of chunks in each of `LANES` subtrees side by side, the first of which begins with chunk number `first`: the
+// largest power of two that divides `first` and for which `chunks` chunks suffice.
 fn subtree_len(first: u64, chunks: usize) -> usize
     requires { chunks < 2 ^ 54 }
     ensures { (k : ℕ) × (result ≡ 2 ^ k) × (first % result ≡ 0) × (0 < k → LANES * result ≤ chunks) }
@@ -165,8 +165,8 @@ impl Tree {
         }
     }
 
-    // Takes in `count` subtrees of `len` chunks each, of which the first begins with chunk number `first`. `kept` is 1 where
-    // the message ends with them, and else 0.
+    // Takes in `count` subtrees of `len` chunks each, of which the first begins with chunk number `first`. `kept` is 1 if the
+    // message ends with them, and else 0.
     fn absorb_subtrees(&mut self, first: u64, len: usize, count: usize, chunks: &[u8], kept: usize)
         requires len { (k : ℕ) × (len ≡ 2 ^ k) }
         requires first { first % len ≡ 0 }
@@ -207,8 +207,8 @@ impl Tree {
         self.chaining_value = self.key;
     }
 
-    // Makes the join of the message's halves, which waits where it has a power of two of chunks, since more bytes follow
-    // the `chunks` chunks.
+    // Joins the message's halves, which wait if it has a power of two of chunks, since more bytes follow. It has `chunks`
+    // chunks so far.
     pub(crate) fn join_halves(&mut self, chunks: u64)
         requires { chunks < 2 ^ 54 }
         ensures { (key m : List ℕ) → IsEnded key self.old chunks m → 1024 * chunks ≤ length m
@@ -220,8 +220,8 @@ impl Tree {
         }
     }
 
-    // Takes in what comes next of `rest`, the bytes of the message from block number `number` on: whole chunks where several
-    // begin here, and else a block. Gives the number of blocks. Where no bytes follow them, the message ends with them.
+    // Takes in what comes next of `rest`, the bytes of the message from block number `number` on: whole chunks if several
+    // begin here, and else a block. Returns the number of blocks. If no bytes follow them, the message ends with them.
     pub(crate) fn absorb_next(&mut self, number: u64, rest: &[u8]) -> usize
         requires number { 64 * number + length rest.now < 2 ^ 64 }
         requires rest { 64 < length rest.now }
