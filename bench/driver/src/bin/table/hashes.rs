@@ -7,7 +7,15 @@ use std::hint::black_box;
 use yurewha::merklehash::{compute_data_hash, MerkleHash};
 use yurewha::own::Hasher;
 
-const PEER: &str = if cfg!(feature = "portable") { "`blake3`, no SIMD" } else { "`blake3`, SIMD" };
+const PEER: &str = if cfg!(feature = "portable") {
+    "`blake3`, no SIMD"
+} else if cfg!(feature = "sse41") {
+    "`blake3`, SSE4.1"
+} else if cfg!(feature = "avx2") {
+    "`blake3`, AVX2"
+} else {
+    "`blake3`, SIMD"
+};
 
 const LENGTHS: [(&str, usize); 7] = [
     ("0", 0),
@@ -44,7 +52,7 @@ pub fn print_hashes() {
         row.print();
     }
     let message = &bytes[..1 << 20];
-    for (name, length) in [("100 B", 100), ("64 KiB", 64 << 10)] {
+    for (name, length) in [("100 B", 100), ("2 KiB", 2 << 10), ("16 KiB", 16 << 10), ("64 KiB", 64 << 10)] {
         assert_eq!(*in_pieces(message, length), plain::data_hash(message));
         let row = Row {
             name: format!("`update`, 1 MiB in pieces of {name}"),
