@@ -5,8 +5,8 @@ ghost use Rattle.xet_merkle.specs.Roots.{IsRoot, IsFileHash, total_size};
 ghost use Rattle.upload_session.specs.Hashes.{Hash as HashWords, hashes_of, AreNew};
 ghost use Rattle.upload_session.specs.Session.{Placed, place, chunks_of, is_taken, overlaps, IsWhole};
 ghost use Rattle.yurewha_c.specs.Chunks.{nodes_of};
-ghost use Rattle.yurewha_c.specs.Handles.{BothHold};
-ghost use Rattle.yurewha_c.specs.Sessions.{Stands};
+ghost use Rattle.yurewha_c.specs.Handles.{BothHold, Reads};
+ghost use Rattle.yurewha_c.specs.Sessions.{IsWholeStatus, Stands};
 
 use crate::chunks::{Chunk, nodes_of};
 use crate::hash::Hash;
@@ -136,12 +136,8 @@ pub extern "C" fn yurewha_session_taken(
     position: u64,
     taken: &mut bool,
 ) -> u32
-    ensures taken { result ≡ DONE → IsSomeAnd session.old.value (λ kept. (placed : List Placed) → Stands kept placed →
-        taken.new ≡ is_taken placed position) }
-    ensures empty { (result ≡ EMPTY_HANDLE) ↔ (session.old.value ≡ None) }
-    ensures statuses { (result ≡ DONE) ⊎ (result ≡ EMPTY_HANDLE) }
-    ensures kept { session.new.value ≡ session.old.value }
-    ensures unchanged { result ≢ DONE → taken.new ≡ taken.old }
+    ensures { Reads session.old.value session.new.value result (taken.new ≡ taken.old)
+        (λ kept. (placed : List Placed) → Stands kept placed → taken.new ≡ is_taken placed position) }
 {
     let Some(kept) = session.take(alloc) else {
         return EMPTY_HANDLE;
@@ -165,12 +161,7 @@ pub extern "C" fn yurewha_session_root(
 ) -> u32
     ensures root { result ≡ DONE → IsSomeAnd session.old.value (λ kept. (placed : List Placed) → Stands kept placed →
         IsRoot (chunks_of placed) root.new.words) }
-    ensures gap { IfSome session.old.value (λ kept. (placed : List Placed) → Stands kept placed →
-        ((result ≡ SESSION_GAP) ↔ (¬ IsWhole total placed))) }
-    ensures whole { result ≡ DONE → IsSomeAnd session.old.value (λ kept. (placed : List Placed) → Stands kept placed →
-        IsWhole total placed) }
-    ensures empty { (result ≡ EMPTY_HANDLE) ↔ (session.old.value ≡ None) }
-    ensures statuses { (result ≡ DONE) ⊎ ((result ≡ EMPTY_HANDLE) ⊎ ((result ≡ SESSION_GAP) ⊎ (result ≡ SESSION_MEMORY))) }
+    ensures status { IsWholeStatus session.old.value total result }
     ensures kept { session.new.value ≡ session.old.value }
     ensures unchanged { result ≢ DONE → root.new ≡ root.old }
 {
@@ -200,12 +191,7 @@ pub extern "C" fn yurewha_session_finish(
 ) -> u32
     ensures file { result ≡ DONE → IsSomeAnd session.old.value (λ kept. (placed : List Placed) → Stands kept placed →
         IsFileHash (chunks_of placed) (replicate 32 0) hash.new.words) }
-    ensures gap { IfSome session.old.value (λ kept. (placed : List Placed) → Stands kept placed →
-        ((result ≡ SESSION_GAP) ↔ (¬ IsWhole total placed))) }
-    ensures whole { result ≡ DONE → IsSomeAnd session.old.value (λ kept. (placed : List Placed) → Stands kept placed →
-        IsWhole total placed) }
-    ensures empty { (result ≡ EMPTY_HANDLE) ↔ (session.old.value ≡ None) }
-    ensures statuses { (result ≡ DONE) ⊎ ((result ≡ EMPTY_HANDLE) ⊎ ((result ≡ SESSION_GAP) ⊎ (result ≡ SESSION_MEMORY))) }
+    ensures status { IsWholeStatus session.old.value total result }
     ensures kept { session.new.value ≡ session.old.value }
     ensures unchanged { result ≢ DONE → hash.new ≡ hash.old }
 {
