@@ -8,3 +8,4 @@ pub mod Adjacent
 pub mod Bracketing
 pub mod Appending
 pub mod Prepending
+pub mod InPlace

@@ -1,5 +1,6 @@
 pub mod Scan
 pub mod StableScan
+pub mod Room
 pub mod LevelMerging
 pub mod Building
 pub mod RangeMerging

@@ -7,6 +7,7 @@ ghost use Rattle.std.specs.Prelude.{◌≡◌, ◌⊎◌, ◌+◌, ◌^◌, ◌<
 ghost use Rattle.xet_merkle.specs.Groups.{Node};
 ghost use Rattle.xet_merkle.specs.Roots.{total_size, parent_by, parent, IsRoot, IsFileHash};
 ghost use Rattle.xet_merkle.specs.Steps.Scan.{AreParents};
+ghost use Rattle.xet_merkle.specs.Steps.Room.{most_made};
 
 use crate::error::CoreError;
 pub use crate::groups::{AGGREGATED_HASHES_MEAN_TREE_BRANCHING_FACTOR, Node};
@@ -22,7 +23,7 @@ pub(crate) fn parents<A: Allocator, P: ParentMaker>(
     maker: &mut P,
 ) -> Result<Vec<Node, A>, AllocError>
     requires fits { total_size nodes.now < 2 ^ 64 }
-    requires room { P.count maker.old ≤ 2 ^ 99 }
+    requires room { P.count maker.old ≤ most_made }
     ensures parents { IfOk result (λ made. AreParents (parent_by P.hash_of) nodes.now made.items) }
     ensures count { IfOk result (λ made. P.count maker.new ≡ P.count maker.old + length made.items) }
     ensures few { IfOk result (λ made. length made.items < 2 ^ 64) }

@@ -103,10 +103,10 @@ pub fn equal_subtrees()
 /// Merging is associative: adjacent ranges that are the canonical subtrees of lists are merged to the one
 /// canonical subtree of the concatenated list, whichever two are merged first.
 pub fn merging_is_associative()
-    ensures { (a b c ab bc left right : Subtree) (first second third : List Node) →
+    ensures { (a b c ab bc ab_c a_bc : Subtree) (first second third : List Node) →
         IsCanonical a first → IsCanonical b second → IsCanonical c third →
-        IsMerged a b ab → IsMerged ab c left → IsMerged b c bc → IsMerged a bc right →
-        (left ≡ right) × IsCanonical left (first ++ (second ++ third)) }
+        IsMerged a b ab → IsMerged ab c ab_c → IsMerged b c bc → IsMerged a bc a_bc →
+        (ab_c ≡ a_bc) × IsCanonical ab_c (first ++ (second ++ third)) }
 {}
 
 /// All bracketings of one list under the same marks give one subtree and one JSON text: where each range is the canonical

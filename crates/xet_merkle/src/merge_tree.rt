@@ -161,8 +161,8 @@ fn join_entries<R: ChunkRange>(alloc: Global, entries: Vec<(usize, R)>) -> Resul
     'entries: while let Some((begun, range)) = entries.pop() {
         let mut range = range;
         'begun: for _ in 0..begun {
-            let right = values.pop().unwrap();
-            range.join(&right)?;
+            let back = values.pop().unwrap();
+            range.join(&back)?;
         }
         values.push(range)?;
     }

@@ -129,11 +129,11 @@
 //! is no `debug_chunks`; `at_start`, `at_end`, `total_size` and equality are this port's own.
 
 mod collapse;
+mod in_sight;
 mod json_parts;
 mod left_nodes;
 mod level_rules;
 mod levels;
-mod merge_before;
 mod merge_levels;
 mod sides;
 mod split;

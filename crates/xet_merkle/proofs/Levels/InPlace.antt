@@ -1,35 +1,38 @@
--- Levels changed in place: the lowest get other right nodes, or other left ones, the highest of them first.
+-- Levels changed in place: the lowest get other nodes on one side, the highest of them first.
 use Rattle.std.proofs.Common.{◌≡◌, Bool, ℕ, zero, suc, ◌+◌, ◌<◌, ◌≤◌, List, [], ◌∷◌, ◌++◌, length, set, get_or, take, drop, refl, ap, arith}
 use Rattle.xet_merkle.specs.Groups.{Node}
 use Rattle.xet_merkle.specs.Levels.{Level, left_at, right_at}
-use Rattle.xet_merkle.specs.Steps.LevelMerging.{HaveSides, lowest_with, lowest_with_lefts, with_inner, with_left}
+use Rattle.xet_merkle.specs.Steps.LevelMerging.{HaveSides, with_side, lowest_with, with_inner, with_left}
+use Rattle.xet_merkle.specs.declared.merkle_hash_subtree.levels.Operand.{Operand}
 
--- levels of which the lowest have other right nodes
-abbrev pub put : List (List Node) → List Level → List Level
-put rights levels = lowest_with rights levels ++ drop (length rights) levels
+-- levels of which the lowest have other nodes on one side
+abbrev pub put : Operand → List (List Node) → List Level → List Level
+put kept sides levels = lowest_with kept sides levels ++ drop (length sides) levels
 
--- the last of the lists can be put first
-pub put-last : (rights : List (List Node)) (right : List Node) (levels : List Level) (d : Level) → length rights < length levels →
-    put (rights ++ right ∷ []) levels ≡ put rights (set levels (length rights) (record { left = (get_or levels (length rights) d).left; right = right }))
-put-last rights right [] d within = absurd (omega arith)
-put-last [] right (level ∷ levels) d within = refl
-put-last (first ∷ rights) right (level ∷ levels) d within =
-    ap (λ (l : List Level). record { left = level.left; right = first } ∷ l) (put-last rights right levels d (omega arith))
+module _ (kept : Operand) where
+  -- the last of the lists can be put first
+  pub put-last : (sides : List (List Node)) (side : List Node) (levels : List Level) (d : Level) → length sides < length levels →
+      put kept (sides ++ side ∷ []) levels ≡ put kept sides (set levels (length sides) (with_side kept (get_or levels (length sides) d) side))
+  put-last sides side [] d within = absurd (omega arith)
+  put-last [] side (level ∷ levels) d within = refl
+  put-last (first ∷ sides) side (level ∷ levels) d within =
+      ap (λ (l : List Level). with_side kept level first ∷ l) (put-last sides side levels d (omega arith))
 
--- those with levels in the place of the others
-pub put-in_front : (rights : List (List Node)) (levels others : List Level) → length rights ≤ length levels →
-    put rights (take (length rights) levels ++ others) ≡ lowest_with rights levels ++ others
-put-in_front [] levels others within = refl
-put-in_front (right ∷ rights) [] others within = absurd (omega arith)
-put-in_front (right ∷ rights) (level ∷ levels) others within =
-    ap (λ (l : List Level). record { left = level.left; right = right } ∷ l) (put-in_front rights levels others (omega arith))
+  -- those with levels in the place of the others
+  pub put-in_front : (sides : List (List Node)) (levels others : List Level) → length sides ≤ length levels →
+      put kept sides (take (length sides) levels ++ others) ≡ lowest_with kept sides levels ++ others
+  put-in_front [] levels others within = refl
+  put-in_front (side ∷ sides) [] others within = absurd (omega arith)
+  put-in_front (side ∷ sides) (level ∷ levels) others within =
+      ap (λ (l : List Level). with_side kept level side ∷ l) (put-in_front sides levels others (omega arith))
 
-pub lowest_with-more : (rights : List (List Node)) (right : List Node) (levels : List Level) → length rights < length levels →
-    lowest_with (rights ++ right ∷ []) levels ≡ lowest_with rights levels ++ record { left = left_at (drop (length rights) levels) 0; right = right } ∷ []
-lowest_with-more rights right [] within = absurd (omega arith)
-lowest_with-more [] right (level ∷ levels) within = refl
-lowest_with-more (first ∷ rights) right (level ∷ levels) within =
-    ap (λ (l : List Level). record { left = level.left; right = first } ∷ l) (lowest_with-more rights right levels (omega arith))
+  pub lowest_with-more : (sides : List (List Node)) (side : List Node) (levels : List Level) → length sides < length levels →
+      lowest_with kept (sides ++ side ∷ []) levels
+      ≡ lowest_with kept sides levels ++ with_side kept (record { left = left_at (drop (length sides) levels) 0; right = right_at (drop (length sides) levels) 0 }) side ∷ []
+  lowest_with-more sides side [] within = absurd (omega arith)
+  lowest_with-more [] side (level ∷ levels) within = refl
+  lowest_with-more (first ∷ sides) side (level ∷ levels) within =
+      ap (λ (l : List Level). with_side kept level first ∷ l) (lowest_with-more sides side levels (omega arith))
 
 -- ---- nodes put after those towards the back operand
 
@@ -48,33 +51,6 @@ with_inner-below (top ∷ []) zero more d below = absurd (omega arith)
 with_inner-below (top ∷ []) (suc at) more d below = absurd (omega arith)
 with_inner-below (level ∷ next ∷ levels) zero more d below = refl
 with_inner-below (level ∷ next ∷ levels) (suc at) more d below = ap (λ (l : List Level). level ∷ l) (with_inner-below (next ∷ levels) at more d (omega arith))
-
--- ---- other left nodes
-
--- levels of which the lowest have other left nodes
-abbrev pub put_lefts : List (List Node) → List Level → List Level
-put_lefts lefts levels = lowest_with_lefts lefts levels ++ drop (length lefts) levels
-
-pub put_lefts-last : (lefts : List (List Node)) (left : List Node) (levels : List Level) (d : Level) → length lefts < length levels →
-    put_lefts (lefts ++ left ∷ []) levels ≡ put_lefts lefts (set levels (length lefts) (record { left = left; right = (get_or levels (length lefts) d).right }))
-put_lefts-last lefts left [] d within = absurd (omega arith)
-put_lefts-last [] left (level ∷ levels) d within = refl
-put_lefts-last (first ∷ lefts) left (level ∷ levels) d within =
-    ap (λ (l : List Level). record { left = first; right = level.right } ∷ l) (put_lefts-last lefts left levels d (omega arith))
-
-pub put_lefts-in_front : (lefts : List (List Node)) (levels others : List Level) → length lefts ≤ length levels →
-    put_lefts lefts (take (length lefts) levels ++ others) ≡ lowest_with_lefts lefts levels ++ others
-put_lefts-in_front [] levels others within = refl
-put_lefts-in_front (left ∷ lefts) [] others within = absurd (omega arith)
-put_lefts-in_front (left ∷ lefts) (level ∷ levels) others within =
-    ap (λ (l : List Level). record { left = left; right = level.right } ∷ l) (put_lefts-in_front lefts levels others (omega arith))
-
-pub lowest_with_lefts-more : (lefts : List (List Node)) (left : List Node) (levels : List Level) → length lefts < length levels →
-    lowest_with_lefts (lefts ++ left ∷ []) levels ≡ lowest_with_lefts lefts levels ++ record { left = left; right = right_at (drop (length lefts) levels) 0 } ∷ []
-lowest_with_lefts-more lefts left [] within = absurd (omega arith)
-lowest_with_lefts-more [] left (level ∷ levels) within = refl
-lowest_with_lefts-more (first ∷ lefts) left (level ∷ levels) within =
-    ap (λ (l : List Level). record { left = first; right = level.right } ∷ l) (lowest_with_lefts-more lefts left levels (omega arith))
 
 -- nodes put before the left ones of a level
 pub with_left-at : (levels : List Level) (at : ℕ) (more : List Node) (d : Level) → at < length levels →

@@ -91,6 +91,25 @@ pub operand-left : (levels : List Level) → left_at levels 0 ≡ left_at (opera
 operand-left [] = refl
 operand-left (level ∷ levels) = refl
 
+pub above-up : (levels : List Level) → 0 < length levels → above levels ≡ operand (drop 1 levels)
+above-up [] some = absurd (omega arith)
+above-up (top ∷ []) some = refl
+above-up (level ∷ next ∷ levels) some = refl
+
+pub operand-up : (levels : List Level) → operand (drop 1 (operand levels)) ≡ operand (drop 1 levels)
+operand-up [] = refl
+operand-up (level ∷ levels) = refl
+
+pub up-short : (levels : List Level) → 0 < length levels → length (operand (drop 1 levels)) ≤ length levels
+up-short [] some = absurd (omega arith)
+up-short (top ∷ []) some = omega arith
+up-short (level ∷ next ∷ levels) some = omega arith
+
+pub up-shorter : (levels : List Level) → 1 < length levels → length (operand (drop 1 levels)) < length levels
+up-shorter [] more = absurd (omega arith)
+up-shorter (top ∷ []) more = absurd (omega arith)
+up-shorter (level ∷ next ∷ levels) more = omega arith
+
 -- ---- counts
 
 node_count-append : (below above : List Level) → node_count (below ++ above) ≡ node_count below + node_count above

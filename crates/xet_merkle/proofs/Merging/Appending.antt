@@ -1,15 +1,14 @@
 -- A front operand whose levels stay: nodes that bring up no stable point go after what it has of its first level, and
 -- above it nothing is collapsed.
-use Rattle.std.proofs.Common.{◌≡◌, ◌≤◌, Bool, true, false, List, [], ◌∷◌, ◌++◌, length, refl, sym, ap, subst, ◌∙◌, inl, inr, arith, append_assoc, append-nil, length-append}
+use Rattle.std.proofs.Common.{◌≡◌, ◌<◌, ◌≤◌, Bool, true, false, List, [], ◌∷◌, ◌++◌, length, refl, sym, ap, subst, ◌∙◌, inl, inr, arith, append_assoc, append-nil, length-append}
 use Rattle.xet_merkle.specs.Groups.{Node, Groups}
 use Rattle.xet_merkle.specs.StablePoints.{EndsStable}
 use Rattle.xet_merkle.specs.Levels.{Level, no_level, left_at}
 use Rattle.xet_merkle.specs.Canonical.{IsLow}
 use Rattle.xet_merkle.specs.Steps.StableScan.{AddsNoStable}
-use Rattle.xet_merkle.specs.Steps.LevelMerging.{HaveSides, operand, inner_nodes, with_inner, NoSplit, IsLevelMerge}
+use Rattle.xet_merkle.specs.Steps.LevelMerging.{HaveSides, inner_nodes, with_inner, NoSplit, IsLevelMerge}
 use Rattle.xet_merkle.specs.Steps.LevelMerging.IsMergeSplit.{left_alone}
 use Rattle.xet_merkle.specs.Steps.LevelMerging.IsLevelMerge.{appended, step}
-use Rattle.xet_merkle.proofs.Levels.Reading.{operand-one}
 use Rattle.xet_merkle.proofs.StablePoints.CutPlaces.{EndsStable-append}
 use Rattle.xet_merkle.proofs.StablePoints.Scan.{stable_ends, begins_in_front, BeginsStable-append}
 use Rattle.xet_merkle.proofs.StablePoints.Search.{last_stable}
@@ -80,12 +79,10 @@ module _ (make : List Node → Node) (at_start : Bool) where
       (left_alone refl refl (inr (refl, none_after_cut x.right (carry ++ y.left) adds sides.1.1))) no_groups (kept (next ∷ xs) sides.2)
 
 pub level_merge_after : (make : List Node → Node) (at_start at_end : Bool) (xs : List Level) (carry : List Node) (ys : List Level) → HaveSides at_start false xs →
-    at_end ≡ false → length ys ≤ 1 → AddsNoStable (inner_nodes xs) (carry ++ left_at ys 0) → IsLevelMerge make at_start at_end xs carry (operand ys) (with_inner xs (carry ++ left_at ys 0)) 0
-level_merge_after make at_start at_end xs carry ys sides unmarked few adds =
-    let one = operand-one ys few in
-    let y = one.0 in
-    let here : IsLevelMerge make at_start false xs carry (y ∷ []) (with_inner xs (carry ++ y.left)) 0 =
-    appended_levels make at_start xs carry y sides (subst (λ (l : List Node). AddsNoStable (inner_nodes xs) (carry ++ l)) (sym one.2) adds) in
-    subst (λ (e : Bool). IsLevelMerge make at_start e xs carry (operand ys) (with_inner xs (carry ++ left_at ys 0)) 0) (sym unmarked)
-    (subst (λ (l : List Node). IsLevelMerge make at_start false xs carry (operand ys) (with_inner xs (carry ++ l)) 0) one.2
-    (subst (λ (l : List Level). IsLevelMerge make at_start false xs carry l (with_inner xs (carry ++ y.left)) 0) (sym one.1) here))
+    at_end ≡ false → 0 < length ys → length ys ≤ 1 → AddsNoStable (inner_nodes xs) (carry ++ left_at ys 0) →
+    IsLevelMerge make at_start at_end xs carry ys (with_inner xs (carry ++ left_at ys 0)) 0
+level_merge_after make at_start at_end xs carry [] sides unmarked some few adds = absurd (omega arith)
+level_merge_after make at_start at_end xs carry (y ∷ next ∷ ys) sides unmarked some few adds = absurd (omega arith)
+level_merge_after make at_start at_end xs carry (y ∷ []) sides unmarked some few adds =
+    subst (λ (e : Bool). IsLevelMerge make at_start e xs carry (y ∷ []) (with_inner xs (carry ++ y.left)) 0) (sym unmarked)
+    (appended_levels make at_start xs carry y sides adds)

@@ -1,24 +1,25 @@
 -- Merging level by level: what stands below what is left of the operands, and what the whole is.
 use Rattle.std.proofs.lemmas.List.{length-map}
-use Rattle.xet_merkle.proofs.Merging.Bounds.{merge_count}
-use Rattle.std.proofs.Common.{◌≡◌, ℕ, ◌+◌, ◌<◌, ◌≤◌, ◌^◌, Bool, true, false, List, [], ◌∷◌, ◌++◌, length, map, take, drop, refl, sym, ap, subst, ◌∙◌, arith, append_assoc}
+use Rattle.xet_merkle.proofs.Merging.Bounds.{between_few, merge_count, step_room}
+use Rattle.std.proofs.Common.{◌≡◌, ℕ, ◌+◌, ◌<◌, ◌≤◌, ◌^◌, Bool, true, false, List, [], ◌∷◌, ◌++◌, length, map, drop, refl, sym, ap, subst, ◌∙◌, arith, append_assoc}
 use Rattle.xet_merkle.specs.Groups.{Node}
 use Rattle.xet_merkle.specs.Roots.{total_size, parent_by, parent}
 use Rattle.xet_merkle.specs.Steps.Scan.{AreParents}
-use Rattle.xet_merkle.specs.Levels.{Level, left_at, right_at, top_nodes, node_count, levels_size}
+use Rattle.xet_merkle.specs.Levels.{Level, top_nodes, node_count, levels_size}
 use Rattle.xet_merkle.specs.Subtree.{Subtree}
 use Rattle.xet_merkle.specs.Merging.{IsMerged, IsMergedBy}
 use Rattle.xet_merkle.specs.WellFormed.{IsWellFormed}
-use Rattle.xet_merkle.specs.Steps.LevelMerging.{HaveSides, operand, above, between, lowest_with, lowest_with_lefts, IsHighAfter, IsLowBefore, IsMergeSplit, IsLevelMerge}
+use Rattle.xet_merkle.specs.Steps.LevelMerging.{HaveSides, operand, above, inner_nodes, between, IsMergeSplit, IsLevelMerge, Sight, seen, sight_up, IsSightSplit, IsSightMerge}
 use Rattle.xet_merkle.specs.Steps.LevelMerging.IsMergeSplit.{both, left_alone, right_alone}
 use Rattle.xet_merkle.specs.Steps.LevelMerging.IsLevelMerge.{all_in_sight, step}
 use Rattle.xet_merkle.specs.Canonical.{IsCanonicalBy}
-use Rattle.xet_merkle.specs.Steps.Building.{AreOperands, MergeBelow, IsStored}
+use Rattle.xet_merkle.specs.Steps.Building.{AreOperands, MergeBelow, CanMerge, IsStored}
+use Rattle.xet_merkle.specs.Steps.Room.{most_made}
+use Rattle.xet_merkle.proofs.Roots.Making.{total_size-are_parents, AreParents-few}
 use Rattle.xet_merkle.proofs.Levels.Flat.{total_size-append}
 use Rattle.xet_merkle.proofs.Levels.Sides.{well_formed_sides, well_formed_from_sides}
-use Rattle.xet_merkle.proofs.Levels.InPlace.{put, put-in_front, put_lefts, put_lefts-in_front}
-use Rattle.xet_merkle.proofs.Levels.Reading.{operand-one, operand-length, operand-more, operand-longer, operand-left, operand-right}
-use Rattle.xet_merkle.proofs.Merging.LevelMerge.{level_merge, left_above, right_above}
+use Rattle.xet_merkle.proofs.Levels.Reading.{operand-length, above-up}
+use Rattle.xet_merkle.proofs.Merging.LevelMerge.{level_merge}
 use Rattle.xet_merkle.proofs.Merging.Kept.{level_merge_sides, level_merge_top, level_merge_one, level_merge_size}
 
 -- ---- lengths and sizes
@@ -36,66 +37,84 @@ module _ (at_start at_end : Bool) where
       let size = ap total_size seen in
       omega (arith, total_size-append x.left (carry ++ y.left), total_size-append carry y.left, total_size-append left middle)
 
--- what is collapsed where the back operand alone has levels above
-pub split_before : (at_start at_end : Bool) (xs ys : List Level) (carry seen left middle : List Node) {right : List Node} → length xs ≤ 1 → 1 < length ys →
-    seen ≡ between (operand xs) carry (operand ys) → seen ≡ left ++ middle → IsLowBefore at_start left middle → right ≡ right_at ys 0 →
-    IsMergeSplit at_start at_end (operand xs) (operand ys) (between (operand xs) carry (operand ys)) left middle right
-split_before at_start at_end xs ys carry seen left middle {right} few more seen_is parts low right_is =
-    let one = operand-one xs few in
-    subst (λ (l : List Node). IsMergeSplit at_start at_end (operand xs) (operand ys) l left middle right) seen_is
-    (subst (λ (l : List Level). IsMergeSplit at_start at_end l (operand ys) seen left middle right) (sym one.1)
-    (right_above at_start at_end seen left middle right one.0 (operand ys) (operand-longer ys more) parts low (right_is ∙ operand-right ys)))
+-- ---- one level
 
--- and where the front operand alone has
-pub split_after : (at_start at_end : Bool) (xs ys : List Level) (carry seen middle right : List Node) {left : List Node} → 1 < length xs → length ys ≤ 1 →
-    seen ≡ between (operand xs) carry (operand ys) → seen ≡ middle ++ right → IsHighAfter at_end middle right → left ≡ left_at xs 0 →
-    IsMergeSplit at_start at_end (operand xs) (operand ys) (between (operand xs) carry (operand ys)) left middle right
-split_after at_start at_end xs ys carry seen middle right {left} more few seen_is parts high left_is =
-    let none : ¬ (1 < length (operand ys)) = λ longer. let long = operand-more ys longer in omega arith in
-    subst (λ (l : List Node). IsMergeSplit at_start at_end (operand xs) (operand ys) l left middle right) seen_is
-    (left_above at_start at_end seen left middle right (operand xs) (operand ys) (operand-longer xs more) (operand-length ys) none (left_is ∙ operand-left xs) parts high)
+module _ (hash : List Node → List ℕ) (made : ℕ) (sight : Sight) (can : CanMerge made sight) {left middle right : List Node} (split : IsSightSplit sight left middle right) where
+  pub middle_fits : total_size middle < 2 ^ 64
+  middle_fits =
+      let size = step_size sight.at_start sight.at_end sight.carry split in
+      let small = can.fits in
+      omega arith
 
-module _ (make : List Node → Node) (at_start at_end : Bool) (xs ys : List Level) (first : List Node) where
-  -- ---- levels
+  pub can_merge_above : (parents : List Node) → AreParents (parent_by hash) middle parents → CanMerge (made + length parents) (sight_up 1 sight parents)
+  can_merge_above parents are =
+      let front_is = above-up sight.front can.some_front in
+      let back_is = above-up sight.back can.some_back in
+      let size = step_size sight.at_start sight.at_end sight.carry split in
+      let made_size = total_size-are_parents hash middle parents are in
+      let few = AreParents-few (parent_by hash) middle parents are in
+      let enough = step_room (parent_by hash) sight.at_start sight.at_end sight.carry parents split few in
+      let small = can.fits in
+      let before = can.room in
+      record {
+        some_front = operand-length (drop 1 sight.front);
+        some_back = operand-length (drop 1 sight.back);
+        fits = rw (sym front_is, sym back_is) (omega arith);
+        room = rw (sym front_is, sym back_is) (omega arith);
+      }
 
-  pub merge_step : (levels : List Level) (done : ℕ) (rest_x rest_y : List Level) (carry left middle right parents : List Node) →
-      MergeBelow make at_start at_end xs first ys levels done rest_x carry rest_y →
-      IsMergeSplit at_start at_end rest_x rest_y (between rest_x carry rest_y) left middle right → AreParents make middle parents →
-      MergeBelow make at_start at_end xs first ys (levels ++ record { left = left; right = right } ∷ []) (done + length parents) (above rest_x) parents (above rest_y)
-  merge_step levels done rest_x rest_y carry left middle right parents h split made =
+-- all nodes in sight are few enough, and small enough
+inner_size : (xs : List Level) → total_size (inner_nodes xs) ≤ levels_size xs
+inner_size [] = omega arith
+inner_size (top ∷ []) = omega arith
+inner_size (level ∷ next ∷ levels) = omega arith
+
+between_size : (xs : List Level) (carry : List Node) (ys : List Level) → total_size (between xs carry ys) ≤ levels_size xs + (total_size carry + levels_size ys)
+between_size xs carry [] = let inner = inner_size xs in omega (arith, total_size-append (inner_nodes xs) carry)
+between_size xs carry (y ∷ ys) =
+    let inner = inner_size xs in
+    omega (arith, total_size-append (inner_nodes xs) (carry ++ y.left), total_size-append carry y.left)
+
+pub seen_fits : (made : ℕ) (sight : Sight) → CanMerge made sight → total_size (seen sight) < 2 ^ 64
+seen_fits made sight can =
+    let size = between_size sight.front sight.carry sight.back in
+    let small = can.fits in
+    omega arith
+
+pub seen_room : (made : ℕ) (sight : Sight) → CanMerge made sight → made + length (seen sight) ≤ most_made
+seen_room made sight can =
+    let few = between_few sight.front sight.carry sight.back in
+    let before = can.room in
+    omega arith
+
+all_seen : (make : List Node → Node) (at_start at_end : Bool) (xs ys : List Level) (carry : List Node) (top : List Level) (work : ℕ) → 0 < length xs → 0 < length ys →
+    ¬ (1 < length xs) → ¬ (1 < length ys) → IsCanonicalBy make at_start at_end (between xs carry ys) top work → IsLevelMerge make at_start at_end xs carry ys top work
+all_seen make at_start at_end [] ys carry top work some_x some_y one_x one_y canonical = absurd (omega arith)
+all_seen make at_start at_end (x ∷ next ∷ xs) ys carry top work some_x some_y one_x one_y canonical = absurd (one_x (omega arith))
+all_seen make at_start at_end (x ∷ []) [] carry top work some_x some_y one_x one_y canonical = absurd (omega arith)
+all_seen make at_start at_end (x ∷ []) (y ∷ next ∷ ys) carry top work some_x some_y one_x one_y canonical = absurd (one_y (omega arith))
+all_seen make at_start at_end (x ∷ []) (y ∷ []) carry top work some_x some_y one_x one_y canonical = all_in_sight canonical
+
+module _ (make : List Node → Node) (whole : Sight) (levels : List Level) (done : ℕ) (sight : Sight) (below : MergeBelow make whole levels done sight)
+    (some_front : 0 < length sight.front) (some_back : 0 < length sight.back) where
+  pub merge_step : {left middle right : List Node} (parents : List Node) → IsSightSplit sight left middle right → AreParents make middle parents →
+      MergeBelow make whole (levels ++ record { left = left; right = right } ∷ []) (done + length parents) (sight_up 1 sight parents)
+  merge_step {left} {middle} {right} parents split made =
       let level : Level = record { left = left; right = right } in
       λ top work merged.
-      let rest : IsLevelMerge make at_start at_end (above rest_x) (map make made.0) (above rest_y) top work =
-      subst (λ (l : List Node). IsLevelMerge make at_start at_end (above rest_x) l (above rest_y) top work) made.2 merged in
+      let rest : IsLevelMerge make sight.at_start sight.at_end (above sight.front) (map make made.0) (above sight.back) top work =
+      rw (above-up sight.front some_front, above-up sight.back some_back) (subst (λ (l : List Node). IsLevelMerge make sight.at_start sight.at_end (operand (drop 1 sight.front)) l (operand (drop 1 sight.back)) top work) made.2 merged) in
       let len = ap length made.2 in
       let sum : done + (length made.0 + work) ≡ (done + length parents) + work = omega (arith, length-map made.0 make) in
-      subst (λ (n : ℕ). IsLevelMerge make at_start at_end xs first ys ((levels ++ level ∷ []) ++ top) n) sum
-      (subst (λ (l : List Level). IsLevelMerge make at_start at_end xs first ys l (done + (length made.0 + work))) (sym (append_assoc levels (level ∷ []) top))
-      (h (level ∷ top) (length made.0 + work) (step split made.1 rest)))
+      subst (λ (n : ℕ). IsSightMerge make whole ((levels ++ level ∷ []) ++ top) n) sum
+      (subst (λ (l : List Level). IsSightMerge make whole l (done + (length made.0 + work))) (sym (append_assoc levels (level ∷ []) top))
+      (below (level ∷ top) (length made.0 + work) (step split made.1 rest)))
 
   -- where neither operand has levels above, all nodes are in sight
-  pub merge_all : (levels : List Level) (done : ℕ) (x : Level) (rest_y : List Level) (carry : List Node) → 0 < length rest_y →
-      ¬ (1 < length rest_y) → MergeBelow make at_start at_end xs first ys levels done (x ∷ []) carry rest_y → (top : List Level) (work : ℕ) →
-      IsCanonicalBy make at_start at_end (between (x ∷ []) carry rest_y) top work → IsLevelMerge make at_start at_end xs first ys (levels ++ top) (done + work)
-  merge_all levels done x [] carry some_y one_y h = absurd (omega arith)
-  merge_all levels done x (y ∷ next ∷ rest_y) carry some_y one_y h = absurd (one_y (omega arith))
-  merge_all levels done x (y ∷ []) carry some_y one_y h = λ top work canonical. h top work (all_in_sight canonical)
-
--- a front operand's levels merged in place: the lowest have other right nodes, and the others are the merge of what is left
-pub level_merge_in_place : (make : List Node → Node) (at_start at_end : Bool) (xs ys rest_y : List Level) (lists : List (List Node)) (carry : List Node) (others changed : List Level) (done work : ℕ) →
-    MergeBelow make at_start at_end xs [] ys (lowest_with lists xs) done (drop (length lists) xs) carry rest_y → length lists ≤ length xs →
-    changed ≡ take (length lists) xs ++ others → IsLevelMerge make at_start at_end (drop (length lists) xs) carry rest_y others work →
-    IsLevelMerge make at_start at_end xs [] ys (put lists changed) (done + work)
-level_merge_in_place make at_start at_end xs ys rest_y lists carry others changed done work below within changed_is merged =
-    subst (λ (l : List Level). IsLevelMerge make at_start at_end xs [] ys l (done + work)) (sym (ap (put lists) changed_is ∙ put-in_front lists xs others within)) (below others work merged)
-
--- a back operand's, likewise
-pub level_merge_in_place_before : (make : List Node → Node) (at_start at_end : Bool) (xs ys rest_x : List Level) (lists : List (List Node)) (carry : List Node) (others changed : List Level) (done work : ℕ) →
-    MergeBelow make at_start at_end xs [] ys (lowest_with_lefts lists ys) done rest_x carry (drop (length lists) ys) → length lists ≤ length ys →
-    changed ≡ take (length lists) ys ++ others → IsLevelMerge make at_start at_end rest_x carry (drop (length lists) ys) others work →
-    IsLevelMerge make at_start at_end xs [] ys (put_lefts lists changed) (done + work)
-level_merge_in_place_before make at_start at_end xs ys rest_x lists carry others changed done work below within changed_is merged =
-    subst (λ (l : List Level). IsLevelMerge make at_start at_end xs [] ys l (done + work)) (sym (ap (put_lefts lists) changed_is ∙ put_lefts-in_front lists ys others within)) (below others work merged)
+  pub merge_all : ¬ (1 < length sight.front) → ¬ (1 < length sight.back) → (top : List Level) (work : ℕ) →
+      IsCanonicalBy make sight.at_start sight.at_end (seen sight) top work → IsSightMerge make whole (levels ++ top) (done + work)
+  merge_all one_front one_back top work canonical =
+      below top work (all_seen make sight.at_start sight.at_end sight.front sight.back sight.carry top work some_front some_back one_front one_back canonical)
 
 -- ---- what is merged is well formed
 

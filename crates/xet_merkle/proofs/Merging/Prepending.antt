@@ -1,13 +1,12 @@
 -- A back operand whose levels stay: nodes that bring up no stable point go before what it has of its first level, and above
 -- it nothing is collapsed.
-use Rattle.std.proofs.Common.{◌≡◌, ◌≤◌, Bool, false, List, [], ◌∷◌, ◌++◌, length, refl, sym, ap, subst, ◌∙◌, inr, arith, append_assoc, append-nil, length-append}
+use Rattle.std.proofs.Common.{◌≡◌, ◌<◌, ◌≤◌, Bool, false, List, [], ◌∷◌, ◌++◌, length, refl, sym, ap, subst, ◌∙◌, inr, arith, append_assoc, append-nil, length-append}
 use Rattle.xet_merkle.specs.Groups.{Node}
 use Rattle.xet_merkle.specs.Levels.{Level, no_level, left_at}
 use Rattle.xet_merkle.specs.Steps.StableScan.{AddsNoStableBefore}
-use Rattle.xet_merkle.specs.Steps.LevelMerging.{HaveSides, operand, inner_nodes, with_left, NoSplit, IsLevelMerge}
+use Rattle.xet_merkle.specs.Steps.LevelMerging.{HaveSides, inner_nodes, with_left, NoSplit, IsLevelMerge}
 use Rattle.xet_merkle.specs.Steps.LevelMerging.IsMergeSplit.{right_alone}
 use Rattle.xet_merkle.specs.Steps.LevelMerging.IsLevelMerge.{prepended, step}
-use Rattle.xet_merkle.proofs.Levels.Reading.{operand-one}
 use Rattle.xet_merkle.proofs.StablePoints.CutPlaces.{EndsStable-append}
 use Rattle.xet_merkle.proofs.StablePoints.Scan.{stable_ends}
 use Rattle.xet_merkle.proofs.StablePoints.Prepending.{after_more, none_before}
@@ -60,11 +59,10 @@ module _ (make : List Node → Node) (at_end : Bool) where
       (right_alone (sym (append_assoc x.left carry y.left) ∙ sym (append-nil left)) (inr (refl, none_before (x.left ++ carry) y.left adds sides.0.1)) refl) no_groups (kept (next ∷ ys) sides.2)
 
 pub level_merge_before : (make : List Node → Node) (at_start at_end : Bool) (xs : List Level) (carry : List Node) (ys : List Level) → HaveSides false at_end ys →
-    at_start ≡ false → length xs ≤ 1 → AddsNoStableBefore (inner_nodes (operand xs) ++ carry) (left_at ys 0) →
-    IsLevelMerge make at_start at_end (operand xs) carry ys (with_left ys (inner_nodes (operand xs) ++ carry)) 0
-level_merge_before make at_start at_end xs carry ys sides unmarked few adds =
-    let one = operand-one xs few in
-    let here : IsLevelMerge make false at_end (one.0 ∷ []) carry ys (with_left ys (one.0.left ++ carry)) 0 =
-    prepended_levels make at_end one.0 carry ys sides (subst (λ (l : List Level). AddsNoStableBefore (inner_nodes l ++ carry) (left_at ys 0)) one.1 adds) in
-    subst (λ (s : Bool). IsLevelMerge make s at_end (operand xs) carry ys (with_left ys (inner_nodes (operand xs) ++ carry)) 0) (sym unmarked)
-    (subst (λ (l : List Level). IsLevelMerge make false at_end l carry ys (with_left ys (inner_nodes l ++ carry)) 0) (sym one.1) here)
+    at_start ≡ false → 0 < length xs → length xs ≤ 1 → AddsNoStableBefore (inner_nodes xs ++ carry) (left_at ys 0) →
+    IsLevelMerge make at_start at_end xs carry ys (with_left ys (inner_nodes xs ++ carry)) 0
+level_merge_before make at_start at_end [] carry ys sides unmarked some few adds = absurd (omega arith)
+level_merge_before make at_start at_end (x ∷ next ∷ xs) carry ys sides unmarked some few adds = absurd (omega arith)
+level_merge_before make at_start at_end (x ∷ []) carry ys sides unmarked some few adds =
+    subst (λ (s : Bool). IsLevelMerge make s at_end (x ∷ []) carry ys (with_left ys (x.left ++ carry)) 0) (sym unmarked)
+    (prepended_levels make at_end x carry ys sides adds)

@@ -1,10 +1,13 @@
 -- Levels of a canonical subtree and of a merge while they are built, and what is stored of a subtree.
-use Rattle.std.specs.Prelude.{◌≡◌, ℕ, ◌+◌, ◌^◌, ◌<◌, Bool, false, List, ◌++◌, length}
+use Rattle.std.specs.Prelude.{◌≡◌, ℕ, ◌+◌, ◌^◌, ◌<◌, ◌≤◌, Bool, false, List, ◌++◌, length}
 use Rattle.xet_merkle.specs.Groups.{Node}
+use Rattle.xet_merkle.specs.Roots.{total_size}
 use Rattle.xet_merkle.specs.Levels.{Level, top_nodes, node_count, levels_size}
 use Rattle.xet_merkle.specs.Canonical.{IsCanonicalBy}
+use Rattle.xet_merkle.specs.Subtree.{Subtree}
 use Rattle.xet_merkle.specs.WellFormed.{IsWellFormed}
-use Rattle.xet_merkle.specs.Steps.LevelMerging.{HaveSides, IsLevelMerge}
+use Rattle.xet_merkle.specs.Steps.LevelMerging.{HaveSides, Sight, IsSightMerge}
+use Rattle.xet_merkle.specs.Steps.Room.{most_made}
 
 -- the levels of two subtrees that can be merged, whose outer marks are given
 pub record AreOperands (at_start at_end : Bool) (xs ys : List Level) : Type 0 where
@@ -18,11 +21,30 @@ abbrev pub StandBelow : (List Node → Node) → Bool → Bool → List Node →
 StandBelow make at_start at_end all levels done nodes = (top : List Level) (work : ℕ) →
     IsCanonicalBy make at_start at_end nodes top work → IsCanonicalBy make at_start at_end all (levels ++ top) (done + work)
 
--- levels below what is left of two operands, and of the nodes carried between them, and the work that is done, make
--- it the merge of the operands
-abbrev pub MergeBelow : (List Node → Node) → Bool → Bool → List Level → List Node → List Level → List Level → ℕ → List Level → List Node → List Level → Type 0
-MergeBelow make at_start at_end xs carry ys levels done rest_x rest rest_y = (top : List Level) (work : ℕ) →
-    IsLevelMerge make at_start at_end rest_x rest rest_y top work → IsLevelMerge make at_start at_end xs carry ys (levels ++ top) (done + work)
+-- levels below what is in sight, and the work that is done, make it the merge of what was in sight
+abbrev pub MergeBelow : (List Node → Node) → Sight → List Level → ℕ → Sight → Type 0
+MergeBelow make sight levels done rest = (top : List Level) (work : ℕ) →
+    IsSightMerge make rest top work → IsSightMerge make sight (levels ++ top) (done + work)
+
+-- both operands in sight have levels, all sizes fit 64 bits, and so many parents were made that those to come can be, too
+pub record CanMerge (made : ℕ) (sight : Sight) : Type 0 where
+  pub some_front : 0 < length sight.front
+  pub some_back : 0 < length sight.back
+  pub fits : levels_size sight.front + (total_size sight.carry + levels_size sight.back) < 2 ^ 64
+  pub room : made + (length sight.carry + ((node_count sight.front + length sight.front) + (node_count sight.back + length sight.back))) ≤ most_made
+
+-- two subtrees can be merged: no mark stands between them, and their sizes and numbers of nodes add up within 64 bits. The outer
+-- marks and the sum of the sizes are those of the merged one.
+pub record AreMergeable (front back : Subtree) (at_start at_end : Bool) (size : ℕ) : Type 0 where
+  pub front_is : IsWellFormed front
+  pub back_is : IsWellFormed back
+  pub no_end : front.at_end ≡ false
+  pub no_start : back.at_start ≡ false
+  pub start : at_start ≡ front.at_start
+  pub end : at_end ≡ back.at_end
+  pub size_is : size ≡ levels_size front.levels + levels_size back.levels
+  pub fits : size < 2 ^ 64
+  pub few : node_count front.levels + node_count back.levels < 2 ^ 64
 
 -- what a subtree stores beside its marks: levels, and the sum of the sizes, which fits 64 bits, as the number of
 -- nodes does

@@ -1,11 +1,14 @@
 -- Merging two subtrees from what they keep of each level, from the chunks up. Private contracts and proofs
 -- speak of it; what a reader has to believe stands in Canonical and Subtree.
-use Rattle.std.specs.Prelude.{◌≡◌, ℕ, ◌+◌, ◌⊎◌, Bool, true, false, List, [], ◌∷◌, ◌++◌, length, map}
+use Rattle.std.specs.Prelude.{◌≡◌, ℕ, ◌+◌, ◌≤◌, ◌⊎◌, Bool, true, false, List, [], ◌∷◌, ◌++◌, length, map, drop}
 use Rattle.xet_merkle.specs.Groups.{Node, Cut, Groups}
 use Rattle.xet_merkle.specs.StablePoints.{NoStable, IsFirstStable, IsLastStable}
-use Rattle.xet_merkle.specs.Levels.{Level, no_level}
+use Rattle.xet_merkle.specs.Levels.{Level, no_level, left_at}
 use Rattle.xet_merkle.specs.Canonical.{IsSplit, IsCanonicalBy}
 use Rattle.xet_merkle.specs.WellFormed.{IsLeftSide, IsRightSide}
+use Rattle.xet_merkle.specs.Steps.StableScan.{AddsNoStable, AddsNoStableBefore}
+use Rattle.xet_merkle.specs.declared.merkle_hash_subtree.levels.Operand.{Operand}
+use Rattle.xet_merkle.specs.declared.merkle_hash_subtree.levels.Operand.TheVariants.{Front, Back}
 
 -- what may stay on the left, and on the right, below the top under a mark: nothing where there is one
 abbrev pub IsLeftUnder : Bool → List Node → Type 0
@@ -93,13 +96,81 @@ pub data IsLevelMerge (make : List Node → Node) (at_start at_end : Bool) : Lis
       IsLevelMerge make at_start at_end (above xs) (map make groups) (above ys) levels work →
       IsLevelMerge make at_start at_end xs carry ys (record { left = left; right = right } ∷ levels) (length groups + work)
 
+-- ---- what is in sight
+
+-- what two operands have in sight of each other at a level: their levels from that one up, the nodes carried between them,
+-- and the outer marks
+pub record Sight : Type 0 where
+  pub front : List Level
+  pub carry : List Node
+  pub back : List Level
+  pub at_start : Bool
+  pub at_end : Bool
+
+abbrev pub seen : Sight → List Node
+seen sight = between sight.front sight.carry sight.back
+
+-- so many levels further up, with other nodes carried
+abbrev pub sight_up : ℕ → Sight → List Node → Sight
+sight_up n sight carry = record {
+  front = operand (drop n sight.front);
+  carry = carry;
+  back = operand (drop n sight.back);
+  at_start = sight.at_start;
+  at_end = sight.at_end;
+}
+
+abbrev pub IsSightSplit : Sight → List Node → List Node → List Node → Type 0
+IsSightSplit sight left middle right = IsMergeSplit sight.at_start sight.at_end sight.front sight.back (seen sight) left middle right
+
+abbrev pub IsSightMerge : (List Node → Node) → Sight → List Level → ℕ → Type 0
+IsSightMerge make sight levels work = IsLevelMerge make sight.at_start sight.at_end sight.front sight.carry sight.back levels work
+
 -- ---- in place
 
--- the lowest of some levels, as many as there are lists, each with other right nodes
-abbrev pub lowest_with : List (List Node) → List Level → List Level
-lowest_with [] levels = []
-lowest_with (right ∷ rights) [] = []
-lowest_with (right ∷ rights) (level ∷ levels) = record { left = level.left; right = right } ∷ lowest_with rights levels
+-- one of two operands, where the other one is given last
+abbrev pub front_of : {T : Type 0} → Operand → T → T → T
+front_of Front kept other = kept
+front_of Back kept other = other
+
+abbrev pub back_of : {T : Type 0} → Operand → T → T → T
+back_of Front kept other = other
+back_of Back kept other = kept
+
+-- what the levels of an operand and those of the other one have in sight
+abbrev pub sight_of : Operand → Bool → Bool → List Level → List Node → List Level → Sight
+sight_of kept at_start at_end levels carry other = record {
+  front = front_of kept levels other;
+  carry = carry;
+  back = back_of kept levels other;
+  at_start = at_start;
+  at_end = at_end;
+}
+
+-- the levels of an operand in sight
+abbrev pub levels_of : Operand → Sight → List Level
+levels_of operand sight = front_of operand sight.front sight.back
+
+-- of the nodes that stay on either side of an operand's level, those towards the other operand
+abbrev pub inner_side : Operand → List Node → List Node → List Node
+inner_side Front left right = right
+inner_side Back left right = left
+
+-- levels have sides as those of an operand whose list has the outer mark of both
+abbrev pub HaveSidesOf : Operand → Bool → Bool → List Level → Type 0
+HaveSidesOf Front at_start at_end levels = HaveSides at_start false levels
+HaveSidesOf Back at_start at_end levels = HaveSides false at_end levels
+
+-- a level of an operand with other nodes on the side towards the other operand
+abbrev pub with_side : Operand → Level → List Node → Level
+with_side Front level side = record { left = level.left; right = side }
+with_side Back level side = record { left = side; right = level.right }
+
+-- the lowest of some levels, as many as there are lists, each with other nodes on that side
+abbrev pub lowest_with : Operand → List (List Node) → List Level → List Level
+lowest_with kept [] levels = []
+lowest_with kept (side ∷ sides) [] = []
+lowest_with kept (side ∷ sides) (level ∷ levels) = with_side kept level side ∷ lowest_with kept sides levels
 
 -- the levels of a front operand with more nodes after those of its first level towards the back one
 abbrev pub with_inner : List Level → List Node → List Level
@@ -107,13 +178,20 @@ with_inner [] more = []
 with_inner (top ∷ []) more = record { left = top.left ++ more; right = top.right } ∷ []
 with_inner (level ∷ next ∷ levels) more = record { left = level.left; right = level.right ++ more } ∷ next ∷ levels
 
--- the lowest of some levels, as many as there are lists, each with other left nodes
-abbrev pub lowest_with_lefts : List (List Node) → List Level → List Level
-lowest_with_lefts [] levels = []
-lowest_with_lefts (left ∷ lefts) [] = []
-lowest_with_lefts (left ∷ lefts) (level ∷ levels) = record { left = left; right = level.right } ∷ lowest_with_lefts lefts levels
-
 -- the levels of a back operand with more nodes before those of its first level towards the front one
 abbrev pub with_left : List Level → List Node → List Level
 with_left [] more = []
 with_left (level ∷ levels) more = record { left = more ++ level.left; right = level.right } ∷ levels
+
+-- what is in sight only extends the first level of an operand: the other one's outer end isn't marked, that one has no levels
+-- above, and no stable point comes up
+abbrev pub OnlyExtends : Operand → Sight → Type 0
+OnlyExtends Front sight =
+    (sight.at_end ≡ false) × (length sight.back ≤ 1) × AddsNoStable (inner_nodes sight.front) (sight.carry ++ left_at sight.back 0)
+OnlyExtends Back sight =
+    (sight.at_start ≡ false) × (length sight.front ≤ 1) × AddsNoStableBefore (inner_nodes sight.front ++ sight.carry) (left_at sight.back 0)
+
+-- the levels of an operand with these nodes
+abbrev pub extended : Operand → List Level → List Node → List Level → List Level
+extended Front levels carry other = with_inner levels (carry ++ left_at other 0)
+extended Back levels carry other = with_left levels (inner_nodes (operand other) ++ carry)

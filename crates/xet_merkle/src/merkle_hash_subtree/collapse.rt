@@ -6,9 +6,10 @@ ghost use Rattle.xet_merkle.specs.Roots.{total_size, parent_by, parent};
 ghost use Rattle.xet_merkle.specs.Levels.{Level};
 ghost use Rattle.xet_merkle.specs.Canonical.{IsCanonicalBy};
 ghost use Rattle.xet_merkle.specs.Steps.Scan.{AreParents};
+ghost use Rattle.xet_merkle.specs.Steps.Room.{most_made};
 
 use super::levels::{LevelNodes, pushed};
-use super::split::{Split, find_split};
+use super::split::{Marks, Split, find_split};
 use crate::aggregated_hashes::parents;
 use crate::groups::Node;
 use crate::parent_maker::{ParentHashes, ParentMaker};
@@ -22,7 +23,7 @@ pub(super) fn collapse_middle<A: Allocator + Clone, P: ParentMaker>(
     maker: &mut P,
 ) -> Result<(Vec<LevelNodes<A>, A>, Vec<Node, A>), AllocError>
     requires fits { total_size split.middle.now < 2 ^ 64 }
-    requires room { P.count maker.old ≤ 2 ^ 99 }
+    requires room { P.count maker.old ≤ most_made }
     ensures levels { IfOk result (λ made. made.0.items ≡ levels.items ++ record { left = split.entry.left.now; right = split.entry.right.now } ∷ []) }
     ensures parents { IfOk result (λ made. AreParents (parent_by P.hash_of) split.entry.middle.now made.1.items) }
     ensures count { IfOk result (λ made. P.count maker.new ≡ P.count maker.old + length made.1.items) }
@@ -39,18 +40,17 @@ pub(super) fn collapse<A: Allocator + Clone, P: ParentMaker>(
     alloc: A,
     levels: Vec<LevelNodes<A>, A>,
     nodes: Vec<Node, A>,
-    at_start: bool,
-    at_end: bool,
+    marks: Marks,
     maker: &mut P,
 ) -> Result<Vec<LevelNodes<A>, A>, AllocError>
     requires fits { total_size nodes.items < 2 ^ 64 }
-    requires room { P.count maker.old + length nodes.items ≤ 2 ^ 99 }
-    ensures { IfOk result (λ all. (top : List Level) × (work : ℕ) × IsCanonicalBy (parent_by P.hash_of) at_start at_end nodes.items top work
+    requires room { P.count maker.old + length nodes.items ≤ most_made }
+    ensures { IfOk result (λ all. (top : List Level) × (work : ℕ) × IsCanonicalBy (parent_by P.hash_of) marks.at_start marks.at_end nodes.items top work
         × (all.items ≡ levels.items ++ top) × (P.count maker.new ≡ P.count maker.old + work)) }
 {
     let mut levels = levels;
     let mut nodes = nodes;
-    'collapsing: while let Some(split) = find_split(&nodes, at_start, at_end) {
+    'collapsing: while let Some(split) = find_split(&nodes, marks) {
         (levels, nodes) = collapse_middle(alloc.clone()?, levels, split, maker)?;
     }
     Ok(pushed(levels, LevelNodes::new(nodes, Vec::new(alloc)))?)
@@ -61,20 +61,19 @@ pub(super) fn collapse_slice<A: Allocator + Clone, P: ParentMaker>(
     alloc: A,
     levels: Vec<LevelNodes<A>, A>,
     nodes: &[Node],
-    at_start: bool,
-    at_end: bool,
+    marks: Marks,
     maker: &mut P,
 ) -> Result<Vec<LevelNodes<A>, A>, AllocError>
     requires fits { total_size nodes.now < 2 ^ 64 }
-    requires room { P.count maker.old + length nodes.now ≤ 2 ^ 99 }
-    ensures { IfOk result (λ all. (top : List Level) × (work : ℕ) × IsCanonicalBy (parent_by P.hash_of) at_start at_end nodes.now top work
+    requires room { P.count maker.old + length nodes.now ≤ most_made }
+    ensures { IfOk result (λ all. (top : List Level) × (work : ℕ) × IsCanonicalBy (parent_by P.hash_of) marks.at_start marks.at_end nodes.now top work
         × (all.items ≡ levels.items ++ top) × (P.count maker.new ≡ P.count maker.old + work)) }
 {
-    match find_split(nodes, at_start, at_end) {
+    match find_split(nodes, marks) {
         None => Ok(pushed(levels, LevelNodes::copied(alloc, nodes, &[])?)?),
         Some(split) => {
             let (levels, parents) = collapse_middle(alloc.clone()?, levels, split, maker)?;
-            Ok(collapse(alloc, levels, parents, at_start, at_end, maker)?)
+            Ok(collapse(alloc, levels, parents, marks, maker)?)
         }
     }
 }
@@ -95,8 +94,7 @@ pub(super) fn collapse_chunks<A: Allocator + Clone>(
         alloc,
         levels,
         chunks,
-        at_start,
-        at_end,
+        Marks { at_start, at_end },
         &mut ParentHashes::new(),
     )?)
 }

@@ -4,12 +4,19 @@ ghost use Rattle.std.specs.Prelude.{◌≡◌, ◌^◌, ◌<◌, ◌≤◌, ◌-
 ghost use Rattle.xet_merkle.specs.Levels.{Level, left_at, right_at, top_of, below_top, node_count};
 ghost use Rattle.xet_merkle.specs.Subtree.{same_level};
 ghost use Rattle.xet_merkle.specs.Steps.SubtreeEquality.{same_level-per, same_level-equiv};
-ghost use Rattle.xet_merkle.specs.Steps.LevelMerging.{operand, inner_nodes, with_inner, with_left, lowest_with, lowest_with_lefts};
+ghost use Rattle.xet_merkle.specs.Steps.LevelMerging.{operand, inner_nodes, with_side, lowest_with, with_inner, with_left, extended};
 
 use super::left_nodes::LeftNodes;
 use crate::groups::Node;
 use std::alloc::{AllocError, Allocator};
 use std::marker::Model;
+
+// One of the two operands of a merge.
+#[derive(Clone, Copy)]
+pub(super) enum Operand {
+    Front,
+    Back,
+}
 
 // The nodes that are kept of a level, on either side.
 #[derive(Debug, Drop)]
@@ -44,6 +51,16 @@ impl<A: Allocator> LevelNodes<A> {
         ensures { result.now ≡ self.now.right }
     {
         &self.right
+    }
+
+    // Gives an operand's level other nodes on the side towards the other operand.
+    fn replace_side(&mut self, side: Vec<Node, A>, kept: Operand)
+        ensures { self.new ≡ with_side kept self.old side.items }
+    {
+        match kept {
+            Operand::Front => self.right = side,
+            Operand::Back => self.left = LeftNodes::new(side),
+        }
     }
 }
 
@@ -159,14 +176,11 @@ pub(super) fn inner<A: Allocator>(levels: &[LevelNodes<A>]) -> &[Node]
     }
 }
 
-// All levels but the first.
-pub(super) fn above<A: Allocator>(levels: &[LevelNodes<A>]) -> &[LevelNodes<A>]
-    ensures { result.now ≡ drop 1 levels.now }
+// The levels from that of a number up.
+pub(super) fn levels_from<A: Allocator>(levels: &[LevelNodes<A>], level: usize) -> &[LevelNodes<A>]
+    ensures { result.now ≡ drop level levels.now }
 {
-    match levels {
-        [_, above @ ..] => above,
-        [] => levels,
-    }
+    &levels[level.min(levels.len())..]
 }
 
 // Puts nodes after those that a front operand has of a level towards the back one.
@@ -187,17 +201,59 @@ pub(super) fn extend_inner<A: Allocator>(
     Ok(())
 }
 
-// Puts nodes before the left ones of a level.
-pub(super) fn extend_left<A: Allocator + Clone>(
+// Puts the nodes carried, and those of another operand, to those that an operand has of a level towards that one.
+pub(super) fn extend<A: Allocator + Clone>(
     levels: &mut Vec<LevelNodes<A>, A>,
     at: usize,
-    more: &[Node],
+    carry: Vec<Node, A>,
+    other: &[LevelNodes<A>],
+    kept: Operand,
 ) -> Result<(), AllocError>
     requires { at < length levels.old.items }
-    ensures extended { IfOk result (λ _. levels.new.items ≡ take at levels.old.items ++ with_left (drop at levels.old.items) more.now) }
+    ensures extended { IfOk result (λ _. levels.new.items ≡ take at levels.old.items ++ extended kept (drop at levels.old.items) carry.items other.now) }
     ensures unchanged { IfErr result (λ _. levels.new.items ≡ levels.old.items) }
 {
-    levels[at].left.prepend(more)?;
+    match kept {
+        Operand::Front => append(levels, at, carry, left_at(other, 0)),
+        Operand::Back => prepend(levels, at, inner(other), &carry),
+    }
+}
+
+// Puts nodes, in two parts, after those that a front operand has of a level.
+fn append<A: Allocator>(
+    levels: &mut Vec<LevelNodes<A>, A>,
+    at: usize,
+    first: Vec<Node, A>,
+    second: &[Node],
+) -> Result<(), AllocError>
+    requires { at < length levels.old.items }
+    ensures extended { IfOk result (λ _. levels.new.items ≡ take at levels.old.items ++ with_inner (drop at levels.old.items) (first.items ++ second.now)) }
+    ensures unchanged { IfErr result (λ _. levels.new.items ≡ levels.old.items) }
+{
+    if first.is_empty() {
+        return extend_inner(levels, at, second);
+    }
+    let mut more = first;
+    more.extend_from_slice(second)?;
+    extend_inner(levels, at, &more)
+}
+
+// Puts nodes, in two parts, before those that a back operand has of a level.
+fn prepend<A: Allocator + Clone>(
+    levels: &mut Vec<LevelNodes<A>, A>,
+    at: usize,
+    first: &[Node],
+    second: &[Node],
+) -> Result<(), AllocError>
+    requires { at < length levels.old.items }
+    ensures extended { IfOk result (λ _. levels.new.items ≡ take at levels.old.items ++ with_left (drop at levels.old.items) (first.now ++ second.now)) }
+    ensures unchanged { IfErr result (λ _. levels.new.items ≡ levels.old.items) }
+{
+    let alloc = levels.allocator().clone()?;
+    let mut more = Vec::with_capacity(alloc, first.len() + second.len())?;
+    more.extend_from_slice(first)?;
+    more.extend_from_slice(second)?;
+    levels[at].left.prepend(&more)?;
     Ok(())
 }
 
@@ -217,30 +273,17 @@ pub(super) fn replace_top<A: Allocator>(
     Ok(())
 }
 
-// Gives the lowest levels other right nodes.
-pub(super) fn replace_rights<A: Allocator>(
+// Gives the lowest levels of an operand other nodes on the side towards the other operand.
+pub(super) fn replace_sides<A: Allocator>(
     levels: &mut Vec<LevelNodes<A>, A>,
-    rights: Vec<Vec<Node, A>, A>,
+    sides: Vec<Vec<Node, A>, A>,
+    kept: Operand,
 )
-    requires { length rights.items ≤ length levels.old.items }
-    ensures { levels.new.items ≡ lowest_with (map (λ right. right.items) rights.items) levels.old.items ++ drop (length rights.items) levels.old.items }
+    requires { length sides.items ≤ length levels.old.items }
+    ensures { levels.new.items ≡ lowest_with kept (map (λ side. side.items) sides.items) levels.old.items ++ drop (length sides.items) levels.old.items }
 {
-    let mut rights = rights;
-    'rights: while let Some(right) = rights.pop() {
-        levels[rights.len()].right = right;
-    }
-}
-
-// Gives the lowest levels other left nodes.
-pub(super) fn replace_lefts<A: Allocator>(
-    levels: &mut Vec<LevelNodes<A>, A>,
-    lefts: Vec<Vec<Node, A>, A>,
-)
-    requires { length lefts.items ≤ length levels.old.items }
-    ensures { levels.new.items ≡ lowest_with_lefts (map (λ left. left.items) lefts.items) levels.old.items ++ drop (length lefts.items) levels.old.items }
-{
-    let mut lefts = lefts;
-    'lefts: while let Some(left) = lefts.pop() {
-        levels[lefts.len()].left = LeftNodes::new(left);
+    let mut sides = sides;
+    'sides: while let Some(side) = sides.pop() {
+        levels[sides.len()].replace_side(side, kept);
     }
 }

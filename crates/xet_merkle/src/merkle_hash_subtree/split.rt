@@ -3,9 +3,18 @@
 ghost use Rattle.std.specs.Prelude.{◌≡◌, ◌≤◌, List, ◌++◌, length, take, drop, IfSome, IfNone};
 ghost use Rattle.xet_merkle.specs.Groups.{Node};
 ghost use Rattle.xet_merkle.specs.Canonical.{IsLow, IsHigh, IsSplit};
+ghost use Rattle.xet_merkle.specs.Steps.LevelMerging.{inner_side};
 
+use super::levels::Operand;
 use super::stable_points::{find_stable_end, find_stable_start};
 use crate::groups::Node;
+
+// Whether a list's start is marked, and its end.
+#[derive(Clone, Copy)]
+pub(super) struct Marks {
+    pub(super) at_start: bool,
+    pub(super) at_end: bool,
+}
 
 // The nodes of a level: those that are collapsed, between those that stay on either side.
 #[derive(Clone, Copy)]
@@ -13,6 +22,18 @@ pub(super) struct Split<'a> {
     pub(super) left: &'a [Node],
     pub(super) middle: &'a [Node],
     pub(super) right: &'a [Node],
+}
+
+impl<'a> Split<'a> {
+    // The nodes that stay on the side of an operand towards the other one.
+    pub(super) fn inner(self, operand: Operand) -> &'a [Node]
+        ensures { result.now ≡ inner_side operand self.entry.left.now self.entry.right.now }
+    {
+        match operand {
+            Operand::Front => self.right,
+            Operand::Back => self.left,
+        }
+    }
 }
 
 // Where what is collapsed begins.
@@ -42,16 +63,16 @@ fn high_end(nodes: &[Node], at_end: bool) -> Option<usize>
 }
 
 // The split of a level's nodes under marks.
-pub(super) fn find_split(nodes: &[Node], at_start: bool, at_end: bool) -> Option<Split>
-    ensures split { IfSome result (λ s. IsSplit at_start at_end nodes.now s.left.now s.middle.now s.right.now) }
-    ensures none { IfNone result ((left middle right : List Node) → ¬ (IsSplit at_start at_end nodes.now left middle right)) }
+pub(super) fn find_split(nodes: &[Node], marks: Marks) -> Option<Split>
+    ensures split { IfSome result (λ s. IsSplit marks.at_start marks.at_end nodes.now s.left.now s.middle.now s.right.now) }
+    ensures none { IfNone result ((left middle right : List Node) → ¬ (IsSplit marks.at_start marks.at_end nodes.now left middle right)) }
 {
     if nodes.len() < 2 {
         return None;
     }
-    let low = low_end(nodes, at_start)?;
+    let low = low_end(nodes, marks.at_start)?;
     let (left, rest) = nodes.split_at(low);
-    let high = high_end(rest, at_end)?;
+    let high = high_end(rest, marks.at_end)?;
     let (middle, right) = rest.split_at(high);
     Some(Split {
         left,

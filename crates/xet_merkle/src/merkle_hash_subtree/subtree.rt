@@ -9,7 +9,7 @@ ghost use Rattle.xet_merkle.specs.Steps.SubtreeEquality.{same_subtree-per, same_
 ghost use Rattle.xet_merkle.specs.WellFormed.{IsWellFormed};
 ghost use Rattle.xet_merkle.specs.Steps.Building.{IsStored};
 
-mod chunk_range;
+mod as_range;
 mod json;
 mod merging;
 
@@ -137,7 +137,8 @@ impl<A: Allocator> MerkleHashSubtree<A> {
 
     /// How many nodes are kept.
     pub fn num_nodes(&self) -> usize
-        ensures { result ≡ node_count self.now.levels }
+        ensures nodes { result ≡ node_count self.now.levels }
+        ensures well_formed { IsWellFormed self.now }
     {
         count_nodes(&self.levels).unwrap()
     }

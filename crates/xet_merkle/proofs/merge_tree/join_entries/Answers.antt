@@ -18,8 +18,8 @@ entries-init g c =
           (JoinsTo-all g.R.ChunkRange.stands g.R.ChunkRange.start g.R.ChunkRange.end g.R.ChunkRange.total ranges c.requires.marks);
     })
 
-pub unwrap-right-requires : goal.unwrap-right-requires
-unwrap-right-requires g c =
+pub unwrap-back-requires : goal.unwrap-back-requires
+unwrap-back-requires g c =
     let parts = (AreBegun-append c.pop.new.self.items ((c.in-Some.begun, c.in-Some.range) ∷ []) (length c.entries.values.items)).0
     (subst (λ l. AreBegun l (length c.entries.values.items)) c.in-Some.ensures.items c.entries.invariant.begun) in
     let few = parts.1.0 in
@@ -32,17 +32,17 @@ pub returns-in_err-join-clause-errors : goal.returns-in_err-join-clause-errors
 returns-in_err-join-clause-errors g c =
     let ranges = map (λ entry. entry.1) c.args.entries.items in
     let before = map (λ entry. entry.1) c.pop.new.self.items in
-    let right = c.unwrap-right.result in
+    let back = c.unwrap-back.result in
     let values = c.pop-in-begun.new.self.items in
-    let taken : c.begun.values.items ≡ values ++ right ∷ [] = search rules in
-    let back = ap reverse taken ∙ reverse-append values (right ∷ []) in
-    let joins : JoinsTo g.R.ChunkRange.stands g.R.ChunkRange.start g.R.ChunkRange.end g.R.ChunkRange.total ranges (before ++ c.begun.range ∷ right ∷ reverse values) =
-    subst (λ l. JoinsTo g.R.ChunkRange.stands g.R.ChunkRange.start g.R.ChunkRange.end g.R.ChunkRange.total ranges (before ++ c.begun.range ∷ l)) back c.begun.invariant.joins in
-    let marks = unmarked_at g.R.ChunkRange.stands g.R.ChunkRange.start g.R.ChunkRange.end g.R.ChunkRange.total before (reverse values) c.begun.range right joins.marks in
-    let most = total_at g.R.ChunkRange.stands g.R.ChunkRange.start g.R.ChunkRange.end g.R.ChunkRange.total before (reverse values) c.begun.range right in
+    let taken : c.begun.values.items ≡ values ++ back ∷ [] = search rules in
+    let turned = ap reverse taken ∙ reverse-append values (back ∷ []) in
+    let joins : JoinsTo g.R.ChunkRange.stands g.R.ChunkRange.start g.R.ChunkRange.end g.R.ChunkRange.total ranges (before ++ c.begun.range ∷ back ∷ reverse values) =
+    subst (λ l. JoinsTo g.R.ChunkRange.stands g.R.ChunkRange.start g.R.ChunkRange.end g.R.ChunkRange.total ranges (before ++ c.begun.range ∷ l)) turned c.begun.invariant.joins in
+    let marks = unmarked_at g.R.ChunkRange.stands g.R.ChunkRange.start g.R.ChunkRange.end g.R.ChunkRange.total before (reverse values) c.begun.range back joins.marks in
+    let most = total_at g.R.ChunkRange.stands g.R.ChunkRange.start g.R.ChunkRange.end g.R.ChunkRange.total before (reverse values) c.begun.range back in
     let sum = joins.sum in
     let fits = c.requires.fits in
-    let small : g.R.ChunkRange.total c.begun.range + g.R.ChunkRange.total right < 2 ^ 64 = omega arith in
+    let small : g.R.ChunkRange.total c.begun.range + g.R.ChunkRange.total back < 2 ^ 64 = omega arith in
     passed_on _ c.from_residual.result c.in_err-join.field-0.0 c.from_residual.ensures.1
     (for_memory marks small c.in_err-join.field-0.0 c.in_err-join.ensures.refusals)
 
@@ -50,17 +50,17 @@ pub begun-preserved : goal.begun-preserved
 begun-preserved g c =
     let ranges = map (λ entry. entry.1) c.args.entries.items in
     let before = map (λ entry. entry.1) c.pop.new.self.items in
-    let right = c.unwrap-right.result in
+    let back = c.unwrap-back.result in
     let values = c.pop-in-begun.new.self.items in
-    let taken : c.begun.values.items ≡ values ++ right ∷ [] = search rules in
-    let back = ap reverse taken ∙ reverse-append values (right ∷ []) in
-    let joins : JoinsTo g.R.ChunkRange.stands g.R.ChunkRange.start g.R.ChunkRange.end g.R.ChunkRange.total ranges (before ++ c.begun.range ∷ right ∷ reverse values) =
-    subst (λ l. JoinsTo g.R.ChunkRange.stands g.R.ChunkRange.start g.R.ChunkRange.end g.R.ChunkRange.total ranges (before ++ c.begun.range ∷ l)) back c.begun.invariant.joins in
+    let taken : c.begun.values.items ≡ values ++ back ∷ [] = search rules in
+    let turned = ap reverse taken ∙ reverse-append values (back ∷ []) in
+    let joins : JoinsTo g.R.ChunkRange.stands g.R.ChunkRange.start g.R.ChunkRange.end g.R.ChunkRange.total ranges (before ++ c.begun.range ∷ back ∷ reverse values) =
+    subst (λ l. JoinsTo g.R.ChunkRange.stands g.R.ChunkRange.start g.R.ChunkRange.end g.R.ChunkRange.total ranges (before ++ c.begun.range ∷ l)) turned c.begun.invariant.joins in
     let left = c.begun.invariant.left in
     let len = ap length taken in
     record {
-      left = omega (arith, length-append values (right ∷ []));
-      joins = JoinsTo-join g.R.ChunkRange.stands g.R.ChunkRange.start g.R.ChunkRange.end g.R.ChunkRange.total c.begun.range right c.join.new.self c.in_ok-join.ensures.start c.in_ok-join.ensures.end c.in_ok-join.ensures.total
+      left = omega (arith, length-append values (back ∷ []));
+      joins = JoinsTo-join g.R.ChunkRange.stands g.R.ChunkRange.start g.R.ChunkRange.end g.R.ChunkRange.total c.begun.range back c.join.new.self c.in_ok-join.ensures.start c.in_ok-join.ensures.end c.in_ok-join.ensures.total
           c.in_ok-join.ensures.stands ranges before (reverse values) joins;
     }
 

@@ -7,13 +7,16 @@ ghost use Rattle.xet_merkle.specs.Levels.{levels_size, node_count};
 ghost use Rattle.xet_merkle.specs.Subtree.{Subtree, IsCanonical};
 ghost use Rattle.xet_merkle.specs.Merging.{IsMerged, IsMergedBy, MergeRefusals, NoMarkBetweenSubtrees, start_mark, end_mark, ranges_size, AreCanonical};
 ghost use Rattle.xet_merkle.specs.Ranges.{Refusals};
+ghost use Rattle.xet_merkle.specs.Steps.LevelMerging.{front_of, back_of};
+ghost use Rattle.xet_merkle.specs.Steps.Building.{AreMergeable};
 ghost use Rattle.xet_merkle.specs.Steps.SubtreeMerging.{MergesTo, RefusalOf};
 
 use super::MerkleHashSubtree;
 use crate::adjacent::Passed;
 use crate::error::CoreError;
-use crate::merkle_hash_subtree::merge_before::merge_before;
+use crate::merkle_hash_subtree::levels::Operand;
 use crate::merkle_hash_subtree::merge_levels::merge_levels;
+use crate::merkle_hash_subtree::split::Marks;
 use crate::parent_maker::{ParentHashes, ParentMaker};
 use std::alloc::Allocator;
 
@@ -26,6 +29,47 @@ fn refusal<A: Allocator + Clone>(ranges: &[MerkleHashSubtree<A>]) -> Option<Core
         passed = passed.pass(range);
     }
     passed.refusal()
+}
+
+// The marks and the size of two adjacent ranges, where they can be merged.
+fn whole_of<A: Allocator>(
+    front: &MerkleHashSubtree<A>,
+    back: &MerkleHashSubtree<A>,
+) -> Result<(Marks, u64), CoreError>
+    ensures mergeable { IfOk result (λ whole. AreMergeable front.now back.now whole.0.at_start whole.0.at_end whole.1) }
+    ensures refusals { MergeRefusals front.now back.now result }
+{
+    let marks = Marks {
+        at_start: front.at_start(),
+        at_end: back.at_end(),
+    };
+    if front.at_end() || back.at_start() {
+        return Err(CoreError::InvalidArguments);
+    }
+    let Some(size) = front.total_size().checked_add(back.total_size()) else {
+        return Err(CoreError::SizeOverflow);
+    };
+    // So many nodes as pass `usize::MAX` are in no memory.
+    let Some(_nodes) = front.num_nodes().checked_add(back.num_nodes()) else {
+        return Err(CoreError::OutOfMemory);
+    };
+    Ok((marks, size))
+}
+
+// The same of a range that is the operand named, and of another.
+fn whole_with<A: Allocator>(
+    this: &MerkleHashSubtree<A>,
+    other: &MerkleHashSubtree<A>,
+    kept: Operand,
+) -> Result<(Marks, u64), CoreError>
+    ensures mergeable { IfOk result (λ whole.
+        AreMergeable (front_of kept this.now other.now) (back_of kept this.now other.now) whole.0.at_start whole.0.at_end whole.1) }
+    ensures refusals { MergeRefusals (front_of kept this.now other.now) (back_of kept this.now other.now) result }
+{
+    match kept {
+        Operand::Front => whole_of(this, other),
+        Operand::Back => whole_of(other, this),
+    }
 }
 
 impl<A: Allocator + Clone> MerkleHashSubtree<A> {
@@ -41,7 +85,7 @@ impl<A: Allocator + Clone> MerkleHashSubtree<A> {
         ensures unchanged { IfErr result (λ _. self.new ≡ self.old) }
         ensures refusals { MergeRefusals self.old other.now result }
     {
-        self.merge_into_counted(other)?;
+        let _maker = self.merge_with(other, Operand::Front, ParentHashes::new())?;
         Ok(())
     }
 
@@ -58,7 +102,8 @@ impl<A: Allocator + Clone> MerkleHashSubtree<A> {
         ensures unchanged { IfErr result (λ _. self.new ≡ self.old) }
         ensures refusals { MergeRefusals self.old other.now result }
     {
-        Ok(self.merge_into_by(other, ParentHashes::new())?.made())
+        let maker = self.merge_with(other, Operand::Front, ParentHashes::new())?;
+        Ok(maker.made())
     }
 
     /// Does what [`merge_into`](Self::merge_into) does, with each parent's hash from `maker`, which comes back with the
@@ -76,59 +121,30 @@ impl<A: Allocator + Clone> MerkleHashSubtree<A> {
         ensures unchanged { IfErr result (λ _. self.new ≡ self.old) }
         ensures refusals { MergeRefusals self.old other.now result }
     {
-        let mut maker = maker;
-        if self.at_end() || other.at_start() {
-            return Err(CoreError::InvalidArguments);
-        }
-        let Some(size) = self.total_size().checked_add(other.total_size()) else {
-            return Err(CoreError::SizeOverflow);
-        };
-        // So many nodes as pass `usize::MAX` are in no memory.
-        let Some(_nodes) = self.num_nodes().checked_add(other.num_nodes()) else {
-            return Err(CoreError::OutOfMemory);
-        };
-        let (at_start, at_end) = (self.at_start(), other.at_end());
-        merge_levels(
-            &mut self.levels,
-            other.levels(),
-            at_start,
-            at_end,
-            &mut maker,
-        )?;
-        self.at_end = at_end;
-        self.total_size = size;
-        Ok(maker)
+        self.merge_with(other, Operand::Front, maker)
     }
 
-    // Merges the subtree of the range that this one follows into it, which then has that one's start mark and its own end
-    // mark. It fails where the merge of this one into that one does.
-    pub(super) fn merge_before(&mut self, front: &Self) -> Result<(), CoreError>
-        ensures merged { IfOk result (λ _. IsMerged front.now self.old self.new) }
+    // Merges this range's subtree with that of another in place, as the operand that is named.
+    pub(super) fn merge_with<P: ParentMaker>(
+        &mut self,
+        other: &Self,
+        kept: Operand,
+        maker: P,
+    ) -> Result<P, CoreError>
+        requires { P.count maker ≡ 0 }
+        ensures merged { IfOk result (λ maker. IsMergedBy (parent_by P.hash_of) (P.count maker) (front_of kept self.old other.now) (back_of kept self.old other.now) self.new) }
+        ensures bound { IfOk result (λ maker.
+            2 * P.count maker ≤ node_count self.old.levels + node_count other.now.levels + 2 * (length self.new.levels - 1)) }
         ensures unchanged { IfErr result (λ _. self.new ≡ self.old) }
-        ensures refusals { MergeRefusals front.now self.old result }
+        ensures refusals { MergeRefusals (front_of kept self.old other.now) (back_of kept self.old other.now) result }
     {
-        if front.at_end() || self.at_start() {
-            return Err(CoreError::InvalidArguments);
-        }
-        let Some(size) = front.total_size().checked_add(self.total_size()) else {
-            return Err(CoreError::SizeOverflow);
-        };
-        // So many nodes as pass `usize::MAX` are in no memory.
-        let Some(_nodes) = front.num_nodes().checked_add(self.num_nodes()) else {
-            return Err(CoreError::OutOfMemory);
-        };
-        let (at_start, at_end) = (front.at_start(), self.at_end());
-        let mut maker = ParentHashes::new();
-        merge_before(
-            &mut self.levels,
-            front.levels(),
-            at_start,
-            at_end,
-            &mut maker,
-        )?;
-        self.at_start = at_start;
+        let mut maker = maker;
+        let (marks, size) = whole_with(self, other, kept)?;
+        merge_levels(&mut self.levels, other.levels(), kept, marks, &mut maker)?;
+        self.at_start = marks.at_start;
+        self.at_end = marks.at_end;
         self.total_size = size;
-        Ok(())
+        Ok(maker)
     }
 
     /// Merges adjacent ranges in order: the canonical subtree of the concatenated list, with the first range's

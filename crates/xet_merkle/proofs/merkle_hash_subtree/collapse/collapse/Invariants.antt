@@ -1,6 +1,7 @@
 use Rattle.std.proofs.Common.{◌≡◌, ℕ, ◌+◌, ◌++◌, ◌<◌, ◌≤◌, ◌^◌, List, length}
 use Rattle.xet_merkle.specs.Roots.{total_size, parent_by}
 use Rattle.xet_merkle.specs.Levels.{Level}
+use Rattle.xet_merkle.specs.Steps.Room.{most_made}
 use Rattle.xet_merkle.specs.Steps.Building.{StandBelow}
 use Rattle.xet_merkle.proofs.merkle_hash_subtree.collapse.collapse.Given as goal
 
@@ -10,9 +11,9 @@ invariant-collapsing g l = record {
   done : ℕ;
   added : l.levels.items ≡ l.fn.levels.items ++ below;
   count : g.P.ParentMaker.count l.maker ≡ g.P.ParentMaker.count l.fn.maker + done;
-  stand : StandBelow (parent_by g.P.ParentMaker.hash_of) l.at_start l.at_end l.fn.nodes.items below done l.nodes.items;
+  stand : StandBelow (parent_by g.P.ParentMaker.hash_of) l.marks.at_start l.marks.at_end l.fn.nodes.items below done l.nodes.items;
   fits : total_size l.nodes.items < 2 ^ 64;
-  room : g.P.ParentMaker.count l.maker + length l.nodes.items ≤ 2 ^ 99;
+  room : g.P.ParentMaker.count l.maker + length l.nodes.items ≤ most_made;
 }
 
 abbrev pub decreases-collapsing : goal.decreases-collapsing

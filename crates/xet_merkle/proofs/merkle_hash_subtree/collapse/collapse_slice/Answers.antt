@@ -24,7 +24,7 @@ returns-in_ok-pushed-in-None g c =
     let level : Level = record { left = nodes; right = [] } in (
       level ∷ [],
       0,
-      stand_whole make c.args.at_start c.args.at_end nodes [] 0 nodes (stand_start make c.args.at_start c.args.at_end nodes) c.in-None.ensures.none,
+      stand_whole make c.args.marks.at_start c.args.marks.at_end nodes [] 0 nodes (stand_start make c.args.marks.at_start c.args.marks.at_end nodes) c.in-None.ensures.none,
       c.in_ok-pushed-in-None.ensures ∙ ap (λ (l : Level). c.args.levels.items ++ l ∷ []) c.in_ok-copied-in-None.ensures,
       omega arith,
     )
@@ -39,7 +39,7 @@ returns-in_ok-collapse-in-Some g c =
     let made = collapsed.4 in (
       level ∷ collapsed.0,
       _,
-      stand_more make c.args.at_start c.args.at_end nodes [] 0 nodes _ _ _ _ (stand_start make c.args.at_start c.args.at_end nodes)
+      stand_more make c.args.marks.at_start c.args.marks.at_end nodes [] 0 nodes _ _ _ _ (stand_start make c.args.marks.at_start c.args.marks.at_end nodes)
           c.in-Some.ensures.split c.in_ok-levels-in-Some.ensures.parents collapsed.0 collapsed.1 collapsed.2,
       collapsed.3 ∙ ap (λ (l : List Level). l ++ collapsed.0) c.in_ok-levels-in-Some.ensures.levels
           ∙ append_assoc c.args.levels.items (level ∷ []) collapsed.0,

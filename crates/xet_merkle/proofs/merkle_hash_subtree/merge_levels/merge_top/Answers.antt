@@ -1,87 +1,85 @@
-use Rattle.std.proofs.Common.{◌≡◌, ◌+◌, ◌<◌, ◌≤◌, List, [], ◌++◌, length, ap, subst, sym, ◌∙◌, arith, rules}
-use Rattle.std.proofs.lemmas.List.{length-drop}
-use Rattle.xet_merkle.specs.Groups.{Node}
+use Rattle.std.proofs.Common.{◌≡◌, ℕ, ◌+◌, ◌<◌, ◌≤◌, ◌⊎◌, List, [], ◌∷◌, ◌++◌, length, drop, sym, ap, subst, ◌∙◌, inl, inr, arith, rules}
+use Rattle.std.proofs.lemmas.Bool.{false≢true}
 use Rattle.xet_merkle.specs.Roots.{parent_by}
-use Rattle.xet_merkle.specs.Levels.{Level, node_count, levels_size}
-use Rattle.xet_merkle.specs.Canonical.{IsCanonicalBy}
-use Rattle.xet_merkle.specs.Steps.LevelMerging.{operand, above, between, IsLowBefore}
-use Rattle.xet_merkle.specs.Steps.Building.{MergeBelow}
-use Rattle.xet_merkle.proofs.Levels.Reading.{operand-one, operand-above, operand-length, operand-more}
-use Rattle.xet_merkle.proofs.Roots.Making.{total_size-are_parents, AreParents-few}
-use Rattle.xet_merkle.proofs.Merging.Bounds.{step_room}
-use Rattle.xet_merkle.proofs.Merging.LevelByLevel.{split_before, step_size, merge_step, merge_all}
+use Rattle.xet_merkle.specs.Levels.{Level}
+use Rattle.xet_merkle.specs.Steps.LevelMerging.{operand, Sight, sight_up, IsSightMerge}
+use Rattle.xet_merkle.specs.Steps.Building.{MergeBelow, CanMerge}
+use Rattle.xet_merkle.proofs.Levels.Reading.{up-short, up-shorter}
+use Rattle.xet_merkle.proofs.Merging.LevelByLevel.{middle_fits, can_merge_above, seen_fits, seen_room, merge_step, merge_all}
 use Rattle.xet_merkle.proofs.merkle_hash_subtree.merge_levels.merge_top.Goals as goal
+use Rattle.xet_merkle.proofs.merkle_hash_subtree.merge_levels.merge_top.Goals.{then-is_collapsed, else-is_collapsed+then-is_collapsed-2}
+
+shorter : (front back : List Level) → 0 < length front → 0 < length back → (1 < length front) ⊎ (1 < length back) →
+    length (operand (drop 1 front)) + length (operand (drop 1 back)) < length front + length back
+shorter front back some_front some_back (inl more) =
+    let less = up-shorter front more in
+    let short = up-short back some_back in
+    omega arith
+shorter front back some_front some_back (inr more) =
+    let less = up-shorter back more in
+    let short = up-short front some_front in
+    omega arith
 
 pub collapse_middle-requires-clause-fits : goal.collapse_middle-requires-clause-fits
-collapse_middle-requires-clause-fits g c =
-    let front = operand c.levels.front.now in
-    let back = operand c.levels.back.now in
-    let one = operand-one c.levels.front.now c.levels.invariant.one in
-    let more : 1 < length c.levels.back.now = search rules in
-    let parts : c.deref-in-levels.result.now ≡ c.split_at.result.0.now ++ c.split_at.result.1.now = search rules in
-    let low : IsLowBefore c.args.at_start c.split_at.result.0.now c.split_at.result.1.now = search rules in
-    let split = split_before c.args.at_start c.args.at_end c.levels.front.now c.levels.back.now c.levels.carry.items _ _ _ c.levels.invariant.one more
-    (c.deref-in-levels.ensures.value ∙ c.in_ok-seen.ensures ∙ ap (λ (carry : List Node). between front carry back) c.deref.ensures.value) parts low (c.right_at-right.ensures) in
-    let size = step_size c.args.at_start c.args.at_end c.levels.carry.items split in
-    let small = c.levels.invariant.fits in
-    omega arith
+collapse_middle-requires-clause-fits g c = middle_fits g.P.ParentMaker.hash_of _ _ c.levels.invariant.can_merge c.split.ensures
 
 pub levels-smaller : goal.levels-smaller
 levels-smaller g c =
-    let len = ap length c.above-back.ensures in
-    let more : 1 < length c.levels.back.now = search rules in
-    omega (arith, length-drop 1 c.levels.back.now)
+    let sight = c.levels.sight in
+    let can = c.levels.invariant.can_merge in
+    let above : (1 < length sight.front) ⊎ (1 < length sight.back) = elim c.if-is_collapsed.branch [
+      | then-is_collapsed w ↦ inl (search rules)
+      | else-is_collapsed+then-is_collapsed-2 w ↦ inr (search rules)
+    ] in
+    let less = shorter sight.front sight.back can.some_front can.some_back above in
+    let front_is = ap (λ (s : Sight). length s.front) c.above-sight.ensures in
+    let back_is = ap (λ (s : Sight). length s.back) c.above-sight.ensures in
+    omega arith
 
 pub levels-preserved : goal.levels-preserved
 levels-preserved g c =
+    let count = g.P.ParentMaker.count in
     let make = parent_by g.P.ParentMaker.hash_of in
-    let front = operand c.levels.front.now in
-    let back = operand c.levels.back.now in
-    let carry = c.levels.carry.items in
-    let middle = c.split_at.result.1.now in
-    let parents = c.in_ok-levels.field-0-1.items in
-    let one = operand-one c.levels.front.now c.levels.invariant.one in
-    let more : 1 < length c.levels.back.now = search rules in
-    let parts : c.deref-in-levels.result.now ≡ c.split_at.result.0.now ++ c.split_at.result.1.now = search rules in
-    let low : IsLowBefore c.args.at_start c.split_at.result.0.now c.split_at.result.1.now = search rules in
-    let split = split_before c.args.at_start c.args.at_end c.levels.front.now c.levels.back.now carry _ _ _ c.levels.invariant.one more
-    (c.deref-in-levels.ensures.value ∙ c.in_ok-seen.ensures ∙ ap (λ (carried : List Node). between front carried back) c.deref.ensures.value) parts low (c.right_at-right.ensures) in
-    let size = step_size c.args.at_start c.args.at_end carry split in
-    let made = c.in_ok-levels.ensures.parents in
-    let made_size = total_size-are_parents g.P.ParentMaker.hash_of middle parents made in
-    let few = AreParents-few make middle parents made in
-    let enough = step_room make c.args.at_start c.args.at_end carry parents split few in
-    let count = c.in_ok-levels.ensures.count in
-    let small = c.levels.invariant.fits in
-    let before = c.levels.invariant.room in
-    let h = c.levels.invariant.merges in
-    let done_is = h.2 in
-    let back_is : above back ≡ operand c.above-back.result.now = sym (operand-above c.levels.back.now) ∙ ap operand (sym c.above-back.ensures) in
-    let above_is : above front ≡ operand [] = ap above one.1 in
-    let next = merge_step make c.args.at_start c.args.at_end (operand c.args.top.now) (operand c.args.back.now) c.args.carry.items c.levels.levels.items h.0 front back carry _ middle _ parents h.1 split made in
+    let whole = c.args.sight in
+    let sight = c.levels.sight in
+    let levels : List Level = c.levels.levels.items in
+    let level : Level = record { left = c.split.result.left.now; right = c.split.result.right.now } in
+    let done = c.levels.invariant.done in
+    let can = c.levels.invariant.can_merge in
+    let parents = c.in_ok-more.parents.items in
+    let made = c.in_ok-more.ensures.parents in
+    let above : c.above-sight.result ≡ sight_up 1 sight parents = c.above-sight.ensures in
+    let made_is : count c.levels.maker + length parents ≡ count c.collapse_middle.new.maker = sym c.in_ok-more.ensures.count in
+    let before = c.levels.invariant.count in
+    let next = merge_step make whole levels done sight c.levels.invariant.merges can.some_front can.some_back parents c.split.ensures made in
     record {
-      one = omega arith;
-      merges = (h.0 + length parents, rw (c.in_ok-levels.ensures.levels, sym above_is, sym back_is) next, omega arith);
-      fits = rw (sym back_is) (let size_above = ap levels_size above_is in omega arith);
-      room = rw (sym back_is, count) (let count_above = ap node_count above_is in let len_above = ap length above_is in omega arith);
+      done = done + length parents;
+      merges = subst (λ (s : Sight). MergeBelow make whole c.in_ok-more.more.items (done + length parents) s) (sym above)
+          (subst (λ (l : List Level). MergeBelow make whole l (done + length parents) (sight_up 1 sight parents)) (sym c.in_ok-more.ensures.levels) next);
+      count = omega arith;
+      can_merge = subst (λ (s : Sight). CanMerge (count c.collapse_middle.new.maker) s) (sym above)
+          (subst (λ (n : ℕ). CanMerge n (sight_up 1 sight parents)) made_is (can_merge_above g.P.ParentMaker.hash_of (count c.levels.maker) sight can c.split.ensures parents made));
     }
+
+pub collapse-requires-clause-fits : goal.collapse-requires-clause-fits
+collapse-requires-clause-fits g c = seen_fits _ c.levels.sight c.levels.invariant.can_merge
+
+pub collapse-requires-clause-room : goal.collapse-requires-clause-room
+collapse-requires-clause-room g c = seen_room _ c.levels.sight c.levels.invariant.can_merge
 
 pub returns : goal.returns
 returns g c =
     let make = parent_by g.P.ParentMaker.hash_of in
-    let back = operand c.levels.back.now in
-    let one = operand-one c.levels.front.now c.levels.invariant.one in
-    let few : length c.levels.back.now ≤ 1 = search rules in
-    let one_back : ¬ (1 < length back) = λ more. let long = operand-more c.levels.back.now more in omega arith in
-    let top = c.in_ok-collapse_in_sight.ensures in
-    let seen = ap (λ (carry : List Node). between (operand c.levels.front.now) carry back) c.deref-2.ensures.value ∙ ap (λ (xs : List Level). between xs c.levels.carry.items back) one.1 in
-    let canonical = subst (λ (nodes : List Node). IsCanonicalBy make c.args.at_start c.args.at_end nodes top.0 top.1) seen top.2 in
-    let h = c.levels.invariant.merges in
-    let below = subst (λ (xs : List Level). MergeBelow make c.args.at_start c.args.at_end (operand c.args.top.now) c.args.carry.items (operand c.args.back.now) c.levels.levels.items h.0 xs c.levels.carry.items back) one.1 h.1 in
-    let count = h.2 in
+    let sight = c.levels.sight in
+    let can = c.levels.invariant.can_merge in
+    let done = c.levels.invariant.done in
+    let one_front : ¬ (1 < length sight.front) = λ more. false≢true (sym c.if-is_collapsed.false ∙ c.is_collapsed.ensures.1 more) in
+    let one_back : ¬ (1 < length sight.back) = λ more. false≢true (sym c.if-is_collapsed-2.false ∙ c.is_collapsed-else-is_collapsed.ensures.1 more) in
+    let top = c.in_ok-collapse.ensures in
+    let before = c.levels.invariant.count in
     let made = top.4 in (
-      h.0 + top.1,
-      rw top.3 (merge_all make c.args.at_start c.args.at_end (operand c.args.top.now) (operand c.args.back.now) c.args.carry.items c.levels.levels.items h.0 one.0 back c.levels.carry.items
-          (operand-length c.levels.back.now) one_back below top.0 top.1 canonical),
+      done + top.1,
+      subst (λ (l : List Level). IsSightMerge make c.args.sight l (done + top.1)) (sym top.3)
+          (merge_all make c.args.sight c.levels.levels.items done sight c.levels.invariant.merges can.some_front can.some_back one_front one_back top.0 top.1 top.2),
       omega arith,
     )

@@ -8,6 +8,8 @@ use super::MerkleHashSubtree;
 use crate::chunk_range::ChunkRange;
 use crate::error::CoreError;
 use crate::groups::Node;
+use crate::merkle_hash_subtree::levels::Operand;
+use crate::parent_maker::ParentHashes;
 use std::alloc::Allocator;
 use xet_hash::data_hash::MerkleHash;
 
@@ -48,7 +50,8 @@ impl<A: Allocator + Clone> ChunkRange for MerkleHashSubtree<A> {
     }
 
     fn prepend(&mut self, front: Self) -> Result<(), CoreError> {
-        self.merge_before(&front)
+        let _maker = self.merge_with(&front, Operand::Back, ParentHashes::new())?;
+        Ok(())
     }
 
     fn num_nodes(&self) -> usize {

@@ -1,0 +1,226 @@
+//! What the operands of a merge have in sight of each other at a level.
+
+ghost use Rattle.std.specs.Prelude.{◌≡◌, ℕ, ◌+◌, ◌^◌, ◌<◌, ◌≤◌, ◌⊎◌, ◌↔◌, List, [], ◌++◌, length, take, drop, IfOk, IsTrue, false};
+ghost use Rattle.xet_merkle.specs.Roots.{total_size, parent_by};
+ghost use Rattle.xet_merkle.specs.Levels.{Level, left_at};
+ghost use Rattle.xet_merkle.specs.Canonical.{IsCanonicalBy};
+ghost use Rattle.xet_merkle.specs.Steps.StableScan.{AddsNoStable, AddsNoStableBefore};
+ghost use Rattle.xet_merkle.specs.Steps.LevelMerging.{operand, inner_nodes, IsHighAfter, IsLowBefore, seen, sight_up, IsSightSplit, sight_of, levels_of, OnlyExtends};
+ghost use Rattle.xet_merkle.specs.Steps.Room.{most_made};
+
+use super::collapse::{collapse, collapse_slice};
+use super::levels::{LevelNodes, Operand, inner, left_at, levels_from, right_at};
+use super::split::{Marks, Split};
+use super::stable_points::{adds_no_stable, adds_no_stable_before, find_stable_start, last_stable};
+use crate::groups::Node;
+use crate::parent_maker::ParentMaker;
+use std::alloc::{AllocError, Allocator};
+use std::marker::Model;
+
+// What two operands have in sight of each other at a level.
+#[derive(Drop)]
+pub(super) struct InSight<'a, A: Allocator> {
+    // Their levels from that one up.
+    front: &'a [LevelNodes<A>],
+    // The parents that were made one level below.
+    carry: Vec<Node, A>,
+    back: &'a [LevelNodes<A>],
+    // The marks of the concatenated list.
+    marks: Marks,
+}
+
+impl<'a, A: Allocator> Model for InSight<'a, A> {
+    ghost use Rattle.xet_merkle.specs.Steps.LevelMerging.{operand, Sight};
+
+    ghost Value = { Sight };
+
+    ghost view = { λ sight. record {
+      front = operand sight.front.now;
+      carry = sight.carry.items;
+      back = operand sight.back.now;
+      at_start = sight.marks.at_start;
+      at_end = sight.marks.at_end;
+    } };
+}
+
+// How many nodes are collapsed of those after collapsed ones, the last of which is a natural cut.
+fn high_end_after(nodes: &[Node], at_end: bool) -> usize
+    ensures bound { result ≤ length nodes.now }
+    ensures high { IsHighAfter at_end (take result nodes.now) (drop result nodes.now) }
+{
+    if at_end {
+        nodes.len()
+    } else {
+        last_stable(nodes, true).unwrap_or(0)
+    }
+}
+
+// How many nodes stay on the left of those before collapsed ones.
+fn low_end_before(nodes: &[Node], at_start: bool) -> usize
+    ensures bound { result ≤ length nodes.now }
+    ensures low { IsLowBefore at_start (take result nodes.now) (drop result nodes.now) }
+{
+    if at_start {
+        0
+    } else {
+        find_stable_start(nodes).unwrap_or(nodes.len())
+    }
+}
+
+impl<'a, A: Allocator> InSight<'a, A> {
+    // What is in sight of the levels of an operand and of the other one's.
+    pub(super) fn new(
+        kept: Operand,
+        levels: &'a [LevelNodes<A>],
+        other: &'a [LevelNodes<A>],
+        carry: Vec<Node, A>,
+        marks: Marks,
+    ) -> Self
+        ensures { result ≡ sight_up 0 (sight_of kept marks.at_start marks.at_end levels.now [] other.now) carry.items }
+    {
+        match kept {
+            Operand::Front => InSight {
+                front: levels,
+                carry,
+                back: other,
+                marks,
+            },
+            Operand::Back => InSight {
+                front: other,
+                carry,
+                back: levels,
+                marks,
+            },
+        }
+    }
+
+    // The nodes carried.
+    pub(super) fn into_carry(self) -> Vec<Node, A>
+        ensures { result.items ≡ self.entry.carry }
+    {
+        self.carry
+    }
+
+    // What is in sight one level up, where these parents were made.
+    pub(super) fn above(self, parents: Vec<Node, A>) -> Self
+        ensures { result ≡ sight_up 1 self.entry parents.items }
+    {
+        InSight {
+            front: levels_from(self.front, 1),
+            carry: parents,
+            back: levels_from(self.back, 1),
+            marks: self.marks,
+        }
+    }
+
+    // Whether an operand has levels above.
+    pub(super) fn is_collapsed(&self, operand: Operand) -> bool
+        ensures { IsTrue result ↔ (1 < length (levels_of operand self.now)) }
+    {
+        match operand {
+            Operand::Front => self.front.len() > 1,
+            Operand::Back => self.back.len() > 1,
+        }
+    }
+
+    // Of the nodes in sight, what is collapsed, and what stays on either side. An operand that has levels above keeps its
+    // outer side.
+    pub(super) fn split<'s>(&'s self, nodes: &'s [Node]) -> Split<'s>
+        requires above { (1 < length self.now.front) ⊎ (1 < length self.now.back) }
+        requires nodes { nodes.now ≡ seen self.now }
+        ensures { IsSightSplit self.now result.left.now result.middle.now result.right.now }
+    {
+        if self.front.len() < 2 {
+            let (left, middle) = nodes.split_at(low_end_before(nodes, self.marks.at_start));
+            Split {
+                left,
+                middle,
+                right: right_at(self.back, 0),
+            }
+        } else if self.back.len() < 2 {
+            let (middle, right) = nodes.split_at(high_end_after(nodes, self.marks.at_end));
+            Split {
+                left: left_at(self.front, 0),
+                middle,
+                right,
+            }
+        } else {
+            Split {
+                left: left_at(self.front, 0),
+                middle: nodes,
+                right: right_at(self.back, 0),
+            }
+        }
+    }
+
+    // Whether the nodes carried, and those of the back operand, only go after what the front operand has of its level.
+    fn only_appends(&self) -> bool
+        ensures { IsTrue result → OnlyExtends Operand.Front self.now }
+    {
+        !self.marks.at_end
+            && self.back.len() <= 1
+            && adds_no_stable(inner(self.front), &self.carry, left_at(self.back, 0))
+    }
+
+    // Whether the nodes of the front operand, and those carried, only go before what the back operand has of its level.
+    fn only_prepends(&self) -> bool
+        ensures { IsTrue result → OnlyExtends Operand.Back self.now }
+    {
+        !self.marks.at_start
+            && self.front.len() <= 1
+            && adds_no_stable_before(inner(self.front), &self.carry, left_at(self.back, 0))
+    }
+
+    // Whether what is in sight only extends an operand's level, so that nothing is collapsed from here on: the other one's
+    // outer end isn't marked, that one has no levels above, and no stable point comes up.
+    pub(super) fn only_extends(&self, operand: Operand) -> bool
+        ensures { IsTrue result → OnlyExtends operand self.now }
+    {
+        match operand {
+            Operand::Front => self.only_appends(),
+            Operand::Back => self.only_prepends(),
+        }
+    }
+
+    // Whether no node is in sight but the front operand's.
+    fn is_front_alone(&self) -> bool
+        ensures { IsTrue result → seen self.now ≡ inner_nodes self.now.front }
+    {
+        self.carry.is_empty() && left_at(self.back, 0).is_empty()
+    }
+}
+
+impl<'a, A: Allocator + Clone> InSight<'a, A> {
+    // The nodes in sight.
+    pub(super) fn nodes(&self) -> Result<Vec<Node, A>, AllocError>
+        ensures { IfOk result (λ nodes. nodes.items ≡ seen self.now) }
+    {
+        let (first, last) = (inner(self.front), left_at(self.back, 0));
+        let alloc = self.carry.allocator().clone()?;
+        let mut nodes = Vec::with_capacity(alloc, first.len() + self.carry.len() + last.len())?;
+        nodes.extend_from_slice(first)?;
+        nodes.extend_from_slice(&self.carry)?;
+        nodes.extend_from_slice(last)?;
+        Ok(nodes)
+    }
+
+    // Levels with those of the canonical subtree of the nodes in sight on top. Where these are the front operand's alone,
+    // only those that stay are copied.
+    pub(super) fn collapse<P: ParentMaker>(
+        &self,
+        levels: Vec<LevelNodes<A>, A>,
+        maker: &mut P,
+    ) -> Result<Vec<LevelNodes<A>, A>, AllocError>
+        requires fits { total_size (seen self.now) < 2 ^ 64 }
+        requires room { P.count maker.old + length (seen self.now) ≤ most_made }
+        ensures { IfOk result (λ all. (top : List Level) × (work : ℕ)
+            × IsCanonicalBy (parent_by P.hash_of) self.now.at_start self.now.at_end (seen self.now) top work
+            × (all.items ≡ levels.items ++ top) × (P.count maker.new ≡ P.count maker.old + work)) }
+    {
+        let alloc = self.carry.allocator().clone()?;
+        if self.is_front_alone() {
+            return Ok(collapse_slice(alloc, levels, inner(self.front), self.marks, maker)?);
+        }
+        Ok(collapse(alloc, levels, self.nodes()?, self.marks, maker)?)
+    }
+}
