@@ -335,8 +335,8 @@ export class InvalidJson extends YurewhaError {
 /** The object was freed. */
 export class EmptyHandle extends YurewhaError {}
 
-/** The module trapped, in this call or an earlier one. Its instance is never called again: `load()` another. There is no input
- * that is known to bring this about. */
+/** The module trapped, in this call or an earlier one. Its instance is never called again: `load()` another. No input is known to
+ * bring this about, but a call with hardly any stack left may. */
 export class Trapped extends YurewhaError {}
 
 /** What a refusal of a session is, but for `OutOfMemory`. */
