@@ -42,7 +42,7 @@ fn line_of(call: Call) -> &'static str {
 }
 
 // The status of a fault, and the line that it names.
-#[derive(Clone, Copy, Debug, PartialEq, Eq)]
+#[derive(Clone, Copy, PartialEq)]
 struct End {
     status: u8,
     line: Option<u64>,
@@ -91,16 +91,16 @@ fn end_of_call<R: Read, W: Write>(alloc: Global, call: Call, r: &mut R, w: &mut 
 
 // How the calls of a device go. Each is for at most so many bytes, and is interrupted so often before it is done. The call
 // of one number, from 1, goes otherwise so often before: it fails, or nothing is given or taken.
-#[derive(Clone, Copy, Debug)]
-struct Manner {
-    most: usize,
+#[derive(Clone, Copy)]
+pub(crate) struct Manner {
+    pub(crate) most: usize,
     interruptions: usize,
     odd_call: usize,
     odd_times: usize,
     odd_kind: Option<ErrorKind>,
 }
 
-const EVEN: Manner = Manner {
+pub(crate) const EVEN: Manner = Manner {
     most: 20,
     interruptions: 0,
     odd_call: 0,
@@ -116,6 +116,15 @@ const SLOW: Manner = Manner {
     odd_kind: None,
 };
 
+// Each call fails.
+pub(crate) const FAILING: Manner = Manner {
+    most: 0,
+    interruptions: 0,
+    odd_call: 1,
+    odd_times: usize::MAX,
+    odd_kind: Some(ErrorKind::Other),
+};
+
 fn odd(odd_call: usize, odd_times: usize, odd_kind: Option<ErrorKind>) -> Manner {
     Manner {
         most: 20,
@@ -128,9 +137,9 @@ fn odd(odd_call: usize, odd_times: usize, odd_kind: Option<ErrorKind>) -> Manner
 
 // A device, the number of its calls, and of those that were done; and how often the open one went wrong.
 #[derive(Clone, Copy)]
-struct Device {
+pub(crate) struct Device {
     manner: Manner,
-    calls: usize,
+    pub(crate) calls: usize,
     done: usize,
     wrong: usize,
 }
@@ -173,10 +182,20 @@ impl Device {
 
 // A reader of a text, and the most bytes that it was asked for.
 #[derive(Drop)]
-struct Input<'a> {
+pub(crate) struct Input<'a> {
     text: &'a [u8],
     device: Device,
     largest: usize,
+}
+
+impl<'a> Input<'a> {
+    pub(crate) fn new(text: &'a [u8], manner: Manner) -> Self {
+        Input {
+            text,
+            device: Device::new(manner),
+            largest: 0,
+        }
+    }
 }
 
 impl Read for Input<'_> {
@@ -193,10 +212,21 @@ impl Read for Input<'_> {
 
 // A writer that keeps what it takes.
 #[derive(Drop)]
-struct Output {
-    bytes: Vec<u8>,
-    device: Device,
+pub(crate) struct Output {
+    pub(crate) bytes: Vec<u8>,
+    pub(crate) device: Device,
     flush: Device,
+}
+
+impl Output {
+    // With the manners of the writes and of the flush.
+    pub(crate) fn new(alloc: Global, writes: Manner, flush: Manner) -> Self {
+        Output {
+            bytes: Vec::new(alloc),
+            device: Device::new(writes),
+            flush: Device::new(flush),
+        }
+    }
 }
 
 impl Write for Output {
@@ -213,7 +243,7 @@ impl Write for Output {
 }
 
 // How the reads, the writes and the flush of a run go.
-#[derive(Clone, Copy, Debug)]
+#[derive(Clone, Copy)]
 struct Manners {
     read: Manner,
     write: Manner,
@@ -243,16 +273,8 @@ struct Outcome {
 }
 
 fn outcome_of(alloc: Global, call: Call, text: &[u8], manners: Manners) -> Outcome {
-    let mut r = Input {
-        text,
-        device: Device::new(manners.read),
-        largest: 0,
-    };
-    let mut w = Output {
-        bytes: Vec::new(alloc),
-        device: Device::new(manners.write),
-        flush: Device::new(manners.flush),
-    };
+    let mut r = Input::new(text, manners.read);
+    let mut w = Output::new(alloc, manners.write, manners.flush);
     let end = end_of_call(alloc, call, &mut r, &mut w);
     let Output {
         bytes,

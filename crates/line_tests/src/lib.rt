@@ -1,12 +1,9 @@
-//! Tests of `upload_session`, `xetroot_text` and `xetrange_text`: what sessions, `xetroot` and `xetrange` answer, devices that
-//! fail, and how many requests for memory lists make.
+//! Tests of `xetroot_text` and `xetrange_text`: what `xetroot` and `xetrange` answer, devices that fail, and how many requests
+//! for memory lists make.
 #![tactic(auto)]
 
 #[cfg(test)]
 mod devices;
-#[cfg(test)]
-mod kept_hashes;
-pub mod laws;
 #[cfg(test)]
 mod lines;
 #[cfg(test)]
@@ -16,4 +13,4 @@ mod programs;
 #[cfg(test)]
 mod ranges;
 #[cfg(test)]
-mod sessions;
+mod session_names;

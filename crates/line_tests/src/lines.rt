@@ -4,9 +4,7 @@ use std::alloc::Global;
 use std::io::{Read, Write};
 use std::ops::Range;
 use std::test::Fail;
-use test_support::texts::{
-    ABC, H1, H2, H3, NO_PAIR, THREE_PAIRS, lines_of_row, two_fields, with_hashes,
-};
+use test_support::texts::{ABC, H1, NO_PAIR, THREE_PAIRS, lines_of_row, two_fields, with_hashes};
 use xet_hash::data_hash::DataHash;
 use xet_merkle::plain_range::PlainRange;
 use xetroot_text::fault::Fault;
@@ -28,7 +26,7 @@ file 284ea045e5a579e99c21ec597c20de1fc0c09e7168162aac00db8f61b3d82dbb
 ";
 
 // The kind of range that a run keeps.
-#[derive(Clone, Copy, Debug)]
+#[derive(Clone, Copy)]
 enum Kind {
     Subtree,
     Plain,
@@ -130,24 +128,35 @@ fn position_lines_place_the_pairs_after_them(rt: HostRuntime) -> Result<(), Fail
     are_answered(rt.alloc(), POSITIONS)
 }
 
+// Three pairs with a separator, or two, at each place where one may stand.
+const SEPARATED: &str = "h1 100;h2 200;h3 300;|three pairs
+h1 100;h2 200;h3 300;--;|three pairs
+h1 100;h2 200;h3 300;--;--|three pairs
+h1 100;h2 200;--;h3 300;|three pairs
+h1 100;h2 200;--;h3 300;--;|three pairs
+h1 100;h2 200;--;h3 300;--;--|three pairs
+h1 100;--;h2 200;h3 300;|three pairs
+h1 100;--;h2 200;h3 300;--;|three pairs
+h1 100;--;h2 200;h3 300;--;--|three pairs
+h1 100;--;h2 200;--;h3 300;|three pairs
+h1 100;--;h2 200;--;h3 300;--;|three pairs
+h1 100;--;h2 200;--;h3 300;--;--|three pairs
+--;h1 100;h2 200;h3 300;|three pairs
+--;h1 100;h2 200;h3 300;--;|three pairs
+--;h1 100;h2 200;h3 300;--;--|three pairs
+--;h1 100;h2 200;--;h3 300;|three pairs
+--;h1 100;h2 200;--;h3 300;--;|three pairs
+--;h1 100;h2 200;--;h3 300;--;--|three pairs
+--;h1 100;--;h2 200;h3 300;|three pairs
+--;h1 100;--;h2 200;h3 300;--;|three pairs
+--;h1 100;--;h2 200;h3 300;--;--|three pairs
+--;h1 100;--;h2 200;--;h3 300;|three pairs
+--;h1 100;--;h2 200;--;h3 300;--;|three pairs
+--;h1 100;--;h2 200;--;h3 300;--;--|three pairs";
+
 #[test]
 fn separators_change_nothing(rt: HostRuntime) -> Result<(), Fail> {
-    for first in ["", "--\n"] {
-        for second in ["", "--\n"] {
-            for third in ["", "--\n"] {
-                for last in ["", "--\n", "--\n--"] {
-                    let input = format!(in rt.alloc();
-                        "{first}{H1} 100\n{second}{H2} 200\n{third}{H3} 300\n{last}"
-                    )?;
-                    assert!(rt;
-                        answers(rt.alloc(), input.as_bytes(), THREE_PAIRS)?,
-                        "{input}"
-                    );
-                }
-            }
-        }
-    }
-    Ok(())
+    are_answered(rt.alloc(), SEPARATED)
 }
 
 // Of 20,000 pairs of size 1, whose hashes have the words i, 0, 0 and i modulo 4.
@@ -247,17 +256,26 @@ fn prints(alloc: Global, fault: Fault, status: u8, end: &str) -> Result<bool, Fa
 
 #[test]
 fn faults_print_their_status_and_line(rt: HostRuntime) -> Result<(), Fail> {
-    let alloc = rt.alloc();
     for line in LINES {
-        let end = format!(in alloc; " at line {line}")?;
-        let are_right = prints(alloc, Fault::BadLine(line), 1, end.as_str())?
-            && prints(alloc, Fault::Sizes(line), 2, end.as_str())?
-            && prints(alloc, Fault::Overlap(line), 6, end.as_str())?;
-        assert!(rt; are_right, "{line}");
+        let end = format!(in rt.alloc(); " at line {line}")?;
+        for (fault, status) in [
+            (Fault::BadLine(line), 1),
+            (Fault::Sizes(line), 2),
+            (Fault::Overlap(line), 6),
+        ] {
+            assert!(rt;
+                prints(rt.alloc(), fault, status, end.as_str())?,
+                "{line} {status}"
+            );
+        }
     }
-    assert!(rt; prints(alloc, Fault::Memory, 3, "")?);
-    assert!(rt; prints(alloc, Fault::Read, 4, "")?);
-    assert!(rt; prints(alloc, Fault::Write, 5, "")?);
-    assert!(rt; prints(alloc, Fault::Gap, 7, "")?);
+    for (fault, status) in [
+        (Fault::Memory, 3),
+        (Fault::Read, 4),
+        (Fault::Write, 5),
+        (Fault::Gap, 7),
+    ] {
+        assert!(rt; prints(rt.alloc(), fault, status, "")?, "{status}");
+    }
     Ok(())
 }

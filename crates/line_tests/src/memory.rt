@@ -1,4 +1,4 @@
-//! The lists in which pairs are kept before they are joined, told by the requests for memory.
+//! The lists in which pairs are kept before they are merged, told by the requests for memory.
 
 use refusing_allocator::RefusingAllocator;
 use std::alloc::Global;
@@ -47,7 +47,7 @@ fn pairs(alloc: Global, count: u64) -> Result<String, Fail> {
 #[test]
 fn a_list_has_4096_pairs(rt: HostRuntime) -> Result<(), Fail> {
     let (full, more) = (pairs(rt.alloc(), 4096)?, pairs(rt.alloc(), 4097)?);
-    // The requests by which a list grows to 4096 pairs and they are joined. One pair more ends the list, which takes more
+    // The requests by which a list grows to 4096 pairs and they are merged. One pair more ends the list, which takes more
     // than the one request that growth would.
     for (call, requests) in [
         (Call::Run, 25),

@@ -1,11 +1,12 @@
 //! Runs of both programs over arguments and devices: the status, and the text on each stream.
 
+use super::devices::{EVEN, FAILING, Input, Manner, Output};
 use line_io::request::print_line;
 use refusing_allocator::RefusingAllocator;
 use std::alloc::Global;
 use std::env::Args;
 use std::fmt;
-use std::io::{self, ErrorKind, Read, Write};
+use std::io::{self, ErrorKind};
 use std::test::Fail;
 use test_support::texts::{four_fields, with_hashes};
 
@@ -86,44 +87,6 @@ join root --help
 root root root root
 -h -h -h";
 
-// A reader of a text that gives it or fails.
-#[derive(Drop)]
-struct Input<'a> {
-    text: &'a [u8],
-    fails: bool,
-}
-
-impl Read for Input<'_> {
-    fn read(&mut self, buf: &mut [u8]) -> io::Result<usize> {
-        if self.fails {
-            return Err(io::Error::from(ErrorKind::Other));
-        }
-        self.text.read(buf)
-    }
-}
-
-// A writer that keeps what it is given or fails, and counts the writes.
-#[derive(Drop)]
-struct Output {
-    bytes: Vec<u8>,
-    writes: usize,
-    fails: bool,
-}
-
-impl Write for Output {
-    fn write(&mut self, buf: &[u8]) -> io::Result<usize> {
-        if self.fails {
-            return Err(io::Error::from(ErrorKind::Other));
-        }
-        self.writes = self.writes.saturating_add(1);
-        self.bytes.write(buf)
-    }
-
-    fn flush(&mut self) -> io::Result<()> {
-        Ok(())
-    }
-}
-
 // What the runtime answers of the words of a command.
 fn arguments(alloc: Global, command: &str, failing: &str) -> Result<io::Result<Args>, Fail> {
     if failing == "list of arguments" {
@@ -139,26 +102,19 @@ fn arguments(alloc: Global, command: &str, failing: &str) -> Result<io::Result<A
     Ok(Ok(words.into_iter()))
 }
 
+fn manner(is_failing: bool) -> Manner {
+    if is_failing { FAILING } else { EVEN }
+}
+
 // The status of a run, and what it wrote to standard output and standard error, as a row of `RUNS` has them.
 fn outcome(alloc: Global, command: &str, failing: &str, input: &str) -> Result<String, Fail> {
     let granted = if failing == "memory" { 0 } else { u32::MAX };
     let refusing: RefusingAllocator<Global> = RefusingAllocator::new(alloc, granted);
     let args = arguments(alloc, command, failing)?;
     let text = input.replace(alloc, ";", "\n")?;
-    let mut r = Input {
-        text: text.as_bytes(),
-        fails: failing == "input",
-    };
-    let mut w = Output {
-        bytes: Vec::new(alloc),
-        writes: 0,
-        fails: failing == "output",
-    };
-    let mut errors = Output {
-        bytes: Vec::new(alloc),
-        writes: 0,
-        fails: failing == "errors",
-    };
+    let mut r = Input::new(text.as_bytes(), manner(failing == "input"));
+    let mut w = Output::new(alloc, manner(failing == "output"), EVEN);
+    let mut errors = Output::new(alloc, manner(failing == "errors"), EVEN);
     let status = if command.starts_with("xetroot") {
         xetroot_text::program::program(&refusing, args, &mut r, &mut w, &mut errors)
     } else {
@@ -249,11 +205,9 @@ const LINES: [(usize, usize, bool); 9] = [
 #[test]
 fn a_line_is_printed_whole_however_long(rt: HostRuntime) -> Result<(), Fail> {
     for (front, back, is_one_write) in LINES {
-        let mut printed = Output {
-            bytes: Vec::new(rt.alloc()),
-            writes: 0,
-            fails: false,
-        };
+        let mut whole = EVEN;
+        whole.most = usize::MAX;
+        let mut printed = Output::new(rt.alloc(), whole, EVEN);
         print_line(&mut printed, TwoPieces::new(rt.alloc(), front, back)?);
         let text = TwoPieces::new(rt.alloc(), front, back)?;
         let expected = format!(in rt.alloc(); "{text}\n")?;
@@ -261,7 +215,10 @@ fn a_line_is_printed_whole_however_long(rt: HostRuntime) -> Result<(), Fail> {
             printed.bytes.as_slice() == expected.as_bytes(),
             "{front} {back}"
         );
-        assert!(rt; printed.writes == 1 || !is_one_write, "{front} {back}");
+        assert!(rt;
+            printed.device.calls == 1 || !is_one_write,
+            "{front} {back}"
+        );
     }
     Ok(())
 }

@@ -5,13 +5,14 @@ use std::alloc::{Allocator, Global};
 use std::io::{Read, Write};
 use std::test::Fail;
 use test_support::texts::{NO_CHUNK, NO_PAIR, THREE_PAIRS, lines_of_row, two_fields, with_hashes};
+use test_support::trees::BRACKETINGS;
 use xet_hash::data_hash::DataHash;
 use xetrange_text::fault::RangeFault;
 use xetrange_text::join::{join, root};
 use xetrange_text::make::make;
 use xetroot_text::run::run;
 
-#[derive(Clone, Copy, Debug)]
+#[derive(Clone, Copy)]
 enum Command {
     Make,
     Join,
@@ -74,11 +75,16 @@ fn no_input_is_the_empty_range(rt: HostRuntime) -> Result<(), Fail> {
     Ok(())
 }
 
-// The root of two pieces, each made, and joined where `joins` says so.
-fn root_of_pieces(alloc: Global, front: &[u8], back: &[u8], joins: bool) -> Result<String, Fail> {
+// The root of two pieces, each made, and merged by `join` before where `is_merged` says so.
+fn root_of_pieces(
+    alloc: Global,
+    front: &[u8],
+    back: &[u8],
+    is_merged: bool,
+) -> Result<String, Fail> {
     let mut input = output_of(alloc, Command::Make, front)?;
     input.push_str(output_of(alloc, Command::Make, back)?.as_str())?;
-    if joins {
+    if is_merged {
         input = output_of(alloc, Command::Join, input.as_bytes())?;
     }
     output_of(alloc, Command::Root, input.as_bytes())
@@ -94,9 +100,9 @@ fn agrees_at_each_cut(alloc: Global, text: &[u8]) -> Result<bool, Fail> {
         let Some((front, back)) = text.split_at_checked(i.saturating_add(1)) else {
             return Ok(false);
         };
-        for joins in [false, true] {
+        for is_merged in [false, true] {
             if *byte == b'\n'
-                && root_of_pieces(alloc, front, back, joins)?.as_bytes() != output.as_slice()
+                && root_of_pieces(alloc, front, back, is_merged)?.as_bytes() != output.as_slice()
             {
                 return Ok(false);
             }
@@ -138,17 +144,27 @@ fn fourth_cuts(alloc: Global, first: u64, count: u64) -> Result<String, Fail> {
     Ok(lines)
 }
 
-// What a command writes to the lines of two ranges.
-fn of_two(alloc: Global, command: Command, front: &String, back: &String) -> Result<String, Fail> {
-    output_of(
-        alloc,
-        command,
-        format!(in alloc; "{front}{back}")?.as_bytes(),
-    )
+// The lines that are left where ranges are merged by a bracketing: a point stands for the line of the next range, and a plus
+// for what `join` makes of the last two.
+fn merged(alloc: Global, bracketing: &str, ranges: &[String]) -> Result<String, Fail> {
+    let mut next = ranges.iter();
+    let mut lines: Vec<String> = Vec::new(alloc);
+    for step in bracketing.bytes() {
+        let line = if step == b'.' {
+            next.next().ok_or("no range is left")?.clone()?
+        } else {
+            let back = lines.pop().ok_or("no range to merge")?;
+            let mut two = lines.pop().ok_or("no range before it")?;
+            two.push_str(&back)?;
+            output_of(alloc, Command::Join, two.as_bytes())?
+        };
+        lines.push(line)?;
+    }
+    Ok(lines.concat(alloc)?)
 }
 
 #[test]
-fn ranges_on_which_the_rust_goes_wrong_are_joined_under_all_bracketings(
+fn ranges_on_which_the_rust_goes_wrong_are_merged_under_all_bracketings(
     rt: HostRuntime,
 ) -> Result<(), Fail> {
     let alloc = rt.alloc();
@@ -156,26 +172,21 @@ fn ranges_on_which_the_rust_goes_wrong_are_joined_under_all_bracketings(
     let (mut reader, mut want) = (whole.as_bytes(), Vec::new(alloc));
     assert!(rt; run(alloc, &mut reader, &mut want).is_ok());
     assert!(rt; want.starts_with(b"xorb b1026a80"));
-    let a = output_of(alloc, Command::Make, fourth_cuts(alloc, 0, 4)?.as_bytes())?;
-    let b = output_of(alloc, Command::Make, fourth_cuts(alloc, 4, 20)?.as_bytes())?;
-    let c = output_of(alloc, Command::Make, fourth_cuts(alloc, 24, 4)?.as_bytes())?;
-    let d = output_of(alloc, Command::Make, b"")?;
-    let ab = of_two(alloc, Command::Join, &a, &b)?;
-    let bc = of_two(alloc, Command::Join, &b, &c)?;
-    let cd = of_two(alloc, Command::Join, &c, &d)?;
-    let ab_c = of_two(alloc, Command::Join, &ab, &c)?;
-    let a_bc = of_two(alloc, Command::Join, &a, &bc)?;
-    let bc_d = of_two(alloc, Command::Join, &bc, &d)?;
-    let b_cd = of_two(alloc, Command::Join, &b, &cd)?;
-    for (front, back) in [
-        (&ab_c, &d),
-        (&a_bc, &d),
-        (&ab, &cd),
-        (&a, &bc_d),
-        (&a, &b_cd),
-    ] {
-        let output = of_two(alloc, Command::Root, front, back)?;
-        assert!(rt; output.as_bytes() == want.as_slice());
+    let mut ranges = Vec::new(alloc);
+    for (first, count) in [(0, 4), (4, 20), (24, 4), (28, 0)] {
+        let pairs = fourth_cuts(alloc, first, count)?;
+        ranges.push(output_of(alloc, Command::Make, pairs.as_bytes())?)?;
+    }
+    for (bracketing, _) in BRACKETINGS {
+        // `root` merges the last two itself where `join` leaves them.
+        for steps in [
+            bracketing,
+            bracketing.strip_suffix('+').unwrap_or(bracketing),
+        ] {
+            let lines = merged(alloc, steps, &ranges)?;
+            let output = output_of(alloc, Command::Root, lines.as_bytes())?;
+            assert!(rt; output.as_bytes() == want.as_slice(), "{steps}");
+        }
     }
     Ok(())
 }
@@ -282,7 +293,7 @@ fn the_range_of_many_pairs_has_their_root(rt: HostRuntime) -> Result<(), Fail> {
 }
 
 #[test]
-fn many_ranges_are_joined(rt: HostRuntime) -> Result<(), Fail> {
+fn many_ranges_are_merged(rt: HostRuntime) -> Result<(), Fail> {
     let mut ranges = String::new(rt.alloc());
     for _ in 0..20_000 {
         writeln!(ranges, "{NO_CHUNK}")?;
@@ -301,15 +312,25 @@ fn prints(alloc: Global, fault: RangeFault, status: u8, end: &str) -> Result<boo
 #[test]
 fn faults_print_their_status_line_and_rule(rt: HostRuntime) -> Result<(), Fail> {
     let alloc = rt.alloc();
-    assert!(rt; prints(alloc, RangeFault::Memory, 3, "")?);
-    assert!(rt; prints(alloc, RangeFault::Read, 4, "")?);
-    assert!(rt; prints(alloc, RangeFault::Write, 5, "")?);
+    for (fault, status) in [
+        (RangeFault::Memory, 3),
+        (RangeFault::Read, 4),
+        (RangeFault::Write, 5),
+    ] {
+        assert!(rt; prints(alloc, fault, status, "")?, "{status}");
+    }
     for line in LINES {
         let end = format!(in alloc; " at line {line}")?;
-        let are_right = prints(alloc, RangeFault::BadLine(line), 1, end.as_str())?
-            && prints(alloc, RangeFault::Sizes(line), 2, end.as_str())?
-            && prints(alloc, RangeFault::BadRange(line, None), 8, end.as_str())?;
-        assert!(rt; are_right, "{line}");
+        for (fault, status) in [
+            (RangeFault::BadLine(line), 1),
+            (RangeFault::Sizes(line), 2),
+            (RangeFault::BadRange(line, None), 8),
+        ] {
+            assert!(rt;
+                prints(alloc, fault, status, end.as_str())?,
+                "{line} {status}"
+            );
+        }
         for rule in 1..=13 {
             let end = format!(in alloc; " at line {line}: rule {rule}")?;
             let fault = RangeFault::BadRange(line, Some(rule));

@@ -1,3 +1,5 @@
+//! What is kept of the hashes of chunks.
+
 use std::test::Fail;
 use upload_session::kept_hashes::{KeptHashes, NoHashes, SeenHashes};
 use xet_hash::data_hash::MerkleHash;

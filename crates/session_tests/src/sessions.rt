@@ -1,7 +1,5 @@
 //! Sessions that show what no contract says: worked examples with the answers of other implementations, and printed texts.
 
-mod drawn;
-
 use std::alloc::Global;
 use std::fmt::Display;
 use std::test::Fail;
@@ -116,18 +114,6 @@ fn chunks_are_put_in_any_order(rt: HostRuntime) -> Result<(), Fail> {
     let file = [first, second, third, first, third];
     assert!(rt; session.finish(5) == Ok(file_hash(alloc, &file)?));
     Ok(())
-}
-
-#[test]
-fn the_program_passes_on_the_session(rt: HostRuntime) {
-    let mut session: xetroot_text::session::Session = SessionOf::new(rt.alloc());
-    assert!(rt; session.put(0, &[node(1, 100)]) == Ok(1));
-    let refused = xetroot_text::session_fault::SessionFault::Overlap;
-    assert!(rt; session.put(0, &[node(1, 100)]) == Err(refused));
-    let mut of_roots: SessionOf<PlainRange, xetroot_text::kept_hashes::NoHashes> = SessionOf::new(
-        rt.alloc(),
-    );
-    assert!(rt; of_roots.put(0, &[node(1, 100)]) == Ok(0));
 }
 
 // Whether a range of a session is the subtree of some chunks, from a position on.

@@ -1,5 +1,6 @@
-//! A law of two programs together: what `xetrange` answers to ranges that were made apart is what `xetroot` answers to the
-//! whole. It does nothing: its contract is the law, proved of the laws of their libraries alone.
+//! The law of the programs `xetroot` and `xetrange` together: what `xetrange` answers to ranges that were made apart is what
+//! `xetroot` answers to the whole. It is made of the laws of their libraries, which don't use each other.
+#![tactic(auto)]
 
 ghost use Rattle.std.specs.Prelude.{◌≡◌, ◌≤◌, ℕ, List, flat_map, length};
 ghost use Rattle.line_io.specs.Lines.{byte_limit, lines_of};
@@ -11,7 +12,8 @@ use xetrange_text::laws::however_it_was_cut;
 use xetroot_text::laws::texts_without_positions_keep_their_answers;
 
 /// However the lines of a text are cut into pieces, what `root` answers to the ranges that `make` answers to the pieces, some
-/// adjacent ones joined before or none, is the answer of `xetroot` to the text.
+/// adjacent ones merged before or none, is the answer of `xetroot` to the text. The function does nothing: its contract is
+/// the law.
 pub fn root_of_ranges_is_the_answer_of_xetroot()
     ensures { (text output input : List ℕ) (pieces : List (List ℕ)) → lines_of text ≡ flat_map lines_of pieces →
         length text ≤ byte_limit → InputOf pieces input → IsRootOf input output → IsAnswer text output }

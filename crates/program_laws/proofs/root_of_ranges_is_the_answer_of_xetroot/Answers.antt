@@ -1,4 +1,4 @@
-use Rattle.line_tests.proofs.laws.root_of_ranges_is_the_answer_of_xetroot.Goals as goal
+use Rattle.program_laws.proofs.root_of_ranges_is_the_answer_of_xetroot.Goals as goal
 
 pub returns : goal.returns
 returns c = λ text output input pieces cut within inputs answer.
