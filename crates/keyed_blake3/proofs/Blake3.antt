@@ -5,5 +5,4 @@ pub mod Finishing
 pub mod Lanes
 pub mod Merging
 pub mod Rows
-pub mod Subtrees
 pub mod Waiting

@@ -1,5 +1,5 @@
-// The compression function (BLAKE3 specification, 2.2) on `LANES` blocks side by side: lane j of each vector belongs to
-// block j.
+// The compression function (BLAKE3 specification, 2.2) on a block of each of `LANES` chunks, side by side: lane j of
+// each vector belongs to chunk j.
 
 ghost use Rattle.std.specs.Prelude.{◌≡◌, ℕ, ◌+◌, ◌/◌, ◌%◌, ◌^◌, ◌<◌, ◌≤◌, length, slice_index};
 ghost use Rattle.keyed_blake3.specs.Blake3.{compress, first_state, folded, half_mix, mix, permuted, round};
@@ -8,11 +8,11 @@ ghost use Rattle.keyed_blake3.specs.Steps.Lanes.{AreFull, lane};
 use crate::compression::{INITIALIZATION_VECTOR, rotated};
 use std::simd::prelude::*;
 
-// How many blocks are compressed side by side: the words that a vector register holds. The proofs hold for 8, too,
+// How many chunks are compressed side by side: the words that a vector register holds. The proofs hold for 8, too,
 // with which a build for x86-64-v3 is faster.
 pub(crate) const LANES: usize = 4;
 
-// One word of each block.
+// One word of each chunk.
 pub(crate) type Lanes = Simd<u32, LANES>;
 
 // Half of G on the places a, b, c, d of each state: a message word of each, and two rotations.
@@ -81,9 +81,9 @@ fn permuted(m: &[Lanes; 16]) -> [Lanes; 16]
     ]
 }
 
-// The halves of numbers that follow on `first`, one for each lane.
+// The halves of the chunks' numbers, of which `first` is the first.
 #[inline(always)]
-pub(crate) fn counters(first: u64) -> (Lanes, Lanes)
+fn counters(first: u64) -> (Lanes, Lanes)
     requires { first + LANES ≤ 2 ^ 64 }
     ensures full { (length result.0 ≡ LANES) × (length result.1 ≡ LANES) }
     ensures lanes { (j : ℕ) → j < LANES → (slice_index result.0 j ≡ (first + j) % 2 ^ 32)
@@ -101,15 +101,15 @@ pub(crate) fn counters(first: u64) -> (Lanes, Lanes)
 
 // The states at first.
 #[inline(always)]
-fn first_state(h: &[Lanes; 8], counters: (Lanes, Lanes), block_len: u32, flags: u32) -> [Lanes; 16]
-    requires counters { (length counters.0 ≡ LANES) × (length counters.1 ≡ LANES) }
+fn first_state(h: &[Lanes; 8], first: u64, block_len: u32, flags: u32) -> [Lanes; 16]
+    requires counter { first + LANES ≤ 2 ^ 64 }
     requires full { AreFull h.now }
     ensures full { AreFull result }
-    ensures lanes { (j n : ℕ) → j < LANES → slice_index counters.0 j ≡ n % 2 ^ 32
-        → slice_index counters.1 j ≡ n / 2 ^ 32 → lane j result ≡ first_state (lane j h.now) n block_len flags }
+    ensures lanes { (j : ℕ) → j < LANES
+        → lane j result ≡ first_state (lane j h.now) (first + j) block_len flags }
 {
     let [iv0, iv1, iv2, iv3] = INITIALIZATION_VECTOR;
-    let (low, high) = counters;
+    let (low, high) = counters(first);
     [
         h[0],
         h[1],
@@ -149,22 +149,17 @@ fn folded(v: &[Lanes; 16]) -> [Lanes; 8]
     ]
 }
 
-// The compression of blocks of 64 bytes, from the chaining values `h`. `counters` has the halves of each one's counter.
+// The compression of a block of 64 bytes of each chunk, from the chaining values `h`; the first chunk has number
+// `first`.
 #[inline(always)]
-pub(crate) fn compress_each(
-    h: &[Lanes; 8],
-    m: &[Lanes; 16],
-    counters: (Lanes, Lanes),
-    flags: u32,
-) -> [Lanes; 8]
-    requires counters { (length counters.0 ≡ LANES) × (length counters.1 ≡ LANES) }
+pub(crate) fn compress_each(h: &[Lanes; 8], m: &[Lanes; 16], first: u64, flags: u32) -> [Lanes; 8]
+    requires counter { first + LANES ≤ 2 ^ 64 }
     requires full { AreFull h.now }
     ensures full { AreFull result }
-    ensures lanes { (j n : ℕ) → j < LANES → slice_index counters.0 j ≡ n % 2 ^ 32
-        → slice_index counters.1 j ≡ n / 2 ^ 32
-        → lane j result ≡ compress (lane j h.now) (lane j m.now) n 64 flags }
+    ensures lanes { (j : ℕ) → j < LANES
+        → lane j result ≡ compress (lane j h.now) (lane j m.now) (first + j) 64 flags }
 {
-    let mut v = first_state(h, counters, 64, flags);
+    let mut v = first_state(h, first, 64, flags);
     round(&mut v, m);
     let m = permuted(m);
     round(&mut v, &m);
