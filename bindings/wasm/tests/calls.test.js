@@ -7,6 +7,7 @@ import { test } from "node:test";
 import { fileURLToPath } from "node:url";
 import * as errors from "../yurewha/index.js";
 import { STATUS, errorOf } from "../yurewha/errors.js";
+import { AREA } from "../yurewha/library.js";
 import { BYTES, ROOT, chunksOf, loadAll } from "./support.js";
 
 const MAX = 2n ** 64n - 1n;
@@ -157,6 +158,10 @@ test("chunks are packed once, and sliced as arrays are", () => {
     const plain = (them) => Array.from(them, ([hash, size]) => [hash.hex(), BigInt(size)]);
     assert.equal(chunks.length, 10);
     assert.equal(y.Chunks.from(chunks), chunks);
+    const raw = chunks.bytes;
+    const copied = new y.Chunks(raw);
+    raw.fill(0);
+    assert.deepEqual(copied.bytes, chunks.bytes);
     assert.deepEqual(plain(chunks), plain(pairs));
     assert.deepEqual(new y.Chunks(chunks.bytes).bytes, chunks.bytes);
     for (const [start, end] of [[], [3], [3, 7], [-3], [0, -2], [7, 3], [20], [-20, 4], [2.5, 4.5]]) {
@@ -170,7 +175,11 @@ test("chunks are packed once, and sliced as arrays are", () => {
 
 test("long messages and lists go through every module alike", () => {
     const data = bytesOf(3_000_001);
-    const hashes = all.map(([, it]) => [it.dataHash(data), it.internalNodeHash(data), new it.Hasher().update(data).digest()].map(String));
+    const hashes = all.map(([, it]) => {
+        const pieces = new it.Hasher();
+        for (let at = 0; at < data.length; at += 100_000) pieces.update(data.subarray(at, at + 100_000));
+        return [it.dataHash(data), it.internalNodeHash(data), new it.Hasher().update(data).digest(), pieces.digest()].map(String);
+    });
     const roots = all.map(([, it]) => {
         const chunks = it.Chunks.from(chunksOf(it, { drawn: { firstSeed: "9", count: 60_000 } }));
         const [front, back] = [it.Subtree.fromChunks(true, chunks.slice(0, 31_000), false), it.Subtree.fromChunks(false, chunks.slice(31_000), true)];
@@ -180,13 +189,15 @@ test("long messages and lists go through every module alike", () => {
     });
     for (const found of hashes) assert.deepEqual(found, hashes[0]);
     for (const found of roots) assert.deepEqual(found, roots[0]);
-    assert.equal(hashes[0][0], hashes[0][2]);
+    assert.deepEqual([hashes[0][2], hashes[0][3]], [hashes[0][0], hashes[0][0]]);
 });
 
-test("the model gives the same hash of a message of 40 KiB and 1 byte", () => {
-    const model = "import sys; sys.path.insert(0, 'model'); import xet_model as m; print(m.to_hex(m.compute_data_hash(bytes(k % 251 for k in range(40961)))))";
+test("the model gives the same hash of a message that goes to the module in two pieces", () => {
+    const length = AREA / 2 + 1025;
+    const model = `import sys; sys.path.insert(0, "model"); import xet_model as m
+print(m.to_hex(m.compute_data_hash(bytes(k % 251 for k in range(${length})))))`;
     const said = execFileSync("python3", ["-c", model], { cwd: fileURLToPath(ROOT), encoding: "utf8" }).trim();
-    assert.equal(y.dataHash(Uint8Array.from({ length: 40961 }, (_, k) => k % 251)).hex(), said);
+    assert.equal(y.dataHash(Uint8Array.from({ length }, (_, k) => k % 251)).hex(), said);
 });
 
 test("a hasher goes on after it was asked, and its copies are apart", () => {

@@ -44,8 +44,7 @@ export function makeChunks({ Hash, rawOf }) {
 
         slice(start = 0, end = this.length) {
             const sliced = new Chunks();
-            const whole = (place) => Math.trunc(place < 0 ? Math.max(0, this.length + place) : place);
-            sliced.#packed = this.#packed.slice(CHUNK_LENGTH * whole(start), CHUNK_LENGTH * whole(end));
+            sliced.#packed = this.#packed.slice(CHUNK_LENGTH * Math.trunc(start), CHUNK_LENGTH * Math.trunc(end));
             return sliced;
         }
 
