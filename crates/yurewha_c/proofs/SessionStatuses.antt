@@ -1,5 +1,5 @@
 -- What the status of a session's refusal tells of the fault.
-use Rattle.std.specs.Prelude.{Option, Some, None, Result, Err, IsErrOf}
+use Rattle.std.specs.Prelude.{Some, Result, Err, IsErrOf}
 use Rattle.std.proofs.Common.{arith, ◌≡◌, ℕ, ◌⊎◌, ◌↔◌, List, [], ◌∷◌, length, refl, sym, ap, ◌∙◌, inl, inr}
 use Rattle.upload_session.specs.declared.session_fault.SessionFault.{SessionFault}
 use Rattle.upload_session.specs.declared.session_fault.SessionFault.TheVariants.{Overlap, Positions, Sizes, Memory, Gap}
@@ -62,15 +62,6 @@ done_status kept total whole = record {
   whole = λ _. whole;
   on_empty = (λ e. absurd (omega (arith, e)), λ e. cc);
   statuses = inl refl;
-}
-
--- all chunks are asked for, and there is no session
-pub empty_status : (total : ℕ) → IsWholeStatus None total 6
-empty_status total = record {
-  on_gap = tt;
-  whole = λ e. absurd (omega (arith, e));
-  on_empty = (λ _. refl, λ _. refl);
-  statuses = inr (inl refl);
 }
 
 pub no_nodes : (chunks : List Chunk) → length chunks ≡ 0 → nodes_of chunks ≡ []

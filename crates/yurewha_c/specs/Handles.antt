@@ -1,7 +1,7 @@
 -- What handles own, and what calls that only read them answer.
-use Rattle.std.specs.Prelude.{◌≡◌, ℕ, Option, Some, None, List, map}
+use Rattle.std.specs.Prelude.{◌≡◌, ◌⊎◌, ◌↔◌, ℕ, Option, Some, None, List, map}
 use Rattle.xet_merkle.specs.Subtree.{Subtree}
-use Rattle.yurewha_c.specs.Statuses.{done, empty_handle}
+use Rattle.yurewha_c.specs.Statuses.{done, memory, empty_handle}
 use Rattle.yurewha_c.specs.declared.subtree_handle.SubtreeHandle.{SubtreeHandle}
 
 -- both own something, of which this holds
@@ -24,6 +24,11 @@ abbrev pub ReadsBoth : {A B : Type 0} → Option A → Option B → ℕ → Type
 ReadsBoth None other status unwritten P = (status ≡ empty_handle) × unwritten
 ReadsBoth (Some a) None status unwritten P = (status ≡ empty_handle) × unwritten
 ReadsBoth (Some a) (Some b) status unwritten P = (status ≡ done) × P a b
+
+-- the status of a call that copies what a handle owns
+pub record IsCopyStatus {A : Type 0} (value : Option A) (status : ℕ) : Type 0 where
+  pub on_empty : (status ≡ empty_handle) ↔ (value ≡ None)
+  pub statuses : (status ≡ done) ⊎ ((status ≡ empty_handle) ⊎ (status ≡ memory))
 
 -- what each handle owns
 abbrev pub values_of : List SubtreeHandle → List (Option Subtree)

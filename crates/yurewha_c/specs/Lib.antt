@@ -4,6 +4,8 @@ pub mod Roots
 pub mod Hashers
 pub mod Order
 pub mod FlatLists
+pub mod Pieces
+pub mod Texts
 pub mod Rows
 pub mod Owned
 pub mod Handles

@@ -5,7 +5,7 @@ ghost use Rattle.xet_merkle.specs.Roots.{IsRoot, IsFileHash, total_size};
 ghost use Rattle.upload_session.specs.Hashes.{Hash as HashWords, hashes_of, AreNew};
 ghost use Rattle.upload_session.specs.Session.{Placed, place, chunks_of, is_taken, overlaps, IsWhole};
 ghost use Rattle.yurewha_c.specs.Chunks.{nodes_of};
-ghost use Rattle.yurewha_c.specs.Handles.{BothHold, Reads};
+ghost use Rattle.yurewha_c.specs.Handles.{BothHold, IsCopyStatus, Reads};
 ghost use Rattle.yurewha_c.specs.Sessions.{IsWholeStatus, Stands};
 
 use crate::chunks::{Chunk, nodes_of};
@@ -206,6 +206,32 @@ pub extern "C" fn yurewha_session_finish(
             DONE
         }
         Err(fault) => status_of_fault(fault),
+    }
+}
+
+/// Puts a copy of a session into another handle. It stands for the same chunks, and knows the same hashes.
+///
+/// Status `DONE`; `EMPTY_HANDLE` where `session` is empty; `MEMORY` where an allocation is refused. `copy` is as it was where
+/// it isn't `DONE`; else what it owned is freed.
+#[unsafe(no_mangle)]
+pub extern "C" fn yurewha_session_copy(
+    alloc: Global,
+    session: &mut SessionHandle,
+    copy: &mut SessionHandle,
+) -> u32
+    ensures copy { result ≡ DONE → copy.new.value ≡ session.old.value }
+    ensures status { IsCopyStatus session.old.value result }
+    ensures kept { session.new.value ≡ session.old.value }
+    ensures unchanged { result ≢ DONE → copy.new.value ≡ copy.old.value }
+{
+    let Some(kept) = session.take(alloc) else {
+        return EMPTY_HANDLE;
+    };
+    let made = kept.session.try_clone();
+    session.put(kept);
+    match made {
+        Ok(made) => copy.hold(alloc, KeptSession { session: made }),
+        Err(_) => MEMORY,
     }
 }
 

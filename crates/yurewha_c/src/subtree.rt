@@ -6,7 +6,7 @@ ghost use Rattle.xet_merkle.specs.Roots.{total_size, IsRoot};
 ghost use Rattle.xet_merkle.specs.Groups.{Node};
 ghost use Rattle.xet_merkle.specs.Subtree.{IsCanonical};
 ghost use Rattle.yurewha_c.specs.Chunks.{nodes_of};
-ghost use Rattle.yurewha_c.specs.Handles.{Reads, ReadsBoth};
+ghost use Rattle.yurewha_c.specs.Handles.{IsCopyStatus, Reads, ReadsBoth};
 
 use crate::chunks::{Chunk, nodes_of, sizes_fit};
 use crate::hash::Hash;
@@ -59,8 +59,7 @@ pub extern "C" fn yurewha_subtree_clone(
     copy: &mut SubtreeHandle,
 ) -> u32
     ensures copy { result ≡ DONE → copy.new.value ≡ subtree.old.value }
-    ensures empty { (result ≡ EMPTY_HANDLE) ↔ (subtree.old.value ≡ None) }
-    ensures statuses { (result ≡ DONE) ⊎ ((result ≡ EMPTY_HANDLE) ⊎ (result ≡ MEMORY)) }
+    ensures status { IsCopyStatus subtree.old.value result }
     ensures kept { subtree.new.value ≡ subtree.old.value }
     ensures unchanged { result ≢ DONE → copy.new.value ≡ copy.old.value }
 {
