@@ -61,6 +61,13 @@ void hashes(Checks &check)
     yurewha_data_hash(bytes, message.size(), &data);
     yurewha_internal_node_hash(bytes, message.size(), &internal);
     check(!same(data, internal), "the keys differ");
+    const std::array<std::size_t, 3> offsets = {0, 1, 3};
+    std::array<yurewha_hash, 2> both{};
+    check(yurewha_data_hashes(bytes, message.size(), offsets.data(), offsets.size(), both.data(), both.size()) == YUREWHA_DONE,
+          "data_hashes");
+    yurewha_data_hash(bytes + 1, 2, &data);
+    check(same(data, both[1]), "the hash of a piece");
+    yurewha_data_hash(bytes, message.size(), &data);
     yurewha_random_from_seed(1, &drawn);
     yurewha_hmac(&drawn, &data, &keyed);
     check(!same(drawn, keyed), "hmac");
@@ -70,8 +77,10 @@ void hashes(Checks &check)
     std::uint64_t remainder = 9;
     check(yurewha_remainder(&drawn, 4, &remainder) == YUREWHA_DONE && remainder < 4, "remainder");
 
-    std::array<char, YUREWHA_HEX_LENGTH> text{};
+    std::array<char, 80> text{};
     std::size_t length = 0;
+    check(yurewha_version(text.data(), text.size(), &length) == YUREWHA_DONE, "version");
+    check(std::string(text.data(), length) == YUREWHA_VERSION, "its text");
     check(yurewha_hex(&drawn, text.data(), text.size(), &length) == YUREWHA_DONE, "hex");
     check(std::string(text.data(), length) == "cfc5d07f6f03c29bbf424132963fe08d19a37d5757aaf520bf08119f05cd56d6", "its text");
     check(yurewha_from_hex(text.data(), length, &back) == YUREWHA_DONE && same(drawn, back), "from_hex");
@@ -156,6 +165,8 @@ void trees(Checks &check)
     check(yurewha_session_taken(&session, 27, &taken) == YUREWHA_DONE && taken, "taken");
     check(yurewha_session_num_runs(&session, &runs) == YUREWHA_DONE && runs == 1, "num_runs");
     check(yurewha_session_run(&session, 0, &fresh, &parts[3]) == YUREWHA_DONE && fresh == 0, "run");
+    Session copy;
+    check(yurewha_session_copy(&session, &copy) == YUREWHA_DONE, "copy");
     check(yurewha_session_root(&session, 28, &told) == YUREWHA_DONE && same(told, root), "root");
     check(yurewha_session_finish(&session, 28, &told) == YUREWHA_DONE && same(told, file), "finish");
 }

@@ -114,6 +114,13 @@ static yurewha_status run(struct handles h, struct room *r)
 {
     return yurewha_session_run(h.session, 0, &r->number, h.other);
 }
+static yurewha_status copy(struct handles h, struct room *r)
+{
+    yurewha_session made = {0};
+    const yurewha_status status = yurewha_session_copy(h.session, &made);
+    EXPECT(made.at == NULL);
+    return (void)r, status;
+}
 static yurewha_status root(struct handles h, struct room *r) { return yurewha_session_root(h.session, 0, &r->hash); }
 static yurewha_status finish(struct handles h, struct room *r) { return yurewha_session_finish(h.session, 0, &r->hash); }
 
@@ -142,6 +149,7 @@ static const struct {
     {"taken", taken},
     {"num_runs", num_runs},
     {"run", run},
+    {"copy", copy},
     {"root", root},
     {"finish", finish},
 };

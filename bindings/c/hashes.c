@@ -25,6 +25,44 @@ static void data(void)
     }
 }
 
+/* Many messages in one buffer: each has the hash that it has alone. Offsets that don't fit are refused, and nothing is
+ * written. */
+static void many(void)
+{
+    static const struct {
+        size_t offsets[4], offset_count, count;
+        yurewha_status status;
+    } rows[] = {
+        {{0, 3, 3, 100}, 4, 3, YUREWHA_DONE},
+        {{0, 100}, 2, 1, YUREWHA_DONE},
+        {{7, 8, 9}, 3, 2, YUREWHA_DONE},
+        {{100}, 1, 0, YUREWHA_DONE},
+        {{100, 100}, 2, 1, YUREWHA_DONE},
+        {{0}, 0, 0, YUREWHA_ARGUMENTS},
+        {{0, 3, 100}, 3, 3, YUREWHA_ARGUMENTS},
+        {{0, 3, 100}, 3, 1, YUREWHA_ARGUMENTS},
+        {{0, 3, 2}, 3, 2, YUREWHA_ARGUMENTS},
+        {{1, 0}, 2, 1, YUREWHA_ARGUMENTS},
+        {{0, 101}, 2, 1, YUREWHA_ARGUMENTS},
+        {{101}, 1, 0, YUREWHA_ARGUMENTS},
+        {{0, SIZE_MAX, 100}, 3, 2, YUREWHA_ARGUMENTS},
+    };
+    uint8_t *bytes = message_of(100);
+    for (size_t i = 0; i < LENGTH(rows); i++) {
+        const yurewha_hash before = {{1, 2, 3, 4}};
+        yurewha_hash hashes[4] = {before, before, before, before}, alone;
+        row("pieces %zu", i);
+        EXPECT_STATUS(rows[i].status, yurewha_data_hashes(bytes, 100, rows[i].offsets, rows[i].offset_count, hashes, rows[i].count));
+        for (size_t j = 0; j < LENGTH(hashes); j++) {
+            alone = before;
+            if (rows[i].status == YUREWHA_DONE && j < rows[i].count)
+                yurewha_data_hash(bytes + rows[i].offsets[j], rows[i].offsets[j + 1] - rows[i].offsets[j], &alone);
+            EXPECT(same_hash(&hashes[j], &alone));
+        }
+    }
+    free(bytes);
+}
+
 static void seeds(void)
 {
     for (size_t i = 0; i < LENGTH(seed_rows); i++) {
@@ -234,6 +272,7 @@ void test_short_messages(void) { messages_of_64_kib(1024); }
 void test_hashes(void)
 {
     data();
+    many();
     seeds();
     texts();
     order();

@@ -338,6 +338,7 @@ static yurewha_status no_run(struct world *w)
 {
     return yurewha_session_run(&w->session, runs_of(w), &w->room.number, &w->owned);
 }
+static yurewha_status copy_session(struct world *w) { return yurewha_session_copy(&w->session, &w->none); }
 static yurewha_status gap(struct world *w) { return yurewha_session_root(&w->session, 45, &w->room.hash); }
 
 /* Sessions without a gap. */
@@ -439,6 +440,7 @@ static const struct scenario {
     {"put past 64 bits", put_past, YUREWHA_SESSION_SIZES, YUREWHA_SESSION_MEMORY, false},
     {"run", run, YUREWHA_DONE, YUREWHA_MEMORY, false},
     {"run that isn't there", no_run, YUREWHA_ARGUMENTS, YUREWHA_ARGUMENTS, false},
+    {"copy of a session", copy_session, YUREWHA_DONE, YUREWHA_MEMORY, false},
     {"root", root, YUREWHA_DONE, YUREWHA_SESSION_MEMORY, true},
     {"root over a gap", gap, YUREWHA_SESSION_GAP, YUREWHA_SESSION_GAP, false},
     {"finish", finish, YUREWHA_DONE, YUREWHA_SESSION_MEMORY, true},

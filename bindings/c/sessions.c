@@ -55,6 +55,26 @@ static void run(yurewha_session *session, const struct call *it)
     yurewha_subtree_free(&wanted);
 }
 
+/* A copy is as the session, and a put into one leaves the other as it was. */
+static void copies(yurewha_session *session)
+{
+    const yurewha_chunk chunk = {{{7, 7, 7, 7}}, 7};
+    yurewha_session copy = {0};
+    uint64_t fresh = NEVER;
+    const yurewha_hash before = told_of(session);
+    EXPECT_STATUS(YUREWHA_DONE, yurewha_session_copy(session, &copy));
+    yurewha_hash told = told_of(&copy);
+    EXPECT(same_hash(&before, &told));
+    EXPECT_STATUS(YUREWHA_DONE, yurewha_session_put(&copy, 40, &chunk, 1, &fresh));
+    EXPECT(fresh == 1);
+    told = told_of(session);
+    EXPECT(same_hash(&before, &told));
+    EXPECT_STATUS(YUREWHA_DONE, yurewha_session_copy(session, &copy));
+    told = told_of(&copy);
+    EXPECT(same_hash(&before, &told));
+    yurewha_session_free(&copy);
+}
+
 static void make_call(yurewha_session *session, const struct call *it)
 {
     const yurewha_hash before = {{1, 2, 3, 4}};
@@ -79,6 +99,8 @@ static void make_call(yurewha_session *session, const struct call *it)
         break;
     case RUN:
         run(session, it);
+        if (it->status == YUREWHA_DONE)
+            copies(session);
         break;
     default:
         EXPECT_STATUS(it->status, it->step == ROOT ? yurewha_session_root(session, it->argument, &hash)

@@ -112,8 +112,21 @@ static void both_ways(void)
     }
 }
 
+/* The version, in rooms of its length and of one byte less. */
+static void version(void)
+{
+    char text[] = "?????";
+    size_t length = 0;
+    row("version");
+    EXPECT_STATUS(YUREWHA_ROOM, yurewha_version(text, 4, &length));
+    EXPECT(length == 5 && strcmp(text, "?????") == 0);
+    EXPECT_STATUS(YUREWHA_DONE, yurewha_version(text, 5, &length));
+    EXPECT(length == 5 && strcmp(text, YUREWHA_VERSION) == 0);
+}
+
 void test_texts(void)
 {
+    version();
     rules();
     spellings();
     other_spellings();

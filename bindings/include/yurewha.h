@@ -122,10 +122,26 @@ typedef struct yurewha_session {
 #define YUREWHA_HEX_LENGTH 64u
 #define YUREWHA_BASE64_LENGTH 43u
 
+/* ---- The library's version */
+
+/* Writes the version of the library to the beginning of the room, and the length of the text to `length`. YUREWHA_VERSION is
+ * that of the header. Takes no memory.
+ *   DONE  it is written
+ *   ROOM  the text is longer than the room; nothing is written to it, and `length` says how long it is */
+yurewha_status yurewha_version(char *text, size_t room, size_t *length);
+
 /* ---- Hashes */
 
 /* The hash of a chunk, whose data the bytes are: keyed BLAKE3 under the data key. Takes no memory. */
 void yurewha_data_hash(const uint8_t *bytes, size_t length, yurewha_hash *hash);
+
+/* The hashes of chunks whose data stands in one buffer. The data of chunk i is the bytes from `offsets[i]` up to
+ * `offsets[i + 1]`, so that there is one offset more than hashes. Takes no memory.
+ *   DONE       they are there
+ *   ARGUMENTS  if and only if `offset_count` isn't `count` + 1, an offset is less than the one before it, or one passes
+ *              `length` */
+yurewha_status yurewha_data_hashes(const uint8_t *bytes, size_t length, const size_t *offsets, size_t offset_count,
+                                   yurewha_hash *hashes, size_t count);
 
 /* The hash of an inner node of the tree, whose text the bytes are: keyed BLAKE3 under the internal key. Takes no memory. */
 void yurewha_internal_node_hash(const uint8_t *bytes, size_t length, yurewha_hash *hash);
@@ -364,6 +380,12 @@ yurewha_status yurewha_session_run(yurewha_session *session, size_t index, uint6
  *   SESSION_MEMORY  an allocation was refused */
 yurewha_status yurewha_session_root(yurewha_session *session, uint64_t total, yurewha_hash *root);
 yurewha_status yurewha_session_finish(yurewha_session *session, uint64_t total, yurewha_hash *hash);
+
+/* A copy, which the second handle owns. The first session stays as it is, and the two are independent.
+ *   DONE          it is there
+ *   MEMORY        an allocation was refused
+ *   EMPTY_HANDLE  if and only if the first handle is empty */
+yurewha_status yurewha_session_copy(yurewha_session *session, yurewha_session *copy);
 
 /* Frees what the handle owns, and leaves it empty. */
 void yurewha_session_free(yurewha_session *session);

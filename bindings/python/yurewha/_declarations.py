@@ -13,6 +13,9 @@ Declaration = Tuple[str, Tuple[str, ...]]
 
 DECLARATIONS: Dict[str, Declaration] = {
     # Hashes
+    "yurewha_version": ("yurewha_status", ("char *", "size_t", "size_t *")),
+    "yurewha_data_hashes": (
+        "yurewha_status", ("const uint8_t *", "size_t", "const size_t *", "size_t", "yurewha_hash *", "size_t")),
     "yurewha_data_hash": ("void", ("const uint8_t *", "size_t", "yurewha_hash *")),
     "yurewha_internal_node_hash": ("void", ("const uint8_t *", "size_t", "yurewha_hash *")),
     "yurewha_hmac": ("void", ("const yurewha_hash *", "const yurewha_hash *", "yurewha_hash *")),
@@ -72,6 +75,7 @@ DECLARATIONS: Dict[str, Declaration] = {
         "yurewha_status", ("yurewha_session *", "size_t", "uint64_t *", "yurewha_subtree *")),
     "yurewha_session_root": ("yurewha_status", ("yurewha_session *", "uint64_t", "yurewha_hash *")),
     "yurewha_session_finish": ("yurewha_status", ("yurewha_session *", "uint64_t", "yurewha_hash *")),
+    "yurewha_session_copy": ("yurewha_status", ("yurewha_session *", "yurewha_session *")),
     "yurewha_session_free": ("void", ("yurewha_session *",)),
 }
 

@@ -85,6 +85,7 @@ _TYPES: Dict[str, Any] = {
     "int32_t": ctypes.c_int32,
     "uint64_t": ctypes.c_uint64,
     "yurewha_status": ctypes.c_uint32,
+    "const size_t *": ctypes.POINTER(ctypes.c_size_t),
     "const char *": ctypes.c_char_p,
     "const uint8_t *": ctypes.c_char_p,
     "const yurewha_hash *": ctypes.c_char_p,

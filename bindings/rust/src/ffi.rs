@@ -121,6 +121,15 @@ const _: () = {
 };
 
 extern "C" {
+    pub fn yurewha_version(text: *mut c_char, room: usize, length: *mut usize) -> yurewha_status;
+    pub fn yurewha_data_hashes(
+        bytes: *const u8,
+        length: usize,
+        offsets: *const usize,
+        offset_count: usize,
+        hashes: *mut yurewha_hash,
+        count: usize,
+    ) -> yurewha_status;
     pub fn yurewha_data_hash(bytes: *const u8, length: usize, hash: *mut yurewha_hash);
     pub fn yurewha_internal_node_hash(bytes: *const u8, length: usize, hash: *mut yurewha_hash);
     pub fn yurewha_hmac(hash: *const yurewha_hash, key: *const yurewha_hash, result: *mut yurewha_hash);
@@ -237,5 +246,6 @@ extern "C" {
     pub fn yurewha_session_root(session: *mut yurewha_session, total: u64, root: *mut yurewha_hash) -> yurewha_status;
     pub fn yurewha_session_finish(session: *mut yurewha_session, total: u64, hash: *mut yurewha_hash)
         -> yurewha_status;
+    pub fn yurewha_session_copy(session: *mut yurewha_session, copy: *mut yurewha_session) -> yurewha_status;
     pub fn yurewha_session_free(session: *mut yurewha_session);
 }

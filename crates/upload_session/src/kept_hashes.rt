@@ -46,6 +46,15 @@ pub struct SeenHashes<A: Allocator = Global> {
 }
 
 impl<A: Allocator + Clone> SeenHashes<A> {
+    /// A copy.
+    pub fn try_clone(&self) -> Result<Self, AllocError>
+        ensures { IfOk result (λ copy. copy ≡ self.now) }
+    {
+        Ok(SeenHashes {
+            hashes: self.hashes.try_clone()?,
+        })
+    }
+
     // Keeps the hashes of some chunks, and lists those that are new, each once. Where it is refused, it has listed what it
     // kept.
     fn keep_into(&mut self, chunks: &[Node], new: &mut Vec<MerkleHash, A>) -> Result<(), AllocError>

@@ -9,14 +9,16 @@ ghost use Rattle.xet_merkle.specs.Groups.{Node};
 ghost use Rattle.xet_merkle.specs.Roots.{total_size};
 ghost use Rattle.upload_session.specs.Steps.Neighbours.{EndsAt, NoneEndsAt, IsWithNext, AreAround, IsPutBefore, Places};
 ghost use Rattle.upload_session.specs.Steps.OpenRuns.{IsOpen, AreOpen, AreOpenUpTo, HaveRoom, size_at, sizes_of};
-ghost use Rattle.upload_session.specs.Session.{Placed, PlacedRun, place, chunks_of, is_taken, overlaps, IsWhole, StandFor};
+ghost use Rattle.upload_session.specs.Session.{Placed, PlacedRun, HoldsAt, place, chunks_of, is_taken, overlaps, IsWhole, StandFor};
 
 use crate::session_fault::SessionFault;
+use std::alloc::{AllocError, Allocator};
 use std::collections::BTreeMap;
 use std::marker::Model;
 use xet_merkle::CoreError;
 use xet_merkle::aggregated_hashes::Node;
 use xet_merkle::chunk_range::ChunkRange;
+use xet_merkle::merkle_hash_subtree::MerkleHashSubtree;
 
 // What is kept of adjacent positions that are taken.
 #[derive(Drop)]
@@ -25,6 +27,20 @@ struct Run<C> {
     end: u64,
     // The range of the chunks.
     range: C,
+}
+
+impl<A: Allocator + Clone> Clone for Run<MerkleHashSubtree<A>> {
+    ghost is_clone = { λ run copy. copy ≡ run };
+
+    fn clone(&self) -> Result<Self, AllocError> {
+        match self.range.try_clone() {
+            Ok(range) => Ok(Run {
+                end: self.end,
+                range,
+            }),
+            Err(_) => Err(AllocError),
+        }
+    }
 }
 
 /// The runs of adjacent positions that are taken, each with one range of its chunks, which is open at both ends.
@@ -42,6 +58,18 @@ impl<C: ChunkRange> Model for Runs<C> {
     ghost Value = { List (PlacedRun C) };
 
     ghost view = { λ stored. stored.runs.entries };
+}
+
+impl<A: Allocator + Clone> Runs<MerkleHashSubtree<A>> {
+    /// A copy.
+    pub fn try_clone(&self) -> Result<Self, AllocError>
+        ensures { IfOk result (λ copy. copy ≡ self.now) }
+    {
+        Ok(Runs {
+            runs: self.runs.clone()?,
+            alloc: self.alloc.clone()?,
+        })
+    }
 }
 
 impl<C: ChunkRange> Runs<C> {
@@ -100,6 +128,26 @@ impl<C: ChunkRange> Runs<C> {
     {
         let (first, run) = self.runs.iter().nth(i)?;
         Some((*first, &run.range))
+    }
+
+    /// The run that holds a position: its first position, the position after its last one, and its range. It takes no
+    /// memory.
+    pub fn at(&self, position: u64) -> Option<(u64, u64, &C)>
+        ensures some { IfSome result (λ found.
+            HoldsAt self.now position (found.0, record { end = found.1; range = found.2.now })) }
+        ensures none { IfNone result ((placed : List Placed) → StandFor C.ChunkRange self.now placed →
+            is_taken placed position ≡ false) }
+    {
+        match self.runs.range(..=position).next_back() {
+            Some((first, run)) => {
+                if position < run.end {
+                    Some((*first, run.end, &run.range))
+                } else {
+                    None
+                }
+            }
+            None => None,
+        }
     }
 
     /// The range of all chunks, or `None` where there is none. It fails with [`SessionFault::Gap`] where the positions taken

@@ -4,12 +4,12 @@ ghost use Rattle.std.specs.Prelude.{◌≡◌, ℕ, ◌+◌, ◌^◌, ◌<◌, �
 ghost use Rattle.xet_merkle.specs.Groups.{Node};
 ghost use Rattle.xet_merkle.specs.Roots.{total_size, IsRoot, IsFileHash};
 ghost use Rattle.upload_session.specs.Hashes.{Hash, hashes_of};
-ghost use Rattle.upload_session.specs.Session.{Placed, place, chunks_of, is_taken, overlaps, IsWhole, SessionStands};
+ghost use Rattle.upload_session.specs.Session.{Placed, HoldsAt, place, chunks_of, is_taken, overlaps, IsWhole, SessionStands};
 
 use crate::kept_hashes::{KeptHashes, SeenHashes};
 use crate::runs::Runs;
 use crate::session_fault::SessionFault;
-use std::alloc::{AllocError, Global};
+use std::alloc::{AllocError, Allocator, Global};
 use std::marker::Model;
 use xet_hash::data_hash::MerkleHash;
 use xet_merkle::CoreError;
@@ -104,6 +104,17 @@ impl<C: ChunkRange, H: KeptHashes<C::Alloc>> SessionOf<C, H> {
             ≡ option_map {U = ℕ × C} (λ run. (run.0, run.1.range)) (slice_get self.now.runs i) }
     {
         self.runs.nth(i)
+    }
+
+    /// The run of adjacent positions that holds a position: its first position, the position after its last one, and its
+    /// range; `None` where the position isn't taken. It takes no memory.
+    pub fn run_at(&self, position: u64) -> Option<(u64, u64, &C)>
+        ensures some { IfSome result (λ found.
+            HoldsAt self.now.runs position (found.0, record { end = found.1; range = found.2.now })) }
+        ensures none { IfNone result ((placed : List Placed) →
+            SessionStands C.ChunkRange H.KeptHashes self.now placed → is_taken placed position ≡ false) }
+    {
+        self.runs.at(position)
     }
 
     /// Places chunks at the positions from `first` on, and answers how many hashes among them no earlier accepted put had,
@@ -215,6 +226,19 @@ impl<C: ChunkRange, H: KeptHashes<C::Alloc>> SessionOf<C, H> {
         ensures errors { IfErr result (λ e. (e ≡ SessionFault.Gap) ⊎ (e ≡ SessionFault.Memory)) }
     {
         Ok(self.hashes(total)?.1)
+    }
+}
+
+impl<A: Allocator + Clone> Session<A> {
+    /// A copy, which stands for the same chunks. It fails where an allocation is refused.
+    pub fn try_clone(&self) -> Result<Self, AllocError>
+        ensures { IfOk result (λ copy. copy ≡ self.now) }
+    {
+        Ok(SessionOf {
+            runs: self.runs.try_clone()?,
+            kept: self.kept.try_clone()?,
+            size: self.size,
+        })
     }
 }
 

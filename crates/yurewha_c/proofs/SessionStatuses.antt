@@ -1,9 +1,12 @@
 -- What the status of a session's refusal tells of the fault.
-use Rattle.std.specs.Prelude.{Result, Err, IsErrOf}
+use Rattle.std.specs.Prelude.{Some, Result, Err, IsErrOf}
 use Rattle.std.proofs.Common.{arith, ◌≡◌, ℕ, ◌⊎◌, ◌↔◌, List, [], ◌∷◌, length, refl, sym, ap, ◌∙◌, inl, inr}
 use Rattle.upload_session.specs.declared.session_fault.SessionFault.{SessionFault}
 use Rattle.upload_session.specs.declared.session_fault.SessionFault.TheVariants.{Overlap, Positions, Sizes, Memory, Gap}
+use Rattle.upload_session.specs.Session.{Placed, IsWhole}
+use Rattle.yurewha_c.specs.Sessions.{IsWholeStatus, Stands}
 use Rattle.yurewha_c.specs.Statuses.{session_status}
+use Rattle.yurewha_c.specs.declared.kept_session.KeptSession.{KeptSession}
 use Rattle.yurewha_c.specs.declared.chunks.Chunk.{Chunk}
 use Rattle.yurewha_c.specs.Chunks.{nodes_of}
 
@@ -38,6 +41,28 @@ module _ {A : Type 0} (answer : Result A SessionFault) (fault : SessionFault) (s
     λ h. let same : fault ≡ Gap = session_status-injective fault Gap (sym has ∙ h) in gap cc,
     λ no. elim (gap_or_not fault) [ inl e ↦ has ∙ ap session_status e | inr other ↦ absurd (no (whole (λ e. other (is_fault Gap e)))) ],
   )
+
+  -- all chunks are asked for, and the session refuses
+  pub refused_status : (kept : KeptSession) (total : ℕ) → (fault ≡ Gap) ⊎ (fault ≡ Memory) →
+      (IsErrOf answer Gap → (placed : List Placed) → Stands kept placed → IsWhole total placed → ⊥) →
+      ((IsErrOf answer Gap → ⊥) → (placed : List Placed) → Stands kept placed → IsWhole total placed) → IsWholeStatus (Some kept) total status
+  refused_status kept total either gap whole =
+      let known : (status ≡ 37) ⊎ (status ≡ 36) = elim either [ inl e ↦ inl (has ∙ ap session_status e) | inr e ↦ inr (has ∙ ap session_status e) ] in
+      record {
+        on_gap = λ placed h. gap_tells (IsWhole total placed) (λ e. gap e placed h) (λ no. whole no placed h);
+        whole = λ e. absurd (elim known [ inl k ↦ omega (arith, k, e) | inr k ↦ omega (arith, k, e) ]);
+        on_empty = (λ e. absurd (elim known [ inl k ↦ omega (arith, k, e) | inr k ↦ omega (arith, k, e) ]), λ e. cc);
+        statuses = elim known [ inl k ↦ inr (inr (inl k)) | inr k ↦ inr (inr (inr k)) ];
+      }
+
+-- all chunks are asked for, and the session has them
+pub done_status : (kept : KeptSession) (total : ℕ) → ((placed : List Placed) → Stands kept placed → IsWhole total placed) → IsWholeStatus (Some kept) total 0
+done_status kept total whole = record {
+  on_gap = λ placed h. (λ e. absurd (omega (arith, e)), λ no. absurd (no (whole placed h)));
+  whole = λ _. whole;
+  on_empty = (λ e. absurd (omega (arith, e)), λ e. cc);
+  statuses = inl refl;
+}
 
 pub no_nodes : (chunks : List Chunk) → length chunks ≡ 0 → nodes_of chunks ≡ []
 no_nodes [] h = refl

@@ -1,8 +1,13 @@
 pub mod Statuses
 pub mod Chunks
+pub mod Roots
+pub mod Hashers
 pub mod Order
 pub mod FlatLists
+pub mod Pieces
+pub mod Texts
 pub mod Rows
 pub mod Owned
 pub mod Handles
+pub mod Merging
 pub mod Sessions

@@ -1,9 +1,36 @@
--- The statuses of refusals.
+-- The statuses that exports answer, and those of refusals.
 use Rattle.std.specs.Prelude.{ℕ, ◌+◌}
 use Rattle.xet_merkle.specs.declared.error.CoreError.{CoreError}
 use Rattle.xet_merkle.specs.declared.error.CoreError.TheVariants.{InvalidArguments, SizeOverflow, OutOfMemory, InvalidJson}
 use Rattle.upload_session.specs.declared.session_fault.SessionFault.{SessionFault}
 use Rattle.upload_session.specs.declared.session_fault.SessionFault.TheVariants.{Overlap, Positions, Sizes, Memory, Gap}
+
+abbrev pub done : ℕ
+done = 0
+
+abbrev pub arguments : ℕ
+arguments = 1
+
+abbrev pub sizes : ℕ
+sizes = 2
+
+abbrev pub memory : ℕ
+memory = 3
+
+abbrev pub text : ℕ
+text = 4
+
+abbrev pub room : ℕ
+room = 5
+
+abbrev pub empty_handle : ℕ
+empty_handle = 6
+
+abbrev pub session_memory : ℕ
+session_memory = 36
+
+abbrev pub session_gap : ℕ
+session_gap = 37
 
 abbrev pub core_status : CoreError → ℕ
 core_status InvalidArguments = 1

@@ -1,9 +1,10 @@
 //! The streaming hasher, in the caller's own memory. A copy of its bytes is a copy of the hasher.
 
-ghost use Rattle.std.specs.Prelude.{◌≡◌, ◌≢◌, ◌↔◌, ℕ, ◌+◌, ◌^◌, ◌<◌, ◌≤◌, List, [], ◌++◌, length};
+ghost use Rattle.std.specs.Prelude.{◌≡◌, ◌≢◌, ◌↔◌, ℕ, ◌+◌, ◌^◌, ◌<◌, ◌≤◌, List, ◌++◌, length};
 ghost use Rattle.keyed_blake3.specs.Blake3Hasher.{Holds, count_of};
 ghost use Rattle.xet_hash.specs.Blake3.{keyed_hash};
 ghost use Rattle.xet_hash.specs.Hash.{data_key, hash_of, internal_key};
+ghost use Rattle.yurewha_c.specs.Hashers.{Begins};
 
 use crate::hash::{Bytes, Hash};
 use crate::status::{DONE, SIZES};
@@ -13,8 +14,7 @@ use xet_hash::data_hash::{DATA_KEY, DataHash, INTERNAL_KEY};
 /// Begins a hasher of the empty message under the data key, so that it gives what `yurewha_data_hash` does. It can't fail.
 #[unsafe(no_mangle)]
 pub extern "C" fn yurewha_hasher_begin_data(hasher: &mut Hasher)
-    ensures message { Holds data_key hasher.new [] }
-    ensures count { count_of hasher.new ≡ 0 }
+    ensures { Begins data_key hasher.new }
 {
     *hasher = Hasher::new_keyed(&DATA_KEY);
 }
@@ -23,8 +23,7 @@ pub extern "C" fn yurewha_hasher_begin_data(hasher: &mut Hasher)
 /// It can't fail.
 #[unsafe(no_mangle)]
 pub extern "C" fn yurewha_hasher_begin_internal(hasher: &mut Hasher)
-    ensures message { Holds internal_key hasher.new [] }
-    ensures count { count_of hasher.new ≡ 0 }
+    ensures { Begins internal_key hasher.new }
 {
     *hasher = Hasher::new_keyed(&INTERNAL_KEY);
 }
@@ -32,8 +31,7 @@ pub extern "C" fn yurewha_hasher_begin_internal(hasher: &mut Hasher)
 /// Begins a hasher of the empty message under a key of 32 bytes. It can't fail.
 #[unsafe(no_mangle)]
 pub extern "C" fn yurewha_hasher_begin_keyed(hasher: &mut Hasher, key: &Bytes)
-    ensures message { Holds key.now.bytes hasher.new [] }
-    ensures count { count_of hasher.new ≡ 0 }
+    ensures { Begins key.now.bytes hasher.new }
 {
     *hasher = Hasher::new_keyed(&key.bytes);
 }

@@ -6,6 +6,7 @@
 #![tactic(auto)]
 
 mod chunks;
+mod data_hashes;
 mod hash;
 mod hash_text;
 mod hasher;
@@ -22,3 +23,4 @@ mod subtree_handle;
 mod subtree_merging;
 mod subtree_text;
 mod text;
+mod version;

@@ -1,10 +1,10 @@
 //! Roots, file hashes and stable points of lists of chunks.
 
-ghost use Rattle.std.specs.Prelude.{◌≡◌, ◌≢◌, ◌⊎◌, ◌↔◌, ◌^◌, ◌<◌, ◌≤◌, List, ◌++◌, length, take, drop, replicate, IfOk, IfErr, IsErrOf, IsOk};
-ghost use Rattle.xet_merkle.specs.Groups.{Node};
-ghost use Rattle.xet_merkle.specs.Roots.{total_size, IsRoot, IsFileHash};
-ghost use Rattle.xet_merkle.specs.StablePoints.{NoStable, IsFirstStable, IsLastStable, IsGroupBoundary};
+ghost use Rattle.std.specs.Prelude.{◌≡◌, ◌≢◌, ◌⊎◌, ◌↔◌, ◌^◌, ◌≤◌, length, replicate, IfOk, IfErr, IsErrOf, IsOk};
+ghost use Rattle.xet_merkle.specs.Roots.{total_size, IsRoot};
+ghost use Rattle.xet_merkle.specs.StablePoints.{IsFirstStable, IsLastStable};
 ghost use Rattle.yurewha_c.specs.Chunks.{nodes_of};
+ghost use Rattle.yurewha_c.specs.Roots.{IsBoundaryAnywhere, IsRootStatus, WritesFileHash, WritesPoint};
 
 use crate::chunks::{Chunk, nodes_of, sizes_fit};
 use crate::hash::{Bytes, Hash};
@@ -43,9 +43,7 @@ fn root_of(alloc: Global, chunks: &[Chunk]) -> Result<MerkleHash, CoreError>
 #[unsafe(no_mangle)]
 pub extern "C" fn yurewha_xorb_hash(alloc: Global, chunks: &[Chunk], root: &mut Hash) -> u32
     ensures root { result ≡ DONE → IsRoot (nodes_of chunks.now) root.new.words }
-    ensures sizes { (result ≡ SIZES) ↔ (2 ^ 64 ≤ total_size (nodes_of chunks.now)) }
-    ensures statuses { (result ≡ DONE) ⊎ ((result ≡ SIZES) ⊎ (result ≡ MEMORY)) }
-    ensures short { length chunks.now ≤ 1 → result ≡ DONE }
+    ensures status { IsRootStatus chunks.now result }
     ensures unchanged { result ≢ DONE → root.new ≡ root.old }
 {
     match root_of(alloc, chunks) {
@@ -59,11 +57,7 @@ pub extern "C" fn yurewha_xorb_hash(alloc: Global, chunks: &[Chunk], root: &mut 
 
 // The file hash of some chunks, and its status.
 fn write_file_hash(alloc: Global, chunks: &[Chunk], salt: &[u8; 32], hash: &mut Hash) -> u32
-    ensures file { result ≡ DONE → IsFileHash (nodes_of chunks.now) salt.now hash.new.words }
-    ensures sizes { (result ≡ SIZES) ↔ (2 ^ 64 ≤ total_size (nodes_of chunks.now)) }
-    ensures statuses { (result ≡ DONE) ⊎ ((result ≡ SIZES) ⊎ (result ≡ MEMORY)) }
-    ensures short { length chunks.now ≤ 1 → result ≡ DONE }
-    ensures unchanged { result ≢ DONE → hash.new ≡ hash.old }
+    ensures { WritesFileHash chunks.now salt.now result hash.old hash.new }
 {
     match root_of(alloc, chunks) {
         Ok(root) => {
@@ -80,11 +74,7 @@ fn write_file_hash(alloc: Global, chunks: &[Chunk], salt: &[u8; 32], hash: &mut 
 /// Statuses as of `yurewha_xorb_hash`.
 #[unsafe(no_mangle)]
 pub extern "C" fn yurewha_file_hash(alloc: Global, chunks: &[Chunk], hash: &mut Hash) -> u32
-    ensures file { result ≡ DONE → IsFileHash (nodes_of chunks.now) (replicate 32 0) hash.new.words }
-    ensures sizes { (result ≡ SIZES) ↔ (2 ^ 64 ≤ total_size (nodes_of chunks.now)) }
-    ensures statuses { (result ≡ DONE) ⊎ ((result ≡ SIZES) ⊎ (result ≡ MEMORY)) }
-    ensures short { length chunks.now ≤ 1 → result ≡ DONE }
-    ensures unchanged { result ≢ DONE → hash.new ≡ hash.old }
+    ensures { WritesFileHash chunks.now (replicate 32 0) result hash.old hash.new }
 {
     write_file_hash(alloc, chunks, &[0; 32], hash)
 }
@@ -100,11 +90,7 @@ pub extern "C" fn yurewha_file_hash_with_salt(
     salt: &Bytes,
     hash: &mut Hash,
 ) -> u32
-    ensures file { result ≡ DONE → IsFileHash (nodes_of chunks.now) salt.now.bytes hash.new.words }
-    ensures sizes { (result ≡ SIZES) ↔ (2 ^ 64 ≤ total_size (nodes_of chunks.now)) }
-    ensures statuses { (result ≡ DONE) ⊎ ((result ≡ SIZES) ⊎ (result ≡ MEMORY)) }
-    ensures short { length chunks.now ≤ 1 → result ≡ DONE }
-    ensures unchanged { result ≢ DONE → hash.new ≡ hash.old }
+    ensures { WritesFileHash chunks.now salt.now.bytes result hash.old hash.new }
 {
     write_file_hash(alloc, chunks, &salt.bytes, hash)
 }
@@ -120,13 +106,8 @@ pub extern "C" fn yurewha_find_stable_start(
     nodes: &[Chunk],
     point: &mut usize,
 ) -> u32
-    ensures statuses { (result ≡ DONE) ⊎ ((result ≡ ARGUMENTS) ⊎ (result ≡ MEMORY)) }
-    ensures bound { result ≡ DONE → point.new ≤ length nodes.now }
-    ensures first { result ≡ DONE → IsFirstStable (take point.new (nodes_of nodes.now)) (drop point.new (nodes_of nodes.now)) }
-    ensures boundary { result ≡ DONE → (before after : List Node) →
-        IsGroupBoundary (before ++ take point.new (nodes_of nodes.now)) (drop point.new (nodes_of nodes.now) ++ after) }
-    ensures none { result ≡ ARGUMENTS → NoStable (nodes_of nodes.now) }
-    ensures unchanged { result ≢ DONE → point.new ≡ point.old }
+    ensures point { WritesPoint IsFirstStable nodes.now result point.old point.new }
+    ensures boundary { result ≡ DONE → IsBoundaryAnywhere point.new (nodes_of nodes.now) }
 {
     let Ok(nodes) = nodes_of(alloc, nodes) else {
         return MEMORY;
@@ -146,13 +127,8 @@ pub extern "C" fn yurewha_find_stable_start(
 /// Statuses as of `yurewha_find_stable_start`.
 #[unsafe(no_mangle)]
 pub extern "C" fn yurewha_find_stable_end(alloc: Global, nodes: &[Chunk], point: &mut usize) -> u32
-    ensures statuses { (result ≡ DONE) ⊎ ((result ≡ ARGUMENTS) ⊎ (result ≡ MEMORY)) }
-    ensures bound { result ≡ DONE → point.new ≤ length nodes.now }
-    ensures last { result ≡ DONE → IsLastStable (take point.new (nodes_of nodes.now)) (drop point.new (nodes_of nodes.now)) }
-    ensures boundary { result ≡ DONE → (before after : List Node) →
-        IsGroupBoundary (before ++ take point.new (nodes_of nodes.now)) (drop point.new (nodes_of nodes.now) ++ after) }
-    ensures none { result ≡ ARGUMENTS → NoStable (nodes_of nodes.now) }
-    ensures unchanged { result ≢ DONE → point.new ≡ point.old }
+    ensures point { WritesPoint IsLastStable nodes.now result point.old point.new }
+    ensures boundary { result ≡ DONE → IsBoundaryAnywhere point.new (nodes_of nodes.now) }
 {
     let Ok(nodes) = nodes_of(alloc, nodes) else {
         return MEMORY;

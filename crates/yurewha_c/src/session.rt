@@ -5,8 +5,8 @@ ghost use Rattle.xet_merkle.specs.Roots.{IsRoot, IsFileHash, total_size};
 ghost use Rattle.upload_session.specs.Hashes.{Hash as HashWords, hashes_of, AreNew};
 ghost use Rattle.upload_session.specs.Session.{Placed, place, chunks_of, is_taken, overlaps, IsWhole};
 ghost use Rattle.yurewha_c.specs.Chunks.{nodes_of};
-ghost use Rattle.yurewha_c.specs.Handles.{BothHold};
-ghost use Rattle.yurewha_c.specs.Sessions.{Stands};
+ghost use Rattle.yurewha_c.specs.Handles.{BothHold, IsCopyStatus, Reads};
+ghost use Rattle.yurewha_c.specs.Sessions.{IsWholeStatus, Stands};
 
 use crate::chunks::{Chunk, nodes_of};
 use crate::hash::Hash;
@@ -136,12 +136,8 @@ pub extern "C" fn yurewha_session_taken(
     position: u64,
     taken: &mut bool,
 ) -> u32
-    ensures taken { result ≡ DONE → IsSomeAnd session.old.value (λ kept. (placed : List Placed) → Stands kept placed →
-        taken.new ≡ is_taken placed position) }
-    ensures empty { (result ≡ EMPTY_HANDLE) ↔ (session.old.value ≡ None) }
-    ensures statuses { (result ≡ DONE) ⊎ (result ≡ EMPTY_HANDLE) }
-    ensures kept { session.new.value ≡ session.old.value }
-    ensures unchanged { result ≢ DONE → taken.new ≡ taken.old }
+    ensures { Reads session.old.value session.new.value result (taken.new ≡ taken.old)
+        (λ kept. (placed : List Placed) → Stands kept placed → taken.new ≡ is_taken placed position) }
 {
     let Some(kept) = session.take(alloc) else {
         return EMPTY_HANDLE;
@@ -165,12 +161,7 @@ pub extern "C" fn yurewha_session_root(
 ) -> u32
     ensures root { result ≡ DONE → IsSomeAnd session.old.value (λ kept. (placed : List Placed) → Stands kept placed →
         IsRoot (chunks_of placed) root.new.words) }
-    ensures gap { IfSome session.old.value (λ kept. (placed : List Placed) → Stands kept placed →
-        ((result ≡ SESSION_GAP) ↔ (¬ IsWhole total placed))) }
-    ensures whole { result ≡ DONE → IsSomeAnd session.old.value (λ kept. (placed : List Placed) → Stands kept placed →
-        IsWhole total placed) }
-    ensures empty { (result ≡ EMPTY_HANDLE) ↔ (session.old.value ≡ None) }
-    ensures statuses { (result ≡ DONE) ⊎ ((result ≡ EMPTY_HANDLE) ⊎ ((result ≡ SESSION_GAP) ⊎ (result ≡ SESSION_MEMORY))) }
+    ensures status { IsWholeStatus session.old.value total result }
     ensures kept { session.new.value ≡ session.old.value }
     ensures unchanged { result ≢ DONE → root.new ≡ root.old }
 {
@@ -200,12 +191,7 @@ pub extern "C" fn yurewha_session_finish(
 ) -> u32
     ensures file { result ≡ DONE → IsSomeAnd session.old.value (λ kept. (placed : List Placed) → Stands kept placed →
         IsFileHash (chunks_of placed) (replicate 32 0) hash.new.words) }
-    ensures gap { IfSome session.old.value (λ kept. (placed : List Placed) → Stands kept placed →
-        ((result ≡ SESSION_GAP) ↔ (¬ IsWhole total placed))) }
-    ensures whole { result ≡ DONE → IsSomeAnd session.old.value (λ kept. (placed : List Placed) → Stands kept placed →
-        IsWhole total placed) }
-    ensures empty { (result ≡ EMPTY_HANDLE) ↔ (session.old.value ≡ None) }
-    ensures statuses { (result ≡ DONE) ⊎ ((result ≡ EMPTY_HANDLE) ⊎ ((result ≡ SESSION_GAP) ⊎ (result ≡ SESSION_MEMORY))) }
+    ensures status { IsWholeStatus session.old.value total result }
     ensures kept { session.new.value ≡ session.old.value }
     ensures unchanged { result ≢ DONE → hash.new ≡ hash.old }
 {
@@ -220,6 +206,32 @@ pub extern "C" fn yurewha_session_finish(
             DONE
         }
         Err(fault) => status_of_fault(fault),
+    }
+}
+
+/// Puts a copy of a session into another handle. It stands for the same chunks, and knows the same hashes.
+///
+/// Status `DONE`; `EMPTY_HANDLE` where `session` is empty; `MEMORY` where an allocation is refused. `copy` is as it was where
+/// it isn't `DONE`; else what it owned is freed.
+#[unsafe(no_mangle)]
+pub extern "C" fn yurewha_session_copy(
+    alloc: Global,
+    session: &mut SessionHandle,
+    copy: &mut SessionHandle,
+) -> u32
+    ensures copy { result ≡ DONE → copy.new.value ≡ session.old.value }
+    ensures status { IsCopyStatus session.old.value result }
+    ensures kept { session.new.value ≡ session.old.value }
+    ensures unchanged { result ≢ DONE → copy.new.value ≡ copy.old.value }
+{
+    let Some(kept) = session.take(alloc) else {
+        return EMPTY_HANDLE;
+    };
+    let made = kept.session.try_clone();
+    session.put(kept);
+    match made {
+        Ok(made) => copy.hold(alloc, KeptSession { session: made }),
+        Err(_) => MEMORY,
     }
 }
 

@@ -1,6 +1,7 @@
 //! The runs of a session.
 
 ghost use Rattle.std.specs.Prelude.{◌≡◌, ◌≢◌, ◌⊎◌, ◌↔◌, None, Some, IfErr, IfOk, IsSomeAnd, length, slice_get};
+ghost use Rattle.yurewha_c.specs.Handles.{Reads};
 
 use crate::session_handle::SessionHandle;
 use crate::status::{ARGUMENTS, DONE, EMPTY_HANDLE, MEMORY, status_of};
@@ -18,11 +19,8 @@ pub extern "C" fn yurewha_session_num_runs(
     session: &mut SessionHandle,
     count: &mut usize,
 ) -> u32
-    ensures count { result ≡ DONE → IsSomeAnd session.old.value (λ kept. count.new ≡ length kept.session.runs) }
-    ensures empty { (result ≡ EMPTY_HANDLE) ↔ (session.old.value ≡ None) }
-    ensures statuses { (result ≡ DONE) ⊎ (result ≡ EMPTY_HANDLE) }
-    ensures kept { session.new.value ≡ session.old.value }
-    ensures unchanged { result ≢ DONE → count.new ≡ count.old }
+    ensures { Reads session.old.value session.new.value result (count.new ≡ count.old)
+        (λ kept. count.new ≡ length kept.session.runs) }
 {
     let Some(kept) = session.take(alloc) else {
         return EMPTY_HANDLE;

@@ -6,7 +6,7 @@ ghost use Rattle.xet_merkle.specs.Roots.{total_size, IsRoot};
 ghost use Rattle.xet_merkle.specs.Groups.{Node};
 ghost use Rattle.xet_merkle.specs.Subtree.{IsCanonical};
 ghost use Rattle.yurewha_c.specs.Chunks.{nodes_of};
-ghost use Rattle.yurewha_c.specs.Handles.{BothHold};
+ghost use Rattle.yurewha_c.specs.Handles.{IsCopyStatus, Reads, ReadsBoth};
 
 use crate::chunks::{Chunk, nodes_of, sizes_fit};
 use crate::hash::Hash;
@@ -59,8 +59,7 @@ pub extern "C" fn yurewha_subtree_clone(
     copy: &mut SubtreeHandle,
 ) -> u32
     ensures copy { result ≡ DONE → copy.new.value ≡ subtree.old.value }
-    ensures empty { (result ≡ EMPTY_HANDLE) ↔ (subtree.old.value ≡ None) }
-    ensures statuses { (result ≡ DONE) ⊎ ((result ≡ EMPTY_HANDLE) ⊎ (result ≡ MEMORY)) }
+    ensures status { IsCopyStatus subtree.old.value result }
     ensures kept { subtree.new.value ≡ subtree.old.value }
     ensures unchanged { result ≢ DONE → copy.new.value ≡ copy.old.value }
 {
@@ -89,12 +88,10 @@ pub extern "C" fn yurewha_subtree_equal(
     second: &mut SubtreeHandle,
     equal: &mut bool,
 ) -> u32
-    ensures equal { result ≡ DONE → BothHold first.old.value second.old.value (λ a b. IsTrue equal.new ↔ (a ≡ b)) }
-    ensures empty { (result ≡ EMPTY_HANDLE) ↔ ((first.old.value ≡ None) ⊎ (second.old.value ≡ None)) }
-    ensures statuses { (result ≡ DONE) ⊎ (result ≡ EMPTY_HANDLE) }
+    ensures equal { ReadsBoth first.old.value second.old.value result (equal.new ≡ equal.old)
+        (λ a b. IsTrue equal.new ↔ (a ≡ b)) }
     ensures first_kept { first.new.value ≡ first.old.value }
     ensures second_kept { second.new.value ≡ second.old.value }
-    ensures unchanged { result ≢ DONE → equal.new ≡ equal.old }
 {
     let Some((one, other)) = SubtreeHandle::take_both(alloc, first, second) else {
         return EMPTY_HANDLE;
@@ -115,12 +112,9 @@ pub extern "C" fn yurewha_subtree_marks(
     at_start: &mut bool,
     at_end: &mut bool,
 ) -> u32
-    ensures marks { result ≡ DONE → IsSomeAnd subtree.old.value (λ kept.
-        (at_start.new ≡ kept.at_start) × (at_end.new ≡ kept.at_end)) }
-    ensures empty { (result ≡ EMPTY_HANDLE) ↔ (subtree.old.value ≡ None) }
-    ensures statuses { (result ≡ DONE) ⊎ (result ≡ EMPTY_HANDLE) }
-    ensures kept { subtree.new.value ≡ subtree.old.value }
-    ensures unchanged { result ≢ DONE → (at_start.new ≡ at_start.old) × (at_end.new ≡ at_end.old) }
+    ensures { Reads subtree.old.value subtree.new.value result
+        ((at_start.new ≡ at_start.old) × (at_end.new ≡ at_end.old))
+        (λ kept. (at_start.new ≡ kept.at_start) × (at_end.new ≡ kept.at_end)) }
 {
     let Some(kept) = subtree.take(alloc) else {
         return EMPTY_HANDLE;
@@ -140,11 +134,7 @@ pub extern "C" fn yurewha_subtree_total_size(
     subtree: &mut SubtreeHandle,
     size: &mut u64,
 ) -> u32
-    ensures size { result ≡ DONE → IsSomeAnd subtree.old.value (λ kept. size.new ≡ levels_size kept.levels) }
-    ensures empty { (result ≡ EMPTY_HANDLE) ↔ (subtree.old.value ≡ None) }
-    ensures statuses { (result ≡ DONE) ⊎ (result ≡ EMPTY_HANDLE) }
-    ensures kept { subtree.new.value ≡ subtree.old.value }
-    ensures unchanged { result ≢ DONE → size.new ≡ size.old }
+    ensures { Reads subtree.old.value subtree.new.value result (size.new ≡ size.old) (λ kept. size.new ≡ levels_size kept.levels) }
 {
     let Some(kept) = subtree.take(alloc) else {
         return EMPTY_HANDLE;
@@ -163,11 +153,7 @@ pub extern "C" fn yurewha_subtree_num_nodes(
     subtree: &mut SubtreeHandle,
     count: &mut usize,
 ) -> u32
-    ensures count { result ≡ DONE → IsSomeAnd subtree.old.value (λ kept. count.new ≡ node_count kept.levels) }
-    ensures empty { (result ≡ EMPTY_HANDLE) ↔ (subtree.old.value ≡ None) }
-    ensures statuses { (result ≡ DONE) ⊎ (result ≡ EMPTY_HANDLE) }
-    ensures kept { subtree.new.value ≡ subtree.old.value }
-    ensures unchanged { result ≢ DONE → count.new ≡ count.old }
+    ensures { Reads subtree.old.value subtree.new.value result (count.new ≡ count.old) (λ kept. count.new ≡ node_count kept.levels) }
 {
     let Some(kept) = subtree.take(alloc) else {
         return EMPTY_HANDLE;
@@ -186,11 +172,7 @@ pub extern "C" fn yurewha_subtree_num_levels(
     subtree: &mut SubtreeHandle,
     count: &mut usize,
 ) -> u32
-    ensures count { result ≡ DONE → IsSomeAnd subtree.old.value (λ kept. count.new ≡ length kept.levels) }
-    ensures empty { (result ≡ EMPTY_HANDLE) ↔ (subtree.old.value ≡ None) }
-    ensures statuses { (result ≡ DONE) ⊎ (result ≡ EMPTY_HANDLE) }
-    ensures kept { subtree.new.value ≡ subtree.old.value }
-    ensures unchanged { result ≢ DONE → count.new ≡ count.old }
+    ensures { Reads subtree.old.value subtree.new.value result (count.new ≡ count.old) (λ kept. count.new ≡ length kept.levels) }
 {
     let Some(kept) = subtree.take(alloc) else {
         return EMPTY_HANDLE;

@@ -1,11 +1,12 @@
 //! Merging subtrees of adjacent ranges.
 
-ghost use Rattle.std.specs.Prelude.{false, ◌≡◌, ◌≢◌, ◌⊎◌, ◌↔◌, ℕ, ◌+◌, ◌-◌, ◌*◌, ◌^◌, ◌≤◌, None, List, length, min, IsSomeAnd, IsTrue, IfOk, IfErr};
-ghost use Rattle.xet_merkle.specs.Levels.{levels_size, node_count};
+ghost use Rattle.std.specs.Prelude.{◌≡◌, ◌≢◌, ◌⊎◌, ◌↔◌, ℕ, ◌+◌, ◌-◌, ◌*◌, ◌^◌, ◌≤◌, List, length, min, IsSomeAnd, IfOk, IfErr};
+ghost use Rattle.xet_merkle.specs.Levels.{node_count};
 ghost use Rattle.xet_merkle.specs.Merging.{IsMerged, IsMergedBy, NoMarkBetweenSubtrees, ranges_size};
 ghost use Rattle.xet_merkle.specs.Roots.{parent};
 ghost use Rattle.xet_merkle.specs.Subtree.{Subtree};
-ghost use Rattle.yurewha_c.specs.Handles.{BothHold, AllHold, IsMergeOf, values_of};
+ghost use Rattle.yurewha_c.specs.Handles.{AllHold, values_of};
+ghost use Rattle.yurewha_c.specs.Merging.{IsMergeOf, IsMergeStatus, Merges};
 
 use crate::status::{ARGUMENTS, DONE, EMPTY_HANDLE, MEMORY, SIZES, status_of};
 use crate::subtree_handle::SubtreeHandle;
@@ -24,15 +25,8 @@ pub extern "C" fn yurewha_subtree_merge_into(
     subtree: &mut SubtreeHandle,
     other: &mut SubtreeHandle,
 ) -> u32
-    ensures merged { result ≡ DONE → BothHold subtree.old.value other.old.value (λ front back.
-        IsSomeAnd subtree.new.value (IsMerged front back)) }
-    ensures empty { (result ≡ EMPTY_HANDLE) ↔ ((subtree.old.value ≡ None) ⊎ (other.old.value ≡ None)) }
-    ensures arguments { (result ≡ ARGUMENTS) ↔ BothHold subtree.old.value other.old.value (λ front back.
-        ¬ ((front.at_end ≡ false) × (back.at_start ≡ false))) }
-    ensures sizes { (result ≡ SIZES) ↔ BothHold subtree.old.value other.old.value (λ front back.
-        ((front.at_end ≡ false) × (back.at_start ≡ false)) × (2 ^ 64 ≤ levels_size front.levels + levels_size back.levels)) }
-    ensures statuses { (result ≡ DONE) ⊎ ((result ≡ EMPTY_HANDLE) ⊎ ((result ≡ ARGUMENTS)
-        ⊎ ((result ≡ SIZES) ⊎ (result ≡ MEMORY)))) }
+    ensures merged { result ≡ DONE → Merges subtree.old.value other.old.value subtree.new.value IsMerged }
+    ensures status { IsMergeStatus subtree.old.value other.old.value result }
     ensures unchanged { result ≢ DONE → subtree.new.value ≡ subtree.old.value }
     ensures kept { other.new.value ≡ other.old.value }
 {
@@ -59,17 +53,10 @@ pub extern "C" fn yurewha_subtree_merge_into_counted(
     other: &mut SubtreeHandle,
     parents: &mut u64,
 ) -> u32
-    ensures merged { result ≡ DONE → BothHold subtree.old.value other.old.value (λ front back.
-        IsSomeAnd subtree.new.value (λ merged. (made : ℕ) × IsMergedBy parent made front back merged
-        × (parents.new ≡ min made (2 ^ 64 - 1))
-        × (2 * made ≤ node_count front.levels + node_count back.levels + 2 * (length merged.levels - 1)))) }
-    ensures empty { (result ≡ EMPTY_HANDLE) ↔ ((subtree.old.value ≡ None) ⊎ (other.old.value ≡ None)) }
-    ensures arguments { (result ≡ ARGUMENTS) ↔ BothHold subtree.old.value other.old.value (λ front back.
-        ¬ ((front.at_end ≡ false) × (back.at_start ≡ false))) }
-    ensures sizes { (result ≡ SIZES) ↔ BothHold subtree.old.value other.old.value (λ front back.
-        ((front.at_end ≡ false) × (back.at_start ≡ false)) × (2 ^ 64 ≤ levels_size front.levels + levels_size back.levels)) }
-    ensures statuses { (result ≡ DONE) ⊎ ((result ≡ EMPTY_HANDLE) ⊎ ((result ≡ ARGUMENTS)
-        ⊎ ((result ≡ SIZES) ⊎ (result ≡ MEMORY)))) }
+    ensures merged { result ≡ DONE → Merges subtree.old.value other.old.value subtree.new.value (λ front back merged.
+        (made : ℕ) × IsMergedBy parent made front back merged × (parents.new ≡ min made (2 ^ 64 - 1))
+        × (2 * made ≤ node_count front.levels + node_count back.levels + 2 * (length merged.levels - 1))) }
+    ensures status { IsMergeStatus subtree.old.value other.old.value result }
     ensures unchanged { result ≢ DONE → (subtree.new.value ≡ subtree.old.value) × (parents.new ≡ parents.old) }
     ensures kept { other.new.value ≡ other.old.value }
 {

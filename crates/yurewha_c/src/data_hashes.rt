@@ -1,0 +1,52 @@
+//! The hashes of many chunks in one call.
+
+ghost use Rattle.std.specs.Prelude.{◌≡◌, ◌≢◌, ◌↔◌, ◌⊎◌, length, IsTrue};
+ghost use Rattle.yurewha_c.specs.Pieces.{AreOffsets, Rise, hashes_between, words_of};
+
+use crate::hash::Hash;
+use crate::status::{ARGUMENTS, DONE};
+use xet_hash::data_hash::compute_data_hash;
+
+// Whether no offset is less than the one before it, and none passes an end.
+fn rise(offsets: &[usize], end: usize) -> bool
+    ensures { IsTrue result ↔ Rise 0 offsets.now end }
+{
+    let mut from = 0;
+    'offsets: for offset in offsets {
+        if *offset < from {
+            return false;
+        }
+        from = *offset;
+    }
+    from <= end
+}
+
+// Writes the hash of each piece of some bytes.
+fn write_hashes(bytes: &[u8], offsets: &[usize], hashes: &mut [Hash])
+    requires { AreOffsets bytes.now offsets.now (length hashes.old) }
+    ensures { words_of hashes.new ≡ hashes_between bytes.now offsets.now }
+{
+    'hashes: for i in 0..hashes.len() {
+        let piece = &bytes[offsets[i]..offsets[i + 1]];
+        hashes[i] = Hash::of(compute_data_hash(piece));
+    }
+}
+
+/// Writes the hashes of chunks whose data stands in one buffer: the data of chunk i is the bytes from offset i up to offset
+/// i + 1, so that there is one offset more than hashes. It takes no memory.
+///
+/// Status `DONE`, and `ARGUMENTS` where there isn't exactly one offset more than hashes, where an offset is less than the one
+/// before it, or where one passes the end of the buffer: then nothing is written.
+#[unsafe(no_mangle)]
+pub extern "C" fn yurewha_data_hashes(bytes: &[u8], offsets: &[usize], hashes: &mut [Hash]) -> u32
+    ensures done { (result ≡ DONE) ↔ AreOffsets bytes.now offsets.now (length hashes.old) }
+    ensures statuses { (result ≡ DONE) ⊎ (result ≡ ARGUMENTS) }
+    ensures hashes { result ≡ DONE → words_of hashes.new ≡ hashes_between bytes.now offsets.now }
+    ensures unchanged { result ≢ DONE → hashes.new ≡ hashes.old }
+{
+    if offsets.len() != hashes.len() + 1 || !rise(offsets, bytes.len()) {
+        return ARGUMENTS;
+    }
+    write_hashes(bytes, offsets, hashes);
+    DONE
+}
