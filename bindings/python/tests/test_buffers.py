@@ -73,6 +73,14 @@ def test_others_are_copied_a_piece_at_a_time_or_cross_by_promise():
             assert copied(lambda: call(form, nobody_writes=True)) < MIB // 16, name
 
 
+def test_many_chunks_are_copied_a_piece_at_a_time():
+    offsets = range(0, len(DATA), 1 << 16)
+    expected = y.data_hashes(DATA, offsets)
+    assert copied(lambda: y.data_hashes(memoryview(DATA), offsets)) < MIB // 16
+    assert copied(lambda: y.data_hashes(bytearray(DATA), offsets)) < len(DATA) + MIB + MIB // 16
+    assert y.data_hashes(bytearray(DATA), offsets) == expected
+
+
 @pytest.mark.parametrize("length", [0, 1, 2047, 2048, 2049, MIB - 1, MIB, MIB + 1, 2 * MIB, 2 * MIB + 1])
 def test_the_same_hashes_at_each_length(length):
     data = DATA[:length]
@@ -123,7 +131,7 @@ def crossings(monkeypatch):
 
 
 def test_how_often_a_call_crosses(crossings):
-    """64 KiB cross in one call, which gives up the lock; a hundred chunks in one that is too short to."""
+    """64 KiB cross in one call, which gives up the lock, also as many chunks; a hundred pairs in one that is too short to."""
     data = bytes(1 << 16)
     chunks, hasher = y.Chunks(40 * 100 * b"\0"), y.Hasher()
     for call, expected in (
@@ -133,8 +141,11 @@ def test_how_often_a_call_crosses(crossings):
         (lambda: y.data_hash(bytearray(data), nobody_writes=True), [("data_hash", True)]),
         (lambda: y.internal_node_hash(memoryview(data)), [("internal_node_hash", True)]),
         (lambda: hasher.update(memoryview(b"a" + data)[1:]), [("hasher_update", True)]),
-        (lambda: y.data_hashes(data, range(0, (1 << 16) + 1, 1 << 14)), 4 * [("data_hash", True)]),
-        (lambda: y.data_hashes(data, range(0, 65, 16)), 4 * [("data_hash", False)]),
+        (lambda: y.data_hashes(data, range(0, (1 << 16) + 1, 16)), [("data_hashes", True)]),
+        (lambda: y.data_hashes(data, range(0, 65, 16)), [("data_hashes", False)]),
+        (lambda: y.data_hashes(bytearray(3 * MIB), range(0, 3 * MIB + 1, 1 << 16)), 3 * [("data_hashes", True)]),
+        (lambda: y.data_hashes(bytearray(3 * MIB), [0, 2 * MIB, 3 * MIB]), 2 * [("data_hashes", True)]),
+        (lambda: y.data_hashes(bytearray(3 * MIB), [0, 3 * MIB], nobody_writes=True), [("data_hashes", True)]),
         (lambda: y.data_hash(data[:2000]), [("data_hash", False)]),
         (lambda: y.Subtree.from_chunks(False, chunks, False), [("subtree_from_chunks", False)]),
         (lambda: y.Subtree.from_chunks(False, y.Chunks(10 * chunks.packed), False), [("subtree_from_chunks", True)]),

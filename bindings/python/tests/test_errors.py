@@ -1,6 +1,5 @@
 """Each exception, and each argument that is refused before it crosses."""
 
-import copy
 import pickle
 import resource
 import subprocess
@@ -134,6 +133,7 @@ REFUSED = [
         lambda: freed_session().num_runs,
         lambda: freed_session().run(0),
         lambda: freed_session().runs(),
+        lambda: freed_session().copy(),
         lambda: freed_session().root(0),
         lambda: freed_session().finish(0),
     )),
@@ -178,8 +178,6 @@ REFUSED = [
         lambda: session().put("1", []),
         lambda: session().taken(1.0),
         lambda: pickle.dumps(session()),
-        lambda: copy.copy(session()),
-        lambda: copy.deepcopy(session()),
         lambda: pickle.dumps(y.Hasher()),
         lambda: type("Other", (y.Hash,), {}),
         lambda: type("Other", (y.Hasher,), {}),
@@ -296,7 +294,8 @@ count = 1_000_000
 chunks = y.Chunks(b"".join(i.to_bytes(24, "little") + b"\\1" + bytes(7) + b"\\1" + bytes(7) for i in range(count)))
 tree = y.Subtree.from_chunks(False, chunks, False)
 other = y.Subtree.from_chunks(False, [(y.Hash(), 1)], False)
-session = y.Session()
+session, full = y.Session(), y.Session()
+full.put(0, chunks)
 pages = int(open("/proc/self/statm").read().split()[0])
 resource.setrlimit(resource.RLIMIT_AS, (pages * resource.getpagesize() + (8 << 20), resource.RLIM_INFINITY))
 calls = [
@@ -306,6 +305,7 @@ calls = [
     lambda: y.xorb_hash(chunks),
     lambda: y.file_hash(chunks),
     lambda: session.put(0, chunks),
+    lambda: full.copy(),
     lambda: y.Subtree.merge_all([tree, tree]),
 ]
 for call in calls:
@@ -324,7 +324,7 @@ print("refused", len(calls))
 def test_out_of_memory():
     done = subprocess.run(
         [sys.executable, "-c", OUT_OF_MEMORY.format(path=sys.path)], capture_output=True, text=True, check=False)
-    assert done.stdout == "refused 7\n", done.stderr
+    assert done.stdout == "refused 8\n", done.stderr
 
 
 def test_no_leak():

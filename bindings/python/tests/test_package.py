@@ -149,7 +149,8 @@ def test_what_is_installed():
     told = subprocess.run(
         [sys.executable, "-m", "yurewha"], env={**os.environ, "PYTHONPATH": str(PACKAGE.parent), "YUREWHA_LIB_DIR": LIBRARY},
         cwd="/", capture_output=True, text=True, check=True).stdout
-    assert told == f"yurewha {y.__version__}\nlibrary: {_library.PATH}\nprocessor: {_processor.level()}\n"
+    assert told == (
+        f"yurewha {y.__version__}\nlibrary: {_library.PATH}, version {y.__version__}\nprocessor: {_processor.level()}\n")
     assert _processor.level() in ("x86-64-v2", "x86-64-v3", os.uname().machine)
 
 
@@ -163,18 +164,18 @@ def test_what_is_installed_where_the_loader_finds_the_library(tmp_path):
     told = subprocess.run(
         [sys.executable, "-m", "yurewha"], env={**os.environ, **names, "YUREWHA_LIB_DIR": ""}, cwd="/", capture_output=True,
         text=True, check=True).stdout
-    assert f"library: {folder / _library.NAME}\n" in told
+    assert f"library: {folder / _library.NAME}, version {y.__version__}\n" in told
 
 
 def test_a_library_without_a_call(tmp_path):
     if not shutil.which("gcc"):
         pytest.skip("there is no compiler")
-    (tmp_path / "a.c").write_text("void yurewha_data_hash(void) {}\n")
+    (tmp_path / "a.c").write_text("void yurewha_version(void) {}\n")
     subprocess.run(["gcc", "-shared", "-fPIC", "-o", str(tmp_path / _library.NAME), str(tmp_path / "a.c")], check=True)
     copy = tmp_path / "elsewhere" / "yurewha"
     shutil.copytree(PACKAGE, copy, ignore=shutil.ignore_patterns("lib", "__pycache__"))
     told = found({"PYTHONPATH": str(copy.parent), "YUREWHA_LIB_DIR": str(tmp_path)}, tmp_path)
-    assert told == f"ImportError: yurewha: {tmp_path / _library.NAME} has no yurewha_internal_node_hash"
+    assert told == f"ImportError: yurewha: {tmp_path / _library.NAME} has no yurewha_data_hashes"
 
 
 ON_X86_64 = pytest.mark.skipif(os.uname().machine != "x86_64", reason="it is about x86-64")

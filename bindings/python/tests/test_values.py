@@ -1,5 +1,6 @@
 """Reference hashes and worked examples."""
 
+import copy
 import json
 
 import pytest
@@ -181,3 +182,13 @@ def test_the_session():
     assert list(session) == session.runs() == [(0, session.run(0)[1])] and dict(session)[0].total_size == 600
     assert session.num_runs == 1 and session.run(0)[1] == y.Subtree.from_chunks(False, [one, two] * 2, False)
     assert y.Session().finish(0) == y.Session().root(0) == Z and repr(session) == "<yurewha.Session of 1 runs>"
+
+
+def test_a_copy_of_a_session():
+    session = y.Session()
+    session.put(2, [seeded(3), seeded(4)]), session.put(7, [seeded(1)])
+    for other in (session.copy(), copy.copy(session), copy.deepcopy(session)):
+        assert other.runs() == session.runs() and other.put(0, [seeded(1), seeded(2)]) == 1
+        assert other.taken(0) and not session.taken(0)
+    assert other.put(4, [seeded(1), seeded(2), seeded(3)]) == 0
+    assert other.finish(8) == y.file_hash([seeded(k) for k in (1, 2, 3, 4, 1, 2, 3, 1)])

@@ -1,7 +1,9 @@
 """`python -m yurewha`: what is installed, and what it runs on."""
 
+import ctypes
+
 from . import __version__
-from ._library import LEVEL, NAME, PATH
+from ._library import LEVEL, NAME, PATH, short
 
 
 def loaded() -> str:
@@ -19,7 +21,18 @@ def loaded() -> str:
     return PATH
 
 
+def version() -> str:
+    """The version of the library.
+
+    >>> version().count(".")
+    2
+    """
+    text, length = ctypes.create_string_buffer(32), ctypes.c_size_t()
+    short.yurewha_version(text, len(text), length)
+    return text.raw[:length.value].decode("ascii")
+
+
 if __name__ == "__main__":
     print(f"yurewha {__version__}")
-    print(f"library: {loaded()}")
+    print(f"library: {loaded()}, version {version()}")
     print(f"processor: {LEVEL}")

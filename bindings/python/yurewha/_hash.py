@@ -17,8 +17,9 @@ from ._types import BytesLike, view_of
 __all__ = ["Hash", "Hasher", "data_hash", "internal_node_hash"]
 
 _MAX_U64 = 2**64 - 1
-# So many bytes are copied at once. Fewer than the second number are always copied, which takes less time than lending them.
-_PIECE = 1 << 20
+#: So many bytes are copied at once.
+PIECE = 1 << 20
+# Fewer bytes are always copied, which takes less time than lending them.
 _SHORT = 2048
 _HEX_LENGTH = LENGTHS["YUREWHA_HEX_LENGTH"]
 _BASE64_LENGTH = LENGTHS["YUREWHA_BASE64_LENGTH"]
@@ -364,7 +365,7 @@ def _handed(
             return at_once(bytes_of(view), length)
         if nobody_writes or of_bytes or is_read_only(view):
             return in_place(view, at_once)
-        if length <= _PIECE:
+        if length <= PIECE:
             return at_once(view.tobytes(), length)
         with Lent(view) as lent:
             lent.hold()
@@ -482,8 +483,8 @@ class Hasher(Guarded):
         self._refuse_reentry()
         with self._by_pieces:
             state = CHasher.from_buffer_copy(self._state)
-            for start in range(0, lent.length, _PIECE):
-                stop = min(start + _PIECE, lent.length)
+            for start in range(0, lent.length, PIECE):
+                stop = min(start + PIECE, lent.length)
                 _add(state, lent.piece(start, stop), stop - start)
             ctypes.memmove(ctypes.byref(self._state), ctypes.byref(state), ctypes.sizeof(CHasher))
 

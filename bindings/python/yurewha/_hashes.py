@@ -6,8 +6,8 @@ import ctypes
 import re
 from typing import Dict, Iterable, Iterator, List, SupportsIndex, Union, cast, final
 
-from ._errors import InvalidArguments, InvalidText
-from ._hash import Hash, checked_32, checked_bool, whole_number
+from ._errors import InvalidArguments, InvalidText, error_of
+from ._hash import PIECE, Hash, Start, checked_32, checked_bool, whole_number
 from ._lent import Lent, is_read_only
 from ._library import LONG_BYTES, CHash, calls_for
 from ._packed import BYTE, HASH, WORD, Packed, block_or_items, checked_block
@@ -133,9 +133,9 @@ def data_hashes(
 ) -> Hashes:
     """The hash of each chunk of some bytes, as `data_hash` gives it. Chunk i begins at offset i and ends before offset i + 1.
 
-    `InvalidArguments` where there is no offset, or one is less than the one before it or passes the end. Chunks of read-only
-    bytes are hashed where they are; others are copied one by one, but under the promise `nobody_writes=True`. The
-    interpreter's lock is given up while a chunk of 16 KiB or more is hashed, and held between two of them.
+    `InvalidArguments` where there is no offset, or one is less than the one before it or passes the end. Read-only bytes are
+    hashed where they are; others are copied, a MiB or a chunk at a time, but under the promise `nobody_writes=True`. From 16 KiB
+    on the interpreter's lock is given up meanwhile.
 
     >>> from yurewha import data_hash
     >>> data_hashes(b"abcd", [0, 3, 4]) == Hashes([data_hash(b"abc"), data_hash(b"d")])
@@ -148,12 +148,40 @@ def data_hashes(
         if not view.c_contiguous:
             return data_hashes(view.tobytes(), places)
         lent.hold()
-        as_they_are = nobody_writes or is_read_only(view)
-        out = (CHash * (len(places) - 1))()
-        for start, stop, hash_ in zip(places, places[1:], out):
-            given = lent.at(start) if as_they_are else lent.piece(start, stop)
-            calls_for(stop - start, LONG_BYTES).yurewha_data_hash(given, stop - start, hash_)
-    return Hashes._of(bytes(out))
+        if nobody_writes or is_read_only(view):
+            return Hashes._of(_hashed(lent.at(0), lent.length, places))
+        return Hashes._of(b"".join(_hashed_copy(lent, piece) for piece in _pieces(places)))
+
+
+def _hashed(start: Start, length: int, places: List[int]) -> bytes:
+    """The hashes of the chunks between some places of some bytes."""
+    count = len(places) - 1
+    out, offsets = (CHash * count)(), (ctypes.c_size_t * len(places))(*places)
+    calls = calls_for(places[-1] - places[0], LONG_BYTES)
+    status = calls.yurewha_data_hashes(start, length, offsets, len(places), out, count)
+    if status:
+        raise error_of(status)
+    return bytes(out)
+
+
+def _hashed_copy(lent: Lent, places: List[int]) -> bytes:
+    copy = lent.piece(places[0], places[-1])
+    return _hashed(copy, len(copy), [place - places[0] for place in places])
+
+
+def _pieces(places: List[int]) -> Iterator[List[int]]:
+    """The places of chunks that are copied together: of at most a MiB, or of one chunk.
+
+    >>> list(_pieces([0, 1, 2 << 20, 3 << 20, (3 << 20) + 1]))
+    [[0, 1], [1, 2097152], [2097152, 3145728], [3145728, 3145729]]
+    """
+    piece = places[:1]
+    for place in places[1:]:
+        if len(piece) > 1 and place - piece[0] > PIECE:
+            yield piece
+            piece = piece[-1:]
+        piece.append(place)
+    yield piece
 
 
 def _checked_offsets(offsets: Union[Iterable[SupportsIndex], BytesLike], end: int) -> List[int]:

@@ -178,11 +178,25 @@ class Session(Guarded):
             raise error_of(status)
         return Hash._of(bytes(out))
 
-    def __copy__(self) -> NoReturn:
-        raise TypeError("a Session can't be copied, since the library has no call that copies one; its runs can")
+    def copy(self) -> Session:
+        """Another session of the same chunks, which knows the same hashes and goes its own way.
 
-    def __deepcopy__(self, memo: object) -> NoReturn:
-        raise TypeError("a Session can't be copied, since the library has no call that copies one; its runs can")
+        >>> one = Session(); _ = one.put(3, [(Hash(), 1)]); other = one.copy()
+        >>> other.put(4, [(Hash(), 1)]), one.taken(4), other.taken(4)
+        (0, False, True)
+        """
+        other = Session()
+        with self._locked():
+            status = long.yurewha_session_copy(self._handle, other._handle)
+        if status:
+            raise error_of(status)
+        return other
+
+    def __copy__(self) -> Session:
+        return self.copy()
+
+    def __deepcopy__(self, memo: object) -> Session:
+        return self.copy()
 
     def __reduce__(self) -> NoReturn:
         raise TypeError("a Session can't be pickled, since the library has no call that lists its hashes; its runs can")

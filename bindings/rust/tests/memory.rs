@@ -228,6 +228,7 @@ fn sessions_are_refused() {
         }
     }
     assert_each_refusal(NO_MEMORY, || session.try_range(0));
+    assert_each_refusal(NO_MEMORY, || session.try_clone());
     assert_each_refusal(NO_MEMORY, || session.gaps(60));
     assert_each_refusal(SessionFault::Memory, || session.root(60));
     assert_each_refusal(SessionFault::Memory, || session.finish(60));
@@ -259,7 +260,7 @@ fn a_value_that_is_dropped_frees_its_memory() {
         let mut session = Session::new();
         session.put(10, &nodes[10..]).unwrap();
         session.put(0, &nodes[..10]).unwrap();
-        assert_eq!(session.runs().count(), 1);
+        assert_eq!(session.clone().runs().count(), 1);
         assert_eq!(session.finish(60), Ok(file_hash(&nodes)));
     });
     assert_eq!(left, 0);
@@ -313,6 +314,7 @@ fn calls_without_a_result_name_call_and_cause_in_a_panic() {
     assert_eq!(panic_of(|| drop(Session::new())), "Session::new: out of memory");
     assert_eq!(panic_of(|| drop(Session::default())), "Session::new: out of memory");
     assert_eq!(panic_of(|| session.range(0)), "Session::range: out of memory");
+    assert_eq!(panic_of(|| session.clone()), "Session::clone: out of memory");
 }
 
 #[test]

@@ -79,7 +79,7 @@ impl Refusal for SessionFault {
 /// assert_eq!(session.finish(5), Ok(file_hash(&[first, second, third, first, third])));
 /// ```
 ///
-/// A session can't be cloned or written: the library has no call that copies one, or that lists its hashes.
+/// A session can't be written: the library has no call that lists its hashes.
 ///
 /// Threads may share a session. Those that look at one at once take turns, each for the time of a call.
 pub struct Session {
@@ -117,6 +117,22 @@ impl Session {
         // SAFETY: an empty handle to write to.
         let handle = answer(|made: &mut Owned<_>| unsafe { ffi::yurewha_session_new(made.get_mut()) })?;
         Ok(Session { handle, total_size: 0 })
+    }
+
+    /// [`clone`](Clone::clone), refused where memory is.
+    ///
+    /// ```
+    /// use yurewha::own::Session;
+    ///
+    /// assert_eq!(Session::new().try_clone()?.num_runs(), 0);
+    /// # Ok::<(), yurewha::error::CoreError>(())
+    /// ```
+    pub fn try_clone(&self) -> Result<Self> {
+        // SAFETY: a handle, and another one that is empty to write to.
+        let handle =
+            answer(|copy: &mut Owned<_>| unsafe { ffi::yurewha_session_copy(&mut *self.lock(), copy.get_mut()) })?;
+        let total_size = self.total_size;
+        Ok(Session { handle, total_size })
     }
 
     // The handle, for one call.
@@ -353,6 +369,18 @@ impl Session {
     pub fn finish(&self, total: u64) -> std::result::Result<MerkleHash, SessionFault> {
         // SAFETY: a handle, and a hash to write to.
         answer(|hash: &mut MerkleHash| unsafe { ffi::yurewha_session_finish(&mut *self.lock(), total, hash.out()) })
+    }
+}
+
+/// A copy, which has the same chunks and knows the same hashes.
+///
+/// # Panics
+///
+/// Where memory is refused; see [`try_clone`](Session::try_clone).
+impl Clone for Session {
+    #[track_caller]
+    fn clone(&self) -> Self {
+        plain("Session::clone", self.try_clone())
     }
 }
 

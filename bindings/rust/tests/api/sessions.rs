@@ -119,6 +119,24 @@ fn drawn_orders_give_the_file_hash_of_the_whole() {
 }
 
 #[test]
+fn a_clone_is_a_session_of_its_own() {
+    let chunks = reference(&[1, 2, 3, 4]);
+    let mut session = Session::new();
+    session.put(2, &chunks[2..]).unwrap();
+    session.put(7, &chunks[..1]).unwrap();
+    let mut copy = session.clone();
+    assert_eq!(copy.runs().collect::<Vec<_>>(), session.runs().collect::<Vec<_>>());
+    assert_eq!(copy.total_size(), session.total_size());
+    // The copy knows the first hash and not the second.
+    assert_eq!(copy.put(0, &chunks[..2]), Ok(1));
+    assert_eq!((copy.num_runs(), session.num_runs(), session.taken(0)), (2, 2, false));
+    assert_eq!(session.put(0, &chunks[..2]), Ok(1));
+    drop(session);
+    assert_eq!(copy.put(4, &chunks[..3]), Ok(0));
+    assert_eq!(copy.finish(8), Ok(file_hash(&reference(&[1, 2, 3, 4, 1, 2, 3, 1]))));
+}
+
+#[test]
 fn gaps_are_the_positions_that_are_not_taken() {
     let chunk = (MerkleHash::default(), 1);
     let mut session = Session::new();
