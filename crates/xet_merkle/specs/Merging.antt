@@ -41,7 +41,7 @@ MergeRefusals front back result =
 abbrev pub NoMarkBetweenSubtrees : List Subtree → Type 0
 NoMarkBetweenSubtrees = NoMarkBetween (λ range. range.at_start) (λ range. range.at_end)
 
--- the start mark of the first range, and the end mark of the last; no ranges have both
+-- the start mark of the first range, and the end mark of the last. Without ranges, both ends are marked
 abbrev pub start_mark : List Subtree → Bool
 start_mark [] = true
 start_mark (range ∷ ranges) = range.at_start
