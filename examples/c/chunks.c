@@ -1,5 +1,5 @@
 /*
- * Hashes a file's chunks of 64 KiB, and prints the hash and the size of each, the root and the file hash.
+ * Cuts a file into chunks of 64 KiB. Prints the hash and the size of each, then the root and the file hash.
  *
  *     chunks FILE
  */
@@ -23,7 +23,7 @@ static void print_hash(const char *name, const yurewha_hash *hash)
         printf("%s%.*s", name, (int)length, text);
 }
 
-/* Adds the chunk whose data this is. */
+/* Adds a chunk with this data. */
 static bool add(struct list *list, const uint8_t *data, size_t size)
 {
     yurewha_chunk *chunks = realloc(list->chunks, (list->count + 1) * sizeof *chunks);

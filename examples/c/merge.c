@@ -1,6 +1,7 @@
 /*
- * Merges ranges of one file's chunks, which were hashed apart. Each argument names a file with the pairs of a range, one in a
- * line: the hash of a chunk in hex, a space, and its size. It prints how many nodes are kept of each range, and the root.
+ * Merges ranges of one file's chunks that were hashed separately. Each argument names a file with the pairs of a range. A
+ * line has one pair: the hash of a chunk in hex, a space, and its size. The program prints how many nodes are kept of each
+ * range, and the root.
  *
  *     merge FIRST NEXT..
  */
@@ -15,7 +16,7 @@ static void fail(const char *what, const char *name)
     fprintf(stderr, "merge: %s: %s\n", name, what);
 }
 
-/* Makes the subtree of a range from its pairs. */
+/* Reads the pairs of a range and makes its subtree. */
 static bool read_range(const char *name, bool at_start, bool at_end, yurewha_subtree *range)
 {
     yurewha_chunk *chunks = NULL;

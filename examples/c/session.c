@@ -1,6 +1,6 @@
 /*
- * Puts chunks by their positions into a session, in the order in which they come, and prints what it says of each part and
- * of the whole. The chunks are drawn: that at position p has the hash of seed p % 10 and the size 1000 + p.
+ * Puts three parts of a file into a session, not in order. Prints the result of each put, and the file hash of the whole.
+ * The chunks are pseudorandom: the chunk at position p has the hash of seed p % 10 and the size 1000 + p.
  *
  *     session
  */
@@ -11,7 +11,7 @@
 
 enum { PART = 8, TOTAL = 24 };
 
-/* Puts the chunks at PART positions, and tells how many of their hashes are new, and how many runs there are now. */
+/* Puts PART chunks, and prints how many of their hashes are new and how many runs there are now. */
 static yurewha_status put(yurewha_session *session, uint64_t first)
 {
     yurewha_chunk chunks[PART];
@@ -31,7 +31,7 @@ static yurewha_status put(yurewha_session *session, uint64_t first)
     return status;
 }
 
-/* Tells the file hash of the whole, or why there is none. */
+/* Prints the file hash of the whole, or why there is none. */
 static yurewha_status finish(yurewha_session *session)
 {
     yurewha_hash hash;
@@ -53,7 +53,7 @@ int main(void)
     bool done = yurewha_session_new(&session) == YUREWHA_DONE;
     done = done && put(&session, 16) == YUREWHA_DONE;
     done = done && put(&session, 0) == YUREWHA_DONE;
-    done = done && put(&session, 4) == YUREWHA_SESSION_OVERLAP; /* refused, and nothing has changed */
+    done = done && put(&session, 4) == YUREWHA_SESSION_OVERLAP; /* it fails, and nothing has changed */
     done = done && finish(&session) == YUREWHA_SESSION_GAP;     /* the positions 8 to 15 aren't taken */
     done = done && put(&session, 8) == YUREWHA_DONE;
     done = done && finish(&session) == YUREWHA_DONE;
