@@ -1,7 +1,7 @@
-"""Yurewha: the hashes by which the Hugging Face Xet store names chunks and files, and merging what is kept of ranges.
+"""Yurewha computes the hashes by which the Hugging Face Xet store names chunks and files, and merges hashed ranges.
 
-Each hash, root and merge is made by a proved library. What isn't proved is this package, which hands arguments over and
-brings answers back.
+A proved library computes each hash, root and merge. This package isn't proved. It passes arguments to the library and
+returns the results.
 
 >>> one, two = (Hash.random_from_seed(1), 100), (Hash.random_from_seed(2), 200)
 >>> left, right = Subtree.from_chunks(True, [one, two], False), Subtree.from_chunks(False, [one, two], True)
