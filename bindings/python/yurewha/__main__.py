@@ -1,4 +1,4 @@
-"""`python -m yurewha`: what is installed, and what it runs on."""
+"""`python -m yurewha` prints what is installed and which processor it runs on."""
 
 import ctypes
 
@@ -7,7 +7,7 @@ from ._library import LEVEL, NAME, PATH, short
 
 
 def loaded() -> str:
-    """The file of the library, also where the loader found it.
+    """The path of the loaded library, even if the system's loader found it.
 
     >>> NAME in loaded()
     True
