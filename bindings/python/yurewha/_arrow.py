@@ -1,4 +1,4 @@
-"""Columns of Arrow, which other packages lend by its C data interface in capsules."""
+"""Columns of Arrow, which other packages lend in capsules by its C data interface."""
 
 from __future__ import annotations
 
@@ -62,16 +62,17 @@ _CStruct = TypeVar("_CStruct", _CSchema, _CArray, _CStream)
 _get_pointer = ctypes.pythonapi["PyCapsule_GetPointer"]
 _get_pointer.argtypes, _get_pointer.restype = [ctypes.py_object, ctypes.c_char_p], ctypes.c_void_p
 
-#: Arrow's formats of whole numbers, and those of the buffer protocol.
+#: The buffer protocol's format for each of Arrow's formats of whole numbers.
 _NUMBERS = {"s": "h", "S": "H", "i": "i", "I": "I", "l": "q", "L": "Q"}
 
-#: The format of an item for the buffer protocol, and how many there are in a row of a column.
+#: The buffer protocol's format of an item, and the number of items in a row of a column.
 _Row = Tuple[str, int]
 
 
 def block_of_array(column: object) -> Optional[memoryview]:
-    """A copy of an array of Arrow as a block: of whole numbers, or of rows of bytes. None if it isn't one, or gives its items in
-    another way.
+    """Returns a copy of an Arrow array as a block of whole numbers or of rows of bytes.
+
+    Returns None if `column` isn't an Arrow array, or if its items must be read in another way.
 
     >>> block_of_array(b"abc") is None
     True
@@ -85,7 +86,7 @@ def block_of_array(column: object) -> Optional[memoryview]:
 
 
 def block_of_stream(column: object) -> Optional[memoryview]:
-    """The same of a column of Arrow that comes in parts.
+    """Does the same with an Arrow column that comes in parts.
 
     >>> block_of_stream(b"abc") is None
     True
@@ -98,7 +99,7 @@ def block_of_stream(column: object) -> Optional[memoryview]:
 
 
 def _held(capsule: object, name: bytes, kind: Type[_CStruct]) -> _CStruct:
-    """What a capsule holds. It stays there as long as the capsule is kept."""
+    """Returns what a capsule holds. It stays valid as long as the capsule is kept."""
     held = kind.from_address(_get_pointer(capsule, name))
     if not held.release:
         raise InvalidArguments("the column of Arrow was given away before")
@@ -106,7 +107,7 @@ def _held(capsule: object, name: bytes, kind: Type[_CStruct]) -> _CStruct:
 
 
 def _row_of(schema: _CSchema, column: object) -> Optional[_Row]:
-    """What the items of a column are, or None if they can be had from its array or one by one alone."""
+    """Returns the form of a column's items, or None if they must be read from its array or one by one."""
     text = schema.format.decode("ascii", "replace")
     bytes_ = re.fullmatch("w:([1-9][0-9]{0,8})", text)
     if bytes_ and not schema.dictionary:
@@ -120,7 +121,7 @@ def _row_of(schema: _CSchema, column: object) -> Optional[_Row]:
 
 
 def _values(row: _Row, array: _CArray, before: int) -> bytes:
-    """The bytes of a part, before which so many items came."""
+    """Returns the bytes of a part. `before` is the number of items in the parts before it."""
     for place in _nulls(array):
         raise InvalidArguments(f"item {before + place} of the column of Arrow is null")
     if array.length == 0:
@@ -149,7 +150,7 @@ def _shaped(row: _Row, parts: List[bytes]) -> memoryview:
 
 
 def _joined(stream: _CStream, column: object) -> Optional[memoryview]:
-    """The parts of a column, one after the other. Each is given back once it is copied."""
+    """Returns the parts of a column as one block. Each part is released once it is copied."""
     schema = _CSchema()
     _check(stream, stream.get_schema(ctypes.addressof(stream), schema))
     try:
@@ -174,5 +175,5 @@ def _parts(stream: _CStream, row: _Row) -> Iterator[bytes]:
 
 def _check(stream: _CStream, status: int) -> None:
     if status:
-        told = stream.get_last_error(ctypes.addressof(stream)) or b"no reason is told"
+        told = stream.get_last_error(ctypes.addressof(stream)) or b"no reason is given"
         raise InvalidArguments(f"the column of Arrow can't be read: {told.decode('utf-8', 'replace')}")
