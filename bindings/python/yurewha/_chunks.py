@@ -1,4 +1,4 @@
-"""Chunks, packed as the library reads them: 40 bytes each."""
+"""Chunks in the library's form: 40 bytes each."""
 
 from __future__ import annotations
 
@@ -16,10 +16,10 @@ __all__ = ["Chunks"]
 
 #: A chunk: its hash, and its size in bytes.
 Chunk = Tuple[Hash, int]
-#: What a call takes as chunks.
+#: What a call accepts as chunks.
 ChunksLike = Union["Chunks", Iterable[Tuple[Hash, SupportsIndex]], BytesLike]
 
-#: What a call takes as sizes.
+#: What a call accepts as sizes.
 SizesLike = Union[Iterable[SupportsIndex], BytesLike]
 
 _SIZE = 40
@@ -65,7 +65,7 @@ def _unpack(view: memoryview) -> bytes:
 
 
 def _hash_first(block: bytes) -> bytes:
-    """Chunks with their hashes first, of chunks with their sizes first."""
+    """Puts the hash of each chunk before its size."""
     out = bytearray(len(block))
     given, made = memoryview(block).cast("Q"), memoryview(out).cast("Q")
     for word in range(5):
@@ -74,7 +74,7 @@ def _hash_first(block: bytes) -> bytes:
 
 
 def _packed_sizes(sizes: SizesLike) -> bytes:
-    """Eight bytes for each size of a column, the least first."""
+    """Returns eight bytes for each size of a column, little-endian."""
     given = block_or_items(sizes, _EXPECTED_SIZES)
     if not isinstance(given, memoryview):
         return _pack_sizes(cast(Iterable[SupportsIndex], given))
@@ -95,13 +95,14 @@ def _pack_sizes(sizes: Iterable[SupportsIndex]) -> bytes:
 
 @final
 class Chunks(Packed[Chunk]):
-    """A list of chunks in one block: for each the 32 bytes of its hash, then its size in eight bytes, the least first.
+    """A list of chunks in one block. Each has the 32 bytes of its hash, then its size in eight bytes, little-endian.
 
-    It is made from pairs, or from a block: `bytes`, or anything with the buffer protocol, among it NumPy arrays of bytes, of
-    five unsigned words of eight bytes a row, or of items of 40 bytes. Items with fields are taken by their names and types:
-    `hash` (or `words`) of 32 bytes and `size`, in either order; any other is refused. It can't be changed; a block that
-    others may change is copied once. A million chunks so go to the library in one call, without a million objects. NumPy
-    sees it as an array of `words` and `size`: `numpy.asarray(chunks)`.
+    It is made from pairs of a `Hash` and a size, or from a block. A block is `bytes` or anything with the buffer protocol. It
+    may be a NumPy array of bytes, of five unsigned words of eight bytes a row, or of items of 40 bytes. Items may have the
+    fields `hash` (or `words`) of 32 bytes and `size`, in either order. Items with other fields raise `InvalidArguments`.
+
+    The list is immutable. A block that others may change is copied once. So a million chunks go to the library in one call,
+    without a million objects. `numpy.asarray(chunks)` is an array with the fields `words` and `size`.
 
     >>> chunks = Chunks([(Hash.random_from_seed(1), 100), (Hash.random_from_seed(2), 200)])
     >>> len(chunks), chunks[1][1], len(chunks.packed)
@@ -126,15 +127,17 @@ class Chunks(Packed[Chunk]):
             return cls._of(_unpack(given))
 
     def __init_subclass__(cls) -> None:
-        raise TypeError("Chunks isn't made to be derived from")
+        raise TypeError("Chunks can't be subclassed")
 
     @staticmethod
     def from_columns(hashes: HashesLike, sizes: SizesLike) -> Chunks:
-        """The chunks of a column of hashes and a column of sizes, which are lists, or columns of NumPy, pandas or Arrow.
+        """Returns the chunks of a column of hashes and a column of sizes: lists, or columns of NumPy, pandas or Arrow.
 
-        Hashes are taken as by `Hashes`. Sizes are whole numbers from 0 to 2^64 - 1, also in signed columns; or a buffer of
-        eight bytes for each, as Arrow's `uint64` and `int64` without nulls have it. `InvalidArguments` with the index of the
-        first size that is none, or where there are more hashes than sizes or fewer.
+        Hashes are what `Hashes` accepts. Sizes are whole numbers from 0 to 2^64 - 1, in columns of signed or unsigned
+        numbers. They may also be a buffer of eight bytes for each, like Arrow's `uint64` and `int64` without nulls.
+
+        Raises `InvalidArguments` with the index of the first size that is out of range. Also raises it if there isn't one size
+        for each hash.
 
         >>> Chunks.from_columns([Hash(), Hash()], [1, 2]) == Chunks([(Hash(), 1), (Hash(), 2)])
         True
@@ -151,7 +154,7 @@ class Chunks(Packed[Chunk]):
 
     @property
     def hashes(self) -> Hashes:
-        """The column of the hashes.
+        """The hashes, as a column.
 
         >>> Chunks([(Hash(), 1)]).hashes == Hashes([Hash()])
         True
@@ -164,7 +167,7 @@ class Chunks(Packed[Chunk]):
 
     @property
     def sizes(self) -> memoryview:
-        """The column of the sizes, which NumPy takes as it is: `numpy.asarray(chunks.sizes)`.
+        """The sizes, as a column. NumPy shares it without a copy: `numpy.asarray(chunks.sizes)`.
 
         >>> list(Chunks([(Hash(), 1), (Hash(), 2)]).sizes)
         [1, 2]
@@ -173,7 +176,7 @@ class Chunks(Packed[Chunk]):
 
     @property
     def __array_interface__(self) -> Dict[str, object]:
-        """How NumPy shares the block, read-only.
+        """Lets NumPy share the block, read-only.
 
         >>> Chunks([(Hash(), 1)]).__array_interface__["shape"]
         (1,)
