@@ -1,14 +1,14 @@
-"""What the package takes the library's calls to be: each name, its answer and its arguments, as the C header spells them.
+"""The library's calls: the name, return type and argument types of each, as in the C header.
 
-This is the one list of the calls. It is plain data, and importing it loads no library, so that a test can compare it with
-the header. `_library.py` makes the ctypes declarations from it.
+This is the only list of the calls. It is plain data, and importing it loads no library, so a test can compare it with the
+header. `_library.py` makes the ctypes declarations from it.
 """
 
 from __future__ import annotations
 
 from typing import Dict, Tuple
 
-#: The answer, and the types of the arguments in order.
+#: The return type, and the types of the arguments in order.
 Declaration = Tuple[str, Tuple[str, ...]]
 
 DECLARATIONS: Dict[str, Declaration] = {
@@ -79,7 +79,7 @@ DECLARATIONS: Dict[str, Declaration] = {
     "yurewha_session_free": ("void", ("yurewha_session *",)),
 }
 
-#: The statuses, as the header names them.
+#: The statuses, by their names in the header.
 STATUSES: Dict[str, int] = {
     "YUREWHA_DONE": 0,
     "YUREWHA_ARGUMENTS": 1,
@@ -96,13 +96,13 @@ STATUSES: Dict[str, int] = {
     "YUREWHA_SESSION_GAP": 37,
 }
 
-#: The lengths of a hash as hex and as base64 text, as the header names them.
+#: The lengths of a hash as hex text and as base64 text, by their names in the header.
 LENGTHS: Dict[str, int] = {
     "YUREWHA_HEX_LENGTH": 64,
     "YUREWHA_BASE64_LENGTH": 43,
 }
 
-#: The structs that cross, and their sizes in bytes.
+#: The structs that calls use, and their sizes in bytes.
 STRUCTS: Dict[str, int] = {
     "yurewha_hash": 32,
     "yurewha_bytes": 32,
