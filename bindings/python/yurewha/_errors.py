@@ -1,4 +1,4 @@
-"""The exceptions, which have the names of the library's errors."""
+"""The exceptions. They have the names of the library's errors."""
 
 from __future__ import annotations
 
@@ -23,26 +23,26 @@ __all__ = [
     "YurewhaError",
 ]
 
-#: What each of the rules 1 to 13 asks of the JSON form of a subtree.
+#: What each of the rules 1 to 13 requires of the JSON form of a subtree.
 RULES: Dict[int, str] = {
     1: "the value is an object",
-    2: "`nodes` and `levels` are arrays, `at_start` and `at_end` truth values",
+    2: "`nodes` and `levels` are arrays, and `at_start` and `at_end` are booleans",
     3: "a node is an object with `hash`, 64 hex digits, and `size`, a whole number below 2^64",
     4: "a level is an array of two whole numbers below 2^64",
-    5: "there is a level",
+    5: "there is at least one level",
     6: "the counts of all levels add up to the number of nodes",
     7: "the sizes of all nodes add up to at most 2^64 - 1",
-    8: "the top level has no right nodes, nor has any level under `at_end`",
-    9: "no level below the top has left nodes under `at_start`",
-    10: "with both marks, the top has at most one node",
-    11: "where there are several levels, the top has a node",
-    12: "without `at_start`, left nodes below the top end as those before a first stable point",
-    13: "without `at_end`, right nodes below the top begin as those after a last stable point",
+    8: "the top level has no right nodes; with `at_end`, no level has any",
+    9: "with `at_start`, no level below the top has left nodes",
+    10: "with both marks, the top level has at most one node",
+    11: "if there are several levels, the top level has a node",
+    12: "without `at_start`, left nodes below the top end like the nodes before a first stable point",
+    13: "without `at_end`, right nodes below the top begin like the nodes after a last stable point",
 }
 
 
 class YurewhaError(Exception):
-    """What every refusal of this package is.
+    """The base class of all errors of this package.
 
     >>> issubclass(InvalidText, YurewhaError)
     True
@@ -58,7 +58,7 @@ class InvalidArguments(YurewhaError, ValueError):
 
 
 class DivisionByZero(InvalidArguments, ZeroDivisionError):
-    """The remainder of a division by 0 was asked for; it's an `InvalidArguments` too.
+    """The divisor is 0. This is also an `InvalidArguments`.
 
     >>> issubclass(DivisionByZero, InvalidArguments)
     True
@@ -74,7 +74,7 @@ class SizeOverflow(YurewhaError, OverflowError, ValueError):
 
 
 class OutOfMemory(YurewhaError, MemoryError):
-    """An allocation was refused. Nothing has changed.
+    """An allocation failed. Nothing has changed.
 
     >>> issubclass(OutOfMemory, MemoryError)
     True
@@ -82,7 +82,7 @@ class OutOfMemory(YurewhaError, MemoryError):
 
 
 class InvalidText(YurewhaError, ValueError):
-    """A text isn't of the form that is read.
+    """A text doesn't have the expected form.
 
     >>> issubclass(InvalidText, ValueError)
     True
@@ -90,7 +90,7 @@ class InvalidText(YurewhaError, ValueError):
 
 
 class InvalidJson(YurewhaError, ValueError):
-    """A JSON value, or flat lists, say no subtree. `rule` is the least rule from 1 to 13 that they break.
+    """A JSON value, or flat lists, don't describe a subtree. `rule` is the lowest rule, from 1 to 13, that they break.
 
     >>> InvalidJson(5).rule
     5
@@ -105,7 +105,7 @@ class InvalidJson(YurewhaError, ValueError):
 
 
 class EmptyHandle(YurewhaError, ValueError):
-    """The object has nothing: it was never made by a call of this package, or was freed by hand.
+    """The object is empty. No call of this package made it, or it was freed by hand.
 
     >>> issubclass(EmptyHandle, ValueError)
     True
@@ -113,7 +113,7 @@ class EmptyHandle(YurewhaError, ValueError):
 
 
 class InUseAtFork(YurewhaError, RuntimeError):
-    """This process was forked while another thread used the object, which may be half changed: make a new one.
+    """This process was forked while another thread used the object. It may be half changed: make a new one.
 
     >>> issubclass(InUseAtFork, RuntimeError)
     True
@@ -121,7 +121,7 @@ class InUseAtFork(YurewhaError, RuntimeError):
 
 
 class ReentrantCall(YurewhaError, RuntimeError):
-    """A signal's handler called `update` of a hasher while a long `update` of it was under way in the same thread.
+    """A signal handler called `update` of a hasher during a long `update` of the same hasher in the same thread.
 
     >>> issubclass(ReentrantCall, RuntimeError)
     True
@@ -129,7 +129,7 @@ class ReentrantCall(YurewhaError, RuntimeError):
 
 
 class SessionError(YurewhaError, ValueError):
-    """What a refusal of a session is, but for out of memory.
+    """The base class of a session's errors, except `OutOfMemory`.
 
     >>> issubclass(SessionGap, SessionError)
     True
@@ -145,7 +145,7 @@ class SessionOverlap(SessionError):
 
 
 class SessionPositions(SessionError):
-    """The first position plus the number of chunks passes 2^64 - 1.
+    """The first position plus the number of chunks is more than 2^64 - 1.
 
     >>> issubclass(SessionPositions, ValueError)
     True
@@ -161,7 +161,7 @@ class SessionSizes(SessionError):
 
 
 class SessionGap(SessionError):
-    """The positions taken aren't exactly those below the total.
+    """The taken positions aren't exactly those below the total.
 
     >>> issubclass(SessionGap, ValueError)
     True
@@ -169,11 +169,11 @@ class SessionGap(SessionError):
 
 
 _SIZES = "size overflow: sizes or lengths add up to more than 2^64 - 1"
-_MEMORY = "out of memory: an allocation was refused"
+_MEMORY = "out of memory: an allocation failed"
 
 
 def error_of(status: int, what: str = "invalid arguments") -> YurewhaError:
-    """The exception of a status that isn't 0. `what` is the text of `InvalidArguments` and `InvalidText`.
+    """Returns the exception for a status other than 0. `what` is the text of `InvalidArguments` and `InvalidText`.
 
     >>> error_of(2)
     SizeOverflow('size overflow: sizes or lengths add up to more than 2^64 - 1')
@@ -187,16 +187,16 @@ def error_of(status: int, what: str = "invalid arguments") -> YurewhaError:
     if status == STATUSES["YUREWHA_TEXT"]:
         return InvalidText(what)
     if status == STATUSES["YUREWHA_EMPTY_HANDLE"]:
-        return EmptyHandle("the object has nothing")
+        return EmptyHandle("the object is empty: no call of this package made it, or it was freed")
     if status == STATUSES["YUREWHA_SESSION_OVERLAP"]:
         return SessionOverlap("a position is taken")
     if status == STATUSES["YUREWHA_SESSION_POSITIONS"]:
-        return SessionPositions("the first position plus the number of chunks passes 2^64 - 1")
+        return SessionPositions("the first position plus the number of chunks is more than 2^64 - 1")
     if status == STATUSES["YUREWHA_SESSION_SIZES"]:
         return SessionSizes("the sizes of all chunks add up to more than 2^64 - 1")
     if status == STATUSES["YUREWHA_SESSION_GAP"]:
-        return SessionGap("the positions taken aren't exactly those below the total")
+        return SessionGap("the taken positions aren't exactly those below the total")
     rule = status - STATUSES["YUREWHA_RULE"]
     if rule in RULES:
         return InvalidJson(rule)
-    return YurewhaError(f"the library answered status {status}, which this call doesn't have")
+    return YurewhaError(f"the library returned status {status}, which this call doesn't have")
