@@ -1,14 +1,14 @@
-"""A lock for each object, and what becomes of objects in forked processes.
+"""A lock for each object, and what happens to objects in forked processes.
 
-No two threads may use one handle of the library at once, and ctypes gives up the interpreter's lock in long calls. So each
-call on an object holds the object's own lock, also where it keeps the interpreter's.
+No two threads may use one handle of the library at once, and ctypes releases the interpreter's lock in long calls. So each
+call on an object holds the object's own lock, even if it keeps the interpreter's lock.
 
 A forked process has the objects of its parent as they were. An object that another thread held at that moment may be half
-changed, and its lock is never given back. So the first use of an object in a forked process tries its lock once: where it
-isn't to be had, `InUseAtFork` is raised, now and at each later use, and the object is never freed.
+changed, and its lock is never released. So the first use of an object in a forked process tries its lock once. If the lock
+is held, this use and each later one raise `InUseAtFork`, and the object is never freed.
 
-A signal's handler may run between any two steps below, and use any object. So each lock may be taken again by the thread that
-has it.
+A signal handler may run between any two steps below, and may use any object. So a thread may take a lock again that it
+holds.
 """
 
 from __future__ import annotations
@@ -22,9 +22,9 @@ from ._errors import InUseAtFork
 
 
 class _Process:
-    """How often this process was forked from another, and a lock for taking objects over from there.
+    """How often this process was forked from another, and a lock for taking objects over from the parent.
 
-    Both change at once, since a handler may run before and after.
+    Both change in one step, because a handler may run before and after.
     """
 
     def __init__(self) -> None:
@@ -40,10 +40,10 @@ if hasattr(os, "register_at_fork"):
 
 
 class Guarded:
-    """An object that the calls of one thread alone use at a time.
+    """An object that only one thread at a time may use.
 
-    The lock may be taken again by the thread that has it, so that a signal's handler that uses the object waits for
-    nobody: it runs between two calls of the library, never inside one.
+    The thread that holds the lock may take it again. So a signal handler that uses the object never waits for its own
+    thread. It runs between two calls of the library, never inside one.
     """
 
     __slots__ = ("_lock", "_generation", "__weakref__")
@@ -52,12 +52,12 @@ class Guarded:
     _generation: int
 
     def _guard(self) -> None:
-        """Makes the lock; the first thing that is done with a new object."""
+        """Makes the lock. This must be the first call on a new object."""
         self._lock = threading.RLock()
         self._generation = _process.now[0]
 
     def _is_ours(self) -> bool:
-        """Whether no other thread used the object when this process was forked."""
+        """Returns whether no other thread used the object when this process was forked."""
         generation, taking_over = _process.now
         if self._generation == generation:
             return True
@@ -65,18 +65,18 @@ class Guarded:
             if self._lock.acquire(blocking=False):
                 self._lock.release()
                 self._generation = generation
-            # Where another thread has the lock, it may have taken the object over itself.
+            # Another thread that has the lock may have taken the object over itself.
             return self._generation == generation
 
     def _locked(self) -> threading.RLock:
-        """The lock, to be held during each call on the object."""
+        """Returns the lock. Each call on the object must hold it."""
         if not self._is_ours():
             raise InUseAtFork("this process was forked while another thread used the object")
         return self._lock
 
 
 def both_locked(one: Guarded, other: Guarded) -> Tuple[threading.RLock, threading.RLock]:
-    """The locks of two objects, in the order in which all threads take them.
+    """Returns the locks of two objects, in the order in which all threads take them.
 
     >>> one = Guarded(); one._guard()
     >>> first, second = both_locked(one, one)
@@ -89,7 +89,7 @@ def both_locked(one: Guarded, other: Guarded) -> Tuple[threading.RLock, threadin
 
 
 def all_locked(objects: Iterable[Guarded]) -> ExitStack:
-    """The locks of several objects, taken in one order by all threads, so that no two wait for each other.
+    """Takes the locks of several objects. All threads use the same order, so no two wait for each other.
 
     >>> with all_locked([]):
     ...     pass
