@@ -1,4 +1,4 @@
-"""Hashes, and what hashes bytes."""
+"""Hashes, and the calls and objects that hash bytes."""
 
 from __future__ import annotations
 
@@ -17,9 +17,9 @@ from ._types import BytesLike, view_of
 __all__ = ["Hash", "Hasher", "data_hash", "internal_node_hash"]
 
 _MAX_U64 = 2**64 - 1
-#: So many bytes are copied at once.
+#: How many bytes are copied at once.
 PIECE = 1 << 20
-# Fewer bytes are always copied, which takes less time than lending them.
+# Shorter data is always copied. That is faster than lending it.
 _SHORT = 2048
 _HEX_LENGTH = LENGTHS["YUREWHA_HEX_LENGTH"]
 _BASE64_LENGTH = LENGTHS["YUREWHA_BASE64_LENGTH"]
@@ -27,13 +27,13 @@ _CHex = ctypes.c_char * _HEX_LENGTH
 _CBase64 = ctypes.c_char * _BASE64_LENGTH
 
 _Bytes = bytes
-#: Where bytes begin that are handed to the library.
+#: The start of bytes that are passed to the library.
 Start = Union[bytes, ctypes.c_char_p]
 _Result = TypeVar("_Result")
 
 
 def whole_number(value: SupportsIndex, what: str) -> int:
-    """A whole number.
+    """Returns a whole number, or raises `TypeError`.
 
     >>> whole_number(-7, "an offset")
     -7
@@ -45,7 +45,7 @@ def whole_number(value: SupportsIndex, what: str) -> int:
 
 
 def checked_u64(value: SupportsIndex, what: str) -> int:
-    """A whole number from 0 to 2^64 - 1.
+    """Returns a whole number from 0 to 2^64 - 1, or raises `TypeError` or `InvalidArguments`.
 
     >>> checked_u64(7, "a size")
     7
@@ -57,7 +57,7 @@ def checked_u64(value: SupportsIndex, what: str) -> int:
 
 
 def checked_bool(value: object, what: str) -> bool:
-    """True or False, and nothing that is like them.
+    """Returns True or False. Any other value, even 0 or 1, raises `TypeError`.
 
     >>> checked_bool(True, "at_start")
     True
@@ -68,7 +68,7 @@ def checked_bool(value: object, what: str) -> bool:
 
 
 def checked_text(value: object, what: str) -> bytes:
-    """The bytes of a text.
+    """Returns the UTF-8 bytes of a `str`. A lone surrogate raises `InvalidText`.
 
     >>> checked_text("a", "the text")
     b'a'
@@ -78,11 +78,11 @@ def checked_text(value: object, what: str) -> bytes:
     try:
         return value.encode("utf-8")
     except UnicodeEncodeError:
-        raise InvalidText(f"{what} has half a character") from None
+        raise InvalidText(f"{what} has a lone surrogate") from None
 
 
 def own_bytes(value: BytesLike) -> bytes:
-    """The same bytes in an object that nobody changes: itself where it is `bytes`, else a copy.
+    """Returns the same bytes as immutable `bytes`. An object that is `bytes` isn't copied.
 
     >>> own_bytes(bytearray(b"ab"))
     b'ab'
@@ -94,7 +94,7 @@ def own_bytes(value: BytesLike) -> bytes:
 
 
 def checked_32(value: BytesLike, what: str) -> bytes:
-    """32 bytes.
+    """Returns 32 bytes, or raises `InvalidArguments`.
 
     >>> len(checked_32(bytes(32), "a key"))
     32
@@ -107,10 +107,10 @@ def checked_32(value: BytesLike, what: str) -> bytes:
 
 @final
 class Hash:
-    """A hash: 32 bytes. It can't be changed, can be a key of a dict, and has the order of its hex text.
+    """A hash: 32 bytes. It is immutable, can be a key of a dict, and is ordered like its hex text.
 
-    `Hash()` is the default hash, whose bytes are 0; `Hash(b)` has the 32 bytes `b`. Its text is its hex text, also in formats.
-    JSON has it as that text, which `default=Hash.hex` writes and `Hash.from_hex` reads.
+    `Hash()` is the default hash, all of whose bytes are 0. `Hash(b)` has the 32 bytes `b`. `str` and formats give the hex
+    text. For JSON, `default=Hash.hex` writes that text and `Hash.from_hex` reads it.
 
     >>> Hash().hex() == 64 * "0"
     True
@@ -133,7 +133,7 @@ class Hash:
         return cls._of(bytes(out))
 
     def __init_subclass__(cls) -> None:
-        raise TypeError("Hash isn't made to be derived from")
+        raise TypeError("Hash can't be subclassed")
 
     @classmethod
     def _of(cls, raw: _Bytes) -> Hash:
@@ -149,7 +149,7 @@ class Hash:
 
     @staticmethod
     def from_bytes(data: BytesLike) -> Hash:
-        """The hash of 32 bytes; `InvalidArguments` where there are more or less.
+        """Returns the hash with these 32 bytes. Raises `InvalidArguments` if there are more or fewer.
 
         >>> Hash.from_bytes(bytes(32)) == Hash()
         True
@@ -158,7 +158,7 @@ class Hash:
 
     @staticmethod
     def from_hex(text: str) -> Hash:
-        """The hash whose hex text this is, 64 digits of either case; `InvalidText` otherwise.
+        """Returns the hash with this hex text: 64 digits, lower or upper case. Any other text raises `InvalidText`.
 
         >>> Hash.from_hex(63 * "0" + "A").hex()[-2:]
         '0a'
@@ -172,7 +172,7 @@ class Hash:
 
     @staticmethod
     def from_base64(text: str) -> Hash:
-        """The hash whose base64 text this is, as `base64` gives it; `InvalidText` otherwise.
+        """Returns the hash with this base64 text, as `base64` writes it. Any other text raises `InvalidText`.
 
         >>> Hash.from_base64(43 * "A") == Hash()
         True
@@ -181,12 +181,12 @@ class Hash:
         out = CHash()
         status = short.yurewha_from_base64(data, len(data), out)
         if status:
-            raise error_of(status, "the base64 text of a hash is 43 characters that `base64` gives")
+            raise error_of(status, "the base64 text of a hash is 43 characters, as `base64` writes them")
         return Hash._of(bytes(out))
 
     @staticmethod
     def random_from_seed(seed: int) -> Hash:
-        """A hash drawn from a seed from 0 to 2^64 - 1, for tests.
+        """Returns a pseudorandom hash, for tests. The seed is from 0 to 2^64 - 1.
 
         >>> Hash.random_from_seed(1).hex()[:16]
         'cfc5d07f6f03c29b'
@@ -196,7 +196,7 @@ class Hash:
         return Hash._of(bytes(out))
 
     def hex(self) -> str:
-        """The hex text by which Xet names the hash. Within each eight it has the bytes in reverse, unlike `bytes.hex`.
+        """Returns the hex text that Xet uses for the hash. Unlike `bytes.hex`, it reverses the bytes in each group of eight.
 
         >>> Hash(bytes(range(32))).hex()[:16]
         '0706050403020100'
@@ -208,7 +208,7 @@ class Hash:
         return text.raw.decode("ascii")
 
     def base64(self) -> str:
-        """The URL-safe base64 text of the 32 bytes without padding, 43 characters.
+        """Returns the URL-safe base64 text of the 32 bytes: 43 characters, without padding.
 
         >>> Hash().base64() == 43 * "A"
         True
@@ -235,7 +235,7 @@ class Hash:
 
     @property
     def words(self) -> Tuple[int, int, int, int]:
-        """The four words, each of eight bytes, the first one least.
+        """The four words as integers. Each is read from eight bytes, little-endian.
 
         >>> Hash(b"\\x01" + bytes(31)).words
         (1, 0, 0, 0)
@@ -244,7 +244,7 @@ class Hash:
         return first, second, third, fourth
 
     def hmac(self, key: Hash) -> Hash:
-        """Keyed BLAKE3 of the bytes of this hash under the bytes of a key.
+        """Returns the keyed BLAKE3 hash of the bytes of this hash, under the bytes of the key.
 
         >>> Hash().hmac(Hash()).hex()[:16]
         '638a6bc391964a85'
@@ -308,10 +308,10 @@ class Hash:
 
 
 def data_hash(data: BytesLike, *, nobody_writes: bool = False) -> Hash:
-    """The hash of a chunk, whose data these bytes are.
+    """Returns the hash of a chunk with these bytes.
 
-    Read-only bytes are hashed where they are. Others are copied, a MiB at a time, since somebody may write to them meanwhile;
-    with `nobody_writes=True` the caller promises that nobody does, and they aren't copied.
+    Read-only bytes are hashed in place. Other bytes are copied, a MiB at a time, because another thread may write to them
+    during the call. With `nobody_writes=True` the caller promises that nobody does, and they aren't copied.
 
     >>> data_hash(b"abc").hex()[:16]
     'a8803506f7aff014'
@@ -322,7 +322,7 @@ def data_hash(data: BytesLike, *, nobody_writes: bool = False) -> Hash:
 
 
 def internal_node_hash(data: BytesLike, *, nobody_writes: bool = False) -> Hash:
-    """The hash of an inner node of the tree, whose text these bytes are; taken as by `data_hash`.
+    """Returns the hash of an inner node of the tree with this text. Bytes are read as by `data_hash`.
 
     >>> internal_node_hash(b"") == Hasher.internal_node().hash()
     True
@@ -353,7 +353,7 @@ def _node_hashed_by_pieces(lent: Lent) -> Hash:
 def _handed(
     data: BytesLike, nobody_writes: bool, at_once: Callable[[Start, int], _Result], by_pieces: Callable[[Lent], _Result]
 ) -> _Result:
-    """Hands bytes over at once, as they are where nobody writes to them, or as one copy; or lends them to be copied by pieces."""
+    """Passes bytes on at once, in place if nobody writes to them, else as one copy; or lends them to be copied by pieces."""
     if nobody_writes is not False:
         checked_bool(nobody_writes, "nobody_writes")
     if type(data) is bytes:
@@ -380,7 +380,7 @@ def _add(state: CHasher, start: Start, length: int) -> None:
 
 @final
 class Hasher(Guarded):
-    """A hasher that takes a message in pieces, as those of `hashlib` do. It gives what `data_hash` does.
+    """A hasher that takes a message in pieces, like those of `hashlib`. It computes the same hash as `data_hash`.
 
     >>> hasher = Hasher(b"a")
     >>> hasher.update(b"bc")
@@ -393,10 +393,10 @@ class Hasher(Guarded):
     digest_size: int = 32
     block_size: int = 64
 
-    # It stays at one place, so that a call that a signal's handler makes between two steps of another one isn't lost.
+    # It stays in one place. So a call by a signal handler, made between two steps of another call, isn't lost.
     _state: CHasher
     _name: str
-    # Held while a long update is under way, by whose end the state is written over.
+    # Held during a long update, which overwrites the state at its end.
     _by_pieces: threading.Lock
 
     def __new__(cls, data: BytesLike = b"") -> Hasher:
@@ -410,11 +410,11 @@ class Hasher(Guarded):
         return self
 
     def __init_subclass__(cls) -> None:
-        raise TypeError("Hasher isn't made to be derived from")
+        raise TypeError("Hasher can't be subclassed")
 
     @staticmethod
     def internal_node(data: BytesLike = b"") -> Hasher:
-        """A hasher that gives what `internal_node_hash` does.
+        """Returns a hasher that computes the same hash as `internal_node_hash`.
 
         >>> Hasher.internal_node(b"abc").hash() == internal_node_hash(b"abc")
         True
@@ -427,7 +427,7 @@ class Hasher(Guarded):
 
     @staticmethod
     def keyed(key: BytesLike, data: BytesLike = b"") -> Hasher:
-        """A hasher under a key of 32 bytes: keyed BLAKE3.
+        """Returns a hasher for keyed BLAKE3 under a key of 32 bytes.
 
         >>> Hasher.keyed(bytes(32), bytes(32)).hash() == Hash().hmac(Hash())
         True
@@ -441,7 +441,7 @@ class Hasher(Guarded):
 
     @property
     def name(self) -> str:
-        """Under which key it hashes: `yurewha-data`, `yurewha-internal-node` or `blake3-keyed`.
+        """The name of its kind of key: `yurewha-data`, `yurewha-internal-node` or `blake3-keyed`.
 
         >>> Hasher().name
         'yurewha-data'
@@ -450,7 +450,7 @@ class Hasher(Guarded):
 
     @property
     def count(self) -> int:
-        """How many bytes the message has.
+        """The length of the message in bytes.
 
         >>> Hasher(b"abc").count
         3
@@ -459,10 +459,10 @@ class Hasher(Guarded):
             return int(short.yurewha_hasher_count(self._state))
 
     def update(self, data: BytesLike, *, nobody_writes: bool = False) -> None:
-        """Adds a piece to the message; `SizeOverflow` where it would have more than 2^64 - 1 bytes.
+        """Appends a piece to the message. Raises `SizeOverflow` if it would have more than 2^64 - 1 bytes.
 
-        Bytes are taken as by `data_hash`. While more than a MiB is copied, `update` by a signal's handler raises
-        `ReentrantCall`; each other update by a handler counts.
+        Bytes are read as by `data_hash`. While more than a MiB is being copied, `update` in a signal handler raises
+        `ReentrantCall`. Any other update in a handler takes effect.
 
         >>> Hasher(bytearray(b"abc")).count
         3
@@ -472,14 +472,14 @@ class Hasher(Guarded):
 
     def _refuse_reentry(self) -> None:
         if self._by_pieces.locked():
-            raise ReentrantCall("a signal's handler called update while a long update of the same hasher was under way")
+            raise ReentrantCall("a signal handler called update during a long update of the same hasher")
 
     def _add(self, start: Start, length: int) -> None:
         self._refuse_reentry()
         _add(self._state, start, length)
 
     def _add_by_pieces(self, lent: Lent) -> None:
-        """Adds all of it or, where that ends early, nothing."""
+        """Appends all of it, or nothing if it ends early."""
         self._refuse_reentry()
         with self._by_pieces:
             state = CHasher.from_buffer_copy(self._state)
@@ -493,7 +493,7 @@ class Hasher(Guarded):
         return self.hash()
 
     def hash(self) -> Hash:
-        """The hash of the message so far; the hasher can go on.
+        """Returns the hash of the message so far. The hasher can take more pieces.
 
         >>> Hasher().hash() == data_hash(b"")
         True
@@ -504,7 +504,7 @@ class Hasher(Guarded):
         return Hash._of(bytes(out))
 
     def digest(self) -> bytes:
-        """The 32 bytes of the hash.
+        """Returns the 32 bytes of the hash.
 
         >>> Hasher(b"abc").digest() == data_hash(b"abc").bytes
         True
@@ -512,7 +512,7 @@ class Hasher(Guarded):
         return self.hash().bytes
 
     def hexdigest(self) -> str:
-        """The hex text of the hash by which Xet names it, as `Hash.hex`. It isn't `digest().hex()`.
+        """Returns the hex text of the hash, as `Hash.hex` writes it. It differs from `digest().hex()`.
 
         >>> Hasher(b"abc").hexdigest() == data_hash(b"abc").hex()
         True
@@ -520,7 +520,7 @@ class Hasher(Guarded):
         return self.hash().hex()
 
     def copy(self) -> Hasher:
-        """Another hasher of the same message, which goes its own way.
+        """Returns an independent hasher of the same message.
 
         >>> one = Hasher(b"a"); other = one.copy(); other.update(b"b")
         >>> one.count, other.count
