@@ -15,7 +15,7 @@ from ._types import BytesLike
 
 __all__ = ["Hashes", "data_hashes"]
 
-#: What a call takes as hashes.
+#: What a call accepts as hashes.
 HashesLike = Union["Hashes", Iterable[Union[Hash, bytes]], BytesLike]
 
 _SIZE = 32
@@ -35,11 +35,11 @@ def _raw(hash_: object, place: int) -> bytes:
 
 @final
 class Hashes(Packed[Hash]):
-    """A list of hashes in one block, 32 bytes each: a column of hashes.
+    """A list of hashes in one block of 32 bytes each: a column of hashes. It is immutable.
 
-    It is made from hashes, each a `Hash` or 32 `bytes`; or from a block: `bytes`, or anything with the buffer protocol, among
-    it NumPy arrays of `V32`, of 32 bytes a row, or of four unsigned words of eight bytes a row, and Arrow's buffers of
-    `fixed_size_binary(32)`. It can't be changed. NumPy sees it as rows of four words: `numpy.asarray(hashes)`.
+    It is made from hashes, each a `Hash` or 32 `bytes`, or from a block. A block is `bytes` or anything with the buffer
+    protocol. It may be a NumPy array of `V32`, of 32 bytes a row, or of four unsigned words of eight bytes a row. It may
+    also be an Arrow buffer of `fixed_size_binary(32)`. `numpy.asarray(hashes)` has rows of four words.
 
     >>> hashes = Hashes([Hash.random_from_seed(1), Hash.random_from_seed(2)])
     >>> len(hashes), hashes[1] == Hash.random_from_seed(2), len(hashes.packed)
@@ -64,11 +64,13 @@ class Hashes(Packed[Hash]):
             return cls._of(checked_block(given, _SIZE, _FORMS, _EXPECTED))
 
     def __init_subclass__(cls) -> None:
-        raise TypeError("Hashes isn't made to be derived from")
+        raise TypeError("Hashes can't be subclassed")
 
     @staticmethod
     def from_hex(texts: Iterable[str]) -> Hashes:
-        """The hashes of hex texts, each as `Hash.from_hex` reads it; `InvalidText` with the index of the first that is none.
+        """Returns the hashes with these hex texts. `Hash.from_hex` says which texts are valid.
+
+        Raises `InvalidText` with the index of the first invalid text.
 
         >>> Hashes.from_hex([64 * "0", 63 * "0" + "A"])[1].hex()[-2:]
         '0a'
@@ -85,7 +87,7 @@ class Hashes(Packed[Hash]):
         return Hashes._of(_words_reversed(packed))
 
     def hex(self) -> List[str]:
-        """The hex text of each hash, as `Hash.hex` gives it.
+        """Returns the hex text of each hash, as `Hash.hex` writes it.
 
         >>> Hashes([Hash(bytes(range(32)))]).hex()[0][:16]
         '0706050403020100'
@@ -95,7 +97,7 @@ class Hashes(Packed[Hash]):
 
     @property
     def __array_interface__(self) -> Dict[str, object]:
-        """How NumPy shares the block, read-only.
+        """Lets NumPy share the block, read-only.
 
         >>> Hashes([Hash()]).__array_interface__["shape"]
         (1, 4)
@@ -114,7 +116,7 @@ class Hashes(Packed[Hash]):
 
 
 def _words_reversed(packed: bytes) -> bytes:
-    """Each eight bytes in reverse, as hex texts have them."""
+    """Reverses each group of eight bytes, as hex texts do."""
     out = bytearray(len(packed))
     for place in range(8):
         out[place::8] = packed[7 - place::8]
@@ -131,11 +133,13 @@ def _read_hex(text: str, place: int) -> Hash:
 def data_hashes(
     data: BytesLike, offsets: Union[Iterable[SupportsIndex], BytesLike], *, nobody_writes: bool = False
 ) -> Hashes:
-    """The hash of each chunk of some bytes, as `data_hash` gives it. Chunk i begins at offset i and ends before offset i + 1.
+    """Returns the hash of each chunk of some bytes, as `data_hash` does.
 
-    `InvalidArguments` where there is no offset, or one is less than the one before it or passes the end. Read-only bytes are
-    hashed where they are; others are copied, a MiB or a chunk at a time, but under the promise `nobody_writes=True`. From 16 KiB
-    on the interpreter's lock is given up meanwhile.
+    Chunk i starts at offset i and ends before offset i + 1. Raises `InvalidArguments` if there is no offset, if an offset is
+    less than the one before it, or if one is past the end.
+
+    Read-only bytes are hashed in place. Other bytes are copied, a MiB or a chunk at a time. With `nobody_writes=True` the
+    caller promises that nobody writes to them, and they aren't copied. From 16 KiB on, the interpreter's lock is released.
 
     >>> from yurewha import data_hash
     >>> data_hashes(b"abcd", [0, 3, 4]) == Hashes([data_hash(b"abc"), data_hash(b"d")])
@@ -154,7 +158,7 @@ def data_hashes(
 
 
 def _hashed(start: Start, length: int, places: List[int]) -> bytes:
-    """The hashes of the chunks between some places of some bytes."""
+    """Returns the hashes of the chunks between these offsets."""
     count = len(places) - 1
     out, offsets = (CHash * count)(), (ctypes.c_size_t * len(places))(*places)
     calls = calls_for(places[-1] - places[0], LONG_BYTES)
@@ -170,7 +174,7 @@ def _hashed_copy(lent: Lent, places: List[int]) -> bytes:
 
 
 def _pieces(places: List[int]) -> Iterator[List[int]]:
-    """The places of chunks that are copied together: of at most a MiB, or of one chunk.
+    """Yields the offsets of chunks that are copied together: at most a MiB, or one chunk.
 
     >>> list(_pieces([0, 1, 2 << 20, 3 << 20, (3 << 20) + 1]))
     [[0, 1], [1, 2097152], [2097152, 3145728], [3145728, 3145729]]
