@@ -1,4 +1,4 @@
-"""Bytes of other objects where they are: their place in memory, for as long as a call needs them."""
+"""Bytes of other objects in place: their address in memory, for as long as a call needs it."""
 
 from __future__ import annotations
 
@@ -34,15 +34,15 @@ _release_buffer.argtypes, _release_buffer.restype = [ctypes.POINTER(_CBuffer)], 
 
 _Result = TypeVar("_Result")
 
-#: So many owners of a buffer are looked at, each the owner of the one before.
+#: How many owners of a buffer are examined, each the owner of the one before.
 _OWNERS = 16
 
-#: Bytes that lie one after the other, of whatever items.
+#: The flag for contiguous bytes, with items of any format.
 _PLAIN = 0
 
 
 class Lent:
-    """The bytes of a buffer, which stay where they are until the end of the `with`.
+    """The bytes of a buffer. They stay in place until the end of the `with`.
 
     >>> with Lent(memoryview(b"abc")[1:]) as lent:
     ...     lent.hold()
@@ -52,7 +52,7 @@ class Lent:
 
     __slots__ = ("view", "length", "_start", "_buffer")
 
-    #: What the buffer shows, and how many bytes it has.
+    #: A view of the buffer, and its length in bytes.
     view: memoryview
     length: int
     _start: int
@@ -71,14 +71,14 @@ class Lent:
         self.view.release()
 
     def __del__(self) -> None:
-        self._give_back()  # where a signal's handler raised before the `with`
+        self._give_back()  # if a signal handler raised before the `with`
 
     def _give_back(self) -> None:
         if self._buffer.obj:
             _release_buffer(self._buffer)
 
     def hold(self) -> None:
-        """Takes the place in memory, which the calls below need. The bytes of the view lie one after the other.
+        """Gets the address in memory, which the calls below need. The view must be contiguous.
 
         >>> with Lent(b"abc") as lent:
         ...     lent.hold()
@@ -87,7 +87,7 @@ class Lent:
         self._start = self._buffer.buf or 0
 
     def at(self, place: int) -> ctypes.c_char_p:
-        """Where the byte at a place is, as a call takes it.
+        """Returns the address of the byte at a place, for a call of the library.
 
         >>> with Lent(b"abc") as lent:
         ...     lent.hold()
@@ -97,7 +97,7 @@ class Lent:
         return ctypes.c_char_p(self._start + place)
 
     def piece(self, start: int, stop: int) -> bytes:
-        """A copy of the bytes from one place up to another.
+        """Returns a copy of the bytes from `start` up to, but not including, `stop`.
 
         >>> with Lent(b"abc") as lent:
         ...     lent.hold()
@@ -108,7 +108,7 @@ class Lent:
 
 
 def in_place(view: memoryview, call: Callable[[ctypes.c_char_p, int], _Result]) -> _Result:
-    """What a call makes of the bytes of a view, which it gets where they are. They lie one after the other.
+    """Passes the bytes of a view to a call, in place, and returns its result. The view must be contiguous.
 
     >>> in_place(memoryview(b"abc")[1:], ctypes.string_at)
     b'bc'
@@ -119,11 +119,11 @@ def in_place(view: memoryview, call: Callable[[ctypes.c_char_p, int], _Result]) 
         _get_buffer(view, at, _PLAIN)
         return call(ctypes.c_char_p(buffer.buf), view.nbytes)
     finally:
-        _release_buffer(at)  # which does nothing if the buffer wasn't had
+        _release_buffer(at)  # does nothing if there is no buffer
 
 
 def is_whole(view: memoryview) -> bool:
-    """Whether a view shows a `bytes` object from its beginning to its end.
+    """Returns whether a view shows a whole `bytes` object.
 
     >>> is_whole(memoryview(b"abc")), is_whole(memoryview(b"abc")[1:])
     (True, False)
@@ -132,7 +132,7 @@ def is_whole(view: memoryview) -> bool:
 
 
 def bytes_of(view: memoryview) -> bytes:
-    """The bytes in an object that nobody changes: the one that the view shows, where that is such, else a copy.
+    """Returns the bytes as an immutable object: the object of the view if that is `bytes` and whole, else a copy.
 
     >>> bytes_of(memoryview(b"abc")[1:])
     b'bc'
@@ -143,12 +143,12 @@ def bytes_of(view: memoryview) -> bytes:
 
 
 def is_read_only(view: memoryview) -> bool:
-    """Whether neither the buffer nor any object that it shows can be written to.
+    """Returns whether neither the buffer nor any object behind it can be written to.
 
     >>> is_read_only(memoryview(b"abc")), is_read_only(memoryview(bytearray(3)).toreadonly())
     (True, False)
     """
-    if not view.readonly or type(view.obj) is bytes:  # one of them, mostly
+    if not view.readonly or type(view.obj) is bytes:  # the common cases
         return view.readonly
     owner: object = view
     for _ in range(_OWNERS):
@@ -159,6 +159,6 @@ def is_read_only(view: memoryview) -> bool:
                 if not shown.readonly:
                     return False
         except (TypeError, ValueError, BufferError):
-            return False  # it isn't known
+            return False  # unknown
         owner = owner.obj if isinstance(owner, memoryview) else getattr(owner, "base", None)
     return False
