@@ -1,7 +1,7 @@
 """The shared library: where it is found, and its calls by ctypes.
 
-Each call is there twice. `short` keeps the interpreter's lock while it runs, `long` gives it up. Which one is taken is a
-matter of speed alone: no object is used by two threads at once in either, since each has a lock of its own (`_guard.py`).
+Each call exists twice. `short` keeps the interpreter's lock while it runs, and `long` releases it. The choice affects only
+speed. With either, no two threads use an object at once, because each object has its own lock (`_guard.py`).
 """
 
 from __future__ import annotations
@@ -22,8 +22,8 @@ NAME = "libyurewha.so.1"
 #: The level of this processor.
 LEVEL: str = level()
 
-#: Messages of so many bytes, lists of so many chunks or nodes, and longer ones, give up the interpreter's lock. Shorter ones
-#: take less time than handing it over does, where several threads want it.
+#: A call releases the interpreter's lock if its message has at least this many bytes, or its list this many chunks or nodes.
+#: Shorter calls take less time than passing the lock between threads.
 LONG_BYTES = 1 << 14
 LONG_CHUNKS = 256
 LONG_NODES = 512
@@ -65,7 +65,7 @@ class CSession(ctypes.Structure):
     _fields_ = [("at", ctypes.c_void_p)]
 
 
-#: The structs by the names that the header gives them.
+#: The structs by their names in the header.
 STRUCT_TYPES: Dict[str, Any] = {
     "yurewha_hash": CHash,
     "yurewha_bytes": CBytes,
@@ -76,8 +76,8 @@ STRUCT_TYPES: Dict[str, Any] = {
     "yurewha_session": CSession,
 }
 
-#: What stands for each type of the header. Where a call reads bytes, a hash, a key or chunks alone, it gets a Python
-#: `bytes` object, which nobody changes while the call runs. Its length is checked before, where it isn't handed over.
+#: The ctypes type for each type of the header. If a call only reads bytes, a hash, a key or chunks, it gets a Python `bytes`
+#: object, which nobody changes during the call. If the length isn't passed too, it is checked before the call.
 _TYPES: Dict[str, Any] = {
     "void": None,
     "bool": ctypes.c_bool,
@@ -92,7 +92,7 @@ _TYPES: Dict[str, Any] = {
     "const yurewha_bytes *": ctypes.c_char_p,
     "const yurewha_chunk *": ctypes.c_char_p,
     "const yurewha_level *": ctypes.c_char_p,
-    # But a hasher that is only read is one of the objects below.
+    # A hasher that is only read is an exception: it is one of the structs below.
     "const yurewha_hasher *": ctypes.POINTER(CHasher),
     "char *": ctypes.POINTER(ctypes.c_char),
     "bool *": ctypes.POINTER(ctypes.c_bool),
@@ -103,7 +103,7 @@ _TYPES: Dict[str, Any] = {
 
 
 def best_of(folder: Path) -> Optional[Path]:
-    """Of a folder with libraries, the one for the highest level that this processor has.
+    """Returns the library of a folder for the highest level of this processor, or None.
 
     >>> best_of(Path("/nowhere")) is None
     True
@@ -113,7 +113,7 @@ def best_of(folder: Path) -> Optional[Path]:
 
 
 def find(package: Optional[Path] = None) -> str:
-    """The file of the library, or its bare name where the loader has to find it.
+    """Returns the path of the library, or its bare name if the system's loader must find it.
 
     >>> NAME in find()
     True
@@ -126,7 +126,7 @@ def find(package: Optional[Path] = None) -> str:
     if folder:
         named = best_of(Path(folder).resolve())
         if not named:
-            raise ImportError(f"yurewha: YUREWHA_LIB_DIR is {folder}, where there is no {NAME}")
+            raise ImportError(f"yurewha: YUREWHA_LIB_DIR is {folder}, which has no {NAME}")
         return str(named)
     if package.parent.name == "python" and package.parent.parent.name == "bindings":
         built = best_of(package.parent.parent / "out" / platform.machine() / "lib")
@@ -149,15 +149,15 @@ def _declare(library: Any, path: str) -> SimpleNamespace:
 
 
 def _check_machine() -> None:
-    # A chunk's 40 bytes are what the C struct is in memory, and what is written to files and sent to other machines.
+    # A chunk's 40 bytes are the C struct in memory. The same bytes are written to files and sent to other machines.
     if sys.byteorder != "little" or ctypes.sizeof(ctypes.c_size_t) != 8:
-        raise ImportError("yurewha: it is there for little-endian machines of 64 bits alone")
+        raise ImportError("yurewha: only little-endian 64-bit machines are supported")
     for name, struct in STRUCT_TYPES.items():
         if ctypes.sizeof(struct) != STRUCTS[name]:
             raise ImportError(f"yurewha: {name} has {ctypes.sizeof(struct)} bytes here")
-    # The data of a `bytes` object stands after its head, and objects are aligned. So they are aligned for a word.
+    # The data of a `bytes` object follows its header, and objects are aligned. So the data is aligned for a word.
     if sys.implementation.name != "cpython" or (bytes.__basicsize__ - 1) % 8 != 0:
-        raise ImportError("yurewha: it is there for CPython alone")
+        raise ImportError("yurewha: only CPython is supported")
 
 
 _check_machine()
@@ -168,7 +168,7 @@ PATH: str = find()
 try:
     _long = ctypes.CDLL(PATH)
 except OSError as error:
-    raise ImportError(f"yurewha: {NAME} wasn't loaded; YUREWHA_LIB_DIR names the folder that has it: {error}") from error
+    raise ImportError(f"yurewha: {NAME} can't be loaded; YUREWHA_LIB_DIR may name its folder: {error}") from error
 _short = ctypes.PyDLL(PATH, handle=_long._handle)
 
 long = _declare(_long, PATH)
@@ -176,7 +176,7 @@ short = _declare(_short, PATH)
 
 
 def calls_for(count: int, bound: int) -> SimpleNamespace:
-    """The calls to take where so much is handed in.
+    """Returns the calls for an input of this length. From `bound` on they are the ones that release the lock.
 
     >>> calls_for(1, LONG_CHUNKS) is short, calls_for(1000, LONG_CHUNKS) is long
     (True, True)
