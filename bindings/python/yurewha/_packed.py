@@ -1,4 +1,4 @@
-"""Items of one size, packed one after the other in one block of bytes."""
+"""Items of one size, packed in one block of bytes."""
 
 from __future__ import annotations
 
@@ -13,18 +13,18 @@ from ._types import view_of
 _Item = TypeVar("_Item")
 _Self = TypeVar("_Self", bound="Packed[Any]")
 
-#: What a block may be, as the buffer protocol writes it: the bytes of an item, and its format.
+#: The forms that a block may have: the bytes of an item, and its format in the buffer protocol.
 Forms = Sequence[Tuple[int, Pattern[str]]]
 
-# In a format, `(4)L` are four words of the machine's own, and `<Q` is a word of eight bytes, the least first. The name of a
-# field stands after its type.
+# In a format, `(4)L` is four native words, and `<Q` is a little-endian word of eight bytes. The name of a field comes after
+# its type.
 BYTE = "[@^=<]?[Bbc]"
 WORD = "[@^=<]?[QL]"
 HASH = rf"(?:32[sx]|\(32\){BYTE}|\(4\){WORD}|T\{{\(4\){WORD}:words:\}})"
 
 
 def block_or_items(values: object, expected: str) -> Union[memoryview, Iterable[object]]:
-    """A view of a block; or the items, where it is none. Columns are taken as Arrow has them, or as the arrays that they make.
+    """Returns a view of a block, or the items if `values` isn't a block. A column becomes an Arrow column or an array.
 
     >>> block_or_items(b"abc", "bytes").nbytes, block_or_items([1, 2], "numbers")
     (3, [1, 2])
@@ -49,7 +49,7 @@ def block_or_items(values: object, expected: str) -> Union[memoryview, Iterable[
 
 
 def checked_block(view: memoryview, size: int, forms: Forms, expected: str) -> bytes:
-    """The bytes of a block of items of one size, whose rows are items where it has rows.
+    """Returns the bytes of a block of items of one size. If the block has rows, each row is an item.
 
     >>> import re
     >>> checked_block(memoryview(bytes(64)), 32, [(1, re.compile("B"))], "hashes are bytes") == bytes(64)
@@ -68,11 +68,11 @@ def checked_block(view: memoryview, size: int, forms: Forms, expected: str) -> b
 
 
 class Packed(Sequence[_Item]):
-    """Items of one size in one block, which can't be changed."""
+    """Immutable items of one size in one block."""
 
     __slots__ = ("_packed",)
 
-    #: The bytes of an item.
+    #: The size of an item in bytes.
     _SIZE: ClassVar[int]
     _packed: bytes
 
@@ -83,7 +83,7 @@ class Packed(Sequence[_Item]):
         return self
 
     def _item(self, start: int) -> _Item:
-        """The item that begins at a place of the block."""
+        """Returns the item that begins at this byte of the block."""
         raise NotImplementedError
 
     def __setattr__(self, name: str, value: object) -> None:
@@ -94,7 +94,7 @@ class Packed(Sequence[_Item]):
 
     @property
     def packed(self) -> bytes:
-        """The block, without a copy. `memoryview(chunks.packed)` hands it to whatever reads buffers.
+        """The block, without a copy. `memoryview(chunks.packed)` passes it to anything that reads buffers.
 
         >>> from yurewha import Chunks, Hash
         >>> Chunks([(Hash(), 1)]).packed == bytes(32) + b"\\x01" + bytes(7)
