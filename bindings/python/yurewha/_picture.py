@@ -8,7 +8,7 @@ from typing import List, Sequence, Tuple
 
 from ._chunks import Chunks
 
-#: A caption, the marks, and the nodes kept of each level from the chunks up, left and right of the gap.
+#: A caption, the marks, and the kept nodes of each level from the chunks up, left and right of the gap.
 Drawn = Tuple[str, bool, bool, Sequence[Tuple[Chunks, Chunks]]]
 
 _WIDTH = 760
@@ -18,9 +18,9 @@ _ROW = 46
 _SHOWN = 12
 _ROWS = 24
 
-_CAPTION = 90  # so many letters of a caption stand in a line
+_CAPTION = 90  # the most characters in a line of a caption
 
-# A notebook takes the picture into its page, so each rule is for what stands in such a picture alone.
+# A notebook puts the picture into its page. So each rule applies to the inside of such a picture only.
 _STYLE = "".join(f".yurewha {rule}" for rule in (
     "text{font:11px sans-serif;fill:#222}",
     ".c{font-weight:bold;font-size:13px}",
@@ -61,7 +61,7 @@ def _nodes(nodes: Chunks, places: Sequence[int], x: int, y: int) -> List[str]:
 
 
 def _side(nodes: Chunks, y: int, right: bool) -> Tuple[List[str], int]:
-    """The nodes of one side of a row, and how much of the row they take."""
+    """Returns the nodes of one side of a row, and their width."""
     count = len(nodes)
     if count == 0:
         return [], 0
@@ -83,7 +83,7 @@ def _side(nodes: Chunks, y: int, right: bool) -> Tuple[List[str], int]:
 
 
 def _one(drawn: Drawn, top: int) -> Tuple[List[str], int]:
-    """One subtree from a height on, and where it ends."""
+    """Returns the drawing of one subtree from the height `top` on, and the height at its end."""
     caption, at_start, at_end, levels = drawn
     out: List[str] = []
     y = top + 18
@@ -127,7 +127,7 @@ def _one(drawn: Drawn, top: int) -> Tuple[List[str], int]:
 
 
 def picture_of(drawn: Sequence[Drawn]) -> str:
-    """One picture of subtrees, one below the other.
+    """Returns one picture of several subtrees, one below the other.
 
     >>> picture_of([("nothing", True, True, [(Chunks(), Chunks())])]).count("level 0")
     1
