@@ -1,7 +1,7 @@
-"""What the processor can do, and which library that asks for.
+"""What the processor supports, and which library it needs.
 
-There are libraries for three levels of x86-64, as its ABI names them. One for a higher level than the processor has ends the
-process by an illegal instruction, so the package looks before it loads one.
+There are libraries for three levels of x86-64, named as in its ABI. A library for a level that the processor lacks ends the
+process with an illegal instruction. So the package checks the level before it loads a library.
 """
 
 from __future__ import annotations
@@ -10,7 +10,7 @@ import ctypes
 import platform
 from typing import Any, Dict, FrozenSet, List, Optional, Tuple
 
-#: Where glibc tells each flag: the number that it has for the leaf of `cpuid`, the register from eax on, and the bit.
+#: Where glibc keeps each flag: glibc's number for the leaf of `cpuid`, the register counted from eax, and the bit.
 _PLACES: Dict[str, Tuple[int, int, int]] = {
     "pni": (0, 2, 0),
     "ssse3": (0, 2, 9),
@@ -20,7 +20,7 @@ _PLACES: Dict[str, Tuple[int, int, int]] = {
     "sse4_2": (0, 2, 20),
     "movbe": (0, 2, 22),
     "popcnt": (0, 2, 23),
-    "xsave": (0, 2, 27),  # as the system has switched it on, which AVX needs
+    "xsave": (0, 2, 27),  # whether the system has switched it on; AVX needs this
     "avx": (0, 2, 28),
     "f16c": (0, 2, 29),
     "bmi1": (1, 1, 3),
@@ -33,7 +33,7 @@ _PLACES: Dict[str, Tuple[int, int, int]] = {
 _V2 = ("cx16", "lahf_lm", "pni", "popcnt", "sse4_1", "sse4_2", "ssse3")
 _V3 = (*_V2, "abm", "avx", "avx2", "bmi1", "bmi2", "f16c", "fma", "movbe", "xsave")
 
-#: The levels above the one that every x86-64 processor has, the highest first, with the flags that each needs.
+#: The levels above the baseline of every x86-64 processor, highest first, with the flags that each needs.
 _LEVELS: Dict[str, Tuple[str, ...]] = {"x86-64-v3": _V3, "x86-64-v2": _V2}
 
 
@@ -42,7 +42,7 @@ class _Leaf(ctypes.Structure):
 
 
 def _flags_of_the_kernel() -> Optional[FrozenSet[str]]:
-    """The flags in /proc/cpuinfo, or None where it can't be read."""
+    """Returns the flags in /proc/cpuinfo, or None if it can't be read."""
     try:
         with open("/proc/cpuinfo", encoding="ascii", errors="replace") as lines:
             for line in lines:
@@ -54,7 +54,7 @@ def _flags_of_the_kernel() -> Optional[FrozenSet[str]]:
 
 
 def _flags_of_glibc() -> Optional[FrozenSet[str]]:
-    """The flags that glibc asked the processor for, or None before glibc 2.33. Under an emulator these alone are right."""
+    """Returns the flags that glibc read from the processor, or None before glibc 2.33. Only these are right in an emulator."""
     try:
         leaf: Any = ctypes.CDLL(None)["__x86_get_cpuid_feature_leaf"]
     except (AttributeError, OSError):
@@ -66,7 +66,9 @@ def _flags_of_glibc() -> Optional[FrozenSet[str]]:
 
 
 def flags() -> Optional[FrozenSet[str]]:
-    """The flags of the processor that the kernel and glibc both know of, or None where neither says any.
+    """Returns the flags of the processor that both the kernel and glibc report.
+
+    If only one of them reports flags, returns these. If neither does, returns None.
 
     >>> flags() is None or "avx512_made_up" not in flags()
     True
@@ -78,7 +80,7 @@ def flags() -> Optional[FrozenSet[str]]:
 
 
 def levels() -> List[str]:
-    """The levels of this processor above the one that every x86-64 processor has, the highest first.
+    """Returns the levels of this processor above the baseline of x86-64, highest first.
 
     >>> set(levels()) <= {"x86-64-v3", "x86-64-v2"}
     True
@@ -88,7 +90,7 @@ def levels() -> List[str]:
 
 
 def level() -> str:
-    """The highest of these levels, or the name of the processor if there is none.
+    """Returns the highest of these levels, or the name of the processor if there is none.
 
     >>> level() != ""
     True
