@@ -1,4 +1,4 @@
-"""Sessions: chunks by their positions, which come in any order."""
+"""Sessions: chunks with their positions, put in any order."""
 
 from __future__ import annotations
 
@@ -20,11 +20,11 @@ _CHUNK_SIZE = ctypes.sizeof(CChunk)
 
 @final
 class Session(Guarded):
-    """Chunks of a file by their positions. They come in any order, and each position is taken once.
+    """The chunks of a file by their positions. They may be put in any order. Each position is taken once.
 
     >>> one, two = (Hash.random_from_seed(1), 100), (Hash.random_from_seed(2), 200)
     >>> session = Session()
-    >>> session.put(2, [one, two]), session.put(0, [one, two])    # so many hashes were new
+    >>> session.put(2, [one, two]), session.put(0, [one, two])    # how many hashes were new
     (2, 0)
     >>> session.finish(4).hex()[:16]
     '284ea045e5a579e9'
@@ -33,7 +33,7 @@ class Session(Guarded):
     __slots__ = ("_handle", "_puts")
 
     _handle: CSession
-    # How many calls of `put` began, by which a call that looks several times sees that a signal's handler made one.
+    # How many calls of `put` began. A call that reads several times notices by it that a signal handler called `put`.
     _puts: int
 
     def __new__(cls) -> Session:
@@ -47,10 +47,10 @@ class Session(Guarded):
         return self
 
     def __init_subclass__(cls) -> None:
-        raise TypeError("Session isn't made to be derived from")
+        raise TypeError("Session can't be subclassed")
 
     def __del__(self) -> None:
-        # As of a subtree.
+        # As in `Subtree`.
         try:
             if not self._is_ours():
                 return
@@ -62,10 +62,11 @@ class Session(Guarded):
     _free = staticmethod(short.yurewha_session_free)
 
     def put(self, first: int, chunks: ChunksLike) -> int:
-        """Places chunks at the positions from `first` on, and tells how many hashes among them no earlier put had.
+        """Puts chunks at the positions from `first` on. Returns how many of their hashes no earlier put had, each counted once.
 
-        `SessionOverlap` where a position is taken; else `SessionPositions` where `first` plus the number of chunks passes
-        2^64 - 1; else `SessionSizes` where the sizes of all chunks do. A refusal changes nothing.
+        Raises `SessionOverlap` if a position is taken. Otherwise raises `SessionPositions` if `first` plus the number of
+        chunks is more than 2^64 - 1. Otherwise raises `SessionSizes` if the sizes of all chunks add up to more than
+        2^64 - 1. After an error nothing has changed.
 
         >>> Session().put(0, [(Hash(), 1), (Hash(), 1)])
         1
@@ -84,7 +85,7 @@ class Session(Guarded):
         return out.value
 
     def taken(self, position: int) -> bool:
-        """Whether a position is taken.
+        """Returns whether a position is taken.
 
         >>> session = Session(); _ = session.put(3, [(Hash(), 1)])
         >>> session.taken(3), session.taken(4)
@@ -99,7 +100,7 @@ class Session(Guarded):
 
     @property
     def num_runs(self) -> int:
-        """How many runs of adjacent positions are taken.
+        """The number of runs of adjacent taken positions.
 
         >>> session = Session(); _ = session.put(3, [(Hash(), 1)]), session.put(5, [(Hash(), 1)])
         >>> session.num_runs
@@ -113,9 +114,9 @@ class Session(Guarded):
         return out.value
 
     def run(self, at: int) -> Tuple[int, Subtree]:
-        """The first position of a run, and the subtree of its chunks, open at both ends. Runs rise by position, from 0 on.
+        """Returns the first position of a run, and the subtree of its chunks, open at both ends.
 
-        `InvalidArguments` where there is no such run.
+        Runs are numbered from 0, by rising position. Raises `InvalidArguments` if there is no such run.
 
         >>> session = Session(); _ = session.put(3, [(Hash(), 1)])
         >>> session.run(0)[0]
@@ -129,7 +130,9 @@ class Session(Guarded):
         return first.value, subtree
 
     def runs(self) -> List[Tuple[int, Subtree]]:
-        """All runs by rising position: of each its first position and its subtree. The time is with the square of their number.
+        """Returns all runs by rising position, each as its first position and its subtree.
+
+        The time is proportional to the square of their number.
 
         >>> session = Session(); _ = session.put(3, [(Hash(), 1)]), session.put(5, [(Hash(), 1)])
         >>> [first for first, _ in session.runs()]
@@ -141,12 +144,12 @@ class Session(Guarded):
                 try:
                     runs = [self.run(number) for number in range(self.num_runs)]
                 except InvalidArguments:
-                    runs = []  # a handler joined two runs
+                    runs = []  # a handler made one run of two
                 if puts == self._puts:
                     return runs
 
     def __iter__(self) -> Iterator[Tuple[int, Subtree]]:
-        """The runs as they are when this is called, as `runs` has them.
+        """Iterates over the runs at the time of the call, as `runs` returns them.
 
         >>> session = Session(); _ = session.put(3, [(Hash(), 1)]), session.put(5, [(Hash(), 1)])
         >>> dict(session)[5].total_size
@@ -155,7 +158,9 @@ class Session(Guarded):
         return iter(self.runs())
 
     def root(self, total: int) -> Hash:
-        """The root of all chunks by position; `SessionGap` where the positions taken aren't those from 0 to total - 1.
+        """Returns the root of all chunks by position. The session doesn't change.
+
+        Raises `SessionGap` if the taken positions aren't exactly those from 0 to `total` - 1.
 
         >>> Session().root(0) == Hash()
         True
@@ -163,7 +168,7 @@ class Session(Guarded):
         return self._of_all(total, "yurewha_session_root")
 
     def finish(self, total: int) -> Hash:
-        """The file hash of all chunks by position; refused as `root`. The session stays as it is.
+        """Returns the file hash of all chunks by position. It raises the same errors as `root`. The session doesn't change.
 
         >>> Session().finish(0) == Hash()
         True
@@ -179,7 +184,7 @@ class Session(Guarded):
         return Hash._of(bytes(out))
 
     def copy(self) -> Session:
-        """Another session of the same chunks, which knows the same hashes and goes its own way.
+        """Returns an independent session with the same chunks and known hashes.
 
         >>> one = Session(); _ = one.put(3, [(Hash(), 1)]); other = one.copy()
         >>> other.put(4, [(Hash(), 1)]), one.taken(4), other.taken(4)
@@ -199,7 +204,7 @@ class Session(Guarded):
         return self.copy()
 
     def __reduce__(self) -> NoReturn:
-        raise TypeError("a Session can't be pickled, since the library has no call that lists its hashes; its runs can")
+        raise TypeError("a Session can't be pickled, because no call of the library lists its hashes; its runs can be")
 
     def __repr__(self) -> str:
         try:
