@@ -1,4 +1,4 @@
-"""Roots of lists of chunks, and subtrees: what is kept of a range of chunks."""
+"""Roots of lists of chunks, and subtrees of ranges of chunks."""
 
 from __future__ import annotations
 
@@ -47,7 +47,7 @@ _FromFlat = Callable[[bool, Iterable[Sequence[SupportsIndex]], ChunksLike, bool]
 
 
 def xorb_hash(chunks: ChunksLike) -> Hash:
-    """The root of a list of chunks; `SizeOverflow` where the sizes add up to more than 2^64 - 1.
+    """Returns the root of a list of chunks. Raises `SizeOverflow` if the sizes add up to more than 2^64 - 1.
 
     >>> one, two = (Hash.random_from_seed(1), 100), (Hash.random_from_seed(2), 200)
     >>> xorb_hash([one, two, one, two]).hex()[:16]
@@ -62,7 +62,7 @@ def xorb_hash(chunks: ChunksLike) -> Hash:
 
 
 def file_hash(chunks: ChunksLike, salt: Optional[BytesLike] = None) -> Hash:
-    """The file hash of a list of chunks, without a salt or with one of 32 bytes; refused as `xorb_hash`.
+    """Returns the file hash of a list of chunks. A salt has 32 bytes. Raises `SizeOverflow` as `xorb_hash` does.
 
     >>> file_hash([(Hash(), 0)]).hex()[:16]
     '638a6bc391964a85'
@@ -93,7 +93,9 @@ def _stable_point(nodes: ChunksLike, which: str) -> Optional[int]:
 
 
 def find_stable_start(nodes: ChunksLike) -> Optional[int]:
-    """How many nodes stand before the first stable point, where a group ends whatever comes before and after; or None.
+    """Returns the number of nodes before the first stable point, or None if there is no such point.
+
+    At a stable point a group ends, no matter which nodes come before and after the given ones.
 
     >>> find_stable_start([(Hash(bytes(24) + bytes([i % 4 != 3]) + bytes(7)), 1) for i in range(20)])
     8
@@ -104,7 +106,7 @@ def find_stable_start(nodes: ChunksLike) -> Optional[int]:
 
 
 def find_stable_end(nodes: ChunksLike) -> Optional[int]:
-    """How many nodes stand before the last stable point; or None.
+    """Returns the number of nodes before the last stable point, or None if there is no such point.
 
     >>> find_stable_end([(Hash(bytes(24) + bytes([i % 4 != 3]) + bytes(7)), 1) for i in range(20)])
     16
@@ -113,8 +115,10 @@ def find_stable_end(nodes: ChunksLike) -> Optional[int]:
 
 
 class Flat(NamedTuple):
-    """A subtree as flat lists: the marks, the number of left and right nodes of each level from the chunks up, and the
-    nodes: the left ones of all levels by rising level, then the right ones by falling level.
+    """A subtree as flat lists.
+
+    `at_start` and `at_end` are the marks. `levels` has the number of left and right nodes of each level, from the chunks up.
+    `nodes` has the left nodes of all levels, lowest level first, then the right nodes of all levels, highest level first.
 
     >>> Subtree.from_chunks(True, [(Hash(), 7)], False).to_flat()
     Flat(at_start=True, levels=((1, 0),), nodes=<yurewha.Chunks of 1>, at_end=False)
@@ -128,7 +132,7 @@ class Flat(NamedTuple):
 
 @final
 class Subtree(Guarded):
-    """What is kept of a range of chunks, to merge it with its neighbours without the chunks.
+    """What is kept of a range of chunks. It is enough to merge the range with its neighbours, without the chunks.
 
     >>> one, two = (Hash.random_from_seed(1), 100), (Hash.random_from_seed(2), 200)
     >>> left = Subtree.from_chunks(True, [one, two, one], False)    # the beginning of a file
@@ -140,7 +144,7 @@ class Subtree(Guarded):
     __slots__ = ("_handle",)
 
     _handle: CSubtree
-    # An instance can be changed, so it is no key.
+    # An instance is mutable, so it has no hash.
     __hash__ = None  # type: ignore[assignment]
 
     if TYPE_CHECKING:
@@ -156,18 +160,18 @@ class Subtree(Guarded):
             raise TypeError("a Subtree is made by Subtree.from_chunks, .merge_all, .from_json or .from_flat")
 
     def __init_subclass__(cls) -> None:
-        raise TypeError("Subtree isn't made to be derived from")
+        raise TypeError("Subtree can't be subclassed")
 
     def __del__(self) -> None:
-        # Nobody else has the object when the interpreter calls this. By hand it waits for other threads, and leaves an
-        # empty handle. What another thread held when this process was forked is left as it is.
+        # When the interpreter calls this, nobody else has the object. A call by hand waits for other threads and leaves an
+        # empty handle. An object that another thread held when this process was forked is never freed.
         try:
             if not self._is_ours():
                 return
             with self._lock:
                 self._free(self._handle)
         except AttributeError:
-            pass  # it wasn't made to the end
+            pass  # it wasn't completely made
 
     _free = staticmethod(short.yurewha_subtree_free)
 
@@ -180,9 +184,9 @@ class Subtree(Guarded):
 
     @staticmethod
     def from_chunks(at_start: bool, chunks: ChunksLike, at_end: bool) -> Subtree:
-        """The subtree of some chunks. `at_start` says that no chunk comes before them, `at_end` that none comes after.
+        """Returns the subtree of some chunks. `at_start` says that no chunk comes before them, `at_end` that none comes after.
 
-        `SizeOverflow` where the sizes add up to more than 2^64 - 1.
+        Raises `SizeOverflow` if the sizes add up to more than 2^64 - 1.
 
         >>> Subtree.from_chunks(False, [(Hash(), 7)], False)
         <yurewha.Subtree open at both ends, levels (1, 0), 7 bytes>
@@ -196,7 +200,7 @@ class Subtree(Guarded):
             raise error_of(status)
         return self
 
-    # ---- What it has
+    # ---- Properties
 
     @property
     def at_start(self) -> bool:
@@ -226,7 +230,7 @@ class Subtree(Guarded):
 
     @property
     def total_size(self) -> int:
-        """The sum of the sizes of the chunks, in bytes.
+        """The total size of the chunks in bytes.
 
         >>> Subtree.from_chunks(False, [(Hash(), 7), (Hash(), 8)], False).total_size
         15
@@ -240,7 +244,7 @@ class Subtree(Guarded):
 
     @property
     def num_nodes(self) -> int:
-        """How many nodes are kept.
+        """The number of nodes that are kept.
 
         >>> Subtree.from_chunks(False, [(Hash(), 7), (Hash(), 8)], False).num_nodes
         2
@@ -249,7 +253,7 @@ class Subtree(Guarded):
 
     @property
     def num_levels(self) -> int:
-        """How many levels there are.
+        """The number of levels.
 
         >>> Subtree.from_chunks(False, [], False).num_levels
         1
@@ -265,7 +269,7 @@ class Subtree(Guarded):
         return out.value
 
     def _nodes(self) -> int:
-        """How many nodes are kept, or 0 where the handle is empty; under the lock."""
+        """Returns the number of kept nodes, or 0 if the handle is empty. The caller holds the lock."""
         out = ctypes.c_size_t()
         short.yurewha_subtree_num_nodes(self._handle, out)
         return out.value
@@ -289,7 +293,7 @@ class Subtree(Guarded):
         return self.to_flat().levels
 
     def left(self, level: int) -> Chunks:
-        """The nodes that are kept of a level before the gap; none where there is no such level.
+        """Returns the nodes that are kept of a level before the gap. There are none if there is no such level.
 
         >>> len(Subtree.from_chunks(False, [(Hash(), 7), (Hash(), 8)], False).left(0))
         2
@@ -297,7 +301,7 @@ class Subtree(Guarded):
         return self._side(level, 0)
 
     def right(self, level: int) -> Chunks:
-        """The nodes that are kept of a level after the gap; none where there is no such level.
+        """Returns the nodes that are kept of a level after the gap. There are none if there is no such level.
 
         >>> len(Subtree.from_chunks(False, [(Hash(), 7), (Hash(), 8)], False).right(0))
         0
@@ -312,7 +316,7 @@ class Subtree(Guarded):
         return sides_of(flat)[number][side]
 
     def final_hash(self) -> Optional[Hash]:
-        """The root of the list of chunks, or None unless both ends are marked.
+        """Returns the root of the chunks, or None if an end isn't marked.
 
         >>> Subtree.from_chunks(True, [], True).final_hash() == Hash()
         True
@@ -329,10 +333,10 @@ class Subtree(Guarded):
     # ---- Merging
 
     def merge(self, other: Subtree) -> None:
-        """Merges the subtree of the range that follows into this one. `left += right` does the same.
+        """Merges `other`, the subtree of the range that follows, into this one. `front += back` does the same.
 
-        `InvalidArguments` where this one is marked at its end or the other at its start; `SizeOverflow` where both sizes
-        add up to more than 2^64 - 1. A refusal changes nothing, and `other` stays as it is in any case.
+        Raises `InvalidArguments` if this one is marked at its end or `other` at its start. Raises `SizeOverflow` if the two
+        sizes add up to more than 2^64 - 1. After an error nothing has changed. `other` never changes.
 
         >>> one = Subtree.from_chunks(True, [(Hash(), 7)], False)
         >>> one.merge(Subtree.from_chunks(False, [(Hash(), 8)], True)); one.total_size
@@ -341,7 +345,7 @@ class Subtree(Guarded):
         self._merge(other, None)
 
     def merge_counted(self, other: Subtree) -> int:
-        """The same, and how many parents were hashed for it (2^64 - 1 where there are more).
+        """Does the same as `merge`. Returns how many parents were hashed for it, at most 2^64 - 1.
 
         >>> one = Subtree.from_chunks(True, [(Hash(), 7)], False)
         >>> one.merge_counted(Subtree.from_chunks(False, [(Hash(), 8)], True))
@@ -356,7 +360,7 @@ class Subtree(Guarded):
             raise TypeError(f"a Subtree is merged with a Subtree, not with {type(other).__name__}")
         first, second = both_locked(self, other)
         with first, second:
-            if other is self:  # the two handles of a call are two
+            if other is self:  # a call needs two different handles
                 other = self.copy()
             calls = calls_for(self._nodes() + other._nodes(), LONG_NODES)
             if parents is None:
@@ -364,7 +368,7 @@ class Subtree(Guarded):
             else:
                 status = calls.yurewha_subtree_merge_into_counted(self._handle, other._handle, parents)
         if status:
-            raise error_of(status, "a subtree at the end is merged with none, nor one with a subtree at the start")
+            raise error_of(status, "the front subtree is marked at its end, or the back one at its start")
 
     def __iadd__(self, other: Subtree) -> Subtree:
         if not isinstance(other, Subtree):
@@ -381,10 +385,11 @@ class Subtree(Guarded):
 
     @staticmethod
     def merge_all(ranges: Iterable[Subtree]) -> Subtree:
-        """One subtree of the subtrees of adjacent ranges, in order; of none it is the empty one with both marks.
+        """Merges the subtrees of adjacent ranges, in order, and returns one subtree. They don't change.
 
-        `InvalidArguments` where a range other than the first is marked at its start, or one other than the last at its
-        end; `SizeOverflow` where the sizes of all add up to more than 2^64 - 1.
+        With no ranges, the result is the empty subtree with both marks. Raises `InvalidArguments` if a range other than the
+        first is marked at its start, or one other than the last at its end. Raises `SizeOverflow` if the sizes of all ranges
+        add up to more than 2^64 - 1.
 
         >>> Subtree.merge_all([]).final_hash() == Hash()
         True
@@ -396,15 +401,15 @@ class Subtree(Guarded):
         for item in ranges:
             if not isinstance(item, Subtree):
                 raise TypeError(f"range {len(items)} is a Subtree, not {type(item).__name__}")
-            # An object that comes again is copied, since the handles of a call are all different.
+            # A repeated object is copied, because a call needs different handles.
             items.append(item.copy() if id(item) in seen else item)
             seen.add(id(item))
         merged = Subtree._empty()
         with all_locked(items):
             nodes = sum(item._nodes() for item in items)
             handles = (CSubtree * len(items))()
-            # The handles move to where they stand side by side, and stay there. At each moment one of the two places
-            # is the object's, also where a signal's handler ends this call between two steps.
+            # The handles move into one array and stay there. At each moment the object has one of the two places, even if
+            # a signal handler ends this call between two steps.
             for place, item in enumerate(items):
                 handles[place].at = item._handle.at
                 item._handle = handles[place]
@@ -418,7 +423,7 @@ class Subtree(Guarded):
     # ---- Copies and forms
 
     def copy(self) -> Subtree:
-        """Another subtree that is equal, and goes its own way.
+        """Returns an equal, independent subtree.
 
         >>> one = Subtree.from_chunks(True, [], False)
         >>> one.copy() == one, one.copy() is one
@@ -453,7 +458,7 @@ class Subtree(Guarded):
         return equal.value
 
     def to_json(self) -> str:
-        """The subtree as compact JSON text.
+        """Returns the subtree as compact JSON text.
 
         >>> Subtree.from_chunks(True, [], True).to_json()
         '{"at_end":true,"at_start":true,"levels":[[0,0]],"nodes":[]}'
@@ -461,7 +466,7 @@ class Subtree(Guarded):
         length = ctypes.c_size_t()
         with self._locked():
             nodes = self.num_nodes
-            # 64 digits and at most 20 for the size, with what stands around them; levels have two numbers.
+            # A node has 64 hex digits, a size of at most 20 digits, and punctuation. A level has two numbers.
             room = 128 * nodes + 64 * self.num_levels + 128
             while True:
                 text = ctypes.create_string_buffer(room)
@@ -475,9 +480,9 @@ class Subtree(Guarded):
 
     @staticmethod
     def from_json(text: Union[str, BytesLike]) -> Subtree:
-        """The subtree that a JSON text says, a `str` or its bytes.
+        """Returns the subtree that a JSON text describes. The text is a `str` or its bytes.
 
-        `InvalidText` where it is no JSON; `InvalidJson` with the least of the rules 1 to 13 that the value breaks.
+        Raises `InvalidText` if the text isn't JSON. Raises `InvalidJson` with the lowest rule, from 1 to 13, that it breaks.
 
         >>> Subtree.from_json('{"at_end":true,"at_start":true,"levels":[[0,0]],"nodes":[]}').is_empty
         True
@@ -486,18 +491,18 @@ class Subtree(Guarded):
         self = Subtree._empty()
         status = calls_for(len(data), LONG_BYTES).yurewha_subtree_from_json(data, len(data), self._handle)
         if status:
-            raise error_of(status, "the text is no JSON text")
+            raise error_of(status, "the text isn't JSON")
         return self
 
     def to_flat(self) -> Flat:
-        """The subtree as flat lists.
+        """Returns the subtree as flat lists.
 
         >>> Subtree.from_chunks(False, [(Hash(), 7)], True).to_flat().levels
         ((1, 0),)
         """
         level_count, node_count = ctypes.c_size_t(), ctypes.c_size_t()
         with self._locked():
-            # A signal's handler may change the subtree between two steps; then they are made again.
+            # A signal handler may change the subtree between two steps. Then all steps are repeated.
             while True:
                 at_start, at_end = self._marks()
                 levels, nodes = (CLevel * self.num_levels)(), (CChunk * self.num_nodes)()
@@ -513,7 +518,9 @@ class Subtree(Guarded):
 
     @staticmethod
     def from_flat(at_start: bool, levels: Iterable[Sequence[SupportsIndex]], nodes: ChunksLike, at_end: bool) -> Subtree:
-        """The subtree that flat lists say, as `to_flat` gives them; `InvalidJson` with the least rule that they break.
+        """Returns the subtree that flat lists describe, in the form of `to_flat`.
+
+        Raises `InvalidJson` with the lowest rule that they break.
 
         >>> Subtree.from_flat(True, [(1, 0)], [(Hash(), 7)], False).total_size
         7
@@ -537,7 +544,7 @@ class Subtree(Guarded):
         return self
 
     def __reduce__(self) -> Tuple[_FromFlat, Tuple[bool, Tuple[Tuple[int, int], ...], bytes, bool]]:
-        # By flat lists, which are checked as JSON is. A pickle that was changed so gives a subtree or InvalidJson.
+        # A pickle has flat lists, which are checked like JSON. So a changed pickle gives a valid subtree or an error.
         flat = self.to_flat()
         return Subtree.from_flat, (flat.at_start, flat.levels, flat.nodes.packed, flat.at_end)
 
@@ -560,7 +567,7 @@ class Subtree(Guarded):
     # ---- Pictures
 
     def svg(self, caption: str = "") -> str:
-        """A picture of the subtree as SVG text: levels as rows, and in each the nodes kept around the gap between.
+        """Returns a picture of the subtree as SVG text. Each level is a row with its kept nodes on both sides of the gap.
 
         >>> Subtree.from_chunks(True, [(Hash(), 7)], True).svg()[:4]
         '<svg'
@@ -581,7 +588,7 @@ class Subtree(Guarded):
 
 
 def _misplaced(ranges: Sequence[Subtree]) -> str:
-    """Which of some ranges is marked at an end that is inside them all."""
+    """Returns an error text that names the range with a mark between two ranges."""
     for place, item in enumerate(ranges):
         if place > 0 and item.at_start:
             return f"range {place} is at the start, and isn't the first"
@@ -591,7 +598,7 @@ def _misplaced(ranges: Sequence[Subtree]) -> str:
 
 
 def sides_of(flat: Flat) -> List[Tuple[Chunks, Chunks]]:
-    """The left and the right nodes of each level.
+    """Returns the left and the right nodes of each level.
 
     >>> sides_of(Subtree.from_chunks(True, [(Hash(), 7)], False).to_flat())
     [(<yurewha.Chunks of 1>, <yurewha.Chunks of 0>)]
@@ -607,7 +614,7 @@ def sides_of(flat: Flat) -> List[Tuple[Chunks, Chunks]]:
 
 
 def svg_of(subtrees: Sequence[Subtree], captions: Sequence[str] = ()) -> str:
-    """One picture of several subtrees, one below the other, each with its caption.
+    """Returns one picture of several subtrees, one below the other, each with its caption.
 
     >>> svg_of([Subtree.from_chunks(True, [(Hash(), 7)], True)], ["one chunk"]).count("one chunk")
     1
