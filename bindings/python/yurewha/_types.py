@@ -1,4 +1,4 @@
-"""The types of what calls take. They are for type checkers; what a call refuses it looks at itself."""
+"""The types of arguments, for type checkers. Each call checks its arguments itself."""
 
 from __future__ import annotations
 
@@ -9,7 +9,7 @@ if TYPE_CHECKING:
     from typing_extensions import Protocol
 
     class Array(Protocol):
-        """An array of NumPy, or of what is shared as NumPy's are."""
+        """A NumPy array, or another array that is shared in the same way."""
 
         @property
         def __array_interface__(self) -> Mapping[str, object]: ...
@@ -23,7 +23,7 @@ else:
 
 
 def view_of(data: object) -> memoryview:
-    """A view of what has the buffer protocol; a `TypeError` where it has none.
+    """Returns a view of an object with the buffer protocol. Raises `TypeError` if the object doesn't have it.
 
     >>> view_of(b"ab").nbytes
     2
