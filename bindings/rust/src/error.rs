@@ -4,7 +4,7 @@ use crate::ffi;
 use crate::status::Refusal;
 use std::fmt;
 
-/// Why a call was refused. After a refusal everything that was lent to the call is unchanged.
+/// Why a call failed. After a failure everything that was lent to the call is unchanged.
 ///
 /// ```
 /// use yurewha::error::CoreError;
@@ -13,7 +13,7 @@ use std::fmt;
 /// assert_eq!(CoreError::InvalidJson(6).to_string(), "invalid JSON: rule 6");
 /// ```
 ///
-/// There may be more variants later, so that a `match` needs an arm for others:
+/// Later versions may have more variants, so a `match` needs an arm for others:
 ///
 /// ```compile_fail,E0004
 /// # use yurewha::error::CoreError;
@@ -27,20 +27,20 @@ use std::fmt;
 #[derive(Clone, Copy, Debug, PartialEq, Eq)]
 #[non_exhaustive]
 pub enum CoreError {
-    /// A range that another follows is marked at its end, or one that follows another at its start.
+    /// A range other than the last is marked at its end, or one other than the first at its start.
     InvalidArguments,
     /// The sizes of all nodes add up to more than `u64::MAX` bytes.
     SizeOverflow,
-    /// An allocation was refused.
+    /// An allocation failed.
     OutOfMemory,
-    /// A text is no JSON text.
+    /// A text isn't JSON.
     InvalidText,
-    /// A value says no subtree. The number is the least rule, from 1 to 13, that it breaks, as
-    /// [`from_json`](crate::merklehash::MerkleHashSubtree::from_json) lists them.
+    /// A value doesn't describe a subtree. The number is the lowest rule, from 1 to 13, that the value breaks.
+    /// [`from_json`](crate::merklehash::MerkleHashSubtree::from_json) lists the rules.
     InvalidJson(u8),
 }
 
-/// What a call answers, or why it was refused.
+/// The result of a call, or why it failed.
 pub type Result<T> = std::result::Result<T, CoreError>;
 
 impl fmt::Display for CoreError {
@@ -69,7 +69,7 @@ impl Refusal for CoreError {
     }
 }
 
-// The rule that a status names.
+// The rule of a status.
 fn rule_of(status: ffi::yurewha_status) -> Option<u8> {
     let rule = u8::try_from(status.checked_sub(ffi::YUREWHA_RULE)?).ok()?;
     (1..=13).contains(&rule).then_some(rule)
