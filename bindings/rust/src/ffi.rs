@@ -1,5 +1,5 @@
-//! The exports of the library, as `bindings/include/yurewha.h` declares them. Names and types are the header's;
-//! `bindings/check_exports` compares both files. Each export is declared, whether the features that are on use it or not.
+//! The exports of the library, as `bindings/include/yurewha.h` declares them. Names and types are those of the header,
+//! and `bindings/check_exports` compares the two files. All exports are declared, even if no enabled feature uses them.
 
 #![allow(dead_code, non_camel_case_types)]
 
@@ -69,7 +69,7 @@ pub struct yurewha_hasher {
 }
 
 impl yurewha_hasher {
-    // Room for a hasher, which isn't begun.
+    // Room for a hasher. It must be begun before use.
     pub const ROOM: Self = yurewha_hasher {
         tree: yurewha_hasher_tree {
             key: [0; 8],
@@ -250,7 +250,7 @@ extern "C" {
     pub fn yurewha_session_free(session: *mut yurewha_session);
 }
 
-// The calls that no other module makes.
+// Tests of the calls that no other module makes.
 #[cfg(test)]
 mod tests {
     use super::*;
