@@ -1,10 +1,10 @@
-//! Handles that are owned by one value.
+//! Handles that one value owns.
 
 use crate::ffi;
 use std::ptr;
 use std::sync::{Mutex, MutexGuard, PoisonError};
 
-/// A handle of the library: one pointer, whose default is the empty handle.
+/// A handle of the library. It is one pointer, and the default is the empty handle.
 pub(crate) trait Handle: Default + Send {
     /// The call that frees what the handle owns and leaves it empty.
     const FREE: unsafe extern "C" fn(*mut Self);
@@ -18,8 +18,8 @@ impl Handle for ffi::yurewha_session {
     const FREE: unsafe extern "C" fn(*mut Self) = ffi::yurewha_session_free;
 }
 
-// SAFETY: a handle is a pointer to memory of `malloc` that one value alone owns; nothing of the library is bound to a
-// thread, and `free` takes memory of any thread.
+// SAFETY: a handle is a pointer to memory of `malloc` that only one value owns. Nothing of the library is bound to a
+// thread, and any thread may call `free`.
 unsafe impl Send for ffi::yurewha_subtree {}
 
 // SAFETY: as above.
@@ -27,19 +27,19 @@ unsafe impl Send for ffi::yurewha_session {}
 
 /// A handle with one owner, which frees it.
 ///
-/// Calls that only look at a handle write to it all the same: they take the object out and put it back. So each call
-/// has the handle for itself, and threads that look at one value take turns.
+/// Even a call that only reads a handle writes to it: it takes the object out and puts it back. So each call has
+/// exclusive use of the handle, and threads that read one value take turns.
 #[derive(Default)]
 pub(crate) struct Owned<H: Handle>(Mutex<H>);
 
 impl<H: Handle> Owned<H> {
-    /// The handle, for one call. The library doesn't unwind, so that a handle is whole after each panic.
+    /// The handle, for one call. The library never unwinds, so the handle is intact after a panic.
     pub(crate) fn lock(&self) -> MutexGuard<'_, H> {
         self.0.lock().unwrap_or_else(PoisonError::into_inner)
     }
 
-    /// The handles of two values, which aren't one. Whoever locks several handles goes by rising address, so that no two
-    /// threads wait for each other.
+    /// The handles of two different values. Several handles are always locked by rising address, so no two threads wait
+    /// for each other.
     pub(crate) fn lock_both<'a>(first: &'a Self, second: &'a Self) -> (MutexGuard<'a, H>, MutexGuard<'a, H>) {
         if ptr::from_ref(first) < ptr::from_ref(second) {
             let first = first.lock();
@@ -50,7 +50,7 @@ impl<H: Handle> Owned<H> {
         }
     }
 
-    /// The handle of a value that nobody else looks at.
+    /// The handle of a value that nobody else uses.
     pub(crate) fn get_mut(&mut self) -> &mut H {
         self.0.get_mut().unwrap_or_else(PoisonError::into_inner)
     }
