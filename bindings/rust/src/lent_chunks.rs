@@ -1,4 +1,4 @@
-//! Pairs of hash and size as the chunks of the header.
+//! Pairs of a hash and a size as chunks of the header.
 
 use crate::error::{CoreError, Result};
 use crate::ffi::{yurewha_chunk, yurewha_hash};
@@ -7,19 +7,19 @@ use std::borrow::Cow;
 use std::mem::{align_of, offset_of, size_of};
 use std::slice;
 
-// Whether pairs lie in memory as chunks do. Rust doesn't promise how a pair lies; it is known when this is compiled.
+// Whether pairs have the layout of chunks. Rust doesn't promise the layout of a pair, but the compiler knows it.
 const PAIRS_ARE_CHUNKS: bool = size_of::<Node>() == size_of::<yurewha_chunk>()
     && align_of::<Node>() == align_of::<yurewha_chunk>()
     && offset_of!(Node, 0) == offset_of!(yurewha_chunk, hash)
     && offset_of!(Node, 1) == offset_of!(yurewha_chunk, size);
 
-/// The pairs for a call: lent where they lie as chunks do, which takes no memory, and else copied.
+/// The pairs as chunks for a call. They are lent, without an allocation, if the layouts agree, and else copied.
 pub(crate) fn lend(nodes: &[Node]) -> Result<Cow<'_, [yurewha_chunk]>> {
     if !PAIRS_ARE_CHUNKS {
         return copied(nodes).map(Cow::Owned);
     }
-    // SAFETY: size, alignment and the places of both members are the same, a hash and its words lie alike, and there
-    // is no padding.
+    // SAFETY: size, alignment and the offsets of both members are the same, a hash has the layout of its words, and
+    // there is no padding.
     let chunks = unsafe { slice::from_raw_parts(nodes.as_ptr().cast(), nodes.len()) };
     Ok(Cow::Borrowed(chunks))
 }
@@ -37,13 +37,13 @@ pub(crate) fn room<T>(count: usize) -> Result<Vec<T>> {
     Ok(room)
 }
 
-/// The chunk that a pair is.
+/// A pair as a chunk.
 pub(crate) fn chunk_of((hash, size): Node) -> yurewha_chunk {
     let hash = yurewha_hash { words: *hash };
     yurewha_chunk { hash, size }
 }
 
-/// The pair that a chunk is.
+/// A chunk as a pair.
 pub(crate) fn node_of(chunk: &yurewha_chunk) -> Node {
     (chunk.hash.words.into(), chunk.size)
 }
