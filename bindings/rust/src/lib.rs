@@ -1,10 +1,10 @@
-//! The hashes by which the Hugging Face Xet store names chunks and files, and the merging of what is kept of adjacent
-//! ranges of chunks, hashed apart, without their chunks.
+//! The hashes by which the Hugging Face Xet store names chunks and files. Ranges of chunks that were hashed separately
+//! can be merged without their chunks.
 //!
-//! The module [`merklehash`] has the calls and paths of the module of that name in the crate `xet-core-structures`
-//! 1.5.2, over a library in which each function is proved to meet its contract. So code that is written for that
-//! crate needs another name in `Cargo.toml` and in its `use` lines, and no more. What that crate doesn't have stands in
-//! [`own`]. `README.md` says how the library is found, and what isn't proved.
+//! The module [`merklehash`] has the calls and paths of the module with that name in the crate `xet-core-structures`
+//! 1.5.2. It calls a library in which each function is proved to meet its contract. Code for that crate needs only
+//! another name in `Cargo.toml` and in its `use` lines. The module [`own`] has what that crate doesn't have.
+//! `README.md` says how the library is found, and what isn't proved.
 //!
 //! ```
 //! use yurewha::merklehash::{compute_data_hash, xorb_hash, MerkleHashSubtree};
@@ -12,7 +12,7 @@
 //! let chunks: Vec<_> = [&b"first"[..], b"second", b"third"]
 //!     .map(|data| (compute_data_hash(data), data.len() as u64))
 //!     .into();
-//! // Two ranges of one file, hashed apart, perhaps on two machines.
+//! // Two ranges of one file, hashed separately, perhaps on two machines.
 //! let mut file = MerkleHashSubtree::from_chunks(true, &chunks[..2], false);
 //! let rest = MerkleHashSubtree::from_chunks(false, &chunks[2..], true);
 //! file.merge_into(&rest)?;
@@ -22,17 +22,18 @@
 //!
 //! # What differs from `xet-core-structures`
 //!
-//! - **Merging.** Adjacent ranges give the same subtree and the same root, whichever are merged first. There the levels
-//!   depend on the order, and some orders give a wrong root.
-//! - **Sizes** that add up to more than `u64::MAX` bytes are refused. There they panic in debug builds and wrap
-//!   otherwise.
-//! - **Memory** that the system refuses is the error [`OutOfMemory`](error::CoreError::OutOfMemory).
-//! - **Panics.** Calls without a `Result` there have none here. If such a call is refused, it panics with a message that
+//! - **Merging.** Adjacent ranges give the same subtree and the same root in any order of merging. In that crate the
+//!   levels depend on the order, and some orders give a wrong root.
+//! - **Sizes** that add up to more than `u64::MAX` bytes are an error. In that crate they panic in debug builds and
+//!   wrap in others.
+//! - **Memory.** A failed allocation is the error [`OutOfMemory`](error::CoreError::OutOfMemory).
+//! - **Panics.** A call that has no `Result` in that crate has none here. If it fails, it panics with a message that
 //!   names the call and the cause. A call `try_..` returns a [`Result`](error::Result) instead.
-//! - **Subtrees that are read** are checked: one that is no subtree of a list is refused, in each format of serde.
-//! - **Threads** that look at one [`MerkleHashSubtree`](merklehash::MerkleHashSubtree) or [`Session`](own::Session) at
-//!   once take turns. Give each a clone if that is too slow.
-//! - **Errors.** [`CoreError`](error::CoreError) has the variants that these calls return, with texts of their own.
+//! - **Subtrees that are read** are checked in each format of serde. A value that isn't the subtree of a list is an
+//!   error.
+//! - **Threads** that read one [`MerkleHashSubtree`](merklehash::MerkleHashSubtree) or [`Session`](own::Session) at
+//!   once take turns. Give each thread a clone if that is too slow.
+//! - **Errors.** [`CoreError`](error::CoreError) has the variants that these calls return, with its own texts.
 //! - **Targets** are Linux with glibc, on x86-64 and aarch64.
 //!
 //! The table "In the Rust crate `yurewha`" of `docs/DIFFERENCES.md`, in the repository, lists the rest.
