@@ -1,8 +1,8 @@
-//! Hashes of chunks, xorbs and files, and subtrees of ranges of chunks: the module `merklehash` of the crate
+//! Hashes of chunks, xorbs and files, and subtrees of ranges of chunks. This is the module `merklehash` of the crate
 //! `xet-core-structures` 1.5.2.
 //!
-//! A glob of this module, or of one below it, brings in the names of that crate and no others. What is this crate's
-//! own stands in [`own`](crate::own); types have more calls here.
+//! A glob of this module, or of one below it, brings in only the names of that crate. Items that crate doesn't have are
+//! in [`own`](crate::own), but the types here have additional calls.
 
 pub mod aggregated_hashes;
 pub mod data_hash;
