@@ -4,10 +4,11 @@ use super::data_hash::MerkleHash;
 use crate::own::{try_file_hash, try_file_hash_with_salt, try_xorb_hash};
 use crate::status::plain;
 
-/// How many nodes a parent has on average.
+/// The average number of children of a parent.
 pub const AGGREGATED_HASHES_MEAN_TREE_BRANCHING_FACTOR: u64 = 4;
 
-/// The root of a list of chunks: the default hash of no chunk, the chunk's own hash of one, else that of the tree.
+/// Returns the root of a list of chunks. The root of no chunks is the default hash. The root of one chunk is its own
+/// hash. The root of more chunks is the hash at the top of their tree.
 ///
 /// ```
 /// use yurewha::merklehash::{xorb_hash, MerkleHash};
@@ -21,13 +22,14 @@ pub const AGGREGATED_HASHES_MEAN_TREE_BRANCHING_FACTOR: u64 = 4;
 ///
 /// # Panics
 ///
-/// Where the sizes add up to more than `u64::MAX`, or memory is refused; see [`try_xorb_hash`].
+/// If the sizes add up to more than `u64::MAX` or an allocation fails; see [`try_xorb_hash`].
 #[track_caller]
 pub fn xorb_hash(chunks: &[(MerkleHash, u64)]) -> MerkleHash {
     plain("xorb_hash", try_xorb_hash(chunks))
 }
 
-/// The file hash of a list of chunks: the default hash of no chunk, else the root's hmac under 32 zero bytes.
+/// Returns the file hash of a list of chunks. With no chunks it is the default hash. Otherwise it is the hmac of the
+/// root under 32 zero bytes.
 ///
 /// ```
 /// use yurewha::merklehash::{file_hash, xorb_hash, HMACKey, MerkleHash};
@@ -38,13 +40,14 @@ pub fn xorb_hash(chunks: &[(MerkleHash, u64)]) -> MerkleHash {
 ///
 /// # Panics
 ///
-/// As [`xorb_hash`] does; see [`try_file_hash`].
+/// In the same cases as [`xorb_hash`]; see [`try_file_hash`].
 #[track_caller]
 pub fn file_hash(chunks: &[(MerkleHash, u64)]) -> MerkleHash {
     plain("file_hash", try_file_hash(chunks))
 }
 
-/// The file hash of a list of chunks under a salt: the default hash of no chunk, else the root's hmac under the salt.
+/// Returns the file hash of a list of chunks under a salt. With no chunks it is the default hash. Otherwise it is the
+/// hmac of the root under the salt.
 ///
 /// ```
 /// use yurewha::merklehash::{file_hash, file_hash_with_salt, MerkleHash};
@@ -56,7 +59,7 @@ pub fn file_hash(chunks: &[(MerkleHash, u64)]) -> MerkleHash {
 ///
 /// # Panics
 ///
-/// As [`xorb_hash`] does; see [`try_file_hash_with_salt`].
+/// In the same cases as [`xorb_hash`]; see [`try_file_hash_with_salt`].
 #[track_caller]
 pub fn file_hash_with_salt(chunks: &[(MerkleHash, u64)], salt: &[u8; 32]) -> MerkleHash {
     plain("file_hash_with_salt", try_file_hash_with_salt(chunks, salt))
