@@ -20,13 +20,13 @@ pub mod hex;
 pub use errors::{DataHashBytesParseError, DataHashHexParseError};
 pub use hashed_write::HashedWrite;
 
-/// A Merkle hash of 256 bits: four words, which it dereferences to.
+/// A Merkle hash of 256 bits. It dereferences to its four words.
 ///
-/// Its 32 bytes are the words in order, each little-endian, and its text is each word in order as 16 hex digits. The
-/// order of hashes is that of the words, the first one first, which is the order of the texts. A hash table gets the
-/// first word alone.
+/// Its 32 bytes are the words in order, each little-endian. Its text is the words in order, each as 16 hex digits.
+/// Hashes are ordered by their words, starting with the first. This is also the order of their texts. A hash table gets
+/// only the first word.
 ///
-/// With serde a hash is the sequence of its four words, in every format; `hex::serde` reads and writes its text
+/// With serde a hash is the sequence of its four words, in every format. `hex::serde` reads and writes its text
 /// instead.
 ///
 /// ```
@@ -49,14 +49,14 @@ pub type MerkleHash = DataHash;
 /// A key of [`DataHash::hmac`].
 pub type HMACKey = DataHash;
 
-// Pointers to hashes are pointers to the header's hashes.
+// A pointer to a hash is also a pointer to the header's hash.
 const _: () = assert!(
     size_of::<DataHash>() == size_of::<ffi::yurewha_hash>()
         && align_of::<DataHash>() == align_of::<ffi::yurewha_hash>()
 );
 
 impl DataHash {
-    /// The hash of four words.
+    /// Returns the hash with these four words.
     ///
     /// ```
     /// use yurewha::merklehash::DataHash;
@@ -69,7 +69,7 @@ impl DataHash {
         DataHash(words)
     }
 
-    /// The hash of 32 bytes.
+    /// Returns the hash with these 32 bytes.
     ///
     /// ```
     /// use yurewha::merklehash::DataHash;
@@ -79,11 +79,11 @@ impl DataHash {
     /// ```
     #[inline]
     pub const fn from_bytes(bytes: [u8; 32]) -> Self {
-        // SAFETY: 32 bytes are four words, of which any bits are a value. The machine is little-endian.
+        // SAFETY: 32 bytes are four words, and any bits are a valid word. The machine is little-endian.
         DataHash(unsafe { transmute::<[u8; 32], [u64; 4]>(bytes) })
     }
 
-    /// The 32 bytes of this hash.
+    /// Returns the 32 bytes of this hash.
     ///
     /// ```
     /// use yurewha::merklehash::DataHash;
@@ -98,7 +98,7 @@ impl DataHash {
 
     #[inline]
     const fn bytes(&self) -> &[u8; 32] {
-        // SAFETY: the words are 32 bytes without padding, and each byte is one of `u8`. The machine is little-endian.
+        // SAFETY: the words are 32 bytes without padding, and any byte is a valid `u8`. The machine is little-endian.
         unsafe { &*ptr::from_ref(&self.0).cast() }
     }
 
@@ -110,7 +110,7 @@ impl DataHash {
         ptr::from_mut(self).cast()
     }
 
-    /// The 64 lower-case hex digits of this hash.
+    /// Returns the 64 lower-case hex digits of this hash.
     ///
     /// ```
     /// use yurewha::merklehash::DataHash;
@@ -121,14 +121,14 @@ impl DataHash {
         self.to_string()
     }
 
-    // The digits of `hex`, which take no memory.
+    // The digits of `hex`, without an allocation.
     fn hex_digits(&self) -> [u8; ffi::YUREWHA_HEX_LENGTH] {
-        // SAFETY: `text` hands in a room of the length that goes with it, and a length.
+        // SAFETY: `text` passes a room with its length, and a length to write to.
         let digits = text(|text, room, length| unsafe { ffi::yurewha_hex(self.for_call(), text, room, length) });
         plain("DataHash::hex", digits)
     }
 
-    /// The hash of 64 hex digits of either case. Every other text is refused.
+    /// Returns the hash with this hex text: 64 digits, lower or upper case. Any other text is an error.
     ///
     /// ```
     /// use yurewha::merklehash::DataHash;
@@ -138,14 +138,14 @@ impl DataHash {
     /// assert!(DataHash::from_hex("f").is_err());
     /// ```
     pub fn from_hex(text: &str) -> std::result::Result<Self, DataHashHexParseError> {
-        // To write a hash takes the library a fraction of the time that it takes to read one.
+        // The library writes a hash in a fraction of the time that it needs to read one.
         match Self::guessed(text) {
             Some(hash) if hash.hex_digits() == *text.as_bytes() => Ok(hash),
             _ => Self::read_by_library(text),
         }
     }
 
-    // What lower-case hex digits say. What other texts say means nothing.
+    // The hash that lower-case hex digits describe. For other texts the result has no meaning.
     fn guessed(text: &str) -> Option<Self> {
         let text: &[u8; ffi::YUREWHA_HEX_LENGTH] = text.as_bytes().try_into().ok()?;
         let mut words = [0; 4];
@@ -163,7 +163,7 @@ impl DataHash {
             .map_err(|_: CoreError| DataHashHexParseError)
     }
 
-    /// The URL-safe base64 text of the 32 bytes, without padding: 43 characters.
+    /// Returns the URL-safe base64 text of the 32 bytes: 43 characters, without padding.
     ///
     /// ```
     /// use yurewha::merklehash::DataHash;
@@ -173,13 +173,13 @@ impl DataHash {
     ///
     /// # Panics
     ///
-    /// Where memory is refused; see [`try_base64`](Self::try_base64).
+    /// If an allocation fails; see [`try_base64`](Self::try_base64).
     #[track_caller]
     pub fn base64(&self) -> String {
         plain("DataHash::base64", self.try_base64())
     }
 
-    /// [`base64`](Self::base64), refused where memory is.
+    /// Does the same as [`base64`](Self::base64), but returns an error if an allocation fails.
     ///
     /// ```
     /// use yurewha::merklehash::DataHash;
@@ -188,7 +188,7 @@ impl DataHash {
     /// # Ok::<(), yurewha::error::CoreError>(())
     /// ```
     pub fn try_base64(&self) -> Result<String> {
-        // SAFETY: `text` hands in a room of the length that goes with it, and a length.
+        // SAFETY: `text` passes a room with its length, and a length to write to.
         let text: [u8; ffi::YUREWHA_BASE64_LENGTH] =
             text(|text, room, length| unsafe { ffi::yurewha_base64(self.for_call(), text, room, length) })?;
         let mut string = String::new();
@@ -199,7 +199,7 @@ impl DataHash {
         Ok(string)
     }
 
-    /// The hash whose [`base64`](Self::base64) text this is. Every other text is refused.
+    /// Returns the hash with this [`base64`](Self::base64) text. Any other text is an error.
     ///
     /// ```
     /// use yurewha::merklehash::DataHash;
@@ -211,7 +211,7 @@ impl DataHash {
     ///
     /// # Panics
     ///
-    /// Where memory is refused; see [`try_from_base64`](Self::try_from_base64).
+    /// If an allocation fails; see [`try_from_base64`](Self::try_from_base64).
     #[track_caller]
     pub fn from_base64(text: &str) -> std::result::Result<Self, DataHashBytesParseError> {
         match Self::try_from_base64(text) {
@@ -221,7 +221,7 @@ impl DataHash {
         }
     }
 
-    /// [`from_base64`](Self::from_base64), which also tells where memory is refused.
+    /// Does the same as [`from_base64`](Self::from_base64), but returns an error if an allocation fails.
     ///
     /// ```
     /// use yurewha::merklehash::DataHash;
@@ -235,7 +235,7 @@ impl DataHash {
         answer(|hash: &mut Self| unsafe { ffi::yurewha_from_base64(text.as_ptr().cast(), text.len(), hash.out()) })
     }
 
-    /// The 32 bytes of this hash, lent.
+    /// Borrows the 32 bytes of this hash.
     ///
     /// ```
     /// use yurewha::merklehash::DataHash;
@@ -247,7 +247,7 @@ impl DataHash {
         self.bytes()
     }
 
-    /// The hash of 32 bytes. A slice of another length is refused.
+    /// Returns the hash with these 32 bytes. A slice of another length is an error.
     ///
     /// ```
     /// use yurewha::merklehash::DataHash;
@@ -262,7 +262,7 @@ impl DataHash {
             .map_err(|_| DataHashBytesParseError)
     }
 
-    /// A hash drawn from a seed, for tests: the first 32 bytes that Xoshiro256++ gives.
+    /// Returns a pseudorandom hash, for tests: the first 32 bytes of Xoshiro256++ with this seed.
     ///
     /// ```
     /// use yurewha::merklehash::DataHash;
@@ -274,7 +274,7 @@ impl DataHash {
         given(|hash: &mut Self| unsafe { ffi::yurewha_random_from_seed(seed, hash.out()) })
     }
 
-    /// Keyed BLAKE3 of the bytes of this hash under the bytes of `key`.
+    /// Returns the keyed BLAKE3 hash of the bytes of this hash, under the bytes of `key`.
     ///
     /// ```
     /// use yurewha::merklehash::{file_hash, DataHash, HMACKey};
@@ -287,7 +287,7 @@ impl DataHash {
         given(|result: &mut Self| unsafe { ffi::yurewha_hmac(self.for_call(), key.for_call(), result.out()) })
     }
 
-    /// The hash with all bits one.
+    /// Returns the hash with all bits set.
     ///
     /// ```
     /// use yurewha::merklehash::DataHash;
@@ -299,19 +299,19 @@ impl DataHash {
     }
 }
 
-// What an export writes to a room of `N` bytes.
+// The text of `N` bytes that an export writes.
 fn text<const N: usize>(write: impl FnOnce(*mut c_char, usize, &mut usize) -> ffi::yurewha_status) -> Result<[u8; N]> {
     let mut text = [0; N];
     answer(|length| write(text.as_mut_ptr().cast(), N, length))?;
     Ok(text)
 }
 
-// The digits of a text of an export.
+// The text of an export as a `str`.
 fn ascii(text: &[u8]) -> &str {
     str::from_utf8(text).expect("hex and base64 texts are ASCII")
 }
 
-/// The hash of a chunk, whose data the bytes are: keyed BLAKE3 under the data key.
+/// Returns the hash of a chunk with this data: keyed BLAKE3 under the data key.
 ///
 /// ```
 /// use yurewha::merklehash::compute_data_hash;
@@ -323,7 +323,7 @@ pub fn compute_data_hash(bytes: &[u8]) -> DataHash {
     given(|hash: &mut DataHash| unsafe { ffi::yurewha_data_hash(bytes.as_ptr(), bytes.len(), hash.out()) })
 }
 
-/// The hash of an inner node of the tree, whose text the bytes are: keyed BLAKE3 under the internal key.
+/// Returns the hash of an inner node of the tree with this text: keyed BLAKE3 under the internal key.
 ///
 /// ```
 /// use yurewha::merklehash::{compute_internal_node_hash, xorb_hash, DataHash};
@@ -337,7 +337,7 @@ pub fn compute_internal_node_hash(bytes: &[u8]) -> DataHash {
     given(|hash: &mut DataHash| unsafe { ffi::yurewha_internal_node_hash(bytes.as_ptr(), bytes.len(), hash.out()) })
 }
 
-/// The words.
+/// Dereferences to the words.
 impl Deref for DataHash {
     type Target = [u64; 4];
 
@@ -354,7 +354,7 @@ impl DerefMut for DataHash {
     }
 }
 
-/// The order of the words, the first one first.
+/// Orders by the words, starting with the first.
 impl Ord for DataHash {
     #[inline]
     fn cmp(&self, other: &Self) -> Ordering {
@@ -369,7 +369,7 @@ impl PartialOrd for DataHash {
     }
 }
 
-/// The first word alone.
+/// Hashes only the first word.
 impl Hash for DataHash {
     #[inline]
     fn hash<H: Hasher>(&self, state: &mut H) {
@@ -377,7 +377,7 @@ impl Hash for DataHash {
     }
 }
 
-/// The last word modulo a divisor, which panics where that is 0.
+/// The last word modulo a divisor. Panics if the divisor is 0.
 impl Rem<u64> for DataHash {
     type Output = u64;
 
@@ -388,7 +388,7 @@ impl Rem<u64> for DataHash {
     }
 }
 
-/// The hex text, whatever width and flags are asked for.
+/// The hex text. Width and flags are ignored.
 impl fmt::LowerHex for DataHash {
     fn fmt(&self, f: &mut fmt::Formatter<'_>) -> fmt::Result {
         f.write_str(ascii(&self.hex_digits()))
@@ -409,7 +409,7 @@ impl fmt::Debug for DataHash {
     }
 }
 
-/// The words.
+/// Makes a hash of its words.
 impl From<[u64; 4]> for DataHash {
     #[inline]
     fn from(words: [u64; 4]) -> Self {
@@ -482,8 +482,8 @@ impl AsRef<[u8]> for DataHash {
     }
 }
 
-/// There is no `Borrow<[u8; 32]>`, whose law is that both have the same `Hash` and the same order: a hash table gets
-/// the first word of a hash alone, and its order is that of the words.
+/// `Borrow<[u8; 32]>` isn't implemented. It requires that hash and bytes have the same `Hash` and order. But a hash
+/// table gets only the first word of a hash, and the order is that of the words.
 impl AsRef<[u8; 32]> for DataHash {
     #[inline]
     fn as_ref(&self) -> &[u8; 32] {
@@ -498,11 +498,11 @@ impl AsRef<DataHash> for DataHash {
     }
 }
 
-// SAFETY: four words, for which all bits zero is a value.
+// SAFETY: four words, for which all bits zero is a valid value.
 #[cfg(feature = "bytemuck")]
 unsafe impl bytemuck::Zeroable for DataHash {}
 
-// SAFETY: four words without padding, of which any bits are a value; `Copy`, without references or interior mutability.
+// SAFETY: four words without padding, with any bits valid; `Copy`, without references or interior mutability.
 #[cfg(feature = "bytemuck")]
 unsafe impl bytemuck::Pod for DataHash {}
 
@@ -510,7 +510,7 @@ unsafe impl bytemuck::Pod for DataHash {}
 mod tests {
     use super::*;
 
-    // Drawn hashes, and hashes that differ in one bit of one word.
+    // Pseudorandom hashes, and hashes that differ in one bit of one word.
     fn hashes() -> Vec<DataHash> {
         let drawn = (0..50).map(DataHash::random_from_seed);
         let bits = (0..256).map(|bit| {
@@ -522,7 +522,7 @@ mod tests {
         drawn.chain(bits).chain(ends).collect()
     }
 
-    // What stands here in Rust, for speed, is what the library's exports say.
+    // For speed, these calls are written in Rust. They agree with the library's exports.
     #[test]
     fn bytes_are_those_of_the_exports() {
         for hash in hashes() {
@@ -542,7 +542,7 @@ mod tests {
         }
     }
 
-    // At each place of a text each byte that a text may have there.
+    // Each place of a text gets each byte that a text may have there.
     #[test]
     fn a_text_is_what_the_library_reads() {
         let mut texts = vec![String::new(), "0".repeat(63), "0".repeat(65), "é".repeat(32)];
