@@ -1,4 +1,4 @@
-//! The errors of reading a hash.
+//! Errors when a hash is read.
 
 use crate::error::CoreError;
 use crate::ffi;
@@ -11,17 +11,17 @@ use std::num::ParseIntError;
 #[derive(Clone, Debug, PartialEq, Eq)]
 pub struct DataHashHexParseError;
 
-/// A slice doesn't have the 32 bytes of a hash, or a text isn't the base64 text of one.
+/// A slice doesn't have 32 bytes, or a text isn't the base64 text of a hash.
 #[derive(Clone, Debug, PartialEq, Eq)]
 pub struct DataHashBytesParseError;
 
-/// Why a base64 text wasn't read.
+/// Why a base64 text can't be read.
 #[derive(Clone, Debug, PartialEq, Eq)]
 #[non_exhaustive]
 pub enum HashTextError {
-    /// It isn't that of a hash.
+    /// It isn't the text of a hash.
     Bytes(DataHashBytesParseError),
-    /// An allocation was refused.
+    /// An allocation failed.
     OutOfMemory,
 }
 
