@@ -4,9 +4,9 @@ use super::DataHash;
 use crate::own::Hasher;
 use std::io::{self, ErrorKind, Write};
 
-/// A writer that hands what it is given to an inner writer, and hashes what that one takes.
+/// A writer that passes bytes on to an inner writer, and hashes the bytes that the inner writer takes.
 ///
-/// These lines are tested, not proved: they are generic over the inner writer, which can't cross to the library. The
+/// This type is only tested, not proved. It is generic over the inner writer, which can't be passed to the library. The
 /// hasher is the library's.
 ///
 /// ```
@@ -27,7 +27,7 @@ pub struct HashedWrite<W: Write> {
 }
 
 impl<W: Write> HashedWrite<W> {
-    /// Hashes what is written to `writer` from here on.
+    /// Hashes what is written to `writer` from now on.
     pub fn new(writer: W) -> Self {
         HashedWrite {
             hasher: Hasher::new_data(),
@@ -35,20 +35,21 @@ impl<W: Write> HashedWrite<W> {
         }
     }
 
-    /// The hash of the bytes that were taken so far, that of [`compute_data_hash`](super::compute_data_hash).
+    /// Returns the hash of the bytes that were taken so far. It is that of
+    /// [`compute_data_hash`](super::compute_data_hash).
     pub fn hash(&self) -> DataHash {
         self.hasher.finalize()
     }
 
-    /// The inner writer, as it stands.
+    /// Returns the inner writer. It isn't flushed.
     pub fn into_inner(self) -> W {
         self.writer
     }
 }
 
 impl<W: Write> Write for HashedWrite<W> {
-    /// One call of the inner writer, whose answer is the answer: after `Ok(k)` the first `k` bytes are hashed, after
-    /// an error none. Where more than `u64::MAX` bytes would be hashed it isn't called, and the error is
+    /// Calls the inner writer once, and returns its result. After `Ok(k)` the first `k` bytes are hashed. After an
+    /// error none are. If more than `u64::MAX` bytes would be hashed, the inner writer isn't called and the error is
     /// [`InvalidInput`](ErrorKind::InvalidInput).
     fn write(&mut self, slice: &[u8]) -> io::Result<usize> {
         if !self.hasher.has_room(slice.len()) {
