@@ -27,7 +27,7 @@ pub mod serde {
         serializer.serialize_str(ascii(&hash.hex_digits()))
     }
 
-    /// Reads 64 hex digits of either case.
+    /// Reads 64 hex digits, lower or upper case.
     pub fn deserialize<'de, D: Deserializer<'de>>(deserializer: D) -> Result<DataHash, D::Error> {
         deserializer.deserialize_str(HexVisitor)
     }
