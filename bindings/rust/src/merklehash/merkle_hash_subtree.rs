@@ -13,11 +13,11 @@ use std::{fmt, mem, ptr};
 #[cfg(feature = "serde")]
 mod forms;
 
-/// The canonical subtree of some chunks: what is kept of them, to merge them with their neighbours.
+/// The canonical subtree of a range of chunks: what is kept to merge the range with its neighbours.
 ///
-/// It is marked at the start where no chunk comes before its own, and at the end where none comes after them. Merging
-/// adjacent ranges, in whatever order, gives the subtree that [`from_chunks`](Self::from_chunks) gives of all chunks;
-/// with both ends marked, [`final_hash`](Self::final_hash) is their root.
+/// A subtree is marked at its start if no chunk comes before the range, and at its end if no chunk comes after it.
+/// Adjacent ranges can be merged in any order. The result is the subtree that [`from_chunks`](Self::from_chunks)
+/// returns for all chunks. If both ends are marked, [`final_hash`](Self::final_hash) is their root.
 ///
 /// ```
 /// use yurewha::merklehash::{xorb_hash, MerkleHash, MerkleHashSubtree};
@@ -33,19 +33,19 @@ mod forms;
 /// # Ok::<(), yurewha::error::CoreError>(())
 /// ```
 ///
-/// With serde a subtree is a struct of `nodes`, `levels`, `at_start` and `at_end`. What breaks a rule of
-/// [`from_json`](Self::from_json) is refused, in every format, with the rule in the error's text.
+/// With serde a subtree is a struct of `nodes`, `levels`, `at_start` and `at_end`. In every format, a value that breaks
+/// a rule of [`from_json`](Self::from_json) is an error with the rule in its text.
 ///
-/// Threads may share a subtree. Those that look at one at once take turns, each for the time of a call.
+/// Threads may share a subtree. Threads that read it at once take turns, call by call.
 pub struct MerkleHashSubtree(Owned<ffi::yurewha_subtree>);
 
 impl MerkleHashSubtree {
-    // The subtree that a call makes in an empty handle.
+    // The subtree that a call writes to an empty handle.
     fn made(make: impl FnOnce(*mut ffi::yurewha_subtree) -> ffi::yurewha_status) -> Result<Self> {
         answer(|made: &mut Owned<_>| make(made.get_mut())).map(Self)
     }
 
-    // A subtree of a handle that another call fills.
+    // The subtree of a handle that another call has filled.
     pub(crate) fn of(handle: Owned<ffi::yurewha_subtree>) -> Self {
         MerkleHashSubtree(handle)
     }
@@ -55,7 +55,8 @@ impl MerkleHashSubtree {
         self.0.lock()
     }
 
-    /// The canonical subtree of some chunks, under marks.
+    /// Returns the canonical subtree of some chunks. `at_start` says that no chunk comes before them, `at_end` that none
+    /// comes after.
     ///
     /// ```
     /// use yurewha::merklehash::{MerkleHash, MerkleHashSubtree};
@@ -67,7 +68,7 @@ impl MerkleHashSubtree {
     ///
     /// # Panics
     ///
-    /// Where the sizes add up to more than `u64::MAX`, or memory is refused; see
+    /// If the sizes add up to more than `u64::MAX` or an allocation fails; see
     /// [`try_from_chunks`](Self::try_from_chunks).
     #[track_caller]
     pub fn from_chunks(at_start: bool, chunks: &[(MerkleHash, u64)], at_end: bool) -> Self {
@@ -77,8 +78,8 @@ impl MerkleHashSubtree {
         )
     }
 
-    /// [`from_chunks`](Self::from_chunks), refused where the sizes add up to more than `u64::MAX`, or memory is
-    /// refused.
+    /// Does the same as [`from_chunks`](Self::from_chunks), but returns an error if the sizes add up to more than
+    /// `u64::MAX` or an allocation fails.
     ///
     /// ```
     /// use yurewha::error::CoreError;
@@ -96,7 +97,7 @@ impl MerkleHashSubtree {
         })
     }
 
-    /// [`clone`](Clone::clone), refused where memory is.
+    /// Does the same as [`clone`](Clone::clone), but returns an error if an allocation fails.
     ///
     /// ```
     /// use yurewha::merklehash::MerkleHashSubtree;
@@ -112,11 +113,11 @@ impl MerkleHashSubtree {
 
     // Both marks.
     fn marks(&self) -> (bool, bool) {
-        // SAFETY: a handle, and two truth values to write to.
+        // SAFETY: a handle, and two `bool`s to write to.
         told(|(at_start, at_end)| unsafe { ffi::yurewha_subtree_marks(&mut *self.lock(), at_start, at_end) })
     }
 
-    /// Whether no chunk comes before.
+    /// Returns whether no chunk comes before the range.
     ///
     /// ```
     /// use yurewha::merklehash::MerkleHashSubtree;
@@ -127,7 +128,7 @@ impl MerkleHashSubtree {
         self.marks().0
     }
 
-    /// Whether no chunk comes after.
+    /// Returns whether no chunk comes after the range.
     ///
     /// ```
     /// use yurewha::merklehash::MerkleHashSubtree;
@@ -138,7 +139,7 @@ impl MerkleHashSubtree {
         self.marks().1
     }
 
-    /// The sum of the sizes of the chunks, in bytes.
+    /// Returns the total size of the chunks in bytes.
     ///
     /// ```
     /// use yurewha::merklehash::{MerkleHash, MerkleHashSubtree};
@@ -151,7 +152,7 @@ impl MerkleHashSubtree {
         told(|size| unsafe { ffi::yurewha_subtree_total_size(&mut *self.lock(), size) })
     }
 
-    /// How many nodes are kept.
+    /// Returns the number of nodes that are kept.
     ///
     /// ```
     /// use yurewha::merklehash::{MerkleHash, MerkleHashSubtree};
@@ -164,7 +165,7 @@ impl MerkleHashSubtree {
         told(|count| unsafe { ffi::yurewha_subtree_num_nodes(&mut *self.lock(), count) })
     }
 
-    /// How many levels there are: one at least.
+    /// Returns the number of levels, which is at least one.
     ///
     /// ```
     /// use yurewha::merklehash::{MerkleHash, MerkleHashSubtree};
@@ -177,7 +178,7 @@ impl MerkleHashSubtree {
         told(|count| unsafe { ffi::yurewha_subtree_num_levels(&mut *self.lock(), count) })
     }
 
-    /// Whether no node is kept, which is so where there is no chunk.
+    /// Returns whether no node is kept. That is the case if the range has no chunks.
     ///
     /// ```
     /// use yurewha::merklehash::MerkleHashSubtree;
@@ -188,8 +189,8 @@ impl MerkleHashSubtree {
         self.num_nodes() == 0
     }
 
-    /// Merges the subtree of the range that follows into this one, which becomes that of both, with its own start
-    /// mark and the other's end mark.
+    /// Merges `other`, the subtree of the range that follows, into this one. This one becomes the subtree of both
+    /// ranges. It keeps its start mark and takes the end mark of `other`.
     ///
     /// ```
     /// use yurewha::error::CoreError;
@@ -207,22 +208,22 @@ impl MerkleHashSubtree {
     ///
     /// # Errors
     ///
-    /// - [`InvalidArguments`] exactly where this one is marked at its end or the other at its start
-    /// - else [`SizeOverflow`] exactly where both sizes add up to more than `u64::MAX`
-    /// - [`OutOfMemory`]
+    /// - [`InvalidArguments`] if and only if this one is marked at its end or `other` at its start
+    /// - otherwise [`SizeOverflow`] if and only if the two sizes add up to more than `u64::MAX`
+    /// - [`OutOfMemory`] if an allocation fails
     ///
-    /// After a refusal this one is as it was.
+    /// After an error this one is unchanged.
     ///
     /// [`InvalidArguments`]: crate::error::CoreError::InvalidArguments
     /// [`SizeOverflow`]: crate::error::CoreError::SizeOverflow
     /// [`OutOfMemory`]: crate::error::CoreError::OutOfMemory
     pub fn merge_into(&mut self, other: &MerkleHashSubtree) -> Result<()> {
-        // SAFETY: two handles, which are two objects, since one is borrowed for itself alone.
+        // SAFETY: two handles. They are two objects, because one is borrowed mutably.
         answer(|(): &mut ()| unsafe { ffi::yurewha_subtree_merge_into(self.0.get_mut(), &mut *other.lock()) })
     }
 
-    /// [`merge_into`](Self::merge_into), with the number of parents that were hashed for it, or `u64::MAX` where it is
-    /// greater.
+    /// Does the same as [`merge_into`](Self::merge_into). Returns the number of parents that were hashed for it, at
+    /// most `u64::MAX`.
     ///
     /// ```
     /// use yurewha::merklehash::{MerkleHash, MerkleHashSubtree};
@@ -234,13 +235,14 @@ impl MerkleHashSubtree {
     /// # Ok::<(), yurewha::error::CoreError>(())
     /// ```
     pub fn merge_into_counted(&mut self, other: &MerkleHashSubtree) -> Result<u64> {
-        // SAFETY: two handles, which are two objects, since one is borrowed for itself alone, and a number to write to.
+        // SAFETY: two handles, and a number to write to. They are two objects, because one is borrowed mutably.
         answer(|parents| unsafe {
             ffi::yurewha_subtree_merge_into_counted(self.0.get_mut(), &mut *other.lock(), parents)
         })
     }
 
-    /// The subtree of adjacent ranges, in order: of none the empty one with both marks, of one a copy.
+    /// Merges the subtrees of adjacent ranges, in order, and returns one subtree. With no ranges it is the empty
+    /// subtree with both marks. With one range it is a copy.
     ///
     /// ```
     /// use yurewha::merklehash::{MerkleHash, MerkleHashSubtree};
@@ -254,17 +256,17 @@ impl MerkleHashSubtree {
     ///
     /// # Errors
     ///
-    /// - [`InvalidArguments`] where a range other than the first is marked at its start, or one other than the last
-    ///   at its end
-    /// - [`SizeOverflow`] where the sizes of all add up to more than `u64::MAX`
-    /// - [`OutOfMemory`]
+    /// - [`InvalidArguments`] if a range other than the first is marked at its start, or one other than the last at its
+    ///   end
+    /// - [`SizeOverflow`] if the sizes of all ranges add up to more than `u64::MAX`
+    /// - [`OutOfMemory`] if an allocation fails
     ///
     /// [`InvalidArguments`]: crate::error::CoreError::InvalidArguments
     /// [`SizeOverflow`]: crate::error::CoreError::SizeOverflow
     /// [`OutOfMemory`]: crate::error::CoreError::OutOfMemory
     pub fn merge(ranges: &[MerkleHashSubtree]) -> Result<MerkleHashSubtree> {
         let (mut locked, mut handles) = (room(ranges.len())?, room(ranges.len())?);
-        // By rising address, as ranges lie.
+        // This locks by rising address, because the ranges are in one slice.
         locked.extend(ranges.iter().map(Self::lock));
         handles.extend(locked.iter_mut().map(|handle| mem::take(&mut **handle)));
         // SAFETY: handles of their number, each the only one of its object, and an empty one to write to.
@@ -276,7 +278,7 @@ impl MerkleHashSubtree {
         merged
     }
 
-    /// The root of the chunks, or `None` unless both ends are marked.
+    /// Returns the root of the chunks, or `None` if an end isn't marked.
     ///
     /// ```
     /// use yurewha::merklehash::{MerkleHash, MerkleHashSubtree};
@@ -289,7 +291,7 @@ impl MerkleHashSubtree {
         told_if_there(|hash: &mut MerkleHash| unsafe { ffi::yurewha_subtree_final_hash(&mut *self.lock(), hash.out()) })
     }
 
-    /// This subtree as compact JSON text, with the members in the order `at_end`, `at_start`, `levels`, `nodes`.
+    /// Returns this subtree as compact JSON text. The members are in the order `at_end`, `at_start`, `levels`, `nodes`.
     ///
     /// ```
     /// use yurewha::merklehash::MerkleHashSubtree;
@@ -300,7 +302,7 @@ impl MerkleHashSubtree {
     /// ```
     pub fn to_json(&self) -> Result<String> {
         let mut text: Vec<u8> = zeros(self.json_length_at_most())?;
-        // SAFETY: a handle, a room of the length that goes with it, and a length to write to.
+        // SAFETY: a handle, a room with its length, and a length to write to.
         let length = answer(|length| unsafe {
             ffi::yurewha_subtree_to_json(&mut *self.lock(), text.as_mut_ptr().cast(), text.len(), length)
         })?;
@@ -308,15 +310,18 @@ impl MerkleHashSubtree {
         Ok(String::from_utf8(text).expect("JSON texts of subtrees are ASCII"))
     }
 
-    // What the members and marks, each level and each node with the comma after it take at most: numbers have 20
-    // digits.
+    // The greatest lengths of the members and marks, of a level and of a node, each with its comma. Numbers have at
+    // most 20 digits.
     fn json_length_at_most(&self) -> usize {
         64 + 44 * self.num_levels() + 104 * self.num_nodes()
     }
 
-    /// The subtree that a JSON text says: an object with `at_start` and `at_end`, `levels` (the number of left and
-    /// right nodes of each level, from the chunks up) and `nodes` (each with its `hash` in hex and its `size`: the
-    /// left nodes of all levels by rising level, then the right nodes by falling level).
+    /// Reads a subtree from JSON text. The value is an object with these members:
+    ///
+    /// - `at_start` and `at_end`: the marks
+    /// - `levels`: the number of left and right nodes of each level, from the chunks up
+    /// - `nodes`: the left nodes of all levels, lowest level first, then the right nodes of all levels, highest level
+    ///   first; each has its `hash` in hex and its `size`
     ///
     /// ```
     /// use yurewha::error::CoreError;
@@ -331,22 +336,22 @@ impl MerkleHashSubtree {
     ///
     /// # Errors
     ///
-    /// [`InvalidText`] where the text is no JSON text, [`OutOfMemory`], or [`InvalidJson`] with the least rule that the
-    /// value breaks:
+    /// [`InvalidText`] if the text isn't JSON, [`OutOfMemory`] if an allocation fails, or [`InvalidJson`] with the
+    /// lowest rule that the value breaks:
     ///
     /// 1. It is an object.
-    /// 2. `nodes` and `levels` are arrays, `at_start` and `at_end` truth values.
+    /// 2. `nodes` and `levels` are arrays, and `at_start` and `at_end` are booleans.
     /// 3. A node is an object with `hash`, 64 hex digits, and `size`, a whole number below 2^64.
     /// 4. A level is an array of two whole numbers below 2^64.
-    /// 5. There is a level.
+    /// 5. There is at least one level.
     /// 6. The counts of all levels add up to the number of nodes.
     /// 7. The sizes of all nodes add up to at most 2^64 - 1.
-    /// 8. The top level has no right nodes, nor has any level under `at_end`.
-    /// 9. No level below the top has left nodes under `at_start`.
-    /// 10. With both marks, the top has at most one node.
-    /// 11. Where there are several levels, the top has a node.
-    /// 12. Without `at_start`, left nodes below the top end as those before a first stable point.
-    /// 13. Without `at_end`, right nodes below the top begin as those after a last stable point.
+    /// 8. The top level has no right nodes. With `at_end`, no level has any.
+    /// 9. With `at_start`, no level below the top has left nodes.
+    /// 10. With both marks, the top level has at most one node.
+    /// 11. If there are several levels, the top level has a node.
+    /// 12. Without `at_start`, left nodes below the top end like the nodes before a first stable point.
+    /// 13. Without `at_end`, right nodes below the top begin like the nodes after a last stable point.
     ///
     /// [`InvalidText`]: crate::error::CoreError::InvalidText
     /// [`OutOfMemory`]: crate::error::CoreError::OutOfMemory
@@ -357,14 +362,14 @@ impl MerkleHashSubtree {
     }
 }
 
-// So many default values.
+// A vector of `count` default values.
 fn zeros<T: Clone + Default>(count: usize) -> Result<Vec<T>> {
     let mut zeros = room(count)?;
     zeros.resize(count, T::default());
     Ok(zeros)
 }
 
-// A subtree as marks and flat lists, in the order of `from_json`. It may say none.
+// Marks and flat lists, in the order of `from_json`. They may describe no subtree.
 struct Flat {
     nodes: Vec<ffi::yurewha_chunk>,
     levels: Vec<ffi::yurewha_level>,
@@ -377,7 +382,7 @@ impl Flat {
         let (at_start, at_end) = subtree.marks();
         let mut levels = zeros(subtree.num_levels())?;
         let mut nodes = zeros(subtree.num_nodes())?;
-        // SAFETY: a handle, two rooms of the lengths that go with them, and two numbers to write to.
+        // SAFETY: a handle, two rooms with their lengths, and two numbers to write to.
         let _: (usize, usize) = answer(|(level_count, node_count)| unsafe {
             ffi::yurewha_subtree_to_flat(
                 &mut *subtree.lock(),
@@ -398,7 +403,7 @@ impl Flat {
     }
 }
 
-// The elements of a list in another form, which are made one by one, so that they take no memory.
+// The elements of a list in another form. They are made one by one, so there is no allocation.
 struct InForm<'a, T, F>(&'a [T], F);
 
 impl<T, U: fmt::Debug, F: Fn(&T) -> U> fmt::Debug for InForm<'_, T, F> {
@@ -411,11 +416,11 @@ fn pair_of(level: &ffi::yurewha_level) -> (usize, usize) {
     (level.left, level.right)
 }
 
-/// A copy.
+/// Makes an independent copy.
 ///
 /// # Panics
 ///
-/// Where memory is refused; see [`try_clone`](MerkleHashSubtree::try_clone).
+/// If an allocation fails; see [`try_clone`](MerkleHashSubtree::try_clone).
 impl Clone for MerkleHashSubtree {
     #[track_caller]
     fn clone(&self) -> Self {
@@ -423,22 +428,22 @@ impl Clone for MerkleHashSubtree {
     }
 }
 
-/// Equal are subtrees with the same marks, levels and nodes.
+/// Subtrees are equal if they have the same marks, levels and nodes.
 impl PartialEq for MerkleHashSubtree {
     fn eq(&self, other: &Self) -> bool {
-        // A call gets two objects.
+        // A call needs two different objects.
         if ptr::eq(self, other) {
             return true;
         }
         let (mut first, mut second) = Owned::lock_both(&self.0, &other.0);
-        // SAFETY: two handles, which are two objects, and a truth value to write to.
+        // SAFETY: two handles, which are two objects, and a `bool` to write to.
         told(|equal| unsafe { ffi::yurewha_subtree_equal(&mut *first, &mut *second, equal) })
     }
 }
 
 impl Eq for MerkleHashSubtree {}
 
-/// Marks, levels and nodes.
+/// Shows nodes, levels and marks.
 impl fmt::Debug for MerkleHashSubtree {
     fn fmt(&self, f: &mut fmt::Formatter<'_>) -> fmt::Result {
         let flat = Flat::of(self).map_err(|_| fmt::Error)?;
@@ -451,8 +456,8 @@ impl fmt::Debug for MerkleHashSubtree {
     }
 }
 
-/// The first stable point of some nodes: how many nodes stand before it. A group ends there, whatever nodes stand
-/// before and after the given ones. `None` where there is none.
+/// Returns the first stable point of some nodes, as the number of nodes before it, or `None` if there is no such point.
+/// At a stable point a group ends, no matter which nodes come before and after the given ones.
 ///
 /// ```
 /// use yurewha::merklehash::{find_stable_start, DataHash};
@@ -465,13 +470,13 @@ impl fmt::Debug for MerkleHashSubtree {
 ///
 /// # Panics
 ///
-/// Where memory is refused; see [`try_find_stable_start`].
+/// If an allocation fails; see [`try_find_stable_start`].
 #[track_caller]
 pub fn find_stable_start(nodes: &[(MerkleHash, u64)]) -> Option<usize> {
     plain("find_stable_start", try_find_stable_start(nodes))
 }
 
-/// The last stable point of some nodes, as [`find_stable_start`] tells the first.
+/// Returns the last stable point of some nodes, in the same form as [`find_stable_start`] returns the first.
 ///
 /// ```
 /// use yurewha::merklehash::{find_stable_end, DataHash};
@@ -482,7 +487,7 @@ pub fn find_stable_start(nodes: &[(MerkleHash, u64)]) -> Option<usize> {
 ///
 /// # Panics
 ///
-/// Where memory is refused; see [`try_find_stable_end`].
+/// If an allocation fails; see [`try_find_stable_end`].
 #[track_caller]
 pub fn find_stable_end(nodes: &[(MerkleHash, u64)]) -> Option<usize> {
     plain("find_stable_end", try_find_stable_end(nodes))
