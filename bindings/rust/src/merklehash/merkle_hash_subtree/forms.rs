@@ -12,7 +12,7 @@ mod reading;
 const NAME: &str = "MerkleHashSubtree";
 const MEMBERS: &[&str] = &["nodes", "levels", "at_start", "at_end"];
 
-// A node of a format that people read.
+// A node in a human-readable format.
 const NODE_NAME: &str = "Node";
 const NODE_MEMBERS: &[&str] = &["hash", "size"];
 
@@ -35,9 +35,9 @@ impl<T, U: Serialize, F: Fn(&T) -> U> Serialize for InForm<'_, T, F> {
     }
 }
 
-/// A struct of `nodes`, `levels`, `at_start` and `at_end`, in this order. In a format that people read, `nodes` are
-/// structs of `hash`, 64 hex digits, and `size`; in others they are pairs of hash and size. `levels` are pairs of the
-/// numbers of left and right nodes.
+/// Writes a struct of `nodes`, `levels`, `at_start` and `at_end`, in this order. In a human-readable format, a node is
+/// a struct of `hash`, 64 hex digits, and `size`. In other formats it is a pair of hash and size. A level is a pair:
+/// the numbers of left and right nodes.
 impl Serialize for MerkleHashSubtree {
     fn serialize<S: Serializer>(&self, serializer: S) -> Result<S::Ok, S::Error> {
         let flat = Flat::of(self).map_err(S::Error::custom)?;
@@ -55,10 +55,12 @@ impl Serialize for MerkleHashSubtree {
     }
 }
 
-/// What breaks a rule of [`from_json`](MerkleHashSubtree::from_json) is refused, and the error's text has the text of
-/// [`CoreError::InvalidJson`](crate::error::CoreError::InvalidJson) with its number. Of the rules 1 to 4, which are
-/// about the form, it is the one that is met first; reading stops there, so that the format can name the place. Of the
-/// rules 5 to 13 it is the least. Other members are passed over. One that is written twice is refused.
+/// A value that breaks a rule of [`from_json`](MerkleHashSubtree::from_json) is an error. Its text includes the text of
+/// [`CoreError::InvalidJson`](crate::error::CoreError::InvalidJson) with the rule's number.
+///
+/// The rules 1 to 4 are about the form. Reading stops at the first of them that is broken, so the format can name the
+/// place. Of the rules 5 to 13, the error has the lowest that is broken. Unknown members are ignored. A member that
+/// occurs twice is an error.
 impl<'de> Deserialize<'de> for MerkleHashSubtree {
     fn deserialize<D: Deserializer<'de>>(deserializer: D) -> Result<Self, D::Error> {
         let for_people = deserializer.is_human_readable();
