@@ -1,7 +1,7 @@
 //! Reads a subtree from serde's formats.
 //!
-//! Each value is asked for by its type. Its visitor says what it expects, and which rule another value breaks; the
-//! format adds the place to that error. The library checks what was read.
+//! Each value is read by its type. Its visitor says what it expects, and which rule any other value breaks. The format
+//! adds the place to that error. The library checks the result.
 
 use super::super::{Flat, MerkleHashSubtree};
 use super::{MEMBERS, NODE_MEMBERS, NODE_NAME};
@@ -13,7 +13,7 @@ use serde::de::{DeserializeSeed, Error, Expected, IgnoredAny, MapAccess, SeqAcce
 use serde::{Deserialize, Deserializer};
 use std::fmt;
 
-// What a value has to be, and the rule that another one breaks.
+// What a value must be, and the rule that any other value breaks.
 #[derive(Clone, Copy)]
 struct Form(&'static str, u8);
 
@@ -34,12 +34,12 @@ impl fmt::Display for Form {
     }
 }
 
-// The error of a struct without a member.
+// The error for a missing member.
 fn missing<E: Error>(member: &str, form: Form) -> E {
     E::custom(format_args!("missing field `{member}`, expected {form}"))
 }
 
-// Reads the value of a member, which may be there once.
+// Reads the value of a member. It may occur only once.
 fn read_member<'de, A: MapAccess<'de>, S: DeserializeSeed<'de>>(
     map: &mut A,
     member: &'static str,
@@ -53,7 +53,7 @@ fn read_member<'de, A: MapAccess<'de>, S: DeserializeSeed<'de>>(
     Ok(())
 }
 
-// Reads the next element, which has to be there.
+// Reads the next element. It must exist.
 fn read_element<'de, A: SeqAccess<'de>, S: DeserializeSeed<'de>>(
     seq: &mut A,
     index: usize,
@@ -64,9 +64,9 @@ fn read_element<'de, A: SeqAccess<'de>, S: DeserializeSeed<'de>>(
         .ok_or_else(|| A::Error::invalid_length(index, whole))
 }
 
-// The subtree that marks and lists say, if they keep the rules 5 to 13.
+// The subtree that marks and lists describe, if they break none of the rules 5 to 13.
 fn subtree_of(flat: &Flat) -> Result<MerkleHashSubtree, CoreError> {
-    // SAFETY: levels and nodes of their numbers, and an empty handle to write to.
+    // SAFETY: levels and nodes with their counts, and an empty handle to write to.
     MerkleHashSubtree::made(|made| unsafe {
         ffi::yurewha_subtree_from_flat(
             flat.at_start,
@@ -82,7 +82,7 @@ fn subtree_of(flat: &Flat) -> Result<MerkleHashSubtree, CoreError> {
 
 /// Reads the struct of a subtree.
 pub(super) struct Whole {
-    /// Whether the format is one that people read. There nodes are structs, and an array stands for no struct.
+    /// Whether the format is human-readable. In such a format nodes are structs, and an array can't be a struct.
     pub(super) for_people: bool,
 }
 
@@ -144,7 +144,7 @@ impl<'de> Visitor<'de> for Whole {
     }
 }
 
-// Reads a sequence, with a seed for each element. Its memory grows with the elements, whatever length is claimed.
+// Reads a sequence, with a seed for each element. Its memory grows with the elements, not with the claimed length.
 struct Sequence<S>(Form, S);
 
 impl<'de, S: DeserializeSeed<'de> + Copy> DeserializeSeed<'de> for Sequence<S> {
@@ -174,7 +174,7 @@ impl<'de, S: DeserializeSeed<'de> + Copy> Visitor<'de> for Sequence<S> {
     }
 }
 
-// Reads a node: a struct in a format that people read, else a pair.
+// Reads a node: a struct in a human-readable format, else a pair.
 #[derive(Clone, Copy)]
 struct Node(bool);
 
@@ -246,13 +246,13 @@ impl<'de> Visitor<'de> for Level {
         if seq.next_element::<IgnoredAny>()?.is_some() {
             return Err(A::Error::invalid_length(3, &self));
         }
-        // No machine has more nodes than `usize::MAX`, so that a greater count is refused as that one is.
+        // No machine has more than `usize::MAX` nodes. So a greater count fails in the same way as that count.
         let [left, right] = [left, right].map(|count| usize::try_from(count).unwrap_or(usize::MAX));
         Ok(yurewha_level { left, right })
     }
 }
 
-// Reads a hash by its hex digits.
+// Reads a hash from its hex digits.
 struct HexText;
 
 impl<'de> DeserializeSeed<'de> for HexText {
@@ -302,7 +302,7 @@ impl Visitor<'_> for Number {
     }
 }
 
-// Reads a truth value.
+// Reads a boolean.
 struct Truth(Form);
 
 impl<'de> DeserializeSeed<'de> for Truth {
