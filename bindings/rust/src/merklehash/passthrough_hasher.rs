@@ -1,16 +1,16 @@
-//! A hasher that hands a number of the key on as it is, for keys that are hashes already.
+//! A hasher that passes on a number of the key unchanged, for keys that are already hashes.
 //!
-//! What stands here and in [`passthrough_hashmap`](super::passthrough_hashmap) is tested, not proved: it is generic
-//! over the caller's types, which can't cross to the library.
+//! This module and [`passthrough_hashmap`](super::passthrough_hashmap) are only tested, not proved. They are generic
+//! over the caller's types, which can't be passed to the library.
 
 use super::data_hash::DataHash;
 use std::fmt;
 use std::hash::{BuildHasher, Hasher};
 use std::marker::PhantomData;
 
-/// A key that has a 64-bit number, which can stand for its hash.
+/// A key with a 64-bit number that can serve as its hash.
 pub trait U64HashExtractable {
-    /// The number of this key. Equal keys have equal numbers.
+    /// Returns the number of this key. Equal keys must have equal numbers.
     ///
     /// ```
     /// use yurewha::merklehash::{DataHash, U64HashExtractable};
@@ -37,9 +37,9 @@ impl U64HashExtractable for DataHash {
     }
 }
 
-/// A hasher whose state is one number: 0 at first, and then the last one that was written.
+/// A hasher whose state is one number. It starts at 0, and becomes the last number that was written.
 ///
-/// These lines are tested, not proved: they are generic over the key. With serde a hasher is a struct of one number,
+/// This type is only tested, not proved. It is generic over the key. With serde a hasher is a struct of one number,
 /// `state`.
 ///
 /// ```
@@ -58,7 +58,7 @@ pub struct U64DirectHasher<T: U64HashExtractable> {
 }
 
 impl<T: U64HashExtractable> Default for U64DirectHasher<T> {
-    /// The hasher in the state 0.
+    /// Returns a hasher in the state 0.
     fn default() -> Self {
         U64DirectHasher {
             state: 0,
@@ -82,13 +82,13 @@ impl<T: U64HashExtractable> fmt::Debug for U64DirectHasher<T> {
 }
 
 impl<T: U64HashExtractable> Hasher for U64DirectHasher<T> {
-    /// The state.
+    /// Returns the state.
     fn finish(&self) -> u64 {
         self.state
     }
 
-    /// Overwrites the low bytes of the state with the first eight of `bytes`, the lowest first, or with all of them
-    /// where there are fewer. The higher bytes stay.
+    /// Overwrites the low bytes of the state with the first eight of `bytes`, lowest first. If there are fewer, the
+    /// higher bytes of the state stay.
     fn write(&mut self, bytes: &[u8]) {
         let mut state = self.state.to_le_bytes();
         state.iter_mut().zip(bytes).for_each(|(low, byte)| *low = *byte);
@@ -104,7 +104,7 @@ impl<T: U64HashExtractable> Hasher for U64DirectHasher<T> {
 impl<T: U64HashExtractable> BuildHasher for U64DirectHasher<T> {
     type Hasher = Self;
 
-    /// The hasher in the state 0, whatever the state of this one.
+    /// Returns a hasher in the state 0, whatever the state of this one.
     fn build_hasher(&self) -> Self {
         Self::default()
     }
