@@ -1,4 +1,4 @@
-//! A map for keys that are hashes already.
+//! A map for keys that are already hashes.
 
 use super::passthrough_hasher::{U64DirectHasher, U64HashExtractable};
 use std::collections::{hash_map, HashMap};
@@ -8,13 +8,14 @@ use std::ops::{Deref, DerefMut};
 #[cfg(feature = "serde")]
 mod forms;
 
-// The map inside.
+// The inner map.
 type Inner<Key, Value> = HashMap<Key, Value, U64DirectHasher<Key>>;
 
-/// A [`HashMap`] that takes the first word of a hash as the hash of the key. It dereferences to that map.
+/// A [`HashMap`] that uses the number of a key as its hash. For a [`DataHash`](super::data_hash::DataHash) that is the
+/// first word. It dereferences to the map.
 ///
-/// These lines are tested, not proved: they are generic over key and value, and the map is the standard library's.
-/// With serde it is a sequence of pairs, in the order of a walk.
+/// This type is only tested, not proved. It is generic over key and value, and the map is the standard library's. With
+/// serde it is a sequence of pairs, in iteration order.
 ///
 /// ```
 /// use yurewha::merklehash::{DataHash, PassThroughHashMap};
@@ -29,7 +30,7 @@ type Inner<Key, Value> = HashMap<Key, Value, U64DirectHasher<Key>>;
 pub struct PassThroughHashMap<Key: U64HashExtractable, Value>(Inner<Key, Value>);
 
 impl<Key: U64HashExtractable, Value> PassThroughHashMap<Key, Value> {
-    /// The empty map.
+    /// Returns an empty map.
     ///
     /// ```
     /// use yurewha::merklehash::PassThroughHashMap;
@@ -40,7 +41,7 @@ impl<Key: U64HashExtractable, Value> PassThroughHashMap<Key, Value> {
         Self::default()
     }
 
-    /// The empty map with room for so many pairs at least.
+    /// Returns an empty map with room for at least this many pairs.
     ///
     /// ```
     /// use yurewha::merklehash::PassThroughHashMap;
@@ -53,7 +54,7 @@ impl<Key: U64HashExtractable, Value> PassThroughHashMap<Key, Value> {
 }
 
 impl<Key: U64HashExtractable, Value> Default for PassThroughHashMap<Key, Value> {
-    /// The empty map.
+    /// Returns an empty map.
     fn default() -> Self {
         PassThroughHashMap(Inner::default())
     }
@@ -89,14 +90,14 @@ impl<Key: U64HashExtractable, Value> From<PassThroughHashMap<Key, Value>>
     }
 }
 
-/// Of equal keys the last value stays.
+/// If keys are equal, the last value stays.
 impl<Key: U64HashExtractable + Eq + Hash, Value> FromIterator<(Key, Value)> for PassThroughHashMap<Key, Value> {
     fn from_iter<I: IntoIterator<Item = (Key, Value)>>(pairs: I) -> Self {
         PassThroughHashMap(pairs.into_iter().collect())
     }
 }
 
-/// Of equal keys the last value stays.
+/// If keys are equal, the last value stays.
 impl<Key: U64HashExtractable + Eq + Hash, Value, const N: usize> From<[(Key, Value); N]>
     for PassThroughHashMap<Key, Value>
 {
