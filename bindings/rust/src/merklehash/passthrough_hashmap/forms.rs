@@ -8,17 +8,17 @@ use std::hash::Hash;
 use std::marker::PhantomData;
 use std::mem::size_of;
 
-// Room is made at once for the number of pairs that a format claims, up to so many bytes: the claim may be forged.
+// The map reserves room for the number of pairs that a format claims. The claim may be forged, so this is the limit in bytes.
 const MOST_BYTES: usize = 1 << 28;
 
-/// A sequence of pairs, in the order of a walk.
+/// A sequence of pairs, in iteration order.
 impl<Key: U64HashExtractable + Serialize, Value: Serialize> Serialize for PassThroughHashMap<Key, Value> {
     fn serialize<S: Serializer>(&self, serializer: S) -> Result<S::Ok, S::Error> {
         serializer.collect_seq(self)
     }
 }
 
-/// Of equal keys the last value stays.
+/// If keys are equal, the last value stays.
 impl<'de, Key, Value> Deserialize<'de> for PassThroughHashMap<Key, Value>
 where
     Key: U64HashExtractable + Eq + Hash + Deserialize<'de>,
@@ -44,8 +44,8 @@ where
 
     fn visit_seq<A: SeqAccess<'de>>(self, mut pairs: A) -> Result<Self::Value, A::Error> {
         let mut map = PassThroughHashMap::new();
-        // Pairs that come in the order of a walk crowd in a map that grows, so that each takes long to insert. If the
-        // room is refused the map grows all the same.
+        // Pairs in iteration order collide in a map that grows, so each insertion would be slow. If the room can't be
+        // reserved, the map grows anyway.
         let most = MOST_BYTES / size_of::<(Key, Value)>().max(1);
         let _ = map.try_reserve(pairs.size_hint().unwrap_or(0).min(most));
         while let Some((key, value)) = pairs.next_element()? {
