@@ -1,8 +1,8 @@
-//! What the Rust crate doesn't have: sessions, a hasher that takes a message in pieces, and calls that return a
-//! [`Result`](crate::error::Result) in place of a panic.
+//! What the crate `xet-core-structures` doesn't have: sessions, a hasher that takes a message in pieces, and calls that
+//! return a [`Result`](crate::error::Result) instead of a panic.
 //!
-//! These items stand here so that a glob of [`merklehash`](crate::merklehash) brings in the names of the Rust crate
-//! and no others. Import them by name.
+//! They aren't in [`merklehash`](crate::merklehash), so that a glob of that module brings in only the names of that
+//! crate. Import them by name.
 
 use crate::merklehash::data_hash::MerkleHash;
 
