@@ -1,4 +1,4 @@
-//! Keyed BLAKE3 of a message that comes in pieces.
+//! Keyed BLAKE3 of a message in pieces.
 
 use crate::error::Result;
 use crate::ffi;
@@ -7,7 +7,7 @@ use crate::status::{answer, given, plain};
 use std::io::{self, ErrorKind, Read, Write};
 use std::{fmt, ptr};
 
-/// A hasher that takes a message in pieces, also as a writer. It takes no memory; a clone copies its state, which has
+/// A hasher that takes a message in pieces. It is also a [`Write`]. It allocates nothing. A clone copies its state of
 /// about two kilobytes.
 ///
 /// ```
@@ -26,7 +26,7 @@ pub struct Hasher {
     key: Key,
 }
 
-// What a hasher is begun with.
+// The key with which a hasher begins.
 #[derive(Clone, Copy)]
 enum Key {
     Data,
@@ -38,7 +38,8 @@ enum Key {
 const PIECE: usize = 16 * 1024;
 
 impl Hasher {
-    /// A hasher of the empty message that gives what [`compute_data_hash`](crate::merklehash::compute_data_hash) does.
+    /// Returns a hasher of the empty message. It computes the same hash as
+    /// [`compute_data_hash`](crate::merklehash::compute_data_hash).
     ///
     /// ```
     /// use yurewha::merklehash::compute_data_hash;
@@ -50,8 +51,8 @@ impl Hasher {
         Self::begun(Key::Data)
     }
 
-    /// A hasher of the empty message that gives what
-    /// [`compute_internal_node_hash`](crate::merklehash::compute_internal_node_hash) does.
+    /// Returns a hasher of the empty message. It computes the same hash as
+    /// [`compute_internal_node_hash`](crate::merklehash::compute_internal_node_hash).
     ///
     /// ```
     /// use yurewha::merklehash::compute_internal_node_hash;
@@ -63,7 +64,7 @@ impl Hasher {
         Self::begun(Key::InternalNode)
     }
 
-    /// A hasher of the empty message under a key.
+    /// Returns a hasher of the empty message under a key.
     ///
     /// ```
     /// use yurewha::merklehash::DataHash;
@@ -90,7 +91,7 @@ impl Hasher {
         Hasher { state, key }
     }
 
-    /// Goes back to the empty message, under the same key.
+    /// Goes back to the empty message. The key stays the same.
     ///
     /// ```
     /// use yurewha::merklehash::compute_data_hash;
@@ -105,7 +106,7 @@ impl Hasher {
         self
     }
 
-    /// How many bytes the message has.
+    /// Returns the length of the message in bytes.
     ///
     /// ```
     /// use yurewha::own::Hasher;
@@ -117,7 +118,7 @@ impl Hasher {
         unsafe { ffi::yurewha_hasher_count(&self.state) }
     }
 
-    /// Whether the message would have at most `u64::MAX` bytes with a piece of this length.
+    /// Returns whether the message would have at most `u64::MAX` bytes after a piece of this length.
     ///
     /// ```
     /// use yurewha::own::Hasher;
@@ -128,7 +129,7 @@ impl Hasher {
         u64::try_from(length).is_ok_and(|length| self.count().checked_add(length).is_some())
     }
 
-    /// Adds a piece to the message.
+    /// Appends a piece to the message.
     ///
     /// ```
     /// use yurewha::merklehash::compute_data_hash;
@@ -146,8 +147,8 @@ impl Hasher {
         plain("Hasher::update", self.try_update(piece))
     }
 
-    /// [`update`](Self::update), refused with [`SizeOverflow`](crate::error::CoreError::SizeOverflow) if the message
-    /// would have more than `u64::MAX` bytes. It is as it was then.
+    /// Does the same as [`update`](Self::update), but returns [`SizeOverflow`](crate::error::CoreError::SizeOverflow)
+    /// if the message would have more than `u64::MAX` bytes. Then the message is unchanged.
     ///
     /// ```
     /// use yurewha::merklehash::compute_data_hash;
@@ -163,7 +164,7 @@ impl Hasher {
         Ok(self)
     }
 
-    /// Adds what a reader gives up to its end. A read that was interrupted is repeated.
+    /// Appends everything from a reader. An interrupted read is repeated.
     ///
     /// ```
     /// use yurewha::merklehash::compute_data_hash;
@@ -176,8 +177,8 @@ impl Hasher {
     ///
     /// # Errors
     ///
-    /// That of the reader, or [`InvalidInput`](ErrorKind::InvalidInput) if the message would have more than `u64::MAX`
-    /// bytes. The message has what was read before.
+    /// The error of the reader, or [`InvalidInput`](ErrorKind::InvalidInput) if the message would have more than
+    /// `u64::MAX` bytes. The message keeps what was read before the error.
     pub fn update_reader(&mut self, mut reader: impl Read) -> io::Result<&mut Self> {
         let mut piece = [0; PIECE];
         loop {
@@ -190,7 +191,7 @@ impl Hasher {
         }
     }
 
-    /// The keyed hash of the message. The hasher can go on.
+    /// Returns the keyed hash of the message. The hasher can take more pieces.
     ///
     /// ```
     /// use yurewha::own::Hasher;
@@ -206,8 +207,8 @@ impl Hasher {
 }
 
 impl Write for Hasher {
-    /// Adds the whole piece, or fails with [`InvalidInput`](ErrorKind::InvalidInput) if the message would have more than
-    /// `u64::MAX` bytes.
+    /// Appends the whole piece. Fails with [`InvalidInput`](ErrorKind::InvalidInput) if the message would have more
+    /// than `u64::MAX` bytes.
     fn write(&mut self, piece: &[u8]) -> io::Result<usize> {
         self.try_update(piece).map_err(|_| ErrorKind::InvalidInput)?;
         Ok(piece.len())
@@ -218,7 +219,7 @@ impl Write for Hasher {
     }
 }
 
-/// The number of bytes alone: the rest would show the key.
+/// Shows only the length. The rest would reveal the key.
 impl fmt::Debug for Hasher {
     fn fmt(&self, f: &mut fmt::Formatter<'_>) -> fmt::Result {
         f.debug_struct("Hasher")
