@@ -8,8 +8,8 @@ use crate::merklehash::data_hash::MerkleHash;
 use crate::status::answer;
 use std::ptr;
 
-/// [`xorb_hash`](crate::merklehash::xorb_hash), refused where the sizes add up to more than `u64::MAX`, or memory is
-/// refused.
+/// Does the same as [`xorb_hash`](crate::merklehash::xorb_hash), but returns an error if the sizes add up to more than
+/// `u64::MAX` or an allocation fails.
 ///
 /// ```
 /// use yurewha::error::CoreError;
@@ -25,7 +25,7 @@ pub fn try_xorb_hash(chunks: &[Node]) -> Result<MerkleHash> {
     answer(|root: &mut MerkleHash| unsafe { ffi::yurewha_xorb_hash(chunks.as_ptr(), chunks.len(), root.out()) })
 }
 
-/// [`file_hash`](crate::merklehash::file_hash), refused as [`try_xorb_hash`] is.
+/// Does the same as [`file_hash`](crate::merklehash::file_hash), with the errors of [`try_xorb_hash`].
 ///
 /// ```
 /// use yurewha::merklehash::MerkleHash;
@@ -40,7 +40,8 @@ pub fn try_file_hash(chunks: &[Node]) -> Result<MerkleHash> {
     answer(|hash: &mut MerkleHash| unsafe { ffi::yurewha_file_hash(chunks.as_ptr(), chunks.len(), hash.out()) })
 }
 
-/// [`file_hash_with_salt`](crate::merklehash::file_hash_with_salt), refused as [`try_xorb_hash`] is.
+/// Does the same as [`file_hash_with_salt`](crate::merklehash::file_hash_with_salt), with the errors of
+/// [`try_xorb_hash`].
 ///
 /// ```
 /// use yurewha::merklehash::MerkleHash;
