@@ -1,4 +1,4 @@
-//! Upload sessions: the chunks of a file by their positions, which come in any order.
+//! Upload sessions: the chunks of a file by their positions, put in any order.
 
 use super::Node;
 use crate::error::Result;
@@ -12,7 +12,8 @@ use std::fmt;
 use std::ops::Range;
 use std::sync::MutexGuard;
 
-/// Why a call of a session was refused, the least reason first. After a refusal nothing has changed.
+/// Why a call of a session failed. If several reasons apply, the call returns the first of them, unless an allocation
+/// fails before that. After a failure nothing has changed.
 ///
 /// ```
 /// use yurewha::own::SessionFault;
@@ -24,13 +25,13 @@ use std::sync::MutexGuard;
 pub enum SessionFault {
     /// A position is taken.
     Overlap,
-    /// The first position plus the number of chunks passes `u64::MAX`.
+    /// The first position plus the number of chunks is more than `u64::MAX`.
     Positions,
     /// The sizes of all chunks add up to more than `u64::MAX` bytes.
     Sizes,
-    /// An allocation was refused.
+    /// An allocation failed.
     Memory,
-    /// The positions taken aren't exactly those below the total.
+    /// The taken positions aren't exactly those below the total.
     Gap,
 }
 
@@ -61,8 +62,8 @@ impl Refusal for SessionFault {
     }
 }
 
-/// A session: ranges of a file's chunks that come in any order, joined as they become adjacent, and the hashes among
-/// them.
+/// The ranges of a file's chunks, put in any order. A session merges ranges once they are adjacent, and knows which
+/// hashes it has seen.
 ///
 /// ```
 /// use yurewha::merklehash::{file_hash, MerkleHash};
@@ -79,16 +80,16 @@ impl Refusal for SessionFault {
 /// assert_eq!(session.finish(5), Ok(file_hash(&[first, second, third, first, third])));
 /// ```
 ///
-/// A session can't be written: the library has no call that lists its hashes.
+/// A session can't be serialized, because no call of the library lists its hashes.
 ///
-/// Threads may share a session. Those that look at one at once take turns, each for the time of a call.
+/// Threads may share a session. Threads that read it at once take turns, call by call.
 pub struct Session {
     handle: Owned<ffi::yurewha_session>,
     total_size: u64,
 }
 
 impl Session {
-    /// A session without chunks.
+    /// Returns a session without chunks.
     ///
     /// ```
     /// use yurewha::merklehash::MerkleHash;
@@ -99,13 +100,13 @@ impl Session {
     ///
     /// # Panics
     ///
-    /// Where memory is refused; see [`try_new`](Self::try_new).
+    /// If an allocation fails; see [`try_new`](Self::try_new).
     #[track_caller]
     pub fn new() -> Self {
         plain("Session::new", Self::try_new())
     }
 
-    /// [`new`](Self::new), refused where memory is.
+    /// Does the same as [`new`](Self::new), but returns an error if an allocation fails.
     ///
     /// ```
     /// use yurewha::own::Session;
@@ -119,7 +120,7 @@ impl Session {
         Ok(Session { handle, total_size: 0 })
     }
 
-    /// [`clone`](Clone::clone), refused where memory is.
+    /// Does the same as [`clone`](Clone::clone), but returns an error if an allocation fails.
     ///
     /// ```
     /// use yurewha::own::Session;
@@ -140,8 +141,8 @@ impl Session {
         self.handle.lock()
     }
 
-    /// Places chunks at the positions from `first` on, and tells how many hashes among them no earlier accepted put
-    /// had, each counted once. Without a chunk it tells 0 and changes nothing.
+    /// Puts chunks at the positions from `first` on. Returns how many of their hashes no earlier successful put had,
+    /// each counted once. With no chunks it returns 0 and changes nothing.
     ///
     /// ```
     /// use yurewha::merklehash::MerkleHash;
@@ -155,22 +156,22 @@ impl Session {
     ///
     /// # Errors
     ///
-    /// - [`Overlap`](SessionFault::Overlap) where one of the positions is taken
-    /// - else [`Positions`](SessionFault::Positions) where `first` plus the number of chunks passes `u64::MAX`
-    /// - else [`Sizes`](SessionFault::Sizes) where the sizes of all chunks add up to more than `u64::MAX`
-    /// - [`Memory`](SessionFault::Memory)
+    /// - [`Overlap`](SessionFault::Overlap) if one of the positions is taken
+    /// - otherwise [`Positions`](SessionFault::Positions) if `first` plus the number of chunks is more than `u64::MAX`
+    /// - otherwise [`Sizes`](SessionFault::Sizes) if the sizes of all chunks add up to more than `u64::MAX`
+    /// - [`Memory`](SessionFault::Memory) if an allocation fails
     pub fn put(&mut self, first: u64, chunks: &[Node]) -> std::result::Result<u64, SessionFault> {
         let chunks = lend(chunks).map_err(|_| SessionFault::Memory)?;
         // SAFETY: a handle, chunks of their number, and a number to write to.
         let new_hashes = answer(|new_hashes| unsafe {
             ffi::yurewha_session_put(self.handle.get_mut(), first, chunks.as_ptr(), chunks.len(), new_hashes)
         })?;
-        // The library refuses sizes that pass `u64::MAX` in all.
+        // The sum can't overflow: the library has checked that all sizes add up to at most `u64::MAX`.
         self.total_size += chunks.iter().map(|chunk| chunk.size).sum::<u64>();
         Ok(new_hashes)
     }
 
-    /// The sum of the sizes of the chunks that were placed, in bytes.
+    /// Returns the total size of the chunks that were put, in bytes.
     ///
     /// ```
     /// use yurewha::merklehash::MerkleHash;
@@ -185,7 +186,7 @@ impl Session {
         self.total_size
     }
 
-    /// Whether a position is taken.
+    /// Returns whether a position is taken.
     ///
     /// ```
     /// use yurewha::merklehash::MerkleHash;
@@ -197,11 +198,11 @@ impl Session {
     /// # Ok::<(), yurewha::own::SessionFault>(())
     /// ```
     pub fn taken(&self, position: u64) -> bool {
-        // SAFETY: a handle, and a truth value to write to.
+        // SAFETY: a handle, and a `bool` to write to.
         told(|taken| unsafe { ffi::yurewha_session_taken(&mut *self.lock(), position, taken) })
     }
 
-    /// How many runs of adjacent positions are taken.
+    /// Returns the number of runs of adjacent taken positions.
     ///
     /// ```
     /// use yurewha::merklehash::MerkleHash;
@@ -219,8 +220,10 @@ impl Session {
         told(|count| unsafe { ffi::yurewha_session_num_runs(&mut *self.lock(), count) })
     }
 
-    /// The first position of a run, and a copy of the subtree of its chunks, which is open at both ends. Runs are
-    /// counted from 0 by rising position; `None` where there is no such run. The time is in proportion to the index.
+    /// Returns the first position of a run, and a copy of the subtree of its chunks, which is open at both ends.
+    ///
+    /// Runs are numbered from 0, by rising position. The result is `None` if there is no such run. The time is
+    /// proportional to the index.
     ///
     /// ```
     /// use yurewha::merklehash::MerkleHash;
@@ -236,13 +239,13 @@ impl Session {
     ///
     /// # Panics
     ///
-    /// Where memory is refused; see [`try_range`](Self::try_range).
+    /// If an allocation fails; see [`try_range`](Self::try_range).
     #[track_caller]
     pub fn range(&self, index: usize) -> Option<(u64, MerkleHashSubtree)> {
         plain("Session::range", self.try_range(index))
     }
 
-    /// [`range`](Self::range), refused where memory is.
+    /// Does the same as [`range`](Self::range), but returns an error if an allocation fails.
     ///
     /// ```
     /// use yurewha::own::Session;
@@ -258,8 +261,8 @@ impl Session {
         Ok(run.map(|(first, range)| (first, MerkleHashSubtree::of(range))))
     }
 
-    /// All runs by rising position, each as [`range`](Self::range) returns it. The time of a walk grows with the square of
-    /// the number of runs.
+    /// Returns all runs by rising position, each as [`range`](Self::range) returns it. The time to iterate over all
+    /// of them is proportional to the square of their number.
     ///
     /// ```
     /// use yurewha::merklehash::MerkleHash;
@@ -276,13 +279,13 @@ impl Session {
     ///
     /// # Panics
     ///
-    /// Where memory is refused.
+    /// If an allocation fails.
     pub fn runs(&self) -> impl ExactSizeIterator<Item = (u64, MerkleHashSubtree)> + '_ {
         (0..self.num_runs()).map(|index| self.range(index).expect("a run that was counted"))
     }
 
-    /// The ranges of positions below `total` that aren't taken, by rising position. The time grows with the square of the
-    /// number of runs, since the library finds a run by its index alone.
+    /// Returns the ranges of positions below `total` that aren't taken, by rising position. The time is proportional to
+    /// the square of the number of runs, because the library finds a run only by its index.
     ///
     /// ```
     /// use yurewha::merklehash::MerkleHash;
@@ -298,7 +301,7 @@ impl Session {
     ///
     /// # Errors
     ///
-    /// [`OutOfMemory`](crate::error::CoreError::OutOfMemory)
+    /// [`OutOfMemory`](crate::error::CoreError::OutOfMemory) if an allocation fails
     pub fn gaps(&self, total: u64) -> Result<Vec<Range<u64>>> {
         let mut gaps = room(self.num_runs() + 1)?;
         let mut run_before = None;
@@ -313,7 +316,7 @@ impl Session {
         Ok(gaps)
     }
 
-    // The end of the run that begins at `first`, or `bound`, before which no other run begins.
+    // The end of the run that begins at `first`, at most `bound`. No other run begins between them.
     fn end_of_run(&self, first: u64, bound: u64) -> u64 {
         let (mut taken, mut free) = (first, bound);
         while free - taken > 1 {
@@ -327,7 +330,7 @@ impl Session {
         free
     }
 
-    /// The root of all chunks by position.
+    /// Returns the root of all chunks by position.
     ///
     /// ```
     /// use yurewha::merklehash::{xorb_hash, MerkleHash};
@@ -342,14 +345,14 @@ impl Session {
     ///
     /// # Errors
     ///
-    /// [`Gap`](SessionFault::Gap) exactly where the positions taken aren't those from 0 to `total` - 1, and
-    /// [`Memory`](SessionFault::Memory)
+    /// - [`Gap`](SessionFault::Gap) if and only if the taken positions aren't exactly those from 0 to `total` - 1
+    /// - [`Memory`](SessionFault::Memory) if an allocation fails
     pub fn root(&self, total: u64) -> std::result::Result<MerkleHash, SessionFault> {
         // SAFETY: a handle, and a hash to write to.
         answer(|root: &mut MerkleHash| unsafe { ffi::yurewha_session_root(&mut *self.lock(), total, root.out()) })
     }
 
-    /// The file hash of all chunks by position, without a salt.
+    /// Returns the file hash of all chunks by position, without a salt.
     ///
     /// ```
     /// use yurewha::merklehash::{file_hash, MerkleHash};
@@ -365,18 +368,18 @@ impl Session {
     ///
     /// # Errors
     ///
-    /// As of [`root`](Self::root)
+    /// Those of [`root`](Self::root)
     pub fn finish(&self, total: u64) -> std::result::Result<MerkleHash, SessionFault> {
         // SAFETY: a handle, and a hash to write to.
         answer(|hash: &mut MerkleHash| unsafe { ffi::yurewha_session_finish(&mut *self.lock(), total, hash.out()) })
     }
 }
 
-/// A copy, which has the same chunks and knows the same hashes.
+/// A clone has the same chunks and knows the same hashes.
 ///
 /// # Panics
 ///
-/// Where memory is refused; see [`try_clone`](Session::try_clone).
+/// If an allocation fails; see [`try_clone`](Session::try_clone).
 impl Clone for Session {
     #[track_caller]
     fn clone(&self) -> Self {
@@ -392,7 +395,7 @@ impl Default for Session {
     }
 }
 
-/// The number of runs.
+/// Shows the number of runs.
 impl fmt::Debug for Session {
     fn fmt(&self, f: &mut fmt::Formatter<'_>) -> fmt::Result {
         f.debug_struct("Session")
