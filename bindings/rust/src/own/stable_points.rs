@@ -6,7 +6,8 @@ use crate::ffi;
 use crate::lent_chunks::lend;
 use crate::status::looked_up;
 
-/// [`find_stable_start`](crate::merklehash::find_stable_start), refused where memory is.
+/// Does the same as [`find_stable_start`](crate::merklehash::find_stable_start), but returns an error if an allocation
+/// fails.
 ///
 /// ```
 /// use yurewha::own::try_find_stable_start;
@@ -20,7 +21,8 @@ pub fn try_find_stable_start(nodes: &[Node]) -> Result<Option<usize>> {
     looked_up(|point| unsafe { ffi::yurewha_find_stable_start(nodes.as_ptr(), nodes.len(), point) })
 }
 
-/// [`find_stable_end`](crate::merklehash::find_stable_end), refused where memory is.
+/// Does the same as [`find_stable_end`](crate::merklehash::find_stable_end), but returns an error if an allocation
+/// fails.
 ///
 /// ```
 /// use yurewha::own::try_find_stable_end;
