@@ -1,15 +1,15 @@
-//! From statuses and out parameters to answers.
+//! Makes results of statuses and out parameters.
 
 use crate::error::{CoreError, Result};
 use crate::ffi;
 
-/// What a status can refuse a call with.
+/// An error that a status can mean.
 pub(crate) trait Refusal: Sized {
-    /// The refusal that a status names.
+    /// The error that a status means, or `None`.
     fn of(status: ffi::yurewha_status) -> Option<Self>;
 }
 
-// Whether a call was done, or its refusal. A status that the call never answers ends in a panic.
+// `Ok` if the call succeeded, else its error. Panics if the call never returns this status.
 fn done<E: Refusal>(status: ffi::yurewha_status) -> std::result::Result<(), E> {
     match status {
         ffi::YUREWHA_DONE => Ok(()),
@@ -17,7 +17,7 @@ fn done<E: Refusal>(status: ffi::yurewha_status) -> std::result::Result<(), E> {
     }
 }
 
-/// What a call writes to its out parameter, or its refusal.
+/// What a call writes to its out parameter, or its error.
 pub(crate) fn answer<T: Default, E: Refusal>(
     call: impl FnOnce(&mut T) -> ffi::yurewha_status,
 ) -> std::result::Result<T, E> {
@@ -26,7 +26,7 @@ pub(crate) fn answer<T: Default, E: Refusal>(
     Ok(answer)
 }
 
-/// What a call writes to its out parameter, where nothing can be refused.
+/// What a call that can't fail writes to its out parameter.
 pub(crate) fn told<T: Default>(call: impl FnOnce(&mut T) -> ffi::yurewha_status) -> T {
     let mut answer = T::default();
     done(call(&mut answer)).unwrap_or_else(refused_question);
@@ -40,7 +40,7 @@ pub(crate) fn given<T: Default>(call: impl FnOnce(&mut T)) -> T {
     answer
 }
 
-// Whether a call found what it looks up. That it isn't there is [`CoreError::InvalidArguments`].
+// Whether a call found what it looks up. [`CoreError::InvalidArguments`] means that it isn't there.
 fn found(status: ffi::yurewha_status) -> Result<bool> {
     match done(status) {
         Ok(()) => Ok(true),
@@ -49,29 +49,29 @@ fn found(status: ffi::yurewha_status) -> Result<bool> {
     }
 }
 
-/// What a call looks up and writes to its out parameter, or `None` where it isn't there.
+/// What a call looks up and writes to its out parameter, or `None` if it isn't there.
 pub(crate) fn looked_up<T: Default>(call: impl FnOnce(&mut T) -> ffi::yurewha_status) -> Result<Option<T>> {
     let mut answer = T::default();
     Ok(found(call(&mut answer))?.then_some(answer))
 }
 
-/// [`looked_up`], where nothing can be refused. No answer shares its place with an error, so that it is copied once.
+/// [`looked_up`] for a call that can't fail. Its result has no error in it, so it is copied only once.
 pub(crate) fn told_if_there<T: Default>(call: impl FnOnce(&mut T) -> ffi::yurewha_status) -> Option<T> {
     let mut answer = T::default();
     let there = found(call(&mut answer)).unwrap_or_else(refused_question);
     there.then_some(answer)
 }
 
-// A call that can't be refused was.
+// Panics, because a call that can't fail did.
 fn refused_question<T>(error: CoreError) -> T {
     panic!("yurewha refused a question: {error}")
 }
 
-/// The answer of a call that the Rust crate has without a `Result`. A refusal ends in a panic that names call and
-/// cause, at the line of the user's call: each caller is marked in the same way.
+/// The result of a call that has no `Result` in the Rust crate. An error becomes a panic that names the call and the
+/// cause. Each caller is marked with `track_caller`, so the panic is at the line of the user's call.
 #[track_caller]
 pub(crate) fn plain<T>(call: &str, answer: Result<T>) -> T {
-    // A closure would be the place of the panic.
+    // In a closure the panic would have the closure's line.
     match answer {
         Ok(answer) => answer,
         Err(error) => panic!("{call}: {error}"),
@@ -82,7 +82,7 @@ pub(crate) fn plain<T>(call: &str, answer: Result<T>) -> T {
 mod tests {
     use super::*;
 
-    // A call that writes 7 and answers this status.
+    // A call that writes 7 and returns this status.
     fn seven(status: ffi::yurewha_status) -> impl FnOnce(&mut u8) -> ffi::yurewha_status {
         move |answer| {
             *answer = 7;
