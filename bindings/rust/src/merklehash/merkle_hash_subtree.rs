@@ -55,8 +55,8 @@ impl MerkleHashSubtree {
         self.0.lock()
     }
 
-    /// Returns the canonical subtree of some chunks. `at_start` says that no chunk comes before them, `at_end` that none
-    /// comes after.
+    /// Returns the canonical subtree of some chunks. `at_start` says that no chunk comes before them, `at_end` that
+    /// none comes after.
     ///
     /// ```
     /// use yurewha::merklehash::{MerkleHash, MerkleHashSubtree};

@@ -8,7 +8,8 @@ use std::hash::Hash;
 use std::marker::PhantomData;
 use std::mem::size_of;
 
-// The map reserves room for the number of pairs that a format claims. The claim may be forged, so this is the limit in bytes.
+// The map reserves room for the number of pairs that a format claims. The claim may be forged, so this is the limit in
+// bytes.
 const MOST_BYTES: usize = 1 << 28;
 
 /// A sequence of pairs, in iteration order.
