@@ -20,8 +20,8 @@
  *
  * - yurewha_subtree and yurewha_session are handles. An empty handle is {0} and owns nothing. Any other handle was written
  *   by a call of this library and owns memory.
- * - A call may write to an empty handle or to one that owns something. If the call succeeds, it frees what the handle owned
- *   before. If it fails, the handle keeps what it owned.
+ * - A handle that a call writes to must be empty or own something. It must not be uninitialized. If the call succeeds, it
+ *   frees what the handle owned before. If it fails, the handle keeps what it owned.
  * - yurewha_subtree_free and yurewha_session_free free a handle and leave it empty. Freeing an empty handle does nothing,
  *   so freeing twice is harmless. Any other call that reads an empty handle returns YUREWHA_EMPTY_HANDLE.
  * - A handle may be moved by copying its bytes. After that, only one of the copies may be used.
