@@ -119,7 +119,7 @@ def test_where_the_library_is_found(tmp_path):
     copy = tmp_path / "bindings" / "python" / "yurewha"
     shutil.copytree(PACKAGE, copy, ignore=shutil.ignore_patterns("lib", "__pycache__"))
     place = {"PYTHONPATH": str(copy.parent)}
-    assert found(place, tmp_path).startswith("ImportError: yurewha: libyurewha.so.1 wasn't loaded")
+    assert found(place, tmp_path).startswith("ImportError: yurewha: libyurewha.so.1 can't be loaded")
     loader = tmp_path / "loader"
     loader.mkdir()
     shutil.copy(built, loader / _library.NAME)
@@ -129,7 +129,7 @@ def test_where_the_library_is_found(tmp_path):
     shutil.copy(built, out / _library.NAME)
     assert found(place, tmp_path) == str(out / _library.NAME)
     assert found({**place, "YUREWHA_LIB_DIR": str(loader)}, tmp_path) == str(loader / _library.NAME)
-    assert "where there is no libyurewha.so.1" in found({**place, "YUREWHA_LIB_DIR": str(tmp_path)}, tmp_path)
+    assert "which has no libyurewha.so.1" in found({**place, "YUREWHA_LIB_DIR": str(tmp_path)}, tmp_path)
     own = copy / "lib"
     own.mkdir()
     shutil.copy(built, own / _library.NAME)
