@@ -210,12 +210,12 @@ fn attempt(
     granted: u32,
     chunks: &Chunks<'_>,
 ) -> Result<Outcome, Fail> {
-    Ok(match call {
+    match call {
         Call::Hex | Call::Base64 | Call::ToVec | Call::FromBase64 => {
-            hashes::attempt(call, alloc, granted)?
+            hashes::attempt(call, alloc, granted)
         }
         Call::MapWithCapacity | Call::MapFromPairs | Call::MapFromArray | Call::MapTryClone => {
-            maps::make(call, alloc, granted)?
+            maps::make(call, alloc, granted)
         }
         Call::MapInsert
         | Call::OrInsert
@@ -224,26 +224,26 @@ fn attempt(
         | Call::OrDefault
         | Call::InsertEntry
         | Call::VacantInsert
-        | Call::VacantInsertEntry => maps::fill(call, alloc, granted, 100),
+        | Call::VacantInsertEntry => Ok(maps::fill(call, alloc, granted, 100)),
         Call::XorbHash | Call::FileHash | Call::FileHashWithSalt => {
-            hashes::of_chunks(call, alloc, granted, chunks)?
+            hashes::of_chunks(call, alloc, granted, chunks)
         }
-        Call::FromChunks => ranges::from_chunks(alloc, granted, chunks)?,
-        Call::TryClone => ranges::try_clone(alloc, granted, chunks)?,
+        Call::FromChunks => ranges::from_chunks(alloc, granted, chunks),
+        Call::TryClone => ranges::try_clone(alloc, granted, chunks),
         Call::MergeInto | Call::MergeIntoCounted | Call::MergeIntoBy => {
-            ranges::merge_into(call, alloc, granted, &chunks.split(chunks.nodes.len() / 2))?
+            ranges::merge_into(call, alloc, granted, &chunks.split(chunks.nodes.len() / 2))
         }
         Call::Append => {
             let others = chunks.nodes.len().saturating_sub(1);
-            ranges::merge_into(Call::MergeInto, alloc, granted, &chunks.split(others))?
+            ranges::merge_into(Call::MergeInto, alloc, granted, &chunks.split(others))
         }
-        Call::Merge => ranges::merge(alloc, granted, chunks)?,
-        Call::JoinSubtree => ranges::join::<MerkleHashSubtree<&Refusing>>(alloc, granted, chunks)?,
-        Call::JoinPlain => ranges::join::<PlainRange<&Refusing>>(alloc, granted, chunks)?,
-        Call::RootOfPlain => ranges::root::<PlainRange<&Refusing>>(alloc, granted, chunks)?,
-        Call::RunSubtrees => ranges::run::<MerkleHashSubtree<&Refusing>>(alloc, granted, chunks)?,
-        Call::RunPlain => ranges::run::<PlainRange<&Refusing>>(alloc, granted, chunks)?,
-        Call::FromJson => ranges::from_json(alloc, granted, chunks)?,
+        Call::Merge => ranges::merge(alloc, granted, chunks),
+        Call::JoinSubtree => ranges::join::<MerkleHashSubtree<&Refusing>>(alloc, granted, chunks),
+        Call::JoinPlain => ranges::join::<PlainRange<&Refusing>>(alloc, granted, chunks),
+        Call::RootOfPlain => ranges::root::<PlainRange<&Refusing>>(alloc, granted, chunks),
+        Call::RunSubtrees => ranges::run::<MerkleHashSubtree<&Refusing>>(alloc, granted, chunks),
+        Call::RunPlain => ranges::run::<PlainRange<&Refusing>>(alloc, granted, chunks),
+        Call::FromJson => ranges::from_json(alloc, granted, chunks),
         Call::ThreePairs
         | Call::OpenRanges
         | Call::RangesFromTheStart
@@ -252,16 +252,16 @@ fn attempt(
         | Call::OnePair
         | Call::TwoValuesOfOneKey
         | Call::BracketingsOfSubtrees
-        | Call::BracketingsOfPlainRanges => examples::attempt(call, alloc, granted, chunks.alloc)?,
-        Call::KeepHashes => sessions::keep_hashes(alloc, granted, chunks.alloc)?,
+        | Call::BracketingsOfPlainRanges => examples::attempt(call, alloc, granted, chunks.alloc),
+        Call::KeepHashes => sessions::keep_hashes(alloc, granted, chunks.alloc),
         Call::SessionOfSubtrees(row) => {
-            sessions::attempt::<MerkleHashSubtree<&Refusing>>(alloc, granted, chunks.alloc, row)?
+            sessions::attempt::<MerkleHashSubtree<&Refusing>>(alloc, granted, chunks.alloc, row)
         }
         Call::SessionOfPlainRanges(row) => {
-            sessions::attempt::<PlainRange<&Refusing>>(alloc, granted, chunks.alloc, row)?
+            sessions::attempt::<PlainRange<&Refusing>>(alloc, granted, chunks.alloc, row)
         }
-        Call::OfLines(row) => lines::attempt(alloc, granted, chunks.alloc, row)?,
-    })
+        Call::OfLines(row) => lines::attempt(alloc, granted, chunks.alloc, row),
+    }
 }
 
 // At least as many requests as each call makes.

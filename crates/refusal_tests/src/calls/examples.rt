@@ -65,66 +65,114 @@ fn merges_to<'a>(
     }
 }
 
-// Some of 28 nodes of which each fourth is a natural cut.
-fn open<'a>(
-    alloc: &'a Refusing,
-    nodes: &[Node],
-) -> Result<MerkleHashSubtree<&'a Refusing>, CoreError> {
-    MerkleHashSubtree::from_chunks(alloc, false, nodes, false)
+// Which of 28 nodes, each fourth of which is a natural cut, a range has, and its marks.
+#[derive(Clone, Copy)]
+struct Part {
+    at_start: bool,
+    first: usize,
+    past: usize,
+    at_end: bool,
+}
+
+// Some of the nodes, without marks.
+fn open(first: usize, past: usize) -> Part {
+    Part {
+        at_start: false,
+        first,
+        past,
+        at_end: false,
+    }
+}
+
+// The subtree of some of the nodes.
+fn subtree(alloc: &Refusing, part: Part) -> Result<MerkleHashSubtree<&Refusing>, CoreError> {
+    let nodes = with_cuts::<28>(&EACH_FOURTH);
+    let chunks = nodes
+        .as_slice()
+        .get(part.first..part.past)
+        .unwrap_or_default();
+    MerkleHashSubtree::from_chunks(alloc, part.at_start, chunks, part.at_end)
+}
+
+// Whether the subtrees of two adjacent parts merge to that of both, and so many parents are hashed.
+fn merge(alloc: &Refusing, front: Part, back: Part, count: u128) -> Result<bool, CoreError> {
+    let whole = Part {
+        past: back.past,
+        at_end: back.at_end,
+        ..front
+    };
+    let (mut front, back) = (subtree(alloc, front)?, subtree(alloc, back)?);
+    merges_to(&mut front, &back, &subtree(alloc, whole)?, count)
+}
+
+// Whether the subtree of a part keeps so many nodes at each level.
+fn keeps(alloc: &Refusing, part: Part, counts: &[(usize, usize)]) -> Result<bool, CoreError> {
+    Ok(has_counts(&subtree(alloc, part)?, counts))
 }
 
 // Whether ranges of the first 24 nodes merge.
 fn open_ranges(alloc: &Refusing) -> Result<bool, CoreError> {
-    let all = with_cuts::<28>(&EACH_FOURTH);
-    let nodes = all.as_slice();
-    let whole = open(alloc, &nodes[..24])?;
-    let mut twenty = open(alloc, &nodes[..20])?;
-    let last_four = open(alloc, &nodes[20..24])?;
-    let mut four = open(alloc, &nodes[..4])?;
-    let last_twenty = open(alloc, &nodes[4..24])?;
-    let have_counts = has_counts(&twenty, &[(8, 4), (2, 0)])
-        && has_counts(&whole, &[(8, 4), (3, 0)]);
-    let is_merged = merges_to(&mut twenty, &last_four, &whole, 1)?;
-    Ok(merges_to(&mut four, &last_twenty, &whole, 1)? && is_merged && have_counts)
+    Ok(
+        merge(alloc, open(0, 20), open(20, 24), 1)?
+            && merge(alloc, open(0, 4), open(4, 24), 1)?
+            && keeps(alloc, open(0, 20), &[(8, 4), (2, 0)])?
+            && keeps(alloc, open(0, 24), &[(8, 4), (3, 0)])?,
+    )
 }
 
 // Whether ranges of all 28 nodes merge, from the start to the end.
 fn ranges_from_the_start(alloc: &Refusing) -> Result<bool, CoreError> {
-    let all = with_cuts::<28>(&EACH_FOURTH);
-    let nodes = all.as_slice();
-    let mut first = MerkleHashSubtree::from_chunks(alloc, true, &nodes[..4], false)?;
-    let mut middle = open(alloc, &nodes[4..24])?;
-    let last = open(alloc, &nodes[24..])?;
-    let others = open(alloc, &nodes[4..])?;
-    let end = MerkleHashSubtree::from_chunks(alloc, false, &[], true)?;
-    let begun = MerkleHashSubtree::from_chunks(alloc, true, nodes, false)?;
-    let closed = MerkleHashSubtree::from_chunks(alloc, true, nodes, true)?;
-    let root = xorb_hash(alloc, nodes)?;
-    let is_open = merges_to(&mut middle, &last, &others, 1)?;
-    let is_begun = merges_to(&mut first, &middle, &begun, 3)?;
-    let has_counts = has_counts(&first, &[(0, 4), (6, 0)]);
-    let is_closed = merges_to(&mut first, &end, &closed, 4)?;
-    Ok(is_open && is_begun && has_counts && is_closed && first.final_hash() == Some(root))
+    let first = Part {
+        at_start: true,
+        ..open(0, 4)
+    };
+    let begun = Part {
+        at_start: true,
+        ..open(0, 28)
+    };
+    let end = Part {
+        at_end: true,
+        ..open(28, 28)
+    };
+    Ok(
+        merge(alloc, open(4, 24), open(24, 28), 1)?
+            && merge(alloc, first, open(4, 28), 3)?
+            && keeps(alloc, begun, &[(0, 4), (6, 0)])?
+            && merge(alloc, begun, end, 4)?
+            && has_root(
+                alloc,
+                Part {
+                    at_end: true,
+                    ..begun
+                },
+            )?,
+    )
+}
+
+// Whether the final hash of a part is the root of all nodes.
+fn has_root(alloc: &Refusing, part: Part) -> Result<bool, CoreError> {
+    let root = xorb_hash(alloc, &with_cuts::<28>(&EACH_FOURTH))?;
+    Ok(subtree(alloc, part)?.final_hash() == Some(root))
+}
+
+// The JSON value of two levels: some nodes, and above them those of the range of others.
+fn stranger(memory: Global, left: &[Node], right: &[Node], of: &[Node]) -> Result<Value, Fail> {
+    let range = MerkleHashSubtree::from_chunks(memory, false, of, false)?;
+    two_levels(memory, left, right, range.left(1))
 }
 
 // The JSON values of three subtrees: a level's left nodes have a stable point; right ones have no natural cut; and all
 // is right.
 fn strangers(memory: Global) -> Result<[Value; 3], Fail> {
     let nodes = with_cuts::<28>(&EACH_FOURTH);
-    let (nodes, _) = nodes.split_at(24);
-    let (first, rest) = nodes.split_at(8);
-    let (_, last) = rest.split_at(8);
-    let (_, right) = rest.split_at(12);
-    let twenty = MerkleHashSubtree::from_chunks(memory, false, &nodes[..20], false)?;
-    let whole = MerkleHashSubtree::from_chunks(memory, false, nodes, false)?;
+    let (first, last, right) = (&nodes[..8], &nodes[16..24], &nodes[20..24]);
     let mut longer = Vec::new(memory);
     longer.extend_from_slice(first)?;
     longer.extend_from_slice(last)?;
-    let plain = with_cuts::<4>(&[]);
     Ok([
-        two_levels(memory, longer.as_slice(), &[], twenty.left(1))?,
-        two_levels(memory, first, &plain, whole.left(1))?,
-        two_levels(memory, first, right, whole.left(1))?,
+        stranger(memory, &longer, &[], &nodes[..20])?,
+        stranger(memory, first, &with_cuts::<4>(&[]), &nodes[..24])?,
+        stranger(memory, first, right, &nodes[..24])?,
     ])
 }
 
@@ -139,12 +187,10 @@ fn breaks(alloc: &Refusing, value: &Value, rule: u8) -> Result<bool, CoreError> 
 // Whether the first of three values breaks rule 12, the second rule 13, and the third is read.
 fn subtrees_from_strangers(alloc: &Refusing, values: &[Value; 3]) -> Result<bool, CoreError> {
     let [longer, plain, right] = values;
-    let nodes = with_cuts::<28>(&EACH_FOURTH);
-    let whole = open(alloc, &nodes[..24])?;
     Ok(
         breaks(alloc, longer, 12)?
             && breaks(alloc, plain, 13)?
-            && MerkleHashSubtree::from_json(alloc, right)? == whole,
+            && MerkleHashSubtree::from_json(alloc, right)? == subtree(alloc, open(0, 24))?,
     )
 }
 
@@ -152,16 +198,29 @@ fn subtrees_from_strangers(alloc: &Refusing, values: &[Value; 3]) -> Result<bool
 fn no_pairs(alloc: &Refusing, memory: Global) -> Result<bool, CoreError> {
     let closed = MerkleHashSubtree::from_chunks(alloc, true, &[], true)?;
     let text = closed.to_json(memory)?.to_string(memory)?;
-    let begun = MerkleHashSubtree::from_chunks(alloc, true, &[], false)?;
-    let mut open = MerkleHashSubtree::from_chunks(alloc, false, &[], false)?;
-    let before = open.try_clone()?;
     Ok(
         has_counts(&closed, &[(0, 0)])
             && closed.final_hash() == Some(DataHash::default())
             && text.as_str() == NO_PAIRS
-            && begun.final_hash().is_none()
-            && open.merge_into(&begun) == Err(CoreError::InvalidArguments)
-            && open == before,
+            && is_refused_a_mark(alloc)?,
+    )
+}
+
+// Whether the open subtree of no pairs is refused a range that is marked at its start, and stays as it is.
+fn is_refused_a_mark(alloc: &Refusing) -> Result<bool, CoreError> {
+    let begun = subtree(
+        alloc,
+        Part {
+            at_start: true,
+            ..open(0, 0)
+        },
+    )?;
+    let mut empty = subtree(alloc, open(0, 0))?;
+    let before = empty.try_clone()?;
+    Ok(
+        begun.final_hash().is_none()
+            && empty.merge_into(&begun) == Err(CoreError::InvalidArguments)
+            && empty == before,
     )
 }
 

@@ -65,6 +65,25 @@ fn merges<'a>(
     }
 }
 
+// The subtrees of two lists of chunks.
+fn both<'a>(
+    alloc: &'a Refusing,
+    parts: &[Chunks<'_>; 2],
+) -> Result<[MerkleHashSubtree<&'a Refusing>; 2], CoreError> {
+    let [first, second] = parts;
+    Ok([subtree(alloc, first)?, subtree(alloc, second)?])
+}
+
+// What the subtrees of two lists of chunks are merged to, and how many parents that hashes.
+fn merged<'a>(
+    alloc: &'a Refusing,
+    parts: &[Chunks<'_>; 2],
+) -> Result<(MerkleHashSubtree<&'a Refusing>, u128), CoreError> {
+    let [mut front, back] = both(alloc, parts)?;
+    let count = front.merge_into_counted(&back)?;
+    Ok((front, count))
+}
+
 /// Tries to merge the second of two lists of chunks into the first.
 pub fn merge_into(
     call: Call,
@@ -72,33 +91,35 @@ pub fn merge_into(
     granted: u32,
     parts: &[Chunks<'_>; 2],
 ) -> Result<Outcome, Fail> {
-    let [first, second] = parts;
-    let (mut front, back) = (subtree(alloc, first)?, subtree(alloc, second)?);
-    let (front_before, back_before) = (front.try_clone()?, back.try_clone()?);
-    let mut merged = front.try_clone()?;
-    let count = merged.merge_into_counted(&back)?;
+    let (merged, count) = merged(alloc, parts)?;
+    let before = both(alloc, parts)?;
+    let mut ranges = both(alloc, parts)?;
+    let [front, back] = &mut ranges;
     alloc.grant(granted);
-    let answer = merges(call, &mut front, &back, count);
-    let is_merged = front == merged;
-    let is_same = front == front_before && back == back_before;
-    Ok(outcome_of(alloc, answer.map(|is_right| is_right && is_merged), is_same))
+    let answer = merges(call, front, back, count);
+    let is_merged = *front == merged;
+    let answer = answer.map(|is_right| is_right && is_merged);
+    Ok(outcome_of(alloc, answer, ranges == before))
+}
+
+// The subtrees of three parts of some chunks.
+fn thirds<'a>(
+    alloc: &'a Refusing,
+    chunks: &Chunks<'_>,
+) -> Result<[MerkleHashSubtree<&'a Refusing>; 3], CoreError> {
+    let [first, rest] = chunks.split(chunks.nodes.len() / 3);
+    let [second, third] = rest.split(rest.nodes.len() / 2);
+    Ok([
+        subtree(alloc, &first)?,
+        subtree(alloc, &second)?,
+        subtree(alloc, &third)?,
+    ])
 }
 
 /// Tries to merge the subtrees of three parts of some chunks.
 pub fn merge(alloc: &Refusing, granted: u32, chunks: &Chunks<'_>) -> Result<Outcome, Fail> {
-    let [first, rest] = chunks.split(chunks.nodes.len() / 3);
-    let [second, third] = rest.split(rest.nodes.len() / 2);
     let expected = subtree(alloc, chunks)?;
-    let ranges = [
-        subtree(alloc, &first)?,
-        subtree(alloc, &second)?,
-        subtree(alloc, &third)?,
-    ];
-    let before = [
-        subtree(alloc, &first)?,
-        subtree(alloc, &second)?,
-        subtree(alloc, &third)?,
-    ];
+    let (ranges, before) = (thirds(alloc, chunks)?, thirds(alloc, chunks)?);
     alloc.grant(granted);
     let answer = MerkleHashSubtree::merge(alloc, &ranges);
     Ok(subtree_outcome(alloc, answer, &expected, ranges == before))
@@ -133,23 +154,29 @@ fn range<'a, R: Kind<Alloc = &'a Refusing>>(
     R::from_chunks(alloc, chunks.at_start, chunks.nodes, chunks.at_end)
 }
 
+// The ranges of two parts of some chunks.
+fn parts<'a, R: Kind<Alloc = &'a Refusing>>(
+    alloc: &'a Refusing,
+    chunks: &Chunks<'_>,
+) -> Result<(R, R), CoreError> {
+    let [first, second] = chunks.split(100);
+    Ok((range(alloc, &first)?, range(alloc, &second)?))
+}
+
 /// Tries to merge two parts of some chunks by [`ChunkRange::join`].
 pub fn join<'a, R: Kind<Alloc = &'a Refusing>>(
     alloc: &'a Refusing,
     granted: u32,
     chunks: &Chunks<'_>,
 ) -> Result<Outcome, Fail> {
-    let [first, second] = chunks.split(100);
     let expected: R = range(alloc, chunks)?;
-    let (mut front, back): (R, R) = (range(alloc, &first)?, range(alloc, &second)?);
-    let (front_before, back_before): (R, R) = (range(alloc, &first)?, range(alloc, &second)?);
+    let before: (R, R) = parts(alloc, chunks)?;
+    let (mut front, back): (R, R) = parts(alloc, chunks)?;
     alloc.grant(granted);
     let answer = front.join(&back);
-    let is_same = front.equals(&front_before) && back.equals(&back_before);
-    match answer {
-        Ok(()) => Ok(outcome_of(alloc, Ok(front.equals(&expected)), is_same)),
-        Err(error) => Ok(outcome_of(alloc, Err(error), is_same)),
-    }
+    let is_same = front.equals(&before.0) && back.equals(&before.1);
+    let answer = answer.map(|()| front.equals(&expected));
+    Ok(outcome_of(alloc, answer, is_same))
 }
 
 /// Tries the root of some chunks.

@@ -121,6 +121,58 @@ fn answers<'a, R: Kind<Alloc = &'a Refusing>>(
     }
 }
 
+// A session after some puts.
+fn begun<'a, R: Kind<Alloc = &'a Refusing>>(
+    alloc: &'a Refusing,
+    memory: Global,
+    puts: &str,
+) -> Result<SessionOf<R>, Fail> {
+    let mut session = SessionOf::new_in(alloc)?;
+    if !are_put(memory, &mut session, puts)? {
+        return Err("a put before the call")?;
+    }
+    Ok(session)
+}
+
+// What a call comes to: the put, where there is one. The other session is as the session was.
+fn tried<'a, R: Kind<Alloc = &'a Refusing>>(
+    alloc: &Refusing,
+    granted: u32,
+    (session, other): (&mut SessionOf<R>, &SessionOf<R>),
+    put: Option<Put>,
+    is_root: bool,
+    end: &End,
+) -> Outcome {
+    alloc.grant(granted);
+    let answer = answers(session, put, is_root, end);
+    let outcome = outcome_of(alloc, answer, are_same(session, other));
+    alloc.grant(u32::MAX);
+    outcome
+}
+
+// The put of a text, where a call is one.
+fn put_of(memory: Global, call: &str, text: &str) -> Result<Option<Put>, Fail> {
+    if call.starts_with("put") {
+        Ok(Some(read(memory, text)?))
+    } else {
+        Ok(None)
+    }
+}
+
+// Whether a session goes on with some puts to its end.
+fn goes_on<'a, R: Kind<Alloc = &'a Refusing>>(
+    memory: Global,
+    session: &mut SessionOf<R>,
+    puts: &str,
+    end: &End,
+) -> Result<bool, Fail> {
+    Ok(
+        are_put(memory, session, puts)?
+            && answers(session, None, true, end)?
+            && answers(session, None, false, end)?,
+    )
+}
+
 /// Tries a call of a session, and where it is refused goes on from the session as it was.
 pub fn attempt<'a, R: Kind<Alloc = &'a Refusing>>(
     alloc: &'a Refusing,
@@ -128,32 +180,28 @@ pub fn attempt<'a, R: Kind<Alloc = &'a Refusing>>(
     memory: Global,
     row: &str,
 ) -> Result<Outcome, Fail> {
-    let (call, chunks, before, rest) = four_fields(row, '|')?;
+    let (call, chunks, before, puts) = four_fields(row, '|')?;
     let end = end_of(memory, &reference_list(memory, chunks)?)?;
-    let (mut session, mut other): (SessionOf<R>, SessionOf<R>) = (
-        SessionOf::new_in(alloc)?,
-        SessionOf::new_in(alloc)?,
-    );
-    let is_begun = are_put(memory, &mut session, before)? && are_put(memory, &mut other, before)?;
-    let (first, others) = rest.split_once(' ').unwrap_or((rest, ""));
-    let put = if call.starts_with("put") {
-        Some(read(memory, first)?)
-    } else {
-        None
+    let (first, others) = puts.split_once(' ').unwrap_or((puts, ""));
+    let mut session: SessionOf<R> = begun(alloc, memory, before)?;
+    let outcome = {
+        let other: SessionOf<R> = begun(alloc, memory, before)?;
+        let put = put_of(memory, call, first)?;
+        tried(
+            alloc,
+            granted,
+            (&mut session, &other),
+            put,
+            call == "root",
+            &end,
+        )
     };
-    alloc.grant(granted);
-    let answer = answers(&mut session, put, call == "root", &end);
-    let outcome = outcome_of(alloc, answer, are_same(&session, &other));
-    alloc.grant(u32::MAX);
     let remaining = if matches!(outcome, Outcome::Refused) {
-        rest
+        puts
     } else {
         others
     };
-    let is_put = are_put(memory, &mut session, remaining)?;
-    let is_ended = answers(&mut session, None, true, &end)?
-        && answers(&mut session, None, false, &end)?;
-    Ok(outcome.if_so(is_begun && is_put && is_ended))
+    Ok(outcome.if_so(goes_on(memory, &mut session, remaining, &end)?))
 }
 
 /// Tries to keep 100 hashes beside another one. After a refusal they should all be new again, and else none of them.
