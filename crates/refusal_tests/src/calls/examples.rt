@@ -14,7 +14,7 @@ use xet_merkle::aggregated_hashes::{Node, file_hash, xorb_hash};
 use xet_merkle::merkle_hash_subtree::MerkleHashSubtree;
 use xet_merkle::plain_range::PlainRange;
 
-/// Tries a worked example.
+/// Runs a worked example.
 pub fn attempt(
     call: Call,
     alloc: &Refusing,
@@ -41,7 +41,7 @@ const ROOT: &str = "71ec1275fca074724e2dd666921b3277c7cee603e4d025bcab2d4050015b
 
 const FILE: &str = "54e55dccc6653c612bdb5576c5d3cb34bb31bc4e100248abccf4c908b3ef7715";
 
-// Whether three pairs have their root and their file hash.
+// Returns whether three pairs have their root and their file hash.
 fn three_pairs(alloc: &Refusing) -> Result<bool, CoreError> {
     let pairs = [1, 2, 3].map(|seed| (DataHash::random_from_seed(seed), seed.saturating_mul(100)));
     let root = xorb_hash(alloc, &pairs)?;
@@ -49,8 +49,8 @@ fn three_pairs(alloc: &Refusing) -> Result<bool, CoreError> {
     Ok(DataHash::from_hex(ROOT).ok() == Some(root) && DataHash::from_hex(FILE).ok() == Some(file))
 }
 
-// Whether merging a range into the one before it gives the subtree of all their chunks and hashes so many parents. False,
-// too, where it is refused and the one before isn't as it was.
+// Returns whether merging a range into the one before it gives the subtree of all their chunks, and hashes `count`
+// parents. Also returns false if the merge fails and the range before is changed.
 fn merges_to<'a>(
     front: &mut MerkleHashSubtree<&'a Refusing>,
     back: &MerkleHashSubtree<&'a Refusing>,
@@ -65,7 +65,7 @@ fn merges_to<'a>(
     }
 }
 
-// Some of 28 nodes of which each fourth is a natural cut.
+// Returns the open subtree of some nodes.
 fn open<'a>(
     alloc: &'a Refusing,
     nodes: &[Node],
@@ -73,7 +73,7 @@ fn open<'a>(
     MerkleHashSubtree::from_chunks(alloc, false, nodes, false)
 }
 
-// Whether ranges of the first 24 nodes merge.
+// Returns whether ranges of the first 24 nodes merge.
 fn open_ranges(alloc: &Refusing) -> Result<bool, CoreError> {
     let all = with_cuts::<28>(&EACH_FOURTH);
     let nodes = all.as_slice();
@@ -88,7 +88,7 @@ fn open_ranges(alloc: &Refusing) -> Result<bool, CoreError> {
     Ok(merges_to(&mut four, &last_twenty, &whole, 1)? && is_merged && have_counts)
 }
 
-// Whether ranges of all 28 nodes merge, from the start to the end.
+// Returns whether ranges of all 28 nodes merge, from the start to the end.
 fn ranges_from_the_start(alloc: &Refusing) -> Result<bool, CoreError> {
     let all = with_cuts::<28>(&EACH_FOURTH);
     let nodes = all.as_slice();
@@ -107,8 +107,8 @@ fn ranges_from_the_start(alloc: &Refusing) -> Result<bool, CoreError> {
     Ok(is_open && is_begun && has_counts && is_closed && first.final_hash() == Some(root))
 }
 
-// The JSON values of three subtrees: a level's left nodes have a stable point; right ones have no natural cut; and all
-// is right.
+// Returns the JSON values of three subtrees. In the first, a level's left nodes have a stable point. In the second,
+// right nodes have no natural cut. The third is right.
 fn strangers(memory: Global) -> Result<[Value; 3], Fail> {
     let nodes = with_cuts::<28>(&EACH_FOURTH);
     let (nodes, _) = nodes.split_at(24);
@@ -128,7 +128,7 @@ fn strangers(memory: Global) -> Result<[Value; 3], Fail> {
     ])
 }
 
-// Whether a value is refused by a rule.
+// Returns whether a value breaks a rule.
 fn breaks(alloc: &Refusing, value: &Value, rule: u8) -> Result<bool, CoreError> {
     match MerkleHashSubtree::from_json(alloc, value) {
         Err(CoreError::OutOfMemory) => Err(CoreError::OutOfMemory),
@@ -136,7 +136,7 @@ fn breaks(alloc: &Refusing, value: &Value, rule: u8) -> Result<bool, CoreError> 
     }
 }
 
-// Whether the first of three values breaks rule 12, the second rule 13, and the third is read.
+// Returns whether the first of three values breaks rule 12, the second breaks rule 13, and the third is read.
 fn subtrees_from_strangers(alloc: &Refusing, values: &[Value; 3]) -> Result<bool, CoreError> {
     let [longer, plain, right] = values;
     let nodes = with_cuts::<28>(&EACH_FOURTH);
@@ -148,7 +148,8 @@ fn subtrees_from_strangers(alloc: &Refusing, values: &[Value; 3]) -> Result<bool
     )
 }
 
-// Whether the subtree of no pairs has no node and its text, and is refused a range that is marked at its start.
+// Returns whether the subtree of no pairs has no nodes and the right text, and can't be merged with a range that is
+// marked at its start.
 fn no_pairs(alloc: &Refusing, memory: Global) -> Result<bool, CoreError> {
     let closed = MerkleHashSubtree::from_chunks(alloc, true, &[], true)?;
     let text = closed.to_json(memory)?.to_string(memory)?;
@@ -165,7 +166,7 @@ fn no_pairs(alloc: &Refusing, memory: Global) -> Result<bool, CoreError> {
     )
 }
 
-// Whether the subtree of one pair has its root as the final hash where both ends are marked, and else none.
+// Returns whether the subtree of one pair has its root as the final hash if both ends are marked, and none otherwise.
 fn one_pair(alloc: &Refusing) -> Result<bool, CoreError> {
     let hash = DataHash::random_from_seed(1);
     for (at_start, at_end) in MARKS {
@@ -177,7 +178,7 @@ fn one_pair(alloc: &Refusing) -> Result<bool, CoreError> {
     Ok(true)
 }
 
-// Whether a map keeps the last of two values of a key, and gives the first one back.
+// Returns whether a map keeps the last of two values of a key, and returns the first one.
 fn two_values_of_one_key(alloc: &Refusing) -> Result<bool, CoreError> {
     let key = DataHash::random_from_seed(1);
     let mut map = PassThroughHashMap::new(alloc);
@@ -186,7 +187,7 @@ fn two_values_of_one_key(alloc: &Refusing) -> Result<bool, CoreError> {
     Ok(none.is_none() && first == Some("value1") && map.get(&key) == Some(&"value2"))
 }
 
-// Whether each bracketing of four ranges gives the range of all their chunks.
+// Returns whether each bracketing of four ranges gives the range of all their chunks.
 fn bracketings<'a, R: Kind<Alloc = &'a Refusing>>(
     alloc: &'a Refusing,
     memory: Global,

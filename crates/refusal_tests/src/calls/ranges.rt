@@ -10,7 +10,7 @@ use xet_merkle::merkle_hash_subtree::MerkleHashSubtree;
 use xet_merkle::parent_maker::{ParentHashes, ParentMaker};
 use xet_merkle::plain_range::PlainRange;
 
-// The subtree of some chunks.
+// Returns the subtree of some chunks.
 fn subtree<'a>(
     alloc: &'a Refusing,
     chunks: &Chunks<'_>,
@@ -18,7 +18,7 @@ fn subtree<'a>(
     MerkleHashSubtree::from_chunks(alloc, chunks.at_start, chunks.nodes, chunks.at_end)
 }
 
-// What a call comes to that should answer a subtree: whether it does, or all that was lent to it is the same.
+// Returns how a call ended that should return a subtree.
 fn subtree_outcome<'a>(
     alloc: &Refusing,
     answer: Result<MerkleHashSubtree<&'a Refusing>, CoreError>,
@@ -48,7 +48,7 @@ pub fn try_clone(alloc: &Refusing, granted: u32, chunks: &Chunks<'_>) -> Result<
     Ok(subtree_outcome(alloc, answer, &before, subtree == before))
 }
 
-// Whether a call merges a range into the one before it and tells the count of parents, where it tells one.
+// Returns whether a call merges a range into the one before it, and returns the number of parents if it counts them.
 fn merges<'a>(
     call: Call,
     front: &mut MerkleHashSubtree<&'a Refusing>,
@@ -104,9 +104,9 @@ pub fn merge(alloc: &Refusing, granted: u32, chunks: &Chunks<'_>) -> Result<Outc
     Ok(subtree_outcome(alloc, answer, &expected, ranges == before))
 }
 
-/// A kind of range of which two can be compared.
+/// A kind of range whose values can be compared.
 pub trait Kind: ChunkRange {
-    /// Whether two ranges are equal.
+    /// Returns whether two ranges are equal.
     fn equals(&self, other: &Self) -> bool;
 }
 
@@ -125,7 +125,7 @@ impl Kind for PlainRange<&Refusing> {
     }
 }
 
-// The range of some chunks.
+// Returns the range of some chunks.
 fn range<'a, R: Kind<Alloc = &'a Refusing>>(
     alloc: &'a Refusing,
     chunks: &Chunks<'_>,
@@ -152,7 +152,7 @@ pub fn join<'a, R: Kind<Alloc = &'a Refusing>>(
     }
 }
 
-/// Tries the root of some chunks.
+/// Tries to get the root of some chunks.
 pub fn root<'a, R: Kind<Alloc = &'a Refusing>>(
     alloc: &'a Refusing,
     granted: u32,
@@ -169,7 +169,7 @@ pub fn root<'a, R: Kind<Alloc = &'a Refusing>>(
     }
 }
 
-// The range of some chunks, as a tree without merges.
+// Returns the range of some chunks, as a tree without merges.
 fn leaf<'a, R: Kind<Alloc = &'a Refusing>>(
     alloc: &'a Refusing,
     chunks: &Chunks<'_>,
@@ -177,7 +177,7 @@ fn leaf<'a, R: Kind<Alloc = &'a Refusing>>(
     Ok(Box::new(chunks.alloc, MergeTree::Leaf(range(alloc, chunks)?))?)
 }
 
-/// Tries to merge three parts of some chunks, of which the last two are merged first.
+/// Tries to merge three parts of some chunks. The last two are merged first.
 pub fn run<'a, R: Kind<Alloc = &'a Refusing>>(
     alloc: &'a Refusing,
     granted: u32,
