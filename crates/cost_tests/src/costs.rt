@@ -179,7 +179,7 @@ fn asked(memory: Global, change: &str, count: u64) -> Result<Granted, Fail> {
     }
 }
 
-// Returns whether that is at most so many requests and so many nodes per chunk.
+// Returns whether `asked` is at most `requests` requests and `nodes` nodes per chunk.
 fn is_within(asked: Granted, count: u64, requests: u64, nodes: u64) -> bool {
     let room = nodes.saturating_mul(count).saturating_add(FEW);
     asked.requests <= requests.saturating_mul(count).saturating_add(FEW)

@@ -104,7 +104,7 @@ impl DataHash {
         lower_digits(&self.text_bytes())
     }
 
-    /// Reads a hash from its hex text, in upper or lower case. Fails if and only if `text` isn't 64 ASCII hex digits.
+    /// Reads a hash from its hex text, in lower or upper case. Fails if and only if `text` isn't 64 ASCII hex digits.
     pub fn from_hex(text: &str) -> Result<DataHash, DataHashHexParseError>
         ensures accepted { IsOk result ↔ IsHexText text.now }
         ensures is_hash { IfOk result IsHash }

@@ -33,7 +33,7 @@ pub fn hex_text_is_lowercase_digits()
         → str_to_ascii_lowercase (hex_text words) ≡ hex_text words }
 {}
 
-/// Any 64 hex digits, in upper or lower case, are the digits of a hash.
+/// Any 64 hex digits, in lower or upper case, are the digits of a hash.
 pub fn hex_digits_are_those_of_a_hash()
     ensures { (digits : List ℕ) → IsHexText digits →
         (words : List ℕ) × IsHash words × (hex_text words ≡ str_to_ascii_lowercase digits) }
