@@ -125,8 +125,8 @@ fn cut_levels<A: Allocator + Clone>(
 }
 
 impl<A: Allocator + Clone> MerkleHashSubtree<A> {
-    /// Reads a subtree from a JSON value of the form that [`Self::to_json`] writes. Hex digits may be upper or lower
-    /// case. Members other than the four are ignored. A number with a fraction or an exponent isn't a whole number.
+    /// Reads a subtree from a JSON value of the form that [`Self::to_json`] writes. Upper-case hex digits are read too.
+    /// Members other than the four are ignored. A number with a fraction or an exponent isn't a whole number.
     ///
     /// Fails with [`CoreError::InvalidJson`] and the lowest rule that the value breaks:
     ///
