@@ -22,16 +22,16 @@ use std::io::{self, ErrorKind, Read, Write};
 const HELP: &str = "\
 Usage: xetrange make|join|root
 
-Ranges of a file's chunks, made apart and merged without their chunks. Each reads
-standard input and writes standard output.
+Hashes ranges of a file's chunks separately, and merges them without their chunks.
+Each command reads standard input and writes standard output.
 
-  make    pairs, chunks and `--`, as xetroot reads them: the line of their range
-  join    lines of ranges, in order: the line of the range that they make together
-  root    lines of ranges, in order: the two lines that xetroot writes of the whole
+  make    reads pairs, chunks and `--`, as xetroot does; writes the line of their range
+  join    reads lines of ranges, in order; writes the line of the merged range
+  root    reads lines of ranges, in order; writes what xetroot writes for the whole
 
 A fault goes to standard error with its number, which is the exit status: 1 a bad
 line, 2 sizes that pass 2^64 - 1, 3 out of memory, 4 a failed read, 5 a failed
-write, 8 a line that is no range. The status is 64 after a wrong argument.
+write, 8 a line that isn't a range. The status is 64 after a wrong argument.
 
   -h, --help    prints this text
   --version     prints the versions of xetrange and of xet-core-structures
