@@ -3,10 +3,13 @@
 use std::alloc::Global;
 use std::test::Fail;
 
+/// The hash of the seed 1, as hex text.
 pub const H1: &str = "cfc5d07f6f03c29bbf424132963fe08d19a37d5757aaf520bf08119f05cd56d6";
 
+/// The hash of the seed 2, as hex text.
 pub const H2: &str = "c3e67584b5c4fc2a89837ec39e40f2c8a6bb0b2987ac94cd4b31e5fbdd210a72";
 
+/// The hash of the seed 3, as hex text.
 pub const H3: &str = "0d2beb91b9196929a5ddec9f6e306924ddf4a24268e3e59fd8464738d525af37";
 
 /// The answer to no pairs.

@@ -21,8 +21,7 @@
 //! # Stable points
 //!
 //! A stable point is the place right after the middle one of three natural cuts. There is no natural cut between the
-//! three, and each is 3 to 7 nodes after the one before it. If they have the indices a < b < c, the stable point is b +
-//! 1:
+//! three, and each is 3 to 7 nodes after the one before it. With the three at indices a < b < c, the place is b + 1:
 //!
 //! ```text
 //!     . . . | . . . | . . . . | . .      | a natural cut, . another node
@@ -100,8 +99,8 @@
 //!
 //! The nodes 0 to 27 have size 1 and the words (i, 0, 0, w). Here w is 0 for i = 3, 7, 11, .., 27, and otherwise 1. So
 //! each fourth node is a natural cut. The stable points are 8, 12, 16, 20 and 24. The groups are 0 to 3, 4 to 7 and so
-//! on, with the parents G0 to G6. Of these, G3, G4 and G6 are natural cuts. Four ranges a, b, c and d are merged as (a
-//! (b c)) d:
+//! on, with the parents G0 to G6. Of these, G3, G4 and G6 are natural cuts. Four ranges a, b, c and d are merged in the
+//! order (a (b c)) d:
 //!
 //! ```text
 //!     subtree        marks    level   left        right       parents made

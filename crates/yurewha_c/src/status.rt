@@ -31,16 +31,20 @@ pub const EMPTY_HANDLE: u32 = 6;
 /// number.
 pub const RULE: u32 = 16;
 
-/// The faults of a session. If several apply, the call returns the one with the lowest number, unless an allocation
-/// fails before that.
+/// A position is taken. This status and the next four are the faults of a session. If several apply, the call returns
+/// the one with the lowest number, unless an allocation fails before that.
 pub const SESSION_OVERLAP: u32 = 33;
 
+/// The first position plus the number of chunks is more than 2^64 - 1.
 pub const SESSION_POSITIONS: u32 = 34;
 
+/// The sizes of all chunks add up to more than 2^64 - 1.
 pub const SESSION_SIZES: u32 = 35;
 
+/// An allocation of a session failed.
 pub const SESSION_MEMORY: u32 = 36;
 
+/// The taken positions aren't exactly those below the total.
 pub const SESSION_GAP: u32 = 37;
 
 // Returns the status of an error.
