@@ -100,7 +100,7 @@ pub trait ChunkRange: Drop {
     }
 
     /// Returns the number of kept nodes. It helps to choose which of two adjacent ranges to change in place, by
-    /// [`ChunkRange::join`] or [`ChunkRange::prepend`]. No clause constrains the number. With 0 the choice is `join`.
+    /// [`ChunkRange::join`] or [`ChunkRange::prepend`]. No clause constrains the number. If ranges return 0, `join` is chosen.
     fn num_nodes(&self) -> usize {
         0
     }
