@@ -80,14 +80,13 @@ impl<C: ChunkRange> PlacedPairs<C> {
         })
     }
 
-    /// Adds a pair at the next position. Fails with the first of these that applies, unless an allocation fails before
-    /// that:
+    /// Adds a pair at the next position. Before it allocates, it fails with the first of these that applies:
     ///
     /// - [`LineFault::Bad`] if the next position is `u64::MAX`;
     /// - [`LineFault::Overlap`] if the next position is taken;
     /// - [`LineFault::Sizes`] if all sizes add up to more than `u64::MAX` bytes.
     ///
-    /// Fails with [`Refusal::Memory`] if an allocation fails.
+    /// Otherwise fails with [`Refusal::Memory`] if an allocation fails.
     pub fn push(&mut self, pair: Node) -> Result<(), Refusal<LineFault>>
         ensures pushed { OnOk result ((pairs : List Placed) (next : ℕ) →
             StandForPairs C.ChunkRange self.old pairs next →
