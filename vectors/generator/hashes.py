@@ -23,8 +23,8 @@ HEADER = [
 ]
 NOTES = {
     "Empty": "The message has no bytes: one block of length 0.",
-    "BlockEdge": "The length is a multiple of 64, or one beside it.",
-    "ChunkEdge": "The length is a multiple of 1024, or one beside it: the tree over chunks of 1024 bytes changes.",
+    "BlockEdge": "The length is a multiple of 64, or differs from one by 1.",
+    "ChunkEdge": "The length is a multiple of 1024, or differs from one by 1: the tree over chunks of 1024 bytes changes.",
     "EmptyPiece": "A piece of the message is empty. It changes nothing.",
     "EdgeSeed": "The seed is at an edge of 32 or 64 bits.",
     "DefaultHash": "The hash or the key is the default hash, 32 zero bytes.",

@@ -1,4 +1,4 @@
-"""subtree_json.json: JSON texts of subtrees, and the least rule that others break."""
+"""subtree_json.json: JSON texts of subtrees, and the lowest rule that others break."""
 
 from __future__ import annotations
 
@@ -12,40 +12,41 @@ from .model import drawn_cases, m
 
 RULES = {
     1: "it is an object",
-    2: "`nodes` and `levels` are arrays, `at_start` and `at_end` truth values",
+    2: "`nodes` and `levels` are arrays, and `at_start` and `at_end` are booleans",
     3: "a node is an object with `hash`, 64 hex digits of either case, and `size`, a whole number from 0 to 2^64 - 1",
     4: "a level is an array of two whole numbers from 0 to 2^64 - 1",
-    5: "there is a level",
+    5: "there is at least one level",
     6: "the counts of all levels add up to the number of nodes",
     7: "the sizes of all nodes add up to at most 2^64 - 1",
-    8: "the top level has no right nodes, nor has any level under `at_end`",
-    9: "under `at_start` no level below the top has left nodes",
-    10: "with both marks the top has at most one node",
-    11: "where there are several levels, the top has a node",
-    12: "without `at_start` the left nodes of each level below the top end with two natural cuts at a distance from 3 to 7, "
-        "with none between them, and have no stable point",
-    13: "without `at_end` the right nodes of each level below the top have their first natural cut at an index from 2 to 6, "
-        "and have no stable point, also where one natural cut is put in front of them",
+    8: "the top level has no right nodes; with `at_end`, no level has any",
+    9: "with `at_start`, no level below the top has left nodes",
+    10: "with both marks, the top level has at most one node",
+    11: "if there are several levels, the top level has a node",
+    12: "without `at_start`, the left nodes of each level below the top end with a natural cut 3 to 7 nodes after the natural "
+        "cut before it, and have no stable point among them",
+    13: "without `at_end`, the right nodes of each level below the top have their first natural cut at index 2 to 6, and have "
+        "no stable point among them, even with a natural cut put in front of them",
 }
 HEADER = [
-    "The JSON object of a subtree has the members `at_start` and `at_end`, the marks; `levels`, an array of two numbers for "
-    "each level from the chunks up, how many left and how many right nodes it has; and `nodes`, the left nodes of all levels "
-    "by rising level, then the right nodes by falling level, each an object of `hash` (hex text) and `size` (a number).",
+    "The JSON object of a subtree has four members. `at_start` and `at_end` are the marks. `levels` has an array of two numbers "
+    "for each level, from the chunks up: its left and its right nodes. `nodes` has the left nodes of all levels, lowest level "
+    "first, then the right nodes of all levels, highest level first. Each is an object with `hash`, hex text, and `size`, a "
+    "number.",
     "It is written compactly, with the members in this order: `at_end`, `at_start`, `levels`, `nodes`; in a node `hash`, "
     "`size`.",
-    "Where the result is valid, `written` is the text of the subtree that was read, where that is another text than the one "
-    "given. Where it is invalid, `error` is NotJson for what is no JSON text, else InvalidJson, and `rule` is the least rule "
-    "that the value breaks.",
+    "If the result is valid, `written` is the text of the subtree that was read, unless it is the given text. If the result is "
+    "invalid, `error` is NotJson for a text that isn't JSON, and otherwise InvalidJson; then `rule` is the lowest rule that the "
+    "value breaks.",
     *(f"Rule {number}: {text}." for number, text in RULES.items()),
 ]
 NOTES = {
     "Canonical": "The subtree of a list.",
-    "FromNoList": "A value that keeps all rules, though no list has it. It is read, and nothing is promised of what it means.",
+    "FromNoList": "A value that keeps all rules, but comes from no list. It is read, and no promise says what it means.",
     "OtherSpelling": "White space, another order of members, other members, escapes, or digits of the other case.",
-    "EqualMembers": "Of two equal members the last one counts.",
-    "NumberSpelling": "A number with a fraction, an exponent or a sign is no whole number, whatever its value; nor is -0.",
-    "Beyond64Bits": "A number past 64 bits, or counts whose sum passes them, which mustn't wrap.",
-    "LaterRulesToo": "Later rules are broken, too; the least one is told.",
+    "EqualMembers": "If a member occurs twice, the last one counts.",
+    "NumberSpelling": "A number with a fraction, an exponent or a sign isn't a whole number, whatever its value. Neither is -0.",
+    "Beyond64Bits": "A number of more than 64 bits, or counts whose sum has more. The sum must not wrap.",
+    "LaterRulesToo": "The value also breaks later rules. The lowest one is reported.",
 }
 EMPTY = '{"at_end":true,"at_start":true,"levels":[[0,0]],"nodes":[]}'
 
@@ -106,13 +107,13 @@ def spellings(text: str) -> list[Test]:
 
 
 def not_json() -> Group:
-    """Texts that are no JSON texts."""
+    """Texts that aren't JSON."""
     texts = ["", " ", "{", "}", "nothing", EMPTY + "}", EMPTY + EMPTY, EMPTY[:-1], EMPTY[:20], EMPTY.replace("[]", "[,]"),
              EMPTY.replace("true", "True"), EMPTY.replace('"nodes":[]', '"nodes":[],'), EMPTY.replace("[[0,0]]", "[[00,0]]"),
              EMPTY.replace("[[0,0]]", "[[+0,0]]"), EMPTY.replace("[[0,0]]", "[[.5,0]]"), EMPTY.replace("[[0,0]]", "[[1.,0]]"),
              EMPTY.replace("[[0,0]]", "[[1e999,0]]"), EMPTY.replace("[[0,0]]", "[[NaN,0]]"), "'{}'", EMPTY.replace('"', "'"),
              EMPTY + "\0"]
-    return Group("SubtreeJson", "texts that are no JSON texts", [text_test("", text) for text in texts])
+    return Group("SubtreeJson", "texts that aren't JSON", [text_test("", text) for text in texts])
 
 
 def rules_1_to_5() -> list[Test]:
@@ -171,7 +172,7 @@ def rules_6_to_11() -> list[Test]:
 
 
 def rules_12_and_13() -> list[Test]:
-    """Values whose sides can't stand outside the stable points of a level."""
+    """Values whose sides can't be outside the stable points of a level."""
     left, right, top = lists.numbered(0, 8), lists.numbered(16, 20), [((9, 9, 9, 1), 4), ((8, 8, 8, 1), 4)]
     plain = [((i, 0, 0, 1), 1) for i in range(40, 50)]
     cut = ((5, 5, 5, 0), 1)
@@ -203,7 +204,7 @@ def broken() -> Group:
                            m.compact(said([[0, 2]], lists.numbered(0, 1))), "LaterRulesToo"))
     if {test.get("rule") for test in tests} != set(RULES):
         raise ValueError("a rule without a test, or a good text among bad ones")
-    return Group("SubtreeJson", "values that say no subtree, with the least rule that they break", tests)
+    return Group("SubtreeJson", "values that describe no subtree, with the lowest rule that they break", tests)
 
 
 def drawn() -> Group:

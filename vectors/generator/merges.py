@@ -15,32 +15,32 @@ RUST_ANSWER = "9c365f154bf2d0fa6438d8ccb65ff15e917e819ff384eec0b17f59fc5c250280"
 Places = Union[int, Sequence["Places"]]
 
 HEADER = [
-    "A list is cut at `cut`: the left range has the nodes before it and the mark atStart, the right one the others and atEnd; "
-    "neither has a mark at the cut. Merging their canonical subtrees gives that of the whole list.",
-    "`parents` is how many parents a merge has to hash. Whoever keeps no more than the subtrees can do with that many; a way "
-    "that hashes more isn't wrong in what it gives.",
-    "`bracketing` tells which ranges are merged first: a number is a range, a list of two merges both. `parents` then has a "
-    "number for each merge, an inner merge before the one that takes its result, and of two the left one first.",
+    "A list is cut at `cut`. The left range has the nodes before it and the mark atStart, and the right range has the others "
+    "and atEnd. Neither has a mark at the cut. Merging their canonical subtrees gives that of the whole list.",
+    "`parents` is how many parents a merge has to hash. With only the subtrees, that many are enough. An implementation that "
+    "hashes more can still give the right result.",
+    "`bracketing` says which ranges are merged first: a number is a range, and a list of two merges both. `parents` then has a "
+    "number for each merge. An inner merge comes before the one that takes its result, and the left one of two comes first.",
     "`levels`, `size`, `finalHash` and `jsonHash` are as in subtrees.json.",
 ]
 NOTES = {
     "BothCollapsed": "At some level both operands have a level above.",
-    "LeftCollapsedPointFound": "At some level the left operand alone has a level above, and a stable point is found in one "
-                               "natural cut, its right nodes, the parents from below and the right operand's nodes.",
-    "LeftCollapsedNoPoint": "The same, and there is no stable point: all nodes become right ones.",
-    "LeftCollapsedClosed": "At some level the left operand alone has a level above, and the right one is marked at the end: "
-                           "all is grouped.",
-    "RightCollapsedPointFound": "At some level the right operand alone has a level above, and a stable point is found.",
-    "RightCollapsedNoPoint": "The same, and there is none: all nodes become left ones.",
-    "RightCollapsedClosed": "At some level the right operand alone has a level above, and the left one is marked at the start: "
-                            "all is grouped.",
+    "LeftCollapsedPointFound": "At some level only the left operand has a level above. There is a stable point in this list: "
+                               "one natural cut, its right nodes, the parents from below, the right operand's nodes.",
+    "LeftCollapsedNoPoint": "The same without a stable point: all nodes become right ones.",
+    "LeftCollapsedClosed": "At some level only the left operand has a level above, and the right one is marked at the end: "
+                           "all nodes are grouped.",
+    "RightCollapsedPointFound": "At some level only the right operand has a level above, and there is a stable point.",
+    "RightCollapsedNoPoint": "The same without a stable point: all nodes become left ones.",
+    "RightCollapsedClosed": "At some level only the right operand has a level above, and the left one is marked at the start: "
+                            "all nodes are grouped.",
     "NeitherCollapsedSplit": "At the top of both operands there is a split.",
-    "RememberedCut": "The result depends on the natural cut that stands below the right nodes of the left operand: a way that "
-                     "doesn't remember it keeps more nodes.",
-    "EmptyOperand": "An operand has no chunk.",
-    "InvalidArguments": "A mark stands between two ranges. That is told before the sizes are looked at.",
+    "RememberedCut": "The result depends on the natural cut right before the right nodes of the left operand. An "
+                     "implementation that doesn't remember it keeps more nodes.",
+    "EmptyOperand": "An operand has no chunks.",
+    "InvalidArguments": "A mark is between two ranges. This is reported before the sizes are checked.",
     "SizeOverflow": "The sizes of all ranges add up to more than 2^64 - 1.",
-    "NotAssociativeInRust": "Here xet-core-structures 1.5.2 gives `rustFinalHash`, as docs/DIFFERENCES.md tells.",
+    "NotAssociativeInRust": "Here xet-core-structures 1.5.2 gives `rustFinalHash`; docs/DIFFERENCES.md says why.",
 }
 STEP_FLAGS = {
     "both collapsed": "BothCollapsed",

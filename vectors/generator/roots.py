@@ -15,23 +15,23 @@ GAPS = ((3, 4, 5, 6, 7, 3, 5, 7), (3, 7), (2, 3, 7, 8), (3, 4, 5, 6, 8, 9, 10, 1
         (1, 1, 2, 1, 1, 4))
 
 HEADER = [
-    "A list of chunks is told by a rule, the object `list` with one member; README.md has the rules in words.",
-    "A group ends at the first natural cut (a hash whose last word is a multiple of 4) at its indices 2 to 8, else after 9 "
-    "nodes, else at the end of the list. Its text has a line for each node: the hex text, a space, a colon, a space, the size "
-    "in decimal, a newline. Its parent has the hash of the text under the internal key, and the sum of the sizes.",
-    "The root of no node is the default hash, of one node its own hash, of more the root of the parents of the groups. The "
-    "file hash of no node is the default hash, else keyed BLAKE3 of the root's bytes under the salt, which is 32 zero bytes "
-    "for `fileHash`.",
+    "A rule gives a list of chunks: the object `list` with one member. README.md has the rules in words.",
+    "A group ends at the first natural cut (a hash whose last word is a multiple of 4) at its indices 2 to 8, or else after 9 "
+    "nodes, or else at the end of the list. Its text has a line for each node: the hex text, a space, a colon, a space, the "
+    "size in decimal, a newline. Its parent has the hash of the text under the internal key, and the sum of the sizes.",
+    "The root of no nodes is the default hash. The root of one node is its own hash. The root of more nodes is the root of the "
+    "parents of the groups. The file hash of no nodes is the default hash. Otherwise it is the keyed BLAKE3 hash of the root's "
+    "bytes under the salt. For `fileHash` the salt is 32 zero bytes.",
 ]
 NOTES = {
-    "NoChunk": "There is no chunk: both hashes are the default hash, whatever the salt is.",
-    "OneChunk": "There is one chunk: its own hash is the root, and isn't hashed once more.",
-    "CutAtStartOfGroup": "The first or second node is a natural cut, which ends no group there.",
+    "NoChunk": "There are no chunks: both hashes are the default hash, whatever the salt.",
+    "OneChunk": "There is one chunk: its own hash is the root, and isn't hashed again.",
+    "CutAtStartOfGroup": "The first or second node is a natural cut. It ends no group there.",
     "NoNaturalCut": "There is no natural cut: all groups but the last have nine nodes.",
     "NaturalCutsAlone": "Each node is a natural cut: all groups but the last have three nodes.",
-    "LastGroupOfOne": "The last group of the list has one node. It has a parent all the same.",
-    "SizeOverflow": "The sizes add up to more than 2^64 - 1, and the call is refused, even where no parent is made.",
-    "GreatestSize": "The sizes add up to 2^64 - 1, which is the greatest sum.",
+    "LastGroupOfOne": "The last group of the list has one node. It still has a parent.",
+    "SizeOverflow": "The sizes add up to more than 2^64 - 1. The call fails, even if no parent is made.",
+    "GreatestSize": "The sizes add up to 2^64 - 1, the greatest possible sum.",
     "SizeZero": "A chunk has the size 0.",
 }
 

@@ -13,26 +13,26 @@ FAULTS = {1: "Overlap", 2: "Positions", 3: "Sizes", 5: "Gap"}
 MAX = m.MAX_U64
 
 HEADER = [
-    "A test is a new session and some calls of it, in order. After a refused call the session is as it was before.",
-    "put: the chunks take the positions first, first + 1, and so on. `newHashes` tells how many hashes among them no earlier "
-    "accepted put had, each counted once. A put of no chunk answers 0 and changes nothing, wherever first is. Faults, the "
-    "first that fits: Overlap, a position is taken; Positions, first plus the number of chunks passes 2^64 - 1; Sizes, the "
-    "sizes of all chunks pass 2^64 - 1.",
-    "taken: whether a position is taken. runs: the runs of adjacent positions by rising position, each with its first position "
-    "and the canonical subtree of its chunks, which is open at both ends (`levels`, `size`, `finalHash` and `jsonHash` as "
-    "in subtrees.json).",
-    "root and finish: the root and the file hash without a salt of all chunks by position. Fault Gap: the positions taken "
-    "aren't exactly those from 0 to total - 1.",
+    "A test is a new session and some calls of it, in order. A failed call leaves the session unchanged.",
+    "put: the chunks take the positions first, first + 1, and so on. `newHashes` is how many of their hashes no earlier "
+    "successful put had, each counted once. A put of no chunks returns 0 and changes nothing, whatever first is. It fails with "
+    "the first of these that applies: Overlap, a position is taken; Positions, first plus the number of chunks is more than "
+    "2^64 - 1; Sizes, the sizes of all chunks add up to more than 2^64 - 1.",
+    "taken: whether a position is taken. runs: the runs of adjacent taken positions by rising position, each with its first "
+    "position and the canonical subtree of its chunks, which is open at both ends (`levels`, `size`, `finalHash` and "
+    "`jsonHash` as in subtrees.json).",
+    "root and finish: the root, and the file hash without a salt, of all chunks in the order of their positions. They fail "
+    "with Gap if the taken positions aren't exactly those from 0 to total - 1.",
     "Positions and totals are decimal strings.",
 ]
 NOTES = {
-    "Overlap": "A put is refused since a position is taken.",
-    "Positions": "A put is refused since a position would be 2^64 - 1 or greater.",
-    "Sizes": "A put is refused since the sizes would pass 2^64 - 1.",
-    "Gap": "A root or file hash is asked for where positions are lacking, or too many.",
-    "SeveralFaults": "Several faults fit; the first in the order Overlap, Positions, Sizes is told.",
-    "EqualHashes": "A hash comes more than once.",
-    "RefusedHashesStayNew": "The hashes of a refused put are new at a later one.",
+    "Overlap": "A put fails because a position is taken.",
+    "Positions": "A put fails because a position would be 2^64 - 1 or greater.",
+    "Sizes": "A put fails because the sizes would add up to more than 2^64 - 1.",
+    "Gap": "A root or file hash fails because positions are missing, or there are too many.",
+    "SeveralFaults": "Several faults apply. The first in the order Overlap, Positions, Sizes is reported.",
+    "EqualHashes": "A hash occurs more than once.",
+    "RefusedHashesStayNew": "The hashes of a failed put are still new in a later one.",
 }
 
 
@@ -144,5 +144,5 @@ def drawn() -> list[Test]:
 def file() -> File:
     """sessions.json."""
     return File("sessions", "sessions: chunks by position, in any order", HEADER, NOTES, [
-        Group("Session", "sessions of a few chunks", examples()), Group("Session", "refused puts", faults()),
-        Group("Session", "lists by pieces in drawn order", drawn())])
+        Group("Session", "sessions of a few chunks", examples()), Group("Session", "failed puts", faults()),
+        Group("Session", "lists in pieces, in random order", drawn())])

@@ -14,20 +14,21 @@ CHOSEN = [NUMBERED[:20], NUMBERED[:24], NUMBERED, NUMBERED[:16], "|..|..|", "|..
           "|.|..|..|.|", "||...|...|...||", "." * 30, "|" * 30]
 
 HEADER = [
-    "A stable point is a place b + 1, where three natural cuts at a < b < c with none between them have b - a and c - b from 3 "
-    "to 7. `first` and `last` tell how many nodes stand before the first and the last stable point of a list, or are null.",
+    "Take three natural cuts at a < b < c with no natural cut between them, and with b - a and c - b from 3 to 7. The place "
+    "b + 1 is a stable point. `first` and `last` are the first and the last stable point of a list, as the number of nodes "
+    "before it, or null.",
     "The canonical subtree of a list under the marks atStart and atEnd: a list of at most one node is one level, with its "
-    "nodes on the left. Else lo is 0 under atStart, else the first stable point; hi is the number of nodes under atEnd, else "
-    "the greatest stable point of a triple with a at or after lo. Where one is lacking, the list is one level, all on the "
-    "left. Else level 0 has the nodes before lo on the left and those from hi on on the right, and the levels above are the "
-    "canonical subtree of the parents of the groups from lo to hi.",
+    "nodes on the left. Otherwise lo is 0 with atStart, and else the first stable point. hi is the number of nodes with atEnd, "
+    "and else the greatest stable point of a triple with a at or after lo. If one of them is missing, the list is one level, "
+    "with all nodes on the left. Otherwise level 0 has the nodes before lo on the left and those from hi on the right, and the "
+    "levels above are the canonical subtree of the parents of the groups from lo to hi.",
     "`levels` has the numbers of left and right nodes of each level, from the chunks up. `jsonHash` is the data hash of the "
-    "compact JSON text, of which subtree_json.json has the form.",
+    "compact JSON text in the form of subtree_json.json.",
 ]
 NOTES = {
     "NoSplit": "There is no split: the subtree is the list.",
     "NoStablePoint": "A list of at least 15 nodes without a stable point.",
-    "Empty": "There is no chunk.",
+    "Empty": "There are no chunks.",
     "SecondTripleBeforeFirst": "There are two stable points and no split, since no triple begins after the first of them.",
     "SizeOverflow": "The sizes add up to more than 2^64 - 1.",
 }

@@ -19,21 +19,21 @@ HEADER = [
     "A hash has four words. Its 32 bytes are the words in order, each little-endian. Its hex text is the words in order, "
     "each as 16 lower-case digits with the high digit first. Its base64 text is that of the 32 bytes in the URL-safe "
     "alphabet of RFC 4648, section 5, without padding.",
-    "A text is any Unicode text; a reader gets its UTF-8 bytes. Where the result is valid, `hash` is the hex text of what "
-    "was read.",
+    "A text is any Unicode text. A reader gets its UTF-8 bytes. If the result is valid, `hash` is the hex text of what was "
+    "read.",
     "Words, divisors and remainders are decimal strings.",
 ]
 NOTES = {
     "UpperCase": "Hex digits of either case are read.",
-    "WrongLength": "A hex text has 64 digits, a base64 text 43 characters; no more and no less.",
+    "WrongLength": "A hex text has exactly 64 digits, and a base64 text exactly 43 characters.",
     "BadCharacter": "A character of the text isn't in the alphabet.",
     "Whitespace": "White space isn't skipped.",
-    "NonAscii": "The text has a character past ASCII. Its length in bytes, or in characters, may be right.",
+    "NonAscii": "The text has a character outside ASCII. Its length in bytes, or in characters, may be right.",
     "Prefix": "A prefix isn't skipped.",
     "Padding": "There is no padding.",
     "StandardAlphabet": "Plus and slash belong to the other alphabet.",
     "TrailingBits": "The last character has bits that the 32 bytes don't fill, and they aren't 0. No such text is written.",
-    "NulCharacter": "The text has a zero byte; a reader that stops there reads another text.",
+    "NulCharacter": "The text has a zero byte. A reader that stops there reads another text.",
 }
 
 

@@ -1,20 +1,20 @@
-// The errors, which have the names of the library's.
+// The errors. They have the names of the library's.
 
-/** What each of the rules 1 to 13 asks of the JSON form of a subtree. */
+/** What each of the rules 1 to 13 requires of the JSON form of a subtree. */
 const RULES = [
     "the value is an object",
-    "`nodes` and `levels` are arrays, `at_start` and `at_end` truth values",
+    "`nodes` and `levels` are arrays, and `at_start` and `at_end` are booleans",
     "a node is an object with `hash`, 64 hex digits, and `size`, a whole number below 2^64",
     "a level is an array of two whole numbers below 2^64",
-    "there is a level",
+    "there is at least one level",
     "the counts of all levels add up to the number of nodes",
     "the sizes of all nodes add up to at most 2^64 - 1",
-    "the top level has no right nodes, nor has any level under `at_end`",
-    "no level below the top has left nodes under `at_start`",
-    "with both marks, the top has at most one node",
-    "where there are several levels, the top has a node",
-    "without `at_start`, left nodes below the top end as those before a first stable point",
-    "without `at_end`, right nodes below the top begin as those after a last stable point",
+    "the top level has no right nodes; with `at_end`, no level has any",
+    "with `at_start`, no level below the top has left nodes",
+    "with both marks, the top level has at most one node",
+    "if there are several levels, the top level has a node",
+    "without `at_start`, left nodes below the top end like the nodes before a first stable point",
+    "without `at_end`, right nodes below the top begin like the nodes after a last stable point",
 ];
 
 export class YurewhaError extends Error {
@@ -42,7 +42,7 @@ export class InvalidJson extends YurewhaError {
     }
 }
 
-/** The statuses of include/yurewha.h that a call of the package can meet. */
+/** The statuses of include/yurewha.h that a call of the package can return. */
 export const STATUS = {
     DONE: 0,
     ARGUMENTS: 1,
@@ -60,7 +60,7 @@ export const STATUS = {
 };
 
 const SIZES = "the sizes add up to more than 2^64 - 1";
-const MEMORY = "an allocation was refused";
+const MEMORY = "an allocation failed";
 const ERRORS = new Map([
     [STATUS.ARGUMENTS, (what) => new InvalidArguments(what)],
     [STATUS.SIZES, () => new SizeOverflow(SIZES)],
@@ -68,10 +68,10 @@ const ERRORS = new Map([
     [STATUS.TEXT, (what) => new InvalidText(what)],
     [STATUS.EMPTY_HANDLE, () => new EmptyHandle("the object was freed")],
     [STATUS.SESSION_OVERLAP, () => new SessionOverlap("a position is taken")],
-    [STATUS.SESSION_POSITIONS, () => new SessionPositions("the first position plus the number of chunks passes 2^64 - 1")],
+    [STATUS.SESSION_POSITIONS, () => new SessionPositions("the first position plus the number of chunks is more than 2^64 - 1")],
     [STATUS.SESSION_SIZES, () => new SessionSizes(SIZES)],
     [STATUS.SESSION_MEMORY, () => new OutOfMemory(MEMORY)],
-    [STATUS.SESSION_GAP, () => new SessionGap("the positions taken aren't exactly those below the total")],
+    [STATUS.SESSION_GAP, () => new SessionGap("the taken positions aren't exactly those below the total")],
 ]);
 
 /** The error of a status other than 0. `what` is the message of InvalidArguments and InvalidText. */

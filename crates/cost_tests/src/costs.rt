@@ -1,9 +1,11 @@
-//! What calls ask of an allocator, in requests and in bytes, as the ranges that they change grow. No time is measured.
+//! How many requests and bytes calls ask of an allocator, as the ranges that they change grow. No test measures time.
 //!
-//! A list without a natural cut is kept whole, so the ranges here keep as many nodes as they have chunks. The bounds follow from
-//! the design. Room that is used up is doubled: nodes that are put beside others one by one take room for less than four
-//! times as many, in as many requests as there are doublings. A range of one chunk takes two requests, for a level and for a
-//! node, and room for less than three nodes.
+//! A list without natural cuts is kept whole, so the ranges here keep as many nodes as they have chunks. The bounds
+//! follow from the design:
+//!
+//! - Room that is used up is doubled. Nodes that are added one by one take room for less than four times as many, in as
+//!   many requests as there are doublings.
+//! - A range of one chunk takes two requests, for a level and for a node, and room for fewer than three nodes.
 
 use rand_core::{Rng, SeedableRng};
 use rand_xoshiro::Xoshiro256PlusPlus;
@@ -25,7 +27,7 @@ type Counting = RefusingAllocator<Global>;
 
 type Subtree<'a> = MerkleHashSubtree<&'a Counting>;
 
-// An allocator that refuses nothing, and counts.
+// Returns an allocator that refuses nothing, and counts.
 fn counting(memory: Global) -> Counting {
     RefusingAllocator::new(memory, u32::MAX)
 }
@@ -33,14 +35,16 @@ fn counting(memory: Global) -> Counting {
 // The bytes of a node: four words of its hash, and its size.
 const NODE: u64 = 40;
 
-// The requests of a call that don't come again for each chunk: doublings, and the levels of a merge.
+// The requests of a call that don't repeat for each chunk: doublings, and the levels of a merge.
 const FEW: u64 = 60;
 
-// Changes, each with the requests and the nodes for which there is room that it may ask for, for each chunk. An append makes
-// the range of a chunk, and a prepend copies its node, too. A merge copies the nodes that are in sight, collapses them to a third
-// or less, and copies those of a side. A put of a chunk makes its range, an empty one, a place in the map of runs, and a copy of
-// the shorter neighbour. In drawn order the neighbours are long: a node is copied four times, and its copies get twice their room,
-// each time when the range that it is in keeps twice as many nodes, which for 7200 nodes is 13 times.
+// Changes, each with the requests and the nodes of room that it may ask for per chunk:
+//
+// - An append makes the range of a chunk. A prepend also copies its node.
+// - A merge copies the nodes in sight, collapses them to a third or less, and copies those of a side.
+// - A put of a chunk makes its range, an empty range, a place in the map of runs, and a copy of the shorter neighbour.
+// - In random order the neighbours are long. A node is copied four times, with twice the room, each time the range that
+//   holds it doubles its nodes. For 7200 nodes that is 13 times.
 const CHANGES: &str = "append|2|7
 prepend|3|8
 append after cuts|2|7
@@ -55,7 +59,8 @@ put even, then odd falling|6|13
 put blocks before cuts|6|13
 put drawn|6|117";
 
-// So many chunks. Where there are cuts, the 28 in the middle have one at each fourth place, and there is no other natural cut.
+// Returns `count` chunks. With cuts, each fourth of the 28 in the middle is a natural cut. There are no other natural
+// cuts.
 fn chunks(memory: Global, count: u64, has_cuts: bool) -> Result<Vec<Node>, AllocError> {
     let middle = count / 2..(count / 2).saturating_add(28);
     let mut chunks = Vec::new(memory);
@@ -84,7 +89,7 @@ fn extend<'a>(
     Ok(())
 }
 
-// Changes a range of some chunks, or of none, by as many more, and tells what that asks for.
+// Adds `count` chunks to a range of some chunks, or of none. Returns what that asks for.
 fn change_range(memory: Global, change: &str, count: u64) -> Result<Granted, Fail> {
     let alloc = counting(memory);
     let has_cuts = change.ends_with("cuts");
@@ -110,10 +115,11 @@ fn change_range(memory: Global, change: &str, count: u64) -> Result<Granted, Fai
     Ok(alloc.granted())
 }
 
-// The length of a block of chunks, which keeps more nodes than the top of a range with cuts.
+// The length of a block of chunks. It keeps more nodes than the top of a range with cuts.
 const BLOCK: u64 = 8;
 
-// When a put of the chunk at a position comes, and how many chunks it has. Blocks come first, and then the chunks between two.
+// Returns when the put of the chunk at a position comes, and how many chunks it has. Blocks come first, and then the
+// chunks between them.
 fn order_of(change: &str, count: u64, position: u64, drawn: u64) -> (u64, u64) {
     let falling = count.saturating_sub(position);
     let others = if position % 2 == 0 { 0 } else { count };
@@ -130,7 +136,7 @@ fn order_of(change: &str, count: u64, position: u64, drawn: u64) -> (u64, u64) {
     }
 }
 
-// The puts at the positions below a count, each with its first position and how many chunks it has, in their order.
+// Returns the puts at the positions below a count in order. Each has its first position and its number of chunks.
 fn puts(memory: Global, change: &str, count: u64) -> Result<BTreeMap<u64, (u64, u64)>, AllocError> {
     let mut generator = Xoshiro256PlusPlus::seed_from_u64(22);
     let mut puts = BTreeMap::new(memory);
@@ -143,7 +149,7 @@ fn puts(memory: Global, change: &str, count: u64) -> Result<BTreeMap<u64, (u64, 
     Ok(puts)
 }
 
-// Puts chunks one by one or by blocks, and tells what that asks for. Where there are cuts, a run with them stands after these
+// Puts chunks one by one or in blocks. Returns what that asks for. With cuts, a run that has them comes after these
 // chunks.
 fn change_session(memory: Global, change: &str, count: u64) -> Result<Granted, Fail> {
     let alloc = counting(memory);
@@ -164,7 +170,7 @@ fn change_session(memory: Global, change: &str, count: u64) -> Result<Granted, F
     Ok(asked)
 }
 
-// What a change by so many chunks asks for.
+// Returns what a change by `count` chunks asks for.
 fn asked(memory: Global, change: &str, count: u64) -> Result<Granted, Fail> {
     if change.starts_with("put") {
         change_session(memory, change, count)
@@ -173,14 +179,14 @@ fn asked(memory: Global, change: &str, count: u64) -> Result<Granted, Fail> {
     }
 }
 
-// Whether it asks for no more than so many requests and so many nodes for each chunk.
+// Returns whether `asked` is at most `requests` requests and `nodes` nodes per chunk.
 fn is_within(asked: Granted, count: u64, requests: u64, nodes: u64) -> bool {
     let room = nodes.saturating_mul(count).saturating_add(FEW);
     asked.requests <= requests.saturating_mul(count).saturating_add(FEW)
         && asked.bytes <= room.saturating_mul(NODE)
 }
 
-// Numbers of chunks, which are multiples of the length of a block and the chunk after it.
+// Numbers of chunks: multiples of 9, a block and the chunk after it.
 const COUNTS: [u64; 2] = [900, 7_200];
 
 #[test]
@@ -199,7 +205,7 @@ fn changes_ask_for_memory_in_proportion_to_the_chunks(rt: HostRuntime) -> Result
     Ok(())
 }
 
-// Twice as many puts in drawn order, where each node is copied some times for each doubling.
+// Twice as many puts in random order, in which each node is copied several times for each doubling.
 const DRAWN: u64 = 1_800;
 
 #[test]
@@ -215,7 +221,7 @@ fn twice_as_many_puts_ask_for_little_more_than_twice_the_bytes(
     Ok(())
 }
 
-// More runs than a thousand.
+// More than a thousand runs.
 const RUNS: u64 = 1_500;
 
 #[test]

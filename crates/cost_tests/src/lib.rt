@@ -1,4 +1,4 @@
-//! Tests of what calls on ranges and sessions ask of an allocator as these grow.
+//! Tests of how much calls on ranges and sessions ask of an allocator as these grow.
 #![tactic(auto)]
 
 #[cfg(test)]

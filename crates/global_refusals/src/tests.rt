@@ -18,7 +18,7 @@ use xetrange_text::fault::RangeFault;
 use xetrange_text::join::{join, root};
 use xetrange_text::make::make;
 
-// Three chunks, each with its seed.
+// Returns three chunks, each with its seed.
 fn chunks() -> [Node; 3] {
     [1, 2, 3].map(|seed| (DataHash::random_from_seed(seed), seed))
 }
@@ -45,7 +45,7 @@ fn no_chunks_have_their_json_text(rt: HostRuntime) -> Result<(), Fail> {
     Ok(())
 }
 
-// A tree of ten ranges of a chunk each and one of none, each joined with all before it.
+// Returns a tree of ten ranges of one chunk each and an empty one. Each is merged with all before it.
 fn tree(alloc: Global, is_left: bool) -> Result<MergeTree<PlainRange>, CoreError> {
     let mut tree = MergeTree::Leaf(PlainRange::from_chunks(alloc, false, &[], false)?);
     for seed in 0..10 {
@@ -90,7 +90,7 @@ impl io::Write for Nowhere {
     }
 }
 
-// The same of a text.
+// The same for texts.
 #[derive(Drop)]
 struct Unread;
 
@@ -100,7 +100,7 @@ impl fmt::Write for Unread {
     }
 }
 
-// Two ranges of a chunk each, as lines.
+// Two ranges of one chunk each, as lines.
 const RANGES: &[u8] =
     br#"{"at_end":false,"at_start":false,"levels":[[1,0]],"nodes":[{"hash":"cfc5d07f6f03c29bbf424132963fe08d19a37d5757aaf520bf08119f05cd56d6","size":100}]}
 {"at_end":false,"at_start":false,"levels":[[1,0]],"nodes":[{"hash":"c3e67584b5c4fc2a89837ec39e40f2c8a6bb0b2987ac94cd4b31e5fbdd210a72","size":200}]}

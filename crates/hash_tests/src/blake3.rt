@@ -1,5 +1,5 @@
-//! Keyed BLAKE3 beside known hashes, and beside a plain reference, which follows the text of its specification:
-//! sixteen words one by one, and a tree that is halved from the top.
+//! Compares keyed BLAKE3 with known hashes and with a simple reference. The reference follows the text of the
+//! specification: it handles sixteen words one by one, and halves the tree from the top.
 
 ghost use Rattle.std.specs.Prelude.{◌<◌, ◌≤◌};
 
@@ -72,7 +72,7 @@ fn compress(h: &[u32; 8], m: &[u32; 16], counter: u64, block_length: u32, flags:
     output
 }
 
-// The words of at most 64 bytes, and then zeros.
+// Returns the words of at most 64 bytes, padded with zeros.
 fn words(bytes: &[u8]) -> [u32; 16] {
     let mut words = [0u32; 16];
     for (word, piece) in words.iter_mut().zip(bytes.chunks(4)) {
@@ -107,7 +107,7 @@ fn chunk_value(key: &[u32; 8], chunk: &[u8], number: u64, flags: u32) -> [u32; 8
     )
 }
 
-// The value of a message of at most 2^`height` chunks, of which `number` is the first one's.
+// Returns the value of a message of at most 2^`height` chunks. `number` is the number of the first one.
 fn value(key: &[u32; 8], height: u32, message: &[u8], number: u64, flags: u32) -> [u32; 8]
     requires { height ≤ 20 }
 {
@@ -148,7 +148,7 @@ fn reference(key: &[u8; 32], message: &[u8]) -> [u8; 32] {
 
 const KEY: [u8; 32] = *b"whats the Elvish word for friend";
 
-// The bytes from 0 to 250, again and again.
+// Returns the bytes from 0 to 250, repeated.
 fn message<const N: usize>() -> [u8; N] {
     let mut message = [0; N];
     for (place, byte) in message.iter_mut().enumerate() {
@@ -221,7 +221,7 @@ const HASHES: &str = "0 73492b19995d71cdb1e9d74decc09809eb732f1b00bc95c27cb15f9d
 31744 55253f057bce59e7811fea47ac0e72751ca12c40c4a5b8f3c42e54daa5073272
 ";
 
-// The hash of a message that is fed in pieces of these two lengths in turn.
+// Returns the hash of a message that is fed in pieces. Their lengths alternate between these two.
 fn hash_in_pieces(key: &[u8; 32], message: &[u8], first: usize, second: usize) -> [u8; 32] {
     let mut hasher = Hasher::new_keyed(key);
     let mut rest = message;

@@ -35,7 +35,7 @@ fn has_one_value_in_each_form(rt: HostRuntime) {
     assert!(rt; hash != MerkleHash::default());
 }
 
-// Each row has a text, and whether it is read as the hash.
+// Each row has a text, and whether reading it gives the hash.
 const READ_TEXTS: &str = "d6834b04843aaf16f29903e2428a99be635099f9ea5056cc4e95e7ec8a41509f true
 D6834B04843AAF16F29903E2428A99BE635099F9EA5056CC4E95E7EC8A41509F true
 d6834b04843aaf16f29903e2428a99be635099f9ea5056cc4e95e7ec8a41509 false

@@ -1,4 +1,4 @@
-//! Texts, bytes and JSON of a hash in memory of their own, and back.
+//! Texts, bytes and JSON of a hash in allocated memory, and back.
 
 use serde_json::Value;
 use std::alloc::Global;
@@ -14,7 +14,7 @@ const BYTES: [u8; 32] = [
 
 const HEX: &str = "d6834b04843aaf16f29903e2428a99be635099f9ea5056cc4e95e7ec8a41509f";
 
-// Prints a hash by its `LowerHex`, which `{:x}` does at integers alone.
+// Prints a hash by its `LowerHex`. `{:x}` prints only integers.
 #[derive(Drop)]
 struct LowerHexOf(DataHash);
 
@@ -53,7 +53,7 @@ fn writes_hex_under_every_flag(rt: HostRuntime) -> Result<(), Fail> {
     Ok(())
 }
 
-// Each row has a base64 text and the hex text of its hash, or a dash where no hash has the text.
+// Each row has a base64 text and the hex text of its hash, or a dash if no hash has the text.
 const BASE64_TEXTS: &str =
     "Fq86hARLg9a-mYpC4gOZ8sxWUOr5mVBjn1BBiuznlU4 d6834b04843aaf16f29903e2428a99be635099f9ea5056cc4e95e7ec8a41509f
 AAAAAAAAAAAAAAAAAAAAAAAAAAAAAAAAAAAAAAAAAAA 0000000000000000000000000000000000000000000000000000000000000000
@@ -67,7 +67,7 @@ AAAAAAAAAAAAAAAAAAAAAAAAAAAAAAAAAAAAAAAAAAAAAA -
  -
 ";
 
-// The hex text of the hash that a base64 text is read as, or a dash. Out of memory is an error.
+// Returns the hex text of the hash with a base64 text, or a dash if there is none. A failed allocation is an error.
 fn read_base64(alloc: Global, text: &str) -> Result<String, Fail> {
     match DataHash::from_base64(alloc, text) {
         Ok(hash) => Ok(hash.hex(alloc)?),
@@ -76,7 +76,8 @@ fn read_base64(alloc: Global, text: &str) -> Result<String, Fail> {
     }
 }
 
-// Whether a base64 text is read as the hash of a hex text, which has it, or as none.
+// Returns whether a base64 text reads as the hash of a hex text, and this hash writes the base64 text back. If `hex` is
+// a dash, returns whether the base64 text is that of no hash.
 fn reads_back(alloc: Global, text: &str, hex: &str) -> Result<bool, Fail> {
     let is_read = read_base64(alloc, text)?.as_str() == hex;
     match DataHash::from_hex(hex) {

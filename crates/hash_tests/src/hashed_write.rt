@@ -1,5 +1,5 @@
-//! The writer that hashes what it hands on: each call of it is one call of the inner writer, whose answer is the
-//! answer, and `write_all` is as many as it takes.
+//! The writer that hashes what it passes on. Each call of it is one call of the inner writer, and returns the same.
+//! `write_all` makes as many calls as needed.
 
 use rand_core::{Rng, SeedableRng};
 use rand_xoshiro::Xoshiro256PlusPlus;
@@ -10,9 +10,9 @@ use std::str::Lines;
 use std::test::Fail;
 use xet_hash::data_hash::{DataHash, HashedWrite, compute_data_hash};
 
-// Calls of one writer in turn: each with the length of its slice, how many bytes are taken, and the answer, of an error its
-// kind, its code and its text. The rows after it that begin with `>` are the calls of the inner writer, each with the length
-// of its slice, and the answer: a number, the code of an error, or a word for an error without one.
+// Calls of one writer in turn. Each row has the length of its slice, how many bytes are taken, and the result. An error
+// has its kind, its code and its text. The rows that follow and begin with `>` are the calls of the inner writer. Each
+// has the length of its slice, and the result: a number, the code of an error, or a word for an error without a code.
 const CALLS: &str = "write 6 6 6
 > write 6 6
 write 0 0 0
@@ -70,7 +70,7 @@ write_all 1048576 1048576 0
 > write 1048576 1048576
 ";
 
-// The answer that an inner call is told to give.
+// Returns the result that a row gives to an inner call.
 fn told_answer(answer: &str) -> io::Result<usize> {
     if let Some(code) = answer.strip_prefix("code:") {
         return Err(io::Error::from_raw_os_error(code.parse().unwrap_or(0)));
@@ -81,7 +81,7 @@ fn told_answer(answer: &str) -> io::Result<usize> {
     }
 }
 
-// A writer that answers as the rows tell, and keeps the calls of it and what they are given.
+// A writer that returns what the rows give, and records its calls and what is passed to it.
 #[derive(Drop)]
 struct Recorder {
     rows: Lines<'static>,
@@ -90,7 +90,7 @@ struct Recorder {
 }
 
 impl Recorder {
-    // Keeps a call, and gives its answer.
+    // Records a call, and returns its result.
     fn answer(&mut self, name: &str, slice: &[u8]) -> io::Result<usize> {
         let row = self.rows.find(|row| row.starts_with('>')).unwrap_or("");
         let (_, answer) = row.rsplit_once(' ').unwrap_or(("", row));
@@ -112,7 +112,7 @@ impl Write for Recorder {
     }
 }
 
-// What a call answers.
+// Makes a call, and returns its result.
 fn called(writer: &mut HashedWrite<Recorder>, name: &str, slice: &[u8]) -> io::Result<usize> {
     match name {
         "write" => writer.write(slice),
@@ -127,7 +127,7 @@ fn called(writer: &mut HashedWrite<Recorder>, name: &str, slice: &[u8]) -> io::R
     }
 }
 
-// An answer as a row has it.
+// Returns a result as a row has it.
 fn printed(alloc: Global, answer: io::Result<usize>) -> Result<String, AllocError> {
     match answer {
         Ok(taken) => format!(in alloc; "{taken}"),
@@ -177,7 +177,7 @@ fn calls_are_handed_on_and_what_is_taken_is_hashed(rt: HostRuntime) -> Result<()
     Ok(())
 }
 
-// The hash of a message that is written in pieces of a length. An error where other bytes are handed on.
+// Returns the hash of a message that is written in pieces of a length. Fails if other bytes are passed on.
 fn hash_in_pieces(alloc: Global, message: &[u8], length: usize) -> Result<DataHash, Fail> {
     let mut writer = HashedWrite::new(Vec::new(alloc));
     for piece in message.chunks(length.max(1)) {
@@ -191,7 +191,7 @@ fn hash_in_pieces(alloc: Global, message: &[u8], length: usize) -> Result<DataHa
     Ok(hash)
 }
 
-// The hash is a value from outside.
+// The hash was computed without this code.
 #[test]
 fn drawn_bytes_are_hashed_and_handed_on(rt: HostRuntime) -> Result<(), Fail> {
     let mut message = [0u8; 300];
@@ -206,7 +206,7 @@ fn drawn_bytes_are_hashed_and_handed_on(rt: HostRuntime) -> Result<(), Fail> {
     Ok(())
 }
 
-// A writer that takes at most three bytes a call, of `room` in all, and then fails.
+// A writer that takes at most three bytes a call and `room` bytes in all, and then fails.
 #[derive(Drop)]
 struct Narrow {
     room: usize,

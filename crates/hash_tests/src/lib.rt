@@ -1,4 +1,5 @@
-//! Tests of `xet_hash` and of the crates below it, by values from outside and by plain references.
+//! Tests of `xet_hash` and of the crates below it, with values that were computed without this code, and with simple
+//! references.
 #![tactic(auto)]
 
 #[cfg(test)]

@@ -1,4 +1,4 @@
-//! The hasher that hands numbers on: worked examples, and slices of every length up to nine bytes.
+//! The hasher that passes numbers on: worked examples, and slices of every length up to nine bytes.
 
 use std::hash::{BuildHasher, Hash, Hasher};
 use xet_hash::data_hash::DataHash;

@@ -1,5 +1,5 @@
-//! Each call of the map for deduplication, on an empty map or one of two pairs, with hashes, numbers and keys
-//! of a type that stands here.
+//! Each call of the map for deduplication, on an empty map or one of two pairs. The keys are hashes, numbers, or of a
+//! type that is defined here.
 
 ghost use Rattle.std.specs.Prelude.{◌≡◌, Some, IfSome, OnErr, OnOk, nat_eq};
 ghost use Rattle.xet_hash.specs.FiniteMap.{value_at};
@@ -33,7 +33,7 @@ impl U64HashExtractable for ChunkName {
     }
 }
 
-// A key of which a part isn't compared.
+// A key with a part that isn't compared.
 #[derive(Clone, Copy)]
 #[derive_where(PartialEq, Eq, Hash)]
 struct Labelled {
@@ -55,7 +55,7 @@ impl U64HashExtractable for Labelled {
     }
 }
 
-// Two keys, and one that a map of the two lacks. Equal numbers are no equal keys.
+// Two keys, and one that a map of the two doesn't have. Keys with equal numbers needn't be equal.
 const HASHES: [[u64; 4]; 3] = [[12345, 0, 0, 1], [67890, 0, 0, 2], [12345, 0, 0, 3]];
 
 const NUMBERS: [u64; 3] = [12345, 67890, 1];
@@ -84,7 +84,7 @@ fn hashes() -> [DataHash; 3] {
     ]
 }
 
-// Whether look-ups of a key find nothing.
+// Returns whether look-ups of a key find nothing.
 fn lacks<Key: U64HashExtractable + Hash + Eq>(
     map: &PassThroughHashMap<Key, u32>,
     key: &Key,
@@ -92,7 +92,7 @@ fn lacks<Key: U64HashExtractable + Hash + Eq>(
     map.get(key).is_none() && !map.contains_key(key)
 }
 
-// Whether look-ups of a key find a value.
+// Returns whether look-ups of a key find a value.
 fn finds<Key: U64HashExtractable + Hash + Eq>(
     map: &PassThroughHashMap<Key, u32>,
     key: &Key,
@@ -104,7 +104,7 @@ fn finds<Key: U64HashExtractable + Hash + Eq>(
         && map.as_map().get(key) == Some(value)
 }
 
-// Whether each walk over a map goes to two keys, with the values 10 and 20.
+// Returns whether each iteration over a map gives two keys, with the values 10 and 20.
 fn walks<Key: U64HashExtractable + Hash + Eq>(
     map: &PassThroughHashMap<Key, u32>,
     first: &Key,
@@ -128,7 +128,7 @@ fn walks<Key: U64HashExtractable + Hash + Eq>(
         && map.values().copied().max() == Some(20)
 }
 
-// Whether a map has two keys, with the values 10 and 20, and not a third one.
+// Returns whether a map has two keys, with the values 10 and 20, and not a third one.
 fn reads<Key: U64HashExtractable + Hash + Eq>(
     map: &PassThroughHashMap<Key, u32>,
     keys: &[Key; 3],
@@ -142,8 +142,8 @@ fn reads<Key: U64HashExtractable + Hash + Eq>(
         && walks(map, first, second)
 }
 
-// Whether a standard map has what the map had that it is made of, and the other way round: two keys, with the
-// values 10 and 20.
+// Returns whether a map and a standard map keep their entries when each is converted to the other. They have two keys,
+// with the values 10 and 20.
 fn converts<Key: U64HashExtractable + Hash + Eq + Copy>(
     map: PassThroughHashMap<Key, u32>,
     keys: &[Key; 3],
@@ -188,7 +188,7 @@ fn inserts<Key: U64HashExtractable + Hash + Eq + Copy>(
     Ok(before.is_none() && replaced == Some("value1") && map.get(&key) == Some(&"value2"))
 }
 
-// Writes to a value that is there, and looks for one that isn't.
+// Writes to a value that exists, and looks for one that doesn't.
 fn writes<Key: U64HashExtractable + Hash + Eq>(
     map: &mut Texts<Key>,
     key: &Key,
@@ -200,7 +200,7 @@ fn writes<Key: U64HashExtractable + Hash + Eq>(
     map.get(key) == Some(&"value3") && map.get_mut(lacking).is_none()
 }
 
-// Fills the place of a key that isn't there, twice, and then changes what it has.
+// Adds a value at the entry of a new key, twice, and then changes it.
 fn enters<Key: U64HashExtractable + Hash + Eq + Copy>(
     map: &mut Texts<Key>,
     key: Key,
@@ -214,7 +214,7 @@ fn enters<Key: U64HashExtractable + Hash + Eq + Copy>(
     Ok(filled == "value4" && refilled == "value6" && map.get(&key) == Some(&"value5"))
 }
 
-// Removes a key that isn't there, and the two that are.
+// Removes a key that isn't in the map, and the two that are.
 fn removes<Key: U64HashExtractable + Hash + Eq + Copy>(
     map: &mut Texts<Key>,
     keys: &[Key; 3],
@@ -228,7 +228,7 @@ fn removes<Key: U64HashExtractable + Hash + Eq + Copy>(
         && map.is_empty()
 }
 
-// Inserts a value by the inner map, and removes all.
+// Inserts a value through the inner map, and removes all.
 fn clears<Key: U64HashExtractable + Hash + Eq + Copy>(
     map: &mut Texts<Key>,
     key: Key,
@@ -239,7 +239,7 @@ fn clears<Key: U64HashExtractable + Hash + Eq + Copy>(
     Ok(has_value && map.len() == 0)
 }
 
-// What changes a map, one after another.
+// Makes the changes to a map, one after another.
 fn changes<Key: U64HashExtractable + Hash + Eq + Copy>(
     alloc: Global,
     keys: [Key; 3],
@@ -264,7 +264,7 @@ fn changes_at_hashes_numbers_and_other_keys(rt: HostRuntime) -> Result<(), Fail>
     Ok(())
 }
 
-// Whether a map has no entries: none of these keys, and none on a walk.
+// Returns whether a map has no entries: none of these keys, and none in an iteration.
 fn has_nothing<Key: U64HashExtractable + Hash + Eq>(
     map: &PassThroughHashMap<Key, u32>,
     keys: &[Key; 3],
@@ -277,7 +277,7 @@ fn has_nothing<Key: U64HashExtractable + Hash + Eq>(
     map.len() == 0 && map.is_empty() && map.iter().count() == 0
 }
 
-// Whether the two kinds of new maps have no entries.
+// Returns whether both kinds of new maps have no entries.
 fn start_empty<Key: U64HashExtractable + Hash + Eq + Copy>(
     alloc: Global,
     keys: &[Key; 3],
@@ -352,7 +352,7 @@ fn a_copy_has_the_same_entries(rt: HostRuntime) -> Result<(), Fail> {
     Ok(())
 }
 
-// What is written through a reference into a map is what the map has, as its contract says.
+// Writes through a reference into a map. The contract says that the map has what was written.
 fn write_one(map: &mut PassThroughHashMap<u64, u64>, key: u64)
     ensures { IfSome (value_at nat_eq map.old key) (λ _. value_at nat_eq map.new key ≡ Some 1) }
 {
@@ -377,12 +377,12 @@ fn write_one_at_place(map: &mut PassThroughHashMap<u64, u64>, key: u64) -> Resul
     Ok(())
 }
 
-// The number of a key and one more, as a value.
+// Returns the number of a key plus one, as a value.
 fn value_of<Key: U64HashExtractable>(key: &Key) -> u32 {
     (key.u64_hash_value() % 1000) as u32 + 1
 }
 
-// What the calls of a place answer for a key, one after another. Of the key that is asked for nothing may be there.
+// Returns what the calls of an entry return for a key, one after another. The map must have nothing at the key.
 fn values_given<Key: U64HashExtractable + Hash + Eq + Copy>(
     map: &mut PassThroughHashMap<Key, u32>,
     key: Key,
@@ -398,7 +398,7 @@ fn values_given<Key: U64HashExtractable + Hash + Eq + Copy>(
     Ok([by_default, there, put, written, by_key])
 }
 
-// Fills the vacant place of a key, and empties it, and fills it again.
+// Adds a value at the vacant entry of a key, removes it, and adds it again.
 fn fills<Key: U64HashExtractable + Hash + Eq + Copy>(
     map: &mut PassThroughHashMap<Key, u32>,
     key: Key,
@@ -422,7 +422,7 @@ fn fills<Key: U64HashExtractable + Hash + Eq + Copy>(
     }
 }
 
-// Reads the value 2 at the occupied place of a key, and writes there three times.
+// Reads the value 2 at the occupied entry of a key, and writes to it three times.
 fn overwrites<Key: U64HashExtractable + Hash + Eq + Copy>(
     map: &mut PassThroughHashMap<Key, u32>,
     key: Key,
@@ -439,7 +439,7 @@ fn overwrites<Key: U64HashExtractable + Hash + Eq + Copy>(
     }
 }
 
-// What the place of a key gives back as it is emptied, or the key alone where it is vacant.
+// Removes the entry of a key. Returns the key and the value, or only the key if the entry is vacant.
 fn emptied<Key: U64HashExtractable + Hash + Eq + Copy>(
     map: &mut PassThroughHashMap<Key, u32>,
     key: Key,
@@ -453,7 +453,7 @@ fn emptied<Key: U64HashExtractable + Hash + Eq + Copy>(
     }
 }
 
-// The value that the place of a key gives back as it is emptied.
+// Removes the entry of a key, and returns the value.
 fn removed<Key: U64HashExtractable + Hash + Eq + Copy>(
     map: &mut PassThroughHashMap<Key, u32>,
     key: Key,
@@ -464,7 +464,7 @@ fn removed<Key: U64HashExtractable + Hash + Eq + Copy>(
     }
 }
 
-// The calls of an occupied place and of a vacant one.
+// Makes the calls of an occupied entry and of a vacant one.
 fn changes_at_places<Key: U64HashExtractable + Hash + Eq + Copy>(
     alloc: Global,
     [first, second, _]: [Key; 3],

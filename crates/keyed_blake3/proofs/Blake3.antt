@@ -1,4 +1,4 @@
--- What the proofs of keyed BLAKE3 share: each file is on one step from the blocks of a message to its root.
+-- What the proofs of keyed BLAKE3 share. Each file is about one step from the blocks of a message to its root.
 pub mod Absorbing
 pub mod Blocks
 pub mod Finishing

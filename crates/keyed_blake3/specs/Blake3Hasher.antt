@@ -14,8 +14,8 @@ IsTaken key s n m = (s.count ≡ length m)
     × IsAbsorbed (words_at 8 key) s.tree n m
     × (take (length m - 64 * n) s.block ≡ drop (64 * n) m)
 
--- the hasher s, begun with the key, holds the message m: it has taken in all chunks where these are several and the last
--- one is whole, and else all blocks but the last
+-- the hasher s, begun with the key, holds the message m: it has taken in all blocks but the last. If there are several
+-- chunks and the last one is whole, it has taken in all of them.
 unfoldable pub Holds : List ℕ → Hasher → List ℕ → Type 0
 Holds key s m = (s.count ≡ length m)
     × ((1024 < length m → 0 < length m % 1024) → IsTaken key s (blocks_before_last m) m)

@@ -1,4 +1,4 @@
--- What the contracts of private functions alone speak of.
+-- Definitions that only the contracts of private functions use.
 pub mod Lanes
 pub mod Rows
 pub mod Tree

@@ -1,9 +1,12 @@
-//! Keyed BLAKE3 with 32 bytes of output (BLAKE3 specification): of a message at once by [`keyed_hash`], and of
-//! one that comes piece by piece by a [`Hasher`]. Neither takes memory.
+//! Keyed BLAKE3 with 32 bytes of output, as the BLAKE3 specification defines it. [`keyed_hash`] hashes a whole message.
+//! A [`Hasher`] hashes a message that comes in pieces. Neither allocates.
 //!
-//! A block of 64 bytes is compressed into a chaining value (`compression`), the blocks of a chunk one after
-//! the other (`chunk`), those of several chunks side by side (`chunks`), and the chaining values of two subtrees
-//! into their parent's, up to the root (`tree`).
+//! The modules build on each other:
+//!
+//! - `compression` compresses a block of 64 bytes into a chaining value.
+//! - `chunk` compresses the blocks of a chunk one after another.
+//! - `chunks` compresses those of several chunks side by side.
+//! - `tree` compresses the chaining values of two subtrees into their parent's, up to the root.
 #![tactic(auto)]
 
 ghost use Rattle.std.specs.Prelude.{◌≡◌};
@@ -20,7 +23,7 @@ use chunk::{CHUNK_LEN, chunk_value, words};
 pub use hasher::Hasher;
 use tree::{ROOT, output};
 
-/// The keyed BLAKE3 hash of `data` (BLAKE3 specification, section 2.3).
+/// Returns the keyed BLAKE3 hash of `data` (BLAKE3 specification, section 2.3).
 pub fn keyed_hash(key: &[u8; 32], data: &[u8]) -> [u8; 32]
     ensures { result ≡ keyed_hash key.now «data».now }
 {

@@ -1,4 +1,4 @@
--- What is known of a whole input from what was read of it.
+-- What is known of a whole input from the part that was read.
 use Rattle.std.proofs.Common.{ℕ, List, ◌++◌, sym, subst, Option, Some, None, IfSome}
 use Rattle.std.specs.Io.KnownBytes.{Consumes}
 

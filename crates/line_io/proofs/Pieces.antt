@@ -1,4 +1,4 @@
--- Where a reading stands after each piece of the input, and what its faults say of the whole input.
+-- How far a reading has come after each piece of the input, and what its faults mean for the whole input.
 use Rattle.std.proofs.Common.{◌≡◌, ℕ, ◌+◌, ◌<◌, ◌≤◌, List, [], ◌∷◌, ◌++◌, length, refl, sym, ap, subst, ◌∙◌, arith, append_assoc, append-nil, length-append}
 use Rattle.std.proofs.Common.{get_or, take, drop}
 use Rattle.std.proofs.lemmas.List.{take-append-drop, drop_more}

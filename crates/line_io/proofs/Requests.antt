@@ -1,4 +1,4 @@
--- What the words of some arguments ask for.
+-- What the words of some arguments request.
 use Rattle.std.proofs.Common.{ℕ, List, Result, Ok, Err, IfOk, subst}
 use Rattle.std.specs.declared.string.String.{String}
 use Rattle.std.specs.declared.vec.IntoIter.{IntoIter}

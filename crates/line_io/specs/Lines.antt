@@ -5,7 +5,7 @@ use Rattle.std.specs.Prelude.{◌≢◌, ℕ, ◌^◌, ◌==◌, if◌then◌els
 abbrev pub newline : ℕ
 newline = 10
 
--- no newline stands in some bytes
+-- some bytes have no newline
 abbrev pub NoNewline : List ℕ → Type 0
 NoNewline [] = Unit {0}
 NoNewline (byte ∷ bytes) = (byte ≢ newline) × NoNewline bytes
@@ -14,8 +14,7 @@ abbrev pub onto_first : ℕ → List (List ℕ) → List (List ℕ)
 onto_first byte [] = (byte ∷ []) ∷ []
 onto_first byte (line ∷ lines) = (byte ∷ line) ∷ lines
 
--- the lines of a text, each with the newline that ends it; a last piece without a newline is a line
--- where it isn't empty
+-- the lines of a text, each with the newline that ends it; a last piece without a newline is a line unless it is empty
 abbrev pub lines_of : List ℕ → List (List ℕ)
 lines_of [] = []
 lines_of (byte ∷ text) =

@@ -1,4 +1,4 @@
--- What the words of a program's arguments ask for.
+-- What the words of a program's arguments request.
 use Rattle.std.specs.Prelude.{◌≡◌, ℕ, ◌<◌, ◌⊎◌, List, [], ◌∷◌, Result, IsOkAnd, codes, drop, length, map, take}
 use Rattle.std.specs.String.{string_bytes}
 use Rattle.std.specs.Vec.Iter.{into_iter_items, into_iter_len}
@@ -7,8 +7,8 @@ use Rattle.std.specs.declared.vec.IntoIter.{IntoIter}
 use Rattle.line_io.specs.declared.request.Request.{Request}
 use Rattle.line_io.specs.declared.request.Request.TheVariants.{Nothing, Help, Version, Word, Unknown}
 
--- the words after the first of some arguments, which is the program's name. No contract of std says that the arguments are
--- as many as their length, so it is those as far as the length goes
+-- the words after the first argument, which is the program's name. No contract of std says that there are as many
+-- arguments as their length says, so these are the words up to that length.
 abbrev pub words_of : {A : Type 0} → IntoIter (String A) A → List (List ℕ)
 words_of args = map string_bytes (drop 1 (take (into_iter_len args) (into_iter_items args)))
 
@@ -16,15 +16,15 @@ words_of args = map string_bytes (drop 1 (take (into_iter_len args) (into_iter_i
 abbrev pub HasWords : {A E : Type 0} → Result (IntoIter (String A) A) E → List (List ℕ) → Type 0
 HasWords args words = IsOkAnd args (λ args. words_of args ≡ words)
 
--- some words ask for the help
+-- some words request the help
 abbrev pub AskForHelp : List (List ℕ) → Type 0
 AskForHelp words = (words ≡ codes "-h" ∷ []) ⊎ (words ≡ codes "--help" ∷ [])
 
--- some words ask for the version
+-- some words request the version
 abbrev pub AskForVersion : List (List ℕ) → Type 0
 AskForVersion words = words ≡ codes "--version" ∷ []
 
--- what some words ask for
+-- what some words request
 abbrev pub AskFor : List (List ℕ) → Request → Type 0
 AskFor words Nothing = words ≡ []
 AskFor words Help = AskForHelp words

@@ -1,4 +1,4 @@
-//! Lines in, an answer out.
+//! Reads lines, and writes one answer.
 
 ghost use Rattle.std.specs.Prelude.{[]};
 ghost use Rattle.line_io.specs.Answers.{AnswersInput};
@@ -12,11 +12,11 @@ use crate::take_lines::{AnswerLines, TakeLines};
 use std::convert::AsSlice;
 use std::io::{Read, Write};
 
-/// Reads lines to the end of `r`, and then writes the answer to them to `w`, and flushes it.
+/// Reads lines to the end of `r`. Then writes the answer to them to `w`, and flushes it.
 ///
-/// `lines` has taken nothing yet. Nothing is written before the whole input was accepted: after [`AnswerFault::Write`] a
-/// beginning of the output was written, and after the other faults nothing. How much of the input was read after a fault
-/// isn't said.
+/// `lines` must have taken nothing yet. The call writes nothing before it has accepted the whole input. After
+/// [`AnswerFault::Write`] it has written a beginning of the output, and after any other fault nothing. How much of the
+/// input it has read after a fault isn't specified.
 pub fn answer_lines<L: TakeLines, A: AnswerLines<L>, R: Read, W: Write>(
     lines: L,
     answers: A,

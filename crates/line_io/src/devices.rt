@@ -1,11 +1,11 @@
-//! Reading and writing, where a call that was interrupted is repeated.
+//! Reads and writes, and repeats a call that was interrupted.
 
 ghost use Rattle.std.specs.Prelude.{◌≡◌, List, ℕ, ◌++◌, ◌<◌, ◌≤◌, length, take, IfOk, IfErr, OnErr, OnOk};
 ghost use Rattle.std.specs.Io.KnownBytes.{Appends, Consumes, IsAtEnd, Keeps};
 
 use std::io::{ErrorKind, Read, Write};
 
-// How often in a row a call that was interrupted is repeated.
+// How many times in a row an interrupted call is repeated.
 const MAX_REPEATS: u32 = 16;
 
 /// The error of [`read`]: a read failed, or was interrupted 17 times in a row.
@@ -16,7 +16,7 @@ pub(crate) struct ReadFailed;
 #[derive(Clone, Copy, Debug, PartialEq, Eq)]
 pub struct WriteFailed;
 
-/// Reads some bytes, and none only at the end of the input.
+/// Reads some bytes. Returns 0 only at the end of the input.
 pub(crate) fn read<R: Read>(r: &mut R, buffer: &mut [u8]) -> Result<usize, ReadFailed>
     ensures bound { IfOk result (λ n. n ≤ length buffer.new) }
     ensures bytes { IfOk result (λ n. Consumes (R.remaining r.old) (R.remaining r.new) (take n buffer.new)) }
@@ -32,7 +32,7 @@ pub(crate) fn read<R: Read>(r: &mut R, buffer: &mut [u8]) -> Result<usize, ReadF
     Err(ReadFailed)
 }
 
-/// Writes some bytes and flushes. After an error a beginning of them was written.
+/// Writes some bytes and flushes. After an error it has written a beginning of them.
 pub fn write_all<W: Write>(w: &mut W, bytes: &[u8]) -> Result<(), WriteFailed>
     ensures written { OnOk result (Appends (W.contents w.old) (W.contents w.new) bytes.now) }
     ensures begun { IfErr result (λ _. (written rest : List ℕ) × (bytes.now ≡ written ++ rest)
@@ -46,7 +46,7 @@ pub fn write_all<W: Write>(w: &mut W, bytes: &[u8]) -> Result<(), WriteFailed>
     flush(w)
 }
 
-// Writes a beginning of some bytes, one at least.
+// Writes a beginning of some bytes, at least one byte.
 fn write<W: Write>(w: &mut W, bytes: &[u8]) -> Result<usize, WriteFailed>
     ensures some { IfOk result (λ n. 0 < n) }
     ensures bound { IfOk result (λ n. n ≤ length bytes.now) }

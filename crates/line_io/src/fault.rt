@@ -8,12 +8,12 @@ ghost use Rattle.line_io.specs.declared.fault.Refusal.TheVariants.{Memory};
 use crate::devices::WriteFailed;
 use std::alloc::{AllocError, AllocFailed};
 
-/// Why a line isn't taken, or lines aren't answered.
+/// Why a line isn't taken, or why lines aren't answered.
 #[derive(Clone, Copy, Debug, PartialEq, Eq)]
 pub enum Refusal<F> {
     /// They are faulty.
     Faulty(F),
-    /// An allocation was refused.
+    /// An allocation failed.
     Memory,
 }
 
@@ -36,16 +36,16 @@ impl<F, T: Drop> From<AllocFailed<T>> for Refusal<F> {
 /// Why the lines of an input weren't taken.
 #[derive(Clone, Copy, Debug, PartialEq, Eq)]
 pub enum InputFault<F> {
-    /// The first faulty line has this number, from 1, and is faulty so.
+    /// The number of the first faulty line, from 1, and its fault.
     Line(u64, F),
-    /// An allocation was refused.
+    /// An allocation failed.
     Memory,
     /// A read failed.
     Read,
 }
 
 impl<F> InputFault<F> {
-    // The fault where the line of this number isn't taken.
+    // Returns the fault of an input if the line of this number isn't taken.
     pub(crate) fn at_line(number: u64, refusal: Refusal<F>) -> Self
         ensures { result ≡ fault_at number refusal }
     {
@@ -56,12 +56,12 @@ impl<F> InputFault<F> {
     }
 }
 
-/// Why an input has no answer. `F` is the fault of a line, and `T` that of lines of which none is faulty.
+/// Why an input has no answer. `F` is the fault of a line. `T` is the fault of lines none of which is faulty.
 #[derive(Clone, Copy, Debug, PartialEq, Eq)]
 pub enum AnswerFault<F, T> {
     /// The lines weren't taken.
     Input(InputFault<F>),
-    /// They were, and have no answer.
+    /// The lines were taken, and have no answer.
     Answer(Refusal<T>),
     /// A write or the flush failed, or a write took nothing.
     Write,

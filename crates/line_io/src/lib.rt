@@ -1,5 +1,5 @@
-//! Inputs of lines and their answers: bytes are read and cut into numbered lines, and the bytes of an answer are written.
-//! What a line says is left to what takes the lines.
+//! Reads an input, cuts it into numbered lines, and writes the bytes of an answer. Whatever takes the lines decides
+//! what they mean.
 #![tactic(auto)]
 
 pub mod answer_lines;

@@ -1,4 +1,4 @@
-//! The reading of an input, piece by piece, and its lines.
+//! Reads an input piece by piece, and cuts it into lines.
 
 ghost use Rattle.std.specs.Prelude.{◌≡◌, ◌+◌, ◌≤◌, ℕ, List, [], ◌∷◌, ◌++◌, length, IfSome, IfNone, IfOk, IfErr, OnOk};
 ghost use Rattle.std.specs.Io.KnownBytes.{IsAtEnd};
@@ -14,19 +14,19 @@ use std::io::Read;
 // The most bytes of an input.
 const BYTE_LIMIT: u64 = 1 << 40;
 
-// The most bytes that one read is asked for.
+// The most bytes requested by one read.
 const BUFFER_LEN: usize = 65536;
 
-/// Has `lines` take all lines of the input, each with its newline, in pieces of at most 65536 bytes. An input has at most
-/// 2^40 bytes: the line in which the next one stands is refused.
+/// Passes all lines of the input to `lines`, each with its newline, in pieces of at most 65536 bytes. An input has at
+/// most 2^40 bytes. If it has more, the line with the next byte is faulty.
 ///
-/// `lines` has taken nothing yet. How much of the input was read after a fault isn't said.
+/// `lines` must have taken nothing yet. How much of the input was read after a fault isn't specified.
 pub fn read_lines<L: TakeLines, R: Read>(lines: L, r: &mut R) -> Result<L, InputFault<L::Fault>>
     requires { L.has_taken lines [] [] }
     ensures taken { IfOk result (λ lines. IfSome (R.remaining r.old) (λ text. L.has_taken lines (lines_of text) [])) }
     ensures read { OnOk result (IsAtEnd (R.remaining r.new)) }
 
-    // The fault of a line is that of the whole input, the part that was left unread included.
+    // The fault of a line depends on the whole input, including the part that was left unread.
     ensures fault { IfErr result (λ fault. IfSome (R.remaining r.old) (λ text. IfLine fault (HasFault L.is_fault text))) }
 {
     let mut reading = Reading::new(lines);
@@ -42,7 +42,7 @@ pub fn read_lines<L: TakeLines, R: Read>(lines: L, r: &mut R) -> Result<L, Input
     }
 }
 
-// What has been read of an input: of the text the open line alone is kept, by what takes the lines.
+// What has been read of an input. Of the text only the open line is kept, by what takes the lines.
 #[derive(Drop)]
 struct Reading<L: TakeLines> {
     lines: L,
@@ -57,7 +57,7 @@ struct Reading<L: TakeLines> {
 impl<L: TakeLines> Reading<L> {
     ghost use Rattle.line_io.specs.Steps.Taken.{IsTaken};
 
-    // A reading of nothing yet.
+    // Starts with nothing read.
     fn new(lines: L) -> Self
         requires { L.has_taken lines [] [] }
         ensures { IsTaken L.has_taken result [] }
@@ -85,7 +85,7 @@ impl<L: TakeLines> Reading<L> {
         Err(InputFault::Line(self.number, self.lines.past_limit()))
     }
 
-    // What has taken the lines, where the input ends here.
+    // Ends the input. Returns what has taken the lines.
     fn finish(mut self) -> Result<L, InputFault<L::Fault>>
         ensures taken { IfOk result (λ lines. (text : List ℕ) → IsTaken L.has_taken self text →
             L.has_taken lines (lines_of text) []) }
@@ -154,7 +154,7 @@ impl<L: TakeLines> Reading<L> {
     }
 }
 
-// Some bytes before and after their first newline.
+// Splits some bytes at their first newline.
 fn split_line(bytes: &[u8]) -> Option<(&[u8], &[u8])>
     ensures found { IfSome result (λ parts.
         (bytes.now ≡ parts.0.now ++ newline ∷ parts.1.now) × NoNewline parts.0.now) }

@@ -1,4 +1,4 @@
-//! What a program is asked for by its arguments, and how it tells that it can't do it.
+//! What the arguments of a program request, and how it reports a fault.
 
 ghost use Rattle.std.specs.Prelude.{◌≡◌, ◌↔◌, IfErr, IfOk, IsErr, IsOkAnd};
 ghost use Rattle.std.specs.IoError.{error_kind};
@@ -12,31 +12,31 @@ use std::env::Args;
 use std::fmt::{self, Write as _};
 use std::io::{self, ErrorKind, Write};
 
-/// The status after a wrong argument, as `sysexits.h` has it.
+/// The exit status after a wrong argument, from `sysexits.h`.
 pub const WRONG_ARGUMENT: u8 = 64;
 
 // The most bytes of a line that is written in one piece.
 const ONE_PIECE_LEN: usize = 100;
 
-/// What a program is asked for by the words after its name.
+/// What the words after a program's name request.
 #[derive(Debug, PartialEq, Eq, Drop)]
 pub enum Request {
-    /// No word follows the program's name.
+    /// There is no word.
     Nothing,
     /// The word is `-h` or `--help`.
     Help,
     /// The word is `--version`.
     Version,
-    /// Another word.
+    /// It is another word.
     Word(String),
-    /// Several words, or arguments that can't be read, as one that isn't UTF-8.
+    /// There are several words, or the arguments can't be read, for example because one isn't UTF-8.
     Unknown,
 }
 
 impl Request {
-    /// What some arguments ask for, of which the first is the program's name.
+    /// Returns what some arguments request. The first argument is the program's name.
     ///
-    /// It fails only if the arguments can't be read since memory was refused to them.
+    /// Fails only if the arguments can't be read because an allocation failed.
     pub fn read(args: io::Result<Args>) -> Result<Request, AllocError>
         ensures words { IfOk args (λ args. IsOkAnd result (λ request. AskFor (words_of args) request)) }
         ensures unreadable { IfErr args (λ _. IfOk result (λ request. request ≡ Unknown)) }
@@ -62,8 +62,8 @@ impl Request {
     }
 }
 
-/// Writes a text and a newline, whole however long they are: in one piece up to 100 bytes, and past that in the pieces in
-/// which the text comes. After a failed write nothing more of them is written; the caller's status still tells the fault.
+/// Writes a text and a newline, whatever their length. Up to 100 bytes are written in one piece, and more in the pieces
+/// that the text consists of. After a failed write it writes nothing more. The caller's status still shows the fault.
 pub fn print_line<W: Write>(w: &mut W, text: impl fmt::Display + Drop) {
     let mut line: ArrayString<ONE_PIECE_LEN> = ArrayString::new();
     let _ = match writeln!(line, "{text}") {

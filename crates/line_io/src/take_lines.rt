@@ -1,4 +1,4 @@
-//! What takes the lines of an input, and what answers them, as interfaces.
+//! The traits of what takes the lines of an input, and of what answers them.
 
 ghost use Rattle.std.specs.Prelude.{ℕ, ◌+◌, ◌<◌, ◌≤◌, List, [], ◌∷◌, ◌++◌, length, IfErr, IfOk, OnOk};
 ghost use Rattle.std.specs.List.{concat};
@@ -8,12 +8,13 @@ ghost use Rattle.line_io.specs.Lines.{NoNewline, byte_limit, content, lines_of};
 use crate::fault::Refusal;
 use std::convert::AsSlice;
 
-/// Takes the lines of an input one after another, each as its bytes come. What a line may say is an implementation's own.
+/// Takes the lines of an input one after another, each as its bytes come. The implementation decides what a line may
+/// say.
 pub trait TakeLines: Drop {
     /// Why a line is faulty.
     type Fault: Drop;
 
-    // It has taken some lines, which are whole and good, and these bytes of the line after them, without a newline.
+    // It has taken some whole good lines, and these bytes of the line after them, without a newline.
     ghost has_taken: { Self → List (List ℕ) → List ℕ → Type 0 };
 
     // The fault of a line after good ones.
@@ -37,14 +38,14 @@ pub trait TakeLines: Drop {
             length (concat before) + length line ≤ byte_limit → has_taken self.old before (content line) →
             IfFaulty refusal (is_fault before line)) };
 
-    /// The fault of the open line where the first byte past the limit of an input stands in it.
+    /// Returns the fault of the open line if it contains the first byte past the limit of an input.
     fn past_limit(&self) -> Self::Fault
         ensures { (before : List (List ℕ)) (line rest : List ℕ) →
             byte_limit < length (concat before) + length (line ++ rest) → has_taken self.now before line →
             is_fault before (line ++ rest) result };
 }
 
-/// Answers an input of whose lines none is faulty.
+/// Answers an input none of whose lines is faulty.
 pub trait AnswerLines<L: TakeLines>: Drop {
     /// The bytes of an answer.
     type Output: AsSlice<u8> + Drop;
@@ -55,10 +56,10 @@ pub trait AnswerLines<L: TakeLines>: Drop {
     // The answer to a text.
     ghost is_answer: { List ℕ → List ℕ → Type 0 };
 
-    // Why a text has none.
+    // Why a text has no answer.
     ghost is_fault: { List ℕ → Self.Fault → Type 0 };
 
-    /// The answer, once all lines were taken.
+    /// Returns the answer, after all lines were taken.
     fn answer(self, lines: L) -> Result<Self::Output, Refusal<Self::Fault>>
         ensures answer { IfOk result (λ output. (text : List ℕ) → L.has_taken lines (lines_of text) [] →
             is_answer text (Self.Output.items output)) }

@@ -1,4 +1,4 @@
-//! Devices that fail, that are interrupted, and that give or take little, at each call that reads lines.
+//! Devices that fail, that are interrupted, or that give or take few bytes, under each call that reads lines.
 
 mod lines_of_pairs;
 
@@ -31,7 +31,7 @@ const CALLS: [Call; 5] = [
     Call::Root,
 ];
 
-// A line that the call takes.
+// Returns a line that the call takes.
 fn line_of(call: Call) -> &'static str {
     match call {
         Call::Run | Call::RunOverPlainRanges | Call::Make => {
@@ -41,7 +41,7 @@ fn line_of(call: Call) -> &'static str {
     }
 }
 
-// The status of a fault, and the line that it names.
+// The status of a fault, and its line number.
 #[derive(Clone, Copy, PartialEq)]
 struct End {
     status: u8,
@@ -77,7 +77,7 @@ fn end_of_range(fault: RangeFault) -> End {
     }
 }
 
-// How a call ends.
+// Makes a call, and returns how it ends.
 fn end_of_call<R: Read, W: Write>(alloc: Global, call: Call, r: &mut R, w: &mut W) -> End {
     let result = match call {
         Call::Run => run(alloc, r, w).map_err(end_of_run),
@@ -89,8 +89,9 @@ fn end_of_call<R: Read, W: Write>(alloc: Global, call: Call, r: &mut R, w: &mut 
     result.err().unwrap_or(DONE)
 }
 
-// How the calls of a device go. Each is for at most so many bytes, and is interrupted so often before it is done. The call
-// of one number, from 1, goes otherwise so often before: it fails, or nothing is given or taken.
+// How the calls of a device go. Each transfers at most `most` bytes, and is interrupted `interruptions` times before it
+// succeeds. The call number `odd_call`, from 1, goes wrong `odd_times` times before it succeeds: it fails, or nothing
+// is given or taken.
 #[derive(Clone, Copy)]
 pub(crate) struct Manner {
     pub(crate) most: usize,
@@ -135,7 +136,7 @@ fn odd(odd_call: usize, odd_times: usize, odd_kind: Option<ErrorKind>) -> Manner
     }
 }
 
-// A device, the number of its calls, and of those that were done; and how often the open one went wrong.
+// A device, the number of its calls and of those that succeeded, and how often the current one went wrong.
 #[derive(Clone, Copy)]
 pub(crate) struct Device {
     manner: Manner,
@@ -154,7 +155,7 @@ impl Device {
         }
     }
 
-    // The most bytes that the next call is for.
+    // Returns the most bytes that the next call may transfer.
     fn call(&mut self) -> io::Result<usize> {
         let manner = self.manner;
         let is_odd = self.done.saturating_add(1) == manner.odd_call;
@@ -219,7 +220,7 @@ pub(crate) struct Output {
 }
 
 impl Output {
-    // With the manners of the writes and of the flush.
+    // Makes a writer, given the manners of its writes and of its flush.
     pub(crate) fn new(alloc: Global, writes: Manner, flush: Manner) -> Self {
         Output {
             bytes: Vec::new(alloc),
@@ -262,8 +263,8 @@ const ALL_SLOW: Manners = Manners {
     flush: SLOW,
 };
 
-// What a run did: how it ended, the numbers of its reads, writes and flushes, the most bytes that were read at once, and
-// what it wrote.
+// What a run did: how it ended, the numbers of its reads, writes and flushes, the most bytes that were read at once,
+// and what it wrote.
 #[derive(Drop)]
 struct Outcome {
     end: End,
@@ -297,7 +298,7 @@ enum Place {
     Flush,
 }
 
-// Calls that go wrong, by their number. The run has more reads and writes than three, and one flush.
+// Calls that go wrong, by their number. The run has more than three reads, more than three writes, and one flush.
 const PLACES: [(Place, usize); 5] = [
     (Place::Read, 1),
     (Place::Read, 3),
@@ -306,7 +307,7 @@ const PLACES: [(Place, usize); 5] = [
     (Place::Flush, 1),
 ];
 
-// The manners of a run where one place has this.
+// Returns the manners of a run in which one place has this one.
 fn manners_with(place: Place, manner: Manner) -> Manners {
     let mut manners = ALL_EVEN;
     match place {
@@ -317,7 +318,7 @@ fn manners_with(place: Place, manner: Manner) -> Manners {
     manners
 }
 
-// Whether a run without a fault goes like an even one, but for so many more calls at a place.
+// Returns whether a run without a fault goes like an even one, except for `times` more calls at a place.
 fn is_borne(even: &Outcome, late: &Outcome, place: Place, times: usize) -> bool {
     let (mut reads, mut writes, mut flushes) = even.calls;
     match place {
@@ -328,7 +329,8 @@ fn is_borne(even: &Outcome, late: &Outcome, place: Place, times: usize) -> bool 
     late.end == DONE && late.calls == (reads, writes, flushes) && late.written == even.written
 }
 
-// Whether a run has the fault of a place, at which the calls before the odd one were done, and which makes no call after it.
+// Returns whether a run has the fault of a place. The calls before the odd one must have succeeded, and no call may
+// follow it.
 fn is_fault(even: &Outcome, failed: &Outcome, place: Place, manner: Manner) -> bool {
     let done = manner.odd_call.saturating_sub(1);
     let calls = done.saturating_add(manner.odd_times);

@@ -1,5 +1,5 @@
-//! Tests of `xetroot_text` and `xetrange_text`: what `xetroot` and `xetrange` answer, devices that fail, and how many requests
-//! for memory lists make.
+//! Tests of `xetroot_text` and `xetrange_text`: what `xetroot` and `xetrange` write, devices that fail, and how many
+//! allocations lists need.
 #![tactic(auto)]
 
 #[cfg(test)]

@@ -1,4 +1,4 @@
-//! What the program answers to whole inputs, and what it prints of faults.
+//! What the program writes for whole inputs, and how it prints faults.
 
 use std::alloc::Global;
 use std::io::{Read, Write};
@@ -14,13 +14,13 @@ const ONE_PAIR: &str = "xorb cfc5d07f6f03c29bbf424132963fe08d19a37d5757aaf520bf0
 file 8e16257caa3fe079d484d872a8975264b2ff683b0d6db9028cc7c0f968a45661
 ";
 
-// Of h1 100, four times.
+// The answer to h1 100, four times.
 const FOUR_EQUAL_PAIRS: &str =
     "xorb 89f2ada89ff8c96763c6b25010e6dd76a4c05b1466207633ea559acf2093211b
 file 2cdba690d0e09563596e0cda626d43eb4c96ef1e994fe72d9b2f5a83cfcd36dd
 ";
 
-// Of h1 100, h2 200, h1 100, h2 200.
+// The answer to h1 100, h2 200, h1 100, h2 200.
 const TWO_PAIRS_TWICE: &str = "xorb 90f8313ef12df385d237a067aded02562c35ded12116e32eba401dbc86c38031
 file 284ea045e5a579e99c21ec597c20de1fc0c09e7168162aac00db8f61b3d82dbb
 ";
@@ -34,7 +34,7 @@ enum Kind {
 
 const KINDS: [Kind; 2] = [Kind::Subtree, Kind::Plain];
 
-// What a run over such ranges answers.
+// Runs the program over a kind of range.
 fn run_over<R: Read, W: Write>(
     alloc: Global,
     kind: Kind,
@@ -47,7 +47,8 @@ fn run_over<R: Read, W: Write>(
     }
 }
 
-// Whether a run writes a text and nothing else, or has the fault of a text and writes nothing, over either kind of range.
+// Returns whether a run writes a text and nothing else, or has the fault of a text and writes nothing, over both kinds
+// of range.
 fn answers(alloc: Global, input: &[u8], expected: &str) -> Result<bool, Fail> {
     for kind in KINDS {
         let mut reader = input;
@@ -62,7 +63,7 @@ fn answers(alloc: Global, input: &[u8], expected: &str) -> Result<bool, Fail> {
     Ok(true)
 }
 
-// The answer of a name, or the fault of a text.
+// Returns the answer of a name, or the fault of a text.
 fn answer_of(expected: &str) -> &str {
     match expected {
         "no pair" => NO_PAIR,
@@ -74,7 +75,7 @@ fn answer_of(expected: &str) -> &str {
     }
 }
 
-// Fails unless the lines of each row are answered as its end says.
+// Fails unless the lines of each row give the answer or the fault at the end of the row.
 fn are_answered(alloc: Global, rows: &str) -> Result<(), Fail> {
     for row in rows.lines() {
         let (lines, expected) = two_fields(row, '|')?;
@@ -128,7 +129,7 @@ fn position_lines_place_the_pairs_after_them(rt: HostRuntime) -> Result<(), Fail
     are_answered(rt.alloc(), POSITIONS)
 }
 
-// Three pairs with a separator, or two, at each place where one may stand.
+// Three pairs, or two, with a separator at each place where one may be.
 const SEPARATED: &str = "h1 100;h2 200;h3 300;|three pairs
 h1 100;h2 200;h3 300;--;|three pairs
 h1 100;h2 200;h3 300;--;--|three pairs
@@ -159,13 +160,13 @@ fn separators_change_nothing(rt: HostRuntime) -> Result<(), Fail> {
     are_answered(rt.alloc(), SEPARATED)
 }
 
-// Of 20,000 pairs of size 1, whose hashes have the words i, 0, 0 and i modulo 4.
+// The answer to 20,000 pairs of size 1, whose hashes have the words i, 0, 0 and i modulo 4.
 pub(crate) const MANY_PAIRS: &str =
     "xorb 951ddfa7a459b95ea55bb6cf4cc2d4329fd1b2520abe09727bf118a687459d2c
 file c5b91c43e27f1d0785ce40a29b7baee822db7f5136611cbc2eaf04a3ac6d4004
 ";
 
-// The lines of those of them whose numbers are from one to below another.
+// Appends the lines of the pairs of this kind with these numbers.
 pub(crate) fn push_lines(lines: &mut String, numbers: Range<u64>) -> Result<(), Fail> {
     for i in numbers {
         let hash = DataHash::from([i, 0, 0, i % 4]);
@@ -174,7 +175,7 @@ pub(crate) fn push_lines(lines: &mut String, numbers: Range<u64>) -> Result<(), 
     Ok(())
 }
 
-// Of the first 9000 of them.
+// The answer to the first 9000 of them.
 const FEWER_PAIRS: &str = "xorb 1fa8c4f5d2b1ecb1ed7ec711894bcfaaa0c225182391131bc4f8c2b740f58ac0
 file 05fe8458ce220b994314c014b404ea97b6b86ef0ed06b74ab4c4b60cf2bc1beb
 ";
@@ -197,12 +198,12 @@ const NO_BYTES: &str = "xorb e0f2cf784e7e5f10c34f84af150e9a5ff9664216debad915364
 file c5b8746ae7e55c74d71e80fd99d34bf9a2c5666c690f1c113dec6d292790488a
 ";
 
-// Of `{H1} 100`, and of the chunks of no bytes, of `+a`, a zero byte and a carriage return, and of `--`.
+// The answer to `{H1} 100`, and to the chunks of no bytes, of `+a`, a zero byte and a carriage return, and of `--`.
 const PAIR_AND_CHUNKS: &str = "xorb 859115aa66e63b78efe686437a7cdda2aec8e69a732662ad5fe5c62c665c459e
 file 5ca6e50a28a8d975b146c9925696bf176766a6661f828c4108bcf4f2a8dac543
 ";
 
-// Of a million times the letter a.
+// The answer to the chunk of a million letters a.
 const LONG_CHUNK: &str = "xorb 9af74aa9a252880f8c22ca2ff1e11bef7b2e4b90a350fe7ee0bb08f5725bdbf6
 file f51f13f534f02922122f84c1c3cb040392afd49ff95185d599d31942e1fcc597
 ";
@@ -245,10 +246,10 @@ fn names_the_first_faulty_line(rt: HostRuntime) -> Result<(), Fail> {
     are_answered(rt.alloc(), FAULTY)
 }
 
-// The numbers of lines that faults are printed with.
+// The line numbers that faults are printed with.
 pub(crate) const LINES: [u64; 9] = [1, 9, 10, 99, 100, 101, 1000, 65536, u64::MAX];
 
-// Whether a fault has a status, and prints it as told.
+// Returns whether a fault has a status, and prints as it should.
 fn prints(alloc: Global, fault: Fault, status: u8, end: &str) -> Result<bool, Fail> {
     let text = format!(in alloc; "xetroot: fault {status}{end}")?;
     Ok(fault.status() == status && fault.to_string(alloc)? == text)

@@ -1,4 +1,4 @@
-//! The lists in which pairs are kept before they are merged, told by the requests for memory.
+//! The lists that keep pairs before they are merged. Counting allocations shows their lengths.
 
 use refusing_allocator::RefusingAllocator;
 use std::alloc::Global;
@@ -17,7 +17,7 @@ enum Call {
     Make,
 }
 
-// Whether so many requests are enough for a call.
+// Returns whether this many allocations are enough for a call.
 fn are_enough(alloc: Global, call: Call, mut input: &[u8], granted: u32) -> bool {
     let refusing: RefusingAllocator<Global> = RefusingAllocator::new(alloc, granted);
     let mut output = Vec::new(alloc);
@@ -34,7 +34,7 @@ fn are_enough(alloc: Global, call: Call, mut input: &[u8], granted: u32) -> bool
     }
 }
 
-// The lines of so many pairs, of which the first alone is a natural cut, so that they have one level.
+// Returns the lines of `count` pairs. Only the first is a natural cut, so they have one level.
 fn pairs(alloc: Global, count: u64) -> Result<String, Fail> {
     let mut lines = String::new(alloc);
     for i in 0..count {
@@ -47,8 +47,8 @@ fn pairs(alloc: Global, count: u64) -> Result<String, Fail> {
 #[test]
 fn a_list_has_4096_pairs(rt: HostRuntime) -> Result<(), Fail> {
     let (full, more) = (pairs(rt.alloc(), 4096)?, pairs(rt.alloc(), 4097)?);
-    // The requests by which a list grows to 4096 pairs and they are merged. One pair more ends the list, which takes more
-    // than the one request that growth would.
+    // The allocations by which a list grows to 4096 pairs and is merged. One more pair ends the list, which needs more
+    // than the one allocation that growing would need.
     for (call, requests) in [
         (Call::Run, 25),
         (Call::RunOverPlainRanges, 15),

@@ -1,4 +1,4 @@
-//! Runs of both programs over arguments and devices: the status, and the text on each stream.
+//! Runs of both programs with arguments and devices: the status, and the text on each stream.
 
 use super::devices::{EVEN, FAILING, Input, Manner, Output};
 use line_io::request::print_line;
@@ -10,8 +10,8 @@ use std::io::{self, ErrorKind};
 use std::test::Fail;
 use test_support::texts::{four_fields, with_hashes};
 
-// The words of a command, what fails in the run, standard input, the status, standard output and standard error. A newline
-// is written `;`.
+// Each row has the words of a command, what fails in the run, standard input, the status, standard output and standard
+// error. `;` stands for a newline.
 const RUNS: &str =
     r#"xetroot|nothing|h1 100|0|xorb h1;file 8e16257caa3fe079d484d872a8975264b2ff683b0d6db9028cc7c0f968a45661;|
 xetroot|nothing|zz|1||xetroot: fault 1 at line 1;
@@ -56,7 +56,7 @@ xetrange make|text of arguments||64||xetrange: expected make, join, root, --help
 xetrange --version|nothing|zz|0|xetrange 1.0.0 (hashes of xet-core-structures 1.5.2);|
 xetrange --help|output|zz|5||xetrange: fault 5;"#;
 
-// Words that are wrong for each program, with a space between two; the first row is one empty word.
+// Words that are wrong for each program, separated by spaces. The first row is one empty word.
 const WRONG_WORDS: &str = "
 -
 --
@@ -87,7 +87,7 @@ join root --help
 root root root root
 -h -h -h";
 
-// What the runtime answers of the words of a command.
+// Returns what the runtime gives for the words of a command.
 fn arguments(alloc: Global, command: &str, failing: &str) -> Result<io::Result<Args>, Fail> {
     if failing == "list of arguments" {
         return Ok(Err(io::Error::from(ErrorKind::OutOfMemory)));
@@ -106,7 +106,7 @@ fn manner(is_failing: bool) -> Manner {
     if is_failing { FAILING } else { EVEN }
 }
 
-// The status of a run, and what it wrote to standard output and standard error, as a row of `RUNS` has them.
+// Returns the status of a run, and what it wrote to standard output and standard error, in the form of a row of `RUNS`.
 fn outcome(alloc: Global, command: &str, failing: &str, input: &str) -> Result<String, Fail> {
     let granted = if failing == "memory" { 0 } else { u32::MAX };
     let refusing: RefusingAllocator<Global> = RefusingAllocator::new(alloc, granted);
@@ -171,7 +171,7 @@ fn wrong_words_are_refused_by_both_programs(rt: HostRuntime) -> Result<(), Fail>
     Ok(())
 }
 
-// A text of two pieces, of so many letters each.
+// A text of two pieces of letters.
 #[derive(Drop)]
 struct TwoPieces(String, String);
 

@@ -1,4 +1,4 @@
-//! What `make`, `join` and `root` answer, and what they print of faults.
+//! What `make`, `join` and `root` write, and how they print faults.
 
 use super::lines::{LINES, MANY_PAIRS, push_lines};
 use std::alloc::{Allocator, Global};
@@ -35,7 +35,7 @@ fn run_command<R: Read, W: Write>(
     }
 }
 
-// What a command writes where it ends without a fault.
+// Returns what a command writes if it ends without a fault.
 fn output_of(alloc: Global, command: Command, input: &[u8]) -> Result<String, Fail> {
     let (mut reader, mut output) = (input, Vec::new(alloc));
     let result = run_command(command, alloc, alloc, &mut reader, &mut output);
@@ -45,7 +45,7 @@ fn output_of(alloc: Global, command: Command, input: &[u8]) -> Result<String, Fa
     Ok(String::from_utf8(output).unwrap_or(String::new(alloc)))
 }
 
-// Lines, each with the range that `make` writes of them.
+// Lines, each with the range that `make` writes for them.
 const MADE: &str = r#"|{"at_end":false,"at_start":false,"levels":[[0,0]],"nodes":[]}
 --;--|{"at_end":false,"at_start":false,"levels":[[0,0]],"nodes":[]}
 h1 100|{"at_end":false,"at_start":false,"levels":[[1,0]],"nodes":[{"hash":"h1","size":100}]}
@@ -75,7 +75,7 @@ fn no_input_is_the_empty_range(rt: HostRuntime) -> Result<(), Fail> {
     Ok(())
 }
 
-// The root of two pieces, each made, and merged by `join` before where `is_merged` says so.
+// Returns the root of two pieces. Each is made, and if `is_merged` is set, they are first merged by `join`.
 fn root_of_pieces(
     alloc: Global,
     front: &[u8],
@@ -90,7 +90,7 @@ fn root_of_pieces(
     output_of(alloc, Command::Root, input.as_bytes())
 }
 
-// Whether the root of all pieces is what `run` answers to the whole, for each cut at a line end.
+// Returns whether the root of all pieces is what `run` writes for the whole, for each cut at a line end.
 fn agrees_at_each_cut(alloc: Global, text: &[u8]) -> Result<bool, Fail> {
     let (mut reader, mut output) = (text, Vec::new(alloc));
     if run(alloc, &mut reader, &mut output).is_err() {
@@ -134,7 +134,7 @@ fn the_root_of_pieces_is_that_of_the_whole(rt: HostRuntime) -> Result<(), Fail> 
     Ok(())
 }
 
-// The lines of nodes of size 1 with the words (i, 0, 0, w), where each fourth one is a natural cut.
+// Returns the lines of nodes of size 1 with the words (i, 0, 0, w). Each fourth one is a natural cut.
 fn fourth_cuts(alloc: Global, first: u64, count: u64) -> Result<String, Fail> {
     let mut lines = String::new(alloc);
     for i in first..first.saturating_add(count) {
@@ -144,8 +144,8 @@ fn fourth_cuts(alloc: Global, first: u64, count: u64) -> Result<String, Fail> {
     Ok(lines)
 }
 
-// The lines that are left where ranges are merged by a bracketing: a point stands for the line of the next range, and a plus
-// for what `join` makes of the last two.
+// Returns the lines that are left after merging ranges by a bracketing. A point is the line of the next range, and a
+// plus is what `join` makes of the last two.
 fn merged(alloc: Global, bracketing: &str, ranges: &[String]) -> Result<String, Fail> {
     let mut next = ranges.iter();
     let mut lines: Vec<String> = Vec::new(alloc);
@@ -178,7 +178,7 @@ fn ranges_on_which_the_rust_goes_wrong_are_merged_under_all_bracketings(
         ranges.push(output_of(alloc, Command::Make, pairs.as_bytes())?)?;
     }
     for (bracketing, _) in BRACKETINGS {
-        // `root` merges the last two itself where `join` leaves them.
+        // If `join` leaves the last two, `root` merges them itself.
         for steps in [
             bracketing,
             bracketing.strip_suffix('+').unwrap_or(bracketing),
@@ -191,7 +191,7 @@ fn ranges_on_which_the_rust_goes_wrong_are_merged_under_all_bracketings(
     Ok(())
 }
 
-// Fails unless a command refuses the lines of each row with the fault at its end, and writes nothing.
+// Fails unless a command gives the fault at the end of each row for its lines, and writes nothing.
 fn are_refused(alloc: Global, command: Command, rows: &str) -> Result<(), Fail> {
     for row in rows.lines() {
         let (lines, fault) = two_fields(row, '|')?;
@@ -221,13 +221,13 @@ fn make_names_the_first_faulty_line(rt: HostRuntime) -> Result<(), Fail> {
     are_refused(rt.alloc(), Command::Make, FAULTY)
 }
 
-// Fails unless `join` and `root` refuse the lines of each row so.
+// Fails unless `join` and `root` give the fault of each row for its lines.
 fn are_no_ranges(alloc: Global, rows: &str) -> Result<(), Fail> {
     are_refused(alloc, Command::Join, rows)?;
     are_refused(alloc, Command::Root, rows)
 }
 
-// Values that say no subtree, or one with a mark, each after the least rule that it breaks.
+// Values that describe no subtree, or one with a mark, each after the lowest rule that it breaks.
 const FORGED: &str = r#"|
 | 
 |--
@@ -303,7 +303,7 @@ fn many_ranges_are_merged(rt: HostRuntime) -> Result<(), Fail> {
     Ok(())
 }
 
-// Whether a fault has a status, and prints it as told.
+// Returns whether a fault has a status, and prints as it should.
 fn prints(alloc: Global, fault: RangeFault, status: u8, end: &str) -> Result<bool, Fail> {
     let text = format!(in alloc; "xetrange: fault {status}{end}")?;
     Ok(fault.status() == status && fault.to_string(alloc)? == text)

@@ -1,4 +1,4 @@
-//! The names of a session, which `xetroot_text` passes on.
+//! The names of a session that `xetroot_text` re-exports.
 
 use xet_hash::data_hash::DataHash;
 use xet_merkle::plain_range::PlainRange;

@@ -1,4 +1,5 @@
-//! The hashes of the crate `xet-core-structures` for thirteen lists of chunks, the parents of groups and their texts.
+//! The hashes of the crate `xet-core-structures` for thirteen lists of chunks, and the parents of groups and their
+//! texts.
 
 use std::alloc::Global;
 use std::fmt::Write;
@@ -8,13 +9,13 @@ use xet_hash::data_hash::{DataHash, MerkleHash, compute_internal_node_hash};
 use xet_merkle::CoreError;
 use xet_merkle::aggregated_hashes::{Node, file_hash, file_hash_with_salt, xorb_hash};
 
-// A salt, and the hash under it.
+// Returns a salt, and the hash under it.
 fn salted(alloc: Global, nodes: &[Node], salt: &str) -> Result<String, Fail> {
     let hash = file_hash_with_salt(alloc, nodes, &DataHash::from_hex(salt)?.as_bytes())?;
     Ok(format!(in alloc; "{salt} {hash}")?)
 }
 
-// The row of a list and two salts.
+// Returns the row of a list and two salts.
 fn row_of(alloc: Global, numbers: &str, salts: (&str, &str)) -> Result<String, Fail> {
     let nodes = reference_list(alloc, numbers)?;
     let nodes = nodes.as_slice();
@@ -40,7 +41,7 @@ fn agree_with_the_rust_crate(rt: HostRuntime) -> Result<(), Fail> {
     Ok(())
 }
 
-// Each row has the numbers of a list's chunks and what the Rust crate makes of it: the root, the file hash, and two
+// Each row has the numbers of a list's chunks and what the Rust crate computes for it: the root, the file hash, and two
 // salts, each with the file hash under it.
 const REFERENCES: &str =
     "- 0000000000000000000000000000000000000000000000000000000000000000 0000000000000000000000000000000000000000000000000000000000000000 c1cdea79b61cd4776c9f3f8e08767fd5f42e33f9cec8c13d01b947901fad1954 0000000000000000000000000000000000000000000000000000000000000000 8d948a82def8a5683477f953796702a015caa2fce6db8d692cef8853c20c6dd0 0000000000000000000000000000000000000000000000000000000000000000
@@ -87,7 +88,7 @@ fn a_root_is_that_of_the_parents_of_groups(rt: HostRuntime) -> Result<(), Fail> 
 fn a_groups_text_has_a_line_for_each_node(rt: HostRuntime) -> Result<(), Fail> {
     let alloc = rt.alloc();
     let (hash, _) = reference_chunk("1")?;
-    // Three natural cuts are a group, and a node after them is one of its own.
+    // Three natural cuts are a group, and a node after them is a group of its own.
     let zeros = [(MerkleHash::default(), 0); 3];
     let [zero, _, _] = zeros;
     let first = (xorb_hash(alloc, &zeros)?, 0);
@@ -107,7 +108,7 @@ fn a_groups_text_has_a_line_for_each_node(rt: HostRuntime) -> Result<(), Fail> {
     Ok(())
 }
 
-// Whether the root and the file hash of some chunks are refused for their sizes.
+// Returns whether the root and the file hash of some chunks fail because of their sizes.
 fn are_refused(alloc: Global, nodes: &[Node]) -> (bool, bool) {
     let root = xorb_hash(alloc, nodes);
     let file = file_hash(alloc, nodes);

@@ -1,4 +1,5 @@
-//! Tests of `xet_merkle`, by values from outside: the hashes of the crate `xet-core-structures`, and worked examples.
+//! Tests of `xet_merkle` with values that were computed without this code: the hashes of the crate
+//! `xet-core-structures`, and worked examples.
 #![tactic(auto)]
 
 #[cfg(test)]

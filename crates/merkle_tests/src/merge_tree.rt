@@ -17,7 +17,7 @@ use xet_merkle::merge_tree::MergeTree;
 use xet_merkle::merkle_hash_subtree::MerkleHashSubtree;
 use xet_merkle::plain_range::PlainRange;
 
-// A range that counts the merges that made it, and how deep they go, beside a range that keeps its chunks.
+// A range that counts the merges that made it, and how deep they go. It wraps a range that keeps its chunks.
 #[derive(Drop)]
 struct CountedRange {
     plain: PlainRange,
@@ -112,7 +112,7 @@ fn ranges_of_each_kind_have_the_root(rt: HostRuntime) -> Result<(), Fail> {
     Ok(())
 }
 
-// The lengths of 1 to 12 ranges. Each fourth range or so is empty.
+// Returns the lengths of 1 to 12 ranges. About each fourth range is empty.
 fn drawn_lengths(
     generator: &mut Xoshiro256PlusPlus,
     alloc: Global,
@@ -126,14 +126,14 @@ fn drawn_lengths(
     Ok(lengths)
 }
 
-// A drawn bracketing of so many ranges, one at least.
+// Returns a random bracketing of `ranges` ranges, at least one.
 fn drawn_bracketing(
     generator: &mut Xoshiro256PlusPlus,
     alloc: Global,
     ranges: usize,
 ) -> Result<String, AllocError> {
     let mut bracketing = String::new(alloc);
-    // How many trees stand before the next range.
+    // How many trees come before the next range.
     let mut trees = 0u64;
     for _ in 0..ranges {
         bracketing.push('.')?;
@@ -157,7 +157,7 @@ fn sum(lengths: &[usize]) -> usize {
     sum
 }
 
-// Whether the tree of a bracketing over ranges of these lengths gives the subtree of all nodes.
+// Returns whether the tree of a bracketing over ranges of these lengths gives the subtree of all nodes.
 fn is_the_whole(
     alloc: Global,
     nodes: &[Node],
@@ -165,7 +165,7 @@ fn is_the_whole(
     bracketing: &str,
     marks: (bool, bool),
 ) -> Result<bool, CoreError> {
-    // The last range takes all that is left, which is what the last length says.
+    // The last range takes all nodes that are left, as many as the last length.
     let (_, others) = lengths.split_last().unwrap_or((&0, &[]));
     let ranges = ranges(alloc, nodes, others, marks)?;
     let Some(tree) = tree(alloc, bracketing, ranges)? else {
@@ -193,12 +193,12 @@ fn drawn_trees_give_the_subtree_of_the_whole(rt: HostRuntime) -> Result<(), Fail
     Ok(())
 }
 
-// A range of one node.
+// Returns a range of one node.
 fn one(alloc: Global, (start, end): (bool, bool), size: u64) -> Result<PlainRange, CoreError> {
     PlainRange::from_chunks(alloc, start, &[(DataHash::random_from_seed(1), size)], end)
 }
 
-// Whether a tree of two ranges of one node each, with these marks and sizes, is refused with that.
+// Returns whether a tree of two ranges of one node each, with these marks and sizes, fails with that error.
 fn is_refused(
     alloc: Global,
     marks: [(bool, bool); 2],
@@ -229,7 +229,7 @@ fn marks_are_refused_before_sizes(rt: HostRuntime) -> Result<(), Fail> {
     Ok(())
 }
 
-// A tree of so many merges of empty ranges, each the front of the next, or its back.
+// Returns a tree of `merges` merges of empty ranges. Each is the front of the next one, or its back.
 fn leaning(
     alloc: Global,
     merges: u32,
@@ -247,7 +247,7 @@ fn leaning(
     Ok(tree)
 }
 
-// A tree of 2^height ranges, all of them equally deep.
+// Returns a tree of 2^height ranges, all equally deep.
 fn balanced(alloc: Global, height: u32) -> Result<MergeTree<CountedRange>, CoreError> {
     let mut trees = Vec::new(alloc);
     for _ in 0..1u32 << height.min(20) {

@@ -1,5 +1,4 @@
-//! Stable points, canonical subtrees and their merging, of lists whose natural cuts are told, and of drawn
-//! lists.
+//! Stable points, canonical subtrees and merging, for lists with given natural cuts and for random lists.
 
 mod appending;
 mod boundaries;
@@ -54,7 +53,7 @@ fn stable_points_need_gaps_from_three_to_seven(rt: HostRuntime) -> Result<(), Fa
     Ok(())
 }
 
-// Each row has a list with the marks of its ends, and how many left and right nodes each level of its subtree has.
+// Each row has a list with the marks of its ends, and the numbers of left and right nodes of each level of its subtree.
 const KEPT: &str = "(...|...|...|...|...|) 8,4 2,0
 (...|...|...|...|...|...|) 8,4 3,0
 [...|...|...|...|...|...|...|) 0,4 6,0

@@ -1,4 +1,4 @@
--- What good lines of pairs say, as lines come after them.
+-- What good lines of pairs say when more lines are appended.
 use Rattle.std.proofs.Common.{ℕ, ◌+◌, ◌^◌, ◌<◌, ◌≤◌, List, [], ◌∷◌, ◌++◌, length, codes, decimal, subst, ap, inl, inr, arith, append-nil, length-append}
 use Rattle.std.specs.List.{concat}
 use Rattle.std.proofs.lemmas.List.Sums.{sum_by-append}

@@ -1,4 +1,4 @@
--- What a line says: it says one thing, or nothing.
+-- A line says one thing, or nothing.
 use Rattle.std.proofs.Common.{arith, ◌≡◌, ◌≢◌, ◌⊎◌, inl, inr, ◌^◌, ◌<◌, ◌≤◌, ℕ, Bool, true, false, Decides, List, [], ◌∷◌, ◌++◌, codes, decimal, append_assoc, bytes_eq, take, drop, length, refl, sym, ap, ◌∙◌}
 use Rattle.std.specs.Char.{is_ascii_hexdigit}
 use Rattle.std.specs.List.{AllPass}

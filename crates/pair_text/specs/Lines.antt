@@ -13,7 +13,7 @@ IsSeparator line = line ≡ codes "--"
 abbrev pub IsPositionLine : List ℕ → ℕ → Type 0
 IsPositionLine line position = (line ≡ codes "@" ++ decimal position) × (position < 2 ^ 64)
 
--- the line of a pair: the 64 hex digits of its hash in either case, one space, and its size in decimal
+-- the line of a pair: the 64 hex digits of its hash, in lower or upper case, one space, and its size in decimal
 pub record IsPairLine (line : List ℕ) (node : Node) : Type 0 where
   pub digits : List ℕ
   pub parts : line ≡ digits ++ codes " " ++ decimal node.1

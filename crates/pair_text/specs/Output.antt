@@ -8,8 +8,7 @@ use Rattle.xet_merkle.specs.Roots.{IsRoot, IsFileHash}
 abbrev pub output_text : List ℕ → List ℕ → List ℕ
 output_text root file = codes "xorb " ++ hex_text root ++ codes "\nfile " ++ hex_text file ++ codes "\n"
 
--- the two lines that are written for some pairs: their root, and their file hash under the salt of 32
--- zero bytes
+-- the two lines for some pairs: their root, and their file hash under the salt of 32 zero bytes
 pub record IsOutput (pairs : List Node) (output : List ℕ) : Type 0 where
   pub root : List ℕ
   pub file : List ℕ

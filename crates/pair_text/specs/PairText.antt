@@ -1,4 +1,4 @@
--- A text of pairs, in which no line names a position: its pairs in order, its answer and its faults.
+-- A text of pairs in which no line names a position: its pairs in order, its answer and its faults.
 use Rattle.std.specs.Prelude.{ℕ, ◌+◌, ◌^◌, ◌<◌, ◌≤◌, ◌⊎◌, List, [], ◌∷◌, length}
 use Rattle.std.specs.List.{concat}
 use Rattle.xet_merkle.specs.Groups.{Node}
@@ -14,7 +14,7 @@ abbrev pub NoPositions : List (List ℕ) → Type 0
 NoPositions [] = Unit {0}
 NoPositions (line ∷ lines) = ((position : ℕ) → ¬ (IsPositionLine (content line) position)) × NoPositions lines
 
--- what some lines say that are none of them bad: the pairs, in order
+-- what some lines say, none of which is bad: the pairs in order
 pub data Say : List (List ℕ) → List Node → Type 0 where
   no_line : Say [] []
   separator : {line : List ℕ} {lines : List (List ℕ)} {pairs : List Node} →
@@ -22,20 +22,19 @@ pub data Say : List (List ℕ) → List Node → Type 0 where
   pair : {line : List ℕ} {node : Node} {lines : List (List ℕ)} {pairs : List Node} →
       SaysPair (content line) node → Say lines pairs → Say (line ∷ lines) (node ∷ pairs)
 
--- lines of which none is faulty, where they begin the input: what they say, sizes that fit, and no byte
--- past the limit
+-- lines that begin an input and aren't faulty: what they say, sizes that fit, and no byte past the limit
 pub record AreGood (lines : List (List ℕ)) (pairs : List Node) : Type 0 where
   pub say : Say lines pairs
   pub fits : total_size pairs < 2 ^ 64
   pub within : length (concat lines) ≤ byte_limit
 
--- a line after good lines is bad: the first byte past the limit stands in it, or it neither is a separator nor says a pair
+-- a line after good lines is bad: it contains the first byte past the limit, or it isn't a separator and says no pair
 abbrev pub IsBad : List (List ℕ) → List ℕ → Type 0
 IsBad before line =
     (byte_limit < length (concat before) + length line)
     ⊎ (¬ (IsSeparator (content line)) × ((node : Node) → ¬ (SaysPair (content line) node)))
 
--- a line after good lines, which say these pairs, makes the sizes pass 2 ^ 64 - 1
+-- with a line after good lines, which say these pairs, the sizes are more than 2 ^ 64 - 1
 abbrev pub PassesSizes : List Node → List ℕ → Type 0
 PassesSizes pairs line = (node : Node) × SaysPair (content line) node × (2 ^ 64 ≤ total_size pairs + node.1)
 

@@ -1,4 +1,4 @@
-//! Lines of pairs: what a line says, the pairs of a text, and the two lines that are written of their root and file hash.
+//! Lines of pairs: what a line says, the pairs of a text, and the two output lines with their root and file hash.
 #![tactic(auto)]
 
 pub mod line;

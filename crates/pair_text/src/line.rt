@@ -25,7 +25,7 @@ const SEPARATOR: &[u8; 2] = b"--";
 // The hex digits of a pair line.
 const DIGITS_LEN: usize = 64;
 
-/// What a line without a chunk says; the line is handed in without its newline. None where it says nothing.
+/// Returns what a line without a chunk says, or `None` if it is bad. The line comes without its newline.
 pub(crate) fn parse(line: &[u8]) -> Option<Line>
     ensures says { IfSome result (Says line.now) }
     ensures no_separator { IfNone result (¬ (IsSeparator line.now)) }
@@ -41,7 +41,7 @@ pub(crate) fn parse(line: &[u8]) -> Option<Line>
     Some(Line::Pair(parse_pair(line)?))
 }
 
-// The pair of a pair line.
+// Returns the pair of a pair line.
 fn parse_pair(line: &[u8]) -> Option<Node>
     ensures pair { IfSome result (IsPairLine line.now) }
     ensures none { IfNone result ((node : Node) → ¬ (IsPairLine line.now node)) }
@@ -54,7 +54,7 @@ fn parse_pair(line: &[u8]) -> Option<Node>
     Some((hash, size))
 }
 
-// The number that some decimal digits say, without a sign or leading zeros.
+// Returns the number that some decimal digits spell, without a sign or leading zeros.
 fn parse_decimal(digits: &[u8]) -> Option<u64>
     ensures number { IfSome result (λ number. digits.now ≡ decimal number) }
     ensures none { IfNone result ((number : ℕ) → number < 2 ^ 64 → ¬ (digits.now ≡ decimal number)) }

@@ -10,17 +10,17 @@ use arrayvec::ArrayVec;
 use xet_hash::blake3::Hasher;
 use xet_hash::data_hash::{DATA_KEY, DataHash};
 
-// The most bytes of a line without a chunk that isn't bad: 64 hex digits, a space and 20 decimal digits.
+// The most bytes of a line that isn't bad and isn't a chunk: 64 hex digits, a space and 20 decimal digits.
 const MAX_TEXT_LEN: usize = 85;
 
-/// A line, as far as it is read.
+/// The part of a line that has been read.
 ///
-/// It keeps no more of a line than the longest pair line, and of a chunk the hasher that took its bytes.
+/// It keeps at most as many bytes as the longest pair line has. For a chunk it keeps the hasher that took its bytes.
 #[derive(Drop)]
 pub enum OpenLine {
-    /// A line that doesn't begin with a plus sign: its bytes.
+    /// The bytes of a line that doesn't begin with a plus sign.
     Text(ArrayVec<u8, MAX_TEXT_LEN>),
-    /// A chunk line: the bytes after its plus sign.
+    /// A chunk line: the bytes after its plus sign, in a hasher.
     Chunk(Hasher),
 }
 
@@ -31,14 +31,14 @@ pub struct Overlong;
 impl OpenLine {
     ghost use Rattle.pair_text.specs.Steps.Open.{IsOpenLine, IsOverlong};
 
-    /// A line without a byte.
+    /// Starts a line without bytes.
     pub fn new() -> Self
         ensures { IsOpenLine result [] }
     {
         OpenLine::Text(ArrayVec::new())
     }
 
-    /// Whether the line has no byte.
+    /// Returns whether the line has no bytes.
     pub fn is_empty(&self) -> bool
         ensures { (line : List ℕ) → IsOpenLine self.now line → result ≡ (length line == 0) }
     {
@@ -48,7 +48,7 @@ impl OpenLine {
         }
     }
 
-    /// Takes the next bytes of the line.
+    /// Takes the next bytes of the line. Fails if the line then has more bytes than any line that isn't bad.
     pub fn extend(&mut self, bytes: &[u8]) -> Result<(), Overlong>
         ensures open { OnOk result ((line : List ℕ) →
             IsOpenLine self.old line → IsOpenLine self.new (line ++ bytes.now)) }
@@ -75,7 +75,7 @@ impl OpenLine {
         }
     }
 
-    /// What the line says, where it ends here. None where it is bad.
+    /// Returns what the line says if it ends here, or `None` if it is bad.
     pub fn says(&self) -> Option<Line>
         ensures says { IfSome result (λ said. (line : List ℕ) →
             IsOpenLine self.now line → Says line said) }

@@ -6,10 +6,10 @@ ghost use Rattle.pair_text.specs.Output.{output_text};
 use arrayvec::ArrayVec;
 use xet_hash::data_hash::MerkleHash;
 
-/// The bytes of the two lines.
+/// The number of bytes of the two lines.
 pub const OUTPUT_LEN: usize = 140;
 
-/// The two lines that tell a root and a file hash: `xorb <hex>` and `file <hex>`, each with its newline.
+/// Returns the two lines of a root and a file hash: `xorb <hex>` and `file <hex>`, each with its newline.
 pub fn output(root: &MerkleHash, file: &MerkleHash) -> ArrayVec<u8, OUTPUT_LEN>
     ensures { result.items ≡ output_text root.now file.now }
 {

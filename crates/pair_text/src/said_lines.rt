@@ -1,4 +1,4 @@
-//! Lines of pairs, taken as what they say.
+//! Lines of pairs, passed on as what they say.
 
 ghost use Rattle.std.specs.Prelude.{ℕ, ◌+◌, ◌<◌, ◌≤◌, ◌⊎◌, List, [], ◌∷◌, ◌++◌, length, IfErr, OnOk};
 ghost use Rattle.std.specs.List.{concat};
@@ -16,7 +16,7 @@ pub trait TakeSaid: Drop {
     /// Why a line is faulty.
     type Fault: Drop;
 
-    // What was said stands for some lines, which are good.
+    // What it has taken stands for some good lines.
     ghost stands_for: { Self → List (List ℕ) → Type 0 };
 
     // The fault of a line after good ones.
@@ -31,22 +31,22 @@ pub trait TakeSaid: Drop {
             length (concat before) + length line ≤ byte_limit → Says (content line) said → stands_for self.old before →
             IfFaulty refusal (is_fault before line)) };
 
-    /// The fault of a next line that says nothing, or in which the first byte past the limit of an input stands.
+    /// Returns the fault of a next line that says nothing, or that contains the first byte past the limit of an input.
     fn bad(&self) -> Self::Fault
         ensures { (before : List (List ℕ)) (line : List ℕ) → stands_for self.now before →
             (byte_limit < length (concat before) + length line) ⊎ SaysNothing line → is_fault before line result };
 }
 
-/// The lines so far, as what they say, and the open line in fixed room.
+/// What the lines so far say, and the open line in fixed room.
 #[derive(Drop)]
 pub struct SaidLines<T: TakeSaid> {
-    /// What has taken the lines that are whole.
+    /// What has taken the whole lines.
     pub said: T,
     line: OpenLine,
 }
 
 impl<T: TakeSaid> SaidLines<T> {
-    /// No line yet.
+    /// Starts without lines.
     pub fn new(said: T) -> Self
         requires { T.stands_for said [] }
         ensures { ⟦<SaidLines<T> as TakeLines>⟧.has_taken result [] [] }

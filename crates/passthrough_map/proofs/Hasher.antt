@@ -1,2 +1,2 @@
--- The hasher that hands numbers on.
+-- The hasher that returns numbers unchanged.
 pub mod Overwriting

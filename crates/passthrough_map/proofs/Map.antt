@@ -1,4 +1,4 @@
--- A finite map, and the place of a key in it.
+-- A finite map, and the entry of a key in it.
 pub mod Entry
 pub mod FiniteMap
 pub mod StoredKeys

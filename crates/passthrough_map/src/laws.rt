@@ -1,5 +1,5 @@
-//! Laws of the definitions that the contracts of this crate speak of. Each function has an empty body,
-//! and its clause is the law.
+//! Laws of the definitions that the contracts of this crate use. Each function has an empty body, and its clause is the
+//! law.
 
 ghost use Rattle.std.specs.Prelude.{◌≡◌, ◌^◌, ◌<◌, ℕ, List, [], Some, IsSome, fold};
 ghost use Rattle.std.specs.Hash.{u64};
@@ -7,17 +7,17 @@ ghost use Rattle.std.specs.Map.{set_value};
 ghost use Rattle.passthrough_map.specs.FiniteMap.{value_at, Sets};
 ghost use Rattle.passthrough_map.specs.PassthroughHasher.{overwrite_low};
 
-/// What a [`U64DirectHasher`](crate::passthrough_hasher::U64DirectHasher) makes of a `u64` that it is fed: that
-/// number. Writing no bytes changes nothing.
+/// A [`U64DirectHasher`](crate::passthrough_hasher::U64DirectHasher) that is fed a `u64` returns that number. Writing
+/// no bytes changes nothing.
 pub fn passthrough_hasher_hands_numbers_on()
     ensures number { (state number : ℕ) → number < 2 ^ 64
         → fold overwrite_low state (u64 number) ≡ number }
     ensures none { (state : ℕ) → state < 2 ^ 64 → overwrite_low state [] ≡ state }
 {}
 
-/// What is written through a reference that
-/// [`get_mut`](crate::passthrough_hashmap::PassThroughHashMap::get_mut) gives is found at that key, and every
-/// other key has what it had.
+/// A value that is written through a reference from
+/// [`get_mut`](crate::passthrough_hashmap::PassThroughHashMap::get_mut) is found at that key. Every other key has what
+/// it had.
 pub fn written_value_is_found<Key: Eq, Val>()
     ensures found { (entries : List (Key × Val)) (key : Key) (value : Val)
         → IsSome (value_at Key.eq entries key)

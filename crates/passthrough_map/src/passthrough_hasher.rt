@@ -1,5 +1,5 @@
-//! A hasher that hands a number of the key on as it is, after the module `passthrough_hasher` of the
-//! crate `xet-core-structures` 1.5.2. It is for keys that are hashes already.
+//! A hasher that returns a number of the key unchanged, for keys that are already hashes. This ports the module
+//! `passthrough_hasher` of the crate `xet-core-structures` 1.5.2.
 
 ghost use Rattle.std.specs.Prelude.{◌≡◌, ℕ, IsTrue, fold, ⊤};
 ghost use Rattle.std.specs.Hash as written;
@@ -11,12 +11,12 @@ use std::alloc::AllocError;
 use std::hash::{BuildHasher, Hasher};
 use std::marker::{Model, PhantomData};
 
-/// A key that has a 64-bit number, which can stand for its hash.
+/// A key with a 64-bit number that can serve as its hash.
 pub trait U64HashExtractable: Eq {
     // The number of a key.
     ghost hash_value: { Self → ℕ };
 
-    /// The number of this key. Equal keys have equal numbers.
+    /// Returns the number of this key. Equal keys have equal numbers.
     fn u64_hash_value(&self) -> u64
         ensures { result ≡ hash_value self.now };
 
@@ -29,7 +29,7 @@ impl U64HashExtractable for u64 {
 
     ghost equal_values = { Prim.search (hashing, rules) };
 
-    /// The number itself.
+    /// Returns the number itself.
     fn u64_hash_value(&self) -> u64 {
         *self
     }
@@ -37,7 +37,7 @@ impl U64HashExtractable for u64 {
 
 /// A hasher whose state is one number: 0 at first, and then the last one that was written.
 ///
-/// A contract sees the number.
+/// In a contract it is this number.
 pub struct U64DirectHasher<T: U64HashExtractable> {
     state: u64,
     of: PhantomData<T>,
@@ -54,7 +54,7 @@ impl<T: U64HashExtractable> Model for U64DirectHasher<T> {
 impl<T: U64HashExtractable> Default for U64DirectHasher<T> {
     ghost is_default = { λ hasher. hasher ≡ 0 };
 
-    /// The hasher in the state 0.
+    /// Makes a hasher in the state 0.
     fn default() -> U64DirectHasher<T> {
         U64DirectHasher {
             state: 0,
@@ -83,13 +83,13 @@ impl<T: U64HashExtractable> Hasher for U64DirectHasher<T> {
 
     ghost finish = { λ number. number };
 
-    /// The state.
+    /// Returns the state.
     fn finish(&self) -> u64 {
         self.state
     }
 
-    /// Overwrites the low bytes of the state with the first eight of `bytes`, the lowest first, or with all
-    /// of them where there are fewer. The higher bytes stay.
+    /// Overwrites the low bytes of the state with the first eight of `bytes`, or with all if there are fewer. The first
+    /// byte becomes the lowest. The higher bytes stay.
     fn write(&mut self, bytes: &[u8]) {
         let mut state = self.state.to_le_bytes();
         let len = bytes.len().min(8);
@@ -97,7 +97,7 @@ impl<T: U64HashExtractable> Hasher for U64DirectHasher<T> {
         self.state = u64::from_le_bytes(state);
     }
 
-    /// Makes `number` the state.
+    /// Sets the state to `number`.
     fn write_u64(&mut self, number: u64)
         ensures written { self.new ≡ fold overwrite_low self.old (written.u64 number) }
         ensures state { self.new ≡ number }
@@ -111,7 +111,7 @@ impl<T: U64HashExtractable> BuildHasher for U64DirectHasher<T> {
 
     ghost build_hasher = { λ _. 0 };
 
-    /// The hasher in the state 0, whatever the state of this one.
+    /// Makes a hasher in the state 0, whatever the state of this one.
     fn build_hasher(&self) -> U64DirectHasher<T> {
         U64DirectHasher::default()
     }

@@ -1,5 +1,5 @@
-//! A map for deduplication, over the standard library's `HashMap`, after the module `passthrough_hashmap` of
-//! the crate `xet-core-structures` 1.5.2. Its keys are hashes already.
+//! A map for deduplication, built on the standard library's `HashMap`. Its keys are already hashes. This ports the
+//! module `passthrough_hashmap` of the crate `xet-core-structures` 1.5.2.
 
 ghost use Rattle.std.specs.Prelude.{◌≡◌, ◌↔◌, true, List, [], Some, None, length, is_some, option_map, option_copied, IfNone, IfOk, IfErr, OnOk, OnErr, IsTrue};
 ghost use Rattle.std.specs.Borrow.{sem};
@@ -21,14 +21,14 @@ use std::collections::hash_map::{IntoIter, Iter, Keys, Values};
 use std::hash::{BuildHasherDefault, FoldHasher, Hash};
 use std::marker::Model;
 
-/// How the map inside hashes: as every `HashMap` of the standard library for which nothing else is named.
+/// The hasher builder of the inner map. It is the default of the standard library's `HashMap`.
 ///
-/// This item is this port's own.
+/// Only this port has this item.
 pub type DefaultBuildHasher = BuildHasherDefault<FoldHasher>;
 
 /// A finite map from keys that are hashes to values.
 ///
-/// A contract sees the list of the entries, in an order that nothing is promised of.
+/// In a contract it is the list of its entries, in no particular order.
 #[derive(Drop)]
 pub struct PassThroughHashMap<Key: U64HashExtractable + Hash + Eq, Val, A: Allocator = Global> {
     map: HashMap<Key, Val, DefaultBuildHasher, A>,
@@ -44,7 +44,7 @@ impl<Key: U64HashExtractable + Hash + Eq, Val, A: Allocator> Model
 }
 
 impl<Key: U64HashExtractable + Hash + Eq, Val, A: Allocator> PassThroughHashMap<Key, Val, A> {
-    /// The empty map. It takes no memory.
+    /// Makes an empty map. It allocates nothing.
     pub fn new(alloc: A) -> PassThroughHashMap<Key, Val, A>
         ensures { result ≡ [] }
     {
@@ -53,9 +53,9 @@ impl<Key: U64HashExtractable + Hash + Eq, Val, A: Allocator> PassThroughHashMap<
         }
     }
 
-    /// The empty map, with room for `capacity` entries.
+    /// Makes an empty map with room for `capacity` entries.
     ///
-    /// It fails where an allocation is refused.
+    /// Fails if an allocation fails.
     pub fn with_capacity(
         alloc: A,
         capacity: usize,
@@ -69,7 +69,7 @@ impl<Key: U64HashExtractable + Hash + Eq, Val, A: Allocator> PassThroughHashMap<
         })
     }
 
-    /// How many entries there are.
+    /// Returns the number of entries.
     pub fn len(&self) -> usize
         ensures entries { result ≡ length self.now }
         ensures map { IsFiniteMap Key.eq self.now }
@@ -77,21 +77,21 @@ impl<Key: U64HashExtractable + Hash + Eq, Val, A: Allocator> PassThroughHashMap<
         self.map.len()
     }
 
-    /// Whether there is no entry.
+    /// Returns whether there are no entries.
     pub fn is_empty(&self) -> bool
         ensures { IsTrue result ↔ (self.now ≡ []) }
     {
         self.map.is_empty()
     }
 
-    /// The value at `key`, and `None` where there is none.
+    /// Returns the value at `key`, or `None` if there is none.
     pub fn get(&self, key: &Key) -> Option<&Val>
         ensures { option_copied result ≡ value_at Key.eq self.now key.now }
     {
         self.map.get(key)
     }
 
-    /// The stored key that is equal to `key`, with its value, and `None` where there is none.
+    /// Returns the stored key that is equal to `key`, with its value, or `None` if there is none.
     pub fn get_key_value(&self, key: &Key) -> Option<(&Key, &Val)>
         ensures key { option_map (λ entry. entry.0.now) result ≡ key_at Key.eq self.now key.now }
         ensures value { option_map (λ entry. entry.1.now) result ≡ value_at Key.eq self.now key.now }
@@ -99,17 +99,16 @@ impl<Key: U64HashExtractable + Hash + Eq, Val, A: Allocator> PassThroughHashMap<
         self.map.get_key_value(key)
     }
 
-    /// Whether there is a value at `key`.
+    /// Returns whether there is a value at `key`.
     pub fn contains_key(&self, key: &Key) -> bool
         ensures { result ≡ is_some (value_at Key.eq self.now key.now) }
     {
         self.map.contains_key(key)
     }
 
-    /// Puts `value` at `key`, and answers the value that was there. The stored key stays.
+    /// Puts `value` at `key`, and returns the value that was there. A stored key stays.
     ///
-    /// It fails where there was no value and no memory for one more entry. The map is then unchanged, and the
-    /// pair is dropped.
+    /// Fails if there was no value and an allocation fails. The map is then unchanged, and the pair is dropped.
     pub fn insert(&mut self, key: Key, value: Val) -> Result<Option<Val>, AllocError>
     where
         Key: Drop,
@@ -125,7 +124,8 @@ impl<Key: U64HashExtractable + Hash + Eq, Val, A: Allocator> PassThroughHashMap<
         Ok(self.map.insert(key, value)?)
     }
 
-    /// The place of `key`, to be read, written or filled. It takes no memory, and changes nothing.
+    /// Returns the entry of `key`, through which its value can be read, written or added. It allocates nothing, and
+    /// changes nothing.
     pub fn entry(&mut self, key: Key) -> Entry<'_, Key, Val, A>
         ensures same_map { (entry_map result).ghost_name ≡ self.entry.ghost_name }
         ensures unchanged { (entry_map result).now ≡ self.old }
@@ -138,7 +138,7 @@ impl<Key: U64HashExtractable + Hash + Eq, Val, A: Allocator> PassThroughHashMap<
         Entry::Vacant(VacantEntry { map: self, key })
     }
 
-    /// Takes `key` and its value out, and answers the value, or `None` where there is none.
+    /// Removes `key` and its value. Returns the value, or `None` if there is none.
     pub fn remove(&mut self, key: &Key) -> Option<Val>
     where
         Key: Drop,
@@ -150,7 +150,7 @@ impl<Key: U64HashExtractable + Hash + Eq, Val, A: Allocator> PassThroughHashMap<
         self.map.remove(key)
     }
 
-    /// Takes `key` and its value out, and answers the stored key and the value, or `None` where there is none.
+    /// Removes `key` and its value. Returns the stored key and the value, or `None` if there is none.
     pub fn remove_entry(&mut self, key: &Key) -> Option<(Key, Val)>
         ensures key { option_map (λ entry. entry.0) result ≡ key_at Key.eq self.old key.now }
         ensures value { option_map (λ entry. entry.1) result ≡ value_at Key.eq self.old key.now }
@@ -161,7 +161,7 @@ impl<Key: U64HashExtractable + Hash + Eq, Val, A: Allocator> PassThroughHashMap<
         self.map.remove_entry(key)
     }
 
-    /// The value at `key`, to be written, and `None` where there is none.
+    /// Returns a mutable reference to the value at `key`, or `None` if there is none.
     pub fn get_mut(&mut self, key: &Key) -> Option<&mut Val>
         ensures* written { sem 𝓛 (lends_value Key.row Val.row A.row Key.U64HashExtractable Key.Hash A.Allocator self.entry key.now result) }
         ensures value { option_copied_mut result ≡ value_at Key.eq self.old key.now }
@@ -169,7 +169,7 @@ impl<Key: U64HashExtractable + Hash + Eq, Val, A: Allocator> PassThroughHashMap<
         self.map.get_mut(key)
     }
 
-    /// The entries, each key with its value, in no order that is promised.
+    /// Returns an iterator over the entries, each a key and its value, in no particular order.
     pub fn iter(&self) -> Iter<'_, Key, Val>
         ensures entries { result ≡ self.now }
         ensures runs { ShowsInOrder (deref_pair {K = Key} {X = Val}) }
@@ -178,7 +178,7 @@ impl<Key: U64HashExtractable + Hash + Eq, Val, A: Allocator> PassThroughHashMap<
         self.map.iter()
     }
 
-    /// The keys, in the order of [`PassThroughHashMap::iter`].
+    /// Returns an iterator over the keys, in the order of [`PassThroughHashMap::iter`].
     pub fn keys(&self) -> Keys<'_, Key, Val>
         ensures keys { result ≡ keys_of self.now }
         ensures runs { ShowsInOrder (deref {X = Key}) }
@@ -187,7 +187,7 @@ impl<Key: U64HashExtractable + Hash + Eq, Val, A: Allocator> PassThroughHashMap<
         self.map.keys()
     }
 
-    /// The values, in the order of [`PassThroughHashMap::iter`].
+    /// Returns an iterator over the values, in the order of [`PassThroughHashMap::iter`].
     pub fn values(&self) -> Values<'_, Key, Val>
         ensures values { result ≡ values_of self.now }
         ensures runs { ShowsInOrder (deref {X = Val}) }
@@ -195,7 +195,7 @@ impl<Key: U64HashExtractable + Hash + Eq, Val, A: Allocator> PassThroughHashMap<
         self.map.values()
     }
 
-    /// Takes every entry out.
+    /// Removes all entries.
     pub fn clear(&mut self)
     where
         Key: Drop,
@@ -205,18 +205,18 @@ impl<Key: U64HashExtractable + Hash + Eq, Val, A: Allocator> PassThroughHashMap<
         self.map.clear();
     }
 
-    /// The map inside.
+    /// Returns the inner map.
     ///
-    /// This call is this port's own; it stands for the dereferencing of the Rust type.
+    /// Only this port has this call. It replaces the dereferencing of the Rust type.
     pub fn as_map(&self) -> &HashMap<Key, Val, DefaultBuildHasher, A>
         ensures { result.now.entries ≡ self.now }
     {
         &self.map
     }
 
-    /// The map inside, to be changed. What is left there is what this map has from then on.
+    /// Returns a mutable reference to the inner map. This map then has the entries that are left there.
     ///
-    /// This call is this port's own; it stands for the dereferencing of the Rust type.
+    /// Only this port has this call. It replaces the dereferencing of the Rust type.
     pub fn as_map_mut(&mut self) -> &mut HashMap<Key, Val, DefaultBuildHasher, A>
         ensures* written { sem 𝓛 (lends_map Key.row Val.row A.row Key.U64HashExtractable Key.Hash A.Allocator self.entry result) }
         ensures entries { result.now.entries ≡ self.old }
@@ -233,7 +233,7 @@ impl<'a, Key: U64HashExtractable + Hash + Eq, Val, A: Allocator> IntoIterator
 
     ghost into_iter_gives = { λ map entries. (entries ≡ map.now) × ShowsInOrder (deref_pair {K = Key} {X = Val}) × IsFiniteMap Key.eq map.now };
 
-    /// The entries, as [`PassThroughHashMap::iter`] gives them.
+    /// Returns the iterator of [`PassThroughHashMap::iter`].
     fn into_iter(self) -> Iter<'a, Key, Val> {
         self.iter()
     }
@@ -247,7 +247,7 @@ impl<Key: U64HashExtractable + Hash + Eq + Drop, Val: Drop, A: Allocator> IntoIt
 
     ghost into_iter_gives = { λ map entries. (entries ≡ map) × GivesInOrder (Key × Val) × IsFiniteMap Key.eq map };
 
-    /// The entries by value, in no order that is promised.
+    /// Returns an iterator over the owned entries, in no particular order.
     fn into_iter(self) -> IntoIter<Key, Val, A> {
         let PassThroughHashMap { map } = self;
         map.into_iter()
@@ -259,7 +259,7 @@ impl<Key: U64HashExtractable + Hash + Eq, Val, A: Allocator> From<
 > for PassThroughHashMap<Key, Val, A> {
     ghost from_gives = { λ inner map. map ≡ inner.entries };
 
-    /// The same entries.
+    /// Makes a map with the same entries.
     fn from(map: HashMap<Key, Val, DefaultBuildHasher, A>) -> PassThroughHashMap<Key, Val, A> {
         PassThroughHashMap { map }
     }
@@ -269,7 +269,7 @@ impl<Key: U64HashExtractable + Hash + Eq, Val, A: Allocator> From<PassThroughHas
     for HashMap<Key, Val, DefaultBuildHasher, A> {
     ghost from_gives = { λ map inner. inner.entries ≡ map };
 
-    /// The map inside, with the same entries.
+    /// Returns the inner map, with the same entries.
     fn from(map: PassThroughHashMap<Key, Val, A>) -> HashMap<Key, Val, DefaultBuildHasher, A> {
         let PassThroughHashMap { map } = map;
         map
@@ -281,12 +281,12 @@ impl<
     Val: Drop,
     A: Allocator + Clone,
 > PassThroughHashMap<Key, Val, A> {
-    /// The map of the pairs that `pairs` gives. Of pairs with equal keys the first one's key and the last one's value
+    /// Makes a map of the pairs of an iterator. If several pairs have equal keys, the first key and the last value
     /// stay.
     ///
-    /// It fails where an allocation is refused. The iterator may then be left in its midst.
+    /// Fails if an allocation fails. The iterator may then be partly consumed.
     ///
-    /// This call is this port's own; it stands for `FromIterator`.
+    /// Only this port has this call. It replaces `FromIterator`.
     pub fn from_pairs<I: IntoIterator<Item = (Key, Val)>>(
         alloc: A,
         pairs: I,
@@ -309,12 +309,12 @@ impl<
     Val: Copy,
     A: Allocator + Clone,
 > PassThroughHashMap<Key, Val, A> {
-    /// The map of some pairs. Of pairs with equal keys the first one's key and the last one's value stay.
+    /// Makes a map of some pairs. If several pairs have equal keys, the first key and the last value stay.
     ///
-    /// It fails where an allocation is refused.
+    /// Fails if an allocation fails.
     ///
-    /// This call is this port's own; it stands for `From<[(Key, Value); N]>`. Pairs that can't be copied go
-    /// through [`PassThroughHashMap::from_pairs`].
+    /// Only this port has this call. It replaces `From<[(Key, Value); N]>`. For pairs that can't be copied, use
+    /// [`PassThroughHashMap::from_pairs`].
     pub fn from_array<const N: usize>(
         alloc: A,
         pairs: [(Key, Val); N],
@@ -343,11 +343,11 @@ impl<
     Val: Clone,
     A: Allocator + Clone,
 > PassThroughHashMap<Key, Val, A> {
-    /// A map with the same entries.
+    /// Returns a map with the same entries.
     ///
-    /// It fails where an allocation, or the clone of a key or of a value, is refused.
+    /// Fails if an allocation fails, or the clone of a key or of a value.
     ///
-    /// This call is this port's own; it stands for `Clone`.
+    /// Only this port has this call. It replaces `Clone`.
     pub fn try_clone(&self) -> Result<PassThroughHashMap<Key, Val, A>, AllocError>
         requires keys { (key copy : Key) → Key.is_clone key copy → copy ≡ key }
         requires values { (value copy : Val) → Val.is_clone value copy → copy ≡ value }

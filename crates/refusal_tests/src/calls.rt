@@ -1,7 +1,7 @@
-//! Calls with an allocator that refuses a request and each later one: the first request that a call makes, then the
-//! second, and so on, until the call makes no more. A call that is refused a request is out of memory, and all
-//! that was lent to it equals a copy that was made before. What calls of `serde_json::Value` take of the global
-//! allocator stands in the crate `global_refusals`.
+//! Calls with an allocator that refuses one request and each later one. The tests refuse the first request that a call
+//! makes, then the second, and so on, until the call makes no more. If a request is refused, the call must report that
+//! it is out of memory, and everything that it borrowed must equal a copy made before. The crate `global_refusals`
+//! tests what calls of `serde_json::Value` allocate by the global allocator.
 
 mod examples;
 mod hashes;
@@ -28,7 +28,7 @@ use xet_merkle::plain_range::PlainRange;
 /// The allocator of these tests.
 pub type Refusing = RefusingAllocator<Global>;
 
-/// The same without an end to its memory, of which a call is granted some requests later.
+/// Makes such an allocator without a limit. A test later limits the requests that it grants to a call.
 pub fn refusing(alloc: Global) -> Refusing {
     RefusingAllocator::new(alloc, u32::MAX)
 }
@@ -43,7 +43,7 @@ pub struct Chunks<'a> {
 }
 
 impl<'a> Chunks<'a> {
-    /// No chunks, for a call that has values of its own.
+    /// Returns no chunks, for a call that has values of its own.
     pub fn none(alloc: Global) -> Chunks<'a> {
         Chunks {
             alloc,
@@ -53,7 +53,7 @@ impl<'a> Chunks<'a> {
         }
     }
 
-    /// The first chunks, as many as told, and the others.
+    /// Splits the chunks into the first `len` and the others.
     pub fn split(&self, len: usize) -> [Chunks<'a>; 2] {
         let (first, second) = self.nodes.split_at(len.min(self.nodes.len()));
         [
@@ -71,26 +71,27 @@ impl<'a> Chunks<'a> {
     }
 }
 
-/// What a call comes to that is granted some requests alone.
+/// How a call ends that is granted only some requests.
 #[derive(Clone, Copy)]
 pub enum Outcome {
-    /// It was out of memory, and all that was lent to it is as it was.
+    /// It was out of memory, and everything that it borrowed is unchanged.
     Refused,
-    /// It answered what it should.
+    /// It returned what it should.
     Answered,
     /// Neither.
     Wrong,
 }
 
 impl Outcome {
-    /// The same, unless something after the call isn't as it should be.
+    /// Returns the same outcome, unless something after the call isn't right.
     pub fn if_so(self, is_right: bool) -> Outcome {
         if is_right { self } else { Outcome::Wrong }
     }
 }
 
-/// What a call comes to, since which its allocator was granted nothing: whether its answer is right, or all that was lent to
-/// it is the same. It is out of memory exactly where a request was refused.
+/// Returns how a call ended. Its allocator must have been granted nothing since. The call must be out of memory if and
+/// only if a request was refused. `answer` says whether it returned what it should. `is_same` says whether everything
+/// that it borrowed is unchanged.
 pub fn outcome_of(alloc: &Refusing, answer: Result<bool, CoreError>, is_same: bool) -> Outcome {
     match (answer, alloc.has_refused()) {
         (Ok(true), false) => Outcome::Answered,
@@ -99,7 +100,7 @@ pub fn outcome_of(alloc: &Refusing, answer: Result<bool, CoreError>, is_same: bo
     }
 }
 
-/// The calls that take memory of an allocator that they are given, and the worked examples that do.
+/// The calls that take an allocator and allocate, and the worked examples that do.
 #[derive(Clone, Copy)]
 pub enum Call {
     Hex,
@@ -144,13 +145,13 @@ pub enum Call {
     BracketingsOfSubtrees,
     BracketingsOfPlainRanges,
     KeepHashes,
-    // The row of a session, and that of a call that answers lines.
+    // Each has its row: that of a session, or that of a call that answers lines.
     SessionOfSubtrees(&'static str),
     SessionOfPlainRanges(&'static str),
     OfLines(&'static str),
 }
 
-// The calls that have a list of chunks to work on, each with the seed of the list. `Append` has lists of its own.
+// The calls that work on a list of chunks, each with the seed of the list. `Append` has lists of its own.
 const OF_CHUNKS: [(Call, u64); 15] = [
     (Call::XorbHash, 3),
     (Call::FileHash, 5),
@@ -203,7 +204,7 @@ const EXAMPLES: [Call; 9] = [
     Call::BracketingsOfPlainRanges,
 ];
 
-// What a call comes to that is granted some requests.
+// Makes a call that is granted some requests. Returns how it ends.
 fn attempt(
     call: Call,
     alloc: &Refusing,
@@ -267,7 +268,8 @@ fn attempt(
 // At least as many requests as each call makes.
 const MOST_REQUESTS: u32 = 500;
 
-// Whether a call is out of memory exactly where one of its requests is refused, which happens, and is right each time.
+// Returns whether a call is out of memory if and only if one of its requests is refused, and is otherwise right. At
+// least one request must be refused.
 fn is_refused_with_each_request(call: Call, chunks: &Chunks<'_>) -> Result<bool, Fail> {
     for granted in 0..MOST_REQUESTS {
         match attempt(call, &refusing(chunks.alloc), granted, chunks)? {
@@ -285,7 +287,7 @@ fn calls_on_chunks_are_refused_with_each_request(rt: HostRuntime) -> Result<(), 
         let mut generator = Xoshiro256PlusPlus::seed_from_u64(*seed);
         let nodes = drawn_list(&mut generator, rt.alloc(), 200)?;
         for (at_start, at_end) in MARKS {
-            // The root of a range is asked for where both ends are marked.
+            // Only a range with both marks has a root.
             if matches!(call, Call::RootOfPlain) && !(at_start && at_end) {
                 continue;
             }
@@ -304,7 +306,7 @@ fn calls_on_chunks_are_refused_with_each_request(rt: HostRuntime) -> Result<(), 
     Ok(())
 }
 
-// Fails unless each of some calls, which have values of their own, is refused with each request.
+// Fails unless each of some calls, which have values of their own, can be refused each request.
 fn are_refused_with_each_request(alloc: Global, calls: &[Call]) -> Result<(), Fail> {
     for (number, call) in calls.iter().enumerate() {
         if !is_refused_with_each_request(*call, &Chunks::none(alloc))? {

@@ -1,5 +1,5 @@
-//! Tests of the calls of all crates that take memory of an allocator that they are given, with each of their requests refused
-//! in turn, and of those that take none.
+//! Tests of all calls that take an allocator. Those that allocate have each of their requests refused in turn. The
+//! others are called while each request is refused.
 #![tactic(auto)]
 
 #[cfg(test)]

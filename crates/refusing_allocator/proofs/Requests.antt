@@ -1,4 +1,4 @@
--- What a call of `refuses` is handed, and what its caller has of the answer.
+-- What a call of `refuses` gets, and what its caller knows of the result.
 use Rattle.std.proofs.Common.{◌≡◌, ℕ, ◌^◌, ◌<◌, Bool, List, [], ◌∷◌, refl, ap, w64}
 use seplogic.Ra.Ura.{Ura}
 use mir.Val.{Val, vbool, vint, vptr}

@@ -1,41 +1,41 @@
-//! An allocator for tests, which refuses requests and counts those that it grants.
+//! An allocator for tests. It fails on request, and counts the allocations that succeed.
 #![tactic(auto)]
 
 use std::alloc::{AllocError, Allocator};
 use std::cell::Cell;
 
-/// How many requests an allocator granted, and of how many bytes in all.
+/// How many requests an allocator granted, and for how many bytes in all.
 #[derive(Clone, Copy, Debug, PartialEq, Eq)]
 pub struct Granted {
     pub requests: u64,
     pub bytes: u64,
 }
 
-// No request.
+// No requests.
 const NONE: Granted = Granted {
     requests: 0,
     bytes: 0,
 };
 
-// The requests since some were last granted.
+// The requests since the start, or since `grant` was last called.
 #[derive(Clone, Copy)]
 struct Counts {
-    // How many more are granted, and below zero once one was refused.
+    // How many more requests are granted. It is below zero once one was refused.
     left: i64,
     granted: Granted,
 }
 
-/// An allocator that grants its first requests, by handing them on to another allocator, and refuses each
-/// later one. The growth of a collection is a request. Collections that take a `&` to it share its counts.
+/// An allocator that grants its first requests by passing them on to another allocator, and refuses each later one.
+/// Growing a collection is a request. Collections that hold a `&` to it share its counts.
 ///
-/// No contract can speak of the counts, which change behind a `&`.
+/// No contract can mention the counts, which change behind a `&`.
 pub struct RefusingAllocator<B: Allocator> {
     inner: B,
     counts: Cell<Counts>,
 }
 
 impl<B: Allocator> RefusingAllocator<B> {
-    /// An allocator that grants `granted` requests.
+    /// Makes an allocator that grants `granted` requests.
     pub fn new(inner: B, granted: u32) -> Self {
         RefusingAllocator {
             inner,
@@ -43,17 +43,17 @@ impl<B: Allocator> RefusingAllocator<B> {
         }
     }
 
-    /// Grants so many requests from here on, and refuses each later one.
+    /// Grants `granted` requests from here on, and refuses each later one.
     pub fn grant(&self, granted: u32) {
         self.counts.set(first(granted));
     }
 
-    /// Whether a request was refused since requests were last granted.
+    /// Returns whether a request was refused since the start, or since `grant` was last called.
     pub fn has_refused(&self) -> bool {
         self.counts.get().left < 0
     }
 
-    /// The requests that were made and granted since requests were last granted.
+    /// Returns the requests that were granted since the start, or since `grant` was last called.
     pub fn granted(&self) -> Granted {
         self.counts.get().granted
     }
@@ -68,7 +68,7 @@ impl<B: Allocator> Drop for RefusingAllocator<B> {
     }
 }
 
-// So many requests are granted, and none was made yet.
+// The counts if `granted` requests are to be granted, and none was made yet.
 fn first(granted: u32) -> Counts {
     Counts {
         left: i64::from(granted),
@@ -76,7 +76,7 @@ fn first(granted: u32) -> Counts {
     }
 }
 
-// Counts a request for so many bytes, and tells whether it is refused.
+// Counts a request for `size` bytes. Returns whether it is refused.
 fn refuses(counts: &Cell<Counts>, size: usize) -> bool {
     let Counts { left, mut granted } = counts.get();
     let left = left.saturating_sub(1);

@@ -1,4 +1,4 @@
-//! Drawn sessions beside a plain model of chunks by position.
+//! Compares random sessions with a simple model of chunks by position.
 
 use rand_core::{Rng, SeedableRng};
 use rand_xoshiro::Xoshiro256PlusPlus;
@@ -14,20 +14,20 @@ use xet_merkle::chunk_range::ChunkRange;
 use xet_merkle::merkle_hash_subtree::MerkleHashSubtree;
 use xet_merkle::plain_range::PlainRange;
 
-// The positions that are taken, and the numbers of which the hashes were drawn.
+// The taken positions, and the numbers whose hashes have been put.
 #[derive(Drop)]
 struct Plain {
     taken: BTreeSet<u64>,
     seen: BTreeSet<u64>,
 }
 
-// A chunk is drawn from a number below 60, so that some hashes come again.
+// Returns the chunk of a number below 60, so that some hashes repeat.
 fn chunk(number: u64) -> Node {
     (DataHash::random_from_seed(number), number)
 }
 
 impl Plain {
-    // What a session should answer, which takes the positions where it does.
+    // Returns what a session should return, and takes the positions if it succeeds.
     fn put(
         &mut self,
         first: u64,
@@ -49,7 +49,7 @@ impl Plain {
     }
 }
 
-// Up to 200 drawn numbers.
+// Returns up to 200 random numbers.
 fn drawn_numbers(
     generator: &mut Xoshiro256PlusPlus,
     alloc: Global,
@@ -61,7 +61,7 @@ fn drawn_numbers(
     Ok(numbers)
 }
 
-// A list of so many chunks cut into up to 40 ranges, each with its beginning and its end, in drawn order.
+// Cuts a list of `len` chunks into up to 40 ranges, each with its beginning and its end. Returns them in random order.
 fn drawn_pieces(
     generator: &mut Xoshiro256PlusPlus,
     alloc: Global,
@@ -83,13 +83,13 @@ fn drawn_pieces(
     Ok(pieces)
 }
 
-// A part of a list, as much of it as there is.
+// Returns a part of a list, or as much of it as exists.
 fn part<T>(list: &[T], begin: u64, end: u64) -> &[T] {
     let end = list.len().min(end as usize);
     list.get(begin as usize..end).unwrap_or_default()
 }
 
-// Whether the ranges of a session begin where positions are taken after one that isn't, and nowhere else.
+// Returns whether the ranges of a session begin exactly at the taken positions that come after one that isn't taken.
 fn has_runs<C: ChunkRange, H: KeptHashes<C::Alloc>>(
     session: &SessionOf<C, H>,
     plain: &Plain,
@@ -112,7 +112,7 @@ fn has_runs<C: ChunkRange, H: KeptHashes<C::Alloc>>(
     session.range(count).is_none()
 }
 
-// Whether a drawn session answers as the model does, and at its end the file hash of the list.
+// Returns whether a random session returns what the model does, and in the end the file hash of the list.
 fn agrees<C: ChunkRange<Alloc = Global>>(alloc: Global, seed: u64) -> Result<bool, Fail> {
     let mut generator = Xoshiro256PlusPlus::seed_from_u64(seed);
     let numbers = drawn_numbers(&mut generator, alloc)?;

@@ -5,12 +5,12 @@ use upload_session::kept_hashes::{KeptHashes, NoHashes, SeenHashes};
 use xet_hash::data_hash::MerkleHash;
 use xet_merkle::aggregated_hashes::Node;
 
-// A chunk by its number, of size 1.
+// Returns the chunk of a number, of size 1.
 fn chunk(number: u64) -> Node {
     (MerkleHash::from([number, 0, 0, 0]), 1)
 }
 
-// Whether the hashes are those of some numbers, in this order.
+// Returns whether the hashes are those of some numbers, in this order.
 fn are_of(hashes: &[MerkleHash], numbers: &[u64]) -> bool {
     hashes.len() == numbers.len()
         && hashes

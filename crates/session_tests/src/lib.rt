@@ -1,4 +1,5 @@
-//! Tests of `upload_session`: worked examples, drawn sessions beside a plain model, and the hashes that are kept.
+//! Tests of `upload_session`: worked examples, random sessions compared with a simple model, and the hashes that are
+//! kept.
 #![tactic(auto)]
 
 #[cfg(test)]

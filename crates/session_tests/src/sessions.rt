@@ -1,4 +1,5 @@
-//! Sessions that show what no contract says: worked examples with the answers of other implementations, and printed texts.
+//! Sessions that test what no contract says: worked examples with the results of other implementations, and printed
+//! texts.
 
 use std::alloc::Global;
 use std::fmt::Display;
@@ -14,9 +15,10 @@ use xet_merkle::chunk_range::ChunkRange;
 use xet_merkle::merkle_hash_subtree::MerkleHashSubtree;
 use xet_merkle::plain_range::PlainRange;
 
-// Sessions, each a row of calls with `;` between two. A call has its word, the first position or the total, the seed of the
-// hash and the size of each chunk, and what it should answer. The last three: a chunk leaves no room for another's
-// size; no chunk is placed wherever it would be; positions are told of before sizes, and a position that is taken before both.
+// Sessions, each a row of calls separated by `;`. A call has its word, the first position or the total, the seed of the
+// hash and the size of each chunk, and what it should return. The last three rows test that a chunk can leave no room
+// for another's size; that a put of no chunks changes nothing at any position; and that positions are reported before
+// sizes, and a taken position before both.
 const SESSIONS: &str =
     "put 2 3:300 1;put 0 1:100,2:200 2;finish 3 - 54e55dccc6653c612bdb5576c5d3cb34bb31bc4e100248abccf4c908b3ef7715;root 3 - 71ec1275fca074724e2dd666921b3277c7cee603e4d025bcab2d4050015be2bc
 put 0 1:100,1:100 1;put 2 1:100,1:100 0;finish 4 - 2cdba690d0e09563596e0cda626d43eb4c96ef1e994fe72d9b2f5a83cfcd36dd
@@ -29,12 +31,12 @@ put 0 1:18446744073709551615 1;put 5 2:1 Sizes;put 0 - 0;finish 1 - 8e16257caa3f
 put 0 1:100 1;put 0 - 0;put 18446744073709551615 - 0
 put 18446744073709551614 1:18446744073709551615 1;put 18446744073709551615 2:1 Positions;put 18446744073709551613 2:1,2:1,2:1 Overlap";
 
-// A chunk whose hash is drawn from a seed.
+// Returns a chunk whose hash comes from a seed.
 fn node(seed: u64, size: u64) -> Node {
     (DataHash::random_from_seed(seed), size)
 }
 
-// The chunks of a call; `-` is none.
+// Returns the chunks of a call. `-` is none.
 fn nodes(alloc: Global, chunks: &str) -> Result<Vec<Node>, Fail> {
     let mut nodes = Vec::new(alloc);
     for chunk in chunks.split(',') {
@@ -46,7 +48,7 @@ fn nodes(alloc: Global, chunks: &str) -> Result<Vec<Node>, Fail> {
     Ok(nodes)
 }
 
-// An answer, or the name of a fault.
+// Returns a result as text, or the name of a fault.
 fn text_of<T: Display + Drop>(
     alloc: Global,
     answer: Result<T, SessionFault>,
@@ -57,7 +59,8 @@ fn text_of<T: Display + Drop>(
     }
 }
 
-// Whether the calls of a row are answered as told; whether the number of new hashes is told, too.
+// Returns whether the calls of a row return what they should. `counts` says whether the number of new hashes is
+// compared.
 fn answers<C: ChunkRange, H: KeptHashes<C::Alloc>>(
     alloc: Global,
     session: &mut SessionOf<C, H>,
@@ -116,7 +119,7 @@ fn chunks_are_put_in_any_order(rt: HostRuntime) -> Result<(), Fail> {
     Ok(())
 }
 
-// Whether a range of a session is the subtree of some chunks, from a position on.
+// Returns whether a range of a session is the subtree of some chunks, from a position on.
 fn lends(
     alloc: Global,
     session: &Session,

@@ -1,5 +1,5 @@
-//! What tests of several crates share: drawn nodes and lists, lists whose natural cuts are told, ranges, and what is
-//! read of subtrees.
+//! What tests of several crates share: random nodes and lists, lists with given natural cuts, ranges, and summaries of
+//! subtrees.
 #![tactic(auto)]
 
 pub mod texts;
@@ -16,16 +16,16 @@ use xet_merkle::CoreError;
 use xet_merkle::aggregated_hashes::Node;
 use xet_merkle::merkle_hash_subtree::MerkleHashSubtree;
 
-/// Whether a list's start and end are marked.
+/// All choices of a start mark and an end mark.
 pub const MARKS: [(bool, bool); 4] = [(false, false), (true, false), (false, true), (true, true)];
 
-/// A drawn hash, with a size from 100 to 9999.
+/// Returns a random hash, with a size from 100 to 9999.
 pub fn drawn_node(generator: &mut Xoshiro256PlusPlus) -> Node {
     let hash = DataHash::random_from_seed(generator.next_u64());
     (hash, generator.next_u64() % 9900 + 100)
 }
 
-/// So many drawn nodes.
+/// Returns `count` random nodes.
 pub fn drawn_list(
     generator: &mut Xoshiro256PlusPlus,
     alloc: Global,
@@ -38,7 +38,8 @@ pub fn drawn_list(
     Ok(nodes)
 }
 
-/// So many nodes of drawn hashes, each one a natural cut or not as is drawn among four, and of sizes below 1000.
+/// Returns `count` nodes with random hashes and sizes below 1000. On average `cuts_in_four` of four nodes are natural
+/// cuts.
 pub fn drawn_nodes(
     generator: &mut Xoshiro256PlusPlus,
     alloc: Global,
@@ -54,7 +55,7 @@ pub fn drawn_nodes(
     Ok(nodes)
 }
 
-/// Nodes of size 1 of which those at the given indices are natural cuts.
+/// Returns nodes of size 1. Those at the given indices are natural cuts.
 pub fn with_cuts<const N: usize>(cuts: &[u64]) -> [Node; N] {
     let mut nodes = [(MerkleHash::default(), 1); N];
     let mut number = 0;
@@ -69,10 +70,10 @@ pub fn with_cuts<const N: usize>(cuts: &[u64]) -> [Node; N] {
 /// The JSON text of the closed subtree of no pairs.
 pub const NO_PAIRS: &str = "{\"at_end\":true,\"at_start\":true,\"levels\":[[0,0]],\"nodes\":[]}";
 
-/// Natural cuts that stand at each fourth node.
+/// The indices of natural cuts at each fourth node.
 pub const EACH_FOURTH: [u64; 7] = [3, 7, 11, 15, 19, 23, 27];
 
-/// Whether each level of a subtree has so many left and right nodes.
+/// Returns whether each level of a subtree has these numbers of left and right nodes.
 pub fn has_counts<A: Allocator>(subtree: &MerkleHashSubtree<A>, counts: &[(usize, usize)]) -> bool {
     let mut total = 0usize;
     for (level, (left, right)) in counts.iter().enumerate() {
@@ -91,8 +92,8 @@ pub fn has_counts<A: Allocator>(subtree: &MerkleHashSubtree<A>, counts: &[(usize
 // A list has fewer nodes than this. Lists take these bounds in turn.
 const LENGTHS: [u64; 5] = [10, 40, 100, 300, 1000];
 
-// The gaps from one natural cut to the next: a list draws each of them from a table. At `None` natural cuts
-// stand where the drawn hashes have them. Lists take these in turn.
+// The gaps from one natural cut to the next. A list draws each of its gaps from a table. With `None`, natural cuts are
+// where the random hashes have them. Lists take these tables in turn.
 const GAPS: [Option<[u64; 8]>; 7] = [
     None,
     Some([3, 4, 5, 6, 7, 3, 5, 7]),
@@ -103,7 +104,7 @@ const GAPS: [Option<[u64; 8]>; 7] = [
     Some([1, 1, 2, 1, 1, 4, 1, 1]),
 ];
 
-/// A hash with some of its bits changed so that it is a natural cut, or none, as told.
+/// Returns a hash with some of its bits changed, so that it is a natural cut if `is_cut` is set, and none otherwise.
 pub fn with_cut(hash: MerkleHash, is_cut: bool) -> MerkleHash {
     let [first, second, third, last] = hash.words();
     let cut = last & !3;
@@ -111,7 +112,7 @@ pub fn with_cut(hash: MerkleHash, is_cut: bool) -> MerkleHash {
     MerkleHash::from([first, second, third, last])
 }
 
-/// The list of a number, whose natural cuts stand in drawn gaps or at drawn places.
+/// Returns the list of a number. Its natural cuts are at random gaps or places.
 pub fn numbered_list(alloc: Global, number: u64) -> Result<Vec<Node>, AllocError> {
     let mut generator = Xoshiro256PlusPlus::seed_from_u64(number);
     let gaps = GAPS[(number % 7) as usize];
@@ -133,7 +134,7 @@ pub fn numbered_list(alloc: Global, number: u64) -> Result<Vec<Node>, AllocError
     Ok(nodes)
 }
 
-// The chunks that the reference lists are made of, each with its number, its hash, and its size in bytes.
+// The chunks of the reference lists, each with its number, its hash, and its size in bytes.
 const CHUNKS: &str = "0 0000000000000000000000000000000000000000000000000000000000000000 0
 1 cfc5d07f6f03c29bbf424132963fe08d19a37d5757aaf520bf08119f05cd56d6 100
 2 c3e67584b5c4fc2a89837ec39e40f2c8a6bb0b2987ac94cd4b31e5fbdd210a72 200
@@ -144,7 +145,7 @@ const CHUNKS: &str = "0 00000000000000000000000000000000000000000000000000000000
 7 0e2c1a002aae913d2c0fc8ddfa4e9e14b7b311b3b0d458726d5d9f6a6318013c 700
 ";
 
-/// The reference chunk of a number.
+/// Returns the reference chunk of a number.
 pub fn reference_chunk(number: &str) -> Result<Node, Fail> {
     for row in CHUNKS.lines() {
         let mut columns = row.split(' ');
@@ -156,7 +157,7 @@ pub fn reference_chunk(number: &str) -> Result<Node, Fail> {
     Err("no such chunk")?
 }
 
-/// The reference chunks whose numbers stand in a word, with a comma between two; `-` is no chunk.
+/// Returns the reference chunks whose numbers are in a word, separated by commas. `-` is no chunk.
 pub fn reference_list(alloc: Global, numbers: &str) -> Result<Vec<Node>, Fail> {
     let mut nodes = Vec::new(alloc);
     for number in numbers.split(',') {
@@ -167,7 +168,7 @@ pub fn reference_list(alloc: Global, numbers: &str) -> Result<Vec<Node>, Fail> {
     Ok(nodes)
 }
 
-// Adds the 32 bytes of each node's hash, and the 8 of its size from the lowest up.
+// Appends the 32 bytes of each node's hash, and the 8 of its size, lowest first.
 fn push_nodes(bytes: &mut Vec<u8>, nodes: &[Node]) -> Result<(), AllocError> {
     for (hash, size) in nodes {
         bytes.extend_from_slice(&hash.as_bytes())?;
@@ -176,8 +177,9 @@ fn push_nodes(bytes: &mut Vec<u8>, nodes: &[Node]) -> Result<(), AllocError> {
     Ok(())
 }
 
-/// How many left and right nodes each level has, and the first word of the data hash of all nodes: the left
-/// ones by rising level, then the right ones by falling level, and last the root, where there is one.
+/// Returns a summary of a subtree: the numbers of left and right nodes of each level, and the first word of the data
+/// hash of all nodes. The nodes are the left ones, lowest level first, then the right ones, highest level first, and
+/// last the root, if there is one.
 pub fn summary(alloc: Global, subtree: &MerkleHashSubtree) -> Result<String, AllocError> {
     let mut text = String::new(alloc);
     let mut bytes = Vec::new(alloc);
@@ -197,8 +199,8 @@ pub fn summary(alloc: Global, subtree: &MerkleHashSubtree) -> Result<String, All
     Ok(text)
 }
 
-/// The subtrees of a list's ranges: as many nodes in turn as told, and last all that are left. The list's
-/// start and end are marked as told.
+/// Returns the subtrees of a list's ranges. Each range has as many nodes as the next of `lengths`, and the last has all
+/// that are left. `marks` says whether the list's start and end are marked.
 pub fn ranges(
     alloc: Global,
     nodes: &[Node],
@@ -218,7 +220,7 @@ pub fn ranges(
     Ok(ranges)
 }
 
-// The node that a letter stands for, with its number as first word.
+// Returns the node of a letter, with its number as first word.
 fn node(number: u64, letter: char) -> Node {
     let size = match letter {
         '+' => u64::MAX,
@@ -229,7 +231,7 @@ fn node(number: u64, letter: char) -> Node {
     (MerkleHash::from([number, 0, 0, last]), size)
 }
 
-// The nodes of all ranges, and how many each range but the last has.
+// Returns the nodes of all ranges, and how many each range but the last has.
 fn nodes_and_lengths(alloc: Global, text: &str) -> Result<(Vec<Node>, Vec<usize>), AllocError> {
     let mut nodes = Vec::new(alloc);
     let mut lengths = Vec::new(alloc);
@@ -250,23 +252,23 @@ fn nodes_and_lengths(alloc: Global, text: &str) -> Result<(Vec<Node>, Vec<usize>
     Ok((nodes, lengths))
 }
 
-/// The ranges that a text tells. `[` and `]` mark the list's start and end, `(` and `)` don't; a `/` stands between two
-/// ranges. Each other letter is a node: `|` a natural cut of size 1, and those that are none `.` of size 1, `+` of the
-/// largest size and `o` of size 0.
+/// Returns the ranges that a text describes. `[` and `]` mark the list's start and end, and `(` and `)` don't. A `/`
+/// separates two ranges. Each other letter is a node: `|` is a natural cut of size 1. The others are no natural cuts:
+/// `.` has size 1, `+` the largest size, and `o` size 0.
 pub fn told_ranges(alloc: Global, text: &str) -> Result<Vec<MerkleHashSubtree>, CoreError> {
     let marks = (text.starts_with('['), text.ends_with(']'));
     let (nodes, lengths) = nodes_and_lengths(alloc, text)?;
     ranges(alloc, nodes.as_slice(), lengths.as_slice(), marks)
 }
 
-/// The nodes that a text tells, as [`told_ranges`] reads them.
+/// Returns the nodes that a text describes, as [`told_ranges`] reads them.
 pub fn told_nodes(alloc: Global, text: &str) -> Result<Vec<Node>, AllocError> {
     let (nodes, _) = nodes_and_lengths(alloc, text)?;
     Ok(nodes)
 }
 
-/// Whether each level of a subtree has as many left and right nodes as a text tells: a word for each level, with a comma
-/// between two numbers.
+/// Returns whether each level of a subtree has the numbers of left and right nodes that a text gives. It has a word for
+/// each level, two numbers with a comma between them.
 pub fn has_told_counts(
     alloc: Global,
     subtree: &MerkleHashSubtree,
@@ -295,7 +297,7 @@ pub fn merge_into_previous(
     Ok(())
 }
 
-/// The lengths of all ranges but the last, of from two to six.
+/// Returns random lengths of all ranges but the last, for two to six ranges.
 pub fn drawn_lengths(
     generator: &mut Xoshiro256PlusPlus,
     alloc: Global,
@@ -310,12 +312,13 @@ pub fn drawn_lengths(
     Ok(lengths)
 }
 
-/// What the JSON value of a text is read as.
+/// Reads a subtree from the JSON value of a text.
 pub fn read_json(alloc: Global, text: &str) -> Result<Result<MerkleHashSubtree, CoreError>, Fail> {
     Ok(MerkleHashSubtree::from_json(alloc, &Value::from_str(alloc, text)?))
 }
 
-/// The JSON value of an open subtree of two levels: left and right nodes of the lower one, and left nodes of the upper one.
+/// Returns the JSON value of an open subtree of two levels: left and right nodes of the lower one, and left nodes of
+/// the upper one.
 pub fn two_levels(
     alloc: Global,
     left: &[Node],

@@ -1,15 +1,18 @@
-//! Texts of inputs and answers that several tests have, and the rows of tables that are texts.
+//! Texts of inputs and answers that several tests use, and the rows of tables that are texts.
 
 use std::alloc::Global;
 use std::test::Fail;
 
+/// The hash of the seed 1, as hex text.
 pub const H1: &str = "cfc5d07f6f03c29bbf424132963fe08d19a37d5757aaf520bf08119f05cd56d6";
 
+/// The hash of the seed 2, as hex text.
 pub const H2: &str = "c3e67584b5c4fc2a89837ec39e40f2c8a6bb0b2987ac94cd4b31e5fbdd210a72";
 
+/// The hash of the seed 3, as hex text.
 pub const H3: &str = "0d2beb91b9196929a5ddec9f6e306924ddf4a24268e3e59fd8464738d525af37";
 
-/// The answer to no pair.
+/// The answer to no pairs.
 pub const NO_PAIR: &str = "xorb 0000000000000000000000000000000000000000000000000000000000000000
 file 0000000000000000000000000000000000000000000000000000000000000000
 ";
@@ -24,34 +27,34 @@ pub const ABC: &str = "xorb a8803506f7aff014f19aa9e9b79dc6455c49672570f961560713
 file 55b9df318a7c45f470d57b04d8ca79a15b0637ffe94b25041a58d00c3528afff
 ";
 
-/// The open range of no chunk.
+/// The open range of no chunks.
 pub const NO_CHUNK: &str = r#"{"at_end":false,"at_start":false,"levels":[[0,0]],"nodes":[]}"#;
 
-/// Lines in which h1, h2 and h3 stand for the hashes of these names.
+/// Returns lines with h1, h2 and h3 replaced by the hashes of these names.
 pub fn with_hashes(alloc: Global, lines: &str) -> Result<String, Fail> {
     let first = lines.replace(alloc, "h1", H1)?;
     let second = first.as_str().replace(alloc, "h2", H2)?;
     Ok(second.as_str().replace(alloc, "h3", H3)?)
 }
 
-/// Lines of a row, in which `;` stands for a newline, and h1, h2 and h3 as in [`with_hashes`].
+/// Returns the lines of a row. `;` stands for a newline, and h1, h2 and h3 are as in [`with_hashes`].
 pub fn lines_of_row(alloc: Global, text: &str) -> Result<String, Fail> {
     with_hashes(alloc, text.replace(alloc, ";", "\n")?.as_str())
 }
 
-/// The first field of a row and the rest, with a mark between two fields.
+/// Returns the first field of a row and the rest. `mark` separates two fields.
 pub fn two_fields(row: &str, mark: char) -> Result<(&str, &str), Fail> {
     Ok(row.split_once(mark).ok_or("a row without its fields")?)
 }
 
-/// The first two fields of a row and the rest.
+/// Returns the first two fields of a row and the rest.
 pub fn three_fields(row: &str, mark: char) -> Result<(&str, &str, &str), Fail> {
     let (first, rest) = two_fields(row, mark)?;
     let (second, last) = two_fields(rest, mark)?;
     Ok((first, second, last))
 }
 
-/// The first three fields of a row and the rest.
+/// Returns the first three fields of a row and the rest.
 pub fn four_fields(row: &str, mark: char) -> Result<(&str, &str, &str, &str), Fail> {
     let (first, second, rest) = three_fields(row, mark)?;
     let (third, last) = two_fields(rest, mark)?;

@@ -16,7 +16,7 @@ pub const BRACKETINGS: [(&str, u32); 5] = [
     ("....+++", 3),
 ];
 
-/// The tree that merges two.
+/// Returns the tree that merges two trees.
 pub fn merge<R: ChunkRange>(
     alloc: Global,
     front: MergeTree<R>,
@@ -25,7 +25,7 @@ pub fn merge<R: ChunkRange>(
     Ok(MergeTree::Join(Box::new(alloc, front)?, Box::new(alloc, back)?))
 }
 
-/// The tree of a bracketing: a point stands for the next range, a plus merges the last two trees.
+/// Returns the tree of a bracketing. A point is the next range, and a plus merges the last two trees.
 pub fn tree<R: ChunkRange>(
     alloc: Global,
     bracketing: &str,
@@ -49,8 +49,8 @@ pub fn tree<R: ChunkRange>(
     Ok(trees.pop())
 }
 
-/// The nodes 0 to 3, 4 to 23, 24 to 27 and none, of 28 of which each fourth is a natural cut; the first range is marked
-/// at its start, the last at its end.
+/// Returns four ranges of 28 nodes, each fourth of which is a natural cut: the nodes 0 to 3, 4 to 23, 24 to 27, and
+/// none. The first range is marked at its start, the last at its end.
 pub fn four_ranges<R: ChunkRange>(alloc: Global, of_ranges: R::Alloc) -> Result<Vec<R>, CoreError>
 where
     R::Alloc: Copy,

@@ -1,4 +1,4 @@
--- What a map's calls find around positions that are free, and what is left when the run there is put in.
+-- What calls of a map find around free positions, and what is left when a run is put in.
 use Rattle.std.proofs.Common.{arith, nat_cmp, ◌≡◌, ◌<◌, ◌≤◌, ℕ, true, List, [], ◌∷◌, ◌++◌, refl, sym, ap, subst, ◌∙◌, append_assoc}
 use Rattle.std.specs.Prelude.{All, Option, None, Some, IfSome, option_map, is_some}
 use Rattle.std.specs.BTreeMap.{insert_entry, is_at}

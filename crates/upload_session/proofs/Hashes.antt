@@ -1,4 +1,4 @@
--- Hashes that are put into a set one after another, and taken out.
+-- Hashes that are put into a set one after another, and removed.
 use Rattle.std.proofs.Common.{◌≡◌, ◌+◌, ◌<◌, ℕ, Bool, true, false, not, List, [], ◌∷◌, ◌++◌, ◌&&◌, ◌||◌, get_or, length, take, refl, sym, ap, subst, ◌∙◌}
 use Rattle.std.specs.Prelude.{Option, Some, None, cond, is_some}
 use Rattle.std.specs.List.{IsDistinct}

@@ -1,4 +1,4 @@
--- The range of chunks that are placed, merged with those that keep what stands just before and just after them.
+-- Merging the range of placed chunks with the ranges right before and right after it.
 use Rattle.std.proofs.Common.{arith, nat_cmp, ◌≡◌, ◌+◌, ◌<◌, ℕ, false, List, [], ◌∷◌, ◌++◌, length, refl, sym, ap, subst, ◌∙◌}
 use Rattle.std.specs.Prelude.{All, Option, None, Some, option_map}
 use Rattle.std.specs.BTreeMap.{insert_entry, is_at}

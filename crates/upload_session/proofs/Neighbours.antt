@@ -1,4 +1,4 @@
--- The runs around positions that are free, and the run that comes of placing chunks there.
+-- The runs around free positions, and the run that results from placing chunks there.
 use Rattle.std.proofs.Common.{arith, ◌≡◌, ◌+◌, ◌<◌, ◌≤◌, ℕ, Bool, true, false, List, [], ◌∷◌, ◌++◌, nat_eq, nat_lt, length, refl, sym, ap, subst, ◌∙◌, append_assoc}
 use Rattle.std.specs.Prelude.{All, Option, None, Some, IfSome}
 use Rattle.std.specs.List.{list_any}

@@ -1,4 +1,4 @@
--- The marks and the sizes of runs through the changes of their map.
+-- The marks and the sizes of runs when their map changes.
 use Rattle.std.proofs.Common.{arith, nat_cmp, is_eq, ◌≡◌, ◌≢◌, ◌+◌, ◌≤◌, ℕ, Bool, true, false, List, [], ◌∷◌, refl, sym, ap, subst, ◌∙◌}
 use Rattle.std.specs.Prelude.{Option, None, Some, IfSome, cond, is_some, option_map, slice_get, unwrap_or}
 use Rattle.std.specs.declared.cmp.Ordering.{Ordering}

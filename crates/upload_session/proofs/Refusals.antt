@@ -1,4 +1,4 @@
--- What holds where a call is refused.
+-- What holds after a call fails.
 use Rattle.std.specs.Prelude.{◌≡◌, ◌^◌, ◌<◌, ◌⊎◌, ℕ, Result, Ok, Err, IfErr, OnErr}
 use Rattle.std.proofs.Common.{arith, ap, inl, inr}
 use Rattle.xet_merkle.specs.Ranges.{Refusals}

@@ -1,4 +1,4 @@
--- What a map over numbers does to entries that stand in order.
+-- What a map with numbers as keys does to its sorted entries.
 use Rattle.std.proofs.Common.{arith, nat_cmp, is_lt, is_eq, ◌≡◌, ◌<◌, ◌≤◌, ℕ, Bool, true, false, not, List, [], ◌∷◌, ◌++◌, drop, get_or, length, nat_lt, refl, sym, ap, subst, ◌∙◌}
 use Rattle.std.specs.Prelude.{All, None, Some, cond, is_some}
 use Rattle.std.specs.declared.cmp.Ordering.{Ordering}

@@ -17,13 +17,13 @@ abbrev pub placed_from : ℕ → List Node → List Placed
 placed_from first [] = []
 placed_from first (chunk ∷ chunks) = (first, chunk) ∷ placed_from (first + 1) chunks
 
--- the chunks placed, with more of them at adjacent positions: those before, the new ones, and those after
+-- the placed chunks and more of them at adjacent positions: those before, the new ones, and those after
 abbrev pub place : List Placed → ℕ → List Node → List Placed
 place placed first chunks =
     filter (λ p. nat_lt p.0 first) placed ++ placed_from first chunks
     ++ filter (λ p. not (nat_lt p.0 first)) placed
 
--- the chunks by position
+-- the chunks in the order of their positions
 abbrev pub chunks_of : List Placed → List Node
 chunks_of placed = map (λ p. p.1) placed
 
@@ -40,14 +40,14 @@ overlaps placed first count =
 abbrev pub Put : Type 0
 Put = ℕ × List Node
 
--- chunks that puts have placed, the last put first: each had one chunk at least, and no position that was taken
+-- the chunks that puts have placed, the last put first; each put had at least one chunk, and no position that was taken
 abbrev pub ArePlaced : List Put → List Placed → Type 0
 ArePlaced [] placed = placed ≡ []
 ArePlaced (put ∷ earlier) placed =
     (before : List Placed) × ArePlaced earlier before × (0 < length put.1)
     × (overlaps before put.0 (length put.1) ≡ false) × (placed ≡ place before put.0 put.1)
 
--- the positions taken are exactly those below a number
+-- the taken positions are exactly those below a number
 abbrev pub IsWhole : ℕ → List Placed → Type 0
 IsWhole total placed = (placed ≡ placed_from 0 (chunks_of placed)) × (length placed ≡ total)
 
@@ -55,30 +55,30 @@ IsWhole total placed = (placed ≡ placed_from 0 (chunks_of placed)) × (length 
 abbrev pub AreFrom : ℕ → List Placed → Type 0
 AreFrom bound placed = All (λ p. bound ≤ p.0) placed
 
--- a run of adjacent positions that are taken, at the first of them
+-- a run of adjacent taken positions, with the first of them
 abbrev pub PlacedRun : Type 0 → Type 0
 PlacedRun C = ℕ × Run C
 
--- a run is among others, and holds a position
+-- a run is among others, and contains a position
 abbrev pub HoldsAt : {C : Type 0} → List (PlacedRun C) → ℕ → PlacedRun C → Type 0
 HoldsAt {C} runs position run =
     (front back : List (PlacedRun C)) × (runs ≡ front ++ run ∷ back) × (run.0 ≤ position) × (position < run.1.end)
 
 module _ {C A : Type 0} (kind : chunk_range.Ghosts C A) where
-  -- a run stands for chunks, one at least, by a range that is open at both ends
+  -- a run stands for chunks, at least one, by a range that is open at both ends
   abbrev pub IsRunOf : List Node → PlacedRun C → Type 0
   IsRunOf chunks run =
       (0 < length chunks) × (run.1.end ≡ run.0 + length chunks) × kind.stands run.1.range chunks
       × (kind.start run.1.range ≡ false) × (kind.end run.1.range ≡ false)
 
-  -- the runs stand for chunks by their positions, which rise: each for all that are adjacent
+  -- the runs stand for chunks by rising positions, one run for all that are adjacent
   abbrev pub StandFor : List (PlacedRun C) → List Placed → Type 0
   StandFor [] placed = placed ≡ []
   StandFor (run ∷ runs) placed =
       (chunks : List Node) × (others : List Placed) × (placed ≡ placed_from run.0 chunks ++ others)
       × IsRunOf chunks run × AreFrom (run.1.end + 1) others × StandFor runs others
 
--- a session as contracts see it: its runs, what it keeps of hashes, and the sum of all sizes
+-- a session in contracts: its runs, what it keeps of hashes, and the sum of all sizes
 pub record Parts (C H : Type 0) : Type 0 where
   pub runs : List (PlacedRun C)
   pub kept : H

@@ -1,4 +1,4 @@
-//! What is kept of the hashes of chunks, to tell which of others are new.
+//! What is kept of the hashes of chunks, to find out which later hashes are new.
 
 ghost use Rattle.std.specs.Prelude.{◌≡◌, not, List, [], ◌&&◌, ◌||◌, is_some, IfOk, OnOk, OnErr};
 ghost use Rattle.std.specs.List.{IsDistinct};
@@ -10,21 +10,21 @@ use xet_hash::data_hash::MerkleHash;
 use xet_hash::passthrough_hashmap::PassThroughHashMap;
 use xet_merkle::aggregated_hashes::Node;
 
-/// What is kept of the hashes of chunks, to tell which of others are new.
+/// What is kept of the hashes of chunks, to find out which later hashes are new.
 pub trait KeptHashes<A: Allocator>: Drop {
-    // It knows the hashes of a list, and no more.
+    // It knows exactly the hashes of a list.
     ghost knows: { Self → List Hash → Type 0 };
 
-    // What it tells of some hashes, where it knows the first ones: the last ones, as those that are new.
+    // Which hashes it reports as new. The lists are: those it knows, those it is given, and those it reports.
     ghost tells: { List Hash → List Hash → List Hash → Type 0 };
 
-    /// No hashes. It takes no memory.
+    /// Makes one that knows no hashes. It allocates nothing.
     fn new(alloc: A) -> Self
         ensures { knows result [] };
 
-    /// Keeps the hashes of some chunks, and tells which of them are new, each once, in memory of `alloc`.
+    /// Keeps the hashes of some chunks. Returns those that are new, each once, in a list that is allocated by `alloc`.
     ///
-    /// It fails where an allocation is refused, and then knows what it knew.
+    /// Fails if an allocation fails. It then knows what it knew before.
     fn keep(&mut self, alloc: A, chunks: &[Node]) -> Result<Vec<MerkleHash, A>, AllocError>
         ensures new { IfOk result (λ new. (known : List Hash) →
             knows self.old known → tells known (hashes_of chunks.now) new.items) }
@@ -33,20 +33,21 @@ pub trait KeptHashes<A: Allocator>: Drop {
         ensures refused { OnErr result ((known : List Hash) →
             knows self.old known → knows self.new known) };
 
-    /// Gives up the hashes that [`KeptHashes::keep`] told as new, and knows what it knew before. It takes no memory.
+    /// Forgets the hashes that [`KeptHashes::keep`] reported as new. It then knows what it knew before that call. It
+    /// allocates nothing.
     fn give_up(&mut self, new: &[MerkleHash])
         ensures { (known hashes all : List Hash) → AreBoth known hashes all →
             tells known hashes new.now → knows self.old all → knows self.new known };
 }
 
-/// All hashes, each once, in a map for deduplication.
+/// Keeps all hashes, each once, in a map for deduplication.
 #[derive(Drop)]
 pub struct SeenHashes<A: Allocator = Global> {
     hashes: PassThroughHashMap<MerkleHash, (), A>,
 }
 
 impl<A: Allocator + Clone> SeenHashes<A> {
-    /// A copy.
+    /// Returns a copy. Fails if an allocation fails.
     pub fn try_clone(&self) -> Result<Self, AllocError>
         ensures { IfOk result (λ copy. copy ≡ self.now) }
     {
@@ -55,8 +56,8 @@ impl<A: Allocator + Clone> SeenHashes<A> {
         })
     }
 
-    // Keeps the hashes of some chunks, and lists those that are new, each once. Where it is refused, it has listed what it
-    // kept.
+    // Keeps the hashes of some chunks, and lists those that are new, each once. If it fails, the list has the hashes
+    // that it kept.
     fn keep_into(&mut self, chunks: &[Node], new: &mut Vec<MerkleHash, A>) -> Result<(), AllocError>
         requires { new.old.items ≡ [] }
         ensures kept { OnOk result ((hash : Hash) → is_some (value_at hash_eq self.new.hashes hash)
@@ -80,7 +81,7 @@ impl<A: Allocator + Clone> SeenHashes<A> {
         Ok(())
     }
 
-    // Takes some hashes out.
+    // Removes some hashes.
     fn remove_all(&mut self, hashes: &[MerkleHash])
         ensures { (hash : Hash) → is_some (value_at hash_eq self.new.hashes hash)
             ≡ (is_some (value_at hash_eq self.old.hashes hash) && not (is_among hashes.now hash)) }
@@ -119,7 +120,7 @@ impl<A: Allocator + Clone> KeptHashes<A> for SeenHashes<A> {
     }
 }
 
-/// No hashes: nothing is told of which are new.
+/// Keeps no hashes, and reports none as new.
 #[derive(Clone, Copy, Debug, Drop)]
 pub struct NoHashes;
 

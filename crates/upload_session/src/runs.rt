@@ -20,7 +20,7 @@ use xet_merkle::aggregated_hashes::Node;
 use xet_merkle::chunk_range::ChunkRange;
 use xet_merkle::merkle_hash_subtree::MerkleHashSubtree;
 
-// What is kept of adjacent positions that are taken.
+// What is kept of a run of adjacent taken positions.
 #[derive(Drop)]
 struct Run<C> {
     // The position after the last one.
@@ -43,7 +43,7 @@ impl<A: Allocator + Clone> Clone for Run<MerkleHashSubtree<A>> {
     }
 }
 
-/// The runs of adjacent positions that are taken, each with one range of its chunks, which is open at both ends.
+/// The runs of adjacent taken positions. Each has one range of its chunks, which is open at both ends.
 #[derive(Drop)]
 pub struct Runs<C: ChunkRange> {
     // The runs by their first positions.
@@ -61,7 +61,7 @@ impl<C: ChunkRange> Model for Runs<C> {
 }
 
 impl<A: Allocator + Clone> Runs<MerkleHashSubtree<A>> {
-    /// A copy.
+    /// Returns a copy. Fails if an allocation fails.
     pub fn try_clone(&self) -> Result<Self, AllocError>
         ensures { IfOk result (λ copy. copy ≡ self.now) }
     {
@@ -73,7 +73,7 @@ impl<A: Allocator + Clone> Runs<MerkleHashSubtree<A>> {
 }
 
 impl<C: ChunkRange> Runs<C> {
-    /// No runs. The map of the runs takes its memory of `of_runs`, and each range of a clone of `alloc`.
+    /// Makes it without runs. The map of the runs allocates by `of_runs`. Each range allocates by a clone of `alloc`.
     pub fn new(of_runs: C::Alloc, alloc: C::Alloc) -> Self
         ensures { result ≡ [] }
     {
@@ -83,12 +83,12 @@ impl<C: ChunkRange> Runs<C> {
         }
     }
 
-    /// Where the memory comes from.
+    /// Returns the allocator of the ranges.
     pub fn allocator(&self) -> &C::Alloc {
         &self.alloc
     }
 
-    /// Whether a position is taken. It takes no memory.
+    /// Returns whether a position is taken. It allocates nothing.
     pub fn taken(&self, position: u64) -> bool
         ensures { (placed : List Placed) → StandFor C.ChunkRange self.now placed →
             result ≡ is_taken placed position }
@@ -99,7 +99,7 @@ impl<C: ChunkRange> Runs<C> {
         }
     }
 
-    /// Whether one of some adjacent positions is taken. It takes no memory.
+    /// Returns whether one of `count` positions from `first` on is taken. `count` must not be 0. It allocates nothing.
     pub fn overlap(&self, first: u64, count: u64) -> bool
         requires { 0 < count }
         ensures { (placed : List Placed) → StandFor C.ChunkRange self.now placed →
@@ -114,14 +114,15 @@ impl<C: ChunkRange> Runs<C> {
         }
     }
 
-    /// How many runs there are. It takes no memory.
+    /// Returns the number of runs. It allocates nothing.
     pub fn len(&self) -> usize
         ensures { result ≡ length self.now }
     {
         self.runs.len()
     }
 
-    /// The first position and the range of a run, by its number in rising order from 0. It takes no memory.
+    /// Returns the first position and the range of a run, or `None` if there is no such run. Runs are numbered from 0,
+    /// by rising position. It allocates nothing.
     pub fn nth(&self, i: usize) -> Option<(u64, &C)>
         ensures { option_map {U = ℕ × C} (λ shown. (shown.0, shown.1.now)) result
             ≡ option_map {U = ℕ × C} (λ run. (run.0, run.1.range)) (slice_get self.now i) }
@@ -130,8 +131,8 @@ impl<C: ChunkRange> Runs<C> {
         Some((*first, &run.range))
     }
 
-    /// The run that holds a position: its first position, the position after its last one, and its range. It takes no
-    /// memory.
+    /// Returns the run that contains a position: its first position, the position after its last one, and its range.
+    /// Returns `None` if the position isn't taken. It allocates nothing.
     pub fn at(&self, position: u64) -> Option<(u64, u64, &C)>
         ensures some { IfSome result (λ found.
             HoldsAt self.now position (found.0, record { end = found.1; range = found.2.now })) }
@@ -150,8 +151,8 @@ impl<C: ChunkRange> Runs<C> {
         }
     }
 
-    /// The range of all chunks, or `None` where there is none. It fails with [`SessionFault::Gap`] where the positions taken
-    /// aren't exactly those below a total, and takes no memory.
+    /// Returns the range of all chunks, or `None` if there are no chunks. Fails with [`SessionFault::Gap`] if the taken
+    /// positions aren't exactly those below `total`. It allocates nothing.
     pub fn whole_range(&self, total: u64) -> Result<Option<&C>, SessionFault>
         requires { AreOpen C.ChunkRange self.now }
         ensures whole { OnOk result ((placed : List Placed) →
@@ -179,9 +180,11 @@ impl<C: ChunkRange> Runs<C> {
         Ok(Some(&run.range))
     }
 
-    /// Places chunks, one at least, at adjacent positions that aren't taken. After a refusal nothing has changed.
+    /// Places chunks, at least one, at adjacent positions that aren't taken. Fails with [`CoreError::OutOfMemory`] if
+    /// an allocation fails. After a failure nothing has changed.
     ///
-    /// Of the run before them and the run after them the range that keeps more nodes is changed in place.
+    /// If there is a run right before the chunks and one right after them, it changes the range that keeps more nodes
+    /// in place.
     pub fn place(&mut self, first: u64, chunks: &[Node]) -> Result<(), CoreError>
         requires positions { first + length chunks.now < 2 ^ 64 }
         requires some { 0 < length chunks.now }
@@ -206,8 +209,8 @@ impl<C: ChunkRange> Runs<C> {
         Ok(())
     }
 
-    // Whether a range is placed in the range of the run that begins just after it: whether that keeps more nodes than the run
-    // that ends just before, or than the range itself where there is none.
+    // Returns whether the new range `made` should be merged into the run that begins right after it. That is so if this
+    // run keeps more nodes than the run that ends right before, or than `made` if there is no such run.
     fn next_stays(&self, first: u64, previous: Option<u64>, made: &C, after: u64) -> bool
         ensures next { IsTrue result → IsSome (lookup (is_at (nat_cmp after)) self.now) }
         ensures free { IsTrue result → IfNone previous (lookup (is_at (nat_cmp first)) self.now ≡ None) }
@@ -225,7 +228,8 @@ impl<C: ChunkRange> Runs<C> {
         }
     }
 
-    // Places a range, and what the run after it keeps, after the run before it.
+    // Appends `made`, and then the range of the run after it, to the run before it. If there is no run before it, they
+    // become a new run.
     fn place_after_previous(
         &mut self,
         first: u64,
@@ -260,7 +264,7 @@ impl<C: ChunkRange> Runs<C> {
         Ok(())
     }
 
-    // Places a range, and what the run before it keeps, before the run after it, where there is one.
+    // Puts `made`, and before it the range of the run before it, if there is one, in front of the run after it.
     fn place_before_next(
         &mut self,
         first: u64,
@@ -291,8 +295,8 @@ impl<C: ChunkRange> Runs<C> {
         Ok(())
     }
 
-    // Puts a range before that of the run at `after`, in place. This run then stands at `begin`, in the place of the run
-    // there, whose chunks are those that `front` begins with.
+    // Puts a range in front of that of the run at `after`, in place. This run then replaces the run at `begin`, whose
+    // chunks `front` begins with.
     fn put_before_next(&mut self, begin: u64, front: C, after: u64) -> Result<(), CoreError>
         requires begin { IsSome (lookup (is_at (nat_cmp begin)) self.old) }
         requires next { IsSome (lookup (is_at (nat_cmp after)) self.old) }
@@ -320,8 +324,8 @@ impl<C: ChunkRange> Runs<C> {
         Ok(())
     }
 
-    // Puts a range before that of the run at `after`, in place. This run then stands at `first`. The entry there is made
-    // before, since it takes memory, and is taken out again where the run can't be changed.
+    // Puts a range in front of that of the run at `after`, in place. This run then stands at `first`. Since the entry
+    // there needs memory, it is made first. It is removed again if the run can't be changed.
     fn begin_before_next(&mut self, first: u64, made: C, after: u64) -> Result<(), CoreError>
         requires free { lookup (is_at (nat_cmp first)) self.old ≡ None }
         requires next { IsSome (lookup (is_at (nat_cmp after)) self.old) }
@@ -347,7 +351,7 @@ impl<C: ChunkRange> Runs<C> {
         }
     }
 
-    // A range of the chunks of the run at `begin` and then of those of `made`.
+    // Returns a range of the chunks of the run at `begin`, followed by those of `made`.
     fn with_previous(&self, begin: u64, made: &C) -> Result<C, CoreError>
         requires made { IsOpen C.ChunkRange made.now }
         requires room { AreOpen C.ChunkRange self.now
@@ -369,7 +373,7 @@ impl<C: ChunkRange> Runs<C> {
         Ok(front)
     }
 
-    // A run of the chunks of `made` and then of those of the run at `after`, where there is one.
+    // Returns a run of the chunks of `made`, followed by those of the run at `after`, if there is one.
     fn with_next(&self, made: C, after: u64) -> Result<Run<C>, CoreError>
         requires made { IsOpen C.ChunkRange made }
         requires room { AreOpen C.ChunkRange self.now
@@ -392,7 +396,7 @@ impl<C: ChunkRange> Runs<C> {
         Ok(Run { end, range })
     }
 
-    // The first position of the run that ends just before a position.
+    // Returns the first position of the run that ends right before a position.
     fn run_before(&self, position: u64) -> Option<u64>
         ensures some { IfSome result (λ begin. EndsAt self.now position begin) }
         ensures none { IfNone result (NoneEndsAt self.now position) }

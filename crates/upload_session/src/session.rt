@@ -22,7 +22,8 @@ pub type Session<A = Global> = SessionOf<MerkleHashSubtree<A>>;
 
 /// Chunks by their positions, which come in any order.
 ///
-/// Of each run of adjacent positions that are taken it keeps one range, open at both ends, and of the hashes what `H` keeps.
+/// For each run of adjacent taken positions it keeps one range, open at both ends. Of the hashes it keeps what `H`
+/// keeps.
 #[derive(Drop)]
 pub struct SessionOf<C: ChunkRange, H = SeenHashes<<C as ChunkRange>::Alloc>> {
     runs: Runs<C>,
@@ -47,9 +48,8 @@ impl<C: ChunkRange, H> Model for SessionOf<C, H> {
 }
 
 impl<C: ChunkRange<Alloc = Global>, H: KeptHashes<Global>> SessionOf<C, H> {
-    /// A session without chunks, which takes its memory of the global allocator. It takes none yet.
-    ///
-    /// [`SessionOf::new_in`] is the call for other allocators.
+    /// Makes a session without chunks. It uses the global allocator, and allocates nothing yet. Use
+    /// [`SessionOf::new_in`] for other allocators.
     pub fn new(alloc: Global) -> Self
         ensures { SessionStands C.ChunkRange H.KeptHashes result [] }
     {
@@ -58,8 +58,8 @@ impl<C: ChunkRange<Alloc = Global>, H: KeptHashes<Global>> SessionOf<C, H> {
 }
 
 impl<C: ChunkRange, H: KeptHashes<C::Alloc>> SessionOf<C, H> {
-    /// A session without chunks, which takes its memory of `alloc`. It fails where `alloc` can't be cloned, and takes no
-    /// memory but what that takes. At the global allocator, [`SessionOf::new`] has no `Result`.
+    /// Makes a session without chunks that uses `alloc`. Fails if `alloc` can't be cloned. It allocates nothing itself.
+    /// [`SessionOf::new`] does the same with the global allocator, and can't fail.
     pub fn new_in(alloc: C::Alloc) -> Result<Self, AllocError>
         ensures empty { IfOk result (λ session.
             SessionStands C.ChunkRange H.KeptHashes session []) }
@@ -69,7 +69,7 @@ impl<C: ChunkRange, H: KeptHashes<C::Alloc>> SessionOf<C, H> {
         Ok(Self::from_parts(Runs::new(alloc.clone()?, alloc), kept))
     }
 
-    // A session without chunks of its parts.
+    // Makes a session without chunks from its parts.
     fn from_parts(runs: Runs<C>, kept: H) -> Self
         requires none { runs ≡ [] }
         requires knows { H.knows kept [] }
@@ -82,7 +82,7 @@ impl<C: ChunkRange, H: KeptHashes<C::Alloc>> SessionOf<C, H> {
         }
     }
 
-    /// Whether a position is taken. It takes no memory.
+    /// Returns whether a position is taken. It allocates nothing.
     pub fn taken(&self, position: u64) -> bool
         ensures { (placed : List Placed) → SessionStands C.ChunkRange H.KeptHashes self.now placed →
             result ≡ is_taken placed position }
@@ -90,15 +90,15 @@ impl<C: ChunkRange, H: KeptHashes<C::Alloc>> SessionOf<C, H> {
         self.runs.taken(position)
     }
 
-    /// How many runs of adjacent positions are taken. It takes no memory.
+    /// Returns the number of runs of adjacent taken positions. It allocates nothing.
     pub fn num_runs(&self) -> usize
         ensures { result ≡ length self.now.runs }
     {
         self.runs.len()
     }
 
-    /// The first position and the range of a run of adjacent positions that are taken, by the run's number in rising order
-    /// from 0; `None` past the last one. It takes no memory, and time in proportion to the number.
+    /// Returns the first position and the range of a run of adjacent taken positions, or `None` if there is no such
+    /// run. Runs are numbered from 0, by rising position. It allocates nothing. The time is proportional to the number.
     pub fn range(&self, i: usize) -> Option<(u64, &C)>
         ensures { option_map {U = ℕ × C} (λ shown. (shown.0, shown.1.now)) result
             ≡ option_map {U = ℕ × C} (λ run. (run.0, run.1.range)) (slice_get self.now.runs i) }
@@ -106,8 +106,8 @@ impl<C: ChunkRange, H: KeptHashes<C::Alloc>> SessionOf<C, H> {
         self.runs.nth(i)
     }
 
-    /// The run of adjacent positions that holds a position: its first position, the position after its last one, and its
-    /// range; `None` where the position isn't taken. It takes no memory.
+    /// Returns the run that contains a position: its first position, the position after its last one, and its range.
+    /// Returns `None` if the position isn't taken. It allocates nothing.
     pub fn run_at(&self, position: u64) -> Option<(u64, u64, &C)>
         ensures some { IfSome result (λ found.
             HoldsAt self.now.runs position (found.0, record { end = found.1; range = found.2.now })) }
@@ -117,13 +117,17 @@ impl<C: ChunkRange, H: KeptHashes<C::Alloc>> SessionOf<C, H> {
         self.runs.at(position)
     }
 
-    /// Places chunks at the positions from `first` on, and answers how many hashes among them no earlier accepted put had,
-    /// each counted once. Without a chunk it answers 0 and changes nothing, wherever `first` is.
+    /// Puts chunks at the positions from `first` on. Returns how many of their hashes no earlier successful put had,
+    /// and counts each hash once. With no chunks it returns 0 and changes nothing, whatever `first` is.
     ///
-    /// It fails with [`SessionFault::Overlap`] where one of the positions is taken, then with [`SessionFault::Positions`]
-    /// where `first` plus the number of chunks passes `u64::MAX`, then with [`SessionFault::Sizes`] where all sizes add up
-    /// to more than `u64::MAX` bytes, and with [`SessionFault::Memory`] where an allocation is refused. After a refusal
-    /// the session stands for the same chunks, and its ranges are as they were.
+    /// Before it allocates, it fails with the first of these that applies:
+    ///
+    /// - [`SessionFault::Overlap`] if one of the positions is taken;
+    /// - [`SessionFault::Positions`] if `first` plus the number of chunks is more than `u64::MAX`;
+    /// - [`SessionFault::Sizes`] if the sizes of all chunks add up to more than `u64::MAX` bytes.
+    ///
+    /// Otherwise fails with [`SessionFault::Memory`] if an allocation fails. After a failure the session stands for the
+    /// same chunks, and its ranges are unchanged.
     pub fn put(&mut self, first: u64, chunks: &[Node]) -> Result<u64, SessionFault>
         ensures placed { OnOk result ((placed : List Placed) →
             SessionStands C.ChunkRange H.KeptHashes self.old placed →
@@ -168,10 +172,11 @@ impl<C: ChunkRange, H: KeptHashes<C::Alloc>> SessionOf<C, H> {
         Ok(self.place(first, chunks, size)?)
     }
 
-    /// Does what [`SessionOf::put`] does with chunks, one at least, whose positions and sizes the caller has tested: the
-    /// positions are free and at most `u64::MAX - 1`, and `size` is the sum of all sizes with theirs.
+    /// Does the same as [`SessionOf::put`] for at least one chunk, if the caller has already checked positions and
+    /// sizes. The positions must be free and at most `u64::MAX - 1`. `size` must be the sum of the sizes of all chunks,
+    /// including these.
     ///
-    /// It fails only where an allocation is refused, and the session is then as [`SessionOf::put`] leaves it.
+    /// Fails only if an allocation fails. Then the session is as a failed [`SessionOf::put`] leaves it.
     pub fn place(&mut self, first: u64, chunks: &[Node], size: u64) -> Result<u64, AllocError>
         requires some { 0 < length chunks.now }
         requires free { (placed : List Placed) →
@@ -204,10 +209,11 @@ impl<C: ChunkRange, H: KeptHashes<C::Alloc>> SessionOf<C, H> {
         }
     }
 
-    /// The root and the file hash of all chunks by position, the latter without a salt, which is that under 32 zero bytes.
+    /// Returns the root and the file hash of all chunks in the order of their positions. The file hash has no salt, so
+    /// it is the one under 32 zero bytes.
     ///
-    /// It fails with [`SessionFault::Gap`] where the positions taken aren't exactly those from 0 to `total` - 1, before
-    /// anything is allocated, and with [`SessionFault::Memory`] where an allocation is refused.
+    /// Fails with [`SessionFault::Gap`] if the taken positions aren't exactly those from 0 to `total` - 1, before it
+    /// allocates. Fails with [`SessionFault::Memory`] if an allocation fails.
     pub fn hashes(&self, total: u64) -> Result<(MerkleHash, MerkleHash), SessionFault>
         ensures root { IfOk result (λ hashes. (placed : List Placed) →
             SessionStands C.ChunkRange H.KeptHashes self.now placed →
@@ -225,7 +231,7 @@ impl<C: ChunkRange, H: KeptHashes<C::Alloc>> SessionOf<C, H> {
         Ok(hashes_of_open(self.runs.allocator(), whole).map_err(out_of_memory)?)
     }
 
-    /// The root of all chunks by position. It fails as [`SessionOf::hashes`] does.
+    /// Returns the root of all chunks in the order of their positions. Fails like [`SessionOf::hashes`].
     pub fn root(&self, total: u64) -> Result<MerkleHash, SessionFault>
         ensures root { IfOk result (λ root. (placed : List Placed) →
             SessionStands C.ChunkRange H.KeptHashes self.now placed →
@@ -239,8 +245,8 @@ impl<C: ChunkRange, H: KeptHashes<C::Alloc>> SessionOf<C, H> {
         Ok(self.hashes(total)?.0)
     }
 
-    /// The file hash of all chunks by position, without a salt, which is that under 32 zero bytes. It fails as
-    /// [`SessionOf::hashes`] does.
+    /// Returns the file hash, without a salt, of all chunks in the order of their positions. It is the one under 32
+    /// zero bytes. Fails like [`SessionOf::hashes`].
     pub fn finish(&self, total: u64) -> Result<MerkleHash, SessionFault>
         ensures file { IfOk result (λ file. (placed : List Placed) →
             SessionStands C.ChunkRange H.KeptHashes self.now placed →
@@ -256,7 +262,7 @@ impl<C: ChunkRange, H: KeptHashes<C::Alloc>> SessionOf<C, H> {
 }
 
 impl<A: Allocator + Clone> Session<A> {
-    /// A copy, which stands for the same chunks. It fails where an allocation is refused.
+    /// Returns a copy, which stands for the same chunks. Fails if an allocation fails.
     pub fn try_clone(&self) -> Result<Self, AllocError>
         ensures { IfOk result (λ copy. copy ≡ self.now) }
     {
@@ -268,7 +274,7 @@ impl<A: Allocator + Clone> Session<A> {
     }
 }
 
-// A size and those of some chunks, where they add up to at most `u64::MAX`.
+// Adds the sizes of some chunks to a size. Returns `None` if the sum is more than `u64::MAX`.
 fn add_sizes(size: u64, chunks: &[Node]) -> Option<u64>
     ensures { SomeIff result (size + total_size chunks.now < 2 ^ 64)
         (size + total_size chunks.now) }
@@ -280,7 +286,7 @@ fn add_sizes(size: u64, chunks: &[Node]) -> Option<u64>
     Some(sum)
 }
 
-// The error of a call on ranges that is refused for memory alone.
+// Converts the error of a call on ranges that fails only for lack of memory.
 fn out_of_memory(error: CoreError) -> AllocError
     requires { error ≡ CoreError.OutOfMemory }
 {

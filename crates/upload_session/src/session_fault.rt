@@ -6,22 +6,23 @@ ghost use Rattle.upload_session.specs.declared.session_fault.SessionFault.TheVar
 use std::alloc::AllocError;
 use thiserror::Error;
 
-/// Why a call of a session was refused, the least reason first: 1 to 5. After a refusal nothing has changed.
+/// Why a call of a session failed. If several faults apply, the call returns the one that is listed first. After a
+/// failure nothing has changed.
 #[derive(Clone, Copy, Debug, PartialEq, Eq, Error)]
 pub enum SessionFault {
     /// A position is taken.
     #[error("a position is taken")]
     Overlap,
-    /// The first position plus the number of chunks passes `u64::MAX`.
+    /// The first position plus the number of chunks is more than `u64::MAX`.
     #[error("positions past 2^64 - 1")]
     Positions,
     /// The sizes of all chunks add up to more than `u64::MAX` bytes.
     #[error("sizes past 2^64 - 1")]
     Sizes,
-    /// An allocation was refused.
+    /// An allocation failed.
     #[error("out of memory")]
     Memory,
-    /// The positions taken aren't exactly those below the total.
+    /// The taken positions aren't exactly those below the total.
     #[error("a position isn't taken, or one is past the total")]
     Gap,
 }

@@ -1,4 +1,4 @@
-//! Merging ranges often in one call, so that a difference of two calls tells what that takes.
+//! Merges ranges many times in one call, so that the difference of two calls shows how long a merge takes.
 
 ghost use Rattle.std.specs.Prelude.{◌≡◌, ◌<◌, length};
 
@@ -8,8 +8,8 @@ use xet_hash::data_hash::MerkleHash;
 use xet_merkle::CoreError;
 use xet_merkle::merkle_hash_subtree::MerkleHashSubtree;
 
-/// Makes the subtrees of a list's ranges of `range_len` nodes, with the list's start and end marked, and merges them from the
-/// left so many times. It writes the final hash to `out`, where they are merged at all. False where a call was refused.
+/// Makes the subtrees of a list's ranges of `range_len` nodes, with the list's start and end marked. Merges them from
+/// the left `turns` times. Writes the final hash to `out` if they are merged at all. Returns false if a call fails.
 #[unsafe(no_mangle)]
 pub extern "C" fn xet_bench_joining(
     alloc: Global,

@@ -1,4 +1,4 @@
-//! What the benchmark calls of the libraries, as exports of a static library.
+//! What the benchmark calls, as exports of a static library.
 #![tactic(auto)]
 
 ghost use Rattle.std.specs.Prelude.{◌≡◌, ◌<◌, ◌*◌, ℕ, List, length};
@@ -15,8 +15,8 @@ use xet_merkle::CoreError;
 use xet_merkle::aggregated_hashes::{Node, xorb_hash};
 use xet_merkle::merkle_hash_subtree::MerkleHashSubtree;
 
-/// Writes the root of a list of nodes to `out`: each node is the four words of its hash, and its size.
-/// False where memory runs out or the sizes pass `u64::MAX`.
+/// Writes the root of a list of nodes to `out`. Each node is the four words of its hash, and its size. Returns false if
+/// an allocation fails, or if the sizes add up to more than `u64::MAX`.
 #[unsafe(no_mangle)]
 pub extern "C" fn xet_bench_xorb_hash(alloc: Global, nodes: &[u64], out: &mut [u8]) -> bool
     requires { length out.old ≡ 32 }
@@ -33,8 +33,8 @@ pub extern "C" fn xet_bench_xorb_hash(alloc: Global, nodes: &[u64], out: &mut [u
     }
 }
 
-/// Makes the subtree of a list of nodes, given as to `xet_bench_xorb_hash`, and writes its final hash to
-/// `out`, zeros where it has none. False where memory runs out or the sizes pass `u64::MAX`.
+/// Makes the subtree of a list of nodes, in the form of `xet_bench_xorb_hash`. Writes its final hash to `out`, or zeros
+/// if it has none. Returns false if an allocation fails, or if the sizes add up to more than `u64::MAX`.
 #[unsafe(no_mangle)]
 pub extern "C" fn xet_bench_from_chunks(
     alloc: Global,
@@ -57,9 +57,9 @@ pub extern "C" fn xet_bench_from_chunks(
     }
 }
 
-/// Makes the subtree of a list of nodes, given as to `xet_bench_xorb_hash`, with neither end marked. Where `steps` is
-/// at least 1, it makes its JSON value, and where it is at least 2, it reads that back. False where a call was
-/// refused, or where not as many nodes were read.
+/// Makes the subtree of a list of nodes, in the form of `xet_bench_xorb_hash`, with neither end marked. If `steps` is
+/// at least 1, it makes its JSON value. If it is at least 2, it reads that value back. Returns false if a call fails,
+/// or if the number of nodes changed.
 #[unsafe(no_mangle)]
 pub extern "C" fn xet_bench_json(alloc: Global, nodes: &[u64], steps: usize) -> bool {
     let Ok(nodes) = nodes_of(alloc, nodes) else {
@@ -99,9 +99,9 @@ fn ranges_of(
     Ok(ranges)
 }
 
-/// Puts ranges of `range_len` nodes of a list, given as to `xet_bench_xorb_hash`, into a session in the order that `order`
-/// tells by their numbers from 0, and writes the root of all to `out`. `keeps_hashes` tells whether the session keeps the
-/// hashes, to count the new ones. False where a call was refused.
+/// Puts ranges of `range_len` nodes of a list, in the form of `xet_bench_xorb_hash`, into a session. `order` has their
+/// numbers, from 0, in the order of the puts. Writes the root of all to `out`. `keeps_hashes` says whether the session
+/// keeps the hashes, to count the new ones. Returns false if a call fails.
 #[unsafe(no_mangle)]
 pub extern "C" fn xet_bench_session(
     alloc: Global,
@@ -157,8 +157,8 @@ fn nodes_of(alloc: Global, nodes: &[u64]) -> Result<Vec<Node>, AllocError> {
     Ok(list)
 }
 
-/// Puts hashes of four words each into a map, each with its place, looks all of them up, and writes the sum
-/// of the places that were found to `out`. False where memory runs out.
+/// Puts hashes of four words each into a map, each with its place. Looks all of them up, and writes the sum of the
+/// places that were found to `out`. Returns false if an allocation fails.
 #[unsafe(no_mangle)]
 pub extern "C" fn xet_bench_map(alloc: Global, words: &[u64], out: &mut [u8]) -> bool
     requires { length out.old ≡ 32 }

@@ -1,5 +1,5 @@
--- A hash as base64 text, as drawn from a seed, the order of hashes, what a hash table reads of one, and the texts of
--- an error.
+-- The base64 text of a hash, the random hash of a seed, the order of hashes, what a hash table reads of one, and the
+-- texts of an error.
 use Rattle.std.specs.Prelude.{ℕ, List, codes, slice_index}
 use Rattle.std.specs.Hash.{HashWrites, u64}
 use Rattle.std.specs.Ordering.{nat_cmp}
@@ -19,17 +19,16 @@ use Rattle.xet_hash.specs.declared.data_hash.forms.HashTextError.TheVariants.{By
 unfoldable pub base64_text : List ℕ → List ℕ
 base64_text words = encode_of url_safe_no_pad (bytes_of words)
 
--- the hash that a seed draws: its bytes are the first 32 that Xoshiro256++ gives, which SplitMix64 has
--- seeded (Blackman and Vigna)
+-- the random hash of a seed: its bytes are the first 32 of Xoshiro256++, seeded by SplitMix64 (Blackman and Vigna)
 unfoldable pub random_hash : ℕ → List ℕ
 random_hash seed =
     hash_of (fill_bytes 32 (stream_of (steps_u64_high plus_plus) (of_seed (splitmix_seed 32 seed)))).0
 
--- the order of hashes, that of the lists of their words
+-- the order of hashes is that of the lists of their words
 abbrev pub hash_cmp : List ℕ → List ℕ → Ordering
 hash_cmp = slice_cmp nat_cmp
 
--- what a hash function gets of a hash: word 0 as a `u64`
+-- what a hash table reads of a hash: word 0 as a `u64`
 abbrev pub hash_writes : List ℕ → HashWrites
 hash_writes words = u64 (slice_index words 0)
 

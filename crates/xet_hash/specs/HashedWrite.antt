@@ -1,4 +1,4 @@
--- What a writer that hashes has taken, and its inner writer.
+-- What a hashing writer has taken, and its inner writer.
 use Rattle.std.specs.Prelude.{◌≡◌, ℕ, List, [], ◌++◌, take, Result, Ok, Err}
 use Rattle.std.specs.Borrow.{Bor, MutBor}
 use Rattle.std.specs.Fn.{Once}
@@ -14,20 +14,20 @@ inner_writer w = w.writer
 unfoldable pub HoldsWritten : {W : Type 0} → HashedWrite W → List ℕ → Type 0
 HoldsWritten w m = Holds data_key w.hasher m
 
--- after `new` has taken a beginning of `slice`, and no more: m is followed by it, for each m that `old` has taken
+-- `new` has taken a beginning of `slice`, and no more: if `old` has taken m, then `new` has taken m followed by it
 pub record HoldsBeginning {W : Type 0} (old new : HashedWrite W) (slice : List ℕ) : Type 0 where
   pub taken : List ℕ
   pub rest : List ℕ
   pub parts : slice ≡ taken ++ rest
   pub message : (m : List ℕ) → HoldsWritten old m → HoldsWritten new (m ++ taken)
 
--- the bytes of `slice` that a write took by its answer: the first k at `Ok(k)`, all of them where k is
--- greater, and none at an error
+-- the bytes of `slice` that a write has taken, by its result: the first k for `Ok(k)`, at most all; none for an error
 abbrev pub taken_bytes : {E : Type 0} → Result ℕ E → List ℕ → List ℕ
 taken_bytes (Ok k) slice = take k slice
 taken_bytes (Err e) slice = []
 
--- what a call of `call` gave: it had the writer `old` and all of `slice`, answered `answer` and left the writer `new`
+-- the result of one call of `call`: it got the writer `old` and all of `slice`, returned `answer` and left the writer
+-- `new`
 pub record IsOneCall {F W R : Type 0} (g : Once F (MutBor W × (Bor (List ℕ) × Unit {0})) (R × (MutBor W × Unit {0}))) (call : F)
     (old : W) (slice : List ℕ) (answer : R) (new : W) : Type 0 where
   pub writer : MutBor W

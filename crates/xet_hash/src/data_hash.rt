@@ -1,5 +1,5 @@
-//! The 256-bit Merkle hash of a chunk, a xorb or a file, and its forms as words, bytes and hex text,
-//! after the module `merklehash::data_hash` of the crate `xet-core-structures` 1.5.2.
+//! The 256-bit Merkle hash of a chunk, a xorb or a file, and its forms as words, bytes and hex text. This ports the
+//! module `merklehash::data_hash` of the crate `xet-core-structures` 1.5.2.
 
 ghost use Rattle.std.specs.Prelude.{◌≡◌, ◌≢◌, ◌+◌, ◌%◌, slice_index, ◌*◌, ◌↔◌, ◌<◌, ◌≤◌, ℕ, List, Some, codes, length, drop, take, IsOk, IfOk};
 ghost use Rattle.std.specs.Fmt.{WritesOnOk, WritesStyledOnOk};
@@ -25,14 +25,14 @@ mod hashed_write;
 pub use forms::{DataHashBytesParseError, HashTextError};
 pub use hashed_write::HashedWrite;
 
-/// The key of [`compute_data_hash`], for a [`Hasher`](crate::blake3::Hasher) that takes the bytes in
-/// pieces. This item is this port's own.
+/// The key of [`compute_data_hash`]. With it a [`Hasher`](crate::blake3::Hasher) computes the same hash from pieces.
+/// Only this port has this item.
 pub const DATA_KEY: [u8; 32] = [
     102, 151, 245, 119, 91, 149, 80, 222, 49, 53, 203, 172, 165, 151, 24, 28, 157, 228, 33, 16,
     155, 235, 43, 88, 180, 208, 176, 75, 147, 173, 242, 41,
 ];
 
-/// The key of [`compute_internal_node_hash`], as [`DATA_KEY`] is that of chunks. This item is this port's own.
+/// The key of [`compute_internal_node_hash`]. Only this port has this item.
 pub const INTERNAL_KEY: [u8; 32] = [
     1, 126, 197, 199, 165, 71, 41, 150, 253, 148, 102, 102, 180, 138, 2, 230, 93, 221, 83, 111, 55,
     199, 109, 210, 248, 99, 82, 230, 74, 83, 113, 63,
@@ -40,7 +40,7 @@ pub const INTERNAL_KEY: [u8; 32] = [
 
 /// A Merkle hash of 256 bits, as four words.
 ///
-/// A contract sees the list of the words.
+/// In a contract it is the list of the words.
 #[derive(Clone, Copy, PartialEq, Eq)]
 pub struct DataHash {
     words: [u64; 4],
@@ -63,26 +63,26 @@ impl Model for DataHash {
 impl Default for DataHash {
     ghost is_default = { λ hash. hash ≡ default_hash };
 
-    /// The hash with all bits zero, which stands for a list without chunks.
+    /// Returns the hash of all zero bits. It is the root of a list without chunks.
     fn default() -> DataHash {
         DataHash { words: [0; 4] }
     }
 }
 
 impl DataHash {
-    /// The four words.
+    /// Returns the four words.
     ///
-    /// This call is this port's own; it stands for the dereferencing of the Rust type.
+    /// Only this port has this call. It replaces the dereferencing of the Rust type.
     pub fn words(&self) -> [u64; 4]
         ensures value { result ≡ self.now }
         ensures fits { IsHash self.now }
     {
-        // Each word is read here, which shows a proof that it fits.
+        // Reading each word here shows a proof that it fits.
         let [first, second, third, fourth] = self.words;
         [first, second, third, fourth]
     }
 
-    /// The 32 bytes: the words in order, each little-endian on every machine.
+    /// Returns the 32 bytes: the words in order, each little-endian on every machine.
     pub fn as_bytes(&self) -> [u8; 32]
         ensures { result ≡ bytes_of self.now }
     {
@@ -94,10 +94,9 @@ impl DataHash {
         bytes
     }
 
-    /// The hex text: each word in order as 16 lower-case digits, the high digit first.
+    /// Returns the hex text: each word in order as 16 lower-case digits, the high digit first.
     ///
-    /// This call is this port's own. It gives what [`fmt::Display`] writes, with no writer and no
-    /// memory.
+    /// Only this port has this call. It returns what [`fmt::Display`] writes, without a writer or memory.
     pub fn hex_digits(&self) -> [u8; 64]
         ensures text { result ≡ hex_text self.now }
         ensures ascii { IsAscii result }
@@ -105,7 +104,7 @@ impl DataHash {
         lower_digits(&self.text_bytes())
     }
 
-    /// The hash whose hex text is `text`, in either case. It succeeds exactly on 64 ASCII hex digits.
+    /// Reads a hash from its hex text, in lower or upper case. Fails if and only if `text` isn't 64 ASCII hex digits.
     pub fn from_hex(text: &str) -> Result<DataHash, DataHashHexParseError>
         ensures accepted { IsOk result ↔ IsHexText text.now }
         ensures is_hash { IfOk result IsHash }
@@ -114,9 +113,9 @@ impl DataHash {
         DataHash::from_hex_digits(text.as_bytes())
     }
 
-    /// [`DataHash::from_hex`] for bytes that may not be UTF-8.
+    /// Does the same as [`DataHash::from_hex`] for bytes that may not be UTF-8.
     ///
-    /// This call is this port's own.
+    /// Only this port has this call.
     pub fn from_hex_digits(digits: &[u8]) -> Result<DataHash, DataHashHexParseError>
         ensures accepted { IsOk result ↔ IsHexText digits.now }
         ensures is_hash { IfOk result IsHash }
@@ -128,14 +127,14 @@ impl DataHash {
         }
     }
 
-    /// The keyed hash of this hash's bytes under the bytes of `key`.
+    /// Returns the keyed BLAKE3 hash of this hash's bytes under the bytes of `key`.
     pub fn hmac(&self, key: HMACKey) -> DataHash
         ensures { result ≡ hash_of (keyed_hash (bytes_of key) (bytes_of self.now)) }
     {
         DataHash::from(keyed_hash(&key.as_bytes(), &self.as_bytes()))
     }
 
-    /// The hash with all bits one.
+    /// Returns the hash of all one bits.
     pub fn marker() -> DataHash
         ensures { result ≡ marker_hash }
     {
@@ -144,8 +143,8 @@ impl DataHash {
         }
     }
 
-    /// A hash drawn from `seed`: its bytes are the first 32 that Xoshiro256++, seeded by
-    /// `seed_from_u64`, gives. It is for tests and simulations.
+    /// Returns a pseudorandom hash, for tests and simulations. Its bytes are the first 32 of Xoshiro256++, seeded by
+    /// `seed_from_u64` from `seed`.
     #[tactic(auto, unfolding(crate::specs::HashForms::random_hash))]
     pub fn random_from_seed(seed: u64) -> DataHash
         ensures { result ≡ random_hash seed }
@@ -155,7 +154,7 @@ impl DataHash {
         DataHash::from(bytes)
     }
 
-    // The 32 bytes in the order of the hex text: each word high byte first.
+    // Returns the 32 bytes in the order of the hex text: each word with its high byte first.
     fn text_bytes(&self) -> [u8; 32]
         ensures text { encode_lower result ≡ hex_text self.now }
         ensures fits { IsHash self.now }
@@ -168,7 +167,7 @@ impl DataHash {
         bytes
     }
 
-    // The hash of 32 bytes in the order of the hex text.
+    // Returns the hash of 32 bytes in the order of the hex text.
     fn from_text_bytes(bytes: &[u8; 32]) -> DataHash
         ensures is_hash { IsHash result }
         ensures text { hex_text result ≡ encode_lower bytes.now }
@@ -231,27 +230,28 @@ impl Rem<u64> for DataHash {
 
     ghost rem_gives = { λ hash divisor rest. rest ≡ slice_index hash 3 % divisor };
 
-    /// Word 3 modulo `divisor`, which is not 0.
+    /// Returns word 3 modulo `divisor`, which must not be 0.
     fn rem(self, divisor: u64) -> u64 {
         self.words[3] % divisor
     }
 }
 
-/// The hash of a chunk, whose data `bytes` is.
+/// Returns the hash of a chunk. `bytes` is its data. It is the keyed BLAKE3 hash under [`DATA_KEY`].
 pub fn compute_data_hash(bytes: &[u8]) -> DataHash
     ensures { result ≡ hash_of (keyed_hash data_key bytes.now) }
 {
     DataHash::from(keyed_hash(&DATA_KEY, bytes))
 }
 
-/// The hash of an inner node of a tree, whose text `bytes` is.
+/// Returns the hash of an inner node of a tree. `bytes` is its text. It is the keyed BLAKE3 hash under
+/// [`INTERNAL_KEY`].
 pub fn compute_internal_node_hash(bytes: &[u8]) -> DataHash
     ensures { result ≡ hash_of (keyed_hash internal_key bytes.now) }
 {
     DataHash::from(keyed_hash(&INTERNAL_KEY, bytes))
 }
 
-// The eight bytes of word number `k` of 32 bytes.
+// Returns the eight bytes of word `k` of 32 bytes.
 fn word_bytes(bytes: &[u8; 32], k: usize) -> [u8; 8]
     requires { k < 4 }
     ensures { result ≡ take 8 (drop (8 * k) bytes.now) }
@@ -261,7 +261,7 @@ fn word_bytes(bytes: &[u8; 32], k: usize) -> [u8; 8]
     word
 }
 
-/// The error of [`DataHash::from_hex`]: the text is not 64 hex digits.
+/// The error of [`DataHash::from_hex`]: the text isn't 64 hex digits.
 #[derive(Clone, Debug, Drop)]
 pub struct DataHashHexParseError;
 
@@ -280,7 +280,7 @@ impl fmt::Display for DataHash {
 
     ghost styled_output = { λ hash _. Some (hex_text hash) };
 
-    /// Writes the hex text, whatever width and flags are asked for.
+    /// Writes the hex text. It ignores the requested width and flags.
     fn fmt<W: fmt::Write>(&self, f: &mut fmt::Formatter<W>) -> fmt::Result {
         let digits = self.hex_digits();
         f.write_str(str::from_utf8(&digits).unwrap())
@@ -290,7 +290,7 @@ impl fmt::Display for DataHash {
 impl fmt::Debug for DataHash {
     ghost debug_output = { λ hash. Some (hex_text hash) };
 
-    /// Writes the hex text, whatever width and flags are asked for.
+    /// Writes the hex text. It ignores the requested width and flags.
     fn fmt<W: fmt::Write>(&self, f: &mut fmt::Formatter<W>) -> fmt::Result
         ensures writes { WritesOnOk W.write_str_gives f.old result (hex_text self.now) f.new }
         ensures styled { WritesStyledOnOk W.write_str_gives f.old result (hex_text self.now) f.new }

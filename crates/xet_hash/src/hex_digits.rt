@@ -3,7 +3,7 @@
 ghost use Rattle.std.specs.Prelude.{◌≡◌, ◌<◌, slice_index};
 ghost use Rattle.hex.specs.Hex.{encode_lower, lower_digits};
 
-// The lower-case hex digit of a number below 16.
+// Returns the lower-case hex digit of a number below 16.
 #[inline(always)]
 fn lower_digit(value: u8) -> u8
     requires { value < 16 }
@@ -16,8 +16,8 @@ fn lower_digit(value: u8) -> u8
     }
 }
 
-// The lower-case hex digits of 32 bytes. A group's text is mostly digits. They are made by arithmetic that is the same for
-// each byte, so that the compiler makes those of several bytes at once.
+// Returns the lower-case hex digits of 32 bytes. A group's text is mostly digits. The arithmetic is the same for each
+// byte, so the compiler can do several bytes at once.
 pub(crate) fn lower_digits(bytes: &[u8; 32]) -> [u8; 64]
     ensures { result ≡ encode_lower bytes.now }
 {

@@ -1,5 +1,5 @@
-//! The 256-bit hash with its forms, after the module `merklehash` of the crate `xet-core-structures` 1.5.2; with
-//! it keyed BLAKE3 and a map for deduplication, of the crates below.
+//! The 256-bit hash and its forms. This ports the module `merklehash` of the crate `xet-core-structures` 1.5.2. The
+//! crate also re-exports keyed BLAKE3 and a map for deduplication from the crates below it.
 #![tactic(auto)]
 
 pub mod data_hash;

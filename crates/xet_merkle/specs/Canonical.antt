@@ -1,33 +1,32 @@
--- The canonical subtree of a list of nodes (module `merklehash::merkle_hash_subtree` of the crate
--- `xet-core-structures`).
+-- The canonical subtree of a list of nodes, as in the module `merklehash::merkle_hash_subtree` of the crate
+-- `xet-core-structures`.
 use Rattle.std.specs.Prelude.{◌≡◌, ℕ, ◌+◌, ◌≤◌, Bool, true, false, List, [], ◌∷◌, ◌++◌, length, map}
 use Rattle.xet_merkle.specs.Groups.{Node, Groups}
 use Rattle.xet_merkle.specs.StablePoints.{IsFirstStable, IsLastStable}
 use Rattle.xet_merkle.specs.Levels.{Level}
 
--- the lower end of what is collapsed: the list's start where it is marked, else the first stable point
+-- the lower end of the middle: the start of the list if it is marked, or else the first stable point
 abbrev pub IsLow : Bool → List Node → List Node → Type 0
 IsLow true left rest = left ≡ []
 IsLow false left rest = IsFirstStable left rest
 
--- the upper end: the list's end where it is marked, else the last stable point of the nodes from the lower
--- end on
+-- the upper end of the middle: the end of the list if it is marked, or else the last stable point of the nodes from the
+-- lower end on
 abbrev pub IsHigh : Bool → List Node → List Node → Type 0
 IsHigh true middle right = right ≡ []
 IsHigh false middle right = IsLastStable middle right
 
--- the split of a list of several nodes under marks: what stays on the left, what is collapsed, and what
--- stays on the right
+-- the split of a list of at least two nodes under marks: what stays on the left, the middle, which is collapsed, and
+-- what stays on the right
 pub record IsSplit (at_start at_end : Bool) (nodes left middle right : List Node) : Type 0 where
   pub parts : nodes ≡ left ++ (middle ++ right)
   pub several : 2 ≤ length nodes
   pub low : IsLow at_start left (middle ++ right)
   pub high : IsHigh at_end middle right
 
--- the canonical subtree of a list under marks, under what makes a parent of a group, and its work: the
--- number of parents that are made for it. Without a split it has one level, with all nodes on the left.
--- With one, the first level has what stays on either side, and the others are the canonical subtree of the
--- parents of the groups of what is collapsed.
+-- the canonical subtree of a list under marks, and its work, the number of parents that are made for it; `make` makes
+-- the parent of a group. Without a split there is one level, with all nodes on the left. With a split, the first level
+-- has its left and right, and the other levels are the canonical subtree of the parents of the middle's groups.
 pub data IsCanonicalBy (make : List Node → Node) (at_start at_end : Bool) : List Node → List Level → ℕ → Type 0 where
   whole : {nodes : List Node} →
       ((left middle right : List Node) → ¬ (IsSplit at_start at_end nodes left middle right)) →

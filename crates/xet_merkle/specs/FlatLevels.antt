@@ -1,15 +1,15 @@
--- Levels in one list of nodes: the left nodes of all levels by rising level, then the right nodes by
--- falling level; beside it, for each level, how many nodes it has on either side.
+-- The nodes of all levels in one list: the left nodes of all levels, lowest level first, then the right nodes of all
+-- levels, highest level first; and for each level the numbers of nodes on both sides.
 use Rattle.std.specs.Prelude.{◌≡◌, ℕ, ◌-◌, List, [], ◌∷◌, ◌++◌, length, map, take, drop}
 use Rattle.xet_merkle.specs.Groups.{Node}
 use Rattle.xet_merkle.specs.Levels.{Level}
 
--- the left nodes of all levels by rising level
+-- the left nodes of all levels, lowest level first
 abbrev pub left_nodes : List Level → List Node
 left_nodes [] = []
 left_nodes (level ∷ levels) = level.left ++ left_nodes levels
 
--- the right nodes of all levels by falling level
+-- the right nodes of all levels, highest level first
 abbrev pub right_nodes : List Level → List Node
 right_nodes [] = []
 right_nodes (level ∷ levels) = right_nodes levels ++ level.right
@@ -18,11 +18,11 @@ right_nodes (level ∷ levels) = right_nodes levels ++ level.right
 abbrev pub flat_nodes : List Level → List Node
 flat_nodes levels = left_nodes levels ++ right_nodes levels
 
--- how many left and right nodes a level has
+-- the numbers of left and right nodes of a level
 abbrev pub count_of : Level → ℕ × ℕ
 count_of level = (length level.left, length level.right)
 
--- the levels that some counts cut out of such a list
+-- the levels that a list of nodes is cut into by these counts
 abbrev pub levels_of : List (ℕ × ℕ) → List Node → List Level
 levels_of [] nodes = []
 levels_of (count ∷ counts) nodes =

@@ -1,5 +1,5 @@
--- What is read of a subtree's JSON value before its levels and nodes are looked at together: rules 1 to 4.
--- Members other than those named are ignored.
+-- The parts of a subtree's JSON value, read before its levels and nodes are checked together: rules 1 to 4. Members
+-- with other names are ignored.
 use Rattle.std.specs.Prelude.{◌≡◌, ℕ, Bool, List, [], ◌∷◌, Option, Some, None, option_and_then, codes}
 use Rattle.std.specs.List.{AllZip}
 use Rattle.std.specs.Str.{str_to_ascii_lowercase}
@@ -9,11 +9,11 @@ use Rattle.serde_json.specs.View.{items_of}
 use Rattle.xet_hash.specs.Hash.{IsHash, IsHexText, hex_text}
 use Rattle.xet_merkle.specs.Groups.{Node}
 
--- the whole number that a value is, if it is one from 0 to 2 ^ 64 - 1
+-- the whole number in a value, if it is from 0 to 2 ^ 64 - 1
 abbrev pub whole : Data → Option ℕ
 whole value = option_and_then as_u64 (as_number value)
 
--- an object with `hash`, 64 hex digits of either case, and `size`, a whole number, is a node
+-- an object with `hash`, 64 hex digits in lower or upper case, and `size`, a whole number, is a node
 pub record ReadsNode (value : Data) (node : Node) : Type 0 where
   pub text : List ℕ
   pub text_is : option_and_then as_str (get (codes "hash") value) ≡ Some text
@@ -30,14 +30,14 @@ pub record ReadsCounts (value : Data) (count : ℕ × ℕ) : Type 0 where
   pub left_is : whole left ≡ Some count.0
   pub right_is : whole right ≡ Some count.1
 
--- the members of an object, as far as their kinds are right
+-- the members of an object, each of the right type
 pub record HasMembers (json : Data) (at_start at_end : Bool) (levels nodes : List Data) : Type 0 where
   pub start_is : get (codes "at_start") json ≡ Some (boolean at_start)
   pub end_is : get (codes "at_end") json ≡ Some (boolean at_end)
   pub levels_are : get (codes "levels") json ≡ Some (array (items_of levels))
   pub nodes_are : get (codes "nodes") json ≡ Some (array (items_of nodes))
 
--- the marks, the counts of each level and the nodes that a value says
+-- the marks, the counts of each level and the nodes in a value
 pub record ReadsParts (json : Data) (at_start at_end : Bool) (counts : List (ℕ × ℕ)) (nodes : List Node) : Type 0 where
   pub level_values : List Data
   pub node_values : List Data
@@ -45,8 +45,8 @@ pub record ReadsParts (json : Data) (at_start at_end : Bool) (counts : List (ℕ
   pub counts_are : AllZip ReadsCounts level_values counts
   pub nodes_are : AllZip ReadsNode node_values nodes
 
--- of the rules 1 to 4, the least that a value breaks: it is no object; a member is lacking or of another kind; a
--- node isn't one; a level isn't one
+-- the lowest of the rules 1 to 4 that a value breaks: it isn't an object; a member is missing or of another type; an
+-- element of `nodes` isn't a node; an element of `levels` isn't a level
 pub data BreaksPartRule (json : Data) : ℕ → Type 0 where
   no_object : as_object json ≡ None → BreaksPartRule json 1
   no_members : {members : Members} → as_object json ≡ Some members →

@@ -1,4 +1,4 @@
--- What subtree a JSON value is, and the least of the rules 1 to 13 that it breaks.
+-- The subtree that a JSON value describes, and the lowest of the rules 1 to 13 that it breaks.
 use Rattle.std.specs.Prelude.{◌≡◌, ℕ, ◌+◌, ◌^◌, ◌<◌, ◌≤◌, Bool, List, length, sum_by}
 use Rattle.serde_json.specs.Data.{Data}
 use Rattle.xet_merkle.specs.Groups.{Node}
@@ -12,8 +12,8 @@ use Rattle.xet_merkle.specs.LevelRules.{BreaksLevelRule}
 abbrev pub count_sum : List (ℕ × ℕ) → ℕ
 count_sum counts = sum_by (λ count. count.0 + count.1) counts
 
--- of the rules 5 to 13, the least that marks, counts and nodes break: there is a level; the counts add up to the
--- number of nodes; the sizes fit 64 bits; and those of the levels
+-- the lowest of the rules 5 to 13 that marks, counts and nodes break: there is a level; the counts add up to the number
+-- of nodes; the sizes fit 64 bits; and the rules of the levels
 pub data BreaksValueRule (at_start at_end : Bool) (counts : List (ℕ × ℕ)) (nodes : List Node) : ℕ → Type 0 where
   no_level : length counts ≡ 0 → BreaksValueRule at_start at_end counts nodes 5
   wrong_counts : 0 < length counts → ¬ (count_sum counts ≡ length nodes) → BreaksValueRule at_start at_end counts nodes 6
@@ -21,13 +21,13 @@ pub data BreaksValueRule (at_start at_end : Bool) (counts : List (ℕ × ℕ)) (
   of_levels : {rule : ℕ} → 0 < length counts → count_sum counts ≡ length nodes → total_size nodes < 2 ^ 64 →
       BreaksLevelRule at_start at_end (levels_of counts nodes) rule → BreaksValueRule at_start at_end counts nodes rule
 
--- the least rule that a value breaks: one of its parts, or one of what they say together
+-- the lowest rule that a value breaks: a rule of its parts, or a rule of the parts together
 pub data BreaksRule (json : Data) : ℕ → Type 0 where
   of_parts : {rule : ℕ} → BreaksPartRule json rule → BreaksRule json rule
   of_value : {rule : ℕ} {at_start at_end : Bool} {counts : List (ℕ × ℕ)} {nodes : List Node} → ReadsParts json at_start at_end counts nodes →
       BreaksValueRule at_start at_end counts nodes rule → BreaksRule json rule
 
--- a value says a subtree: its marks, its counts and its nodes are those of the subtree, and it breaks no rule
+-- a value describes a subtree: its marks, counts and nodes are those of the subtree, and it breaks no rule
 pub record Reads (json : Data) (subtree : Subtree) : Type 0 where
   pub counts : List (ℕ × ℕ)
   pub nodes : List Node

@@ -1,11 +1,11 @@
--- The levels of a subtree: what it keeps of each on either side, from the chunks up (module
--- `merklehash::merkle_hash_subtree` of the crate `xet-core-structures`).
+-- The levels of a subtree: what it keeps of each level on both sides, from the chunks up, as in the module
+-- `merklehash::merkle_hash_subtree` of the crate `xet-core-structures`.
 use Rattle.std.specs.Prelude.{ℕ, ◌+◌, zero, suc, List, [], ◌∷◌, ◌++◌, length}
 use Rattle.xet_hash.specs.Hash.{default_hash}
 use Rattle.xet_merkle.specs.Groups.{Node}
 use Rattle.xet_merkle.specs.Roots.{total_size}
 
--- the nodes that a subtree keeps of a level, on either side
+-- the nodes that a subtree keeps on a level, on both sides
 pub record Level : Type 0 where
   pub left : List Node
   pub right : List Node
@@ -14,7 +14,7 @@ pub record Level : Type 0 where
 abbrev pub no_level : Level
 no_level = record { left = []; right = [] }
 
--- the left and the right nodes of a level, and none where there is no such level
+-- the left and the right nodes of a level, or none if there is no such level
 abbrev pub left_at : List Level → ℕ → List Node
 left_at [] i = []
 left_at (level ∷ levels) zero = level.left
@@ -52,7 +52,7 @@ hash_of_first (node ∷ nodes) = node.0
 abbrev pub top_hash : List Level → List ℕ
 top_hash levels = hash_of_first (top_nodes levels)
 
--- how many nodes some levels have
+-- the number of nodes in some levels
 abbrev pub node_count : List Level → ℕ
 node_count [] = 0
 node_count (level ∷ levels) = length level.left + length level.right + node_count levels

@@ -3,7 +3,7 @@ use Rattle.std.specs.Prelude.{List, [], ◌∷◌, ◌++◌}
 use Rattle.xet_merkle.specs.declared.merge_tree.MergeTree.{MergeTree}
 use Rattle.xet_merkle.specs.declared.merge_tree.MergeTree.TheVariants.{Leaf, Join'}
 
--- the ranges from left to right; a pattern has each `Box` in two parts, the pointer and the value
+-- the ranges from left to right; in a pattern each `Box` has two parts, the pointer and the value
 abbrev pub leaves : {R A : Type 0} → MergeTree R A → List R
 leaves (Leaf range) = range ∷ []
 leaves (Join' p left q right) = leaves left ++ leaves right

@@ -1,5 +1,5 @@
--- Merging the subtrees of adjacent ranges of chunks (module `merklehash::merkle_hash_subtree` of the crate
--- `xet-core-structures`).
+-- Merging the subtrees of adjacent ranges of chunks, as in the module `merklehash::merkle_hash_subtree` of the crate
+-- `xet-core-structures`.
 use Rattle.std.specs.Prelude.{◌≡◌, ℕ, ◌+◌, Bool, true, false, List, [], ◌∷◌, ◌++◌, Result}
 use Rattle.std.specs.List.{AllZip}
 use Rattle.xet_merkle.specs.Groups.{Node}
@@ -9,7 +9,7 @@ use Rattle.xet_merkle.specs.Levels.{levels_size}
 use Rattle.xet_merkle.specs.Canonical.{IsCanonicalBy}
 use Rattle.xet_merkle.specs.Subtree.{Subtree, IsCanonical}
 
--- a subtree spans two others: no mark stands between these, and it has their outer marks and the sum of their sizes
+-- a subtree spans two others: no mark is between these, and it has their outer marks and the sum of their sizes
 pub record Spans (front back merged : Subtree) : Type 0 where
   pub no_end : front.at_end ≡ false
   pub no_start : back.at_start ≡ false
@@ -17,14 +17,14 @@ pub record Spans (front back merged : Subtree) : Type 0 where
   pub end : merged.at_end ≡ back.at_end
   pub size : levels_size merged.levels ≡ levels_size front.levels + levels_size back.levels
 
--- two subtrees are merged to a third, which spans them and is the canonical subtree of the concatenated list wherever they are
--- those of two lists
+-- two subtrees are merged to a third: it spans them and, if they are the canonical subtrees of two lists, it is that of
+-- the concatenated list
 pub record IsMerged (front back merged : Subtree) : Type 0 where
   pub spans : Spans front back merged
   pub canonical : (first second : List Node) → IsCanonical front first → IsCanonical back second → IsCanonical merged (first ++ second)
 
--- the same where parents are made as told, and so many were made for it: the work of both lists and these are the work
--- of the concatenated list
+-- the same if `make` makes the parents, and `made` of them were made for it: this number plus the work of both lists is
+-- the work of the concatenated list
 pub record IsMergedBy (make : List Node → Node) (made : ℕ) (front back merged : Subtree) : Type 0 where
   pub spans : Spans front back merged
   pub canonical : (first second : List Node) (work_first work_second : ℕ) →
@@ -32,16 +32,16 @@ pub record IsMergedBy (make : List Node → Node) (made : ℕ) (front back merge
       IsCanonicalBy make back.at_start back.at_end second back.levels work_second →
       IsCanonicalBy make merged.at_start merged.at_end (first ++ second) merged.levels (made + (work_first + work_second))
 
--- what a merge of two subtrees fails with
+-- the errors of merging two subtrees
 abbrev pub MergeRefusals : {T : Type 0} → Subtree → Subtree → Result T CoreError → Type 0
 MergeRefusals front back result =
     Refusals ((front.at_end ≡ false) × (back.at_start ≡ false)) (levels_size front.levels + levels_size back.levels) result
 
--- no mark stands between adjacent subtrees
+-- no mark is between adjacent subtrees
 abbrev pub NoMarkBetweenSubtrees : List Subtree → Type 0
 NoMarkBetweenSubtrees = NoMarkBetween (λ range. range.at_start) (λ range. range.at_end)
 
--- the start mark of the first range, and the end mark of the last. Without ranges, both ends are marked
+-- the start mark of the first range, and the end mark of the last; without ranges, both ends count as marked
 abbrev pub start_mark : List Subtree → Bool
 start_mark [] = true
 start_mark (range ∷ ranges) = range.at_start

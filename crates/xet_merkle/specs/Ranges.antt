@@ -3,7 +3,7 @@ use Rattle.std.specs.Prelude.{◌≡◌, ℕ, ◌^◌, ◌≤◌, ◌⊎◌, ◌
 use Rattle.xet_merkle.specs.declared.error.CoreError.{CoreError}
 use Rattle.xet_merkle.specs.declared.error.CoreError.TheVariants.{InvalidArguments, SizeOverflow, OutOfMemory}
 
--- no mark stands between adjacent ranges
+-- no mark is between adjacent ranges
 abbrev pub NoMarkBetween : {R : Type 0} → (R → Bool) → (R → Bool) → List R → Type 0
 NoMarkBetween start end [] = Unit {0}
 NoMarkBetween start end (range ∷ []) = Unit {0}
@@ -13,8 +13,8 @@ NoMarkBetween start end (range ∷ next ∷ ranges) = (end range ≡ false) × (
 abbrev pub total_of : {R : Type 0} → (R → ℕ) → List R → ℕ
 total_of total ranges = sum_by total ranges
 
--- what making one range of adjacent ones fails with: the first error exactly where a mark stands between them, the second
--- exactly where none does and their sizes add up to more than 2 ^ 64 - 1, and else memory alone
+-- the errors of making one range of adjacent ones: the first if and only if a mark is between them; the second if and
+-- only if none is and their sizes add up to more than 2 ^ 64 - 1; and otherwise only a failed allocation
 pub record Refusals {T : Type 0} (no_mark_between : Type 0) (size : ℕ) (result : Result T CoreError) : Type 0 where
   pub arguments : IsErrOf result InvalidArguments ↔ ¬ no_mark_between
   pub overflow : IsErrOf result SizeOverflow ↔ (no_mark_between × (2 ^ 64 ≤ size))

@@ -1,5 +1,5 @@
--- Parents, roots and file hashes of a list of nodes (module `merklehash::aggregated_hashes` of the
--- crate `xet-core-structures`).
+-- Parents, roots and file hashes of a list of nodes, as in the module `merklehash::aggregated_hashes` of the crate
+-- `xet-core-structures`.
 use Rattle.std.specs.Prelude.{◌≡◌, ℕ, ◌≤◌, List, [], ◌∷◌, ◌++◌, length, map, flat_map, sum_by, codes, decimal}
 use Rattle.xet_hash.specs.Blake3.{keyed_hash}
 use Rattle.xet_hash.specs.Hash.{default_hash, bytes_of, hash_of, hex_text, internal_key}
@@ -17,7 +17,7 @@ node_line node = hex_text node.0 ++ codes " : " ++ decimal node.1 ++ codes "\n"
 abbrev pub group_text : List Node → List ℕ
 group_text group = flat_map node_line group
 
--- the parent of a group under what is named as the hash of each group: that hash, and the sum of the group's sizes
+-- the parent of a group if `hash` gives the hash of each group: that hash, and the sum of the group's sizes
 abbrev pub parent_by : (List Node → List ℕ) → List Node → Node
 parent_by hash group = (hash group, total_size group)
 
@@ -29,8 +29,8 @@ parent_hash group = hash_of (keyed_hash internal_key (group_text group))
 abbrev pub parent : List Node → Node
 parent = parent_by parent_hash
 
--- the root of a list of nodes, under what makes a parent of a group: the default hash for no node, the
--- node's own hash for one, else the root of the parents of the list's groups
+-- the root of a list of nodes if `make` makes the parents: the default hash of no nodes, the own hash of one node, or
+-- else the root of the parents of the list's groups
 pub data IsRootBy (make : List Node → Node) : List Node → List ℕ → Type 0 where
   no_node : IsRootBy make [] default_hash
   one_node : {hash : List ℕ} {size : ℕ} → IsRootBy make ((hash, size) ∷ []) hash
@@ -41,8 +41,8 @@ pub data IsRootBy (make : List Node → Node) : List Node → List ℕ → Type 
 abbrev pub IsRoot : List Node → List ℕ → Type 0
 IsRoot nodes hash = IsRootBy parent nodes hash
 
--- the file hash of a list of nodes under a salt of 32 bytes: the default hash for no node, else the
--- keyed hash of the root's bytes under the salt
+-- the file hash of a list of nodes under a salt of 32 bytes: the default hash of no nodes, or else the keyed hash of
+-- the root's bytes under the salt
 abbrev pub IsFileHash : List Node → List ℕ → List ℕ → Type 0
 IsFileHash [] salt hash = hash ≡ default_hash
 IsFileHash (node ∷ more) salt hash =

@@ -1,6 +1,6 @@
--- Stable points of a list of nodes: places at which groups end, whatever nodes stand before and after
--- (module `merklehash::merkle_hash_subtree` of the crate `xet-core-structures`). A place in a list is the
--- pair of the parts before and after it.
+-- Stable points of a list of nodes: places at which groups end, whatever nodes come before and after, as in the module
+-- `merklehash::merkle_hash_subtree` of the crate `xet-core-structures`. A place in a list is the pair of the parts
+-- before and after it.
 use Rattle.std.specs.Prelude.{◌≡◌, ℕ, ◌+◌, ◌<◌, ◌≤◌, List, [], ◌∷◌, ◌++◌, length, slice_get, MatchOption}
 use Rattle.xet_merkle.specs.Groups.{Node, Cut, NotCut, Groups}
 
@@ -9,8 +9,8 @@ abbrev pub NoCut : List Node → Type 0
 NoCut [] = Unit {0}
 NoCut (node ∷ nodes) = NotCut node × NoCut nodes
 
--- the nodes between two natural cuts of a stable point: 2 to 6, none of them a natural cut, so that the second
--- one stands 3 to 7 nodes after the first
+-- the nodes between two natural cuts of a stable point: 2 to 6 nodes, none of them a natural cut, so that the second
+-- cut is 3 to 7 nodes after the first
 pub record IsStableGap (between : List Node) : Type 0 where
   pub no_cut : NoCut between
   pub two : 2 ≤ length between
@@ -27,7 +27,7 @@ pub record EndsStable (nodes : List Node) : Type 0 where
   pub last_cut : Cut last
   pub gap : IsStableGap between
 
--- a list whose first natural cut stands at index 2 to 6
+-- a list whose first natural cut has index 2 to 6
 pub record BeginsStable (nodes : List Node) : Type 0 where
   pub between : List Node
   pub first : Node
@@ -46,7 +46,7 @@ pub record IsStable (left right : List Node) : Type 0 where
 abbrev pub NoStable : List Node → Type 0
 NoStable nodes = (left right : List Node) → nodes ≡ left ++ right → ¬ (IsStable left right)
 
--- the first and the last stable point of the list of two parts
+-- the first and the last stable point of the list that consists of two parts
 pub record IsFirstStable (left right : List Node) : Type 0 where
   pub stable : IsStable left right
   pub first : (l r : List Node) → left ++ right ≡ l ++ r → IsStable l r → length left ≤ length l
@@ -57,7 +57,7 @@ pub record IsLastStable (left right : List Node) : Type 0 where
 
 -- ---- by indices
 
--- a natural cut stands at an index
+-- the node at an index is a natural cut
 abbrev pub CutAt : List Node → ℕ → Type 0
 CutAt nodes i = MatchOption (slice_get nodes i) ⊥ Cut
 
@@ -75,7 +75,7 @@ pub record IsTriple (nodes : List Node) (a b c : ℕ) : Type 0 where
 
 -- ---- groups
 
--- the groups of two parts are the groups of the first, then those of the second
+-- the groups of two parts together are the groups of the first, then those of the second
 abbrev pub IsGroupBoundary : List Node → List Node → Type 0
 IsGroupBoundary left right =
     (groups others : List (List Node)) → Groups left groups → Groups right others → Groups (left ++ right) (groups ++ others)

@@ -1,5 +1,5 @@
--- A subtree as contracts see it (module `merklehash::merkle_hash_subtree` of the crate
--- `xet-core-structures`): its marks, and what it keeps of each level, from the chunks up.
+-- A subtree in contracts: its marks, and what it keeps of each level, from the chunks up, as in the module
+-- `merklehash::merkle_hash_subtree` of the crate `xet-core-structures`.
 use Rattle.std.specs.Prelude.{ℕ, Bool, ◌&&◌, nat_eq, List}
 use mathlib.Core.Bool.{beq}
 use Rattle.std.specs.Cmp.Lexicographic.{pointwise}

@@ -1,6 +1,5 @@
--- The JSON form of a subtree, as data of the kit's `serde_json` (module `merklehash::merkle_hash_subtree` of
--- the crate `xet-core-structures`, which writes the same members). Members stand in the order of their
--- names.
+-- The JSON form of a subtree, as data of the toolchain's `serde_json`. It has the members that the module
+-- `merklehash::merkle_hash_subtree` of the crate `xet-core-structures` writes, in the order of their names.
 use Rattle.std.specs.Prelude.{ℕ, Bool, [], ◌∷◌, map, codes}
 use Rattle.serde_json.specs.Data.{Data, boolean, number, string, array, object, unsigned, no_members, member}
 use Rattle.serde_json.specs.View.{items_of}
@@ -17,7 +16,7 @@ number_json n = number (unsigned n)
 abbrev pub node_json : Node → Data
 node_json node = object (member (codes "hash") (string (hex_text node.0)) (member (codes "size") (number_json node.1) no_members))
 
--- how many left and right nodes a level has
+-- the numbers of left and right nodes of a level
 abbrev pub counts_json : ℕ × ℕ → Data
 counts_json count = array (items_of (number_json count.0 ∷ number_json count.1 ∷ []))
 
@@ -29,8 +28,8 @@ subtree_object at_start at_end levels nodes = object (
     member (codes "levels") levels (
     member (codes "nodes") nodes no_members))))
 
--- the marks; the counts of each level, from the chunks up; and the left nodes of all levels by rising level,
--- then the right nodes by falling level
+-- the marks; the counts of each level, from the chunks up; and the left nodes of all levels, lowest level first, then
+-- the right nodes of all levels, highest level first
 abbrev pub subtree_json : Subtree → Data
 subtree_json subtree = subtree_object subtree.at_start subtree.at_end
     (array (items_of (map counts_json (map count_of subtree.levels)))) (array (items_of (map node_json (flat_nodes subtree.levels))))

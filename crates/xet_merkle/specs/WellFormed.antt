@@ -1,6 +1,6 @@
--- What every subtree keeps, whether it comes from a list of chunks or from elsewhere, so that it can be read and
--- merged: the rules 5 and 8 to 13 of its JSON form (module `merklehash::merkle_hash_subtree` of the crate
--- `xet-core-structures`).
+-- The rules that every subtree keeps, whether it comes from a list of chunks or from elsewhere, so that it can be read
+-- and merged. They are the rules 5 and 8 to 13 of its JSON form, as in the module `merklehash::merkle_hash_subtree` of
+-- the crate `xet-core-structures`.
 use Rattle.std.specs.Prelude.{◌≡◌, ◌<◌, ◌≤◌, Bool, true, false, List, [], ◌∷◌, length}
 use Rattle.std.specs.List.{AllByRecursion as Each}
 use Rattle.xet_merkle.specs.Groups.{Node, Cut}
@@ -8,13 +8,13 @@ use Rattle.xet_merkle.specs.StablePoints.{EndsStable, BeginsStable, NoStable}
 use Rattle.xet_merkle.specs.Levels.{Level, top_nodes, top_of, below_top}
 use Rattle.xet_merkle.specs.Subtree.{Subtree}
 
--- what may stay on the left below the top where the start isn't marked: nodes that end as those before a first
--- stable point do
+-- what may stay on the left below the top if the start isn't marked: nodes that end like those before a first stable
+-- point
 abbrev pub IsLeftSide : List Node → Type 0
 IsLeftSide left = EndsStable left × NoStable left
 
--- what may stay on the right below the top where the end isn't marked: nodes that begin as those after a last
--- stable point do
+-- what may stay on the right below the top if the end isn't marked: nodes that begin like those after a last stable
+-- point
 abbrev pub IsRightSide : List Node → Type 0
 IsRightSide right = BeginsStable right × ((cut : Node) → Cut cut → NoStable (cut ∷ right))
 
@@ -30,7 +30,7 @@ Rule9 at_start levels = at_start ≡ true → Each (λ level. level.left ≡ [])
 abbrev pub Rule10 : Bool → Bool → List Level → Type 0
 Rule10 at_start at_end levels = at_start ≡ true → at_end ≡ true → length (top_nodes levels) ≤ 1
 
--- where there are other levels, the top has a node
+-- if there are other levels, the top has a node
 abbrev pub Rule11 : List Level → Type 0
 Rule11 levels = 1 < length levels → 0 < length (top_nodes levels)
 
@@ -42,7 +42,7 @@ Rule12 at_start levels = at_start ≡ false → Each (λ level. IsLeftSide level
 abbrev pub Rule13 : Bool → List Level → Type 0
 Rule13 at_end levels = at_end ≡ false → Each (λ level. IsRightSide level.right) (below_top levels)
 
--- a subtree that keeps them all; rule 5 is that there is a level
+-- a subtree keeps all of them; rule 5 is that there is a level
 pub record IsWellFormed (subtree : Subtree) : Type 0 where
   pub some_level : 0 < length subtree.levels
   pub rule_8 : Rule8 subtree.at_end subtree.levels

@@ -1,4 +1,4 @@
-//! What is known of adjacent ranges that were passed one after another, and why they can't be made one.
+//! What is known of adjacent ranges that were passed one after another, and why they can't be merged.
 
 ghost use Rattle.std.specs.Prelude.{◌≡◌, ℕ, ◌+◌, ◌^◌, ◌<◌, ◌↔◌, List, [], ◌∷◌, ◌++◌, true, Some, None, SomeIff, IsTrue};
 ghost use Rattle.xet_merkle.specs.Steps.Adjacent.{IsPassed, Follows, refusal};
@@ -9,16 +9,16 @@ use crate::error::CoreError;
 // What is known of the ranges that were passed.
 #[derive(Clone, Copy)]
 pub(crate) struct Passed {
-    // The end mark of the last one.
+    // The end mark of the last range, if there is one.
     last_end: Option<bool>,
-    // Whether no mark stands between two of them.
+    // Whether no mark is between two of the ranges.
     no_mark_between: bool,
-    // The sum of their sizes, where it is at most `u64::MAX`.
+    // The sum of their sizes, if it is at most `u64::MAX`.
     total: Option<u64>,
 }
 
 impl Passed {
-    // No range was passed.
+    // Starts with no ranges.
     pub(crate) fn new() -> Self
         ensures { result ≡ record { last_end = None; no_mark_between = true; total = Some 0 } }
     {
@@ -29,7 +29,7 @@ impl Passed {
         }
     }
 
-    // Passes a range.
+    // Passes one more range.
     pub(crate) fn pass<R: ChunkRange>(self, range: &R) -> Self
         ensures { (ranges : List R) → IsPassed R.start R.end R.total self ranges →
             IsPassed R.start R.end R.total result (ranges ++ range.now ∷ []) }
@@ -41,7 +41,7 @@ impl Passed {
         }
     }
 
-    // Why ranges of which this is known can't be made one, where there is a reason but memory.
+    // Returns why the ranges can't be merged, if there is a reason other than memory.
     pub(crate) fn refusal(self) -> Option<CoreError>
         ensures { result ≡ refusal self.no_mark_between self.total }
     {
@@ -55,7 +55,8 @@ impl Passed {
     }
 }
 
-// Whether no mark stands between ranges, the last of which has that end mark, if there is one, and one more.
+// Returns whether there is still no mark between ranges after one more. `last_end` is the end mark of the last range
+// before it, if there is one.
 fn stay_unmarked(no_mark_between: bool, last_end: Option<bool>, at_start: bool) -> bool
     ensures { IsTrue result ↔ (IsTrue no_mark_between × Follows last_end at_start) }
 {
@@ -65,7 +66,7 @@ fn stay_unmarked(no_mark_between: bool, last_end: Option<bool>, at_start: bool) 
     }
 }
 
-// A sum of sizes, if it is at most `u64::MAX`, with one more.
+// Adds one more size to a sum. Returns `None` if the sum is more than `u64::MAX`, or was before.
 fn add_size(total: Option<u64>, size: u64) -> Option<u64>
     ensures { (sum : ℕ) → SomeIff total (sum < 2 ^ 64) sum → SomeIff result (sum + size < 2 ^ 64) (sum + size) }
 {

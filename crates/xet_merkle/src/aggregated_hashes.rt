@@ -1,7 +1,7 @@
-//! The root and the file hash of a list of chunks, after the module `aggregated_hashes` of the crate
+//! The root and the file hash of a list of chunks. This ports the module `aggregated_hashes` of the crate
 //! `xet-core-structures`.
 //!
-//! The root of a list is that of the parents of its groups.
+//! The root of a list is the root of the parents of its groups.
 
 ghost use Rattle.std.specs.Prelude.{◌≡◌, ◌⊎◌, ◌+◌, ◌^◌, ◌<◌, ◌≤◌, ◌↔◌, List, length, replicate, IsOk, IfOk, IfErr, IsErrOf, IsTrue};
 ghost use Rattle.xet_merkle.specs.Groups.{Node};
@@ -16,7 +16,7 @@ use crate::parent_maker::{ParentHashes, ParentMaker};
 use std::alloc::{AllocError, Allocator};
 use xet_hash::data_hash::{HMACKey, MerkleHash};
 
-// The parents of the groups of some nodes, in a new list, with the hashes that a maker makes.
+// Returns the parents of the groups of some nodes, in a new list. The hashes come from a maker.
 pub(crate) fn parents<A: Allocator, P: ParentMaker>(
     alloc: A,
     nodes: &[Node],
@@ -28,7 +28,7 @@ pub(crate) fn parents<A: Allocator, P: ParentMaker>(
     ensures count { IfOk result (λ made. P.count maker.new ≡ P.count maker.old + length made.items) }
     ensures few { IfOk result (λ made. length made.items < 2 ^ 64) }
 {
-    // Each group but the last has three nodes or more.
+    // Each group but the last has at least three nodes.
     let mut made = Vec::with_capacity(alloc, nodes.len().div_ceil(MIN_GROUP_LEN))?;
     let mut rest = nodes;
     'groups: while !rest.is_empty() {
@@ -39,7 +39,7 @@ pub(crate) fn parents<A: Allocator, P: ParentMaker>(
     Ok(made)
 }
 
-// Replaces some nodes by the parents of their groups, in the nodes' own place.
+// Replaces nodes by the parents of their groups, in place.
 fn shrink<A: Allocator>(nodes: &mut Vec<Node, A>)
     requires { total_size nodes.old.items < 2 ^ 64 }
     ensures { AreParents parent nodes.old.items nodes.new.items }
@@ -57,7 +57,7 @@ fn shrink<A: Allocator>(nodes: &mut Vec<Node, A>)
     nodes.truncate(made);
 }
 
-// The root of a list with a node, in the list's own place.
+// Returns the root of a list that has a node. It works in the memory of the list.
 fn root<A: Allocator>(mut nodes: Vec<Node, A>) -> MerkleHash
     requires some { 0 < length nodes.items }
     requires fits { total_size nodes.items < 2 ^ 64 }
@@ -69,12 +69,11 @@ fn root<A: Allocator>(mut nodes: Vec<Node, A>) -> MerkleHash
     nodes[0].0
 }
 
-/// The root of a list of chunks: the default hash for no chunk, the chunk's own hash for one, else the
-/// root of the parents of the list's groups.
+/// Returns the root of a list of chunks. With no chunks it is the default hash. With one it is the chunk's own hash.
+/// With more it is the root of the parents of the list's groups.
 ///
-/// It fails with [`CoreError::SizeOverflow`] where the sizes add up to more than `u64::MAX`, before
-/// anything is allocated, and with [`CoreError::OutOfMemory`] where an allocation is refused. A list of
-/// at most one chunk takes no memory and never fails.
+/// Fails with [`CoreError::SizeOverflow`] if the sizes add up to more than `u64::MAX`, before it allocates. Fails with
+/// [`CoreError::OutOfMemory`] if an allocation fails. With at most one chunk it allocates nothing and never fails.
 pub fn xorb_hash<A: Allocator>(alloc: A, chunks: &[Node]) -> Result<MerkleHash, CoreError>
     ensures root { IfOk result (IsRoot chunks.now) }
     ensures overflow { IsErrOf result CoreError.SizeOverflow ↔ (2 ^ 64 ≤ total_size chunks.now) }
@@ -91,10 +90,10 @@ pub fn xorb_hash<A: Allocator>(alloc: A, chunks: &[Node]) -> Result<MerkleHash, 
     }
 }
 
-/// The file hash of a list of chunks under a salt: the default hash for no chunk, whatever the salt, else
-/// the root's [`hmac`](xet_hash::data_hash::DataHash::hmac) under the salt's 32 bytes.
+/// Returns the file hash of a list of chunks under a salt. With no chunks it is the default hash, whatever the salt.
+/// Otherwise it is the [`hmac`](xet_hash::data_hash::DataHash::hmac) of the root under the 32 bytes of the salt.
 ///
-/// It fails where [`xorb_hash`] does, in the same order.
+/// Fails like [`xorb_hash`], in the same order.
 pub fn file_hash_with_salt<A: Allocator>(
     alloc: A,
     chunks: &[Node],
@@ -109,12 +108,12 @@ pub fn file_hash_with_salt<A: Allocator>(
     Ok(file_hash_of_root(root, chunks.is_empty(), salt))
 }
 
-/// The file hash of a list of chunks under a salt, where its root is at hand and the chunks may be gone: for no chunk the
-/// root, which is the default hash, whatever the salt, else the root's [`hmac`](xet_hash::data_hash::DataHash::hmac)
-/// under the salt's 32 bytes.
+/// Returns the file hash of a list of chunks under a salt, given their root. The chunks are not needed. With no chunks
+/// it is the root, which is the default hash, whatever the salt. Otherwise it is the
+/// [`hmac`](xet_hash::data_hash::DataHash::hmac) of the root under the 32 bytes of the salt.
 ///
-/// Whether the list is empty is asked for, since its root doesn't tell: a single chunk's root is the chunk's own hash,
-/// which may be the default hash too.
+/// The caller passes whether the list is empty, since the root doesn't show it: a list of one chunk has the chunk's own
+/// hash as its root, and that may be the default hash too.
 pub fn file_hash_of_root(root: MerkleHash, is_empty: bool, salt: &[u8; 32]) -> MerkleHash
     ensures { (chunks : List Node) → IsRoot chunks root → (IsTrue is_empty ↔ (length chunks ≡ 0)) →
         IsFileHash chunks salt.now result }
@@ -125,9 +124,9 @@ pub fn file_hash_of_root(root: MerkleHash, is_empty: bool, salt: &[u8; 32]) -> M
     root.hmac(HMACKey::from(salt))
 }
 
-/// The file hash of a list of chunks without a salt, which is that under 32 zero bytes.
+/// Returns the file hash of a list of chunks without a salt. It is the file hash under 32 zero bytes.
 ///
-/// It fails where [`xorb_hash`] does, in the same order.
+/// Fails like [`xorb_hash`], in the same order.
 pub fn file_hash<A: Allocator>(alloc: A, chunks: &[Node]) -> Result<MerkleHash, CoreError>
     ensures file { IfOk result (IsFileHash chunks.now (replicate 32 0)) }
     ensures overflow { IsErrOf result CoreError.SizeOverflow ↔ (2 ^ 64 ≤ total_size chunks.now) }

@@ -1,4 +1,4 @@
-//! What merging promises, as an interface that other representations of a range can meet.
+//! The promises of merging as a trait, so that other representations of a range can keep them too.
 
 ghost use Rattle.std.specs.Prelude.{◌≡◌, ℕ, ◌+◌, ◌^◌, ◌<◌, ◌≤◌, ◌⊎◌, ◌↔◌, Bool, false, List, [], ◌++◌, length, replicate, IfOk, IfErr, OnOk, OnErr, IfSome, IfNone, IsSome, IsErrOf, IsTrue};
 ghost use Rattle.xet_merkle.specs.Groups.{Node};
@@ -11,19 +11,19 @@ use crate::groups::Node;
 use std::alloc::Allocator;
 use xet_hash::data_hash::MerkleHash;
 
-/// A range of adjacent chunks, as much of it as an implementation keeps: it is made of its chunks, joined with the range
-/// that follows it without their chunks, and gives the root of the list once both of its ends are marked.
+/// A range of adjacent chunks. An implementation keeps as much of it as it needs. It makes a range from chunks, merges
+/// it with the range that follows without the chunks, and returns the root of the list once both ends are marked.
 ///
-/// A value stands for a list of chunks. What an implementation says of values that come from elsewhere, and stand for no
-/// list, is its own.
+/// A value stands for a list of chunks. A value from elsewhere may stand for no list; each implementation documents
+/// what it does then.
 pub trait ChunkRange: Drop {
-    /// Where an implementation takes its memory.
+    /// The allocator that the range uses.
     type Alloc: Allocator + Clone;
 
     // The range stands for a list of chunks, under the marks that it shows.
     ghost stands: { Self → List Node → Type 0 };
 
-    // Whether the list's start, and its end, is marked.
+    // Whether the start of the list is marked; `end` is the same for its end.
     ghost start: { Self → Bool };
 
     ghost end: { Self → Bool };
@@ -31,10 +31,10 @@ pub trait ChunkRange: Drop {
     // The sum of all sizes.
     ghost total: { Self → ℕ };
 
-    /// The range of some chunks, marked at its start, at its end, at both or at neither.
+    /// Makes the range of some chunks. The caller marks its start, its end, both or neither.
     ///
-    /// It fails with [`CoreError::SizeOverflow`] where the sizes add up to more than `u64::MAX`, and with
-    /// [`CoreError::OutOfMemory`] where an allocation is refused.
+    /// Fails with [`CoreError::SizeOverflow`] if the sizes add up to more than `u64::MAX`. Fails with
+    /// [`CoreError::OutOfMemory`] if an allocation fails.
     fn from_chunks(
         alloc: Self::Alloc,
         at_start: bool,
@@ -48,25 +48,26 @@ pub trait ChunkRange: Drop {
         ensures overflow { IsErrOf result CoreError.SizeOverflow ↔ (2 ^ 64 ≤ total_size chunks.now) }
         ensures errors { IfErr result (λ e. (e ≡ CoreError.SizeOverflow) ⊎ (e ≡ CoreError.OutOfMemory)) };
 
-    /// Whether the list's start is marked.
+    /// Returns whether the start of the list is marked.
     fn at_start(&self) -> bool
         ensures { result ≡ start self.now };
 
-    /// Whether the list's end is marked.
+    /// Returns whether the end of the list is marked.
     fn at_end(&self) -> bool
         ensures { result ≡ end self.now };
 
-    /// The sum of the sizes of the chunks, in bytes.
+    /// Returns the sum of the sizes of the chunks, in bytes.
     fn total_size(&self) -> u64
         ensures total { result ≡ total self.now }
         ensures chunks { (chunks : List Node) → stands self.now chunks → result ≡ total_size chunks };
 
-    /// Joins the range that follows this one to it, which then stands for both lists, one after the other, with its own
-    /// start mark and the other's end mark.
+    /// Merges the range that follows into this one. This range then stands for both lists, one after the other. It
+    /// keeps its own start mark and takes the end mark of the other.
     ///
-    /// It fails with [`CoreError::InvalidArguments`] where this range is marked at its end or the other at its start,
-    /// also where either is empty; then with [`CoreError::SizeOverflow`] where the sizes of both add up to more than
-    /// `u64::MAX`; and with [`CoreError::OutOfMemory`] where an allocation is refused. After a refusal it is as it was.
+    /// Fails with [`CoreError::InvalidArguments`] if this range is marked at its end or the other at its start, even if
+    /// one of them is empty. Otherwise fails with [`CoreError::SizeOverflow`] if the two sizes add up to more than
+    /// `u64::MAX`. Fails with [`CoreError::OutOfMemory`] if an allocation fails. After a failure this range is
+    /// unchanged.
     fn join(&mut self, back: &Self) -> Result<(), CoreError>
         ensures stands { OnOk result ((first second : List Node) →
             stands self.old first → stands back.now second → stands self.new (first ++ second)) }
@@ -77,9 +78,9 @@ pub trait ChunkRange: Drop {
         ensures refusals { Refusals ((end self.old ≡ false) × (start back.now ≡ false))
             (total self.old + total back.now) result };
 
-    /// Joins the range before this one to it: what [`ChunkRange::join`] makes of `front` and this range stands in this one's
-    /// place. It fails where that fails, and this range is then as it was. An implementation that changes what it keeps in
-    /// place takes time for what `front` keeps alone.
+    /// Merges the range before this one into it. This range becomes what [`ChunkRange::join`] makes of `front` and this
+    /// range. It fails like `join`, and after a failure this range is unchanged. An implementation that changes its
+    /// memory in place takes time only for the nodes of `front`.
     fn prepend(&mut self, front: Self) -> Result<(), CoreError>
     where
         Self: Sized,
@@ -98,25 +99,25 @@ pub trait ChunkRange: Drop {
         Ok(())
     }
 
-    /// How many nodes this range keeps, to tell which of two adjacent ones is better changed in place, by
-    /// [`ChunkRange::join`] or [`ChunkRange::prepend`]. No clause says anything of the number; 0 asks for `join`.
+    /// Returns the number of kept nodes. It helps to choose which of two adjacent ranges to change in place, by
+    /// [`ChunkRange::join`] or [`ChunkRange::prepend`]. No clause constrains the number. If ranges return 0, `join` is chosen.
     fn num_nodes(&self) -> usize {
         0
     }
 
-    /// The root of the list, where both of its ends are marked, and `None` where they aren't. It fails with
-    /// [`CoreError::OutOfMemory`] where an allocation is refused.
+    /// Returns the root of the list if both of its ends are marked, and `None` if not. Fails with
+    /// [`CoreError::OutOfMemory`] if an allocation fails.
     fn root(&self) -> Result<Option<MerkleHash>, CoreError>
         ensures marks { IfOk result (λ root. IsSome root ↔ (IsTrue (start self.now) × IsTrue (end self.now))) }
         ensures root { (chunks : List Node) → stands self.now chunks → IfOk result (λ root. IfSome root (IsRoot chunks)) }
         ensures errors { IfErr result (λ e. e ≡ CoreError.OutOfMemory) };
 }
 
-/// The root and the file hash, without a salt, of the chunks of a range, once both of its ends are marked; of no chunk where
-/// there is no range. A range is open at both ends and has a chunk at least.
+/// Returns the root and the file hash, without a salt, of the chunks of a range. The range must be open at both ends
+/// and have at least one chunk. If there is no range, it returns the hashes of no chunks.
 ///
-/// It fails with [`CoreError::InvalidArguments`] where an end of the range is marked already, and with
-/// [`CoreError::OutOfMemory`] where an allocation is refused.
+/// Fails with [`CoreError::InvalidArguments`] if an end of the range is already marked. Fails with
+/// [`CoreError::OutOfMemory`] if an allocation fails.
 pub fn hashes_of_open<C: ChunkRange>(
     alloc: &C::Alloc,
     range: Option<&C>,
@@ -135,7 +136,7 @@ pub fn hashes_of_open<C: ChunkRange>(
     Ok((root, file_hash_of_root(root, range.is_none(), &[0; 32])))
 }
 
-// Whether neither end of a range is marked, where there is one.
+// Returns whether neither end of a range is marked. True if there is no range.
 fn is_open<C: ChunkRange>(range: Option<&C>) -> bool
     ensures { IsTrue result
         ↔ IfSome range.entry (λ range. (C.start range.now ≡ false) × (C.end range.now ≡ false)) }
@@ -146,7 +147,8 @@ fn is_open<C: ChunkRange>(range: Option<&C>) -> bool
     }
 }
 
-// The root of the chunks of a range that is open at both ends, or of no chunk. It is refused for memory alone.
+// Returns the root of the chunks of a range that is open at both ends, or of no chunks. It fails only for lack of
+// memory.
 fn root_of_open<C: ChunkRange>(alloc: &C::Alloc, range: Option<&C>) -> Result<MerkleHash, CoreError>
     requires { IfSome range (λ range. (C.start range.now ≡ false) × (C.end range.now ≡ false)) }
     ensures none { IfNone range.entry (IfOk result (IsRoot [])) }
@@ -156,7 +158,7 @@ fn root_of_open<C: ChunkRange>(alloc: &C::Alloc, range: Option<&C>) -> Result<Me
 {
     let mut all = C::from_chunks(alloc.clone()?, true, &[], false)?;
     if let Some(range) = range {
-        // It is at most `u64::MAX`, so no size refuses the join.
+        // The total is at most `u64::MAX`, so the merge can't fail because of sizes.
         let _total = range.total_size();
         all.join(range)?;
     }

@@ -6,20 +6,20 @@ ghost use Rattle.xet_merkle.specs.declared.error.CoreError.TheVariants.{OutOfMem
 use std::alloc::{AllocError, AllocFailed};
 use thiserror::Error;
 
-/// Why a call was refused. After a refusal every object that was lent to the call is unchanged.
+/// Why a call failed. After a failure every object that the call borrowed is unchanged.
 #[derive(Clone, Copy, Debug, PartialEq, Eq, Error)]
 pub enum CoreError {
-    /// A range that another follows is marked at its end, or one that follows another at its start.
+    /// A range other than the last is marked at its end, or a range other than the first at its start.
     #[error("invalid arguments")]
     InvalidArguments,
     /// The sizes of all nodes add up to more than `u64::MAX` bytes.
     #[error("size overflow")]
     SizeOverflow,
-    /// An allocation was refused.
+    /// An allocation failed.
     #[error("out of memory")]
     OutOfMemory,
-    /// A JSON value says no subtree. The number is the least rule, from 1 to 13, that it breaks, as
-    /// [`from_json`](crate::merkle_hash_subtree::MerkleHashSubtree::from_json) lists them.
+    /// A JSON value, or flat lists, describe no subtree. The number is the lowest rule, from 1 to 13, that they break.
+    /// [`from_json`](crate::merkle_hash_subtree::MerkleHashSubtree::from_json) lists the rules.
     #[error("invalid JSON: rule {0}")]
     InvalidJson(u8),
 }

@@ -1,7 +1,8 @@
-//! Groups of nodes and their parents, after the module `aggregated_hashes` of the crate `xet-core-structures`.
+//! Groups of nodes and their parents. This ports part of the module `aggregated_hashes` of the crate
+//! `xet-core-structures`.
 //!
-//! A list of nodes is cut into groups; each group becomes a parent, whose hash is that of the group's text and whose size
-//! is the sum of the group's.
+//! A list of nodes is cut into groups, and each group becomes a parent. The hash of the parent is the hash of the
+//! group's text. Its size is the sum of the sizes in the group.
 
 ghost use Rattle.std.specs.Prelude.{◌≡◌, ◌+◌, ◌^◌, ◌<◌, ◌≤◌, List, ◌++◌, length, take, drop, IsSome, SomeIff};
 ghost use Rattle.xet_merkle.specs.Groups.{Node, is_cut};
@@ -10,17 +11,17 @@ ghost use Rattle.xet_merkle.specs.Steps.Scan.{IsFirstGroup};
 
 use xet_hash::data_hash::{MerkleHash, compute_internal_node_hash};
 
-/// One in so many hashes is a natural cut. A group has 5.5 nodes in the mean, since none ends before its third
-/// node, and none has more than nine.
+/// One in this many hashes is a natural cut. A group has 5.5 nodes on average, since no group ends before its third
+/// node unless the list does, and none has more than nine.
 pub const AGGREGATED_HASHES_MEAN_TREE_BRANCHING_FACTOR: u64 = 4;
 
-// The fewest nodes of a group that another one follows.
+// The fewest nodes of a group that another group follows.
 pub(crate) const MIN_GROUP_LEN: usize = 3;
 
 // The most nodes of a group.
 pub(crate) const MAX_GROUP_LEN: usize = 9;
 
-// The first index in a group at which a natural cut ends it.
+// The first index in a group at which a natural cut ends the group.
 const FIRST_CUT_INDEX: usize = MIN_GROUP_LEN - 1;
 
 // The most bytes of a node's line: 64 digits, 3 characters, 20 digits and a newline.
@@ -32,7 +33,7 @@ const MAX_TEXT_LEN: usize = MAX_GROUP_LEN * MAX_LINE_LEN;
 /// A node of the tree over a list of chunks: its hash, and its size in bytes.
 pub type Node = (MerkleHash, u64);
 
-// Whether a node is a natural cut.
+// Returns whether a node is a natural cut.
 #[tactic(auto, unfolding(crate::specs::Groups::is_cut))]
 pub(crate) fn is_natural_cut(node: &Node) -> bool
     ensures { result ≡ is_cut node.now }
@@ -40,7 +41,7 @@ pub(crate) fn is_natural_cut(node: &Node) -> bool
     node.0 % AGGREGATED_HASHES_MEAN_TREE_BRANCHING_FACTOR == 0
 }
 
-// How many nodes the first group of some nodes has.
+// Returns the number of nodes in the first group of some nodes.
 pub(crate) fn first_group_len(nodes: &[Node]) -> usize
     requires { 0 < length nodes.now }
     ensures bound { result ≤ length nodes.now }
@@ -55,7 +56,7 @@ pub(crate) fn first_group_len(nodes: &[Node]) -> usize
     longest
 }
 
-// Writes bytes into a text so that they end at `end`, and returns where they start.
+// Writes bytes into a text so that they end at `end`. Returns where they start.
 #[inline]
 fn write_bytes(text: &mut [u8], bytes: &[u8], end: usize) -> usize
     requires fits { length bytes.now ≤ end }
@@ -68,7 +69,7 @@ fn write_bytes(text: &mut [u8], bytes: &[u8], end: usize) -> usize
     start
 }
 
-// Writes a node's line into a text so that it ends at `end`, and returns where it starts.
+// Writes a node's line into a text so that it ends at `end`. Returns where it starts.
 #[tactic(auto, unfolding(crate::specs::Roots::node_line))]
 fn write_line(text: &mut [u8], node: &Node, end: usize) -> usize
     requires fits { MAX_LINE_LEN ≤ end }
@@ -84,8 +85,8 @@ fn write_line(text: &mut [u8], node: &Node, end: usize) -> usize
     write_bytes(text, &hash.hex_digits(), at)
 }
 
-// Writes the text of a group, a line for each of its nodes, so that it ends where its room does, and returns where it
-// starts: the digits of a number are made from the last one to the first.
+// Writes the text of a group, one line per node, so that it ends at the end of `text`. Returns where it starts. It
+// writes backwards because the last digit of a number is computed first.
 fn write_text(text: &mut [u8], group: &[Node]) -> usize
     requires few { length group.now ≤ MAX_GROUP_LEN }
     requires room { length text.old ≡ MAX_TEXT_LEN }
@@ -101,7 +102,7 @@ fn write_text(text: &mut [u8], group: &[Node]) -> usize
     start
 }
 
-// The sum of the sizes of some nodes, where it is a `u64`, as that of one node is.
+// Returns the sum of the sizes of some nodes, or `None` if it is more than `u64::MAX`. The sum of one size never is.
 pub(crate) fn total_size(nodes: &[Node]) -> Option<u64>
     ensures short { length nodes.now ≤ 1 → IsSome result }
     ensures total { SomeIff result (total_size nodes.now < 2 ^ 64) (total_size nodes.now) }
@@ -113,7 +114,7 @@ pub(crate) fn total_size(nodes: &[Node]) -> Option<u64>
     Some(total)
 }
 
-// The hash of a group's parent.
+// Returns the hash of a group's parent.
 #[tactic(auto, unfolding(crate::specs::Roots::parent_hash))]
 pub(crate) fn parent_hash(group: &[Node]) -> MerkleHash
     requires { length group.now ≤ MAX_GROUP_LEN }
@@ -124,7 +125,7 @@ pub(crate) fn parent_hash(group: &[Node]) -> MerkleHash
     compute_internal_node_hash(&text[start..])
 }
 
-// The sum of the sizes of a group.
+// Returns the sum of the sizes in a group.
 pub(crate) fn group_size(group: &[Node]) -> u64
     requires { total_size group.now < 2 ^ 64 }
     ensures { result ≡ total_size group.now }
@@ -132,7 +133,7 @@ pub(crate) fn group_size(group: &[Node]) -> u64
     group.iter().map(|node| node.1).sum()
 }
 
-// The parent of a group.
+// Returns the parent of a group.
 pub(crate) fn parent(group: &[Node]) -> Node
     requires few { length group.now ≤ MAX_GROUP_LEN }
     requires fits { total_size group.now < 2 ^ 64 }

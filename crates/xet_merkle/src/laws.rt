@@ -1,5 +1,4 @@
-//! Laws of the definitions that the contracts of this crate speak of. Each function does nothing: its
-//! contract is the law.
+//! Laws of the definitions that the contracts of this crate use. Each function does nothing: its contract is the law.
 
 ghost use Rattle.std.specs.Prelude.{◌≡◌, ℕ, ◌+◌, ◌^◌, ◌<◌, ◌≤◌, ◌↔◌, Bool, true, false, List, [], ◌∷◌, ◌++◌, length, take, drop, IsTrue};
 ghost use Rattle.xet_merkle.specs.Groups.{Node, Cut, Groups};
@@ -16,14 +15,14 @@ ghost use Rattle.xet_merkle.specs.Merging.{IsMerged};
 
 use xet_hash::laws::hex_text_tells_hashes_apart;
 
-/// Each list of nodes has exactly one cutting into groups.
+/// Each list of nodes has exactly one division into groups.
 pub fn one_cutting()
     ensures exists { (nodes : List Node) → (groups : List (List Node)) × Groups nodes groups }
     ensures unique { (nodes : List Node) (groups others : List (List Node)) →
         Groups nodes groups → Groups nodes others → groups ≡ others }
 {}
 
-/// A group has 1 to 9 nodes, and 3 or more where another follows it.
+/// A group has 1 to 9 nodes. If another group follows, it has at least 3.
 pub fn group_lengths()
     ensures { (nodes : List Node) (before : List (List Node)) (group : List Node) (after : List (List Node)) →
         Groups nodes (before ++ group ∷ after) →
@@ -37,16 +36,16 @@ pub fn one_root()
         IsRoot nodes hash → IsRoot nodes other → hash ≡ other }
 {}
 
-/// A place is a stable point where, and only where, it stands after the second of three natural cuts
-/// with no natural cut between them, each 3 to 7 nodes after the one before it.
+/// A place in a list is a stable point if and only if it comes right after the second of three natural cuts with no
+/// natural cut between them, each 3 to 7 nodes after the one before it.
 pub fn stable_points_are_triples()
     ensures { (nodes : List Node) (place : ℕ) → IsStable (take place nodes) (drop place nodes)
         ↔ ((a b c : ℕ) × IsTriple nodes a b c × (place ≡ b + 1)) }
 {}
 
-/// A group ends after the second of two natural cuts with no natural cut between them, 3 to 7 nodes
-/// after the first one, whatever nodes stand before and after; also where the first of the two is a
-/// natural cut in front of the list.
+/// Take two natural cuts with no natural cut between them, the second 3 to 7 nodes after the first. A group ends after
+/// the second, whatever nodes come before and after. A group also ends there in a list that begins right after the
+/// first.
 pub fn stable_boundaries()
     ensures inside { (before left after : List Node) →
         EndsStable left → IsGroupBoundary (before ++ left) after }
@@ -61,14 +60,13 @@ pub fn one_split()
         (left ≡ left2) × (middle ≡ middle2) × (right ≡ right2) }
 {}
 
-/// The lower end of a split stands before the upper one.
+/// The lower end of a split comes before its upper end.
 pub fn lower_end_below_upper_end()
     ensures { (at_start at_end : Bool) (nodes left middle right : List Node) →
         IsSplit at_start at_end nodes left middle right → 0 < length middle }
 {}
 
-/// Each list has exactly one canonical subtree under given marks, which takes one number of parents, its
-/// work.
+/// Each list has exactly one canonical subtree under given marks. Making it takes a fixed number of parents, its work.
 pub fn one_canonical_subtree()
     ensures exists { (make : List Node → Node) (at_start at_end : Bool) (nodes : List Node) →
         (levels : List Level) × (work : ℕ) × IsCanonicalBy make at_start at_end nodes levels work }
@@ -78,16 +76,16 @@ pub fn one_canonical_subtree()
         (levels ≡ others) × (work ≡ others_work) }
 {}
 
-/// The canonical subtree of a list with both ends marked has at most one node at the top, whose hash is
-/// the root of the list.
+/// The canonical subtree of a list with both ends marked has at most one node at the top. The hash of this node is the
+/// root of the list.
 pub fn closed_subtree_has_root()
     ensures { (nodes : List Node) (levels : List Level) (work : ℕ) →
         IsCanonicalBy parent true true nodes levels work →
         (length (top_nodes levels) ≤ 1) × IsRoot nodes (top_hash levels) }
 {}
 
-/// A canonical subtree keeps at most as many nodes as its list has, and a list whose canonical subtree has
-/// two levels and `below` more has more nodes than 3 to the power of `below`.
+/// A canonical subtree keeps at most as many nodes as its list has. If it has two levels and `below` more, its list has
+/// more nodes than 3 to the power of `below`.
 pub fn canonical_subtree_bounds()
     ensures nodes { (make : List Node → Node) (at_start at_end : Bool) (nodes : List Node) (levels : List Level) (work : ℕ) →
         IsCanonicalBy make at_start at_end nodes levels work → node_count levels ≤ length nodes }
@@ -95,13 +93,13 @@ pub fn canonical_subtree_bounds()
         IsCanonicalBy make at_start at_end nodes levels work → length levels ≡ below + 2 → 3 ^ below < length nodes }
 {}
 
-/// Two subtrees are equal where, and only where, their marks and their levels are.
+/// Two subtrees compare equal if and only if their marks and their levels are equal.
 pub fn equal_subtrees()
     ensures { (a b : Subtree) → IsTrue (same_subtree a b) ↔ (a ≡ b) }
 {}
 
-/// Merging is associative: adjacent ranges that are the canonical subtrees of lists are merged to the one
-/// canonical subtree of the concatenated list, whichever two are merged first.
+/// Merging is associative. Take adjacent ranges that are the canonical subtrees of lists. Whichever two are merged
+/// first, the result is the one canonical subtree of the concatenated list.
 pub fn merging_is_associative()
     ensures { (a b c ab bc ab_c a_bc : Subtree) (first second third : List Node) →
         IsCanonical a first → IsCanonical b second → IsCanonical c third →
@@ -109,10 +107,9 @@ pub fn merging_is_associative()
         (ab_c ≡ a_bc) × IsCanonical ab_c (first ++ (second ++ third)) }
 {}
 
-/// All bracketings of one list under the same marks give one subtree and one JSON text: where each range is the canonical
-/// subtree of its chunks, `MergeTree::run` and `merge` answer a canonical subtree of the concatenated list, and two of those
-/// with the same marks are equal. The JSON value of a subtree has no float, so its compact text is the one that is given
-/// here.
+/// All bracketings of one list under the same marks give one subtree and one JSON text. If each range is the canonical
+/// subtree of its chunks, `MergeTree::run` and `merge` return a canonical subtree of the concatenated list. Two of
+/// those with the same marks are equal. The JSON value of a subtree has no floats, so `compact_text` gives its text.
 pub fn all_bracketings_agree()
     ensures subtrees { (a b : Subtree) (nodes : List Node) → a.at_start ≡ b.at_start → a.at_end ≡ b.at_end →
         IsCanonical a nodes → IsCanonical b nodes → a ≡ b }
@@ -121,7 +118,7 @@ pub fn all_bracketings_agree()
     ensures no_float { (subtree : Subtree) → has_float (subtree_json subtree) ≡ false }
 {}
 
-/// An empty range without marks changes nothing where it is merged with the canonical subtree of a list.
+/// An empty range without marks is neutral: merging it with the canonical subtree of a list changes nothing.
 pub fn empty_range_is_neutral()
     ensures after { (range empty merged : Subtree) (nodes : List Node) →
         IsCanonical range nodes → IsCanonical empty [] → empty.at_end ≡ false → IsMerged range empty merged → merged ≡ range }
@@ -129,7 +126,8 @@ pub fn empty_range_is_neutral()
         IsCanonical range nodes → IsCanonical empty [] → empty.at_start ≡ false → IsMerged empty range merged → merged ≡ range }
 {}
 
-/// A JSON value says at most one subtree. So what `to_json` answers is read back as its subtree, memory apart.
+/// A JSON value describes at most one subtree. So reading what `to_json` returns gives the same subtree, unless an
+/// allocation fails.
 pub fn json_says_one_subtree()
     ensures { (json : Data) (a b : Subtree) → Reads json a → Reads json b → a ≡ b }
 {

@@ -1,5 +1,5 @@
-//! Roots and file hashes of lists of chunks, and subtrees of adjacent ranges, which are merged without their chunks,
-//! after the module `merklehash` of the crate `xet-core-structures` 1.5.2.
+//! Roots and file hashes of lists of chunks, and subtrees of adjacent ranges, which merge without their chunks. This
+//! ports the module `merklehash` of the crate `xet-core-structures` 1.5.2.
 #![tactic(auto)]
 
 mod adjacent;

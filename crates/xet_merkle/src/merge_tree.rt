@@ -1,4 +1,4 @@
-//! Adjacent ranges, and which of them are joined first.
+//! Adjacent ranges, and which of them are merged first.
 
 ghost use Rattle.std.specs.Prelude.{◌≡◌, ℕ, ◌+◌, ◌-◌, ◌^◌, ◌<◌, ◌≤◌, ◌⊎◌, ◌↔◌, List, [], ◌∷◌, ◌++◌, true, Some, None, flat_map, map, IfOk, IfErr, IfSome, SomeIff, IsNone, IsTrue, IsErrOf, false};
 ghost use Rattle.std.specs.List.{AllZip};
@@ -18,19 +18,19 @@ use std::mem;
 /// Adjacent ranges under a bracketing.
 #[derive(Drop)]
 pub enum MergeTree<R: ChunkRange> {
-    /// A range.
+    /// One range.
     Leaf(R),
-    /// What the left tree is joined to, joined with what the right one is.
+    /// The result of the left tree, merged with the result of the right tree.
     Join(Box<MergeTree<R>>, Box<MergeTree<R>>),
 }
 
-// The first of two trees as it is a leaf, and the second; or both as one tree whose first part is lower by one.
+// Two trees after a turn: the first as a leaf, and the second; or both as one tree, whose first part is lower by one.
 enum Turned<R: ChunkRange> {
     Taken(R, MergeTree<R>),
     Lowered(MergeTree<R>),
 }
 
-// Turns two trees. It takes no memory.
+// Turns two trees. It allocates nothing.
 fn turn<R: ChunkRange>(left: Box<MergeTree<R>>, right: Box<MergeTree<R>>) -> Turned<R>
     ensures { TurnsTo left.value right.value result }
 {
@@ -54,7 +54,7 @@ struct Order<R: ChunkRange> {
     entries: Vec<(usize, R)>,
     // How many joins have begun with the next leaf.
     begun: usize,
-    // How many of the joins at the right side of what is left of the tree have begun.
+    // How many of the joins along the right side of the remaining tree have begun.
     links: usize,
 }
 
@@ -72,7 +72,7 @@ impl<R: ChunkRange> Order<R> {
     }
 }
 
-// Begins the join at the top of what is left, where it hasn't begun.
+// Begins the join at the top of the remaining tree, unless it has begun.
 fn begin<R: ChunkRange>(order: Option<Order<R>>) -> Option<Order<R>>
     ensures { Follow order result (λ old new. (new.entries.items ≡ old.entries.items) × IsBegun old.begun old.links new.begun new.links) }
 {
@@ -114,8 +114,8 @@ fn take<R: ChunkRange>(order: Option<Order<R>>, range: R) -> Option<Order<R>>
     })
 }
 
-// The leaves of a tree, each with the number of joins that begin with it, where memory is there; and what is known of
-// them, which takes none.
+// Returns the leaves of a tree, each with the number of joins that begin with it, or `None` if an allocation fails.
+// Also returns what is known of the ranges, which needs no memory.
 fn take_apart<R: ChunkRange>(alloc: Global, tree: MergeTree<R>) -> (Option<Order<R>>, Passed)
     ensures order { IfSome result.0 (λ order. order.entries.items ≡ entries 0 tree) }
     ensures passed { IsPassed R.start R.end R.total result.1 (leaves tree) }
@@ -147,7 +147,7 @@ fn take_apart<R: ChunkRange>(alloc: Global, tree: MergeTree<R>) -> (Option<Order
     }
 }
 
-// Joins the leaves of a tree as it is bracketed.
+// Merges the leaves of a tree in the order of its bracketing.
 fn join_entries<R: ChunkRange>(alloc: Global, entries: Vec<(usize, R)>) -> Result<R, CoreError>
     requires begun { AreBegun entries.items 0 }
     requires one { depth entries.items 0 ≡ 1 }
@@ -170,13 +170,14 @@ fn join_entries<R: ChunkRange>(alloc: Global, entries: Vec<(usize, R)>) -> Resul
 }
 
 impl<R: ChunkRange> MergeTree<R> {
-    /// Joins the ranges as the tree brackets them: a range that stands for all lists in order, with the first range's
-    /// start mark and the last one's end mark. A tree of any depth takes no more than its share of stack.
+    /// Merges the ranges in the order of the tree's bracketing. The result stands for all lists in order, with the
+    /// start mark of the first range and the end mark of the last one. It doesn't recurse, so a deep tree needs no more
+    /// stack than a shallow one.
     ///
-    /// It looks at all ranges first. It fails with [`CoreError::InvalidArguments`] where a range other than the first is
-    /// marked at its start or one other than the last at its end; then with [`CoreError::SizeOverflow`] where the sizes of
-    /// all ranges add up to more than `u64::MAX`; and with [`CoreError::OutOfMemory`] where an allocation is refused. The
-    /// tree is spent in every case.
+    /// It checks all ranges first. Fails with [`CoreError::InvalidArguments`] if a range other than the first is marked
+    /// at its start, or one other than the last at its end. Otherwise fails with [`CoreError::SizeOverflow`] if the
+    /// sizes of all ranges add up to more than `u64::MAX`. Fails with [`CoreError::OutOfMemory`] if an allocation
+    /// fails. The tree is consumed in every case.
     pub fn run(self) -> Result<R, CoreError>
         ensures stands { IfOk result (λ range. (lists : List (List Node)) →
             AllZip R.stands (leaves self) lists → R.stands range (flat_map (λ list. list) lists)) }

@@ -1,4 +1,4 @@
-//! What makes the hashes of parents while ranges are merged, and counts them.
+//! Makes the hashes of parents while ranges are merged, and counts them.
 
 ghost use Rattle.std.specs.Prelude.{◌≡◌, ℕ, ◌+◌, ◌^◌, ◌<◌, ◌≤◌, List, length};
 ghost use Rattle.xet_merkle.specs.Groups.{Node};
@@ -8,20 +8,20 @@ use crate::groups::{Node, parent_hash};
 use std::marker::Model;
 use xet_hash::data_hash::MerkleHash;
 
-/// Makes the hash of each parent of a merge, and counts how many it made. A merge knows the hash of a parent from its
-/// maker alone, so none gets past the count.
+/// Makes the hash of each parent of a merge, and counts the hashes that it made. A merge gets the hash of a parent only
+/// from its maker, so the count misses none.
 ///
-/// A maker names one hash for each group, whatever it made before. That of [`ParentHashes`] is the parent's own; another
-/// one gives the parents of a tree of its own.
+/// A maker gives each group one hash, whatever it made before. [`ParentHashes`] gives the hashes of the Xet format.
+/// Another maker gives the parents of a different tree.
 pub trait ParentMaker: Drop {
-    // The hash that is named for a group.
+    // The hash that the maker gives a group.
     ghost hash_of: { List Node → List ℕ };
 
-    // How many hashes were made.
+    // The number of hashes that it made.
     ghost count: { Self → ℕ };
 
-    /// The hash of the parent of a group, which has 1 to 9 nodes whose sizes add up to a `u64`. It takes no memory, and is
-    /// called where fewer than 2^100 hashes were made.
+    /// Returns the hash of the parent of a group. The group has 1 to 9 nodes, whose sizes add up to at most `u64::MAX`.
+    /// The call allocates nothing. The maker must have made fewer than 2^100 hashes before.
     fn make(&mut self, group: &[Node]) -> MerkleHash
         requires some { 0 < length group.now }
         requires few { length group.now ≤ 9 }
@@ -30,13 +30,13 @@ pub trait ParentMaker: Drop {
         ensures hash { result ≡ hash_of group.now }
         ensures count { count self.new ≡ count self.old + 1 };
 
-    /// How many hashes were made.
+    /// Returns the number of hashes that it made.
     fn made(&self) -> u128
         ensures { result ≡ count self.now };
 }
 
-/// The maker of the hashes that parents have: of a group, the internal node hash of its text, which has a line for each
-/// node with its hash and its size.
+/// The maker of the hashes of the Xet format. The hash of a group's parent is the internal node hash of the group's
+/// text. The text has one line per node, with the node's hash and size.
 #[derive(Debug, Drop)]
 pub struct ParentHashes {
     made: u128,
@@ -49,7 +49,7 @@ impl Model for ParentHashes {
 }
 
 impl ParentHashes {
-    /// The maker that has made no hash yet.
+    /// Makes a maker that has made no hash yet.
     pub fn new() -> Self
         ensures { result ≡ 0 }
     {

@@ -12,7 +12,7 @@ use std::alloc::{Allocator, Global};
 use std::marker::Model;
 use xet_hash::data_hash::MerkleHash;
 
-/// A range of chunks that keeps each of them: the plainest way to join ranges, for tests and for short lists.
+/// A range of chunks that keeps each chunk. It is the simplest way to merge ranges, for tests and for short lists.
 #[derive(Debug, Drop)]
 pub struct PlainRange<A: Allocator = Global> {
     at_start: bool,
@@ -31,7 +31,7 @@ impl<A: Allocator> Model for PlainRange<A> {
 }
 
 impl<A: Allocator> PlainRange<A> {
-    /// The chunks, in their order.
+    /// Returns the chunks in order.
     pub fn chunks(&self) -> &[Node]
         ensures { result.now ≡ self.now.chunks }
     {

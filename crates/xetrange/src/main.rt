@@ -1,4 +1,4 @@
-//! The program `xetrange`: ranges of a file that are made apart and joined without their chunks.
+//! The program `xetrange`: ranges of a file are made separately and merged without their chunks.
 #![tactic(auto)]
 
 use std::env;

@@ -1,4 +1,4 @@
--- What an input of ranges that were made apart says.
+-- What an input of ranges that were made separately says.
 use Rattle.std.proofs.Common.{arith, ◌≡◌, ◌+◌, ◌^◌, ◌<◌, ◌≤◌, ℕ, Bool, List, [], ◌∷◌, ◌++◌, length, flat_map, refl, sym, ap, subst, ◌∙◌, append_assoc, append-nil, length-append}
 use Rattle.std.specs.List.{AllZip, concat}
 use Rattle.serde_json.specs.Data.{Data}

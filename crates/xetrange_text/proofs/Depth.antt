@@ -1,4 +1,4 @@
--- The JSON value of a subtree nests three deep.
+-- The JSON value of a subtree is nested three deep.
 use Rattle.std.proofs.Common.{◌≤◌, List, [], ◌∷◌, map, arith}
 use Rattle.serde_json.specs.Data.{Data, depth, items_depth}
 use Rattle.serde_json.specs.View.{items_of}

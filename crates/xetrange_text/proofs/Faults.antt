@@ -1,4 +1,4 @@
--- What a line is refused for, and why an input has no answer, are faults of its text.
+-- The fault of a line, and the reason that an input has no answer, are faults of its text.
 use Rattle.std.proofs.Common.{◌≡◌, ℕ, ◌+◌, ◌^◌, ◌≤◌, List, length, refl, sym, subst, arith}
 use Rattle.std.specs.List.{concat}
 use Rattle.xet_merkle.specs.Groups.{Node}

@@ -1,4 +1,4 @@
--- What `make`, `join` and `root` answer to their inputs.
+-- What `make`, `join` and `root` write for their inputs.
 use Rattle.std.specs.Prelude.{◌≡◌, ℕ, ◌+◌, ◌^◌, ◌<◌, ◌≤◌, List, length, replicate, flat_map}
 use Rattle.std.specs.List.{concat}
 use Rattle.xet_merkle.specs.Groups.{Node}
@@ -24,7 +24,7 @@ IsMadeOf text output =
     (pairs : List Node) × (range : Subtree) × AreGood (lines_of text) pairs × IsCanonical range pairs × IsOpen range
     × IsRangeLine output range
 
--- its faults; memory, a reader and a writer can fail at any text
+-- its faults; an allocation, a read and a write can fail for any text
 abbrev pub IsMakeFaultOf : List ℕ → RangeFault → Type 0
 IsMakeFaultOf text (BadLine number) = HasFault pair_text.IsLineFault text number bad_pair
 IsMakeFaultOf text (Sizes number) = HasFault pair_text.IsLineFault text number pair_sizes
@@ -33,13 +33,13 @@ IsMakeFaultOf text Memory = Unit {0}
 IsMakeFaultOf text Read = Unit {0}
 IsMakeFaultOf text Write = Unit {0}
 
--- `join`: the line of the range that those of the lines are merged to
+-- `join`: the line of the range that the ranges of the lines are merged to
 abbrev pub IsJoinedOf : List ℕ → List ℕ → Type 0
 IsJoinedOf text output =
     (ranges : List Subtree) × (merged : Subtree) × AreRanges (lines_of text) ranges × AreMerged ranges merged × IsRangeLine output merged
 
--- `root`: two lines, which wherever the ranges are the canonical subtrees of lists tell the root of the concatenated list, and
--- its file hash under the salt of 32 zero bytes
+-- `root`: two lines. If the ranges are the canonical subtrees of lists, these are the root of the concatenated list,
+-- and its file hash under the salt of 32 zero bytes.
 pub record IsRootOf (text output : List ℕ) : Type 0 where
   pub ranges : List Subtree
   pub root : List ℕ
@@ -49,11 +49,11 @@ pub record IsRootOf (text output : List ℕ) : Type 0 where
   pub is_file : (lists : List (List Node)) → AreCanonical ranges lists → IsFileHash (flat_map (λ list. list) lists) (replicate 32 0) file
   pub is_text : output ≡ output_text root file
 
--- the first byte past the limit stands in a line after others
+-- a line after others contains the first byte past the limit
 abbrev pub IsPast : List (List ℕ) → List ℕ → Type 0
 IsPast before line = byte_limit < length (concat before) + length line
 
--- it says a range that makes the sizes pass 2 ^ 64 - 1
+-- with the range that it says, the sizes are more than 2 ^ 64 - 1
 abbrev pub PassesSizes : List Subtree → List ℕ → Type 0
 PassesSizes ranges line = (range : Subtree) × SaysRange (content line) range × (2 ^ 64 ≤ ranges_size ranges + levels_size range.levels)
 

@@ -12,7 +12,7 @@ use Rattle.xet_merkle.specs.JsonRules.{BreaksRule, Reads}
 use Rattle.xet_merkle.specs.Merging.{AreCanonical, ranges_size}
 use Rattle.line_io.specs.Lines.{byte_limit, content, newline}
 
--- no end of a subtree is marked
+-- neither end of a subtree is marked
 abbrev pub IsOpen : Subtree → Type 0
 IsOpen range = (range.at_start ≡ false) × (range.at_end ≡ false)
 
@@ -24,8 +24,8 @@ IsTextOf text json = IsUtf8 text × (read text ≡ Some json)
 abbrev pub SaysRange : List ℕ → Subtree → Type 0
 SaysRange text range = (json : Data) × IsTextOf text json × Reads json range × IsOpen range
 
--- they aren't: their value breaks a rule, of which this is the least; or else they are no JSON text, or that of a subtree
--- with a mark
+-- they aren't: their value breaks a rule, and this is the lowest; or they aren't JSON text, or that of a subtree with a
+-- mark
 abbrev pub SaysNoRange : List ℕ → Option ℕ → Type 0
 SaysNoRange text (Some rule) = (json : Data) × IsTextOf text json × BreaksRule json rule
 SaysNoRange text None =
@@ -38,13 +38,13 @@ pub record AreRanges (lines : List (List ℕ)) (ranges : List Subtree) : Type 0 
   pub fits : ranges_size ranges < 2 ^ 64
   pub within : length (concat lines) ≤ byte_limit
 
--- the line that is written of a range: its compact JSON text, which says it, and a newline
+-- the line of a range: its compact JSON text, which describes it, and a newline
 pub record IsRangeLine (line : List ℕ) (range : Subtree) : Type 0 where
   pub text : line ≡ compact_text (subtree_json range) ++ newline ∷ []
   pub says : SaysRange (compact_text (subtree_json range)) range
 
--- adjacent ranges are merged to one that is open at both ends: it has the sum of their sizes, and is the canonical subtree
--- of the concatenated list wherever they are those of lists
+-- adjacent ranges are merged to one that is open at both ends: it has the sum of their sizes and, if they are the
+-- canonical subtrees of lists, it is that of the concatenated list
 pub record AreMerged (ranges : List Subtree) (merged : Subtree) : Type 0 where
   pub is_open : IsOpen merged
   pub size : levels_size merged.levels ≡ ranges_size ranges

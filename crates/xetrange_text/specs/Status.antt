@@ -1,4 +1,4 @@
--- The numbers of the faults, and why an input has no answer as one of them.
+-- The numbers of the faults, and the fault for each reason that an input has no answer.
 use Rattle.std.specs.Prelude.{◌≡◌, ℕ, Result, Ok, Err}
 use Rattle.line_io.specs.declared.fault.AnswerFault.{AnswerFault}
 use Rattle.line_io.specs.declared.fault.AnswerFault.TheVariants.{Input, Answer, Write as write_failed}
@@ -19,16 +19,16 @@ status_of Read = 4
 status_of Write = 5
 status_of (BadRange number rule) = 8
 
--- the exit status of a call that ended so
+-- the exit status of a call with this result
 abbrev pub exit_status : Result (Unit {0}) RangeFault → ℕ
 exit_status (Ok done) = 0
 exit_status (Err fault) = status_of fault
 
--- a status is that of a call which ended as is said
+-- a status is that of a call which ended this way
 abbrev pub IsStatusOf : ℕ → (Result (Unit {0}) RangeFault → Type 0) → Type 0
 IsStatusOf status Ended = (done : Result (Unit {0}) RangeFault) × (status ≡ exit_status done) × Ended done
 
--- why an input of pairs has no answer, as a fault
+-- the fault for the reason that an input of pairs has no answer
 abbrev pub make_fault_of : {T : Type 0} → AnswerFault PairFault T → RangeFault
 make_fault_of (Input (Line number bad_pair)) = BadLine number
 make_fault_of (Input (Line number pair_sizes)) = Sizes number
@@ -37,7 +37,7 @@ make_fault_of (Input read_failed) = Read
 make_fault_of (Answer refusal) = Memory
 make_fault_of write_failed = Write
 
--- why an input of ranges has no answer, as a fault
+-- the fault for the reason that an input of ranges has no answer
 abbrev pub range_fault_of : {T : Type 0} → AnswerFault LineFault T → RangeFault
 range_fault_of (Input (Line number Bad)) = BadLine number
 range_fault_of (Input (Line number passes_sizes)) = Sizes number

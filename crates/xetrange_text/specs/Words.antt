@@ -1,8 +1,8 @@
--- What the words of the program's arguments ask for.
+-- What the words of the program's arguments request.
 use Rattle.std.specs.Prelude.{◌≡◌, ℕ, ◌⊎◌, List, [], ◌∷◌, codes}
 use Rattle.line_io.specs.Requests.{AskForHelp, AskForVersion}
 
--- one word stands alone that the program knows
+-- there is one word, and the program knows it
 abbrev pub AreKnown : List (List ℕ) → Type 0
 AreKnown words =
     (words ≡ codes "make" ∷ []) ⊎ ((words ≡ codes "join" ∷ []) ⊎ ((words ≡ codes "root" ∷ [])

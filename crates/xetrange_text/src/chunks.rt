@@ -1,4 +1,4 @@
-//! Chunks in order, gathered range by range.
+//! Chunks in order, collected range by range.
 
 ghost use Rattle.std.specs.Prelude.{◌≡◌, ◌+◌, ◌^◌, ◌<◌, ◌≤◌, false, List, length, [], ◌∷◌, ◌++◌, IfOk, IfErr, OnOk};
 ghost use Rattle.line_io.specs.Faults.{IfFaulty};
@@ -14,11 +14,11 @@ use xet_merkle::aggregated_hashes::Node;
 use xet_merkle::chunk_range::ChunkRange;
 use xet_merkle::error::CoreError;
 
-// The most chunks after the range that is ended; more are cut into several ranges.
+// The most chunks after the ended range. More are cut into several ranges.
 const MAX_LAST_LEN: usize = 4096;
 
-/// The chunks so far: of the last ones the nodes, 40 bytes each and at most [`MAX_LAST_LEN`], and of those before
-/// them one range, without marks.
+/// The chunks so far. It keeps the last chunks, 40 bytes each and at most [`MAX_LAST_LEN`], and one range without marks
+/// of all chunks before them.
 #[derive(Drop)]
 pub struct Chunks<C: ChunkRange> {
     ended: C,
@@ -34,7 +34,7 @@ pub struct Chunks<C: ChunkRange> {
 impl<C: ChunkRange> Chunks<C> {
     ghost use Rattle.xetrange_text.specs.Steps.Chunks.{StandForChunks};
 
-    /// No chunk.
+    /// Starts without chunks. Fails if an allocation fails.
     pub fn new(alloc: C::Alloc) -> Result<Self, AllocError>
         ensures { IfOk result (λ chunks. StandForChunks chunks []) }
     {
@@ -48,8 +48,8 @@ impl<C: ChunkRange> Chunks<C> {
 
     /// Adds a chunk.
     ///
-    /// It fails with [`PairFault::Sizes`] where all sizes add up to more than `u64::MAX` bytes, and with
-    /// [`Refusal::Memory`] where an allocation is refused.
+    /// Fails with [`PairFault::Sizes`] if all sizes add up to more than `u64::MAX` bytes. Fails with
+    /// [`Refusal::Memory`] if an allocation fails.
     pub fn push(&mut self, chunk: Node) -> Result<(), Refusal<PairFault>>
         ensures pushed { OnOk result ((chunks : List Node) → StandForChunks self.old chunks →
             (total_size chunks + chunk.1 < 2 ^ 64) × StandForChunks self.new (chunks ++ chunk ∷ [])) }
@@ -67,7 +67,7 @@ impl<C: ChunkRange> Chunks<C> {
         Ok(())
     }
 
-    /// The range of all chunks, without marks.
+    /// Returns the range of all chunks, without marks. Fails if an allocation fails.
     pub fn into_range(mut self) -> Result<C, AllocError>
         ensures stands { IfOk result (λ range. (chunks : List Node) → StandForChunks self chunks → C.stands range chunks) }
         ensures start { IfOk result (λ range. C.start range ≡ false) }
@@ -77,7 +77,7 @@ impl<C: ChunkRange> Chunks<C> {
         Ok(self.ended)
     }
 
-    // Merges the range of the last chunks into that of those before them.
+    // Merges the range of the last chunks into the range of those before them.
     fn end_range(&mut self) -> Result<(), AllocError>
         ensures same { OnOk result ((chunks : List Node) → StandForChunks self.old chunks → StandForChunks self.new chunks) }
         ensures total { self.new.total ≡ self.old.total }
@@ -101,7 +101,7 @@ impl<C: ChunkRange> TakeSaid for Chunks<C> {
 
     ghost is_fault = { IsLineFault };
 
-    // A separator says nothing of the pairs.
+    // A separator changes no pair.
     fn take(&mut self, said: Line) -> Result<(), Refusal<PairFault>> {
         match said {
             Line::Separator => Ok(()),
@@ -115,7 +115,7 @@ impl<C: ChunkRange> TakeSaid for Chunks<C> {
     }
 }
 
-// The error of a call that is refused for memory alone.
+// Converts the error of a call that fails only for lack of memory.
 fn out_of_memory(error: CoreError) -> AllocError
     requires { error ≡ CoreError.OutOfMemory }
 {

@@ -14,37 +14,37 @@ use std::fmt;
 /// Why a line of a range is faulty, after lines that aren't.
 #[derive(Clone, Copy, Debug, PartialEq, Eq)]
 pub enum LineFault {
-    /// The first byte past the limit of an input stands in it.
+    /// It contains the first byte past the limit of an input.
     Bad,
-    /// With it the sizes pass `u64::MAX`.
+    /// With it, the sizes add up to more than `u64::MAX`.
     Sizes,
-    /// It says no range, with the least rule that its value breaks.
+    /// It says no range. The number is the lowest rule that its value breaks.
     NoRange(Option<u8>),
 }
 
-/// Why [`make`](crate::make::make), [`join`](crate::join::join) or [`root`](crate::join::root) was refused.
+/// Why [`make`](crate::make::make), [`join`](crate::join::join) or [`root`](crate::join::root) failed. Line numbers
+/// count from 1, and are those of the first faulty line.
 #[derive(Clone, Copy, Debug, PartialEq, Eq)]
 pub enum RangeFault {
-    /// The first faulty line, of this number from 1, is bad: byte number 2^40 + 1 of the input stands in it, or, for
-    /// `make`, it is no pair, chunk or separator.
+    /// The line is bad: it contains byte number 2^40 + 1 of the input, or, for `make`, it isn't a pair, a chunk or a
+    /// separator.
     BadLine(u64),
-    /// The first faulty line, of this number from 1, isn't bad, and with it the sizes pass `u64::MAX`.
+    /// The line isn't bad. With it, the sizes add up to more than `u64::MAX`.
     Sizes(u64),
-    /// An allocation was refused.
+    /// An allocation failed.
     Memory,
     /// A read failed.
     Read,
     /// A write or the flush failed, or a write took nothing.
     Write,
-    /// The first faulty line, of this number from 1, is no JSON text of a subtree that is open at both ends. The second
-    /// number is the least of the rules 1 to 13 of
-    /// [`from_json`](xet_merkle::merkle_hash_subtree::MerkleHashSubtree::from_json) that its value breaks; it is lacking
-    /// where the line is no JSON text, or that of a subtree with a mark.
+    /// The line isn't the JSON text of a subtree that is open at both ends. The second number is the lowest rule, from
+    /// 1 to 13 of [`from_json`](xet_merkle::merkle_hash_subtree::MerkleHashSubtree::from_json), that its value breaks.
+    /// It is `None` if the line isn't JSON text, or if its subtree has a mark.
     BadRange(u64, Option<u8>),
 }
 
 impl RangeFault {
-    /// The number of the fault, from 1 to 5 or 8, which is the program's exit status.
+    /// Returns the number of the fault, from 1 to 5 or 8. It is the program's exit status.
     pub fn status(&self) -> u8
         ensures { result ≡ status_of self.now }
     {

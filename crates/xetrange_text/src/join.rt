@@ -1,4 +1,4 @@
-//! Ranges merged to one, and to the hashes of the whole.
+//! Merges ranges to one, and to the hashes of the whole.
 
 ghost use Rattle.std.specs.Prelude.{◌≡◌, ◌<◌, List, length, replicate, IfNone, IfOk, IfSome};
 ghost use Rattle.line_io.specs.Answers.{AnswersInput};
@@ -22,13 +22,15 @@ use xet_hash::data_hash::MerkleHash;
 use xet_merkle::chunk_range::hashes_of_open;
 use xet_merkle::merkle_hash_subtree::MerkleHashSubtree;
 
-/// Reads lines to the end of `r`, each the JSON text of a subtree that is open at both ends, and then writes that of the
-/// subtree that these make together in order, open at both ends too, and a newline to `w`, and flushes it.
+/// Reads lines to the end of `r`, each the JSON text of a subtree that is open at both ends. Merges these subtrees in
+/// order. Then writes the JSON text of the result, which is open at both ends too, and a newline to `w`, and flushes
+/// it. An input has at most 2^40 bytes.
 ///
-/// It keeps the merged subtree and one line whole with what it says; the subtrees and the line take their memory of
-/// `alloc`, and JSON values and the text that is written take theirs of `json`. An input has at most 2^40 bytes. A fault is
-/// as [`RangeFault`] says. After `Write` a beginning of the output was written, and after the others nothing. How much of
-/// the input was read after a fault isn't said.
+/// It keeps the merged subtree, and one whole line with its subtree. `alloc` allocates subtrees and the line. `json`
+/// allocates JSON values and the text that is written.
+///
+/// [`RangeFault`] lists the faults. After `Write` it has written a beginning of the output, and after any other fault
+/// nothing. How much of the input it has read after a fault isn't specified.
 pub fn join<R: Read, W: Write>(
     alloc: impl Allocator,
     json: Global,
@@ -42,10 +44,10 @@ pub fn join<R: Read, W: Write>(
     Ok(answer_lines(lines, JoinedRange { json }, r, w)?)
 }
 
-/// Reads the lines that [`join`] reads, and writes the root and the file hash of what the subtree stands for that they are
-/// merged to, once both of its ends are marked: the two lines that [`xetroot_text::run::run`] writes.
+/// Reads the lines that [`join`] reads, and merges their subtrees. Then it marks both ends, and writes the root and the
+/// file hash as the two lines that [`xetroot_text::run::run`] writes.
 ///
-/// What it keeps, its faults and what was written after one are as for [`join`].
+/// What it keeps, its faults and what it has written after one are those of [`join`].
 pub fn root<R: Read, W: Write>(
     alloc: impl Allocator,
     json: Global,
@@ -59,7 +61,7 @@ pub fn root<R: Read, W: Write>(
     Ok(answer_lines(lines, RootAndFile { alloc: &alloc }, r, w)?)
 }
 
-// The line of the range that all ranges make together, which takes its memory of `json`.
+// The line of the merged range. `json` allocates it.
 #[derive(Drop)]
 struct JoinedRange {
     json: Global,
@@ -79,7 +81,7 @@ impl<A: Allocator + Clone> AnswerLines<MergedLines<A>> for JoinedRange {
     }
 }
 
-// The root and the file hash of the range that all ranges make together.
+// The root and the file hash of the merged range.
 #[derive(Drop)]
 struct RootAndFile<A: Allocator + Clone> {
     alloc: A,
@@ -103,8 +105,8 @@ impl<A: Allocator + Clone> AnswerLines<MergedLines<A>> for RootAndFile<A> {
     }
 }
 
-// The root and the file hash of a range that is open at both ends, once both are marked. It fails where an allocation is
-// refused.
+// Returns the root and the file hash of a range that is open at both ends, as if both were marked. Fails if an
+// allocation fails.
 fn close<A: Allocator + Clone>(
     alloc: A,
     merged: &MerkleHashSubtree<A>,
@@ -119,7 +121,7 @@ fn close<A: Allocator + Clone>(
     Ok(hashes)
 }
 
-// A range, where it has a chunk.
+// Returns a range, if it has a chunk.
 fn with_chunks<A: Allocator + Clone>(range: &MerkleHashSubtree<A>) -> Option<&MerkleHashSubtree<A>>
     ensures none { IfNone result ((chunks : List Node) → IsCanonical range.now chunks → length chunks ≡ 0) }
     ensures some { IfSome result (λ same. (same.now ≡ range.now)

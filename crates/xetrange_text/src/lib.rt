@@ -1,5 +1,5 @@
-//! What the program `xetrange` answers: ranges of a file that are made apart and merged without their chunks, each as a
-//! line of JSON.
+//! The library of the program `xetrange`: ranges of a file are made separately and merged without their chunks, each as
+//! a line of JSON.
 #![tactic(auto)]
 
 mod chunks;

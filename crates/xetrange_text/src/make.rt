@@ -1,4 +1,4 @@
-//! The range of some pairs.
+//! Makes the range of some pairs.
 
 ghost use Rattle.line_io.specs.Answers.{AnswersInput};
 ghost use Rattle.xetrange_text.specs.Answers.{IsMadeOf, IsMakeFaultOf};
@@ -15,13 +15,15 @@ use std::convert::Infallible;
 use std::io::{Read, Write};
 use xet_merkle::merkle_hash_subtree::MerkleHashSubtree;
 
-/// Reads lines to the end of `r`, each a pair, a chunk or `--`, and then writes the compact JSON text of the subtree of the
-/// pairs that they say, open at both ends, and a newline to `w`, and flushes it.
+/// Reads lines to the end of `r`, each a pair, a chunk or `--`. Then writes the subtree of their pairs, open at both
+/// ends, as compact JSON text with a newline to `w`, and flushes it. An input has at most 2^40 bytes.
 ///
-/// It keeps a subtree, which is small where stable points come up, at most 4096 pairs after it, and of the open line no
-/// more than the longest pair line has; they take their memory of `alloc`, and the text and its value take theirs of `json`.
-/// An input has at most 2^40 bytes. A fault is as [`RangeFault`] says. After `Write` a beginning of the output was written,
-/// and after the others nothing. How much of the input was read after a fault isn't said.
+/// It keeps a subtree, which is small if there are stable points; at most 4096 pairs after it; and at most as many
+/// bytes of the open line as the longest pair line has. `alloc` allocates these. `json` allocates the text and its
+/// value.
+///
+/// [`RangeFault`] lists the faults. After `Write` it has written a beginning of the output, and after any other fault
+/// nothing. How much of the input it has read after a fault isn't specified.
 pub fn make<R: Read, W: Write>(
     alloc: impl Allocator,
     json: Global,
@@ -34,7 +36,7 @@ pub fn make<R: Read, W: Write>(
     make_in(&alloc, json, r, w)
 }
 
-// Does what `make` does, with an allocator that can be cloned.
+// Does the same as `make` with an allocator that can be cloned.
 fn make_in<A: Allocator + Clone, R: Read, W: Write>(
     alloc: A,
     json: Global,
@@ -48,7 +50,7 @@ fn make_in<A: Allocator + Clone, R: Read, W: Write>(
     Ok(answer_lines(lines, MadeRange { json }, r, w)?)
 }
 
-// The line of the range of all pairs, which takes its memory of `json`.
+// The line of the range of all pairs. `json` allocates it.
 #[derive(Drop)]
 struct MadeRange {
     json: Global,

@@ -12,17 +12,17 @@ use std::alloc::{AllocError, Allocator, Global};
 use xet_merkle::error::CoreError;
 use xet_merkle::merkle_hash_subtree::MerkleHashSubtree;
 
-/// What the lines so far say: one subtree, and the open line whole.
+/// What the lines so far say, as one subtree, and the whole open line.
 #[derive(Drop)]
 pub struct MergedLines<A: Allocator + Clone> {
-    /// What the ranges of the lines that are whole are merged to.
+    /// The subtree that the ranges of the whole lines are merged to.
     pub merged: MerkleHashSubtree<A>,
     line: Vec<u8, A>,
     json: Global,
 }
 
 impl<A: Allocator + Clone> MergedLines<A> {
-    /// No line yet.
+    /// Starts without lines. Fails if an allocation fails.
     pub fn new(alloc: A, json: Global) -> Result<Self, AllocError>
         ensures { IfOk result (λ lines. HasTaken lines [] []) }
     {

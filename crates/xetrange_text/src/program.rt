@@ -1,4 +1,4 @@
-//! The program `xetrange` over its arguments and devices.
+//! The program `xetrange`, given its arguments and devices.
 
 ghost use Rattle.std.specs.Prelude.{◌≡◌, ◌≢◌, [], ◌∷◌, codes, IfErr, IfNone, IfSome, IsNone, IsOkAnd, IsSomeAnd};
 ghost use Rattle.std.specs.Io.KnownBytes.{Keeps};
@@ -22,16 +22,16 @@ use std::io::{self, ErrorKind, Read, Write};
 const HELP: &str = "\
 Usage: xetrange make|join|root
 
-Ranges of a file's chunks, made apart and merged without their chunks. Each reads
-standard input and writes standard output.
+Hashes ranges of a file's chunks separately, and merges them without their chunks.
+Each command reads standard input and writes standard output.
 
-  make    pairs, chunks and `--`, as xetroot reads them: the line of their range
-  join    lines of ranges, in order: the line of the range that they make together
-  root    lines of ranges, in order: the two lines that xetroot writes of the whole
+  make    reads pairs, chunks and `--`, as xetroot does; writes the line of their range
+  join    reads lines of ranges, in order; writes the line of the merged range
+  root    reads lines of ranges, in order; writes what xetroot writes for the whole
 
 A fault goes to standard error with its number, which is the exit status: 1 a bad
 line, 2 sizes that pass 2^64 - 1, 3 out of memory, 4 a failed read, 5 a failed
-write, 8 a line that is no range. The status is 64 after a wrong argument.
+write, 8 a line that isn't a range. The status is 64 after a wrong argument.
 
   -h, --help    prints this text
   --version     prints the versions of xetrange and of xet-core-structures
@@ -39,10 +39,10 @@ write, 8 a line that is no range. The status is 64 after a wrong argument.
 
 const VERSION: &str = "xetrange 1.0.0 (hashes of xet-core-structures 1.5.2)\n";
 
-/// Does what the arguments ask for, and answers the exit status: 0, that of a fault, or 64 after a wrong argument.
+/// Does what the arguments request. Returns the exit status: 0, the number of a fault, or 64 after a wrong argument.
 ///
-/// With the one argument `make`, `join` or `root` it does what the call of this name does, with `--help` or `--version` it
-/// writes a text to `w`. What the status is for goes to `errors` as one line.
+/// With the one argument `make`, `join` or `root` it does what the call of that name does. With `--help` or `--version`
+/// it writes a text to `w`. If the status isn't 0, it writes the reason to `errors` as one line.
 pub fn program<R: Read, W: Write, E: Write>(
     alloc: impl Allocator,
     json: Global,
@@ -51,7 +51,7 @@ pub fn program<R: Read, W: Write, E: Write>(
     w: &mut W,
     errors: &mut E,
 ) -> u8
-    // With one of these words it does what the call of this name does, and the status says how that ended.
+    // With one of these words it does what the call of that name does, and the status shows how that ended.
     ensures make { HasWords args (codes "make" ∷ []) → IsStatusOf result (AnswersInput IsMadeOf IsMakeFaultOf
         RangeFault.Write (R.remaining r.old) (R.remaining r.new) (W.contents w.old) (W.contents w.new)) }
     ensures join { HasWords args (codes "join" ∷ []) → IsStatusOf result (AnswersInput IsJoinedOf IsRangeFaultOf
@@ -85,7 +85,7 @@ pub fn program<R: Read, W: Write, E: Write>(
     }
 }
 
-// Does what the arguments ask for. None where they are wrong.
+// Does what the arguments request. Returns `None` if they are wrong.
 fn perform<R: Read, W: Write>(
     alloc: impl Allocator,
     json: Global,

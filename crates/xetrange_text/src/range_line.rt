@@ -13,9 +13,9 @@ use xet_merkle::error::CoreError;
 use xet_merkle::laws::all_bracketings_agree;
 use xet_merkle::merkle_hash_subtree::MerkleHashSubtree;
 
-/// The line that is written of a range that is open at both ends: its compact JSON text and a newline.
+/// Returns the line of a range that is open at both ends: its compact JSON text and a newline.
 ///
-/// It fails where an allocation is refused.
+/// Fails if an allocation fails.
 pub fn write_range<A: Allocator>(
     json: Global,
     range: &MerkleHashSubtree<A>,
@@ -32,10 +32,10 @@ pub fn write_range<A: Allocator>(
     Ok(line)
 }
 
-/// The range that a line says, which is handed in without its newline.
+/// Returns the range that a line says. The line comes without its newline.
 ///
-/// It fails with [`LineFault::NoRange`] where it says none, and with [`Refusal::Memory`] where an allocation is refused,
-/// which may come in the place of a rule.
+/// Fails with [`LineFault::NoRange`] if it says none. Fails with [`Refusal::Memory`] if an allocation fails; this may
+/// be returned instead of a rule.
 pub fn read_range<A: Allocator + Clone>(
     alloc: A,
     json: Global,

@@ -1,4 +1,4 @@
--- What good lines say, as lines come after them.
+-- What good lines say when more lines are appended.
 use Rattle.std.proofs.Common.{arith, ◌≡◌, inl, inr, ◌+◌, ◌-◌, ◌^◌, ◌<◌, ◌≤◌, ℕ, Bool, true, false, not, IsTrue, List, [], ◌∷◌, ◌++◌, length, map, reverse, refl, sym, ap, subst, ◌∙◌, append-nil, length-append, nat_lt}
 use Rattle.std.specs.Prelude.{filter, cond}
 use Rattle.std.specs.List.{concat}

@@ -1,4 +1,4 @@
--- What the fault of a line after good ones is of the whole text.
+-- What the fault of a line after good ones means for the whole text.
 use Rattle.std.proofs.Common.{◌≡◌, ℕ, ◌+◌, ◌≤◌, List, length, refl, inr}
 use Rattle.std.specs.List.{concat}
 use Rattle.upload_session.specs.Session.{Placed, IsWhole}

@@ -1,4 +1,4 @@
--- Each text has one answer, or one fault of its own.
+-- Each text has exactly one answer, or exactly one fault that comes from the text itself.
 use Rattle.std.proofs.Common.{arith, ◌≡◌, ◌≢◌, ◌⊎◌, inl, inr, ◌+◌, ◌-◌, ◌^◌, ◌<◌, ◌≤◌, ℕ, true, false, List, [], ◌∷◌, ◌++◌, map, reverse, replicate, length, refl, sym, ap, subst, ◌∙◌, append-nil, append_assoc, length-append, drop}
 use Rattle.std.specs.List.{concat}
 use Rattle.std.proofs.lemmas.Bool.{false≢true, cases_Bool, cases_eq, cases_lt}

@@ -1,4 +1,4 @@
--- What is kept of placed pairs, as pairs are added and ranges end.
+-- What is kept of placed pairs when pairs are added and ranges end.
 use Rattle.std.proofs.Common.{arith, ◌≡◌, ◌+◌, ◌^◌, ◌<◌, ◌≤◌, ℕ, Bool, true, false, List, [], ◌∷◌, ◌++◌, ◌&&◌, ◌||◌, nat_eq, nat_lt, length, length-append, refl, sym, ap, subst, ◌∙◌}
 use Rattle.std.proofs.lemmas.Bool.{or_from, or_parts}
 use Rattle.xet_merkle.specs.Groups.{Node}

@@ -1,4 +1,4 @@
--- What separators and the ends of ranges change: nothing.
+-- Separators and the ends of ranges change nothing.
 use Rattle.std.proofs.Common.{arith, ◌≡◌, ◌+◌, ◌≤◌, ◌↔◌, ℕ, List, ◌∷◌, ◌++◌, length, sym, ap, subst, ◌∙◌, length-append}
 use Rattle.std.specs.List.{concat}
 use Rattle.std.proofs.lemmas.List.Folds.{concat-append}

@@ -14,7 +14,7 @@ use Rattle.xetroot_text.specs.declared.fault.Fault.TheVariants.{BadLine, Sizes, 
 use Rattle.xetroot_text.specs.declared.fault.LineFault.{LineFault}
 use Rattle.xetroot_text.specs.declared.fault.LineFault.TheVariants.{Bad, Overlap as overlaps, Sizes as passes_sizes}
 
--- what some lines say that are none of them bad, where the next pair has a position: the pairs at their positions, in the
+-- what some lines say, none of which is bad, if the next pair has this position: the pairs at their positions, in the
 -- order of the lines, and the position of a pair after them
 pub data Say : ℕ → List (List ℕ) → List Placed → ℕ → Type 0 where
   no_line : {next : ℕ} → Say next [] [] next
@@ -26,11 +26,11 @@ pub data Say : ℕ → List (List ℕ) → List Placed → ℕ → Type 0 where
       SaysPair (content line) node → next < 2 ^ 64 - 1 → Say (next + 1) lines placed last →
       Say next (line ∷ lines) ((next, node) ∷ placed) last
 
--- pairs in the order of lines, and the same by position, where none has a position that was taken
+-- pairs in the order of lines, and the same in the order of positions, if none has a position that was taken
 abbrev pub TakeOtherPositions : List Placed → List Placed → Type 0
 TakeOtherPositions in_order by_position = ArePlaced (map (λ p. (p.0, p.1 ∷ [])) (reverse in_order)) by_position
 
--- lines of which none is faulty, where they begin the input: the pairs by position, and the position of a pair after them
+-- lines that begin an input and aren't faulty: the pairs by position, and the position of a pair after them
 pub record AreGood (lines : List (List ℕ)) (pairs : List Placed) (next : ℕ) : Type 0 where
   pub in_order : List Placed
   pub say : Say 0 lines in_order next
@@ -38,8 +38,8 @@ pub record AreGood (lines : List (List ℕ)) (pairs : List Placed) (next : ℕ) 
   pub fits : total_size (chunks_of pairs) < 2 ^ 64
   pub within : length (concat lines) ≤ byte_limit
 
--- a line after good lines is bad: the first byte past the limit stands in it, or it says nothing, or a pair past the last
--- position
+-- a line after good lines is bad: it contains the first byte past the limit, or it says nothing, or it says a pair past
+-- the last position
 abbrev pub IsBad : List (List ℕ) → ℕ → List ℕ → Type 0
 IsBad before next line =
     (byte_limit < length (concat before) + length line)
@@ -49,17 +49,17 @@ IsBad before next line =
 abbrev pub Overlaps : List Placed → ℕ → List ℕ → Type 0
 Overlaps pairs next line = (node : Node) × SaysPair (content line) node × IsTrue (is_taken pairs next)
 
--- it says a pair that makes the sizes pass 2 ^ 64 - 1
+-- with the pair that it says, the sizes are more than 2 ^ 64 - 1
 abbrev pub PassesSizes : List Placed → List ℕ → Type 0
 PassesSizes pairs line = (node : Node) × SaysPair (content line) node × (2 ^ 64 ≤ total_size (chunks_of pairs) + node.1)
 
--- the answer to a text without a faulty line in which the pairs have the positions below their number
+-- the answer to a text without a faulty line, if the pairs have the positions below their number
 abbrev pub IsAnswer : List ℕ → List ℕ → Type 0
 IsAnswer text output =
     (pairs : List Placed) × (next : ℕ) × AreGood (lines_of text) pairs next × IsWhole (length pairs) pairs
     × IsOutput (chunks_of pairs) output
 
--- no line is faulty, and the pairs don't have those positions
+-- no line is faulty, and the pairs don't have the positions below their number
 abbrev pub HasGap : List ℕ → Type 0
 HasGap text = (pairs : List Placed) × (next : ℕ) × AreGood (lines_of text) pairs next × ¬ (IsWhole (length pairs) pairs)
 
@@ -72,7 +72,7 @@ IsLineFault before line passes_sizes =
     (pairs : List Placed) × (next : ℕ) × AreGood before pairs next × ¬ (IsBad before next line) × ¬ (Overlaps pairs next line)
     × PassesSizes pairs line
 
--- the faults that are a text's own; the others come of memory, a reader or a writer
+-- the faults that come from the text; the others come from an allocation, a read or a write
 abbrev pub IsOwn : Fault → Type 0
 IsOwn (BadLine number) = Unit {0}
 IsOwn (Overlap number) = Unit {0}
@@ -82,7 +82,7 @@ IsOwn Memory = ⊥
 IsOwn Read = ⊥
 IsOwn Write = ⊥
 
--- the answer to a text with a faulty line, of which the first decides, or with a gap
+-- the fault of a text: that of its first faulty line, or a gap
 abbrev pub IsFaultOf : List ℕ → Fault → Type 0
 IsFaultOf text (BadLine number) = HasFault IsLineFault text number Bad
 IsFaultOf text (Overlap number) = HasFault IsLineFault text number overlaps

@@ -1,4 +1,4 @@
--- The numbers of the faults, and why an input has no answer as one of them.
+-- The numbers of the faults, and the fault for each reason that an input has no answer.
 use Rattle.std.specs.Prelude.{◌≡◌, ℕ, Result, Ok, Err}
 use Rattle.line_io.specs.declared.fault.AnswerFault.{AnswerFault}
 use Rattle.line_io.specs.declared.fault.AnswerFault.TheVariants.{Input, Answer, Write as write_failed}
@@ -20,16 +20,16 @@ status_of Write = 5
 status_of (Overlap number) = 6
 status_of Gap = 7
 
--- the exit status of a call that ended so
+-- the exit status of a call with this result
 abbrev pub exit_status : Result (Unit {0}) Fault → ℕ
 exit_status (Ok done) = 0
 exit_status (Err fault) = status_of fault
 
--- a status is that of a call which ended as is said
+-- a status is that of a call which ended this way
 abbrev pub IsStatusOf : ℕ → (Result (Unit {0}) Fault → Type 0) → Type 0
 IsStatusOf status Ended = (done : Result (Unit {0}) Fault) × (status ≡ exit_status done) × Ended done
 
--- why an input has no answer, as a fault
+-- the fault for the reason that an input has no answer
 abbrev pub fault_of : AnswerFault LineFault NoWhole → Fault
 fault_of (Input (Line number Bad)) = BadLine number
 fault_of (Input (Line number overlaps)) = Overlap number

@@ -1,7 +1,7 @@
--- What the words of the program's arguments ask for.
+-- What the words of the program's arguments request.
 use Rattle.std.specs.Prelude.{◌≡◌, ℕ, ◌⊎◌, List, []}
 use Rattle.line_io.specs.Requests.{AskForHelp, AskForVersion}
 
--- there is no word, or one stands alone that the program knows
+-- there is no word, or there is one and the program knows it
 abbrev pub AreKnown : List (List ℕ) → Type 0
 AreKnown words = (words ≡ []) ⊎ (AskForHelp words ⊎ AskForVersion words)

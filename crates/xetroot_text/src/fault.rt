@@ -16,37 +16,37 @@ pub enum LineFault {
     Bad,
     /// An earlier line took the position of its pair.
     Overlap,
-    /// With its pair the sizes pass `u64::MAX`.
+    /// With its pair, the sizes add up to more than `u64::MAX`.
     Sizes,
 }
 
-/// The positions taken aren't exactly those from 0 to one less than their number.
+/// The taken positions aren't exactly those from 0 to their number minus 1.
 #[derive(Clone, Copy, Debug, PartialEq, Eq)]
 pub struct Gap;
 
-/// Why [`run`](crate::run::run) was refused.
+/// Why [`run`](crate::run::run) failed. Line numbers count from 1, and are those of the first faulty line.
 #[derive(Clone, Copy, Debug, PartialEq, Eq)]
 pub enum Fault {
-    /// The first faulty line, of this number from 1, is bad: it is no pair, chunk, position or separator, or a pair or
-    /// chunk whose position would be `u64::MAX`, or byte number 2^40 + 1 of the input stands in it.
+    /// The line is bad: it isn't a pair, a chunk, a position or a separator, or it is a pair or a chunk whose position
+    /// would be `u64::MAX`, or it contains byte number 2^40 + 1 of the input.
     BadLine(u64),
-    /// The first faulty line, of this number from 1, isn't bad, the position of its pair is free, and with its pair the
-    /// sizes pass `u64::MAX`.
+    /// The line isn't bad, and the position of its pair is free. With its pair, the sizes add up to more than
+    /// `u64::MAX`.
     Sizes(u64),
-    /// An allocation was refused.
+    /// An allocation failed.
     Memory,
     /// A read failed.
     Read,
     /// A write or the flush failed, or a write took nothing.
     Write,
-    /// The first faulty line, of this number from 1, isn't bad, and an earlier line took the position of its pair.
+    /// The line isn't bad. An earlier line took the position of its pair.
     Overlap(u64),
-    /// No line is faulty, and the positions taken aren't exactly those from 0 to one less than their number.
+    /// No line is faulty. The taken positions aren't exactly those from 0 to their number minus 1.
     Gap,
 }
 
 impl Fault {
-    /// The number of the fault, from 1 to 7, which is the program's exit status.
+    /// Returns the number of the fault, from 1 to 7. It is the program's exit status.
     pub fn status(&self) -> u8
         ensures { result ≡ status_of self.now }
     {

@@ -1,4 +1,4 @@
-//! Laws of the definitions that the contracts of this crate speak of. Each function does nothing: its contract is the law.
+//! Laws of the definitions that the contracts of this crate use. Each function does nothing: its contract is the law.
 
 ghost use Rattle.std.specs.Prelude.{◌≡◌, ◌≤◌, ◌⊎◌, ◌↔◌, ℕ, List, ◌∷◌, ◌++◌, length};
 ghost use Rattle.upload_session.specs.Session.{Placed};
@@ -9,7 +9,7 @@ ghost use Rattle.pair_text.specs.PairText as pair_text;
 ghost use Rattle.xetroot_text.specs.WithoutPositions as without;
 ghost use Rattle.xetroot_text.specs.declared.fault.Fault.{Fault};
 
-/// Each text has exactly one answer, or exactly one fault of its own.
+/// Each text has exactly one answer, or exactly one fault that comes from the text itself.
 pub fn one_answer()
     ensures exists { (text : List ℕ) → ((output : List ℕ) × IsAnswer text output)
         ⊎ ((fault : Fault) × IsOwn fault × IsFaultOf text fault) }
@@ -20,7 +20,7 @@ pub fn one_answer()
         ¬ (IsFaultOf text fault) }
 {}
 
-/// A text in which no line names a position has the answer and the faults that it has without positions.
+/// A text in which no line names a position has the same answer and faults as it has without positions.
 pub fn texts_without_positions_keep_their_answers()
     ensures answer { (text output : List ℕ) → pair_text.NoPositions (lines_of text) →
         (IsAnswer text output ↔ pair_text.IsAnswer text output) }
@@ -28,8 +28,8 @@ pub fn texts_without_positions_keep_their_answers()
         (IsFaultOf text fault ↔ without.IsFaultOf text fault) }
 {}
 
-/// The pairs and their positions alone make the answer: two texts of good lines that say the same pairs at the same
-/// positions have the same one, wherever ranges end; and a separator may stand anywhere.
+/// Only the pairs and their positions determine the answer. Two texts of good lines that say the same pairs at the same
+/// positions have the same answer, wherever ranges end. Adding a separator anywhere doesn't change the answer.
 pub fn only_pairs_and_positions_count()
     ensures pairs { (text other output : List ℕ) (pairs : List Placed) (next last : ℕ) →
         AreGood (lines_of text) pairs next → AreGood (lines_of other) pairs last →

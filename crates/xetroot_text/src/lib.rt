@@ -1,5 +1,5 @@
-//! What the program `xetroot` answers: the root and the file hash of the pairs that lines say at their positions. With it
-//! the session in which the program keeps them, of the crate below.
+//! The library of the program `xetroot`: the root and the file hash of pairs, which lines put at positions. The crate
+//! also re-exports the session that keeps the pairs, from the crate below it.
 #![tactic(auto)]
 
 pub mod fault;

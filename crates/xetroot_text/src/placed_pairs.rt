@@ -1,4 +1,4 @@
-//! The pairs that lines say, by their positions, put into a session range by range.
+//! The pairs of the lines, put into a session by their positions, range by range.
 
 ghost use Rattle.std.specs.Prelude.{◌≡◌, ◌+◌, ◌-◌, ◌^◌, ◌<◌, ◌≤◌, ℕ, List, length, [], ◌∷◌, replicate, IfOk, IfErr, OnOk, IsTrue};
 ghost use Rattle.line_io.specs.Faults.{IfFaulty};
@@ -18,16 +18,16 @@ use xet_hash::data_hash::MerkleHash;
 use xet_merkle::aggregated_hashes::Node;
 use xet_merkle::chunk_range::ChunkRange;
 
-// The most pairs of a range; a longer one is put in several.
+// The most pairs of a range. A longer range is put in several parts.
 const MAX_RANGE_LEN: usize = 4096;
 
 /// All pairs so far, by their positions.
 ///
-/// It keeps the pairs of the open range, 40 bytes each and at most [`MAX_RANGE_LEN`], and of the ranges that
-/// are ended what a session keeps of them.
+/// It keeps the pairs of the open range, 40 bytes each and at most [`MAX_RANGE_LEN`]. It puts the ended ranges into a
+/// session.
 #[derive(Drop)]
 pub struct PlacedPairs<C: ChunkRange> {
-    // The ranges that are ended.
+    // The ended ranges.
     session: SessionOf<C, NoHashes>,
     // The pairs of the open range.
     range: Vec<Node, C::Alloc>,
@@ -65,7 +65,7 @@ impl<C: ChunkRange> Model for PlacedPairs<C> {
 impl<C: ChunkRange> PlacedPairs<C> {
     ghost use Rattle.xetroot_text.specs.Steps.PlacedPairs.{StandForPairs, IsPairFault};
 
-    /// No pair yet.
+    /// Starts without pairs. Fails if an allocation fails.
     pub fn new(alloc: C::Alloc) -> Result<Self, AllocError>
         ensures none { IfOk result (λ placed. StandForPairs C.ChunkRange placed [] 0) }
         ensures counted { IfOk result (λ placed. placed.count ≡ 0) }
@@ -80,11 +80,13 @@ impl<C: ChunkRange> PlacedPairs<C> {
         })
     }
 
-    /// Adds a pair at the next position.
+    /// Adds a pair at the next position. Before it allocates, it fails with the first of these that applies:
     ///
-    /// It fails with [`LineFault::Bad`] where the next position is the last there is, then with [`LineFault::Overlap`] where
-    /// it is taken, then with [`LineFault::Sizes`] where all sizes add up to more than `u64::MAX` bytes, and with
-    /// [`Refusal::Memory`] where an allocation is refused.
+    /// - [`LineFault::Bad`] if the next position is `u64::MAX`;
+    /// - [`LineFault::Overlap`] if the next position is taken;
+    /// - [`LineFault::Sizes`] if all sizes add up to more than `u64::MAX` bytes.
+    ///
+    /// Otherwise fails with [`Refusal::Memory`] if an allocation fails.
     pub fn push(&mut self, pair: Node) -> Result<(), Refusal<LineFault>>
         ensures pushed { OnOk result ((pairs : List Placed) (next : ℕ) →
             StandForPairs C.ChunkRange self.old pairs next →
@@ -116,7 +118,8 @@ impl<C: ChunkRange> PlacedPairs<C> {
         Ok(())
     }
 
-    /// Names the position of the next pair, which ends the open range where that is another one.
+    /// Sets the position of the next pair. It ends the open range if that position changes. Fails if an allocation
+    /// fails.
     pub fn go_to(&mut self, position: u64) -> Result<(), AllocError>
         ensures same { OnOk result ((pairs : List Placed) (next : ℕ) →
             StandForPairs C.ChunkRange self.old pairs next →
@@ -132,7 +135,7 @@ impl<C: ChunkRange> PlacedPairs<C> {
         Ok(())
     }
 
-    // Ends the open range where it is full.
+    // Ends the open range if it is full.
     fn make_room(&mut self) -> Result<(), AllocError>
         ensures same { OnOk result ((pairs : List Placed) (next : ℕ) →
             StandForPairs C.ChunkRange self.old pairs next →
@@ -147,7 +150,7 @@ impl<C: ChunkRange> PlacedPairs<C> {
         self.end_range()
     }
 
-    // Ends the open range, so that the next one has no pair yet.
+    // Ends the open range. The next one has no pairs yet.
     fn end_range(&mut self) -> Result<(), AllocError>
         ensures same { OnOk result ((pairs : List Placed) (next : ℕ) →
             StandForPairs C.ChunkRange self.old pairs next →
@@ -165,10 +168,10 @@ impl<C: ChunkRange> PlacedPairs<C> {
         Ok(())
     }
 
-    /// The root and the file hash of all pairs by position.
+    /// Returns the root and the file hash of all pairs in the order of their positions.
     ///
-    /// It fails with [`Gap`] where the positions taken aren't those below the number of pairs, and with
-    /// [`Refusal::Memory`] where an allocation is refused.
+    /// Fails with [`Gap`] if the taken positions aren't exactly those below the number of pairs. Fails with
+    /// [`Refusal::Memory`] if an allocation fails.
     pub fn hashes(mut self) -> Result<(MerkleHash, MerkleHash), Refusal<Gap>>
         ensures whole { OnOk result ((pairs : List Placed) (next : ℕ) →
             StandForPairs C.ChunkRange self pairs next → IsWhole self.count pairs) }
@@ -200,7 +203,7 @@ impl<C: ChunkRange> TakeSaid for PlacedPairs<C> {
 
     ghost is_fault = { IsLineFault };
 
-    // A separator says nothing of the pairs.
+    // A separator changes no pair.
     fn take(&mut self, said: Line) -> Result<(), Refusal<LineFault>> {
         match said {
             Line::Separator => Ok(()),
@@ -214,7 +217,7 @@ impl<C: ChunkRange> TakeSaid for PlacedPairs<C> {
     }
 }
 
-// The error of a call of the session that is refused for memory alone.
+// Converts the error of a session call that fails only for lack of memory.
 fn out_of_memory(error: SessionFault) -> AllocError
     requires { error ≡ SessionFault.Memory }
 {

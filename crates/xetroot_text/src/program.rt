@@ -1,4 +1,4 @@
-//! The program `xetroot` over its arguments and devices.
+//! The program `xetroot`, given its arguments and devices.
 
 ghost use Rattle.std.specs.Prelude.{◌≡◌, ◌≢◌, [], IfErr, IfNone, IfSome, IsNone, IsOkAnd, IsSomeAnd};
 ghost use Rattle.std.specs.Io.KnownBytes.{Keeps};
@@ -38,10 +38,10 @@ line, 2 sizes that pass 2^64 - 1, 3 out of memory, 4 a failed read, 5 a failed w
 
 const VERSION: &str = "xetroot 1.0.0 (hashes of xet-core-structures 1.5.2)\n";
 
-/// Does what the arguments ask for, and answers the exit status: 0, that of a fault, or 64 after a wrong argument.
+/// Does what the arguments request. Returns the exit status: 0, the number of a fault, or 64 after a wrong argument.
 ///
-/// With no argument it does what [`run`] does, with `--help` or `--version` it writes a text to `w`. What the status is for
-/// goes to `errors` as one line.
+/// Without arguments it does what [`run`] does. With `--help` or `--version` it writes a text to `w`. If the status
+/// isn't 0, it writes the reason to `errors` as one line.
 pub fn program<R: Read, W: Write, E: Write>(
     alloc: impl Allocator,
     args: io::Result<Args>,
@@ -49,7 +49,7 @@ pub fn program<R: Read, W: Write, E: Write>(
     w: &mut W,
     errors: &mut E,
 ) -> u8
-    // Without a word it does what `run` does, and the status says how that ended.
+    // Without a word it does what `run` does, and the status shows how that ended.
     ensures run { HasWords args [] → IsStatusOf result (AnswersInput IsAnswer IsFaultOf Fault.Write
         (R.remaining r.old) (R.remaining r.new) (W.contents w.old) (W.contents w.new)) }
     ensures help { IsOkAnd args (λ args. AskForHelp (words_of args)) → IsStatusOf result (
@@ -77,7 +77,7 @@ pub fn program<R: Read, W: Write, E: Write>(
     }
 }
 
-// Does what the arguments ask for. None where they are wrong.
+// Does what the arguments request. Returns `None` if they are wrong.
 fn perform<R: Read, W: Write>(
     alloc: impl Allocator,
     args: io::Result<Args>,

@@ -1,4 +1,4 @@
-//! The program's work: lines in, two hashes out.
+//! The work of the program: it reads lines, and writes two hashes.
 
 ghost use Rattle.line_io.specs.Answers.{AnswersInput};
 ghost use Rattle.xetroot_text.specs.Answer.{HasGap, IsAnswer, IsFaultOf};
@@ -16,13 +16,18 @@ use std::io::{Read, Write};
 use xet_merkle::chunk_range::ChunkRange;
 use xet_merkle::merkle_hash_subtree::MerkleHashSubtree;
 
-/// Reads lines to the end of `r`, and then writes the root and the file hash of the pairs that they say, as
-/// `xorb <hex>` and `file <hex>`, to `w`, and flushes it.
+/// Reads lines to the end of `r`. Then writes the root and the file hash of their pairs to `w`, as `xorb <hex>` and
+/// `file <hex>`, and flushes it. An input has at most 2^40 bytes.
 ///
-/// It keeps a session of the ranges that are ended: for each run of adjacent positions a subtree, which is small where
-/// stable points come up. Of the open range it keeps the pairs, at most 4096, and of the open line no more than the longest
-/// pair line has. An input has at most 2^40 bytes. A fault is as [`Fault`] says. After `Write` a beginning of the output was
-/// written, and after the others nothing. How much of the input was read after a fault isn't said.
+/// It keeps three things:
+///
+/// - a session of the ended ranges, with a subtree for each run of adjacent positions, which is small if there are
+///   stable points;
+/// - the pairs of the open range, at most 4096;
+/// - at most as many bytes of the open line as the longest pair line has.
+///
+/// [`Fault`] lists the faults. After `Write` it has written a beginning of the output, and after any other fault
+/// nothing. How much of the input it has read after a fault isn't specified.
 pub fn run<R: Read, W: Write>(alloc: impl Allocator, r: &mut R, w: &mut W) -> Result<(), Fault>
     ensures { AnswersInput IsAnswer IsFaultOf Fault.Write
         (R.remaining r.old) (R.remaining r.new) (W.contents w.old) (W.contents w.new) result }
@@ -30,9 +35,9 @@ pub fn run<R: Read, W: Write>(alloc: impl Allocator, r: &mut R, w: &mut W) -> Re
     run_with::<MerkleHashSubtree<_>, R, W>(&alloc, r, w)
 }
 
-/// Does what [`run`] does by another kind of range: it keeps each run of adjacent positions as one `C`, which takes its
-/// memory of `alloc`, and the rest as `run` does. The output and the faults are those of `run`, and so is what was read and
-/// written at each; only which allocations there are depends on `C`.
+/// Does the same as [`run`] with another kind of range. It keeps each run of adjacent positions as one `C`, which is
+/// allocated by `alloc`, and everything else as `run` does. The output, the faults, and what is read and written in
+/// each case are those of `run`. Only the allocations depend on `C`.
 pub fn run_with<C: ChunkRange, R: Read, W: Write>(
     alloc: C::Alloc,
     r: &mut R,
@@ -45,7 +50,7 @@ pub fn run_with<C: ChunkRange, R: Read, W: Write>(
     Ok(answer_lines(lines, RootAndFile, r, w)?)
 }
 
-// The root and the file hash of all pairs by position.
+// The root and the file hash of all pairs in the order of their positions.
 #[derive(Drop)]
 struct RootAndFile;
 

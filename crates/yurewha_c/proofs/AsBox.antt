@@ -1,4 +1,4 @@
--- What a handle owns is what a box at the same types owns.
+-- What a handle owns is what a box of the same types owns.
 use mathlib.Core.List.{[]}
 use mir.Syntax.{impl, tnil, dnil}
 use denote.RattleType.{RattleType}

@@ -1,4 +1,4 @@
--- What the handles of a list own, while each in turn is taken out, copied and put back.
+-- What the handles of a list own, while the value of each in turn is taken out, copied and put back.
 use Rattle.std.proofs.Common.{arith, ◌≡◌, ℕ, ◌+◌, ◌<◌, List, [], ◌∷◌, ◌++◌, length, map, take, get_or, zero, suc, refl, sym, ap, ◌∙◌, add-one}
 use Rattle.std.proofs.Math.ListN.{set}
 use Rattle.std.proofs.Math.Seq.{map-set_same, take-suc}

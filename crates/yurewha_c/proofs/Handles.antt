@@ -1,5 +1,4 @@
--- What a handle owns, taken apart and put together: its pointer is null and it owns nothing, or it owns what a box at that
--- pointer does.
+-- What a handle owns: nothing if its pointer is null, or else what a box at that pointer owns.
 use Rattle.std.proofs.Common.{◌≡◌, ℕ, ◌++◌, List, [], ◌∷◌, refl, lit<, subst}
 use Rattle.std.specs.Prelude.{Option, Some, None}
 use lib.Dec.{T}

@@ -1,4 +1,4 @@
--- What the status of a session's refusal tells of the fault.
+-- What the status of a failed session call says about the fault.
 use Rattle.std.specs.Prelude.{Some, Result, Err, IsErrOf}
 use Rattle.std.proofs.Common.{arith, ◌≡◌, ℕ, ◌⊎◌, ◌↔◌, List, [], ◌∷◌, length, refl, sym, ap, ◌∙◌, inl, inr}
 use Rattle.upload_session.specs.declared.session_fault.SessionFault.{SessionFault}

@@ -1,4 +1,4 @@
--- Chunks as C hands them in, and the nodes that they are.
+-- Chunks as C passes them, and their nodes.
 use Rattle.std.specs.Prelude.{List, map}
 use Rattle.xet_merkle.specs.Groups.{Node}
 use Rattle.yurewha_c.specs.declared.chunks.Chunk.{Chunk}

@@ -1,4 +1,4 @@
--- The counts of levels as C hands them in.
+-- The counts of levels as C passes them.
 use Rattle.std.specs.Prelude.{ℕ, List, map}
 use Rattle.yurewha_c.specs.declared.subtree_flat.Level.{Level}
 

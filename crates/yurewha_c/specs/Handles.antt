@@ -1,21 +1,21 @@
--- What handles own, and what calls that only read them answer.
+-- What handles own, and what calls that only read them return.
 use Rattle.std.specs.Prelude.{◌≡◌, ◌⊎◌, ◌↔◌, ℕ, Option, Some, None, List, map}
 use Rattle.xet_merkle.specs.Subtree.{Subtree}
 use Rattle.yurewha_c.specs.Statuses.{done, memory, empty_handle}
 use Rattle.yurewha_c.specs.declared.subtree_handle.SubtreeHandle.{SubtreeHandle}
 
--- both own something, of which this holds
+-- both own something, and P holds of it
 abbrev pub BothHold : {A B : Type 0} → Option A → Option B → (A → B → Type 0) → Type 0
 BothHold None other P = ⊥
 BothHold (Some a) None P = ⊥
 BothHold (Some a) (Some b) P = P a b
 
--- a call answers that a handle is empty, and writes nothing; or it is done, and this holds of what the handle owns
+-- a call reports an empty handle and writes nothing; or it is done, and P holds of what the handle owns
 abbrev pub Answers : {A : Type 0} → Option A → ℕ → Type 0 → (A → Type 0) → Type 0
 Answers None status unwritten P = (status ≡ empty_handle) × unwritten
 Answers (Some kept) status unwritten P = (status ≡ done) × P kept
 
--- such a call leaves the handle as it was
+-- such a call leaves the handle unchanged
 abbrev pub Reads : {A : Type 0} → Option A → Option A → ℕ → Type 0 → (A → Type 0) → Type 0
 Reads old new status unwritten P = (new ≡ old) × Answers old status unwritten P
 

@@ -1,4 +1,4 @@
--- What merging the subtrees of handles gives.
+-- The result of merging the subtrees of handles.
 use Rattle.std.specs.Prelude.{◌≡◌, ◌⊎◌, ◌↔◌, ℕ, ◌+◌, ◌^◌, ◌≤◌, false, Option, None, List, [], ◌∷◌, flat_map, IsSomeAnd}
 use Rattle.xet_merkle.specs.Groups.{Node}
 use Rattle.xet_merkle.specs.Levels.{levels_size}
@@ -11,7 +11,7 @@ use Rattle.yurewha_c.specs.Statuses.{done, arguments, sizes, memory, empty_handl
 abbrev pub Merges : Option Subtree → Option Subtree → Option Subtree → (Subtree → Subtree → Subtree → Type 0) → Type 0
 Merges front back merged P = BothHold front back (λ a b. IsSomeAnd merged (P a b))
 
--- no mark stands between two subtrees
+-- no mark is between two subtrees
 abbrev pub NoMarkBetween : Subtree → Subtree → Type 0
 NoMarkBetween front back = (front.at_end ≡ false) × (back.at_start ≡ false)
 

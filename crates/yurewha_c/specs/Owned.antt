@@ -1,4 +1,4 @@
--- What a handle owns: nothing where its pointer is null, else what a box at that pointer owns.
+-- What a handle owns: nothing if its pointer is null, or else what a box at that pointer owns.
 use base.Fml.{Fml, ffalse, ftrue}
 use base.Stored.{Coded}
 use denote.RattleType.{RattleType}

@@ -1,15 +1,15 @@
--- Chunks whose data stands in one buffer, one after another.
+-- Chunks whose data is in one buffer, one after another.
 use Rattle.std.specs.Prelude.{◌≡◌, ℕ, ◌+◌, ◌≤◌, List, [], ◌∷◌, length, map, slice_range}
 use Rattle.xet_hash.specs.Blake3.{keyed_hash}
 use Rattle.xet_hash.specs.Hash.{data_key, hash_of}
 use Rattle.yurewha_c.specs.declared.hash.Hash.{Hash}
 
--- no offset is less than the one before it, from a first one on, and none passes an end
+-- no offset is less than `from` or the one before it, and none is greater than `end`
 abbrev pub Rise : ℕ → List ℕ → ℕ → Type 0
 Rise from [] end = from ≤ end
 Rise from (offset ∷ offsets) end = (from ≤ offset) × Rise offset offsets end
 
--- offsets into bytes, between which so many pieces stand
+-- offsets into bytes, which cut out `count` pieces
 abbrev pub AreOffsets : List ℕ → List ℕ → ℕ → Type 0
 AreOffsets bytes offsets count = (length offsets ≡ count + 1) × Rise 0 offsets (length bytes)
 

@@ -27,7 +27,7 @@ Stands kept placed =
       tells = AreNew;
     }) kept.session placed
 
--- the status of a call on all chunks of a session, whose positions are those below a total
+-- the status of a call on all chunks of a session, which must have exactly the positions below a total
 pub record IsWholeStatus (session : Option KeptSession) (total status : ℕ) : Type 0 where
   pub on_gap : IfSome session (λ kept. (placed : List Placed) → Stands kept placed → ((status ≡ session_gap) ↔ (¬ IsWhole total placed)))
   pub whole : status ≡ done → IsSomeAnd session (λ kept. (placed : List Placed) → Stands kept placed → IsWhole total placed)

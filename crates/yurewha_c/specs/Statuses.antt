@@ -1,4 +1,4 @@
--- The statuses that exports answer, and those of refusals.
+-- The statuses that exports return, and those of errors.
 use Rattle.std.specs.Prelude.{ℕ, ◌+◌}
 use Rattle.xet_merkle.specs.declared.error.CoreError.{CoreError}
 use Rattle.xet_merkle.specs.declared.error.CoreError.TheVariants.{InvalidArguments, SizeOverflow, OutOfMemory, InvalidJson}

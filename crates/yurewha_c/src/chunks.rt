@@ -1,4 +1,4 @@
-//! Chunks as C hands them in.
+//! Chunks as C passes them.
 
 ghost use Rattle.std.specs.Prelude.{◌≡◌, ◌↔◌, ◌^◌, ◌<◌, IfOk, IsTrue, SomeIff, sum_by};
 ghost use Rattle.xet_merkle.specs.Roots.{total_size};
@@ -17,14 +17,14 @@ pub struct Chunk {
 }
 
 impl Chunk {
-    // The library's node.
+    // Returns the library's node.
     pub(crate) fn node(&self) -> Node
         ensures { result ≡ node_of self.now }
     {
         (self.hash.value(), self.size)
     }
 
-    // A node of the library, as C sees it.
+    // Converts a node of the library to C.
     pub(crate) fn of(node: &Node) -> Chunk
         ensures { node_of result ≡ node.now }
     {
@@ -35,7 +35,7 @@ impl Chunk {
     }
 }
 
-// The library's nodes, in memory of their own.
+// Returns the library's nodes, in allocated memory.
 pub(crate) fn nodes_of(alloc: Global, chunks: &[Chunk]) -> Result<Vec<Node>, AllocError>
     ensures { IfOk result (λ nodes. nodes.items ≡ nodes_of chunks.now) }
 {
@@ -46,7 +46,7 @@ pub(crate) fn nodes_of(alloc: Global, chunks: &[Chunk]) -> Result<Vec<Node>, All
     Ok(nodes)
 }
 
-// The sum of the sizes, where it is at most `u64::MAX`.
+// Returns the sum of the sizes, if it is at most `u64::MAX`.
 fn total(chunks: &[Chunk]) -> Option<u64>
     ensures { SomeIff result (sum_by (λ chunk. chunk.size) chunks.now < 2 ^ 64) (sum_by (λ chunk. chunk.size) chunks.now) }
 {
@@ -57,7 +57,7 @@ fn total(chunks: &[Chunk]) -> Option<u64>
     Some(total)
 }
 
-// Whether the sizes add up to at most `u64::MAX`.
+// Returns whether the sizes add up to at most `u64::MAX`.
 #[tactic(auto, using(crate::proofs::NodesOfChunks::total_size_of_nodes))]
 pub(crate) fn sizes_fit(chunks: &[Chunk]) -> bool
     ensures { IsTrue result ↔ (total_size (nodes_of chunks.now) < 2 ^ 64) }

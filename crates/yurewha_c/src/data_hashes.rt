@@ -7,7 +7,7 @@ use crate::hash::Hash;
 use crate::status::{ARGUMENTS, DONE};
 use xet_hash::data_hash::compute_data_hash;
 
-// Whether no offset is less than the one before it, and none passes an end.
+// Returns whether no offset is less than the one before it, and none is greater than `end`.
 fn rise(offsets: &[usize], end: usize) -> bool
     ensures { IsTrue result ↔ Rise 0 offsets.now end }
 {
@@ -32,11 +32,12 @@ fn write_hashes(bytes: &[u8], offsets: &[usize], hashes: &mut [Hash])
     }
 }
 
-/// Writes the hashes of chunks whose data stands in one buffer: the data of chunk i is the bytes from offset i up to offset
-/// i + 1, so that there is one offset more than hashes. It takes no memory.
+/// Writes the hashes of chunks whose data is in one buffer. The data of chunk i starts at `offsets[i]` and ends before
+/// `offsets[i + 1]`, so there is one more offset than there are chunks. It allocates nothing.
 ///
-/// Status `DONE`, and `ARGUMENTS` where there isn't exactly one offset more than hashes, where an offset is less than the one
-/// before it, or where one passes the end of the buffer: then nothing is written.
+/// - `DONE`: the hashes are written.
+/// - `ARGUMENTS`: there isn't exactly one more offset than hashes, an offset is less than the one before it, or an
+///   offset is greater than the length of the buffer. Nothing is written.
 #[unsafe(no_mangle)]
 pub extern "C" fn yurewha_data_hashes(bytes: &[u8], offsets: &[usize], hashes: &mut [Hash]) -> u32
     ensures done { (result ≡ DONE) ↔ AreOffsets bytes.now offsets.now (length hashes.old) }

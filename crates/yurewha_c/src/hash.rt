@@ -1,4 +1,4 @@
-//! Hashes: of data, of seeds, their bytes, their order.
+//! Hashes: of data, from seeds, their bytes, their order.
 
 ghost use Rattle.std.specs.Prelude.{◌≡◌, ◌≢◌, ◌↔◌, ◌%◌, slice_index};
 ghost use Rattle.xet_hash.specs.Blake3.{keyed_hash};
@@ -10,7 +10,7 @@ use crate::status::{ARGUMENTS, DONE};
 use std::cmp::Ordering;
 use xet_hash::data_hash::{DataHash, compute_data_hash, compute_internal_node_hash};
 
-/// A hash: four words.
+/// A hash: four words. Its 32 bytes are the words in order, each little-endian.
 #[derive(Clone, Copy)]
 #[repr(C)]
 pub struct Hash {
@@ -25,7 +25,7 @@ pub struct Bytes {
 }
 
 impl Hash {
-    // A hash of the library, as C sees it.
+    // Converts a hash of the library to C.
     pub(crate) fn of(hash: DataHash) -> Hash
         ensures { result.words ≡ hash }
     {
@@ -34,19 +34,20 @@ impl Hash {
         }
     }
 
-    // The library's hash.
+    // Returns the library's hash.
     pub(crate) fn value(&self) -> DataHash
         ensures value { result ≡ self.now.words }
         ensures fits { IsHash self.now.words }
     {
         let hash = DataHash::from(self.words);
-        // The words are asked for to show a proof that they fit.
+        // Calling `words` shows a proof that the words fit.
         let _words = hash.words();
         hash
     }
 }
 
-/// Writes the hash of a chunk, whose data `bytes` is: keyed BLAKE3 under the data key. It can't fail.
+/// Writes the hash of a chunk. `bytes` is its data. The hash is keyed BLAKE3 under the data key. It allocates nothing
+/// and can't fail.
 #[unsafe(no_mangle)]
 pub extern "C" fn yurewha_data_hash(bytes: &[u8], hash: &mut Hash)
     ensures { hash.new.words ≡ hash_of (keyed_hash data_key bytes.now) }
@@ -54,8 +55,8 @@ pub extern "C" fn yurewha_data_hash(bytes: &[u8], hash: &mut Hash)
     *hash = Hash::of(compute_data_hash(bytes));
 }
 
-/// Writes the hash of an inner node of the tree, whose text `bytes` is: keyed BLAKE3 under the internal key. It can't
-/// fail.
+/// Writes the hash of an inner node of the tree. `bytes` is its text. The hash is keyed BLAKE3 under the internal key.
+/// It allocates nothing and can't fail.
 #[unsafe(no_mangle)]
 pub extern "C" fn yurewha_internal_node_hash(bytes: &[u8], hash: &mut Hash)
     ensures { hash.new.words ≡ hash_of (keyed_hash internal_key bytes.now) }
@@ -63,7 +64,7 @@ pub extern "C" fn yurewha_internal_node_hash(bytes: &[u8], hash: &mut Hash)
     *hash = Hash::of(compute_internal_node_hash(bytes));
 }
 
-/// Writes the keyed hash of the bytes of `hash` under the bytes of `key`. It can't fail.
+/// Writes the keyed BLAKE3 hash of the bytes of `hash`, under the bytes of `key`. It allocates nothing and can't fail.
 #[unsafe(no_mangle)]
 pub extern "C" fn yurewha_hmac(hash: &Hash, key: &Hash, keyed: &mut Hash)
     ensures { keyed.new.words ≡ hash_of (keyed_hash (bytes_of key.now.words) (bytes_of hash.now.words)) }
@@ -71,8 +72,8 @@ pub extern "C" fn yurewha_hmac(hash: &Hash, key: &Hash, keyed: &mut Hash)
     *keyed = Hash::of(hash.value().hmac(key.value()));
 }
 
-/// Writes a hash drawn from a seed: its bytes are the first 32 that Xoshiro256++ gives, seeded by `seed_from_u64`. It is
-/// for tests and can't fail.
+/// Writes a pseudorandom hash, for tests. Its bytes are the first 32 of Xoshiro256++, seeded by SplitMix64 from `seed`.
+/// It can't fail.
 #[unsafe(no_mangle)]
 pub extern "C" fn yurewha_random_from_seed(seed: u64, hash: &mut Hash)
     ensures { hash.new.words ≡ random_hash seed }
@@ -90,7 +91,7 @@ pub extern "C" fn yurewha_hash_to_bytes(hash: &Hash, bytes: &mut Bytes)
     };
 }
 
-/// Writes the hash of 32 bytes. It can't fail.
+/// Writes the hash that has these 32 bytes. It can't fail.
 #[unsafe(no_mangle)]
 pub extern "C" fn yurewha_hash_from_bytes(bytes: &Bytes, hash: &mut Hash)
     ensures value { hash.new.words ≡ hash_of bytes.now.bytes }
@@ -99,8 +100,8 @@ pub extern "C" fn yurewha_hash_from_bytes(bytes: &Bytes, hash: &mut Hash)
     *hash = Hash::of(DataHash::from(bytes.bytes));
 }
 
-/// Compares the words of two hashes in order, which is the byte order of their hex texts: -1, 0 or 1 where `first` is
-/// less, equal or greater. It can't fail.
+/// Compares the words of two hashes in order. This is also the order of their hex texts. Returns -1, 0 or 1 if the
+/// first hash is less, equal or greater. It can't fail.
 #[unsafe(no_mangle)]
 pub extern "C" fn yurewha_compare(first: &Hash, second: &Hash) -> i32
     ensures { result ≡ sign_of (hash_cmp first.now.words second.now.words) }
@@ -114,7 +115,8 @@ pub extern "C" fn yurewha_compare(first: &Hash, second: &Hash) -> i32
 
 /// Writes word 3 of a hash modulo `divisor`.
 ///
-/// Status `DONE` where `divisor` isn't 0, and `ARGUMENTS` where it is: then nothing is written.
+/// - `DONE`: the divisor isn't 0.
+/// - `ARGUMENTS`: the divisor is 0. Nothing is written.
 #[unsafe(no_mangle)]
 pub extern "C" fn yurewha_remainder(hash: &Hash, divisor: u64, remainder: &mut u64) -> u32
     ensures done { (result ≡ DONE) ↔ (divisor ≢ 0) }

@@ -12,9 +12,11 @@ use std::alloc::Global;
 use xet_hash::data_hash::{DataHash, HashTextError};
 use xet_hash::laws::hash_reads_back_from_base64_text;
 
-/// Writes the hex text of a hash, 64 lower-case digits, to the beginning of `room`, and 64 to `text_len`.
+/// Writes the hex text of a hash to the beginning of `room`. The text is 64 lower-case digits. `text_len` always
+/// becomes 64.
 ///
-/// Status `DONE` where `room` has 64 bytes or more, else `ROOM`: then nothing is written to it.
+/// - `DONE`: `room` has at least 64 bytes.
+/// - `ROOM`: `room` has fewer than 64 bytes. Nothing is written to it.
 #[unsafe(no_mangle)]
 pub extern "C" fn yurewha_hex(hash: &Hash, room: &mut [u8], text_len: &mut usize) -> u32
     ensures done { (result ≡ DONE) ↔ (64 ≤ length room.old) }
@@ -26,9 +28,10 @@ pub extern "C" fn yurewha_hex(hash: &Hash, room: &mut [u8], text_len: &mut usize
     write_text(&hash.value().hex_digits(), room, text_len)
 }
 
-/// Writes the hash whose hex text `text` is. It takes no memory.
+/// Writes the hash that has this hex text. It allocates nothing.
 ///
-/// Status `DONE` where `text` is 64 hex digits of either case, else `TEXT`: then nothing is written.
+/// - `DONE`: the text is 64 hex digits, lower or upper case.
+/// - `TEXT`: the text is anything else. Nothing is written.
 #[unsafe(no_mangle)]
 pub extern "C" fn yurewha_from_hex(text: &[u8], hash: &mut Hash) -> u32
     ensures done { (result ≡ DONE) ↔ IsHexText text.now }
@@ -45,11 +48,12 @@ pub extern "C" fn yurewha_from_hex(text: &[u8], hash: &mut Hash) -> u32
     }
 }
 
-/// Writes the base64 text of a hash, 43 characters of the URL-safe alphabet without padding, to the beginning of `room`,
-/// and 43 to `text_len`.
+/// Writes the base64 text of a hash to the beginning of `room`. The text is 43 characters of the URL-safe alphabet,
+/// without padding. `text_len` becomes 43, unless an allocation fails.
 ///
-/// Status `DONE`; `ROOM` where `room` has less than 43 bytes, and then nothing is written to it; `MEMORY` where an
-/// allocation is refused, and then nothing is written.
+/// - `DONE`: it is written.
+/// - `ROOM`: `room` has fewer than 43 bytes. Nothing is written to it.
+/// - `MEMORY`: an allocation failed. Nothing is written.
 #[unsafe(no_mangle)]
 pub extern "C" fn yurewha_base64(
     alloc: Global,
@@ -75,10 +79,11 @@ pub extern "C" fn yurewha_base64(
     }
 }
 
-/// Writes the hash whose base64 text `text` is.
+/// Writes the hash that has this base64 text.
 ///
-/// Status `DONE`; `TEXT` where no hash has that text; `MEMORY` where an allocation is refused. Nothing is written where it
-/// isn't `DONE`.
+/// - `DONE`: the text is one that `yurewha_base64` writes.
+/// - `TEXT`: it is any other text. Nothing is written.
+/// - `MEMORY`: an allocation failed. Nothing is written.
 #[unsafe(no_mangle)]
 pub extern "C" fn yurewha_from_base64(alloc: Global, text: &[u8], hash: &mut Hash) -> u32
     ensures statuses { (result ≡ DONE) ⊎ ((result ≡ TEXT) ⊎ (result ≡ MEMORY)) }

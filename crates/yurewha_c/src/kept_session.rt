@@ -2,7 +2,7 @@
 
 use upload_session::session::Session;
 
-// A session over subtrees under a name without parameters.
+// A session over subtrees, under a name without parameters.
 #[derive(Drop)]
 pub(crate) struct KeptSession {
     pub(crate) session: Session,

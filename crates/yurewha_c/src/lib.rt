@@ -1,7 +1,7 @@
-//! The library for callers in C: proved exports over the crates below it, which `bindings/include/yurewha.h` declares.
+//! The library for C: proved exports of the crates below it. `bindings/include/yurewha.h` declares them.
 //!
-//! A slice crosses as a pointer and a length, a reference as a pointer, and a `Global` as nothing. No export has a
-//! condition: each wrong argument has a [`status`]. What owns memory crosses as a [`subtree_handle`] or a
+//! A slice is passed as a pointer and a length, a reference as a pointer, and a `Global` as nothing. No export has a
+//! precondition: each wrong argument has a [`status`]. Whatever owns memory is passed as a [`subtree_handle`] or a
 //! [`session_handle`].
 #![tactic(auto)]
 

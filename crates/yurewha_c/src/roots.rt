@@ -15,7 +15,8 @@ use xet_merkle::CoreError;
 use xet_merkle::aggregated_hashes::{file_hash_of_root, xorb_hash};
 use xet_merkle::merkle_hash_subtree::{find_stable_end, find_stable_start};
 
-// The root of some chunks. It tests the sizes before anything is allocated, and takes no memory for one chunk or none.
+// Returns the root of some chunks. It checks the sizes before it allocates. With one chunk or none it allocates
+// nothing.
 fn root_of(alloc: Global, chunks: &[Chunk]) -> Result<MerkleHash, CoreError>
     ensures root { IfOk result (IsRoot (nodes_of chunks.now)) }
     ensures overflow { IsErrOf result CoreError.SizeOverflow ↔ (2 ^ 64 ≤ total_size (nodes_of chunks.now)) }
@@ -35,11 +36,14 @@ fn root_of(alloc: Global, chunks: &[Chunk]) -> Result<MerkleHash, CoreError>
     }
 }
 
-/// Writes the root of a list of chunks: the default hash for no chunk, the chunk's own hash for one, else the root of the
-/// parents of the list's groups.
+/// Writes the root of a list of chunks. The root of no chunks is the default hash. The root of one chunk is its own
+/// hash. The root of more chunks is the hash at the top of their tree.
 ///
-/// Status `DONE`; `SIZES` where the sizes add up to more than 2^64 - 1; `MEMORY` where an allocation is refused, which is
-/// never of one chunk or none. Nothing is written where it isn't `DONE`.
+/// - `DONE`: the root is written.
+/// - `SIZES`: the sizes add up to more than 2^64 - 1.
+/// - `MEMORY`: an allocation failed; never with one chunk or none.
+///
+/// Unless the status is `DONE`, nothing is written.
 #[unsafe(no_mangle)]
 pub extern "C" fn yurewha_xorb_hash(alloc: Global, chunks: &[Chunk], root: &mut Hash) -> u32
     ensures root { result ≡ DONE → IsRoot (nodes_of chunks.now) root.new.words }
@@ -55,7 +59,7 @@ pub extern "C" fn yurewha_xorb_hash(alloc: Global, chunks: &[Chunk], root: &mut 
     }
 }
 
-// The file hash of some chunks, and its status.
+// Writes the file hash of some chunks. Returns its status.
 fn write_file_hash(alloc: Global, chunks: &[Chunk], salt: &[u8; 32], hash: &mut Hash) -> u32
     ensures { WritesFileHash chunks.now salt.now result hash.old hash.new }
 {
@@ -68,10 +72,10 @@ fn write_file_hash(alloc: Global, chunks: &[Chunk], salt: &[u8; 32], hash: &mut 
     }
 }
 
-/// Writes the file hash of a list of chunks without a salt, which is that under 32 zero bytes: the default hash for no
-/// chunk, else the root's `hmac`.
+/// Writes the file hash of a list of chunks without a salt. With no chunks it is the default hash. Otherwise it is the
+/// hmac of their root under 32 zero bytes.
 ///
-/// Statuses as of `yurewha_xorb_hash`.
+/// The statuses are those of `yurewha_xorb_hash`.
 #[unsafe(no_mangle)]
 pub extern "C" fn yurewha_file_hash(alloc: Global, chunks: &[Chunk], hash: &mut Hash) -> u32
     ensures { WritesFileHash chunks.now (replicate 32 0) result hash.old hash.new }
@@ -79,10 +83,10 @@ pub extern "C" fn yurewha_file_hash(alloc: Global, chunks: &[Chunk], hash: &mut 
     write_file_hash(alloc, chunks, &[0; 32], hash)
 }
 
-/// Writes the file hash of a list of chunks under a salt: the default hash for no chunk, whatever the salt, else the root's
-/// `hmac` under the salt's bytes.
+/// Writes the file hash of a list of chunks under a salt. With no chunks it is the default hash, whatever the salt.
+/// Otherwise it is the hmac of their root under the bytes of the salt.
 ///
-/// Statuses as of `yurewha_xorb_hash`.
+/// The statuses are those of `yurewha_xorb_hash`.
 #[unsafe(no_mangle)]
 pub extern "C" fn yurewha_file_hash_with_salt(
     alloc: Global,
@@ -95,11 +99,14 @@ pub extern "C" fn yurewha_file_hash_with_salt(
     write_file_hash(alloc, chunks, &salt.bytes, hash)
 }
 
-/// Writes the first stable point of some nodes: the number of nodes before it. A group ends there, whatever nodes stand
-/// before and after the given ones.
+/// Writes the first stable point of some nodes, as the number of nodes before it. At a stable point a group ends, no
+/// matter which nodes come before and after the given ones.
 ///
-/// Status `DONE`; `ARGUMENTS` where there is none; `MEMORY` where an allocation is refused. Nothing is written where it
-/// isn't `DONE`.
+/// - `DONE`: the point is written.
+/// - `ARGUMENTS`: there is none.
+/// - `MEMORY`: an allocation failed.
+///
+/// Unless the status is `DONE`, nothing is written.
 #[unsafe(no_mangle)]
 pub extern "C" fn yurewha_find_stable_start(
     alloc: Global,
@@ -121,10 +128,10 @@ pub extern "C" fn yurewha_find_stable_start(
     }
 }
 
-/// Writes the last stable point of some nodes: the number of nodes before it. A group ends there, whatever nodes stand
-/// before and after the given ones.
+/// Writes the last stable point of some nodes, as the number of nodes before it. At a stable point a group ends, no
+/// matter which nodes come before and after the given ones.
 ///
-/// Statuses as of `yurewha_find_stable_start`.
+/// The statuses are those of `yurewha_find_stable_start`.
 #[unsafe(no_mangle)]
 pub extern "C" fn yurewha_find_stable_end(alloc: Global, nodes: &[Chunk], point: &mut usize) -> u32
     ensures point { WritesPoint IsLastStable nodes.now result point.old point.new }

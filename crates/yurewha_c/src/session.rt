@@ -20,9 +20,10 @@ use std::alloc::Global;
 use upload_session::session::SessionOf;
 use upload_session::session_fault::SessionFault;
 
-/// Puts a session without chunks into a handle.
+/// Makes a session without chunks. The handle owns it.
 ///
-/// Status `DONE`, and `MEMORY` where an allocation is refused: then the handle is as it was. Else what it owned is freed.
+/// - `DONE`: it is made. What the handle owned before is freed.
+/// - `MEMORY`: an allocation failed. The handle is unchanged.
 #[unsafe(no_mangle)]
 pub extern "C" fn yurewha_session_new(alloc: Global, session: &mut SessionHandle) -> u32
     ensures made { result ≡ DONE → IsSomeAnd session.new.value (λ made. Stands made []) }
@@ -35,7 +36,8 @@ pub extern "C" fn yurewha_session_new(alloc: Global, session: &mut SessionHandle
     session.hold(alloc, made)
 }
 
-// Places chunks, as `put` of a session does. Out of memory for their nodes may come in the place of another refusal.
+// Puts chunks, as `put` of a session does. If the allocation of their nodes fails, `Memory` may be returned instead of
+// another fault.
 fn put_chunks(
     alloc: Global,
     kept: &mut KeptSession,
@@ -69,13 +71,17 @@ fn put_chunks(
     kept.session.put(first, &nodes)
 }
 
-/// Places chunks at the positions from `first` on, and writes how many hashes among them no earlier accepted put had, each
-/// counted once. Without a chunk it writes 0 and changes nothing, wherever `first` is.
+/// Puts chunks at the positions from `first` on. Writes how many of their hashes no earlier successful put had, and
+/// counts each hash once. With no chunks it writes 0 and changes nothing, whatever `first` is.
 ///
-/// Status `DONE`; `EMPTY_HANDLE` where the handle is empty; `SESSION_OVERLAP` where one of the positions is taken;
-/// `SESSION_POSITIONS` where, else, `first` plus the number of chunks passes 2^64 - 1; `SESSION_SIZES` where, else, all sizes
-/// add up to more than 2^64 - 1; `SESSION_MEMORY` where an allocation is refused. Nothing has changed where it isn't
-/// `DONE`.
+/// - `DONE`: the chunks are put.
+/// - `EMPTY_HANDLE`: the handle is empty.
+/// - `SESSION_OVERLAP`: one of the positions is taken.
+/// - `SESSION_POSITIONS`: otherwise, `first` plus the number of chunks is more than 2^64 - 1.
+/// - `SESSION_SIZES`: otherwise, the sizes of all chunks add up to more than 2^64 - 1.
+/// - `SESSION_MEMORY`: an allocation failed; this may be returned instead of the three above.
+///
+/// Unless the status is `DONE`, nothing has changed.
 #[unsafe(no_mangle)]
 pub extern "C" fn yurewha_session_put(
     alloc: Global,
@@ -126,9 +132,10 @@ pub extern "C" fn yurewha_session_put(
     }
 }
 
-/// Writes whether a position is taken. It takes no memory.
+/// Writes whether a position is taken. It allocates nothing. The session is unchanged.
 ///
-/// Status `DONE`, and `EMPTY_HANDLE` where the handle is empty: then nothing is written. The session stays as it is.
+/// - `DONE`: it is written.
+/// - `EMPTY_HANDLE`: the handle is empty. Nothing is written.
 #[unsafe(no_mangle)]
 pub extern "C" fn yurewha_session_taken(
     alloc: Global,
@@ -147,11 +154,14 @@ pub extern "C" fn yurewha_session_taken(
     DONE
 }
 
-/// Writes the root of all chunks by position.
+/// Writes the root of all chunks in the order of their positions. The session is unchanged.
 ///
-/// Status `DONE`; `EMPTY_HANDLE` where the handle is empty; `SESSION_GAP` where the positions taken aren't exactly those from
-/// 0 to `total` - 1; `SESSION_MEMORY` where an allocation is refused. Nothing is written where it isn't `DONE`. The session
-/// stays as it is.
+/// - `DONE`: the hash is written.
+/// - `EMPTY_HANDLE`: the handle is empty.
+/// - `SESSION_GAP`: the taken positions aren't exactly those from 0 to `total` - 1.
+/// - `SESSION_MEMORY`: an allocation failed.
+///
+/// Unless the status is `DONE`, nothing is written.
 #[unsafe(no_mangle)]
 pub extern "C" fn yurewha_session_root(
     alloc: Global,
@@ -179,9 +189,10 @@ pub extern "C" fn yurewha_session_root(
     }
 }
 
-/// Writes the file hash of all chunks by position, without a salt, which is that under 32 zero bytes.
+/// Writes the file hash, without a salt, of all chunks in the order of their positions. It is the one under 32 zero
+/// bytes. The session is unchanged.
 ///
-/// Statuses as of `yurewha_session_root`. Nothing is written where it isn't `DONE`. The session stays as it is.
+/// The statuses are those of `yurewha_session_root`. Unless the status is `DONE`, nothing is written.
 #[unsafe(no_mangle)]
 pub extern "C" fn yurewha_session_finish(
     alloc: Global,
@@ -209,10 +220,12 @@ pub extern "C" fn yurewha_session_finish(
     }
 }
 
-/// Puts a copy of a session into another handle. It stands for the same chunks, and knows the same hashes.
+/// Copies a session. The second handle owns the copy, which stands for the same chunks and knows the same hashes. The
+/// first session is unchanged.
 ///
-/// Status `DONE`; `EMPTY_HANDLE` where `session` is empty; `MEMORY` where an allocation is refused. `copy` is as it was where
-/// it isn't `DONE`; else what it owned is freed.
+/// - `DONE`: it is copied. What the second handle owned before is freed.
+/// - `MEMORY`: an allocation failed. The second handle is unchanged.
+/// - `EMPTY_HANDLE`: the first handle is empty. The second handle is unchanged.
 #[unsafe(no_mangle)]
 pub extern "C" fn yurewha_session_copy(
     alloc: Global,
@@ -235,7 +248,7 @@ pub extern "C" fn yurewha_session_copy(
     }
 }
 
-/// Frees what a handle owns, and leaves it empty. An empty handle stays empty. It can't fail.
+/// Frees what the handle owns, and leaves it empty. An empty handle stays empty. It can't fail.
 #[unsafe(no_mangle)]
 pub extern "C" fn yurewha_session_free(alloc: Global, session: &mut SessionHandle)
     ensures { session.new.value ≡ None }

@@ -1,4 +1,4 @@
-//! A handle of a session: what owns memory can't cross to C, so that its box crosses as a pointer.
+//! A handle of a session. What owns memory can't be passed to C, so its box is passed as a pointer.
 
 ghost use Rattle.std.specs.Prelude.{◌≡◌, ◌≢◌, ◌⊎◌, Option, Some, None, option_map};
 ghost use Rattle.yurewha_c.specs.declared.kept_session.KeptSession.{KeptSession as Kept};
@@ -12,7 +12,7 @@ use std::marker::Model;
 use std::mem::replace;
 use std::ptr::null_mut;
 
-/// A handle of a session, or of nothing: C begins with a null pointer.
+/// A handle of a session, or an empty handle, which is a null pointer in C.
 #[repr(C)]
 pub struct SessionHandle {
     at: *mut u8,
@@ -26,7 +26,7 @@ impl Model for SessionHandle {
 }
 
 impl SessionHandle {
-    // A handle of nothing.
+    // Returns an empty handle.
     fn empty(alloc: Global) -> SessionHandle
         ensures { result.value ≡ None }
     {
@@ -36,7 +36,7 @@ impl SessionHandle {
         }
     }
 
-    // The handle of what a box owned.
+    // Makes the handle of what a box owned.
     fn of_parts(parts: Parts<KeptSession, Global>) -> SessionHandle
         ensures { result.value ≡ Some parts.value }
     {
@@ -47,7 +47,7 @@ impl SessionHandle {
         }
     }
 
-    // The box's parts, where there is one.
+    // Returns the parts of the box, if there is one.
     fn into_parts(self) -> Option<Parts<KeptSession, Global>>
         ensures { option_map (λ parts. parts.value) result ≡ self.value }
     {
@@ -73,7 +73,7 @@ impl SessionHandle {
         }
     }
 
-    // Puts a session in. What the handle owned is freed.
+    // Puts a session in. It frees what the handle owned.
     pub(crate) fn put(&mut self, session: Box<KeptSession>)
         ensures { self.new.value ≡ Some session.value }
     {
@@ -83,8 +83,8 @@ impl SessionHandle {
         }
     }
 
-    // Puts a session in, in a box of its own, and answers `DONE`. Where memory for the box is refused, nothing has changed,
-    // and `MEMORY` is answered.
+    // Puts a session in, in a box of its own, and returns `DONE`. If the allocation of the box fails, it changes
+    // nothing and returns `MEMORY`.
     pub(crate) fn hold(&mut self, alloc: Global, session: KeptSession) -> u32
         ensures statuses { (result ≡ DONE) ⊎ (result ≡ MEMORY) }
         ensures done { result ≡ DONE → self.new.value ≡ Some session }

@@ -10,9 +10,10 @@ use std::alloc::Global;
 use upload_session::session::Session;
 use xet_merkle::merkle_hash_subtree::MerkleHashSubtree;
 
-/// Writes how many runs of adjacent positions are taken. It takes no memory.
+/// Writes the number of runs of adjacent taken positions. It allocates nothing. The session is unchanged.
 ///
-/// Status `DONE`, and `EMPTY_HANDLE` where the handle is empty: then nothing is written. The session stays as it is.
+/// - `DONE`: it is written.
+/// - `EMPTY_HANDLE`: the handle is empty. Nothing is written.
 #[unsafe(no_mangle)]
 pub extern "C" fn yurewha_session_num_runs(
     alloc: Global,
@@ -30,7 +31,7 @@ pub extern "C" fn yurewha_session_num_runs(
     DONE
 }
 
-// The first position of a run and a copy of its range, or the status that says why not.
+// Returns the first position of a run and a copy of its range. Fails with the status.
 fn copied_run(session: &Session, index: usize) -> Result<(u64, MerkleHashSubtree), u32>
     ensures copied { IfOk result (λ copied. IsSomeAnd (slice_get session.now.runs index) (λ run.
         (copied.0 ≡ run.0) × (copied.1 ≡ run.1.range))) }
@@ -46,12 +47,16 @@ fn copied_run(session: &Session, index: usize) -> Result<(u64, MerkleHashSubtree
     }
 }
 
-/// Writes the first position of a run of adjacent positions that are taken, and puts a copy of the subtree of its chunks,
-/// which is open at both ends, into a handle. Runs are counted from 0 by rising position. The time is in proportion to the
-/// index.
+/// Writes the first position of a run of adjacent taken positions, and a copy of the subtree of its chunks. The subtree
+/// is open at both ends, and `range` owns it. Runs are numbered from 0, by rising position. The time is proportional to
+/// the index. The session is unchanged.
 ///
-/// Status `DONE`; `EMPTY_HANDLE` where the session's handle is empty; `ARGUMENTS` where there is no such run; `MEMORY` where
-/// an allocation is refused. Nothing has changed where it isn't `DONE`. The session stays as it is.
+/// - `DONE`: they are written.
+/// - `EMPTY_HANDLE`: the handle of the session is empty.
+/// - `ARGUMENTS`: there is a session, and it has no such run.
+/// - `MEMORY`: an allocation failed.
+///
+/// Unless the status is `DONE`, nothing has changed.
 #[unsafe(no_mangle)]
 pub extern "C" fn yurewha_session_run(
     alloc: Global,

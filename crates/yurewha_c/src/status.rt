@@ -1,4 +1,4 @@
-//! The statuses that exports answer. 0 is answered if and only if the call did what it is for.
+//! The statuses that exports return. The status is 0 if and only if the call succeeded.
 
 ghost use Rattle.std.specs.Prelude.{◌≡◌};
 ghost use Rattle.yurewha_c.specs.Statuses.{core_status, session_status};
@@ -6,42 +6,48 @@ ghost use Rattle.yurewha_c.specs.Statuses.{core_status, session_status};
 use upload_session::session_fault::SessionFault;
 use xet_merkle::CoreError;
 
-/// The call did what it is for.
+/// The call succeeded.
 pub const DONE: u32 = 0;
 
-/// The arguments don't fit together, or what is asked for isn't there.
+/// The arguments don't fit together, or the requested thing doesn't exist.
 pub const ARGUMENTS: u32 = 1;
 
 /// Sizes or lengths add up to more than 2^64 - 1.
 pub const SIZES: u32 = 2;
 
-/// An allocation was refused.
+/// An allocation failed.
 pub const MEMORY: u32 = 3;
 
-/// A text isn't of the form that is read.
+/// A text doesn't have the expected form.
 pub const TEXT: u32 = 4;
 
-/// There is too little room.
+/// The room is too small.
 pub const ROOM: u32 = 5;
 
-/// A handle that was handed in is empty.
+/// A handle that the call reads is empty.
 pub const EMPTY_HANDLE: u32 = 6;
 
-/// This plus the number of the rule that a JSON value breaks, from 1 to 13.
+/// This plus the number of a rule, from 1 to 13: a JSON value, or flat lists, break this rule and none with a lower
+/// number.
 pub const RULE: u32 = 16;
 
-/// The faults of a session, the least reason first.
+/// A position is taken. This status and the next four are the faults of a session. If several apply, the call returns
+/// the one with the lowest number, unless an allocation fails before that.
 pub const SESSION_OVERLAP: u32 = 33;
 
+/// The first position plus the number of chunks is more than 2^64 - 1.
 pub const SESSION_POSITIONS: u32 = 34;
 
+/// The sizes of all chunks add up to more than 2^64 - 1.
 pub const SESSION_SIZES: u32 = 35;
 
+/// An allocation of a session failed.
 pub const SESSION_MEMORY: u32 = 36;
 
+/// The taken positions aren't exactly those below the total.
 pub const SESSION_GAP: u32 = 37;
 
-// The status of a refusal.
+// Returns the status of an error.
 pub(crate) fn status_of(error: CoreError) -> u32
     ensures { result ≡ core_status error }
 {
@@ -53,7 +59,7 @@ pub(crate) fn status_of(error: CoreError) -> u32
     }
 }
 
-// The status of a session's refusal.
+// Returns the status of a session's fault.
 pub(crate) fn status_of_fault(fault: SessionFault) -> u32
     ensures { result ≡ session_status fault }
 {

@@ -1,4 +1,4 @@
-//! Subtrees: made of chunks, looked at, copied and freed.
+//! Subtrees: made from chunks, read, copied and freed.
 
 ghost use Rattle.std.specs.Prelude.{◌≡◌, ◌≢◌, ◌⊎◌, ◌↔◌, ◌^◌, ◌≤◌, None, IsSomeAnd, IsTrue, List, length};
 ghost use Rattle.xet_merkle.specs.Levels.{levels_size, node_count, top_hash};
@@ -16,11 +16,14 @@ use std::alloc::Global;
 use xet_merkle::laws::equal_subtrees;
 use xet_merkle::merkle_hash_subtree::MerkleHashSubtree;
 
-/// Puts the canonical subtree of some chunks into a handle. The list is marked at its start where no chunk comes before
-/// it, and at its end where none comes after it.
+/// Makes the canonical subtree of some chunks, and writes it to the handle, which owns it. `at_start` marks its start:
+/// no chunk comes before these. `at_end` marks its end: no chunk comes after these.
 ///
-/// Status `DONE`; `SIZES` where the sizes add up to more than 2^64 - 1; `MEMORY` where an allocation is refused. The handle
-/// is as it was where it isn't `DONE`; else what it owned is freed.
+/// - `DONE`: it is made. What the handle owned before is freed.
+/// - `SIZES`: the sizes add up to more than 2^64 - 1.
+/// - `MEMORY`: an allocation failed.
+///
+/// Unless the status is `DONE`, the handle is unchanged.
 #[unsafe(no_mangle)]
 pub extern "C" fn yurewha_subtree_from_chunks(
     alloc: Global,
@@ -48,10 +51,13 @@ pub extern "C" fn yurewha_subtree_from_chunks(
     }
 }
 
-/// Puts a copy of a subtree into another handle.
+/// Copies a subtree. The second handle owns the copy. The first is unchanged.
 ///
-/// Status `DONE`; `EMPTY_HANDLE` where `subtree` is empty; `MEMORY` where an allocation is refused. `copy` is as it was
-/// where it isn't `DONE`; else what it owned is freed.
+/// - `DONE`: it is copied. What the second handle owned before is freed.
+/// - `MEMORY`: an allocation failed.
+/// - `EMPTY_HANDLE`: the first handle is empty.
+///
+/// Unless the status is `DONE`, the second handle is unchanged.
 #[unsafe(no_mangle)]
 pub extern "C" fn yurewha_subtree_clone(
     alloc: Global,
@@ -69,7 +75,7 @@ pub extern "C" fn yurewha_subtree_clone(
     }
 }
 
-// Whether two subtrees are equal.
+// Returns whether two subtrees are equal.
 fn are_equal(first: &MerkleHashSubtree, second: &MerkleHashSubtree) -> bool
     ensures { IsTrue result ↔ (first.now ≡ second.now) }
 {
@@ -78,9 +84,10 @@ fn are_equal(first: &MerkleHashSubtree, second: &MerkleHashSubtree) -> bool
     first == second
 }
 
-/// Writes whether two subtrees have the same marks, levels and nodes.
+/// Writes whether two subtrees have the same marks, levels and nodes. It allocates nothing. Both handles are unchanged.
 ///
-/// Status `DONE`, and `EMPTY_HANDLE` where a handle is empty: then nothing is written. Both handles stay as they are.
+/// - `DONE`: it is written.
+/// - `EMPTY_HANDLE`: a handle is empty. Nothing is written.
 #[unsafe(no_mangle)]
 pub extern "C" fn yurewha_subtree_equal(
     alloc: Global,
@@ -102,9 +109,10 @@ pub extern "C" fn yurewha_subtree_equal(
     DONE
 }
 
-/// Writes whether the start, and the end, of the list is marked.
+/// Writes the marks: whether no chunk comes before these, and whether none comes after. The handle is unchanged.
 ///
-/// Status `DONE`, and `EMPTY_HANDLE` where the handle is empty: then nothing is written. The handle stays as it is.
+/// - `DONE`: they are written.
+/// - `EMPTY_HANDLE`: the handle is empty. Nothing is written.
 #[unsafe(no_mangle)]
 pub extern "C" fn yurewha_subtree_marks(
     alloc: Global,
@@ -125,9 +133,10 @@ pub extern "C" fn yurewha_subtree_marks(
     DONE
 }
 
-/// Writes the sum of the sizes of all nodes, in bytes, which is that of the list's chunks.
+/// Writes the total size of the chunks in bytes, which is the sum of the sizes of all nodes. The handle is unchanged.
 ///
-/// Status `DONE`, and `EMPTY_HANDLE` where the handle is empty: then nothing is written. The handle stays as it is.
+/// - `DONE`: it is written.
+/// - `EMPTY_HANDLE`: the handle is empty. Nothing is written.
 #[unsafe(no_mangle)]
 pub extern "C" fn yurewha_subtree_total_size(
     alloc: Global,
@@ -144,9 +153,10 @@ pub extern "C" fn yurewha_subtree_total_size(
     DONE
 }
 
-/// Writes how many nodes are kept.
+/// Writes the number of kept nodes. The handle is unchanged.
 ///
-/// Status `DONE`, and `EMPTY_HANDLE` where the handle is empty: then nothing is written. The handle stays as it is.
+/// - `DONE`: it is written.
+/// - `EMPTY_HANDLE`: the handle is empty. Nothing is written.
 #[unsafe(no_mangle)]
 pub extern "C" fn yurewha_subtree_num_nodes(
     alloc: Global,
@@ -163,9 +173,10 @@ pub extern "C" fn yurewha_subtree_num_nodes(
     DONE
 }
 
-/// Writes how many levels there are, one at least.
+/// Writes the number of levels. There is at least one. The handle is unchanged.
 ///
-/// Status `DONE`, and `EMPTY_HANDLE` where the handle is empty: then nothing is written. The handle stays as it is.
+/// - `DONE`: it is written.
+/// - `EMPTY_HANDLE`: the handle is empty. Nothing is written.
 #[unsafe(no_mangle)]
 pub extern "C" fn yurewha_subtree_num_levels(
     alloc: Global,
@@ -182,10 +193,14 @@ pub extern "C" fn yurewha_subtree_num_levels(
     DONE
 }
 
-/// Writes the root of the list of chunks, where both of its ends are marked. It takes no memory.
+/// Writes the root of the chunks. Both ends of the subtree must be marked. It allocates nothing. The handle is
+/// unchanged.
 ///
-/// Status `DONE`; `ARGUMENTS` where an end isn't marked, so that there is no root; `EMPTY_HANDLE` where the handle is empty.
-/// Nothing is written where it isn't `DONE`. The handle stays as it is.
+/// - `DONE`: the root is written.
+/// - `ARGUMENTS`: an end isn't marked, so there is no root yet.
+/// - `EMPTY_HANDLE`: the handle is empty.
+///
+/// Unless the status is `DONE`, nothing is written.
 #[unsafe(no_mangle)]
 pub extern "C" fn yurewha_subtree_final_hash(
     alloc: Global,
@@ -216,7 +231,7 @@ pub extern "C" fn yurewha_subtree_final_hash(
     }
 }
 
-/// Frees what a handle owns, and leaves it empty. An empty handle stays empty. It can't fail.
+/// Frees what the handle owns, and leaves it empty. An empty handle stays empty. It can't fail.
 #[unsafe(no_mangle)]
 pub extern "C" fn yurewha_subtree_free(alloc: Global, subtree: &mut SubtreeHandle)
     ensures { subtree.new.value ≡ None }

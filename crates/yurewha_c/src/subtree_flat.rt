@@ -1,4 +1,4 @@
-//! Subtrees as flat lists, for binary forms.
+//! Subtrees as flat lists, for binary formats.
 
 ghost use Rattle.std.specs.Prelude.{◌≡◌, ◌≢◌, ◌⊎◌, ◌↔◌, ℕ, ◌+◌, ◌<◌, ◌≤◌, None, IsSomeAnd, IfOk, List, ◌++◌, drop, length, map, take};
 ghost use Rattle.xet_merkle.specs.FlatLevels.{IsFlat, count_of, left_nodes, right_nodes};
@@ -14,7 +14,7 @@ use std::alloc::{AllocError, Global};
 use xet_merkle::aggregated_hashes::Node;
 use xet_merkle::merkle_hash_subtree::MerkleHashSubtree;
 
-/// How many nodes a subtree keeps of a level, on the left and on the right.
+/// How many nodes a subtree keeps on a level, on the left side and on the right side.
 #[derive(Clone, Copy)]
 #[repr(C)]
 pub struct Level {
@@ -22,7 +22,7 @@ pub struct Level {
     pub right: usize,
 }
 
-// The counts of some levels, in memory of their own.
+// Returns the counts of some levels, in allocated memory.
 fn counts_of(alloc: Global, levels: &[Level]) -> Result<Vec<(usize, usize)>, AllocError>
     ensures { IfOk result (λ counts. counts.items ≡ counts_of levels.now) }
 {
@@ -33,12 +33,16 @@ fn counts_of(alloc: Global, levels: &[Level]) -> Result<Vec<(usize, usize)>, All
     Ok(counts)
 }
 
-/// Puts the subtree that marks and flat lists say into a handle: for each level, from the chunks up, the numbers of left and
-/// right nodes, and in one list the left nodes of all levels by rising level, then the right nodes by falling level.
+/// Makes a subtree from marks and flat lists. The handle owns it. `levels` has the number of left and right nodes of
+/// each level, from the chunks up. `nodes` has the left nodes of all levels, lowest level first, then the right nodes
+/// of all levels, highest level first.
 ///
-/// Status `DONE`; `RULE` and the least of the rules 5 to 13 that they break, as `MerkleHashSubtree::from_json` of
-/// `xet_merkle` lists them; `MEMORY` where an allocation is refused, which may come in the place of a rule. The handle is
-/// as it was where it isn't `DONE`; else what it owned is freed.
+/// - `DONE`: it is made. What the handle owned before is freed.
+/// - `RULE` + rule: they break this rule, from 5 to 13 of `MerkleHashSubtree::from_json` of `xet_merkle`, and none of
+///   these with a lower number.
+/// - `MEMORY`: an allocation failed; this may be returned instead of a rule.
+///
+/// Unless the status is `DONE`, the handle is unchanged.
 #[unsafe(no_mangle)]
 pub extern "C" fn yurewha_subtree_from_flat(
     alloc: Global,
@@ -67,7 +71,7 @@ pub extern "C" fn yurewha_subtree_from_flat(
     }
 }
 
-// Writes some nodes to a list from a place on, and answers the place after them.
+// Writes some nodes to a list from `at` on. Returns the place after them.
 fn write_nodes(nodes: &[Node], list: &mut [Chunk], at: usize) -> usize
     requires { at + length nodes.now ≤ length list.old }
     ensures place { result ≡ at + length nodes.now }
@@ -96,7 +100,7 @@ fn write_counts(subtree: &MerkleHashSubtree, levels: &mut [Level])
     }
 }
 
-// Writes the left nodes of all levels of a subtree, by rising level, and answers the place after them.
+// Writes the left nodes of all levels of a subtree, lowest level first. Returns the place after them.
 fn write_lefts(subtree: &MerkleHashSubtree, nodes: &mut [Chunk]) -> usize
     requires { length (left_nodes subtree.now.levels) ≤ length nodes.old }
     ensures place { result ≡ length (left_nodes subtree.now.levels) }
@@ -110,7 +114,7 @@ fn write_lefts(subtree: &MerkleHashSubtree, nodes: &mut [Chunk]) -> usize
     place
 }
 
-// Writes the right nodes of all levels of a subtree, by falling level, from a place on.
+// Writes the right nodes of all levels of a subtree, highest level first, from `at` on. Returns the place after them.
 fn write_rights(subtree: &MerkleHashSubtree, nodes: &mut [Chunk], at: usize) -> usize
     requires { at + length (right_nodes subtree.now.levels) ≤ length nodes.old }
     ensures place { result ≡ at + length (right_nodes subtree.now.levels) }
@@ -126,7 +130,7 @@ fn write_rights(subtree: &MerkleHashSubtree, nodes: &mut [Chunk], at: usize) -> 
     place
 }
 
-// Writes the counts and the nodes of a subtree, for which there is room.
+// Writes the counts and the nodes of a subtree. There must be room for them.
 fn write_flat(subtree: &MerkleHashSubtree, levels: &mut [Level], nodes: &mut [Chunk])
     requires levels { length subtree.now.levels ≤ length levels.old }
     requires nodes { node_count subtree.now.levels ≤ length nodes.old }
@@ -142,12 +146,15 @@ fn write_flat(subtree: &MerkleHashSubtree, levels: &mut [Level], nodes: &mut [Ch
     write_rights(subtree, nodes, lefts);
 }
 
-/// Writes a subtree as flat lists: to `levels` the numbers of left and right nodes of each level, from the chunks up, and to
-/// `nodes` the left nodes of all levels by rising level, then the right nodes by falling level. `level_len` and
-/// `node_len` get the numbers of both. It takes no memory.
+/// Writes a subtree as flat lists. `levels` gets the number of left and right nodes of each level, from the chunks up.
+/// `nodes` gets the left nodes of all levels, lowest level first, then the right nodes of all levels, highest level
+/// first. `level_len` and `node_len` get the lengths of the lists. The lists and the marks together are the whole
+/// subtree. It allocates nothing. The handle is unchanged.
 ///
-/// Status `DONE`; `ROOM` where a list is longer than its room: then nothing is written to either, and the counts are; and
-/// `EMPTY_HANDLE` where the handle is empty: then nothing is written. The handle stays as it is.
+/// - `DONE`: the lists are written.
+/// - `ROOM`: a list is longer than its room. Nothing is written to either, and `level_len` and `node_len` are the
+///   needed lengths.
+/// - `EMPTY_HANDLE`: the handle is empty. Nothing is written.
 #[unsafe(no_mangle)]
 pub extern "C" fn yurewha_subtree_to_flat(
     alloc: Global,

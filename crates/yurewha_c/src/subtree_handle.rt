@@ -1,4 +1,4 @@
-//! A handle of a subtree: what owns memory can't cross to C, so that its box crosses as a pointer.
+//! A handle of a subtree. What owns memory can't be passed to C, so its box is passed as a pointer.
 
 ghost use Rattle.std.specs.Prelude.{◌≡◌, ◌≢◌, ◌⊎◌, Option, Some, None, option_map, IfOk, IfErr, IfSome, IfNone};
 ghost use Rattle.xet_merkle.specs.Subtree.{Subtree};
@@ -12,7 +12,7 @@ use std::mem::replace;
 use std::ptr::null_mut;
 use xet_merkle::merkle_hash_subtree::MerkleHashSubtree;
 
-/// A handle of a subtree, or of nothing: C begins with a null pointer.
+/// A handle of a subtree, or an empty handle, which is a null pointer in C.
 #[repr(C)]
 pub struct SubtreeHandle {
     at: *mut u8,
@@ -26,7 +26,7 @@ impl Model for SubtreeHandle {
 }
 
 impl SubtreeHandle {
-    // A handle of nothing.
+    // Returns an empty handle.
     fn empty(alloc: Global) -> SubtreeHandle
         ensures { result.value ≡ None }
     {
@@ -36,7 +36,7 @@ impl SubtreeHandle {
         }
     }
 
-    // The handle of what a box owned.
+    // Makes the handle of what a box owned.
     fn of_parts(parts: Parts<MerkleHashSubtree, Global>) -> SubtreeHandle
         ensures { result.value ≡ Some parts.value }
     {
@@ -47,7 +47,7 @@ impl SubtreeHandle {
         }
     }
 
-    // The box's parts, where there is one.
+    // Returns the parts of the box, if there is one.
     fn into_parts(self) -> Option<Parts<MerkleHashSubtree, Global>>
         ensures { option_map (λ parts. parts.value) result ≡ self.value }
     {
@@ -73,7 +73,7 @@ impl SubtreeHandle {
         }
     }
 
-    // Puts a subtree in. What the handle owned is freed.
+    // Puts a subtree in. It frees what the handle owned.
     pub(crate) fn put(&mut self, subtree: Box<MerkleHashSubtree>)
         ensures { self.new.value ≡ Some subtree.value }
     {
@@ -83,8 +83,8 @@ impl SubtreeHandle {
         }
     }
 
-    // Puts a subtree in, in a box of its own, and answers `DONE`. Where memory for the box is refused, nothing has changed,
-    // and `MEMORY` is answered.
+    // Puts a subtree in, in a box of its own, and returns `DONE`. If the allocation of the box fails, it changes
+    // nothing and returns `MEMORY`.
     pub(crate) fn hold(&mut self, alloc: Global, subtree: MerkleHashSubtree) -> u32
         ensures statuses { (result ≡ DONE) ⊎ (result ≡ MEMORY) }
         ensures done { result ≡ DONE → self.new.value ≡ Some subtree }
@@ -99,7 +99,7 @@ impl SubtreeHandle {
         }
     }
 
-    // A copy of the subtree, or `EMPTY_HANDLE` or `MEMORY`.
+    // Returns a copy of the subtree. Fails with `EMPTY_HANDLE` or `MEMORY`.
     pub(crate) fn copy(&mut self, alloc: Global) -> Result<MerkleHashSubtree, u32>
         ensures kept { self.new.value ≡ self.old.value }
         ensures copy { IfOk result (λ copy. self.old.value ≡ Some copy) }
@@ -117,7 +117,7 @@ impl SubtreeHandle {
         }
     }
 
-    // Takes the subtrees of two handles out, or leaves both as they are where one is empty.
+    // Takes the subtrees of two handles out. If one handle is empty, it leaves both unchanged and returns `None`.
     pub(crate) fn take_both(
         alloc: Global,
         first: &mut SubtreeHandle,

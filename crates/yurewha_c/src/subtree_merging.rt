@@ -1,4 +1,4 @@
-//! Merging subtrees of adjacent ranges.
+//! Merges subtrees of adjacent ranges.
 
 ghost use Rattle.std.specs.Prelude.{◌≡◌, ◌≢◌, ◌⊎◌, ◌↔◌, ℕ, ◌+◌, ◌-◌, ◌*◌, ◌^◌, ◌≤◌, List, length, min, IsSomeAnd, IfOk, IfErr};
 ghost use Rattle.xet_merkle.specs.Levels.{node_count};
@@ -13,12 +13,16 @@ use crate::subtree_handle::SubtreeHandle;
 use std::alloc::Global;
 use xet_merkle::merkle_hash_subtree::MerkleHashSubtree;
 
-/// Merges the subtree of the range that follows into this one, which becomes the canonical subtree of the concatenated list, with
-/// its own start mark and the other's end mark. `other` stays as it is.
+/// Merges `other`, the subtree of the range that follows, into `subtree`. `subtree` becomes the canonical subtree of
+/// the concatenated chunk lists. It keeps its own start mark and takes the end mark of `other`. `other` is unchanged.
 ///
-/// Status `DONE`; `EMPTY_HANDLE` where a handle is empty; else `ARGUMENTS` where `subtree` is marked at its end or `other`
-/// at its start; else `SIZES` where both sizes add up to more than 2^64 - 1; and `MEMORY` where an allocation is refused.
-/// `subtree` is as it was where it isn't `DONE`.
+/// - `DONE`: they are merged.
+/// - `EMPTY_HANDLE`: a handle is empty.
+/// - `ARGUMENTS`: neither handle is empty, and `subtree` is marked at its end or `other` at its start.
+/// - `SIZES`: neither of these applies, and the two sizes add up to more than 2^64 - 1.
+/// - `MEMORY`: an allocation failed.
+///
+/// Unless the status is `DONE`, `subtree` is unchanged.
 #[unsafe(no_mangle)]
 pub extern "C" fn yurewha_subtree_merge_into(
     alloc: Global,
@@ -42,10 +46,10 @@ pub extern "C" fn yurewha_subtree_merge_into(
     }
 }
 
-/// Does what `yurewha_subtree_merge_into` does, and writes how many parents were hashed for it, or 2^64 - 1 where they are
-/// more.
+/// Does the same as `yurewha_subtree_merge_into`, and writes how many parents were hashed for it, or 2^64 - 1 if there
+/// were more.
 ///
-/// Statuses as of `yurewha_subtree_merge_into`. Nothing is written to `parents` where it isn't `DONE`.
+/// The statuses are the same. Unless the status is `DONE`, nothing is written to `parents`.
 #[unsafe(no_mangle)]
 pub extern "C" fn yurewha_subtree_merge_into_counted(
     alloc: Global,
@@ -75,7 +79,7 @@ pub extern "C" fn yurewha_subtree_merge_into_counted(
     }
 }
 
-// Copies of the subtrees of some handles, or `EMPTY_HANDLE` or `MEMORY`.
+// Returns copies of the subtrees of some handles. Fails with `EMPTY_HANDLE` or `MEMORY`.
 fn copies_of(alloc: Global, ranges: &mut [SubtreeHandle]) -> Result<Vec<MerkleHashSubtree>, u32>
     ensures copies { IfOk result (λ copies. AllHold ranges.old copies.items) }
     ensures kept { values_of ranges.new ≡ values_of ranges.old }
@@ -97,7 +101,7 @@ fn copies_of(alloc: Global, ranges: &mut [SubtreeHandle]) -> Result<Vec<MerkleHa
     Ok(copies)
 }
 
-// Puts into a handle what subtrees are merged to.
+// Merges subtrees, and writes the result to a handle.
 fn merge_copies(alloc: Global, copies: &[MerkleHashSubtree], merged: &mut SubtreeHandle) -> u32
     ensures merged { result ≡ DONE → IsSomeAnd merged.new.value (IsMergeOf copies.now) }
     ensures arguments { (result ≡ ARGUMENTS) ↔ (¬ (NoMarkBetweenSubtrees copies.now)) }
@@ -111,14 +115,17 @@ fn merge_copies(alloc: Global, copies: &[MerkleHashSubtree], merged: &mut Subtre
     }
 }
 
-/// Puts into a handle what the subtrees of adjacent ranges are merged to, in order: the canonical subtree of the
-/// concatenated list, with the first range's start mark and the last one's end mark. Of no ranges it is the empty subtree with both
-/// marks; of one it is a copy. The ranges stay as they are.
+/// Merges the subtrees of adjacent ranges, in order, into one. `merged` owns it. It is the canonical subtree of the
+/// concatenated chunk lists, with the start mark of the first range and the end mark of the last one. With no ranges it
+/// is the empty subtree with both marks. With one range it is a copy. The ranges are unchanged.
 ///
-/// Status `DONE`; `EMPTY_HANDLE` where the handle of a range is empty; `ARGUMENTS` where a range other than the first is
-/// marked at its start or one other than the last at its end; `SIZES` where the sizes of all add up to more than 2^64 - 1;
-/// `MEMORY` where an allocation is refused, which may come in the place of each of these. `merged` is as it was where it
-/// isn't `DONE`; else what it owned is freed.
+/// - `DONE`: they are merged. What `merged` owned before is freed.
+/// - `EMPTY_HANDLE`: the handle of a range is empty.
+/// - `ARGUMENTS`: a range other than the first is marked at its start, or one other than the last at its end.
+/// - `SIZES`: the sizes of all ranges add up to more than 2^64 - 1.
+/// - `MEMORY`: an allocation failed; this may be returned instead of the three above.
+///
+/// Unless the status is `DONE`, `merged` is unchanged.
 #[unsafe(no_mangle)]
 pub extern "C" fn yurewha_subtree_merge(
     alloc: Global,

@@ -15,7 +15,7 @@ use std::alloc::{AllocError, Global};
 use xet_merkle::laws::all_bracketings_agree;
 use xet_merkle::merkle_hash_subtree::MerkleHashSubtree;
 
-// The compact JSON text of a subtree.
+// Returns the compact JSON text of a subtree.
 fn json_text(alloc: Global, subtree: &MerkleHashSubtree) -> Result<Vec<u8>, AllocError>
     ensures { IfOk result (λ text. text.items ≡ compact_text (subtree_json subtree.now)) }
 {
@@ -27,11 +27,13 @@ fn json_text(alloc: Global, subtree: &MerkleHashSubtree) -> Result<Vec<u8>, Allo
     value.to_vec(alloc)
 }
 
-/// Writes a subtree as compact JSON text to the beginning of `room`, and the length of the text to `text_len`.
+/// Writes a subtree as compact JSON text to the beginning of `room`, and the length of the JSON text to `text_len`. The
+/// handle is unchanged.
 ///
-/// Status `DONE`; `ROOM` where the text is longer than the room: then nothing is written to it, and `text_len` tells the
-/// length; `MEMORY` where an allocation is refused; `EMPTY_HANDLE` where the handle is empty. Nothing is written for these
-/// two. The handle stays as it is.
+/// - `DONE`: it is written.
+/// - `ROOM`: the JSON text is longer than `room`. Nothing is written to `room`, and `text_len` is the needed length.
+/// - `MEMORY`: an allocation failed. Nothing is written.
+/// - `EMPTY_HANDLE`: the handle is empty. Nothing is written.
 #[unsafe(no_mangle)]
 pub extern "C" fn yurewha_subtree_to_json(
     alloc: Global,
@@ -62,11 +64,15 @@ pub extern "C" fn yurewha_subtree_to_json(
     }
 }
 
-/// Puts the subtree that a JSON text says into a handle.
+/// Reads a subtree from JSON text. The handle owns it.
 ///
-/// Status `DONE`; `TEXT` where the text is no JSON text; `RULE` and the least of the rules 1 to 13 that the value breaks, as
-/// `MerkleHashSubtree::from_json` of `xet_merkle` lists them; `MEMORY` where an allocation is refused, which may come in
-/// the place of each of these. The handle is as it was where it isn't `DONE`; else what it owned is freed.
+/// - `DONE`: it is read. What the handle owned before is freed.
+/// - `TEXT`: the text isn't JSON.
+/// - `RULE` + rule: the value breaks this rule, from 1 to 13 of `MerkleHashSubtree::from_json` of `xet_merkle`, and
+///   none with a lower number.
+/// - `MEMORY`: an allocation failed; this may be returned instead of `TEXT` or a rule.
+///
+/// Unless the status is `DONE`, the handle is unchanged.
 #[unsafe(no_mangle)]
 pub extern "C" fn yurewha_subtree_from_json(
     alloc: Global,

@@ -1,11 +1,11 @@
-//! Text into the caller's room.
+//! Text in the caller's room.
 
 ghost use Rattle.std.specs.Prelude.{◌≡◌, ◌<◌, ◌≤◌, ◌++◌, drop, length};
 
 use crate::status::{DONE, ROOM};
 
-// Writes a text to the beginning of a room, and its length to `text_len`. Where the room is shorter, `ROOM` is answered and
-// nothing is written to it.
+// Writes a text to the beginning of a room, and its length to `text_len`. If the room is too small, it writes nothing
+// to the room and returns `ROOM`.
 pub(crate) fn write_text(text: &[u8], room: &mut [u8], text_len: &mut usize) -> u32
     ensures written { length text.now ≤ length room.old → room.new ≡ text.now ++ drop (length text.now) room.old }
     ensures done { length text.now ≤ length room.old → result ≡ DONE }

@@ -1,4 +1,4 @@
--- Blocks and chunks of a message, as the code takes them.
+-- The blocks and chunks of a message, as the code cuts them.
 use Rattle.std.proofs.Common.{◌≡◌, ℕ, zero, suc, ◌+◌, ◌-◌, ◌*◌, ◌/◌, ◌^◌, ◌<◌, ◌≤◌, List, [], ◌++◌, length, take, drop, replicate, refl, sym, ap, ◌∙◌, arith, length-drop, add-one, get_or, Fits, w8}
 use Rattle.std.proofs.lemmas.List.{append-nil, drop_at, get_or-take, take_all, take_at, take-append-le, take-take, drop-drop, drop-replicate, drop-take, length-take-le, take-replicate}
 use borrow.Rule.Slice.PartMut.{put_mid}

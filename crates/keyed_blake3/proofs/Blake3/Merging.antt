@@ -1,4 +1,4 @@
--- A subtree is added to those that wait, as a 1 to a binary number: with a carry.
+-- A subtree is added to those that wait, as a 1 is added to a binary number: with a carry.
 use Rattle.std.proofs.Common.{◌≡◌, ℕ, get_or, set, subst, zero, suc, ◌+◌, ◌-◌, ◌*◌, ◌/◌, ◌%◌, ◌^◌, ◌<◌, ◌≤◌, inl, inr, List, [], ◌∷◌, ◌++◌, length, take, refl, sym, ap, ◌∙◌, arith}
 use Rattle.std.proofs.lemmas.Bool.{cases_lt}
 use Rattle.std.proofs.lemmas.List.{get_or-set_same, take-set, length-take-le, length_push, same_from_push, take_more, take_more_set}

@@ -1,4 +1,5 @@
--- Lists of words side by side: word number k of each of them is a lane of vector number k.
+-- Several lists of words side by side. Vector number k has word number k of each list, and lane j of a vector belongs
+-- to list j.
 use Rattle.std.specs.Prelude.{◌≡◌, ℕ, ◌*◌, List, drop, length, map, slice_index, take}
 use Rattle.std.specs.List.{All}
 use Rattle.keyed_blake3.specs.declared.compression.lanes.TheConstants.{LANES}

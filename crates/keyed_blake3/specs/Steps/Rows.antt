@@ -8,7 +8,7 @@ use Rattle.keyed_blake3.specs.declared.compression.rows.Quads.{Quads}
 abbrev pub state_of : Rows → List ℕ
 state_of v = v.a ++ v.b ++ v.c ++ v.d
 
--- words 0, 1, .. of a message, of which x has the even ones and y the odd ones
+-- the words 0, 1, .. of a message; x has the even ones and y the odd ones
 abbrev pub zipped : List ℕ → List ℕ → List ℕ
 zipped x y = slice_index x 0 ∷ slice_index y 0 ∷ slice_index x 1 ∷ slice_index y 1
     ∷ slice_index x 2 ∷ slice_index y 2 ∷ slice_index x 3 ∷ slice_index y 3 ∷ []

@@ -1,4 +1,4 @@
--- Where a reading of an input stands, which private contracts and proofs speak of.
+-- How far a reading of an input has come. Only private contracts and proofs use it.
 use Rattle.std.specs.Prelude.{◌≡◌, ◌↔◌, ℕ, ◌+◌, ◌<◌, ◌≤◌, IsTrue, List, ◌++◌, length}
 use Rattle.std.specs.List.{concat}
 use Rattle.line_io.specs.declared.fault.InputFault.{InputFault}
@@ -8,7 +8,7 @@ use Rattle.line_io.specs.declared.fault.Refusal.TheVariants.{Faulty, Memory as o
 use Rattle.line_io.specs.declared.reading.Reading.{Reading}
 use Rattle.line_io.specs.Lines.{NoNewline, lines_of, byte_limit}
 
--- the lines that some bytes begin with, which are whole, and the open line of this number after them
+-- some bytes begin with whole lines, followed by the open line of this number
 pub record StandsAt (text : List ℕ) (before : List (List ℕ)) (number : ℕ) (line : List ℕ) : Type 0 where
   pub lines : (rest : List ℕ) → lines_of (text ++ rest) ≡ before ++ lines_of (line ++ rest)
   pub bytes : length text ≡ length (concat before) + length line
@@ -26,7 +26,7 @@ pub record IsTaken {L F : Type 0} (has_taken : L → List (List ℕ) → List �
   pub count_is : reading.count ≡ length text
   pub within : length text ≤ byte_limit
 
--- the fault where the line of a number is refused
+-- the fault if the line of a number is refused
 abbrev pub fault_at : {F : Type 0} → ℕ → Refusal F → InputFault F
 fault_at number (Faulty fault) = Line number fault
 fault_at number out_of_memory = Memory

@@ -1,4 +1,4 @@
-//! Devices under lines of pairs: neither the answer nor the line that a fault names depends on how the bytes come.
+//! Devices under lines of pairs. Neither the answer nor the line number of a fault depends on how the bytes come.
 
 use super::{
     ALL_SLOW, Call, DONE, End, Manner, Place, is_borne, is_fault, manners_with, outcome_of,
@@ -17,7 +17,7 @@ const RANGE: &str =
     r#"{"at_end":false,"at_start":false,"levels":[[3,0]],"nodes":[{"hash":"h1","size":100},{"hash":"h2","size":200},{"hash":"h3","size":300}]}
 "#;
 
-// What a call writes for the three pairs.
+// Returns what a call writes for the three pairs.
 fn answer(call: Call) -> &'static str {
     match call {
         Call::Run | Call::RunOverPlainRanges => THREE_PAIRS,
@@ -34,7 +34,8 @@ const FAILED_READ: End = End {
     line: None,
 };
 
-// A device for one byte a call, of which the call of one number, from 1, goes wrong so often before it is done.
+// Returns a device that transfers one byte a call. The call number `odd_call`, from 1, goes wrong `odd_times` times
+// before it succeeds.
 fn bytewise(odd_call: usize, odd_times: usize, odd_kind: ErrorKind) -> Manner {
     Manner {
         most: 1,
@@ -87,7 +88,7 @@ fn three_pairs_are_answered_though_any_call_of_a_device_is_interrupted(
     Ok(())
 }
 
-// The status of a fault and the line that it names, the lines up to the faulty one, and the lines after it.
+// Each row has the status of a fault and its line number, the lines up to the faulty one, and the lines after it.
 const FAULTY: &str = "1|1|zz;|h1 100;
 1|2|h1 100;zz;|h2 200;h3 300;
 1|4|h1 100;h2 200;h3 300;;|h1 100;

@@ -1,4 +1,4 @@
-//! Nodes appended to what is kept of a range, one after another.
+//! Appends nodes one after another to what is kept of a range.
 
 use rand_core::SeedableRng;
 use rand_xoshiro::Xoshiro256PlusPlus;

@@ -1,4 +1,4 @@
-//! The stable points of drawn lists, where other drawn nodes stand before or after the list.
+//! The stable points of random lists, with other random nodes before or after the list.
 
 use rand_core::{Rng, SeedableRng};
 use rand_xoshiro::Xoshiro256PlusPlus;
@@ -8,8 +8,8 @@ use test_support::drawn_list;
 use xet_merkle::aggregated_hashes::Node;
 use xet_merkle::merkle_hash_subtree::{find_stable_end, find_stable_start};
 
-// Whether one of the groups of two lists in a row ends after so many nodes. A group ends at its ninth node,
-// or before that at the first natural cut from the third node on.
+// Returns whether one of the groups of two consecutive lists ends at this place. A group ends at the first natural cut
+// from its third node on, or at its ninth node.
 fn has_group_end(first: &[Node], second: &[Node], place: usize) -> bool {
     let mut passed = 0usize;
     let mut len = 0usize;
@@ -26,7 +26,7 @@ fn has_group_end(first: &[Node], second: &[Node], place: usize) -> bool {
     false
 }
 
-// 20 drawn lists of each length from 1 to 20.
+// Returns 20 random lists of each length from 1 to 20.
 fn drawn_lists(
     generator: &mut Xoshiro256PlusPlus,
     alloc: Global,
@@ -40,7 +40,7 @@ fn drawn_lists(
     Ok(lists)
 }
 
-// Whether the first stable point of some nodes stays a group's end after each of some lists, and the last
+// Returns whether a group still ends at the first stable point of some nodes after each of some lists, and at the last
 // one before each.
 fn stay_group_ends(nodes: &[Node], start: usize, end: usize, others: &[Vec<Node>]) -> bool {
     others.iter().all(|other| {
@@ -49,7 +49,7 @@ fn stay_group_ends(nodes: &[Node], start: usize, end: usize, others: &[Vec<Node>
     })
 }
 
-// How many of the 1000 lists have a stable point is a value from outside.
+// How many of the 1000 lists have a stable point was computed without this code.
 #[test]
 fn stable_points_end_groups_among_drawn_nodes(rt: HostRuntime) -> Result<(), Fail> {
     let mut generator = Xoshiro256PlusPlus::seed_from_u64(1);

@@ -17,8 +17,8 @@ use xet_merkle::aggregated_hashes::Node;
 use xet_merkle::merkle_hash_subtree::{MerkleHashSubtree, ParentMaker};
 use xet_merkle::parent_maker::ParentHashes;
 
-// Each row has the numbers of the reference chunks of two ranges, how many parents their merge hashes, the root, and how
-// many left and right nodes each level then has.
+// Each row has the numbers of the reference chunks of two ranges, how many parents their merge hashes, the root, and
+// the numbers of left and right nodes that each level then has.
 const MERGES: &str =
     "0,1,0 1 3 e1755c85be07fd6b7a8d7becc85e6d8c5f507f2a3d38b316bcb6f97855e72188 0,0 0,0 1,0
 1 1,1,1 1 89f2ada89ff8c96763c6b25010e6dd76a4c05b1466207633ea559acf2093211b 0,0 1,0
@@ -43,7 +43,7 @@ fn short_ranges_hash_each_level(rt: HostRuntime) -> Result<(), Fail> {
     Ok(())
 }
 
-// Names the hash of a group by its length.
+// Gives a group a hash that depends only on its length.
 #[derive(Drop)]
 struct LengthHashes {
     made: u128,
@@ -79,8 +79,8 @@ fn parents_have_the_hashes_of_their_maker(rt: HostRuntime) -> Result<(), Fail> {
     Ok(())
 }
 
-// Merges a range into the one before it. False where that hashes more parents than half of the nodes of both and one for
-// each level of the result but the top.
+// Merges a range into the one before it. Returns false if that hashes more parents than half of the nodes of both, plus
+// one for each level of the result but the top.
 fn merge_within_bound(
     front: &mut MerkleHashSubtree,
     back: &MerkleHashSubtree,
@@ -92,7 +92,7 @@ fn merge_within_bound(
     Ok(count.saturating_mul(2) <= most as u128)
 }
 
-// Whether an open subtree of so many chunks has no more nodes than these, and few levels.
+// Returns whether an open subtree of this many chunks has no more nodes than chunks, and few levels.
 fn is_small(subtree: &MerkleHashSubtree, chunks: u64) -> bool {
     let mut most = 1u64;
     for _ in 2..subtree.num_levels() {
@@ -126,7 +126,7 @@ fn ranges_stay_within_the_bounds_after_each_merge(rt: HostRuntime) -> Result<(),
         let nodes = drawn_list(&mut generator, alloc, count)?;
         let mut merged = MerkleHashSubtree::from_chunks(alloc, false, &[], false)?;
         let mut rest = nodes.as_slice();
-        // Of 10 nodes or more each, these are more than all.
+        // With at least 10 nodes each, these are more than all nodes.
         for _ in 0..200 {
             let len = (generator.next_u64() % 40 + 10) as usize;
             let (range, after) = rest.split_at(len.min(rest.len()));
@@ -141,7 +141,7 @@ fn ranges_stay_within_the_bounds_after_each_merge(rt: HostRuntime) -> Result<(),
     Ok(())
 }
 
-// The nodes of a side and how many there are, as a subtree's JSON text has them.
+// Appends the nodes of a side to a text, in the form of a subtree's JSON text.
 fn write_nodes(text: &mut String, nodes: &[Node]) -> Result<(), AllocError> {
     for (hash, size) in nodes {
         if text.as_str().ends_with('}') {
@@ -152,7 +152,8 @@ fn write_nodes(text: &mut String, nodes: &[Node]) -> Result<(), AllocError> {
     Ok(())
 }
 
-// A subtree of up to four levels whose sides are those of other lists, marked at its start or at its end.
+// Returns a subtree of up to four levels whose sides come from different lists. It is marked at its start or at its
+// end.
 fn of_no_list(
     generator: &mut Xoshiro256PlusPlus,
     alloc: Global,

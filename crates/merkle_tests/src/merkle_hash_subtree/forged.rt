@@ -1,5 +1,4 @@
-//! Merging subtrees that were read back and came from no list. What the merged ones print as was computed without
-//! this code.
+//! Merges subtrees that were read from JSON and come from no list. The expected texts were computed without this code.
 
 use std::test::Fail;
 use test_support::{has_counts, read_json};
@@ -21,7 +20,7 @@ fn subtrees_of_no_list_merge_from_their_nodes(rt: HostRuntime) -> Result<(), Fai
     Ok(())
 }
 
-// Nine nodes in two levels, which are marked at the end, and which no list has.
+// Nine nodes in two levels, marked at the end. No list has this subtree.
 const FORGED: &str =
     r#"{"at_end":true,"at_start":false,"levels":[[4,0],[5,0]],"nodes":[{"hash":"0000000000000000000000000000000000000000000000000000000000000000","size":1},{"hash":"0000000000000001000000000000000000000000000000000000000000000001","size":1},{"hash":"0000000000000002000000000000000000000000000000000000000000000001","size":1},{"hash":"0000000000000003000000000000000000000000000000000000000000000000","size":1},{"hash":"0000000000000004000000000000000000000000000000000000000000000001","size":1},{"hash":"0000000000000005000000000000000000000000000000000000000000000001","size":1},{"hash":"0000000000000006000000000000000000000000000000000000000000000001","size":1},{"hash":"0000000000000007000000000000000000000000000000000000000000000001","size":1},{"hash":"0000000000000008000000000000000000000000000000000000000000000001","size":1}]}"#;
 
@@ -33,7 +32,7 @@ fn a_subtree_of_no_list_is_closed_within_the_bound(rt: HostRuntime) -> Result<()
     let count = begun.merge_into_counted(&forged)?;
     let value = begun.to_json(alloc)?;
     assert!(rt; MerkleHashSubtree::from_json(alloc, &value)? == begun);
-    // Twice the count is at most the nine nodes and twice the three levels.
+    // Twice the count is at most the nine nodes plus twice the three levels.
     assert!(rt; count == 2);
     assert!(rt; has_counts(&begun, &[(0, 0), (0, 0), (1, 0)]));
     let root = "84bfec9db0352b08ae1df914f0e58a707deb858e107751964f57889bfc82f41d";
@@ -44,7 +43,7 @@ fn a_subtree_of_no_list_is_closed_within_the_bound(rt: HostRuntime) -> Result<()
     Ok(())
 }
 
-// For each merge the texts of a front and of a back subtree, and the one of their merged subtree.
+// For each merge the texts of a front and a back subtree, and the text of the merged one.
 const TEXTS: &str =
     r#"{"at_end":false,"at_start":true,"levels":[[0,7],[5,0]],"nodes":[{"hash":"09bc3643e1c12409df9d7754bb241031d7e555d24f75c805a59ae4d73d5d4412","size":3000817672},{"hash":"bfc82cbb0c65d972e9ecff2f6f9b74a115a12a8aaafe3de2348c7780ffb8e18a","size":100},{"hash":"25d85249dde00cfc146153dd8c8a070a4c63ab8ea15fbd92ccd1ab4d3032b087","size":65536},{"hash":"9003c89b1516340b01cdd795e8bf21e2b558ccf2ebbe65909f23a12f0ce976f6","size":65536},{"hash":"149af0498e6440161bbffc4b4e72ef8bb18dd2ae7184c26ad6495fe90ad313a3","size":9},{"hash":"e91af324cd3aeab2287cc99424554cfa292bba01876b08e6174db5130153be41","size":10},{"hash":"d53b67b240633450f48546cdd28773e14260c74fe3b7b5172f708bfdad4b7d59","size":0},{"hash":"bddecc8e5b70eb2e1e1b3a91a197023f294b9baaf4d433a54649827246206347","size":100},{"hash":"1557c13fb5ce43f82107fcab9c844c1db201be2accd630f1f67dbde4ec73c509","size":65536},{"hash":"7d8a6d43a41acb148aa9e30d4c7cbf23fe09633ff7e3a96eaa9c56986f9d8e3b","size":10},{"hash":"180146f5d4bc4c36f95ec6a35bfbfc1343e504a3e30d19fff20554032f15fd5a","size":100},{"hash":"b4519842b87d50de0d03f6e252f353c2b2226bc09c181a994d07cee700447e44","size":65536}]}
 {"at_end":true,"at_start":false,"levels":[[0,0]],"nodes":[]}

@@ -1,4 +1,4 @@
-//! The JSON form of subtrees: its text, what is read back, and the least broken rule of what isn't a subtree's.
+//! The JSON form of subtrees: its text, reading it, and the lowest rule that other values break.
 
 use rand_core::SeedableRng;
 use rand_xoshiro::Xoshiro256PlusPlus;
@@ -72,7 +72,7 @@ fn a_subtree_read_back_is_merged_on(rt: HostRuntime) -> Result<(), Fail> {
 const FIRST: &str =
     "{\"hash\":\"CFC5D07F6F03C29BBF424132963FE08D19A37D5757AAF520BF08119F05CD56D6\",\"size\":100,\"more\":[]}";
 
-// Whether a text is refused by the rule of a number.
+// Returns whether reading a text fails with the rule of this number.
 fn breaks_rule(alloc: Global, rule: &str, text: &str) -> Result<bool, Fail> {
     let refusal = CoreError::InvalidJson(rule.parse()?);
     Ok(read_json(alloc, text)?.err() == Some(refusal))
@@ -90,7 +90,7 @@ fn the_least_broken_rule_is_told(rt: HostRuntime) -> Result<(), Fail> {
     Ok(())
 }
 
-// Each row has the least rule that a text breaks, and the text.
+// Each row has the lowest rule that a text breaks, and the text.
 const BROKEN: &str =
     r#"3 {"at_start":true,"at_end":true,"levels":[[1,0]],"nodes":[{"hash":"00","size":1}]}
 3 {"at_start":true,"at_end":true,"levels":[[1,0]],"nodes":[{"hash":"0000000000000000000000000000000000000000000000000000000000000000","size":-1}]}
@@ -127,7 +127,7 @@ fn empty_sides_and_further_members_are_read(rt: HostRuntime) -> Result<(), Fail>
     let subtree = read_json(rt.alloc(), text.as_str())??;
     assert!(rt; subtree.num_levels() == 3);
     assert!(rt; subtree.final_hash() == Some(DataHash::random_from_seed(1)));
-    // The last of two equal members counts.
+    // If a member occurs twice, the last one counts.
     let text = format!(in rt.alloc();
         "{{\"at_start\":0,\"at_end\":true,\"levels\":[[0,0]],\"nodes\":[],\"at_start\":true}}"
     )?;
@@ -147,7 +147,7 @@ fn proper_fronts_of_a_text_are_no_json(rt: HostRuntime) -> Result<(), Fail> {
     Ok(())
 }
 
-// Each row has the rule that a text breaks where it lacks a member, and the member.
+// Each row has the rule that a text breaks without a member, and the member.
 const MEMBERS: &str = r#"2 "at_end":false,
 2 "at_start":true,
 2 "levels":[[1,0]],
@@ -174,7 +174,7 @@ fn a_further_member_of_each_object_is_let_be(rt: HostRuntime) -> Result<(), Fail
     Ok(())
 }
 
-// Whether a text is refused, as no JSON or as no subtree.
+// Returns whether a text can't be read, because it isn't JSON or describes no subtree.
 fn is_refused(alloc: Global, text: &str) -> bool {
     match Value::from_str(alloc, text) {
         Ok(value) => MerkleHashSubtree::from_json(alloc, &value).is_err(),

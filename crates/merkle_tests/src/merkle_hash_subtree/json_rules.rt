@@ -1,5 +1,5 @@
-//! The JSON values of 300 drawn subtrees, changed at drawn places, beside the least rule that each of them breaks,
-//! which was computed without this code.
+//! The JSON values of 300 random subtrees, changed at random places, and the lowest rule that each of them breaks. The
+//! rules were computed without this code.
 
 use rand_core::{Rng, SeedableRng};
 use rand_xoshiro::Xoshiro256PlusPlus;
@@ -12,7 +12,7 @@ use xet_merkle::CoreError;
 use xet_merkle::aggregated_hashes::Node;
 use xet_merkle::merkle_hash_subtree::MerkleHashSubtree;
 
-// What a text may get in the place of something that it has. The first four change nothing that it says.
+// Replacements in a text. The first four don't change what it says.
 const SPELLINGS: [(&str, &str); 15] = [
     ("c", "C"),
     ("\"hash\"", "\"h\\u0061sh\""),
@@ -40,7 +40,7 @@ struct Parts {
     nodes: Vec<Node>,
 }
 
-// A drawn place in a list of some length.
+// Returns a random place in a list of this length.
 fn place(generator: &mut Xoshiro256PlusPlus, len: usize) -> usize {
     (generator.next_u64() % len.max(1) as u64) as usize
 }
@@ -64,7 +64,7 @@ impl Parts {
         })
     }
 
-    // One more left node of a level: the node of a place, once more.
+    // Adds one more left node to a level: a copy of the node at a place.
     fn add_node(&mut self, level: usize, place: usize) -> Result<(), AllocError> {
         if let Some(count) = self.counts.get_mut(level)
             && let Some(node) = self.nodes.get(place)
@@ -76,7 +76,7 @@ impl Parts {
         Ok(())
     }
 
-    // One left node of a level less: that of a place goes.
+    // Removes the node at a place from the left nodes of a level.
     fn remove_node(&mut self, level: usize, place: usize) {
         if let Some(count) = self.counts.get_mut(level)
             && count.0 > 0
@@ -87,7 +87,7 @@ impl Parts {
         }
     }
 
-    // The last left node of a level becomes one on the right.
+    // Makes the last left node of a level a right one.
     fn move_node(&mut self, level: usize) {
         if let Some(count) = self.counts.get_mut(level)
             && count.0 > 0
@@ -96,7 +96,7 @@ impl Parts {
         }
     }
 
-    // Changes something at a drawn place.
+    // Changes something at a random place.
     fn change(&mut self, generator: &mut Xoshiro256PlusPlus) -> Result<(), AllocError> {
         let level = place(generator, self.counts.len());
         let place = place(generator, self.nodes.len());
@@ -150,7 +150,7 @@ impl Parts {
     }
 }
 
-// The text of a number, and how it would be printed.
+// Returns the text of a number, and how it should print.
 fn drawn_texts(alloc: Global, number: u64) -> Result<(String, String), Fail> {
     let mut generator = Xoshiro256PlusPlus::seed_from_u64(number.saturating_add(2000));
     let (at_start, at_end) = MARKS[(generator.next_u64() % 4) as usize];
@@ -168,7 +168,7 @@ fn drawn_texts(alloc: Global, number: u64) -> Result<(String, String), Fail> {
     Ok((text, printed))
 }
 
-// The least rule that a text breaks, or 0 where it is read as the subtree that is printed as told.
+// Returns the lowest rule that a text breaks, or 0 if reading it gives the subtree that prints as given.
 fn broken_rule(alloc: Global, text: &str, printed: &str) -> Result<Option<u8>, Fail> {
     match MerkleHashSubtree::from_json(alloc, &Value::from_str(alloc, text)?) {
         Ok(subtree) if subtree.to_json(alloc)?.to_string(alloc)?.as_str() == printed => Ok(Some(0)),
@@ -188,7 +188,7 @@ fn changed_values_break_the_rules_that_they_should(rt: HostRuntime) -> Result<()
     Ok(())
 }
 
-// The expected rules, from that of number 0 on; 0 where none is broken.
+// The expected rules, from number 0 on. 0 means that no rule is broken.
 const RULES: &str = "0 6 2 2 0 5 5 3 6 4 2 4 3 3 6 0 11 6 0 0 3 2 4 3 8
 0 4 0 3 8 8 0 3 6 3 0 3 4 0 2 2 5 8 4 6 0 3 6 3 2
 0 0 0 0 3 0 3 0 0 2 2 0 3 0 9 0 3 0 8 9 0 0 0 0 8

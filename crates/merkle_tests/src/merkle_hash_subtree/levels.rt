@@ -1,5 +1,5 @@
-//! The canonical subtrees of 300 drawn lists, beside values that were computed apart from this code, by the
-//! definition, from the whole list at every level.
+//! The canonical subtrees of 300 random lists. The expected values were computed without this code, from the whole list
+//! at every level, as the definition says.
 
 use std::test::Fail;
 use test_support::{MARKS, numbered_list, summary};
@@ -19,7 +19,7 @@ fn levels_are_those_of_whole_lists(rt: HostRuntime) -> Result<(), Fail> {
     Ok(())
 }
 
-// The expected summaries, a line each, from that of list 0 on.
+// The expected summaries, one per line, from list 0 on.
 const SUMMARIES: &str = "3,0 5cba4c834b07d4db
 0,7 4,0 062a2056bb541690
 10,0 12,0 6f44b7fbb499ee40

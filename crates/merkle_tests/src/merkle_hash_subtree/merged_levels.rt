@@ -1,5 +1,5 @@
-//! The subtrees of 300 drawn lists, merged from drawn ranges two by two in drawn orders, beside values that
-//! were computed apart from this code, by the definition, from the whole list at every level.
+//! The subtrees of 300 random lists, merged from random ranges two by two in random order. The expected values were
+//! computed without this code, from the whole list at every level, as the definition says.
 
 use rand_core::{Rng, SeedableRng};
 use rand_xoshiro::Xoshiro256PlusPlus;
@@ -9,7 +9,7 @@ use test_support::{MARKS, drawn_lengths, merge_into_previous, numbered_list, ran
 use xet_merkle::CoreError;
 use xet_merkle::merkle_hash_subtree::MerkleHashSubtree;
 
-// Merges two ranges that stand side by side, at a drawn place, until one range is left.
+// Merges two neighbouring ranges at a random place until one range is left.
 fn merge_at_drawn_places(
     generator: &mut Xoshiro256PlusPlus,
     ranges: &mut Vec<MerkleHashSubtree>,
@@ -21,7 +21,7 @@ fn merge_at_drawn_places(
     Ok(())
 }
 
-// The outer marks and the summary of the subtree that the ranges of a number are merged to.
+// Returns the outer marks and the summary of the subtree that the ranges of a number are merged to.
 fn merged_summary(alloc: Global, number: u64) -> Result<String, Fail> {
     let chunks = numbered_list(alloc, number.saturating_add(300))?;
     let mut generator = Xoshiro256PlusPlus::seed_from_u64(number.saturating_add(1000));
@@ -45,7 +45,7 @@ fn merged_levels_are_those_of_whole_lists(rt: HostRuntime) -> Result<(), Fail> {
     Ok(())
 }
 
-// The expected summaries, a line each, from that of number 0 on.
+// The expected summaries, one per line, from number 0 on.
 const SUMMARIES: &str = "true,false 1,0 9a0855200596bd71
 true,true 0,0 0,0 1,0 67a587c519978ddb
 false,true 10,0 17,0 e44ed1c87ac9dc6e

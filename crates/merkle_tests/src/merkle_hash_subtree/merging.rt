@@ -1,5 +1,4 @@
-//! Merging the subtrees of adjacent ranges: bracketings, refusals, and the roots of lists that are split
-//! at many places.
+//! Merges the subtrees of adjacent ranges: bracketings, errors, and the roots of lists that are split at many places.
 
 use rand_core::{Rng, SeedableRng};
 use rand_xoshiro::Xoshiro256PlusPlus;
@@ -14,7 +13,7 @@ use xet_merkle::CoreError;
 use xet_merkle::aggregated_hashes::{Node, xorb_hash};
 use xet_merkle::merkle_hash_subtree::{MerkleHashSubtree, find_stable_end, find_stable_start};
 
-// Whether the merged ranges of a list have the root of the whole.
+// Returns whether the merged ranges of a list have the root of the whole.
 fn merge_to_root(alloc: Global, nodes: &[Node], lengths: &[usize]) -> Result<bool, CoreError> {
     let ranges = ranges(alloc, nodes, lengths, (true, true))?;
     let merged = MerkleHashSubtree::merge(alloc, ranges.as_slice())?;
@@ -81,7 +80,7 @@ fn one_range_is_copied_whatever_its_marks(rt: HostRuntime) -> Result<(), Fail> {
     Ok(())
 }
 
-// What a merge of two ranges is refused with, where their sizes don't fit together.
+// Returns the error of merging two ranges that don't fit together.
 fn refusal(front_at_end: bool, back_at_start: bool, overflows: bool) -> Option<CoreError> {
     if front_at_end || back_at_start {
         Some(CoreError::InvalidArguments)
@@ -92,7 +91,7 @@ fn refusal(front_at_end: bool, back_at_start: bool, overflows: bool) -> Option<C
     }
 }
 
-// A range without nodes, or of one node with the largest size.
+// Returns a range without nodes, or of one node with the largest size.
 fn largest(
     alloc: Global,
     (at_start, at_end): (bool, bool),
@@ -103,7 +102,8 @@ fn largest(
     MerkleHashSubtree::from_chunks(alloc, at_start, nodes, at_end)
 }
 
-// What the merge of two ranges is refused with, by either call. The range that takes in the other stays the same then.
+// Returns the errors of merging two ranges by either call. The range that the other is merged into must then be
+// unchanged.
 fn refusals(
     alloc: Global,
     front: MerkleHashSubtree,
@@ -118,7 +118,7 @@ fn refusals(
     Ok([refusal, answer.err()])
 }
 
-// Whether two ranges with these marks are refused as they should be, be they empty or too large together.
+// Returns whether two ranges with these marks give the right error, even if they are empty or too large together.
 fn marks_count_first(
     alloc: Global,
     front_marks: (bool, bool),
@@ -171,7 +171,7 @@ fn all_marks_are_looked_at_before_all_sizes(rt: HostRuntime) -> Result<(), Fail>
     Ok(())
 }
 
-// What the merge of two nodes of these sizes is refused with. Where it isn't, the merged ones have the root of both.
+// Returns the error of merging two nodes of these sizes. If there is none, the merged ones must have the root of both.
 fn refusal_of_sizes(alloc: Global, size: u64, next: u64) -> Result<Option<CoreError>, Fail> {
     let hash = DataHash::random_from_seed(3);
     let front = MerkleHashSubtree::from_chunks(alloc, true, &[(hash, size)], false)?;

@@ -1,4 +1,4 @@
-//! Lists of bad shapes: without a natural cut, of natural cuts alone, and of sizes that only just fit.
+//! Lists of bad shapes: without natural cuts, of only natural cuts, and with sizes that only just fit.
 
 ghost use Rattle.std.specs.Prelude.{◌≡◌, [], ◌∷◌, length};
 
@@ -11,17 +11,17 @@ use xet_merkle::aggregated_hashes::{Node, xorb_hash};
 use xet_merkle::merkle_hash_subtree::{MerkleHashSubtree, find_stable_end, find_stable_start};
 use xet_merkle::parent_maker::ParentMaker;
 
-// A thousand nodes without a natural cut.
+// Returns a thousand nodes without a natural cut.
 fn no_cuts() -> [Node; 1000] {
     with_cuts(&[])
 }
 
-// Ten natural cuts.
+// Returns ten natural cuts.
 fn cuts_alone() -> [Node; 10] {
     with_cuts(&[0, 1, 2, 3, 4, 5, 6, 7, 8, 9])
 }
 
-// Names the hash of a group by its length, and keeps the lengths of the first groups.
+// Gives a group a hash that depends only on its length, and keeps the lengths of the first groups.
 #[derive(Drop)]
 struct GroupLengths {
     made: u128,
@@ -46,7 +46,7 @@ impl ParentMaker for GroupLengths {
     }
 }
 
-// The lengths of the groups, level by level, of the parents that closing a list hashes.
+// Returns the lengths of the groups whose parents are hashed when a list is closed, level by level.
 fn group_lengths(alloc: Global, nodes: &[Node]) -> Result<GroupLengths, CoreError> {
     let mut begun = MerkleHashSubtree::from_chunks(alloc, true, nodes, false)?;
     let end = MerkleHashSubtree::from_chunks(alloc, false, &[], true)?;
@@ -69,7 +69,7 @@ fn a_list_without_cuts_is_one_level_until_it_is_closed(rt: HostRuntime) -> Resul
     assert!(rt; begun.merge_into_counted(&rest)? == 0);
     assert!(rt; has_counts(&begun, &[(1000, 0)]));
     let GroupLengths { made, lengths } = group_lengths(alloc, &nodes)?;
-    // Of 1000 nodes, of the 112 parents, of their 13 and of their 2.
+    // The groups of the 1000 nodes, of the 112 parents, of their 13 and of their 2.
     assert!(rt; made == 128);
     let (nines, others) = lengths.split_at(111);
     assert!(rt; nines == [9; 111].as_slice());
@@ -88,7 +88,7 @@ fn a_list_of_cuts_alone_has_groups_of_three(rt: HostRuntime) -> Result<(), Fail>
     assert!(rt; find_stable_start(&nodes).is_none());
     assert!(rt; find_stable_end(&nodes).is_none());
     let GroupLengths { made, lengths } = group_lengths(alloc, &nodes)?;
-    // Of the 10 nodes, and of their 4 parents, which are no natural cuts.
+    // The groups of the 10 nodes, and of their 4 parents, which are no natural cuts.
     assert!(rt; made == 5);
     assert!(rt; lengths.starts_with(&[3, 3, 3, 1, 4]));
     let root = "267290865ec50d15a40c85a0a3a576930d9997fcc5ecfb744ba1ed6d300aeeeb";
@@ -96,7 +96,7 @@ fn a_list_of_cuts_alone_has_groups_of_three(rt: HostRuntime) -> Result<(), Fail>
     Ok(())
 }
 
-// The final hash of a list of which the first nodes, so many, and the others are merged.
+// Returns the final hash of a list after merging its first `len` nodes with the others.
 fn final_hash(alloc: Global, nodes: &[Node], len: usize) -> Result<Option<MerkleHash>, CoreError> {
     let (first, second) = nodes.split_at(len.min(nodes.len()));
     let mut merged = MerkleHashSubtree::from_chunks(alloc, true, first, false)?;

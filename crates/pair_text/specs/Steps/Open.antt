@@ -1,4 +1,4 @@
--- What is kept of the line that is being read, and what has taken the lines before it. Private contracts and proofs speak of it.
+-- What is kept of the line that is being read, and of the lines before it. Only private contracts and proofs use it.
 use Rattle.std.specs.Prelude.{◌≡◌, ◌≢◌, ◌^◌, ◌<◌, ◌≤◌, ◌⊎◌, List, [], ◌∷◌, ◌++◌, ℕ, length, codes}
 use Rattle.xet_hash.specs.Blake3Hasher.{Holds}
 use Rattle.xet_hash.specs.Hash.{data_key}
@@ -17,7 +17,7 @@ abbrev pub IsOpenLine : OpenLine → List ℕ → Type 0
 IsOpenLine (Text text) line = (text.items ≡ line) × NoPlus line
 IsOpenLine (Chunk hasher) line = (bytes : List ℕ) × (line ≡ codes "+" ++ bytes) × Holds data_key hasher bytes
 
--- a line of more bytes than any line that isn't bad, without a chunk or with one
+-- a line has more bytes than any line that isn't bad, without a chunk or with one
 abbrev pub IsOverlong : List ℕ → Type 0
 IsOverlong line = (NoPlus line × (85 < length line)) ⊎ (2 ^ 64 ≤ length line)
 

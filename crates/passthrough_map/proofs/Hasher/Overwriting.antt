@@ -1,4 +1,4 @@
--- Low bytes overwritten: by a slice of at most eight bytes, and by all eight.
+-- Overwriting the low bytes of a number, by at most eight bytes and by all eight.
 use Rattle.std.proofs.Common.{◌≡◌, ◌<◌, ◌≤◌, ◌^◌, ℕ, List, [], ◌++◌, length, take, drop, min, sym, inl, inr, arith}
 use Rattle.std.specs.Hash.{le_bytes, u64}
 use Rattle.std.specs.Int.{w64, to_le_bytes}

@@ -1,4 +1,4 @@
--- What a finite map has once a value was written at a key, or put there where there was none.
+-- What a finite map has after a value is written at a key, or put there as a new entry.
 use Rattle.std.proofs.Common.{◌≡◌, Bool, true, false, List, [], ◌∷◌, map, refl, sym, ap, subst, ◌∙◌}
 use Rattle.std.specs.Borrow.{MutBor}
 use Rattle.std.specs.Prelude.{unwrap_or, IfOk, Result, Ok, Err, Option, Some, None, IsSome, is_some, MatchOption, cond}

@@ -1,4 +1,5 @@
--- Pairs inserted in turn leave at each key the value of the last pair with that key, and store the key of the first one.
+-- Inserting pairs in turn leaves at each key the value of the last pair with that key, and stores the key of the first
+-- one.
 use Rattle.std.proofs.Common.{◌≡◌, ◌+◌, ◌<◌, ◌≤◌, ℕ, Bool, List, [], ◌∷◌, ◌++◌, get_or, length, take, sym, ap, subst, ◌∙◌}
 use Rattle.std.specs.Prelude.{Some, None, cond}
 use Rattle.std.specs.Cmp.{IsEquivalence}

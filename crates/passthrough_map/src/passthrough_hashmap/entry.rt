@@ -1,4 +1,5 @@
-//! The place of a key in a map, to be read, written or filled, after `std::collections::hash_map::Entry`.
+//! The entry of a key in a map, through which its value can be read, written or added, as in
+//! `std::collections::hash_map::Entry`.
 
 mod methods;
 
@@ -7,7 +8,7 @@ use crate::passthrough_hasher::U64HashExtractable;
 use std::alloc::Allocator;
 use std::hash::Hash;
 
-/// The place of a key in a map.
+/// The entry of a key in a map. It holds the borrowed map and the requested key.
 #[derive(Drop)]
 pub enum Entry<'a, Key: U64HashExtractable + Hash + Eq, Val, A: Allocator> {
     /// The map has a value at the key.
@@ -16,14 +17,14 @@ pub enum Entry<'a, Key: U64HashExtractable + Hash + Eq, Val, A: Allocator> {
     Vacant(VacantEntry<'a, Key, Val, A>),
 }
 
-/// The place of a key at which a map has a value.
+/// The entry of a key at which a map has a value.
 #[derive(Drop)]
 pub struct OccupiedEntry<'a, Key: U64HashExtractable + Hash + Eq, Val, A: Allocator> {
     pub(super) map: &'a mut PassThroughHashMap<Key, Val, A>,
     pub(super) key: Key,
 }
 
-/// The place of a key at which a map has no value.
+/// The entry of a key at which a map has no value.
 #[derive(Drop)]
 pub struct VacantEntry<'a, Key: U64HashExtractable + Hash + Eq, Val, A: Allocator> {
     pub(super) map: &'a mut PassThroughHashMap<Key, Val, A>,

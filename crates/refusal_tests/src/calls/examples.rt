@@ -14,7 +14,7 @@ use xet_merkle::aggregated_hashes::{Node, file_hash, xorb_hash};
 use xet_merkle::merkle_hash_subtree::MerkleHashSubtree;
 use xet_merkle::plain_range::PlainRange;
 
-/// Tries a worked example.
+/// Runs a worked example.
 pub fn attempt(
     call: Call,
     alloc: &Refusing,
@@ -41,7 +41,7 @@ const ROOT: &str = "71ec1275fca074724e2dd666921b3277c7cee603e4d025bcab2d4050015b
 
 const FILE: &str = "54e55dccc6653c612bdb5576c5d3cb34bb31bc4e100248abccf4c908b3ef7715";
 
-// Whether three pairs have their root and their file hash.
+// Returns whether three pairs have their root and their file hash.
 fn three_pairs(alloc: &Refusing) -> Result<bool, CoreError> {
     let pairs = [1, 2, 3].map(|seed| (DataHash::random_from_seed(seed), seed.saturating_mul(100)));
     let root = xorb_hash(alloc, &pairs)?;
@@ -49,8 +49,8 @@ fn three_pairs(alloc: &Refusing) -> Result<bool, CoreError> {
     Ok(DataHash::from_hex(ROOT).ok() == Some(root) && DataHash::from_hex(FILE).ok() == Some(file))
 }
 
-// Whether merging a range into the one before it gives the subtree of all their chunks and hashes so many parents. False,
-// too, where it is refused and the one before isn't as it was.
+// Returns whether merging a range into the one before it gives the subtree of all their chunks, and hashes `count`
+// parents. Also returns false if the merge fails and the range before is changed.
 fn merges_to<'a>(
     front: &mut MerkleHashSubtree<&'a Refusing>,
     back: &MerkleHashSubtree<&'a Refusing>,
@@ -65,7 +65,7 @@ fn merges_to<'a>(
     }
 }
 
-// Which of 28 nodes, each fourth of which is a natural cut, a range has, and its marks.
+// Which of 28 nodes a range has, and its marks. Every fourth node is a natural cut.
 #[derive(Clone, Copy)]
 struct Part {
     at_start: bool,
@@ -74,7 +74,7 @@ struct Part {
     at_end: bool,
 }
 
-// Some of the nodes, without marks.
+// Returns some of the nodes, without marks.
 fn open(first: usize, past: usize) -> Part {
     Part {
         at_start: false,
@@ -84,7 +84,7 @@ fn open(first: usize, past: usize) -> Part {
     }
 }
 
-// The subtree of some of the nodes.
+// Returns the subtree of some of the nodes.
 fn subtree(alloc: &Refusing, part: Part) -> Result<MerkleHashSubtree<&Refusing>, CoreError> {
     let nodes = with_cuts::<28>(&EACH_FOURTH);
     let chunks = nodes
@@ -94,7 +94,7 @@ fn subtree(alloc: &Refusing, part: Part) -> Result<MerkleHashSubtree<&Refusing>,
     MerkleHashSubtree::from_chunks(alloc, part.at_start, chunks, part.at_end)
 }
 
-// Whether the subtrees of two adjacent parts merge to that of both, and so many parents are hashed.
+// Returns whether the subtrees of two adjacent parts merge to the subtree of both, and hash `count` parents.
 fn merge(alloc: &Refusing, front: Part, back: Part, count: u128) -> Result<bool, CoreError> {
     let whole = Part {
         past: back.past,
@@ -105,12 +105,12 @@ fn merge(alloc: &Refusing, front: Part, back: Part, count: u128) -> Result<bool,
     merges_to(&mut front, &back, &subtree(alloc, whole)?, count)
 }
 
-// Whether the subtree of a part keeps so many nodes at each level.
+// Returns whether the subtree of a part keeps these counts of nodes at each level.
 fn keeps(alloc: &Refusing, part: Part, counts: &[(usize, usize)]) -> Result<bool, CoreError> {
     Ok(has_counts(&subtree(alloc, part)?, counts))
 }
 
-// Whether ranges of the first 24 nodes merge.
+// Returns whether ranges of the first 24 nodes merge.
 fn open_ranges(alloc: &Refusing) -> Result<bool, CoreError> {
     Ok(
         merge(alloc, open(0, 20), open(20, 24), 1)?
@@ -120,7 +120,7 @@ fn open_ranges(alloc: &Refusing) -> Result<bool, CoreError> {
     )
 }
 
-// Whether ranges of all 28 nodes merge, from the start to the end.
+// Returns whether ranges of all 28 nodes merge, from the start to the end.
 fn ranges_from_the_start(alloc: &Refusing) -> Result<bool, CoreError> {
     let first = Part {
         at_start: true,
@@ -149,20 +149,20 @@ fn ranges_from_the_start(alloc: &Refusing) -> Result<bool, CoreError> {
     )
 }
 
-// Whether the final hash of a part is the root of all nodes.
+// Returns whether the final hash of a part is the root of all nodes.
 fn has_root(alloc: &Refusing, part: Part) -> Result<bool, CoreError> {
     let root = xorb_hash(alloc, &with_cuts::<28>(&EACH_FOURTH))?;
     Ok(subtree(alloc, part)?.final_hash() == Some(root))
 }
 
-// The JSON value of two levels: some nodes, and above them those of the range of others.
+// Returns the JSON value of two levels: these nodes, and above them the upper level of the range `of`.
 fn stranger(memory: Global, left: &[Node], right: &[Node], of: &[Node]) -> Result<Value, Fail> {
     let range = MerkleHashSubtree::from_chunks(memory, false, of, false)?;
     two_levels(memory, left, right, range.left(1))
 }
 
-// The JSON values of three subtrees: a level's left nodes have a stable point; right ones have no natural cut; and all
-// is right.
+// Returns the JSON values of three subtrees. In the first, a level's left nodes have a stable point. In the second,
+// right nodes have no natural cut. The third is right.
 fn strangers(memory: Global) -> Result<[Value; 3], Fail> {
     let nodes = with_cuts::<28>(&EACH_FOURTH);
     let (first, last, right) = (&nodes[..8], &nodes[16..24], &nodes[20..24]);
@@ -176,7 +176,7 @@ fn strangers(memory: Global) -> Result<[Value; 3], Fail> {
     ])
 }
 
-// Whether a value is refused by a rule.
+// Returns whether a value breaks a rule.
 fn breaks(alloc: &Refusing, value: &Value, rule: u8) -> Result<bool, CoreError> {
     match MerkleHashSubtree::from_json(alloc, value) {
         Err(CoreError::OutOfMemory) => Err(CoreError::OutOfMemory),
@@ -184,7 +184,7 @@ fn breaks(alloc: &Refusing, value: &Value, rule: u8) -> Result<bool, CoreError> 
     }
 }
 
-// Whether the first of three values breaks rule 12, the second rule 13, and the third is read.
+// Returns whether the first of three values breaks rule 12, the second breaks rule 13, and the third is read.
 fn subtrees_from_strangers(alloc: &Refusing, values: &[Value; 3]) -> Result<bool, CoreError> {
     let [longer, plain, right] = values;
     Ok(
@@ -194,7 +194,8 @@ fn subtrees_from_strangers(alloc: &Refusing, values: &[Value; 3]) -> Result<bool
     )
 }
 
-// Whether the subtree of no pairs has no node and its text, and is refused a range that is marked at its start.
+// Returns whether the subtree of no pairs has no nodes and the right text, and can't be merged with a range that is
+// marked at its start.
 fn no_pairs(alloc: &Refusing, memory: Global) -> Result<bool, CoreError> {
     let closed = MerkleHashSubtree::from_chunks(alloc, true, &[], true)?;
     let text = closed.to_json(memory)?.to_string(memory)?;
@@ -206,7 +207,7 @@ fn no_pairs(alloc: &Refusing, memory: Global) -> Result<bool, CoreError> {
     )
 }
 
-// Whether the open subtree of no pairs is refused a range that is marked at its start, and stays as it is.
+// Returns whether the open subtree of no pairs is refused a range that is marked at its start, and stays as it is.
 fn is_refused_a_mark(alloc: &Refusing) -> Result<bool, CoreError> {
     let begun = subtree(
         alloc,
@@ -224,7 +225,7 @@ fn is_refused_a_mark(alloc: &Refusing) -> Result<bool, CoreError> {
     )
 }
 
-// Whether the subtree of one pair has its root as the final hash where both ends are marked, and else none.
+// Returns whether the subtree of one pair has its root as the final hash if both ends are marked, and none otherwise.
 fn one_pair(alloc: &Refusing) -> Result<bool, CoreError> {
     let hash = DataHash::random_from_seed(1);
     for (at_start, at_end) in MARKS {
@@ -236,7 +237,7 @@ fn one_pair(alloc: &Refusing) -> Result<bool, CoreError> {
     Ok(true)
 }
 
-// Whether a map keeps the last of two values of a key, and gives the first one back.
+// Returns whether a map keeps the last of two values of a key, and returns the first one.
 fn two_values_of_one_key(alloc: &Refusing) -> Result<bool, CoreError> {
     let key = DataHash::random_from_seed(1);
     let mut map = PassThroughHashMap::new(alloc);
@@ -245,7 +246,7 @@ fn two_values_of_one_key(alloc: &Refusing) -> Result<bool, CoreError> {
     Ok(none.is_none() && first == Some("value1") && map.get(&key) == Some(&"value2"))
 }
 
-// Whether each bracketing of four ranges gives the range of all their chunks.
+// Returns whether each bracketing of four ranges gives the range of all their chunks.
 fn bracketings<'a, R: Kind<Alloc = &'a Refusing>>(
     alloc: &'a Refusing,
     memory: Global,

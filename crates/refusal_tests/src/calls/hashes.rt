@@ -15,7 +15,7 @@ const HEX: &str = "d6834b04843aaf16f29903e2428a99be635099f9ea5056cc4e95e7ec8a415
 
 const BASE64: &str = "Fq86hARLg9a-mYpC4gOZ8sxWUOr5mVBjn1BBiuznlU4";
 
-// Whether a hash has the form that a call gives it.
+// Returns whether a hash has the form that a call returns.
 fn has_form(call: Call, alloc: &Refusing, hash: &DataHash) -> Result<bool, CoreError> {
     match call {
         Call::Hex => Ok(hash.hex(alloc)?.as_str() == HEX),

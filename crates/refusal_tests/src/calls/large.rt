@@ -1,5 +1,5 @@
-//! Calls on long lists, on long texts and on many ranges, with memory to spare: a call is out of memory for no other reason
-//! than a refused request. Each answer is compared with that of another call, or with what the values were made of.
+//! Calls on long lists, on long texts and on many ranges, with enough memory. A call may only be out of memory because
+//! of a refused request. Each result is compared with that of another call, or with what the values were made from.
 //!
 //! Lines, and lists that are hashed, are shorter than other values, so that these tests take seconds.
 
@@ -23,14 +23,14 @@ use xet_merkle::merge_tree::MergeTree;
 use xet_merkle::merkle_hash_subtree::MerkleHashSubtree;
 use xet_merkle::plain_range::PlainRange;
 
-// How many nodes, ranges, lines, numbers or bytes there are: a few more than 10^3, 10^4 and 10^5.
+// How many nodes, ranges, lines, numbers or bytes there are: slightly more than 10^3, 10^4 and 10^5.
 const MANY: usize = 1_001;
 
 const MORE: usize = 10_001;
 
 const MOST: usize = 100_001;
 
-// So many nodes that are no natural cuts.
+// Returns `count` nodes that are no natural cuts.
 fn uncut(alloc: Global, count: usize) -> Result<Vec<Node>, Fail> {
     let mut nodes = Vec::new(alloc);
     for number in 0..count as u64 {
@@ -39,7 +39,7 @@ fn uncut(alloc: Global, count: usize) -> Result<Vec<Node>, Fail> {
     Ok(nodes)
 }
 
-// So many nodes of which a quarter are natural cuts.
+// Returns `count` random nodes. A quarter are natural cuts.
 fn drawn(alloc: Global, count: usize) -> Result<Vec<Node>, Fail> {
     let mut generator = Xoshiro256PlusPlus::seed_from_u64(21);
     Ok(drawn_nodes(&mut generator, alloc, count, 1)?)
@@ -50,7 +50,7 @@ fn calls_on_long_lists_are_answered(rt: HostRuntime) -> Result<(), Fail> {
     for count in [MANY, MORE] {
         let nodes = uncut(rt.alloc(), count)?;
         for (number, (call, _)) in OF_CHUNKS.iter().enumerate() {
-            // The root of a range is asked for where both ends are marked.
+            // Only a range with both marks has a root.
             let is_marked = matches!(call, Call::RootOfPlain);
             let chunks = Chunks {
                 alloc: rt.alloc(),
@@ -84,7 +84,7 @@ fn the_longest_lists_are_answered(rt: HostRuntime) -> Result<(), Fail> {
     Ok(())
 }
 
-// Whether the range of some chunks is that of none with theirs after them.
+// Returns whether the range of some chunks equals an empty range with these chunks appended.
 fn is_made<'a, R: Kind<Alloc = &'a Refusing>>(
     alloc: &'a Refusing,
     nodes: &[Node],
@@ -122,7 +122,7 @@ const OF_MAPS: [Call; 8] = [
     Call::VacantInsertEntry,
 ];
 
-// Whether maps of so many numbers are made and copied.
+// Returns whether maps of `count` numbers are made and copied.
 fn are_maps_made(alloc: &Refusing, count: u64) -> Result<bool, Fail> {
     let room: Numbers<'_> = PassThroughHashMap::with_capacity(alloc, count as usize)?;
     let numbers = PassThroughHashMap::from_pairs(alloc, (0..count).zip(0..count))?;
@@ -145,7 +145,8 @@ fn maps_of_many_numbers_are_filled(rt: HostRuntime) -> Result<(), Fail> {
     Ok(())
 }
 
-// Whether a session takes chunks one by one, those at even positions first, and then those at odd ones; each hash is new.
+// Returns whether a session takes chunks one by one, first those at even positions, then those at odd ones. Each hash
+// is new.
 fn takes_one_by_one<'a, R: Kind<Alloc = &'a Refusing>>(
     alloc: &'a Refusing,
     nodes: &[Node],
@@ -161,7 +162,7 @@ fn takes_one_by_one<'a, R: Kind<Alloc = &'a Refusing>>(
     Ok(session.finish(nodes.len() as u64) == Ok(file_hash(alloc, nodes)?))
 }
 
-// Whether a session takes chunks, whose hashes are all new, by one put.
+// Returns whether a session takes chunks by one put. All their hashes are new.
 fn takes_at_once<'a, R: Kind<Alloc = &'a Refusing>>(
     alloc: &'a Refusing,
     nodes: &[Node],
@@ -175,7 +176,7 @@ fn takes_at_once<'a, R: Kind<Alloc = &'a Refusing>>(
     })
 }
 
-// Whether a tree of ranges of a chunk each, each merged with all before it, gives the range of all chunks.
+// Returns whether a tree of ranges of one chunk each gives the range of all chunks. Each is merged with all before it.
 fn is_run<'a, R: Kind<Alloc = &'a Refusing>>(
     alloc: &'a Refusing,
     memory: Global,
@@ -192,7 +193,7 @@ fn is_run<'a, R: Kind<Alloc = &'a Refusing>>(
     )
 }
 
-// Whether ranges of a chunk each are merged to that of all chunks.
+// Returns whether ranges of one chunk each are merged to that of all chunks.
 fn are_merged(alloc: &Refusing, memory: Global, nodes: &[Node]) -> Result<bool, Fail> {
     let mut ranges = Vec::new(memory);
     for node in nodes {
@@ -202,7 +203,7 @@ fn are_merged(alloc: &Refusing, memory: Global, nodes: &[Node]) -> Result<bool, 
     Ok(merged == MerkleHashSubtree::from_chunks(alloc, false, nodes, false)?)
 }
 
-// Whether calls that take ranges of a chunk each are answered for one kind of range.
+// Returns whether calls that take ranges of one chunk each succeed for one kind of range.
 fn are_ranges_taken<'a, R: Kind<Alloc = &'a Refusing>>(
     alloc: &'a Refusing,
     memory: Global,
@@ -236,7 +237,7 @@ fn a_session_takes_the_most_chunks_at_once(rt: HostRuntime) -> Result<(), Fail> 
     Ok(())
 }
 
-// Lines of pairs, or of ranges of a chunk each.
+// Returns lines of pairs, or of ranges of one chunk each.
 fn lines_of(memory: Global, nodes: &[Node], are_pairs: bool) -> Result<String, Fail> {
     let mut lines = String::new(memory);
     for node in nodes {
@@ -249,7 +250,7 @@ fn lines_of(memory: Global, nodes: &[Node], are_pairs: bool) -> Result<String, F
     Ok(lines)
 }
 
-// Lines of pairs by position: those at even positions first, and then those at odd ones.
+// Returns lines of pairs by position: first those at even positions, then those at odd ones.
 fn lines_by_position(memory: Global, nodes: &[Node]) -> Result<String, Fail> {
     let mut lines = String::new(memory);
     for odd in [0, 1] {
@@ -262,7 +263,7 @@ fn lines_by_position(memory: Global, nodes: &[Node]) -> Result<String, Fail> {
     Ok(lines)
 }
 
-// A line of so many letters after a first one.
+// Returns a line of `count` letters after a first one.
 fn long_line(memory: Global, first: char, count: usize) -> Result<String, Fail> {
     let mut line = String::new(memory);
     line.push(first)?;
@@ -273,7 +274,7 @@ fn long_line(memory: Global, first: char, count: usize) -> Result<String, Fail> 
     Ok(line)
 }
 
-// Whether a call answers lines as told.
+// Returns whether a call writes the right answer to lines.
 fn is_answered(memory: Global, call: &str, input: &String, answer: &String) -> Result<bool, Fail> {
     let mut output = Vec::new(memory);
     let status = status_of(

@@ -1,4 +1,4 @@
-//! The calls that answer lines. Where one is refused a request, it writes nothing. JSON values take their memory elsewhere.
+//! The calls that answer lines. If one is refused a request, it writes nothing. JSON values use another allocator.
 
 use super::{Outcome, Refusing, outcome_of};
 use std::alloc::Global;
@@ -14,8 +14,8 @@ use xetrange_text::join::{join, root};
 use xetrange_text::make::make;
 use xetroot_text::run::{run, run_with};
 
-/// Calls that answer lines, each with its lines where these are pairs and chunks; the commands of `xetrange` have those of 28
-/// nodes.
+/// Calls that answer lines. Each has its lines if these are pairs and chunks. The commands of `xetrange` use those of
+/// 28 nodes.
 pub const OF_LINES: &str = "run|h1 100;h2 200;--;h3 300;
 run|@2;h3 300;@0;h1 100;@1;h2 200;
 run|+abc
@@ -26,13 +26,13 @@ make|
 join|
 root|";
 
-/// The two lines of a list of nodes.
+/// Returns the two lines of a list of nodes.
 pub fn answer_to(memory: Global, nodes: &[Node]) -> Result<String, Fail> {
     let (root, file) = (xorb_hash(memory, nodes)?, file_hash(memory, nodes)?);
     Ok(format!(in memory; "xorb {root}\nfile {file}\n")?)
 }
 
-/// The line of the range of some nodes.
+/// Returns the line of the range of some nodes.
 pub fn range_of(memory: Global, nodes: &[Node]) -> Result<String, Fail> {
     let range = MerkleHashSubtree::from_chunks(memory, false, nodes, false)?;
     let mut line = range.to_json(memory)?.to_string(memory)?;
@@ -40,7 +40,7 @@ pub fn range_of(memory: Global, nodes: &[Node]) -> Result<String, Fail> {
     Ok(line)
 }
 
-// What a command of `xetrange` reads and what it should answer.
+// Returns what a command of `xetrange` reads, and what it should write.
 fn of_command(memory: Global, call: &str) -> Result<(String, String), Fail> {
     let nodes = with_cuts::<28>(&EACH_FOURTH);
     let mut twice = Vec::new(memory);
@@ -62,7 +62,7 @@ fn of_command(memory: Global, call: &str) -> Result<(String, String), Fail> {
     Ok((ranges, answer))
 }
 
-// What a call reads and what it should answer.
+// Returns what a call reads, and what it should write.
 fn input_and_answer(memory: Global, call: &str, lines: &str) -> Result<(String, String), Fail> {
     if !call.starts_with("run") {
         return of_command(memory, call);
@@ -74,7 +74,7 @@ fn input_and_answer(memory: Global, call: &str, lines: &str) -> Result<(String, 
     ))
 }
 
-/// The status of what a call comes to, or 0.
+/// Makes a call, and returns its status, or 0 if it succeeds.
 pub fn status_of(
     alloc: &Refusing,
     memory: Global,

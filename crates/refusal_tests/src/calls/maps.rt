@@ -21,7 +21,7 @@ pub const EIGHT: [(u64, u64); 8] = [
     (7, 7),
 ];
 
-/// Whether a map has the numbers up to a count, and no more.
+/// Returns whether a map has exactly the numbers below a count.
 pub fn has_numbers(map: &Numbers<'_>, count: u64) -> bool {
     for number in 0..count {
         if map.get(&number) != Some(&number) {
@@ -31,7 +31,7 @@ pub fn has_numbers(map: &Numbers<'_>, count: u64) -> bool {
     map.len() as u64 == count
 }
 
-// Whether a map that a call makes has its numbers.
+// Returns whether a map that a call makes has its numbers.
 fn is_made(call: Call, alloc: &Refusing, eight: &Numbers<'_>) -> Result<bool, CoreError> {
     match call {
         Call::MapWithCapacity => Ok(has_numbers(&PassThroughHashMap::with_capacity(alloc, 8)?, 0)),
@@ -49,7 +49,7 @@ pub fn make(call: Call, alloc: &Refusing, granted: u32) -> Result<Outcome, Fail>
     Ok(outcome_of(alloc, answer, has_numbers(&eight, 8)))
 }
 
-// Puts a number that isn't there into a map, at its vacant place, and answers the value there.
+// Puts a new number into a map, at its vacant entry. Returns the value there.
 fn put_at_vacant(call: Call, map: &mut Numbers<'_>, number: u64) -> Result<u64, AllocError> {
     match map.entry(number) {
         Entry::Vacant(place) if matches!(call, Call::VacantInsert) => Ok(*place.insert(number)?),
@@ -58,7 +58,7 @@ fn put_at_vacant(call: Call, map: &mut Numbers<'_>, number: u64) -> Result<u64, 
     }
 }
 
-// Puts a number that isn't there into a map, through its place or not, and answers the value there.
+// Puts a new number into a map, through its entry or not. Returns the value there.
 fn put(call: Call, map: &mut Numbers<'_>, number: u64) -> Result<u64, AllocError> {
     match call {
         Call::OrInsert => Ok(*map.entry(number).or_insert(number)?),
@@ -80,7 +80,7 @@ fn put(call: Call, map: &mut Numbers<'_>, number: u64) -> Result<u64, AllocError
     }
 }
 
-/// Tries to put the numbers up to a count into a map. After a refusal it should have the numbers before the refused one.
+/// Tries to put the numbers below a count into a map. After a refusal it must have the numbers before the refused one.
 pub fn fill(call: Call, alloc: &Refusing, granted: u32, count: u64) -> Outcome {
     let mut map = PassThroughHashMap::new(alloc);
     alloc.grant(granted);

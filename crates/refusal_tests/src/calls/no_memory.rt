@@ -1,5 +1,5 @@
-//! Calls that take no memory, with each request refused. A call that is passed no allocator, and no value that holds
-//! one, has none to ask; of the others each is called here.
+//! Calls that allocate nothing, with each request refused. A call that gets no allocator, and no value that holds one,
+//! has none to use. All others are called here.
 
 use super::maps::{EIGHT, Numbers, has_numbers};
 use super::{Refusing, refusing};
@@ -16,7 +16,7 @@ use xet_merkle::chunk_range::ChunkRange;
 use xet_merkle::merkle_hash_subtree::{MerkleHashSubtree, find_stable_end, find_stable_start};
 use xet_merkle::plain_range::PlainRange;
 
-// The root of some pairs, and their file hash without a salt and under one of zeros.
+// Returns the root of some pairs, and their file hash without a salt and under a salt of zeros.
 fn hashes(alloc: &Refusing, pairs: &[Node]) -> Result<[MerkleHash; 3], CoreError> {
     Ok([
         xorb_hash(alloc, pairs)?,
@@ -39,7 +39,7 @@ fn hashes_of_at_most_one_pair_take_no_memory(rt: HostRuntime) -> Result<(), Fail
     Ok(())
 }
 
-// Whether what an open subtree of 24 nodes and a closed one of 28 show is right.
+// Returns whether an open subtree of 24 nodes and a closed one of 28 show the right values.
 fn show_what_they_are<'a>(
     open: &MerkleHashSubtree<&'a Refusing>,
     closed: &MerkleHashSubtree<&'a Refusing>,
@@ -77,7 +77,7 @@ fn looking_at_ranges_takes_no_memory(rt: HostRuntime) -> Result<(), Fail> {
     Ok(())
 }
 
-// Whether look-ups in a map of eight numbers and walks over it find them.
+// Returns whether look-ups in a map of eight numbers and iterations over it find them.
 fn is_read(map: &Numbers<'_>) -> bool {
     let mut sum = 0u64;
     for (number, value) in map {
@@ -95,7 +95,7 @@ fn is_read(map: &Numbers<'_>) -> bool {
         && map.as_map().len() == 8
 }
 
-// Whether numbers are changed and taken out of a map of eight.
+// Returns whether numbers in a map of eight can be changed and removed.
 fn is_changed(map: &mut Numbers<'_>) -> bool {
     if let Some(value) = map.get_mut(&6) {
         *value = 60;
@@ -135,7 +135,8 @@ fn maps_are_read_and_emptied_without_memory(rt: HostRuntime) -> Result<(), Fail>
     Ok(())
 }
 
-// Whether a session answers the calls that take no memory while each request is refused, without a chunk and with one.
+// Returns whether the calls of a session that allocate nothing succeed while each request is refused, without a chunk
+// and with one.
 fn answers_without_memory<'a, R: ChunkRange<Alloc = &'a Refusing>>(
     alloc: &'a Refusing,
 ) -> Result<bool, Fail> {

@@ -10,7 +10,7 @@ use xet_merkle::merkle_hash_subtree::MerkleHashSubtree;
 use xet_merkle::parent_maker::{ParentHashes, ParentMaker};
 use xet_merkle::plain_range::PlainRange;
 
-// The subtree of some chunks.
+// Returns the subtree of some chunks.
 fn subtree<'a>(
     alloc: &'a Refusing,
     chunks: &Chunks<'_>,
@@ -18,7 +18,7 @@ fn subtree<'a>(
     MerkleHashSubtree::from_chunks(alloc, chunks.at_start, chunks.nodes, chunks.at_end)
 }
 
-// What a call comes to that should answer a subtree: whether it does, or all that was lent to it is the same.
+// Returns how a call ended that should return a subtree.
 fn subtree_outcome<'a>(
     alloc: &Refusing,
     answer: Result<MerkleHashSubtree<&'a Refusing>, CoreError>,
@@ -48,7 +48,7 @@ pub fn try_clone(alloc: &Refusing, granted: u32, chunks: &Chunks<'_>) -> Result<
     Ok(subtree_outcome(alloc, answer, &before, subtree == before))
 }
 
-// Whether a call merges a range into the one before it and tells the count of parents, where it tells one.
+// Returns whether a call merges a range into the one before it, and returns the number of parents if it counts them.
 fn merges<'a>(
     call: Call,
     front: &mut MerkleHashSubtree<&'a Refusing>,
@@ -65,7 +65,7 @@ fn merges<'a>(
     }
 }
 
-// The subtrees of two lists of chunks.
+// Returns the subtrees of two lists of chunks.
 fn both<'a>(
     alloc: &'a Refusing,
     parts: &[Chunks<'_>; 2],
@@ -74,7 +74,7 @@ fn both<'a>(
     Ok([subtree(alloc, first)?, subtree(alloc, second)?])
 }
 
-// What the subtrees of two lists of chunks are merged to, and how many parents that hashes.
+// Returns what the subtrees of two lists of chunks merge to, and how many parents that hashes.
 fn merged<'a>(
     alloc: &'a Refusing,
     parts: &[Chunks<'_>; 2],
@@ -102,7 +102,7 @@ pub fn merge_into(
     Ok(outcome_of(alloc, answer, ranges == before))
 }
 
-// The subtrees of three parts of some chunks.
+// Returns the subtrees of three parts of some chunks.
 fn thirds<'a>(
     alloc: &'a Refusing,
     chunks: &Chunks<'_>,
@@ -125,9 +125,9 @@ pub fn merge(alloc: &Refusing, granted: u32, chunks: &Chunks<'_>) -> Result<Outc
     Ok(subtree_outcome(alloc, answer, &expected, ranges == before))
 }
 
-/// A kind of range of which two can be compared.
+/// A kind of range whose values can be compared.
 pub trait Kind: ChunkRange {
-    /// Whether two ranges are equal.
+    /// Returns whether two ranges are equal.
     fn equals(&self, other: &Self) -> bool;
 }
 
@@ -146,7 +146,7 @@ impl Kind for PlainRange<&Refusing> {
     }
 }
 
-// The range of some chunks.
+// Returns the range of some chunks.
 fn range<'a, R: Kind<Alloc = &'a Refusing>>(
     alloc: &'a Refusing,
     chunks: &Chunks<'_>,
@@ -154,7 +154,7 @@ fn range<'a, R: Kind<Alloc = &'a Refusing>>(
     R::from_chunks(alloc, chunks.at_start, chunks.nodes, chunks.at_end)
 }
 
-// The ranges of two parts of some chunks.
+// Returns the ranges of two parts of some chunks.
 fn parts<'a, R: Kind<Alloc = &'a Refusing>>(
     alloc: &'a Refusing,
     chunks: &Chunks<'_>,
@@ -179,7 +179,7 @@ pub fn join<'a, R: Kind<Alloc = &'a Refusing>>(
     Ok(outcome_of(alloc, answer, is_same))
 }
 
-/// Tries the root of some chunks.
+/// Tries to get the root of some chunks.
 pub fn root<'a, R: Kind<Alloc = &'a Refusing>>(
     alloc: &'a Refusing,
     granted: u32,
@@ -196,7 +196,7 @@ pub fn root<'a, R: Kind<Alloc = &'a Refusing>>(
     }
 }
 
-// The range of some chunks, as a tree without merges.
+// Returns the range of some chunks, as a tree without merges.
 fn leaf<'a, R: Kind<Alloc = &'a Refusing>>(
     alloc: &'a Refusing,
     chunks: &Chunks<'_>,
@@ -204,7 +204,7 @@ fn leaf<'a, R: Kind<Alloc = &'a Refusing>>(
     Ok(Box::new(chunks.alloc, MergeTree::Leaf(range(alloc, chunks)?))?)
 }
 
-/// Tries to merge three parts of some chunks, of which the last two are merged first.
+/// Tries to merge three parts of some chunks. The last two are merged first.
 pub fn run<'a, R: Kind<Alloc = &'a Refusing>>(
     alloc: &'a Refusing,
     granted: u32,

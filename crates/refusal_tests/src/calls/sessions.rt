@@ -13,8 +13,8 @@ use xet_hash::data_hash::MerkleHash;
 use xet_merkle::CoreError;
 use xet_merkle::aggregated_hashes::{Node, file_hash, xorb_hash};
 
-/// Calls of a session, each with the reference chunks by position in the end, the puts before the call, and those from it on.
-/// A put has its first position, its chunks, and how many hashes are new.
+/// Calls of a session. Each row has the reference chunks of all positions in the end, the puts before the call, and the
+/// puts from the call on. A put has its first position, its chunks, and how many hashes are new.
 pub const OF_SESSIONS: &str = "put alone|1,2,3||2:3:1 0:1,2:2
 put of equal chunks|1,1,1,1||0:1,1:1 2:1,1:0
 put before a run|1,2,3|2:3:1|0:1,2:2
@@ -26,7 +26,7 @@ finish|1,2,3|2:3:1 0:1,2:2|
 finish with equal chunks|1,1,1,1|0:1,1:1 2:1,1:0|
 root|1,2,3|2:3:1 0:1,2:2|";
 
-// Whether a call answers what it should.
+// Returns whether a call returns what it should.
 fn is_right<T: PartialEq + Drop>(
     answer: Result<T, SessionFault>,
     expected: T,
@@ -46,7 +46,7 @@ struct Put {
     new: u64,
 }
 
-// The put of a text.
+// Reads a put from a text.
 fn read(memory: Global, text: &str) -> Result<Put, Fail> {
     let (first, chunks, new) = three_fields(text, ':')?;
     Ok(Put {
@@ -56,7 +56,7 @@ fn read(memory: Global, text: &str) -> Result<Put, Fail> {
     })
 }
 
-// Whether puts are answered as they should be.
+// Returns whether puts return what they should.
 fn are_put<'a, R: Kind<Alloc = &'a Refusing>>(
     memory: Global,
     session: &mut SessionOf<R>,
@@ -71,7 +71,7 @@ fn are_put<'a, R: Kind<Alloc = &'a Refusing>>(
     Ok(true)
 }
 
-// Whether two sessions have the same ranges, and the same positions are taken, among the first ones.
+// Returns whether two sessions have the same ranges and, among the first positions, the same taken ones.
 fn are_same<'a, R: Kind<Alloc = &'a Refusing>>(
     session: &SessionOf<R>,
     other: &SessionOf<R>,
@@ -107,7 +107,7 @@ fn end_of(memory: Global, chunks: &[Node]) -> Result<End, CoreError> {
     })
 }
 
-// Whether a session answers a put, or else its root or its file hash, as it should.
+// Returns whether a session returns what it should for a put or, without a put, for its root or its file hash.
 fn answers<'a, R: Kind<Alloc = &'a Refusing>>(
     session: &mut SessionOf<R>,
     put: Option<Put>,
@@ -121,7 +121,7 @@ fn answers<'a, R: Kind<Alloc = &'a Refusing>>(
     }
 }
 
-// A session after some puts.
+// Returns a session after some puts.
 fn begun<'a, R: Kind<Alloc = &'a Refusing>>(
     alloc: &'a Refusing,
     memory: Global,
@@ -134,7 +134,7 @@ fn begun<'a, R: Kind<Alloc = &'a Refusing>>(
     Ok(session)
 }
 
-// What a call comes to: the put, where there is one. The other session is as the session was.
+// Tries a call: the put, if there is one. The other session is equal to the session before the call.
 fn tried<'a, R: Kind<Alloc = &'a Refusing>>(
     alloc: &Refusing,
     granted: u32,
@@ -150,7 +150,7 @@ fn tried<'a, R: Kind<Alloc = &'a Refusing>>(
     outcome
 }
 
-// The put of a text, where a call is one.
+// Returns the put that a text states, if the call is a put.
 fn put_of(memory: Global, call: &str, text: &str) -> Result<Option<Put>, Fail> {
     if call.starts_with("put") {
         Ok(Some(read(memory, text)?))
@@ -159,7 +159,7 @@ fn put_of(memory: Global, call: &str, text: &str) -> Result<Option<Put>, Fail> {
     }
 }
 
-// Whether a session goes on with some puts to its end.
+// Returns whether a session takes some more puts and then has the right root and file hash.
 fn goes_on<'a, R: Kind<Alloc = &'a Refusing>>(
     memory: Global,
     session: &mut SessionOf<R>,
@@ -204,7 +204,7 @@ pub fn attempt<'a, R: Kind<Alloc = &'a Refusing>>(
     Ok(outcome.if_so(goes_on(memory, &mut session, remaining, &end)?))
 }
 
-/// Tries to keep 100 hashes beside another one. After a refusal they should all be new again, and else none of them.
+/// Tries to keep 100 hashes besides another one. After a refusal all of them must be new again, and otherwise none.
 pub fn keep_hashes(alloc: &Refusing, granted: u32, memory: Global) -> Result<Outcome, Fail> {
     let mut chunks = Vec::new(memory);
     for number in 0..100 {

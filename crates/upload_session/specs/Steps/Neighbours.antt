@@ -1,4 +1,4 @@
--- The runs before and after a position, which private contracts and proofs speak of.
+-- The runs before and after a position. Only private contracts and proofs use them.
 use Rattle.std.specs.Prelude.{◌≡◌, ℕ, ◌+◌, ◌<◌, ◌≢◌, false, List, [], ◌∷◌, ◌++◌, length, All, Option, None, Some}
 use Rattle.std.specs.Ordering.{nat_cmp}
 use Rattle.std.specs.declared.ops.Bound.TheVariants.{Included, Unbounded}
@@ -10,7 +10,7 @@ use Rattle.xet_merkle.specs.declared.chunk_range.ChunkRange as chunk_range
 use Rattle.upload_session.specs.declared.runs.Run.{Run}
 use Rattle.upload_session.specs.Session.{Placed, PlacedRun, place, overlaps, StandFor}
 
--- a run ends just before a position, as the last of those that begin at it or before it
+-- the last of the runs that begin at or before a position ends right before it
 abbrev pub EndsAt : {C : Type 0} → List (PlacedRun C) → ℕ → ℕ → Type 0
 EndsAt {C} runs position begin =
     (front : List (PlacedRun C)) × (run : Run C)
@@ -30,7 +30,7 @@ AreAround {C} begin after others back =
     All (λ (run : PlacedRun C). run.0 < begin) others × (begin < after) × All (λ (run : PlacedRun C). after < run.0) back
 
 module _ {C A : Type 0} (kind : chunk_range.Ghosts C A) where
-  -- what is kept of some chunks before a position, and of the run that begins there, where there is one
+  -- the run of some chunks that end right before a position, and of the run that begins there, if there is one
   abbrev pub IsWith : Option (Run C) → ℕ → List Node → Run C → Type 0
   IsWith None after chunks made =
       (made.end ≡ after) × kind.stands made.range chunks
@@ -40,18 +40,19 @@ module _ {C A : Type 0} (kind : chunk_range.Ghosts C A) where
       × ((more : List Node) → kind.stands next.range more → kind.stands made.range (chunks ++ more))
       × (kind.start made.range ≡ false) × (kind.end made.range ≡ kind.end next.range)
 
-  -- with the one of these runs that begins there
+  -- the same, where the run that begins there is one of these
   abbrev pub IsWithNext : List (PlacedRun C) → ℕ → List Node → Run C → Type 0
   IsWithNext runs after = IsWith (lookup (is_at (nat_cmp after)) runs) after
 
-  -- a range and that of a run after it are one, in a run of its own between others
+  -- a range and the range of the run after it are merged into one run between others
   abbrev pub IsPutBefore : ℕ → C → Run C → List (PlacedRun C) → List (PlacedRun C) → List (PlacedRun C) → Type 0
   IsPutBefore begin front next others back new =
       (range : C) × (new ≡ others ++ (begin, record { end = next.end; range = range }) ∷ back)
       × ((a b : List Node) → kind.stands front a → kind.stands next.range b → kind.stands range (a ++ b))
       × (kind.start range ≡ kind.start front) × (kind.end range ≡ kind.end next.range)
 
-  -- a range from a position up to another one is placed: the chunks that it stands for, open at both ends
+  -- a range that is open at both ends is placed from a position up to another one; the new runs also stand for its
+  -- chunks
   abbrev pub Places : List (PlacedRun C) → ℕ → ℕ → C → List (PlacedRun C) → Type 0
   Places old first after made new =
       (placed : List Placed) (chunks : List Node) → StandFor kind old placed → 0 < length chunks

@@ -1,4 +1,4 @@
--- The base64 text of a hash: what decodes to 32 bytes, and nothing else.
+-- The base64 text of a hash: exactly these texts decode to 32 bytes.
 use Rattle.std.proofs.Common.{◌≡◌, ◌≢◌, ℕ, ◌<◌, List, length, refl, sym, ap, ◌∙◌, Ok, Err}
 use Rattle.std.proofs.lemmas.List.Elements.{All-from_get_or}
 use Rattle.std.proofs.lemmas.List.{append-nil}

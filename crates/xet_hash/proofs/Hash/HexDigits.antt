@@ -1,4 +1,4 @@
--- Hex digits of either case read back: what decodes is the lower-case text of its bytes.
+-- Reading hex digits of either case: what decodes is the lower-case text of its bytes.
 use Rattle.std.proofs.Common.{◌≡◌, ℕ, ◌+◌, ◌*◌, ◌/◌, ◌%◌, ◌<◌, true, cond, ltb, List, [], ◌∷◌, slice_index, refl, sym, ap, ◌∙◌, arith, Option, Some, None, Result, Ok, Err}
 use Rattle.std.specs.Char.{is_ascii_hexdigit, to_ascii_lowercase}
 use Rattle.std.specs.Result.{result_unwrap_or}

@@ -1,4 +1,4 @@
--- The hex text of a hash by position, and as the hex digits of its words' bytes, high byte first.
+-- The hex text of a hash by index, and as the hex digits of the bytes of its words, high byte first.
 use Rattle.std.proofs.Common.{◌≡◌, ℕ, ◌*◌, ◌-◌, ◌/◌, ◌%◌, ◌<◌, ◌^◌, true, ltb, List, [], ◌∷◌, ◌++◌, length, map, drop, slice_index, refl, sym, ap, ◌∙◌, arith}
 use Rattle.std.specs.Int.{w64, to_be_bytes, from_be_bytes}
 use Rattle.std.specs.List.{flat_map, range_with_len}

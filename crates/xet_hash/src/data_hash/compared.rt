@@ -29,7 +29,7 @@ impl Ord for DataHash {
 
     ghost matches_eq = { texts_ties };
 
-    /// Compares the words in order, which is the byte order of the hex texts.
+    /// Compares the words in order. This is also the byte order of the hex texts.
     fn cmp(&self, other: &DataHash) -> Ordering {
         self.words.cmp(&other.words)
     }
@@ -40,7 +40,7 @@ impl Hash for DataHash {
 
     ghost respects_eq = { Prim.search (hashing, rules) };
 
-    /// Gives word 0 alone to `state`.
+    /// Gives `state` only word 0.
     fn hash<H: Hasher>(&self, state: &mut H) {
         state.write_u64(self.words[0]);
     }
@@ -51,7 +51,7 @@ impl U64HashExtractable for DataHash {
 
     ghost equal_values = { Prim.search (hashing, rules) };
 
-    /// Word 0.
+    /// Returns word 0.
     fn u64_hash_value(&self) -> u64 {
         self.words[0]
     }

@@ -1,4 +1,4 @@
-// A hash as text, bytes and JSON in memory of their own, and back.
+// A hash as text, bytes and JSON in allocated memory, and back.
 ghost use Rattle.std.specs.Prelude.{◌≡◌, ◌≢◌, ◌↔◌, ℕ, List, Some, codes, length, string_bytes, IsOk, IfOk, IfErr, IfSome, IsSomeAnd};
 ghost use Rattle.std.specs.Fmt.{WritesOnOk, WritesStyledOnOk};
 ghost use Rattle.std.specs.Str.{str_to_ascii_lowercase};
@@ -17,14 +17,14 @@ use std::alloc::{AllocError, Allocator, Global};
 use std::{error, fmt};
 
 impl DataHash {
-    /// The 32 bytes of [`DataHash::as_bytes`].
+    /// Returns the 32 bytes of [`DataHash::as_bytes`] in a vector. Fails if an allocation fails.
     pub fn to_vec<A: Allocator>(&self, alloc: A) -> Result<Vec<u8, A>, AllocError>
         ensures { IfOk result (λ bytes. bytes.items ≡ bytes_of self.now) }
     {
         self.as_bytes().to_vec(alloc)
     }
 
-    /// The hash of 32 bytes. It succeeds exactly on these.
+    /// Returns the hash that has these bytes. Fails if and only if there aren't exactly 32.
     pub fn from_slice(bytes: &[u8]) -> Result<DataHash, DataHashBytesParseError>
         ensures accepted { IsOk result ↔ (length bytes.now ≡ 32) }
         ensures value { IfOk result (λ hash. hash ≡ hash_of bytes.now) }
@@ -35,7 +35,7 @@ impl DataHash {
         }
     }
 
-    /// The hex text, of 64 characters.
+    /// Returns the hex text, 64 characters. Fails if an allocation fails.
     pub fn hex<A: Allocator>(&self, alloc: A) -> Result<String<A>, AllocError>
         ensures text { IfOk result (λ text. string_bytes text ≡ hex_text self.now) }
         ensures fits { IsHash self.now }
@@ -43,8 +43,8 @@ impl DataHash {
         hex::encode(alloc, self.text_bytes())
     }
 
-    /// The base64 text, of 43 characters: the bytes in the URL-safe alphabet without padding (RFC 4648,
-    /// section 5).
+    /// Returns the base64 text: 43 characters of the URL-safe alphabet, without padding (RFC 4648, section 5). Fails if
+    /// an allocation fails.
     #[tactic(auto, unfolding(crate::specs::HashForms::base64_text))]
     pub fn base64<A: Allocator>(&self, alloc: A) -> Result<String<A>, AllocError>
         ensures { IfOk result (λ text. string_bytes text ≡ base64_text self.now) }
@@ -52,8 +52,8 @@ impl DataHash {
         URL_SAFE_NO_PAD.encode(alloc, &self.as_bytes())
     }
 
-    /// The hash whose base64 text is `text`. Memory apart, it succeeds exactly on the texts that
-    /// [`DataHash::base64`] gives.
+    /// Reads a hash from its base64 text. Fails with [`HashTextError::Bytes`] if `text` isn't one that
+    /// [`DataHash::base64`] returns, and with [`HashTextError::OutOfMemory`] if an allocation fails.
     pub fn from_base64<A: Allocator>(alloc: A, text: &str) -> Result<DataHash, HashTextError>
         ensures is_hash { IfOk result IsHash }
         ensures value { IfOk result (λ hash. base64_text hash ≡ text.now) }
@@ -63,9 +63,9 @@ impl DataHash {
         DataHash::from_base64_characters(alloc, text.as_bytes())
     }
 
-    /// [`DataHash::from_base64`] for bytes that may not be UTF-8.
+    /// Does the same as [`DataHash::from_base64`] for bytes that may not be UTF-8.
     ///
-    /// This call is this port's own.
+    /// Only this port has this call.
     pub fn from_base64_characters<A: Allocator>(
         alloc: A,
         text: &[u8],
@@ -84,9 +84,9 @@ impl DataHash {
         }
     }
 
-    /// The hex text as a JSON string.
+    /// Returns the hex text as a JSON string. Fails if an allocation fails.
     ///
-    /// This call is this port's own; it stands for `hex::serde::serialize` of the Rust crate.
+    /// Only this port has this call. It replaces `hex::serde::serialize` of the Rust crate.
     pub fn to_json(&self, alloc: Global) -> Result<Value, AllocError>
         ensures text { IfOk result (λ value. view value ≡ string (hex_text self.now)) }
         ensures fits { IsHash self.now }
@@ -94,9 +94,9 @@ impl DataHash {
         Ok(Value::String(self.hex(alloc)?))
     }
 
-    /// [`DataHash::from_hex`] of a JSON string. Every other value is refused.
+    /// Reads a hash from a JSON string, as [`DataHash::from_hex`] does. Fails for any other value.
     ///
-    /// This call is this port's own; it stands for `hex::serde::deserialize` of the Rust crate.
+    /// Only this port has this call. It replaces `hex::serde::deserialize` of the Rust crate.
     pub fn from_json(value: &Value) -> Result<DataHash, DataHashHexParseError>
         ensures accepted { IsOk result ↔ IsSomeAnd (as_str (view value.now)) IsHexText }
         ensures is_hash { IfOk result IsHash }
@@ -116,14 +116,14 @@ impl TryFrom<&[u8]> for DataHash {
     ghost try_from_gives = { λ bytes result. (IsOk result ↔ (length bytes.now ≡ 32))
         × IfOk result (λ hash. hash ≡ hash_of bytes.now) };
 
-    /// [`DataHash::from_slice`].
+    /// Does the same as [`DataHash::from_slice`].
     fn try_from(bytes: &[u8]) -> Result<DataHash, DataHashBytesParseError> {
         DataHash::from_slice(bytes)
     }
 }
 
 impl fmt::LowerHex for DataHash {
-    /// Writes the hex text, whatever width and flags are asked for.
+    /// Writes the hex text. It ignores the requested width and flags.
     fn fmt<W: fmt::Write>(&self, f: &mut fmt::Formatter<W>) -> fmt::Result
         ensures writes { WritesOnOk W.write_str_gives f.old result (hex_text self.now) f.new }
         ensures styled { WritesStyledOnOk W.write_str_gives f.old result (hex_text self.now) f.new }
@@ -132,7 +132,7 @@ impl fmt::LowerHex for DataHash {
     }
 }
 
-/// The error of [`DataHash::from_slice`]: there are not 32 bytes.
+/// The error of [`DataHash::from_slice`]: there aren't exactly 32 bytes.
 #[derive(Clone, Debug, Drop)]
 pub struct DataHashBytesParseError;
 
@@ -149,9 +149,9 @@ impl error::Error for DataHashBytesParseError {}
 /// The error of [`DataHash::from_base64`].
 #[derive(Debug, Drop)]
 pub enum HashTextError {
-    /// The text is not one that [`DataHash::base64`] gives.
+    /// The text isn't one that [`DataHash::base64`] returns.
     Bytes(DataHashBytesParseError),
-    /// There was no memory for the bytes.
+    /// An allocation failed.
     OutOfMemory,
 }
 

@@ -12,7 +12,7 @@ use super::{DATA_KEY, DataHash};
 use keyed_blake3::Hasher;
 use std::io::{self, ErrorKind, Write};
 
-/// A writer that hands what it is given to an inner writer, and hashes what that one takes.
+/// A writer that passes everything on to an inner writer, and hashes what that one takes.
 #[derive(Drop)]
 pub struct HashedWrite<W: Write> {
     hasher: Hasher,
@@ -20,7 +20,7 @@ pub struct HashedWrite<W: Write> {
 }
 
 impl<W: Write> HashedWrite<W> {
-    /// Hashes what is written to `writer` from here on.
+    /// Makes a writer that hashes everything that `writer` takes from here on.
     #[tactic(auto, unfolding(crate::specs::HashedWrite::inner_writer))]
     pub fn new(writer: W) -> HashedWrite<W>
         ensures message { HoldsWritten result [] }
@@ -32,14 +32,15 @@ impl<W: Write> HashedWrite<W> {
         }
     }
 
-    /// The hash of the bytes that were taken so far, that of [`compute_data_hash`](super::compute_data_hash).
+    /// Returns the hash of the bytes that were taken so far. It is the same as that of
+    /// [`compute_data_hash`](super::compute_data_hash).
     pub fn hash(&self) -> DataHash
         ensures { (m : List ℕ) → HoldsWritten self.now m → result ≡ hash_of (keyed_hash data_key m) }
     {
         DataHash::from(self.hasher.finalize())
     }
 
-    // Writes a beginning of `slice`, one byte at least, and again where that is interrupted.
+    // Writes a beginning of `slice`, at least one byte. It tries again if the write is interrupted.
     #[tactic(auto, unfolding(crate::specs::HashedWrite::inner_writer))]
     fn write_some(&mut self, slice: &[u8]) -> io::Result<usize>
         ensures some { IfOk result (λ n. 0 < n) }
@@ -58,8 +59,8 @@ impl<W: Write> HashedWrite<W> {
         Err(io::Error::from(ErrorKind::Interrupted))
     }
 
-    // Calls `call` once, with the inner writer and all of `slice`, hashes what it took and answers its answer; with no room
-    // for all of `slice` it is not called, and the error is `InvalidInput`.
+    // Calls `call` once, with the inner writer and all of `slice`. It hashes what was taken, and returns what `call`
+    // returned. If there is no room for all of `slice`, it doesn't call it, and fails with `InvalidInput`.
     #[tactic(auto, unfolding(crate::specs::HashedWrite::inner_writer))]
     fn write_by<F: FnOnce(&mut W, &[u8]) -> io::Result<usize> + Drop>(
         &mut self,
@@ -86,7 +87,7 @@ impl<W: Write> HashedWrite<W> {
         Ok(taken)
     }
 
-    /// The inner writer, as it stands.
+    /// Returns the inner writer in its current state.
     #[tactic(auto, unfolding(crate::specs::HashedWrite::inner_writer))]
     pub fn into_inner(self) -> W
         ensures { result ≡ inner_writer self }
@@ -99,9 +100,8 @@ impl<W: Write> HashedWrite<W> {
 impl<W: Write> Write for HashedWrite<W> {
     ghost contents = { λ w. W.contents (inner_writer w) };
 
-    /// Hands `slice` to the inner writer in one call, whose answer is the answer. A message has less
-    /// than 2^64 bytes: with no room for all of `slice` the error is [`ErrorKind::InvalidInput`], and
-    /// the inner writer is not called.
+    /// Passes `slice` to the inner writer in one call, and returns what that returns. Fails with
+    /// [`ErrorKind::InvalidInput`], without calling the inner writer, if the message would reach 2^64 bytes.
     #[tactic(auto, unfolding(crate::specs::HashedWrite::inner_writer))]
     fn write(&mut self, slice: &[u8]) -> io::Result<usize>
         ensures bound { WritesAtMost result slice.now }
@@ -113,10 +113,10 @@ impl<W: Write> Write for HashedWrite<W> {
         self.write_by(slice, |writer, slice| writer.write(slice))
     }
 
-    /// Hands all of `slice` to the inner writer, in as many calls of `write` as that takes.
+    /// Passes all of `slice` to the inner writer, in as many calls of `write` as needed.
     ///
-    /// It fails where a call fails, other than by [`ErrorKind::Interrupted`], or takes nothing; a beginning of
-    /// `slice` was taken then, and is hashed.
+    /// Fails if a call takes nothing, or fails for a reason other than [`ErrorKind::Interrupted`]. Then a beginning of
+    /// `slice` was taken, and is hashed.
     fn write_all(&mut self, slice: &[u8]) -> io::Result<()>
         ensures bytes { OnOk result (Appends (W.contents (inner_writer self.old)) (W.contents (inner_writer self.new)) slice.now) }
         ensures message { (m : List ℕ) → HoldsWritten self.old m → OnOk result (HoldsWritten self.new (m ++ slice.now)) }
@@ -130,7 +130,7 @@ impl<W: Write> Write for HashedWrite<W> {
         Ok(())
     }
 
-    /// Flushes the inner writer.
+    /// Flushes the inner writer. Fails if that fails. The hash is unchanged.
     #[tactic(auto, unfolding(crate::specs::HashedWrite::inner_writer))]
     fn flush(&mut self) -> io::Result<()>
         ensures bytes { Keeps (W.contents (inner_writer self.old)) (W.contents (inner_writer self.new)) }

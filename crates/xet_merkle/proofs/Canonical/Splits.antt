@@ -1,5 +1,5 @@
--- The split of a list under marks: there is one or there is none, there is at most one, and what is collapsed has
--- a node.
+-- The split of a list under marks: whether there is one can be decided, there is at most one, and its middle has a
+-- node.
 use Rattle.std.proofs.Common.{◌≡◌, ◌<◌, ◌≤◌, ◌⊎◌, Bool, true, false, List, [], ◌∷◌, ◌++◌, length, refl, sym, ap, subst, ◌∙◌, inl, inr, arith, append-nil, length-append}
 use Rattle.std.proofs.lemmas.Bool.{cases_lt}
 use Rattle.xet_merkle.specs.Groups.{Node}

@@ -1,4 +1,4 @@
--- The law of groups: each list of nodes has exactly one cutting into groups.
+-- The law of groups: each list of nodes has exactly one division into groups.
 use Rattle.std.proofs.Common.{◌≡◌, ℕ, ◌+◌, ◌<◌, ◌≤◌, ◌⊎◌, true, false, List, [], ◌∷◌, ◌++◌, length, flat_map, refl, sym, ap, subst, ◌∙◌, inl, inr, zero, arith, append_assoc, append-nil, length-append, suc}
 use Rattle.std.proofs.lemmas.Bool.{cases_lt, false≢true}
 use Rattle.xet_merkle.specs.Groups.{Node, is_cut, Cut, NotCut, IsGroup, IsFull, AreGroups, Groups}

@@ -1,5 +1,5 @@
--- A JSON value says at most one subtree, and parts that a well formed subtree has break no rule; so its object
--- says it.
+-- A JSON value describes at most one subtree. The parts of a well-formed subtree break no rule, so its object describes
+-- it.
 use Rattle.std.proofs.Common.{◌≡◌, ℕ, ◌+◌, ◌<◌, ◌^◌, Bool, List, [], ◌∷◌, ◌++◌, map, Some, None, codes, refl, sym, ap, subst, ◌∙◌, arith}
 use Rattle.std.specs.List.{AllZip, AllByRecursion}
 use Rattle.std.specs.Str.{str_to_ascii_lowercase}

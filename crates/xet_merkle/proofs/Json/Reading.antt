@@ -1,4 +1,4 @@
--- Reading JSON values: kinds of members, arrays of two, and values read in order.
+-- Reading JSON values: the types of members, arrays of two, and values read in order.
 use Rattle.std.proofs.Common.{◌≡◌, ℕ, zero, suc, ◌+◌, ◌<◌, Bool, List, [], ◌∷◌, ◌++◌, length, get_or, take, map, Option, Some, None, option_and_then, is_some, Result, Ok, Err, IfErr, IsErrAnd, true, false, refl, sym, ap, subst, ◌∙◌, arith}
 use Rattle.std.specs.List.{AllZip}
 use Rattle.std.proofs.lemmas.List.{map-append, take_more}

@@ -1,4 +1,4 @@
--- Levels in one list of nodes: counts and nodes that are those of some levels give these levels back.
+-- The flat lists of levels: reading the counts and nodes of some levels gives these levels back.
 use Rattle.std.proofs.Common.{◌≡◌, ℕ, zero, suc, ◌+◌, ◌-◌, List, [], ◌∷◌, ◌++◌, length, map, take, drop, refl, sym, ap, ◌∙◌, arith, append_assoc, append-nil, length-append, length-take}
 use Rattle.std.proofs.lemmas.List.{take-append-drop, length-drop, drop_all, take_at, drop_at}
 use Rattle.std.proofs.lemmas.List.Sums.{sum_by-append, sum_by-cons}

@@ -1,4 +1,4 @@
--- Levels changed in place: the lowest get other nodes on one side, the highest of them first.
+-- Levels changed in place: the lowest ones get other nodes on one side, the highest of them first.
 use Rattle.std.proofs.Common.{◌≡◌, Bool, ℕ, zero, suc, ◌+◌, ◌<◌, ◌≤◌, List, [], ◌∷◌, ◌++◌, length, set, get_or, take, drop, refl, ap, arith}
 use Rattle.xet_merkle.specs.Groups.{Node}
 use Rattle.xet_merkle.specs.Levels.{Level, left_at, right_at}

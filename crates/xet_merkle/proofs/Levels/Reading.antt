@@ -1,4 +1,4 @@
--- Levels read at a place: the level of a number, the top, those below it, and an operand's first level.
+-- Reading levels: the level of a number, the top, those below it, and an operand's first level.
 use Rattle.std.proofs.Common.{◌≡◌, ℕ, zero, suc, ◌+◌, ◌<◌, ◌≤◌, List, [], ◌∷◌, ◌++◌, length, get_or, take, drop, refl, sym, ap, ◌∙◌, arith, append-nil}
 use Rattle.std.proofs.lemmas.List.{take_more}
 use Rattle.xet_merkle.specs.Groups.{Node}

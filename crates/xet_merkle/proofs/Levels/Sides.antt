@@ -1,4 +1,4 @@
--- The rules of well formed levels, told level by level as sides.
+-- The rules of well-formed levels, stated level by level as sides.
 use Rattle.std.proofs.Common.{◌≡◌, ◌<◌, Bool, true, false, List, [], ◌∷◌, length, refl, subst, arith}
 use Rattle.std.specs.List.{AllByRecursion as Each}
 use Rattle.xet_merkle.specs.Levels.{Level, below_top, top_of}

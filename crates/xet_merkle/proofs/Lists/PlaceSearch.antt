@@ -1,5 +1,5 @@
--- Whether a list has a place with a property that can be decided, and the first and the last such place. A place
--- in a list is the pair of the parts before and after it.
+-- For a property that can be decided: whether a list has a place with it, and the first and the last such place. A
+-- place in a list is the pair of the parts before and after it.
 use Rattle.std.proofs.Common.{◌≡◌, ℕ, ◌+◌, ◌≤◌, ◌⊎◌, List, [], ◌∷◌, ◌++◌, length, refl, sym, ap, subst, inl, inr, arith, length-append}
 use Rattle.xet_merkle.proofs.Lists.Places.{meets}
 use Rattle.xet_merkle.proofs.Lists.Places.Meets.{same, earlier, later}

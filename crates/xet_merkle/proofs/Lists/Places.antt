@@ -1,4 +1,4 @@
--- Where two ways to take a list apart fall: at the same place, or one before the other.
+-- Two ways to cut a list in two: at the same place, or one before the other.
 use Rattle.std.proofs.Common.{◌≡◌, List, [], ◌∷◌, ◌++◌, refl, sym}
 
 -- the places in front of b and of d in one list

@@ -1,4 +1,4 @@
--- Adjacent ranges that were passed one after another: what is known of them, and what making one of them fails with.
+-- Adjacent ranges that were passed one after another: what is known of them, and the errors of merging them.
 use Rattle.std.proofs.Common.{◌≡◌, ℕ, ◌+◌, ◌^◌, ◌<◌, ◌≤◌, ◌↔◌, inl, inr, Bool, true, false, IsTrue, Option, Some, None, List, [], ◌∷◌, ◌++◌, refl, sym, ap, subst, ◌∙◌, arith}
 use Rattle.std.specs.Prelude.{SomeIff, Ok, Err}
 use Rattle.std.proofs.lemmas.Bool.{cases_lt, false≢true}

@@ -1,5 +1,5 @@
--- A front operand whose levels stay: nodes that bring up no stable point go after what it has of its first level, and
--- above it nothing is collapsed.
+-- A front operand whose levels stay: nodes that add no stable point are appended to those of its first level, and
+-- nothing above it is collapsed.
 use Rattle.std.proofs.Common.{◌≡◌, ◌<◌, ◌≤◌, Bool, true, false, List, [], ◌∷◌, ◌++◌, length, refl, sym, ap, subst, ◌∙◌, inl, inr, arith, append_assoc, append-nil, length-append}
 use Rattle.xet_merkle.specs.Groups.{Node, Groups}
 use Rattle.xet_merkle.specs.StablePoints.{EndsStable}

@@ -1,4 +1,4 @@
--- How many parents are made where two subtrees are merged, and how many levels they have.
+-- How many parents a merge of two subtrees makes, and how many levels they have.
 use Rattle.std.proofs.Common.{ℕ, ◌+◌, ◌*◌, ◌≤◌, Bool, List, [], ◌∷◌, ◌++◌, length, ap, arith, length-append}
 use Rattle.std.proofs.lemmas.List.{length-map}
 use Rattle.xet_merkle.specs.Groups.{Node}

@@ -1,4 +1,4 @@
--- The leaves of a bracketing, taken one after another, and joined from the last to the first.
+-- The leaves of a bracketing, taken one after another, and merged from the last to the first.
 use Rattle.std.proofs.Common.{◌≡◌, ℕ, zero, suc, ◌+◌, ◌-◌, ◌<◌, ◌≤◌, ◌↔◌, Bool, Option, Some, None, List, [], ◌∷◌, ◌++◌, length, refl, sym, ap, subst, ◌∙◌, arith, append_assoc, length-append}
 use Rattle.std.specs.Prelude.{IfSome, map, Box}
 use Rattle.std.specs.declared.alloc.Global.{Global}

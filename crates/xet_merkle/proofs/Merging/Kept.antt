@@ -1,4 +1,4 @@
--- What merging keeps: the sides, the top and the sizes of the operands, whether or not they come from lists.
+-- What merging preserves: the sides, the top and the sizes of the operands, whether or not they come from lists.
 use Rattle.std.proofs.Common.{◌≡◌, ℕ, ◌+◌, ◌<◌, ◌≤◌, ◌⊎◌, Bool, true, false, List, [], ◌∷◌, ◌++◌, length, map, refl, sym, ap, subst, ◌∙◌, inl, inr, arith, append_assoc, append-nil, length-append}
 use Rattle.std.proofs.lemmas.Bool.{false≢true}
 use Rattle.std.proofs.lemmas.List.{length-map}

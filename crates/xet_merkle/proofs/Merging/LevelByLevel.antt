@@ -1,4 +1,4 @@
--- Merging level by level: what stands below what is left of the operands, and what the whole is.
+-- Merging level by level: the levels already made, what is left of the operands, and the whole that both give.
 use Rattle.std.proofs.lemmas.List.{length-map}
 use Rattle.xet_merkle.proofs.Merging.Bounds.{between_few, merge_count, step_room}
 use Rattle.std.proofs.Common.{◌≡◌, ℕ, ◌+◌, ◌<◌, ◌≤◌, ◌^◌, Bool, true, false, List, [], ◌∷◌, ◌++◌, length, map, drop, refl, sym, ap, subst, ◌∙◌, arith, append_assoc}

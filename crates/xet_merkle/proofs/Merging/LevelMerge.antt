@@ -1,5 +1,5 @@
--- Merging levels: where the operands are the canonical subtrees of two lists, what they are merged to is that of both
--- lists, one after the other.
+-- Merging levels: if the operands are the canonical subtrees of two lists, they are merged to that of both lists, one
+-- after the other.
 use Rattle.std.proofs.Common.{◌≡◌, ℕ, ◌+◌, ◌<◌, Bool, true, false, Option, Some, None, IfSome, IfNone, unwrap_or, List, [], ◌∷◌, ◌++◌, length, map, take, drop, refl, sym, ap, subst, ◌∙◌, inl, inr, arith, append_assoc, append-nil, length-append}
 use Rattle.std.proofs.lemmas.List.{map-append}
 use Rattle.xet_merkle.specs.Groups.{Node, Groups}

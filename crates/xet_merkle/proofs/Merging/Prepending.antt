@@ -1,5 +1,5 @@
--- A back operand whose levels stay: nodes that bring up no stable point go before what it has of its first level, and above
--- it nothing is collapsed.
+-- A back operand whose levels stay: nodes that add no stable point are put before those of its first level, and nothing
+-- above it is collapsed.
 use Rattle.std.proofs.Common.{◌≡◌, ◌<◌, ◌≤◌, Bool, false, List, [], ◌∷◌, ◌++◌, length, refl, sym, ap, subst, ◌∙◌, inr, arith, append_assoc, append-nil, length-append}
 use Rattle.xet_merkle.specs.Groups.{Node}
 use Rattle.xet_merkle.specs.Levels.{Level, no_level, left_at}

@@ -1,5 +1,5 @@
--- What stays on either side of a level below the top: a first stable point is known by the nodes before it and the
--- beginning of those after it, a last one by the end of the nodes before it and those after it.
+-- What stays on either side of a level below the top. A first stable point depends only on the nodes before it and the
+-- beginning of those after it. A last one depends only on the end of the nodes before it and those after it.
 use Rattle.std.proofs.Common.{◌≡◌, ◌<◌, Bool, true, false, List, [], ◌∷◌, ◌++◌, length, sym, ap, subst, ◌∙◌, inl, arith, append_assoc, length-append}
 use Rattle.xet_merkle.specs.Groups.{Node, Cut, EndsWithCut}
 use Rattle.xet_merkle.specs.StablePoints.{EndsStable, BeginsStable, NoStable, IsFirstStable, IsLastStable}

@@ -1,5 +1,5 @@
--- Nodes put after others that bring up no stable point. A scan shows it that begins 14 nodes before them: the third
--- natural cut of a stable point stands at most 14 nodes after the first one.
+-- Appending nodes without adding a stable point. A scan from 14 nodes before them shows it: the third natural cut of a
+-- stable point is at most 14 nodes after the first one.
 use Rattle.std.proofs.Common.{◌≡◌, ◌+◌, ◌<◌, ◌≤◌, ◌⊎◌, ◌&&◌, not, true, false, List, [], ◌∷◌, ◌++◌, length, refl, sym, ap, subst, ◌∙◌, inl, inr, arith, append_assoc, append-nil, length-append}
 use Rattle.std.proofs.lemmas.Bool.{cases_Bool, and_parts, and_from, cases_lt, not-true}
 use Rattle.xet_merkle.specs.Groups.{Node, is_cut, Cut}

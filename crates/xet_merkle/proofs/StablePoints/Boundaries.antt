@@ -1,5 +1,5 @@
--- The lemma of stable boundaries: the groups of a list that ends stable are all full, so that those of a list that
--- follows it come after them.
+-- The lemma of stable boundaries: all groups of a list that ends stable are full, so the groups of a list that follows
+-- come after them.
 use Rattle.std.proofs.Common.{◌≡◌, ◌<◌, ◌≤◌, List, [], ◌∷◌, ◌++◌, length, refl, sym, ap, subst, ◌∙◌, inl, inr, arith, append_assoc, append-nil, length-append}
 use Rattle.xet_merkle.specs.Groups.{Node, Cut, IsGroup, IsFull, AreGroups, Groups}
 use Rattle.xet_merkle.specs.StablePoints.{EndsStable, IsGroupBoundary}

@@ -1,4 +1,4 @@
--- Where the natural cuts of a stable end stand: lists without natural cuts, and stable ends after a natural cut.
+-- Where the natural cuts of a stable end are: lists without natural cuts, and stable ends after a natural cut.
 use Rattle.std.proofs.Common.{◌≡◌, ◌<◌, ◌≤◌, ◌⊎◌, List, [], ◌∷◌, ◌++◌, length, refl, sym, ap, subst, ◌∙◌, inl, inr, arith, append_assoc, append-nil, length-append}
 use Rattle.std.proofs.lemmas.Bool.{false≢true}
 use Rattle.xet_merkle.specs.Groups.{Node, Cut, NotCut, EndsWithCut}

@@ -1,5 +1,5 @@
--- Nodes put before others that bring up no stable point. A scan shows it that ends 14 nodes after them: the third natural
--- cut of a stable point stands at most 14 nodes after the first one.
+-- Putting nodes before others without adding a stable point. A scan to 14 nodes after them shows it: the third natural
+-- cut of a stable point is at most 14 nodes after the first one.
 use Rattle.std.proofs.Common.{◌≡◌, ◌+◌, ◌<◌, ◌≤◌, ◌⊎◌, true, false, List, [], ◌∷◌, ◌++◌, length, refl, sym, ap, ◌∙◌, inl, inr, arith, append_assoc, length-append}
 use Rattle.std.proofs.lemmas.Bool.{cases_lt}
 use Rattle.xet_merkle.specs.Groups.{Node}

@@ -1,5 +1,5 @@
--- A scan of a list for stable places, node by node from its start. What it keeps of the nodes so far: how many
--- stand after the last natural cut, and whether the nodes up to that cut end stable.
+-- A scan of a list for stable points, node by node from its start. It remembers how many nodes come after the last
+-- natural cut, and whether the nodes up to that cut end stable.
 use Rattle.std.proofs.Common.{◌≡◌, ℕ, ◌+◌, ◌≤◌, ◌⊎◌, ◌&&◌, Bool, true, false, List, [], ◌∷◌, ◌++◌, length, refl, sym, ap, subst, ◌∙◌, inl, inr, arith, append_assoc, append-nil, length-append, leb}
 use Rattle.std.proofs.lemmas.Bool.{cases_Bool, false≢true, leb-true, leb-false, and_parts, and_cases, and_from, le-leb}
 use Rattle.std.proofs.lemmas.List.{same_from_push}

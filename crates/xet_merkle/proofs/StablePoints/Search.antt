@@ -1,4 +1,4 @@
--- Whether a place is stable can be decided; so a list has a first and a last stable place, or none.
+-- Whether a place is a stable point can be decided. So a list has a first and a last stable point, or none.
 use Rattle.std.proofs.Common.{◌≡◌, ℕ, ◌≤◌, ◌⊎◌, List, [], ◌∷◌, ◌++◌, length, refl, sym, ap, subst, ◌∙◌, inl, inr, arith, length-append}
 use Rattle.std.proofs.lemmas.Bool.{cases_lt}
 use Rattle.xet_merkle.specs.Groups.{Node, Cut}

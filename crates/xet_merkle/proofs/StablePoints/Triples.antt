@@ -1,5 +1,5 @@
--- The stable points of a list by indices: a place is stable where, and only where, three natural cuts stand round
--- it as the documentation says.
+-- The stable points of a list by indices: a place is a stable point if and only if three natural cuts are around it as
+-- the documentation says.
 use Rattle.std.proofs.Common.{◌≡◌, ℕ, zero, suc, ◌+◌, ◌-◌, ◌<◌, ◌≤◌, ◌↔◌, List, [], ◌∷◌, ◌++◌, length, take, drop, refl, sym, ap, subst, ◌∙◌, inl, inr, arith, append_assoc, length-append, length-take}
 use Rattle.std.proofs.lemmas.Bool.{cases_lt}
 use Rattle.std.proofs.lemmas.List.{take-append-drop, take_at, drop_at, drop_all}

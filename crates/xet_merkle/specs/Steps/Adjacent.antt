@@ -12,12 +12,12 @@ pub record IsPassed {R : Type 0} (start end : R → Bool) (total : R → ℕ) (p
   pub marks : IsTrue passed.no_mark_between ↔ NoMarkBetween start end ranges
   pub sum : SomeIff passed.total (total_of total ranges < 2 ^ 64) (total_of total ranges)
 
--- no mark stands between the last range, if there is one, and the next
+-- no mark is between the last range, if there is one, and the next
 abbrev pub Follows : Option Bool → Bool → Type 0
 Follows None start = Unit {0}
 Follows (Some end) start = (end ≡ false) × (start ≡ false)
 
--- why ranges of which this is known can't be made one, where there is a reason but memory
+-- why ranges of which this is known can't be merged, if there is a reason other than memory
 abbrev pub refusal : Bool → Option ℕ → Option CoreError
 refusal false total = Some InvalidArguments
 refusal true None = Some SizeOverflow

@@ -1,4 +1,5 @@
--- Levels of a canonical subtree and of a merge while they are built, and what is stored of a subtree.
+-- Levels of a canonical subtree and of a merge while they are built, and what a subtree stores. Only private contracts
+-- and proofs use them.
 use Rattle.std.specs.Prelude.{◌≡◌, ℕ, ◌+◌, ◌^◌, ◌<◌, ◌≤◌, Bool, false, List, ◌++◌, length}
 use Rattle.xet_merkle.specs.Groups.{Node}
 use Rattle.xet_merkle.specs.Roots.{total_size}
@@ -9,32 +10,32 @@ use Rattle.xet_merkle.specs.WellFormed.{IsWellFormed}
 use Rattle.xet_merkle.specs.Steps.LevelMerging.{HaveSides, Sight, IsSightMerge}
 use Rattle.xet_merkle.specs.Steps.Room.{most_made}
 
--- the levels of two subtrees that can be merged, whose outer marks are given
+-- the levels of two subtrees that can be merged, under these outer marks
 pub record AreOperands (at_start at_end : Bool) (xs ys : List Level) : Type 0 where
   pub sides_x : HaveSides at_start false xs
   pub sides_y : HaveSides false at_end ys
   pub top_x : 1 < length xs → 0 < length (top_nodes xs)
   pub top_y : 1 < length ys → 0 < length (top_nodes ys)
 
--- levels below the canonical subtree of some nodes, and the work that is done, make it that of others
+-- put below the canonical subtree of `nodes`, these levels and the work already done make that of `all`
 abbrev pub StandBelow : (List Node → Node) → Bool → Bool → List Node → List Level → ℕ → List Node → Type 0
 StandBelow make at_start at_end all levels done nodes = (top : List Level) (work : ℕ) →
     IsCanonicalBy make at_start at_end nodes top work → IsCanonicalBy make at_start at_end all (levels ++ top) (done + work)
 
--- levels below what is in sight, and the work that is done, make it the merge of what was in sight
+-- put below the merge of `rest`, these levels and the work already done make the merge of `sight`
 abbrev pub MergeBelow : (List Node → Node) → Sight → List Level → ℕ → Sight → Type 0
 MergeBelow make sight levels done rest = (top : List Level) (work : ℕ) →
     IsSightMerge make rest top work → IsSightMerge make sight (levels ++ top) (done + work)
 
--- both operands in sight have levels, all sizes fit 64 bits, and so many parents were made that those to come can be, too
+-- both operands in sight have levels, all sizes fit 64 bits, and the maker can still make the remaining parents
 pub record CanMerge (made : ℕ) (sight : Sight) : Type 0 where
   pub some_front : 0 < length sight.front
   pub some_back : 0 < length sight.back
   pub fits : levels_size sight.front + (total_size sight.carry + levels_size sight.back) < 2 ^ 64
   pub room : made + (length sight.carry + ((node_count sight.front + length sight.front) + (node_count sight.back + length sight.back))) ≤ most_made
 
--- two subtrees can be merged: no mark stands between them, and their sizes and numbers of nodes add up within 64 bits. The outer
--- marks and the sum of the sizes are those of the merged one.
+-- two subtrees can be merged: no mark is between them, and both their sizes and their numbers of nodes add up to less
+-- than 2 ^ 64. The outer marks and the sum of the sizes are those of the merged one.
 pub record AreMergeable (front back : Subtree) (at_start at_end : Bool) (size : ℕ) : Type 0 where
   pub front_is : IsWellFormed front
   pub back_is : IsWellFormed back
@@ -46,8 +47,8 @@ pub record AreMergeable (front back : Subtree) (at_start at_end : Bool) (size : 
   pub fits : size < 2 ^ 64
   pub few : node_count front.levels + node_count back.levels < 2 ^ 64
 
--- what a subtree stores beside its marks: levels, and the sum of the sizes, which fits 64 bits, as the number of
--- nodes does
+-- what a subtree stores besides its marks: levels, and the sum of the sizes; this sum and the number of nodes fit 64
+-- bits
 pub record IsStored (at_start at_end : Bool) (levels : List Level) (size : ℕ) : Type 0 where
   pub well_formed : IsWellFormed (record { at_start = at_start; at_end = at_end; levels = levels })
   pub size_is : size ≡ levels_size levels

@@ -1,5 +1,5 @@
--- Merging two subtrees from what they keep of each level, from the chunks up. Private contracts and proofs
--- speak of it; what a reader has to believe stands in Canonical and Subtree.
+-- Merging two subtrees from what they keep of each level, from the chunks up. Only private contracts and proofs use it.
+-- What a reader has to believe is in Canonical and Subtree.
 use Rattle.std.specs.Prelude.{◌≡◌, ℕ, ◌+◌, ◌≤◌, ◌⊎◌, Bool, true, false, List, [], ◌∷◌, ◌++◌, length, map, drop}
 use Rattle.xet_merkle.specs.Groups.{Node, Cut, Groups}
 use Rattle.xet_merkle.specs.StablePoints.{NoStable, IsFirstStable, IsLastStable}
@@ -10,7 +10,7 @@ use Rattle.xet_merkle.specs.Steps.StableScan.{AddsNoStable, AddsNoStableBefore}
 use Rattle.xet_merkle.specs.declared.merkle_hash_subtree.levels.Operand.{Operand}
 use Rattle.xet_merkle.specs.declared.merkle_hash_subtree.levels.Operand.TheVariants.{Front, Back}
 
--- what may stay on the left, and on the right, below the top under a mark: nothing where there is one
+-- what may stay on the left, and on the right, below the top under a mark: nothing if the end is marked
 abbrev pub IsLeftUnder : Bool → List Node → Type 0
 IsLeftUnder true left = left ≡ []
 IsLeftUnder false left = IsLeftSide left
@@ -26,24 +26,24 @@ HaveSides at_start at_end (top ∷ []) = top.right ≡ []
 HaveSides at_start at_end (level ∷ next ∷ levels) =
     IsLeftUnder at_start level.left × IsRightUnder at_end level.right × HaveSides at_start at_end (next ∷ levels)
 
--- levels as an operand: one without nodes where there are none
+-- levels as an operand: if there are none, one level without nodes
 abbrev pub operand : List Level → List Level
 operand [] = no_level ∷ []
 operand (level ∷ levels) = level ∷ levels
 
--- the levels above the first; above the top stand no nodes
+-- the levels above the first; above the top there are no nodes
 abbrev pub above : List Level → List Level
 above [] = []
 above (top ∷ []) = no_level ∷ []
 above (level ∷ next ∷ levels) = next ∷ levels
 
--- what a front operand has of its first level towards the back one: all nodes of the top
+-- the nodes of a front operand's first level that face the back one; at the top these are all
 abbrev pub inner_nodes : List Level → List Node
 inner_nodes [] = []
 inner_nodes (top ∷ []) = top.left
 inner_nodes (level ∷ next ∷ levels) = level.right
 
--- the nodes in sight between two operands: some are carried between them
+-- the nodes in sight between two operands, including those carried between them
 abbrev pub between : List Level → List Node → List Level → List Node
 between xs carry [] = inner_nodes xs ++ carry
 between xs carry (y ∷ ys) = inner_nodes xs ++ (carry ++ y.left)
@@ -64,7 +64,7 @@ IsLowBefore false left middle = IsFirstStable left middle ⊎ ((middle ≡ []) �
 abbrev pub NoSplit : Bool → Bool → List Node → Type 0
 NoSplit at_start at_end nodes = (left middle right : List Node) → ¬ (IsSplit at_start at_end nodes left middle right)
 
--- of the nodes in sight between two operands, what is collapsed; and what stays on either side. An operand
+-- the split of the nodes in sight between two operands: what is collapsed, and what stays on either side. An operand
 -- that has levels above keeps its outer side.
 pub data IsMergeSplit (at_start at_end : Bool) : List Level → List Level → List Node → List Node → List Node → List Node → Type 0 where
   both : {x next_x y next_y : Level} {xs ys : List Level} {seen left middle right : List Node} →
@@ -77,10 +77,10 @@ pub data IsMergeSplit (at_start at_end : Bool) : List Level → List Level → L
       seen ≡ left ++ middle → IsLowBefore at_start left middle → right ≡ y.right →
       IsMergeSplit at_start at_end (x ∷ []) (y ∷ next_y ∷ ys) seen left middle right
 
--- the levels that two operands, and nodes carried between them, are merged to, and the work: how many
--- parents are made. Where neither operand has levels above, all nodes are in sight. They are the top where the end isn't
--- marked and no split comes up among them that the front operand hadn't, and where the start isn't marked and none comes
--- up that the back operand hadn't.
+-- the levels that two operands, and nodes carried between them, are merged to, and the work, which is the number of
+-- parents made. If neither operand has levels above, all nodes are in sight. They are the top if the end isn't marked
+-- and they have no split that the front operand hadn't, and if the start isn't marked and they have none that the back
+-- operand hadn't.
 pub data IsLevelMerge (make : List Node → Node) (at_start at_end : Bool) : List Level → List Node → List Level → List Level → ℕ → Type 0 where
   all_in_sight : {x y : Level} {carry : List Node} {levels : List Level} {work : ℕ} →
       IsCanonicalBy make at_start at_end (between (x ∷ []) carry (y ∷ [])) levels work →
@@ -98,8 +98,8 @@ pub data IsLevelMerge (make : List Node → Node) (at_start at_end : Bool) : Lis
 
 -- ---- what is in sight
 
--- what two operands have in sight of each other at a level: their levels from that one up, the nodes carried between them,
--- and the outer marks
+-- what is in sight at a level: the levels of both operands from that one up, the nodes carried between them, and the
+-- outer marks
 pub record Sight : Type 0 where
   pub front : List Level
   pub carry : List Node
@@ -110,7 +110,7 @@ pub record Sight : Type 0 where
 abbrev pub seen : Sight → List Node
 seen sight = between sight.front sight.carry sight.back
 
--- so many levels further up, with other nodes carried
+-- what is in sight n levels further up, with other nodes carried
 abbrev pub sight_up : ℕ → Sight → List Node → Sight
 sight_up n sight carry = record {
   front = operand (drop n sight.front);
@@ -128,7 +128,7 @@ IsSightMerge make sight levels work = IsLevelMerge make sight.at_start sight.at_
 
 -- ---- in place
 
--- one of two operands, where the other one is given last
+-- the front one of two operands; `other` is the operand that isn't kept
 abbrev pub front_of : {T : Type 0} → Operand → T → T → T
 front_of Front kept other = kept
 front_of Back kept other = other
@@ -151,40 +151,40 @@ sight_of kept at_start at_end levels carry other = record {
 abbrev pub levels_of : Operand → Sight → List Level
 levels_of operand sight = front_of operand sight.front sight.back
 
--- of the nodes that stay on either side of an operand's level, those towards the other operand
+-- the nodes that stay on the side of an operand's level that faces the other operand
 abbrev pub inner_side : Operand → List Node → List Node → List Node
 inner_side Front left right = right
 inner_side Back left right = left
 
--- levels have sides as those of an operand whose list has the outer mark of both
+-- levels have the sides of an operand whose list has the outer mark of both
 abbrev pub HaveSidesOf : Operand → Bool → Bool → List Level → Type 0
 HaveSidesOf Front at_start at_end levels = HaveSides at_start false levels
 HaveSidesOf Back at_start at_end levels = HaveSides false at_end levels
 
--- a level of an operand with other nodes on the side towards the other operand
+-- a level of an operand with other nodes on the side that faces the other operand
 abbrev pub with_side : Operand → Level → List Node → Level
 with_side Front level side = record { left = level.left; right = side }
 with_side Back level side = record { left = side; right = level.right }
 
--- the lowest of some levels, as many as there are lists, each with other nodes on that side
+-- the lowest levels, as many as there are lists, each with other nodes on that side
 abbrev pub lowest_with : Operand → List (List Node) → List Level → List Level
 lowest_with kept [] levels = []
 lowest_with kept (side ∷ sides) [] = []
 lowest_with kept (side ∷ sides) (level ∷ levels) = with_side kept level side ∷ lowest_with kept sides levels
 
--- the levels of a front operand with more nodes after those of its first level towards the back one
+-- the levels of a front operand with more nodes after those of its first level that face the back one
 abbrev pub with_inner : List Level → List Node → List Level
 with_inner [] more = []
 with_inner (top ∷ []) more = record { left = top.left ++ more; right = top.right } ∷ []
 with_inner (level ∷ next ∷ levels) more = record { left = level.left; right = level.right ++ more } ∷ next ∷ levels
 
--- the levels of a back operand with more nodes before those of its first level towards the front one
+-- the levels of a back operand with more nodes before those of its first level that face the front one
 abbrev pub with_left : List Level → List Node → List Level
 with_left [] more = []
 with_left (level ∷ levels) more = record { left = more ++ level.left; right = level.right } ∷ levels
 
--- what is in sight only extends the first level of an operand: the other one's outer end isn't marked, that one has no levels
--- above, and no stable point comes up
+-- what is in sight only extends the first level of an operand: the outer end of the other isn't marked, the other has
+-- no levels above, and no stable point is added
 abbrev pub OnlyExtends : Operand → Sight → Type 0
 OnlyExtends Front sight =
     (sight.at_end ≡ false) × (length sight.back ≤ 1) × AddsNoStable (inner_nodes sight.front) (sight.carry ++ left_at sight.back 0)

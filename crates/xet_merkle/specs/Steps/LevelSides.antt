@@ -1,12 +1,11 @@
--- What the sides of a level below the top are asked for, where the rules of levels are tested. Private contracts
--- speak of it.
+-- The requirements for the sides of a level below the top, as the code checks them. Only private contracts use them.
 use Rattle.std.specs.Prelude.{◌≡◌, []}
 use Rattle.xet_merkle.specs.declared.merkle_hash_subtree.level_rules.Side.{Side}
 use Rattle.xet_merkle.specs.declared.merkle_hash_subtree.level_rules.Side.TheVariants.{NoLeft, NoRight, Left, Right}
 use Rattle.xet_merkle.specs.Levels.{Level}
 use Rattle.xet_merkle.specs.WellFormed.{IsLeftSide, IsRightSide}
 
--- a level has what is asked for
+-- a level meets a requirement
 abbrev pub HasSide : Side → Level → Type 0
 HasSide NoLeft level = level.left ≡ []
 HasSide NoRight level = level.right ≡ []

@@ -1,4 +1,4 @@
--- Ranges of any kind, joined one after another.
+-- Ranges of any kind, merged one after another.
 use Rattle.std.specs.Prelude.{◌≡◌, ℕ, Bool, List, [], ◌∷◌, Option, Some, None, flat_map}
 use Rattle.std.specs.List.{AllZip}
 use Rattle.xet_merkle.specs.Groups.{Node}
@@ -15,7 +15,7 @@ abbrev pub start_of_first : {R : Type 0} → (R → Bool) → List R → Option 
 start_of_first start [] = None
 start_of_first start (range ∷ ranges) = Some (start range)
 
--- adjacent ranges are joined to others
+-- adjacent ranges are merged to others
 pub record JoinsTo {R : Type 0} (stands : R → List Node → Type 0) (start end : R → Bool) (total : R → ℕ) (ranges others : List R) : Type 0 where
   pub marks : NoMarkBetween start end others
   pub first : start_of_first start others ≡ start_of_first start ranges

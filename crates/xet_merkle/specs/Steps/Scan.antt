@@ -1,6 +1,5 @@
--- What the reading of a list of nodes from its first one finds: the first group, and gaps between natural
--- cuts. Private contracts and proofs speak of it; what a reader has to believe stands in Groups, Roots and
--- StablePoints.
+-- What reading a list of nodes from the first one on finds: the first group, and gaps between natural cuts. Only
+-- private contracts and proofs use it. What a reader has to believe is in Groups, Roots and StablePoints.
 use Rattle.std.specs.Prelude.{◌≡◌, ◌⊎◌, ℕ, Bool, ◌&&◌, nat_le, List, [], map}
 use Rattle.xet_merkle.specs.Groups.{Node, IsGroup, IsFull, Groups}
 
@@ -13,6 +12,6 @@ pub record IsFirstGroup (group rest : List Node) : Type 0 where
 abbrev pub AreParents : (List Node → Node) → List Node → List Node → Type 0
 AreParents make nodes parents = (groups : List (List Node)) × Groups nodes groups × (parents ≡ map make groups)
 
--- whether so many nodes between two natural cuts make the second one 3 to 7 nodes after the first
+-- whether two natural cuts with this many nodes between them are 3 to 7 nodes apart
 abbrev pub is_stable_gap : ℕ → Bool
 is_stable_gap between = nat_le 2 between && nat_le between 6

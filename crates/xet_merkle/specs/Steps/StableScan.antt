@@ -1,13 +1,13 @@
--- What a scan for stable points keeps, and what it stands after. Private contracts and proofs speak of it;
--- what a reader has to believe stands in StablePoints.
+-- What a scan for stable points keeps, and what comes before it. Only private contracts and proofs use it. What a
+-- reader has to believe is in StablePoints.
 use Rattle.std.specs.Prelude.{◌≡◌, ◌+◌, ◌≤◌, Bool, true, false, not, ◌&&◌, List, [], ◌∷◌, ◌++◌, length}
 use Rattle.xet_merkle.specs.Groups.{Node, is_cut, Cut}
 use Rattle.xet_merkle.specs.StablePoints.{IsStable}
 use Rattle.xet_merkle.specs.Steps.Scan.{is_stable_gap}
 use Rattle.xet_merkle.specs.declared.merkle_hash_subtree.stable_points.CutScan.{CutScan}
 
--- whether the next node is the third natural cut of a stable point: the nodes up to the natural cut before
--- it end stable, and so many stand between
+-- whether the next node is the third natural cut of a stable point: the nodes up to the natural cut before it end
+-- stable, and the gap between the two has the right length
 abbrev pub completes : CutScan → Bool → Bool
 completes scan is_cut = is_cut && (scan.ends_stable && is_stable_gap scan.since_cut)
 
@@ -16,7 +16,7 @@ abbrev pub next_scan : CutScan → Bool → CutScan
 next_scan scan true = record { has_cut = true; ends_stable = scan.has_cut && is_stable_gap scan.since_cut; since_cut = 0 }
 next_scan scan false = record { has_cut = scan.has_cut; ends_stable = scan.ends_stable; since_cut = scan.since_cut + 1 }
 
--- what stands in front of the nodes scanned: one natural cut, or nothing
+-- what comes before the scanned nodes: one natural cut, or nothing
 abbrev pub IsFront : Bool → List Node → Type 0
 IsFront true front = (cut : Node) × (front ≡ cut ∷ []) × Cut cut
 IsFront false front = front ≡ []
@@ -30,12 +30,12 @@ abbrev pub completes_none : CutScan → List Node → Bool
 completes_none scan [] = true
 completes_none scan (node ∷ nodes) = not (completes scan (is_cut node)) && completes_none (next_scan scan (is_cut node)) nodes
 
--- more nodes after others bring up no stable point, also where one node stands in front: each one was there before
+-- appending nodes to others adds no stable point, even if one node comes before: each was a stable point already
 abbrev pub AddsNoStable : List Node → List Node → Type 0
 AddsNoStable nodes more = (front left right : List Node) → length front ≤ 1 → (front ++ nodes) ++ more ≡ left ++ right → IsStable left right →
     (rest : List Node) × (front ++ nodes ≡ left ++ rest) × IsStable left rest
 
--- nodes before others bring up no stable point: each one stands among the others
+-- putting nodes before others adds no stable point: each is among the others
 abbrev pub AddsNoStableBefore : List Node → List Node → Type 0
 AddsNoStableBefore more nodes = (left right : List Node) → more ++ nodes ≡ left ++ right → IsStable left right →
     (rest : List Node) × (left ≡ more ++ rest) × IsStable rest right

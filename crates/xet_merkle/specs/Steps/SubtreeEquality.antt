@@ -1,4 +1,4 @@
--- The test whether two subtrees are equal is equality: the laws that `==` has to keep.
+-- The laws that `==` of subtrees keeps: it returns true exactly for equal subtrees.
 use Rattle.std.specs.Prelude.{◌≡◌, Bool, ◌&&◌, nat_eq}
 use mathlib.Core.Bool.{beq}
 use Rattle.std.specs.Bool.{Decides}

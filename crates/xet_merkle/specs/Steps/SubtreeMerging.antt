@@ -7,7 +7,7 @@ use Rattle.xet_merkle.specs.declared.adjacent.Passed.{Passed}
 use Rattle.xet_merkle.specs.Steps.Adjacent.{IsPassed, refusal}
 use Rattle.xet_merkle.specs.Steps.RangeMerging.{JoinsTo}
 
--- merging some ranges is merging others
+-- merging some ranges gives others
 abbrev pub MergesTo : List Subtree → List Subtree → Type 0
 MergesTo = JoinsTo IsCanonical (λ range. range.at_start) (λ range. range.at_end) (λ range. levels_size range.levels)
 
@@ -15,6 +15,6 @@ MergesTo = JoinsTo IsCanonical (λ range. range.at_start) (λ range. range.at_en
 abbrev pub ArePassed : Passed → List Subtree → Type 0
 ArePassed = IsPassed (λ range. range.at_start) (λ range. range.at_end) (λ range. levels_size range.levels)
 
--- why ranges can't be merged, by what is known of them once all were passed
+-- why ranges can't be merged, from what is known of them after all were passed
 abbrev pub RefusalOf : List Subtree → Option CoreError → Type 0
 RefusalOf ranges reason = (passed : Passed) × ArePassed passed ranges × (reason ≡ refusal passed.no_mark_between passed.total)

@@ -1,4 +1,4 @@
-//! The levels of canonical subtrees, from the nodes of the lowest one up.
+//! The levels of canonical subtrees, from the lowest level up.
 
 ghost use Rattle.std.specs.Prelude.{◌≡◌, ℕ, ◌+◌, ◌^◌, ◌<◌, ◌≤◌, List, ◌++◌, ◌∷◌, [], length, IfOk};
 ghost use Rattle.xet_merkle.specs.Groups.{Node};
@@ -15,7 +15,7 @@ use crate::groups::Node;
 use crate::parent_maker::{ParentHashes, ParentMaker};
 use std::alloc::{AllocError, Allocator};
 
-// Levels with one more at the top, and the parents of what is collapsed of it.
+// Adds a level at the top: the split's left and right nodes. Returns the levels, and the parents of the split's middle.
 pub(super) fn collapse_middle<A: Allocator + Clone, P: ParentMaker>(
     alloc: A,
     levels: Vec<LevelNodes<A>, A>,
@@ -35,7 +35,7 @@ pub(super) fn collapse_middle<A: Allocator + Clone, P: ParentMaker>(
     Ok((levels, parents))
 }
 
-// Levels with those of the canonical subtree of some nodes on top.
+// Adds the levels of the canonical subtree of some nodes on top.
 pub(super) fn collapse<A: Allocator + Clone, P: ParentMaker>(
     alloc: A,
     levels: Vec<LevelNodes<A>, A>,
@@ -56,7 +56,7 @@ pub(super) fn collapse<A: Allocator + Clone, P: ParentMaker>(
     Ok(pushed(levels, LevelNodes::new(nodes, Vec::new(alloc)))?)
 }
 
-// Levels with those of the canonical subtree of some nodes on top. Of the nodes it copies only those that stay.
+// Adds the levels of the canonical subtree of some nodes on top. It copies only the nodes that stay.
 pub(super) fn collapse_slice<A: Allocator + Clone, P: ParentMaker>(
     alloc: A,
     levels: Vec<LevelNodes<A>, A>,
@@ -78,7 +78,7 @@ pub(super) fn collapse_slice<A: Allocator + Clone, P: ParentMaker>(
     }
 }
 
-// The levels of the canonical subtree of some chunks.
+// Returns the levels of the canonical subtree of some chunks.
 pub(super) fn collapse_chunks<A: Allocator + Clone>(
     alloc: A,
     chunks: &[Node],

@@ -1,4 +1,4 @@
-//! What the operands of a merge have in sight of each other at a level.
+//! What is in sight at a level of a merge: the inner nodes of both operands, and the parents made one level below.
 
 ghost use Rattle.std.specs.Prelude.{◌≡◌, ℕ, ◌+◌, ◌^◌, ◌<◌, ◌≤◌, ◌⊎◌, ◌↔◌, List, [], ◌++◌, length, take, drop, IfOk, IsTrue, false};
 ghost use Rattle.xet_merkle.specs.Roots.{total_size, parent_by};
@@ -17,10 +17,10 @@ use crate::parent_maker::ParentMaker;
 use std::alloc::{AllocError, Allocator};
 use std::marker::Model;
 
-// What two operands have in sight of each other at a level.
+// What is in sight at one level of a merge.
 #[derive(Drop)]
 pub(super) struct InSight<'a, A: Allocator> {
-    // Their levels from that one up.
+    // The levels of the front operand from that level up; `back` has those of the other.
     front: &'a [LevelNodes<A>],
     // The parents that were made one level below.
     carry: Vec<Node, A>,
@@ -43,7 +43,8 @@ impl<'a, A: Allocator> Model for InSight<'a, A> {
     } };
 }
 
-// How many nodes are collapsed of those after collapsed ones, the last of which is a natural cut.
+// Returns how many nodes are collapsed, if the nodes before them are collapsed too and the last of these is a natural
+// cut.
 fn high_end_after(nodes: &[Node], at_end: bool) -> usize
     ensures bound { result ≤ length nodes.now }
     ensures high { IsHighAfter at_end (take result nodes.now) (drop result nodes.now) }
@@ -55,7 +56,7 @@ fn high_end_after(nodes: &[Node], at_end: bool) -> usize
     }
 }
 
-// How many nodes stay on the left of those before collapsed ones.
+// Returns how many nodes stay on the left, if the nodes after them are collapsed.
 fn low_end_before(nodes: &[Node], at_start: bool) -> usize
     ensures bound { result ≤ length nodes.now }
     ensures low { IsLowBefore at_start (take result nodes.now) (drop result nodes.now) }
@@ -68,7 +69,7 @@ fn low_end_before(nodes: &[Node], at_start: bool) -> usize
 }
 
 impl<'a, A: Allocator> InSight<'a, A> {
-    // What is in sight of the levels of an operand and of the other one's.
+    // Starts from the levels of both operands. `kept` says which of them `levels` belongs to.
     pub(super) fn new(
         kept: Operand,
         levels: &'a [LevelNodes<A>],
@@ -94,14 +95,14 @@ impl<'a, A: Allocator> InSight<'a, A> {
         }
     }
 
-    // The nodes carried.
+    // Returns the carried nodes.
     pub(super) fn into_carry(self) -> Vec<Node, A>
         ensures { result.items ≡ self.entry.carry }
     {
         self.carry
     }
 
-    // What is in sight one level up, where these parents were made.
+    // Goes one level up, given the parents that were made.
     pub(super) fn above(self, parents: Vec<Node, A>) -> Self
         ensures { result ≡ sight_up 1 self.entry parents.items }
     {
@@ -113,7 +114,7 @@ impl<'a, A: Allocator> InSight<'a, A> {
         }
     }
 
-    // Whether an operand has levels above.
+    // Returns whether an operand has levels above.
     pub(super) fn is_collapsed(&self, operand: Operand) -> bool
         ensures { IsTrue result ↔ (1 < length (levels_of operand self.now)) }
     {
@@ -123,8 +124,8 @@ impl<'a, A: Allocator> InSight<'a, A> {
         }
     }
 
-    // Of the nodes in sight, what is collapsed, and what stays on either side. An operand that has levels above keeps its
-    // outer side.
+    // Splits the nodes in sight into what is collapsed and what stays on either side. An operand that has levels above
+    // keeps its outer side.
     pub(super) fn split<'s>(&'s self, nodes: &'s [Node]) -> Split<'s>
         requires above { (1 < length self.now.front) ⊎ (1 < length self.now.back) }
         requires nodes { nodes.now ≡ seen self.now }
@@ -153,7 +154,8 @@ impl<'a, A: Allocator> InSight<'a, A> {
         }
     }
 
-    // Whether the nodes carried, and those of the back operand, only go after what the front operand has of its level.
+    // Returns whether the carry, and the nodes of the back operand, are only appended to the front operand's nodes of
+    // the level.
     fn only_appends(&self) -> bool
         ensures { IsTrue result → OnlyExtends Operand.Front self.now }
     {
@@ -162,7 +164,8 @@ impl<'a, A: Allocator> InSight<'a, A> {
             && adds_no_stable(inner(self.front), &self.carry, left_at(self.back, 0))
     }
 
-    // Whether the nodes of the front operand, and those carried, only go before what the back operand has of its level.
+    // Returns whether the carry, and the nodes of the front operand, are only put before the back operand's nodes of
+    // the level.
     fn only_prepends(&self) -> bool
         ensures { IsTrue result → OnlyExtends Operand.Back self.now }
     {
@@ -171,8 +174,9 @@ impl<'a, A: Allocator> InSight<'a, A> {
             && adds_no_stable_before(inner(self.front), &self.carry, left_at(self.back, 0))
     }
 
-    // Whether what is in sight only extends an operand's level, so that nothing is collapsed from here on: the other one's
-    // outer end isn't marked, that one has no levels above, and no stable point comes up.
+    // Returns whether the nodes in sight only extend an operand's level, so that nothing is collapsed from here on.
+    // That is so if the outer end of the other operand isn't marked, that operand has no levels above, and no stable
+    // point is added.
     pub(super) fn only_extends(&self, operand: Operand) -> bool
         ensures { IsTrue result → OnlyExtends operand self.now }
     {
@@ -182,7 +186,7 @@ impl<'a, A: Allocator> InSight<'a, A> {
         }
     }
 
-    // Whether no node is in sight but the front operand's.
+    // Returns whether only nodes of the front operand are in sight.
     fn is_front_alone(&self) -> bool
         ensures { IsTrue result → seen self.now ≡ inner_nodes self.now.front }
     {
@@ -191,7 +195,7 @@ impl<'a, A: Allocator> InSight<'a, A> {
 }
 
 impl<'a, A: Allocator + Clone> InSight<'a, A> {
-    // The nodes in sight.
+    // Returns the nodes in sight.
     pub(super) fn nodes(&self) -> Result<Vec<Node, A>, AllocError>
         ensures { IfOk result (λ nodes. nodes.items ≡ seen self.now) }
     {
@@ -204,8 +208,8 @@ impl<'a, A: Allocator + Clone> InSight<'a, A> {
         Ok(nodes)
     }
 
-    // Levels with those of the canonical subtree of the nodes in sight on top. Where these are the front operand's alone,
-    // only those that stay are copied.
+    // Adds the levels of the canonical subtree of the nodes in sight on top. If all of them are the front operand's, it
+    // copies only those that stay.
     pub(super) fn collapse<P: ParentMaker>(
         &self,
         levels: Vec<LevelNodes<A>, A>,

@@ -1,4 +1,4 @@
-//! What is read of a subtree's JSON value before its levels and nodes are looked at together.
+//! Reads the parts of a subtree's JSON value, before its levels and nodes are checked together.
 
 ghost use Rattle.serde_json.specs.Data.{Data};
 ghost use Rattle.serde_json.specs.Find.{get, as_bool, as_array};
@@ -15,17 +15,17 @@ use serde_json::Value;
 use std::alloc::Allocator;
 use xet_hash::data_hash::DataHash;
 
-// The marks, the counts of each level and the nodes that a value says.
+// The marks, the counts of each level and the nodes in a value.
 #[derive(Drop)]
 pub(super) struct Parts<A: Allocator> {
     pub(super) at_start: bool,
     pub(super) at_end: bool,
-    // How many left and right nodes each level has.
+    // The numbers of left and right nodes of each level.
     pub(super) counts: Vec<(usize, usize), A>,
     pub(super) nodes: Vec<Node, A>,
 }
 
-// The members of a subtree's object, each of its kind.
+// The members of a subtree's object, each of the right type.
 #[derive(Drop)]
 struct Members<'v> {
     at_start: bool,
@@ -34,21 +34,21 @@ struct Members<'v> {
     nodes: &'v [Value],
 }
 
-// The truth value that a member is.
+// Returns a member that is a boolean.
 fn truth_member(value: &Value, name: &str) -> Option<bool>
     ensures { result ≡ option_and_then as_bool (get name.now (view value.now)) }
 {
     value.get(name)?.as_bool()
 }
 
-// The values of the array that a member is.
+// Returns the values of a member that is an array.
 fn array_member<'v>(value: &'v Value, name: &str) -> Option<&'v [Value]>
     ensures { option_map (λ values. items_view values.now) result ≡ option_and_then as_array (get name.now (view value.now)) }
 {
     Some(value.get(name)?.as_array()?.as_slice())
 }
 
-// The members of a subtree's object, where each is there and of its kind.
+// Returns the members of a subtree's object, if each exists and has the right type.
 fn read_members<'v>(value: &'v Value) -> Option<Members<'v>>
     ensures some { IfSome result (λ members. HasMembers (view value.now) members.at_start members.at_end
         (map view members.levels.now) (map view members.nodes.now)) }
@@ -67,7 +67,7 @@ fn read_members<'v>(value: &'v Value) -> Option<Members<'v>>
     })
 }
 
-// The node that a value is.
+// Returns the node in a value.
 fn read_node(value: &Value) -> Option<Node>
     ensures some { IfSome result (λ node. ReadsNode (view value.now) node) }
     ensures none { IfNone result ((node : Node) → ¬ (ReadsNode (view value.now) node)) }
@@ -77,7 +77,7 @@ fn read_node(value: &Value) -> Option<Node>
     Some((hash, size))
 }
 
-// The whole number that a value is, as a count of nodes.
+// Returns the whole number in a value, as a count of nodes.
 fn read_count(value: &Value) -> Option<usize>
     ensures { result ≡ whole (view value.now) }
 {
@@ -85,7 +85,7 @@ fn read_count(value: &Value) -> Option<usize>
     Some(count as usize)
 }
 
-// The counts of left and right nodes that a value is.
+// Returns the counts of left and right nodes in a value.
 fn read_counts(value: &Value) -> Option<(usize, usize)>
     ensures some { IfSome result (λ count. ReadsCounts (view value.now) count) }
     ensures none { IfNone result ((count : ℕ × ℕ) → ¬ (ReadsCounts (view value.now) count)) }
@@ -96,7 +96,7 @@ fn read_counts(value: &Value) -> Option<(usize, usize)>
     Some((read_count(left)?, read_count(right)?))
 }
 
-// The nodes that some values are.
+// Returns the nodes in some values.
 fn read_nodes<A: Allocator>(alloc: A, values: &[Value]) -> Result<Vec<Node, A>, CoreError>
     ensures read { IfOk result (λ nodes. AllZip ReadsNode (map view values.now) nodes.items) }
     ensures refused { IfErr result (λ e. (e ≡ OutOfMemory)
@@ -112,7 +112,7 @@ fn read_nodes<A: Allocator>(alloc: A, values: &[Value]) -> Result<Vec<Node, A>, 
     Ok(nodes)
 }
 
-// The counts that some values are.
+// Returns the counts in some values.
 fn read_levels<A: Allocator>(
     alloc: A,
     values: &[Value],
@@ -131,7 +131,7 @@ fn read_levels<A: Allocator>(
     Ok(counts)
 }
 
-// The parts of a subtree that a value says, or the least of the rules 1 to 4 that it breaks.
+// Returns the parts of a subtree in a value. Fails with the lowest rule from 1 to 4 that the value breaks.
 pub(super) fn read_parts<A: Allocator + Clone>(
     alloc: A,
     value: &Value,

@@ -7,13 +7,13 @@ use std::alloc::{AllocError, Allocator};
 use std::marker::Model;
 use xet_hash::data_hash::MerkleHash;
 
-// The left nodes of a level. More nodes can be put after them and before them, and are each copied a constant number of
-// times then, on average.
+// The left nodes of a level. More nodes can be added before or after them. On average each node is then copied a
+// constant number of times.
 #[derive(Debug, Drop)]
 pub(super) struct LeftNodes<A: Allocator> {
-    // Nodes of no meaning, as room for those to come before, and then the left nodes.
+    // First nodes without meaning, as room for nodes that will be put before the left nodes. Then the left nodes.
     nodes: Vec<Node, A>,
-    // How many nodes are room.
+    // How many of the nodes are room.
     room: usize,
 }
 
@@ -28,7 +28,7 @@ impl<A: Allocator> Model for LeftNodes<A> {
     ghost invariant = { λ stored. stored.room ≤ length stored.nodes.items };
 }
 
-// Nodes after so many others, which have no meaning.
+// Returns the nodes after `room` others, which have no meaning.
 fn with_room<A: Allocator>(
     alloc: A,
     room: usize,
@@ -44,7 +44,7 @@ fn with_room<A: Allocator>(
     Ok(all)
 }
 
-// Puts nodes into the places before one.
+// Writes nodes into the places before `end`.
 fn put_before<A: Allocator>(nodes: &mut Vec<Node, A>, end: usize, more: &[Node])
     requires room { length more.now ≤ end }
     requires end { end ≤ length nodes.old.items }
@@ -61,7 +61,7 @@ fn put_before<A: Allocator>(nodes: &mut Vec<Node, A>, end: usize, more: &[Node])
 }
 
 impl<A: Allocator> LeftNodes<A> {
-    // The left nodes, without room.
+    // Makes left nodes without room.
     pub(super) fn new(nodes: Vec<Node, A>) -> Self
         ensures { result ≡ nodes.items }
     {
@@ -84,7 +84,7 @@ impl<A: Allocator> LeftNodes<A> {
 }
 
 impl<A: Allocator + Clone> LeftNodes<A> {
-    // Puts nodes before them. Where there is no room, it makes some for them and for as many as there are.
+    // Puts nodes before them. If there isn't enough room, it makes room for them and for as many nodes as there are.
     pub(super) fn prepend(&mut self, more: &[Node]) -> Result<(), AllocError>
         ensures prepended { OnOk result (self.new ≡ more.now ++ self.old) }
         ensures unchanged { OnErr result (self.new ≡ self.old) }

@@ -12,20 +12,20 @@ use super::levels::{LevelNodes, below_top, top};
 use super::sides::{is_left_side, is_right_side};
 use std::alloc::Allocator;
 
-// What each level below the top is asked for.
+// A requirement for each level below the top.
 #[derive(Clone, Copy)]
 enum Side {
-    // No left nodes.
+    // It has no left nodes.
     NoLeft,
-    // No right nodes.
+    // It has no right nodes.
     NoRight,
-    // Nodes that may stay on the left where the start isn't marked.
+    // Its left nodes may stay on the left if the start isn't marked.
     Left,
-    // Nodes that may stay on the right where the end isn't marked.
+    // Its right nodes may stay on the right if the end isn't marked.
     Right,
 }
 
-// Whether a level has what is asked for.
+// Returns whether a level meets a requirement.
 fn has_side<A: Allocator>(level: &LevelNodes<A>, side: Side) -> bool
     ensures { IsTrue result ↔ HasSide side level.now }
 {
@@ -37,7 +37,7 @@ fn has_side<A: Allocator>(level: &LevelNodes<A>, side: Side) -> bool
     }
 }
 
-// Whether each of some levels has what is asked for.
+// Returns whether each of some levels meets a requirement.
 fn each_has_side<A: Allocator>(levels: &[LevelNodes<A>], side: Side) -> bool
     ensures { IsTrue result ↔ Each (HasSide side) levels.now }
 {
@@ -49,7 +49,7 @@ fn each_has_side<A: Allocator>(levels: &[LevelNodes<A>], side: Side) -> bool
     true
 }
 
-// How many nodes the top has, where it has no right ones.
+// Returns how many nodes the top has. It has no right nodes.
 fn top_len<A: Allocator>(levels: &[LevelNodes<A>]) -> usize
     requires some { 0 < length levels.now }
     requires no_right { (top_of levels.now).right ≡ [] }
@@ -58,7 +58,7 @@ fn top_len<A: Allocator>(levels: &[LevelNodes<A>]) -> usize
     top(levels).left().len()
 }
 
-// Whether marks and levels keep the rule of that number.
+// Returns whether marks and levels keep rule 8. The next functions do the same for the rules 9 to 13.
 fn keep_rule_8<A: Allocator>(levels: &[LevelNodes<A>], at_end: bool) -> bool
     requires { 0 < length levels.now }
     ensures { IsTrue result ↔ Rule8 at_end levels.now }
@@ -100,7 +100,7 @@ fn keep_rule_13<A: Allocator>(levels: &[LevelNodes<A>], at_end: bool) -> bool
     at_end || each_has_side(below_top(levels), Side::Right)
 }
 
-// The least of the rules 8 to 13 that marks and levels break.
+// Returns the lowest rule from 8 to 13 that marks and levels break.
 pub(super) fn broken_rule<A: Allocator>(
     levels: &[LevelNodes<A>],
     at_start: bool,

@@ -18,7 +18,7 @@ pub(super) enum Operand {
     Back,
 }
 
-// The nodes that are kept of a level, on either side.
+// The kept nodes of a level, on both sides.
 #[derive(Debug, Drop)]
 pub(super) struct LevelNodes<A: Allocator> {
     pub(super) left: LeftNodes<A>,
@@ -53,7 +53,7 @@ impl<A: Allocator> LevelNodes<A> {
         &self.right
     }
 
-    // Gives an operand's level other nodes on the side towards the other operand.
+    // Replaces an operand's nodes of this level on its inner side, which faces the other operand.
     fn replace_side(&mut self, side: Vec<Node, A>, kept: Operand)
         ensures { self.new ≡ with_side kept self.old side.items }
     {
@@ -65,7 +65,7 @@ impl<A: Allocator> LevelNodes<A> {
 }
 
 impl<A: Allocator + Clone> LevelNodes<A> {
-    // A level of these nodes, copied into memory of `alloc`.
+    // Returns a level with copies of these nodes, allocated by `alloc`.
     pub(super) fn copied(alloc: A, left: &[Node], right: &[Node]) -> Result<Self, AllocError>
         ensures { IfOk result (λ level. level ≡ record { left = left.now; right = right.now }) }
     {
@@ -89,7 +89,7 @@ impl<A: Allocator> Eq for LevelNodes<A> {
     ghost laws = { same_level-equiv };
 }
 
-// Levels with one more at the top.
+// Adds a level at the top.
 pub(super) fn pushed<A: Allocator>(
     levels: Vec<LevelNodes<A>, A>,
     level: LevelNodes<A>,
@@ -101,7 +101,7 @@ pub(super) fn pushed<A: Allocator>(
     Ok(levels)
 }
 
-// A copy of levels.
+// Returns a copy of levels.
 pub(super) fn copy_levels<A: Allocator + Clone>(
     alloc: A,
     levels: &[LevelNodes<A>],
@@ -115,7 +115,7 @@ pub(super) fn copy_levels<A: Allocator + Clone>(
     Ok(copy)
 }
 
-// How many nodes levels have, where it is at most `usize::MAX`.
+// Returns the number of nodes in levels, if it is at most `usize::MAX`.
 pub(super) fn count_nodes<A: Allocator>(levels: &[LevelNodes<A>]) -> Option<usize>
     ensures { SomeIff result (node_count levels.now < 2 ^ 64) (node_count levels.now) }
 {
@@ -128,7 +128,7 @@ pub(super) fn count_nodes<A: Allocator>(levels: &[LevelNodes<A>]) -> Option<usiz
     Some(count)
 }
 
-// The left nodes of the level of a number, and none where there is no such level.
+// Returns the left nodes of a level, or none if there is no such level.
 pub(super) fn left_at<A: Allocator>(levels: &[LevelNodes<A>], level: usize) -> &[Node]
     ensures { result.now ≡ left_at levels.now level }
 {
@@ -138,7 +138,7 @@ pub(super) fn left_at<A: Allocator>(levels: &[LevelNodes<A>], level: usize) -> &
     }
 }
 
-// The right nodes of the level of a number, and none where there is no such level.
+// Returns the right nodes of a level, or none if there is no such level.
 pub(super) fn right_at<A: Allocator>(levels: &[LevelNodes<A>], level: usize) -> &[Node]
     ensures { result.now ≡ right_at levels.now level }
 {
@@ -148,7 +148,7 @@ pub(super) fn right_at<A: Allocator>(levels: &[LevelNodes<A>], level: usize) -> 
     }
 }
 
-// The last level.
+// Returns the last level.
 pub(super) fn top<A: Allocator>(levels: &[LevelNodes<A>]) -> &LevelNodes<A>
     requires { 0 < length levels.now }
     ensures { result.now ≡ top_of levels.now }
@@ -156,7 +156,7 @@ pub(super) fn top<A: Allocator>(levels: &[LevelNodes<A>]) -> &LevelNodes<A>
     levels.last().unwrap()
 }
 
-// All levels but the last.
+// Returns all levels but the last.
 pub(super) fn below_top<A: Allocator>(levels: &[LevelNodes<A>]) -> &[LevelNodes<A>]
     ensures { result.now ≡ below_top levels.now }
 {
@@ -166,7 +166,7 @@ pub(super) fn below_top<A: Allocator>(levels: &[LevelNodes<A>]) -> &[LevelNodes<
     }
 }
 
-// The nodes of an operand's first level towards the back one: all of the top, else the right ones.
+// Returns the nodes of a front operand's lowest level that face the back one: all of the top, or else the right nodes.
 pub(super) fn inner<A: Allocator>(levels: &[LevelNodes<A>]) -> &[Node]
     ensures { result.now ≡ inner_nodes (operand levels.now) }
 {
@@ -176,14 +176,14 @@ pub(super) fn inner<A: Allocator>(levels: &[LevelNodes<A>]) -> &[Node]
     }
 }
 
-// The levels from that of a number up.
+// Returns the levels from `level` up.
 pub(super) fn levels_from<A: Allocator>(levels: &[LevelNodes<A>], level: usize) -> &[LevelNodes<A>]
     ensures { result.now ≡ drop level levels.now }
 {
     &levels[level.min(levels.len())..]
 }
 
-// Puts nodes after those that a front operand has of a level towards the back one.
+// Appends nodes to those of a front operand's level that face the back one.
 pub(super) fn extend_inner<A: Allocator>(
     levels: &mut Vec<LevelNodes<A>, A>,
     at: usize,
@@ -201,7 +201,7 @@ pub(super) fn extend_inner<A: Allocator>(
     Ok(())
 }
 
-// Puts the nodes carried, and those of another operand, to those that an operand has of a level towards that one.
+// Adds the carry, and the nodes of the other operand, to those of an operand's level that face the other one.
 pub(super) fn extend<A: Allocator + Clone>(
     levels: &mut Vec<LevelNodes<A>, A>,
     at: usize,
@@ -219,7 +219,7 @@ pub(super) fn extend<A: Allocator + Clone>(
     }
 }
 
-// Puts nodes, in two parts, after those that a front operand has of a level.
+// Appends nodes, in two parts, to those of a front operand's level.
 fn append<A: Allocator>(
     levels: &mut Vec<LevelNodes<A>, A>,
     at: usize,
@@ -238,7 +238,7 @@ fn append<A: Allocator>(
     extend_inner(levels, at, &more)
 }
 
-// Puts nodes, in two parts, before those that a back operand has of a level.
+// Puts nodes, in two parts, before those of a back operand's level.
 fn prepend<A: Allocator + Clone>(
     levels: &mut Vec<LevelNodes<A>, A>,
     at: usize,
@@ -257,7 +257,7 @@ fn prepend<A: Allocator + Clone>(
     Ok(())
 }
 
-// Puts levels in the place of the top.
+// Replaces the top by levels.
 pub(super) fn replace_top<A: Allocator>(
     levels: &mut Vec<LevelNodes<A>, A>,
     tops: Vec<LevelNodes<A>, A>,
@@ -273,7 +273,7 @@ pub(super) fn replace_top<A: Allocator>(
     Ok(())
 }
 
-// Gives the lowest levels of an operand other nodes on the side towards the other operand.
+// Replaces the nodes of an operand's lowest levels on the side that faces the other operand.
 pub(super) fn replace_sides<A: Allocator>(
     levels: &mut Vec<LevelNodes<A>, A>,
     sides: Vec<Vec<Node, A>, A>,

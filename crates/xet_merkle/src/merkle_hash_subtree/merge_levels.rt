@@ -1,8 +1,8 @@
-//! Merging two subtrees of adjacent ranges from what they keep of each level, from the chunks up.
+//! Merges two subtrees of adjacent ranges from what they keep of each level, from the chunks up.
 //!
-//! The levels of one operand are changed in place, and only where there is a change: below its top each level keeps its
-//! outer nodes, and above the first level at which nothing is collapsed all levels stay. What takes memory is made before
-//! anything is changed.
+//! It changes the levels of one operand in place, and only what has to change. Below its top each level keeps its outer
+//! nodes. Above the first level at which nothing is collapsed, all levels stay. It allocates everything before it
+//! changes anything.
 
 ghost use Rattle.std.specs.Prelude.{◌≡◌, ℕ, ◌+◌, ◌<◌, false, List, [], length, map, IfOk, IfErr, IsTrue};
 ghost use Rattle.xet_merkle.specs.Groups.{Node};
@@ -21,15 +21,15 @@ use std::alloc::{AllocError, Allocator};
 
 // What was made below an operand's top, or below the level from which on nothing is collapsed.
 struct Lower<A: Allocator> {
-    // The nodes of each level on the side towards the other operand. It keeps its outer ones.
+    // The new inner nodes of each level. The level keeps its outer ones.
     sides: Vec<Vec<Node, A>, A>,
-    // The parents of what was collapsed of the last one.
+    // The parents of what was collapsed at the last of these levels.
     carry: Vec<Node, A>,
-    // Whether from here on nothing is collapsed.
+    // Whether nothing is collapsed from here on.
     extends: bool,
 }
 
-// Merges what is in sight below the top of one operand, as far as something is collapsed.
+// Merges what is in sight below the top of one operand, as long as something is collapsed.
 fn merge_lower<A: Allocator + Clone, P: ParentMaker>(
     alloc: A,
     sight: InSight<A>,
@@ -64,7 +64,7 @@ fn merge_lower<A: Allocator + Clone, P: ParentMaker>(
     })
 }
 
-// The levels that all in sight are merged to.
+// Returns the levels that all nodes in sight are merged to.
 fn merge_top<A: Allocator + Clone, P: ParentMaker>(
     alloc: A,
     sight: InSight<A>,
@@ -85,7 +85,7 @@ fn merge_top<A: Allocator + Clone, P: ParentMaker>(
     Ok(sight.collapse(levels, maker)?)
 }
 
-// Merges the levels of one operand with those of the other in place, which are as they were where memory is refused.
+// Merges the levels of one operand with those of the other, in place. They are unchanged if an allocation fails.
 pub(super) fn merge_levels<A: Allocator + Clone, P: ParentMaker>(
     levels: &mut Vec<LevelNodes<A>, A>,
     other: &[LevelNodes<A>],

@@ -7,21 +7,21 @@ ghost use Rattle.xet_merkle.specs.WellFormed.{IsLeftSide, IsRightSide};
 use super::stable_points::{ends_stable, find_stable_start, is_stable_gap, last_stable};
 use crate::groups::{Node, is_natural_cut};
 
-// Whether nodes may stay on the left where the start isn't marked.
+// Returns whether nodes may stay on the left if the start isn't marked.
 pub(super) fn is_left_side(nodes: &[Node]) -> bool
     ensures { IsTrue result ↔ IsLeftSide nodes.now }
 {
     ends_stable(nodes) && find_stable_start(nodes).is_none()
 }
 
-// Whether nodes may stay on the right where the end isn't marked.
+// Returns whether nodes may stay on the right if the end isn't marked.
 pub(super) fn is_right_side(nodes: &[Node]) -> bool
     ensures { IsTrue result ↔ IsRightSide nodes.now }
 {
     begins_stable(nodes) && last_stable(nodes, true).is_none()
 }
 
-// Whether the first natural cut stands at index 2 to 6.
+// Returns whether the first natural cut has index 2 to 6.
 fn begins_stable(nodes: &[Node]) -> bool
     ensures { IsTrue result ↔ BeginsStable nodes.now }
 {

@@ -9,7 +9,7 @@ use super::levels::Operand;
 use super::stable_points::{find_stable_end, find_stable_start};
 use crate::groups::Node;
 
-// Whether a list's start is marked, and its end.
+// Whether a list is marked at its start, and at its end.
 #[derive(Clone, Copy)]
 pub(super) struct Marks {
     pub(super) at_start: bool,
@@ -25,7 +25,7 @@ pub(super) struct Split<'a> {
 }
 
 impl<'a> Split<'a> {
-    // The nodes that stay on the side of an operand towards the other one.
+    // Returns the nodes that stay on an operand's inner side, which faces the other operand.
     pub(super) fn inner(self, operand: Operand) -> &'a [Node]
         ensures { result.now ≡ inner_side operand self.entry.left.now self.entry.right.now }
     {
@@ -36,7 +36,7 @@ impl<'a> Split<'a> {
     }
 }
 
-// Where what is collapsed begins.
+// Returns where the collapsed nodes begin, if they do.
 fn low_end(nodes: &[Node], at_start: bool) -> Option<usize>
     ensures bound { IfSome result (λ p. p ≤ length nodes.now) }
     ensures low { IfSome result (λ p. IsLow at_start (take p nodes.now) (drop p nodes.now)) }
@@ -49,7 +49,7 @@ fn low_end(nodes: &[Node], at_start: bool) -> Option<usize>
     }
 }
 
-// Where it ends, in the nodes from its beginning on.
+// Returns where the collapsed nodes end, if they do, given the nodes from their beginning on.
 fn high_end(nodes: &[Node], at_end: bool) -> Option<usize>
     ensures bound { IfSome result (λ p. p ≤ length nodes.now) }
     ensures high { IfSome result (λ p. IsHigh at_end (take p nodes.now) (drop p nodes.now)) }
@@ -62,7 +62,7 @@ fn high_end(nodes: &[Node], at_end: bool) -> Option<usize>
     }
 }
 
-// The split of a level's nodes under marks.
+// Returns the split of a level's nodes under marks, if there is one.
 pub(super) fn find_split(nodes: &[Node], marks: Marks) -> Option<Split>
     ensures split { IfSome result (λ s. IsSplit marks.at_start marks.at_end nodes.now s.left.now s.middle.now s.right.now) }
     ensures none { IfNone result ((left middle right : List Node) → ¬ (IsSplit marks.at_start marks.at_end nodes.now left middle right)) }

@@ -1,5 +1,4 @@
-//! The stable points of a list of nodes: places at which groups end, whatever nodes stand before and
-//! after the list.
+//! The stable points of a list of nodes. Groups end there, whatever nodes come before and after the list.
 
 ghost use Rattle.std.specs.Prelude.{◌≡◌, ◌+◌, ◌<◌, ◌≤◌, ◌↔◌, List, ◌++◌, true, false, length, take, drop, IfSome, IfNone, IsTrue};
 ghost use Rattle.xet_merkle.specs.Groups.{Node};
@@ -9,25 +8,25 @@ ghost use Rattle.xet_merkle.specs.Steps.StableScan.{completes, next_scan, IsFron
 
 use crate::groups::{MAX_GROUP_LEN, MIN_GROUP_LEN, Node, is_natural_cut};
 
-// The fewest and the most nodes between two natural cuts, so that a group ends after the second one whatever nodes stand
-// before: with two or more between, it may end also a group that begins right after the first one; with six or fewer,
-// it is in reach of a group that the first one is too early to end, at index 0 or 1.
+// The fewest and the most nodes between two natural cuts for which a group ends at the second, whatever nodes come
+// before. If there are at least two, the second also ends a group that begins right after the first. If there are at
+// most six, it is in reach of a group in which the first has index 0 or 1, too early to end it.
 const MIN_GAP: usize = MIN_GROUP_LEN - 1;
 
 const MAX_GAP: usize = MAX_GROUP_LEN - MIN_GROUP_LEN;
 
-// What a scan keeps of the nodes that it has passed.
+// What a scan remembers of the nodes that it has passed.
 #[derive(Clone, Copy)]
 struct CutScan {
-    // Whether a natural cut was among them, or stood in front of them.
+    // Whether a natural cut was among them, or was in front of them.
     has_cut: bool,
-    // Whether the nodes up to the last natural cut end 3 to 7 nodes after the natural cut before it.
+    // Whether the last natural cut is 3 to 7 nodes after the natural cut before it.
     ends_stable: bool,
-    // How many nodes stand after the last natural cut.
+    // How many nodes come after the last natural cut.
     since_cut: usize,
 }
 
-// Whether so many nodes between two natural cuts make the second one 3 to 7 nodes after the first.
+// Returns whether two natural cuts with this many nodes between them are 3 to 7 nodes apart.
 pub(super) fn is_stable_gap(between: usize) -> bool
     ensures { result ≡ is_stable_gap between }
 {
@@ -35,7 +34,7 @@ pub(super) fn is_stable_gap(between: usize) -> bool
 }
 
 impl CutScan {
-    // The start of a scan, after a natural cut or after nothing.
+    // Starts a scan, after a natural cut or after nothing.
     fn new(after_cut: bool) -> Self
         ensures { result ≡ record { has_cut = after_cut; ends_stable = false; since_cut = 0 } }
     {
@@ -46,14 +45,14 @@ impl CutScan {
         }
     }
 
-    // Whether the next node is the third natural cut of a stable point.
+    // Returns whether the next node is the third natural cut of a stable point.
     fn completes(&self, is_cut: bool) -> bool
         ensures { result ≡ completes self.now is_cut }
     {
         is_cut && self.ends_stable && is_stable_gap(self.since_cut)
     }
 
-    // Whether the nodes passed end stable.
+    // Returns whether the passed nodes end stable.
     fn is_end(&self) -> bool
         ensures { IsTrue result ↔ ((self.now.ends_stable ≡ true) × (self.now.since_cut ≡ 0)) }
     {
@@ -74,7 +73,7 @@ impl CutScan {
         }
     }
 
-    // Passes some nodes: whether none of them is the third natural cut of a stable point.
+    // Passes some nodes. Returns whether none of them is the third natural cut of a stable point.
     fn pass_all(&mut self, nodes: &[Node]) -> bool
         requires { self.old.since_cut + length nodes.now < usize.MAX }
         ensures scan { self.new ≡ scan_after self.old nodes.now }
@@ -90,11 +89,11 @@ impl CutScan {
     }
 }
 
-// A stable point's third natural cut stands at most so many nodes after its first one.
+// The third natural cut of a stable point is at most this many nodes after its first one.
 const LOOK_BACK: usize = 2 * (MAX_GAP + 1);
 
-// Whether nodes bring up no stable point where they are put after others, in two parts. Of the others only the last
-// few are looked at.
+// Returns whether no stable point is added if two lists of nodes are appended to others. It looks at only the last few
+// of the others.
 pub(super) fn adds_no_stable(nodes: &[Node], first: &[Node], second: &[Node]) -> bool
     ensures { IsTrue result → AddsNoStable nodes.now (first.now ++ second.now) }
 {
@@ -104,8 +103,8 @@ pub(super) fn adds_no_stable(nodes: &[Node], first: &[Node], second: &[Node]) ->
     scan.pass_all(first) && scan.pass_all(second)
 }
 
-// Whether nodes, in two parts, bring up no stable point where they are put before others. Of the others only the first few
-// are looked at.
+// Returns whether no stable point is added if two lists of nodes are put before others. It looks at only the first few
+// of the others.
 pub(super) fn adds_no_stable_before(first: &[Node], second: &[Node], nodes: &[Node]) -> bool
     ensures { IsTrue result → AddsNoStableBefore (first.now ++ second.now) nodes.now }
 {
@@ -117,7 +116,7 @@ pub(super) fn adds_no_stable_before(first: &[Node], second: &[Node], nodes: &[No
     scan.pass_all(first) && (scan.pass_all(second) && scan.pass_all(near))
 }
 
-// Whether some nodes end with a natural cut that stands 3 to 7 nodes after the natural cut before it.
+// Returns whether nodes end with a natural cut that is 3 to 7 nodes after the natural cut before it.
 pub(super) fn ends_stable(nodes: &[Node]) -> bool
     ensures { IsTrue result ↔ EndsStable nodes.now }
 {
@@ -128,8 +127,8 @@ pub(super) fn ends_stable(nodes: &[Node]) -> bool
     scan.is_end()
 }
 
-/// The first stable point of some nodes: the number of nodes before it, or `None` where there is none. A
-/// group ends there whatever nodes stand before and after the given ones.
+/// Returns the first stable point of some nodes, as the number of nodes before it, or `None` if there is none. A group
+/// ends there, whatever nodes come before and after the given ones.
 pub fn find_stable_start(nodes: &[Node]) -> Option<usize>
     ensures bound { IfSome result (λ p. p ≤ length nodes.now) }
     ensures first { IfSome result (λ p. IsFirstStable (take p nodes.now) (drop p nodes.now)) }
@@ -148,7 +147,7 @@ pub fn find_stable_start(nodes: &[Node]) -> Option<usize>
     None
 }
 
-// The last stable point of some nodes, where they stand after a natural cut or after nothing.
+// Returns the last stable point of some nodes that come after a natural cut, or after nothing.
 pub(crate) fn last_stable(nodes: &[Node], after_cut: bool) -> Option<usize>
     ensures bound { IfSome result (λ p. p ≤ length nodes.now) }
     ensures last { IfSome result (λ p. (front : List Node) → IsFront after_cut front →
@@ -167,8 +166,8 @@ pub(crate) fn last_stable(nodes: &[Node], after_cut: bool) -> Option<usize>
     found
 }
 
-/// The last stable point of some nodes: the number of nodes before it, or `None` where there is none. A
-/// group ends there whatever nodes stand before and after the given ones.
+/// Returns the last stable point of some nodes, as the number of nodes before it, or `None` if there is none. A group
+/// ends there, whatever nodes come before and after the given ones.
 pub fn find_stable_end(nodes: &[Node]) -> Option<usize>
     ensures bound { IfSome result (λ p. p ≤ length nodes.now) }
     ensures last { IfSome result (λ p. IsLastStable (take p nodes.now) (drop p nodes.now)) }

@@ -21,14 +21,14 @@ use std::alloc::{AllocError, Allocator, Global};
 use std::marker::Model;
 use xet_hash::data_hash::MerkleHash;
 
-/// What is known of the tree over a list of chunks without the chunks that stand before and after it:
-/// at each level the nodes whose groups may still change, on either side. A list's start, or its end, is
-/// marked where no more chunks come before, or after, it.
+/// What is known of the tree over a list of chunks without the chunks before and after it. On each level it keeps the
+/// nodes on either side whose groups may still change. The start of the list is marked if no chunk comes before it, and
+/// the end if none comes after it.
 #[derive(Debug, Drop)]
 pub struct MerkleHashSubtree<A: Allocator = Global> {
     at_start: bool,
     at_end: bool,
-    // From the chunks up, one at least.
+    // From the chunks up, at least one.
     levels: Vec<LevelNodes<A>, A>,
     // The sum of the sizes of all nodes.
     total_size: u64,
@@ -46,7 +46,7 @@ impl<A: Allocator> Model for MerkleHashSubtree<A> {
     ghost invariant = { λ stored. IsStored stored.at_start stored.at_end stored.levels.items stored.total_size };
 }
 
-// The hash of the first of some nodes, or the default hash.
+// Returns the hash of the first of some nodes, or the default hash.
 fn first_hash(nodes: &[Node]) -> MerkleHash
     ensures { result ≡ hash_of_first nodes.now }
 {
@@ -57,11 +57,10 @@ fn first_hash(nodes: &[Node]) -> MerkleHash
 }
 
 impl<A: Allocator + Clone> MerkleHashSubtree<A> {
-    /// The canonical subtree of some chunks, whose list is marked at its start, at its end, at both or at
-    /// neither.
+    /// Makes the canonical subtree of some chunks. The caller marks the list's start, its end, both or neither.
     ///
-    /// It fails with [`CoreError::SizeOverflow`] where the sizes add up to more than `u64::MAX`, before
-    /// anything is allocated, and with [`CoreError::OutOfMemory`] where an allocation is refused.
+    /// Fails with [`CoreError::SizeOverflow`] if the sizes add up to more than `u64::MAX`, before it allocates. Fails
+    /// with [`CoreError::OutOfMemory`] if an allocation fails.
     pub fn from_chunks(
         alloc: A,
         at_start: bool,
@@ -82,7 +81,7 @@ impl<A: Allocator + Clone> MerkleHashSubtree<A> {
         Ok(Self::from_levels(levels, at_start, at_end, size)?)
     }
 
-    /// A copy. It fails with [`CoreError::OutOfMemory`] where an allocation is refused.
+    /// Returns a copy. Fails with [`CoreError::OutOfMemory`] if an allocation fails.
     pub fn try_clone(&self) -> Result<Self, CoreError>
         ensures copy { IfOk result (λ copy. copy ≡ self.now) }
         ensures errors { IfErr result (λ e. e ≡ CoreError.OutOfMemory) }
@@ -90,7 +89,7 @@ impl<A: Allocator + Clone> MerkleHashSubtree<A> {
         Ok(self.copy(self.levels.allocator().clone()?)?)
     }
 
-    // A copy in memory of `alloc`.
+    // Returns a copy, allocated by `alloc`.
     fn copy(&self, alloc: A) -> Result<Self, AllocError>
         ensures { IfOk result (λ copy. copy ≡ self.now) }
     {
@@ -102,7 +101,8 @@ impl<A: Allocator + Clone> MerkleHashSubtree<A> {
         })
     }
 
-    // The subtree of levels that are complete. So many nodes as pass `usize::MAX` are in no memory.
+    // Makes a subtree of complete levels. It treats more than `usize::MAX` nodes as a failed allocation, since no
+    // memory holds them.
     fn from_levels(
         levels: Vec<LevelNodes<A>, A>,
         at_start: bool,
@@ -126,7 +126,7 @@ impl<A: Allocator + Clone> MerkleHashSubtree<A> {
 }
 
 impl<A: Allocator> MerkleHashSubtree<A> {
-    // The levels from the chunks up.
+    // Returns the levels from the chunks up.
     fn levels(&self) -> &[LevelNodes<A>]
         ensures levels { result.now ≡ self.now.levels }
         ensures well_formed { IsWellFormed self.now }
@@ -135,7 +135,7 @@ impl<A: Allocator> MerkleHashSubtree<A> {
         &self.levels
     }
 
-    /// How many nodes are kept.
+    /// Returns the number of kept nodes.
     pub fn num_nodes(&self) -> usize
         ensures nodes { result ≡ node_count self.now.levels }
         ensures well_formed { IsWellFormed self.now }
@@ -143,7 +143,7 @@ impl<A: Allocator> MerkleHashSubtree<A> {
         count_nodes(&self.levels).unwrap()
     }
 
-    /// How many levels there are, at least one.
+    /// Returns the number of levels. There is at least one.
     pub fn num_levels(&self) -> usize
         ensures levels { result ≡ length self.now.levels }
         ensures some { 0 < result }
@@ -152,7 +152,7 @@ impl<A: Allocator> MerkleHashSubtree<A> {
         self.levels.len()
     }
 
-    /// Whether no node is kept, as of the empty list and of no other.
+    /// Returns whether no node is kept. That is so for the empty list, and for no other.
     pub fn is_empty(&self) -> bool
         ensures nodes { IsTrue result ↔ (node_count self.now.levels ≡ 0) }
         ensures chunks { (chunks : List Node) → IsCanonical self.now chunks → IsTrue result ↔ (length chunks ≡ 0) }
@@ -160,35 +160,35 @@ impl<A: Allocator> MerkleHashSubtree<A> {
         self.num_nodes() == 0
     }
 
-    /// The left nodes of a level, counted from the chunks up, and none where there is no such level.
+    /// Returns the left nodes of a level, or none if there is no such level. Levels count from the chunks up, from 0.
     pub fn left(&self, level: usize) -> &[Node]
         ensures { result.now ≡ left_at self.now.levels level }
     {
         left_at(&self.levels, level)
     }
 
-    /// The right nodes of a level, counted from the chunks up, and none where there is no such level.
+    /// Returns the right nodes of a level, or none if there is no such level. Levels count from the chunks up, from 0.
     pub fn right(&self, level: usize) -> &[Node]
         ensures { result.now ≡ right_at self.now.levels level }
     {
         right_at(&self.levels, level)
     }
 
-    /// Whether the list's start is marked.
+    /// Returns whether the start of the list is marked.
     pub fn at_start(&self) -> bool
         ensures { result ≡ self.now.at_start }
     {
         self.at_start
     }
 
-    /// Whether the list's end is marked.
+    /// Returns whether the end of the list is marked.
     pub fn at_end(&self) -> bool
         ensures { result ≡ self.now.at_end }
     {
         self.at_end
     }
 
-    /// The sum of the sizes of all nodes, in bytes, which is that of the list's chunks.
+    /// Returns the sum of the sizes of all nodes, in bytes. It is also the sum of the sizes of the chunks.
     pub fn total_size(&self) -> u64
         ensures nodes { result ≡ levels_size self.now.levels }
         ensures chunks { (chunks : List Node) → IsCanonical self.now chunks → result ≡ total_size chunks }
@@ -196,8 +196,8 @@ impl<A: Allocator> MerkleHashSubtree<A> {
         self.total_size
     }
 
-    /// The root of the list, where both of its ends are marked, and `None` where they aren't: the hash of
-    /// the top's node, or the default hash where there is none.
+    /// Returns the root of the list if both of its ends are marked, and `None` if not. It is the hash of the top's
+    /// node, or the default hash if there is no node.
     pub fn final_hash(&self) -> Option<MerkleHash>
         ensures marks { IsSome result ↔ (IsTrue self.now.at_start × IsTrue self.now.at_end) }
         ensures hash { IfSome result (λ hash. hash ≡ top_hash self.now.levels) }

@@ -1,4 +1,4 @@
--- The chunks that are gathered, which private contracts and proofs speak of.
+-- The chunks that are collected. Only private contracts and proofs use them.
 use Rattle.std.specs.Prelude.{◌≡◌, ℕ, List, ◌++◌}
 use Rattle.std.specs.declared.clone.Clone as clone
 use Rattle.xet_merkle.specs.Groups.{Node}
@@ -8,7 +8,7 @@ use Rattle.pair_text.specs.PairText.{AreGood}
 use Rattle.xetrange_text.specs.declared.chunks.Chunks.{Chunks}
 
 module _ {C A : Type 0} {kept : chunk_range.Ghosts C A} {copied : clone.Ghosts A} where
-  -- some chunks are those of the range that is ended, and the last ones
+  -- some chunks are those of the ended range, followed by the last ones
   pub record StandForChunks (held : Chunks C A kept copied) (chunks : List Node) : Type 0 where
     pub before : List Node
     pub ended : kept.stands held.ended before

@@ -1,4 +1,4 @@
--- What lines of ranges have said so far, which private contracts and proofs speak of.
+-- What lines of ranges have said so far. Only private contracts and proofs use it.
 use Rattle.std.specs.Prelude.{◌≡◌, ℕ, List}
 use Rattle.xet_merkle.specs.Subtree.{Subtree}
 use Rattle.line_io.specs.Lines.{NoNewline}
@@ -7,7 +7,7 @@ use Rattle.xetrange_text.specs.declared.fault.LineFault.{LineFault}
 use Rattle.xetrange_text.specs.declared.fault.LineFault.TheVariants.{Bad, NoRange, Sizes as passes_sizes}
 use Rattle.xetrange_text.specs.Ranges.{SaysNoRange, AreRanges, AreMerged}
 
--- a line's content is refused for what it says
+-- a line's content is refused because of what it says
 abbrev pub IsNoRange : List ℕ → LineFault → Type 0
 IsNoRange text (NoRange rule) = SaysNoRange text rule
 IsNoRange text Bad = ⊥

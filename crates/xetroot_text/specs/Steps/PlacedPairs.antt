@@ -1,4 +1,4 @@
--- The pairs that are kept by position, which private contracts and proofs speak of.
+-- The pairs that are kept by position. Only private contracts and proofs use them.
 use Rattle.std.specs.Prelude.{◌≡◌, ℕ, ◌+◌, ◌-◌, ◌^◌, ◌<◌, ◌≤◌, false, IsTrue, List, [], ◌∷◌, length}
 use Rattle.xet_merkle.specs.Groups.{Node}
 use Rattle.xet_merkle.specs.Roots.{total_size}
@@ -10,8 +10,8 @@ use Rattle.xetroot_text.specs.declared.fault.LineFault.{LineFault}
 use Rattle.xetroot_text.specs.declared.fault.LineFault.TheVariants.{Bad, Overlap, Sizes}
 use Rattle.xetroot_text.specs.Answer.{AreGood}
 
--- placed pairs as private contracts see them: the session of the ranges that are ended, the pairs of the open one, the
--- positions of its first pair and of the next one, and the number of all pairs and the sum of their sizes
+-- placed pairs in private contracts: the session of the ended ranges, the pairs of the open one, the positions of its
+-- first pair and of the next one, and the number of all pairs and the sum of their sizes
 pub record Gathered (C : Type 0) : Type 0 where
   pub session : Parts C NoHashes
   pub range : List Node
@@ -20,19 +20,19 @@ pub record Gathered (C : Type 0) : Type 0 where
   pub count : ℕ
   pub total : ℕ
 
--- pairs stand at adjacent positions among others, where they took none that was taken; no pairs stand anywhere
+-- pairs are put at adjacent positions among others, none of which was taken; no pairs can be put at any position
 abbrev pub StandAmong : List Placed → ℕ → List Node → List Placed → Type 0
 StandAmong before first [] pairs = pairs ≡ before
 StandAmong before first (pair ∷ more) pairs =
     (overlaps before first (length (pair ∷ more)) ≡ false)
     × (pairs ≡ place before first (pair ∷ more))
 
--- what `NoHashes` knows of hashes, and what it tells of them: nothing
+-- what `NoHashes` knows of hashes, and what it reports: nothing
 abbrev pub no_hashes : {A : Type 0} → kept_hashes.Ghosts NoHashes A
 no_hashes = record { knows = λ _ _. Unit {0}; tells = λ _ _ _. Unit {0} }
 
 module _ {C A : Type 0} (kind : chunk_range.Ghosts C A) where
-  -- a session and the pairs of an open range are some pairs by position, where the next one has a position
+  -- a session and the pairs of an open range are together some pairs by position, and the next pair has a position
   pub record StandForPlaced (session : Parts C NoHashes) (range : List Node)
       (first next total : ℕ) (pairs : List Placed) : Type 0 where
     pub before : List Placed
@@ -43,7 +43,7 @@ module _ {C A : Type 0} (kind : chunk_range.Ghosts C A) where
     pub total_is : total ≡ total_size (chunks_of pairs)
     pub fits : total < 2 ^ 64
 
-  -- what is kept is some pairs, and the next one has a position
+  -- what is kept is some pairs, and the next pair has this position
   abbrev pub StandForPairs : Gathered C → List Placed → ℕ → Type 0
   StandForPairs placed pairs next =
       StandForPlaced placed.session placed.range placed.first next placed.total pairs
@@ -55,7 +55,7 @@ module _ {C A : Type 0} (kind : chunk_range.Ghosts C A) where
       (pairs : List Placed) × (next : ℕ) × StandForPairs placed pairs next
       × (placed.count ≡ length pairs) × AreGood lines pairs next
 
--- the fault of a pair after others, where the next position is the last or taken, or the sizes pass 2 ^ 64 - 1
+-- the fault of a pair after others: the next position is the last, or taken, or the sizes are more than 2 ^ 64 - 1
 abbrev pub IsPairFault : List Placed → ℕ → Node → LineFault → Type 0
 IsPairFault pairs next pair Bad = 2 ^ 64 - 1 ≤ next
 IsPairFault pairs next pair Overlap = (next < 2 ^ 64 - 1) × IsTrue (is_taken pairs next)

@@ -1,4 +1,4 @@
-// What is done at the place of a key.
+// The methods of entries.
 
 ghost use Rattle.std.specs.Prelude.{◌≡◌, Some, None, unwrap_or, IfOk, OnErr};
 ghost use Rattle.std.specs.Borrow.{sem, Bor, MutBor};
@@ -16,7 +16,7 @@ use std::hash::Hash;
 use std::mem;
 
 impl<'a, Key: U64HashExtractable + Hash + Eq, Val, A: Allocator> Entry<'a, Key, Val, A> {
-    /// The stored key that is equal to the one that was asked for, or that one where the map has no value at it.
+    /// Returns the stored key that is equal to the requested one, or the requested one if the map has no value at it.
     pub fn key(&self) -> &Key
         requires { IsLive Key.eq self.now }
         ensures { result.now ≡ unwrap_or (key_at Key.eq (entry_map self.now).now (entry_key self.now)) (entry_key self.now) }
@@ -27,7 +27,7 @@ impl<'a, Key: U64HashExtractable + Hash + Eq, Val, A: Allocator> Entry<'a, Key, 
         }
     }
 
-    /// Changes the value by `f`, where there is one.
+    /// Changes the value by `f`, if there is one.
     pub fn and_modify<F: FnOnce(&mut Val) + Drop>(self, f: F) -> Entry<'a, Key, Val, A>
         requires live { IsLive Key.eq self }
         requires callable { (value : MutBor Val) → entry_value Key.eq self ≡ Some value.now → F.pre f value }
@@ -54,9 +54,10 @@ impl<'a, Key: U64HashExtractable + Hash + Eq + Copy, Val: Drop, A: Allocator + C
     Val,
     A,
 > {
-    /// The value, to be written for as long as the map is lent; it is `default` where there was none.
+    /// Returns a mutable reference to the value, for as long as the map is borrowed. If there is no value, it first
+    /// adds `default`.
     ///
-    /// It fails where there was none and no memory for one more entry. The map is then unchanged.
+    /// Fails if there was no value and an allocation fails. The map is then unchanged.
     pub fn or_insert(self, default: Val) -> Result<&'a mut Val, AllocError>
         requires { IsLive Key.eq self }
         ensures* written { sem 𝓛 (puts_there Key.row Val.row A.row Key.U64HashExtractable Key.Hash A.Allocator self.entry result) }
@@ -69,9 +70,10 @@ impl<'a, Key: U64HashExtractable + Hash + Eq + Copy, Val: Drop, A: Allocator + C
         }
     }
 
-    /// The value, to be written for as long as the map is lent; it is what `default` gives where there was none.
+    /// Returns a mutable reference to the value, for as long as the map is borrowed. If there is no value, it first
+    /// adds what `default` returns.
     ///
-    /// It fails where there was none and no memory for one more entry. The map is then unchanged.
+    /// Fails if there was no value and an allocation fails. The map is then unchanged.
     pub fn or_insert_with<F: FnOnce() -> Val + Drop>(
         self,
         default: F,
@@ -88,10 +90,10 @@ impl<'a, Key: U64HashExtractable + Hash + Eq + Copy, Val: Drop, A: Allocator + C
         }
     }
 
-    /// The value, to be written for as long as the map is lent; it is what `default` gives for the key that was asked for
-    /// where there was none.
+    /// Returns a mutable reference to the value, for as long as the map is borrowed. If there is no value, it first
+    /// adds what `default` returns for the requested key.
     ///
-    /// It fails where there was none and no memory for one more entry. The map is then unchanged.
+    /// Fails if there was no value and an allocation fails. The map is then unchanged.
     pub fn or_insert_with_key<F: FnOnce(&Key) -> Val + Drop>(
         self,
         default: F,
@@ -112,9 +114,10 @@ impl<'a, Key: U64HashExtractable + Hash + Eq + Copy, Val: Drop, A: Allocator + C
         }
     }
 
-    /// The value, to be written for as long as the map is lent; it is the type's default where there was none.
+    /// Returns a mutable reference to the value, for as long as the map is borrowed. If there is no value, it first
+    /// adds the default of the type.
     ///
-    /// It fails where there was none and no memory for one more entry. The map is then unchanged.
+    /// Fails if there was no value and an allocation fails. The map is then unchanged.
     pub fn or_default(self) -> Result<&'a mut Val, AllocError>
     where
         Val: Default,
@@ -129,9 +132,9 @@ impl<'a, Key: U64HashExtractable + Hash + Eq + Copy, Val: Drop, A: Allocator + C
         }
     }
 
-    /// Puts `value` at the place, which is occupied then.
+    /// Puts `value` at the key, and returns the occupied entry.
     ///
-    /// It fails where there was no value and no memory for one more entry. The map is then unchanged.
+    /// Fails if there was no value and an allocation fails. The map is then unchanged.
     pub fn insert_entry(self, value: Val) -> Result<OccupiedEntry<'a, Key, Val, A>, AllocError>
         requires { IsLive Key.eq self }
         ensures* refused { sem 𝓛 (stays_if_refused Key.row Val.row A.row Key.U64HashExtractable Key.Hash A.Allocator self.entry result) }
@@ -146,7 +149,7 @@ impl<'a, Key: U64HashExtractable + Hash + Eq + Copy, Val: Drop, A: Allocator + C
 }
 
 impl<'a, Key: U64HashExtractable + Hash + Eq, Val, A: Allocator> OccupiedEntry<'a, Key, Val, A> {
-    /// The stored key.
+    /// Returns the stored key.
     pub fn key(&self) -> &Key
         requires { IsLive Key.eq (Occupied self.now) }
         ensures { key_at Key.eq (entry_map (Occupied self.now)).now (entry_key (Occupied self.now)) ≡ Some result.now }
@@ -154,7 +157,7 @@ impl<'a, Key: U64HashExtractable + Hash + Eq, Val, A: Allocator> OccupiedEntry<'
         self.map.get_key_value(&self.key).unwrap().0
     }
 
-    /// The value.
+    /// Returns the value.
     pub fn get(&self) -> &Val
         requires { IsLive Key.eq (Occupied self.now) }
         ensures { entry_value Key.eq (Occupied self.now) ≡ Some result.now }
@@ -162,7 +165,7 @@ impl<'a, Key: U64HashExtractable + Hash + Eq, Val, A: Allocator> OccupiedEntry<'
         self.map.get(&self.key).unwrap()
     }
 
-    /// The value, to be written for as long as the place is lent.
+    /// Returns a mutable reference to the value, for as long as the entry is borrowed.
     pub fn get_mut(&mut self) -> &mut Val
     where
         Key: Copy,
@@ -189,7 +192,7 @@ impl<'a, Key: U64HashExtractable + Hash + Eq, Val, A: Allocator> OccupiedEntry<'
         f(self.map.get_mut(&self.key).unwrap());
     }
 
-    /// Writes `value`, and answers the value that was there.
+    /// Writes `value`, and returns the value that was there.
     pub fn insert(&mut self, value: Val) -> Val
         requires { IsLive Key.eq (Occupied self.old) }
         ensures live { IsLive Key.eq (Occupied self.new) }
@@ -207,7 +210,7 @@ impl<'a, Key: U64HashExtractable + Hash + Eq + Copy, Val: Drop, A: Allocator + C
     Val,
     A,
 > {
-    // Puts `value` at the place.
+    // Puts `value` at the key.
     fn insert_entry(self, value: Val) -> Result<OccupiedEntry<'a, Key, Val, A>, AllocError>
         requires { IsLive Key.eq (Occupied self) }
         ensures* refused { sem 𝓛 (stays_if_refused Key.row Val.row A.row Key.U64HashExtractable Key.Hash A.Allocator (Occupied self.entry) result) }
@@ -226,7 +229,7 @@ impl<'a, Key: U64HashExtractable + Hash + Eq + Drop, Val, A: Allocator> Occupied
     Val,
     A,
 > {
-    /// The value, to be written for as long as the map is lent.
+    /// Returns a mutable reference to the value, for as long as the map is borrowed.
     pub fn into_mut(self) -> &'a mut Val
         requires { IsLive Key.eq (Occupied self) }
         ensures* written { sem 𝓛 (writes_there Key.row Val.row A.row Key.U64HashExtractable Key.Hash A.Allocator (Occupied self.entry) result) }
@@ -236,7 +239,7 @@ impl<'a, Key: U64HashExtractable + Hash + Eq + Drop, Val, A: Allocator> Occupied
         map.get_mut(&key).unwrap()
     }
 
-    /// Takes the key and its value out, and answers the value.
+    /// Removes the key and its value. Returns the value.
     pub fn remove(self) -> Val
         requires { IsLive Key.eq (Occupied self) }
         ensures value { entry_value Key.eq (Occupied self.entry) ≡ Some result }
@@ -247,7 +250,7 @@ impl<'a, Key: U64HashExtractable + Hash + Eq + Drop, Val, A: Allocator> Occupied
         map.remove(&key).unwrap()
     }
 
-    /// Takes the key and its value out, and answers the stored key and the value.
+    /// Removes the key and its value. Returns the stored key and the value.
     pub fn remove_entry(self) -> (Key, Val)
         requires { IsLive Key.eq (Occupied self) }
         ensures key { key_at Key.eq (entry_map (Occupied self.entry)).now (entry_key (Occupied self.entry)) ≡ Some result.0 }
@@ -261,14 +264,14 @@ impl<'a, Key: U64HashExtractable + Hash + Eq + Drop, Val, A: Allocator> Occupied
 }
 
 impl<'a, Key: U64HashExtractable + Hash + Eq, Val, A: Allocator> VacantEntry<'a, Key, Val, A> {
-    /// The key that was asked for.
+    /// Returns the requested key.
     pub fn key(&self) -> &Key
         ensures { result.now ≡ entry_key (Vacant self.now) }
     {
         &self.key
     }
 
-    /// Gives the key back, and leaves the map as it is.
+    /// Returns the requested key, and leaves the map unchanged.
     pub fn into_key(self) -> Key
         ensures key { result ≡ entry_key (Vacant self.entry) }
         ensures unchanged { self.exit.0.now ≡ (entry_map (Vacant self.entry)).now }
@@ -284,9 +287,9 @@ impl<'a, Key: U64HashExtractable + Hash + Eq + Copy, Val: Drop, A: Allocator + C
     Val,
     A,
 > {
-    /// Puts `value` at the key, to be written for as long as the map is lent.
+    /// Puts `value` at the key. Returns a mutable reference to it, for as long as the map is borrowed.
     ///
-    /// It fails where there is no memory for one more entry. The map is then unchanged.
+    /// Fails if an allocation fails. The map is then unchanged.
     pub fn insert(self, value: Val) -> Result<&'a mut Val, AllocError>
         requires { IsLive Key.eq (Vacant self) }
         ensures* written { sem 𝓛 (puts_there Key.row Val.row A.row Key.U64HashExtractable Key.Hash A.Allocator (Vacant self.entry) result) }
@@ -297,9 +300,9 @@ impl<'a, Key: U64HashExtractable + Hash + Eq + Copy, Val: Drop, A: Allocator + C
         Ok(map.get_mut(&key).unwrap())
     }
 
-    /// Puts `value` at the key, and the place is occupied then.
+    /// Puts `value` at the key, and returns the occupied entry.
     ///
-    /// It fails where there is no memory for one more entry. The map is then unchanged.
+    /// Fails if an allocation fails. The map is then unchanged.
     pub fn insert_entry(self, value: Val) -> Result<OccupiedEntry<'a, Key, Val, A>, AllocError>
         requires { IsLive Key.eq (Vacant self) }
         ensures* refused { sem 𝓛 (stays_if_refused Key.row Val.row A.row Key.U64HashExtractable Key.Hash A.Allocator (Vacant self.entry) result) }

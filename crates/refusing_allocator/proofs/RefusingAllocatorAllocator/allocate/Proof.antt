@@ -1,5 +1,5 @@
--- A refused request is answered with `Err`, and each other one as the inner allocator answers it. It is the walk of the
--- allocator `Counted` of the kit (std_heap/tests/others) with a branch.
+-- A refused request returns `Err`, and any other request returns what the inner allocator returns. The proof is that of
+-- the toolchain's allocator `Counted` (std_heap/tests/others) with one more branch.
 use Rattle.std.proofs.Common.{◌≡◌, ℕ, ◌+◌, ◌^◌, ◌<◌, Bool, true, false, List, [], ◌∷◌, Ok, Err, refl, w64, Bor}
 use seplogic.Ra.Ura.{Ura}
 use mir.Syntax.{Ty, Args, Fn, a_type, dnil, dcons}

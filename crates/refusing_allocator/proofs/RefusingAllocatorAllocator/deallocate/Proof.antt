@@ -1,4 +1,5 @@
--- The inner allocator takes the block back. It is the walk of the allocator `Via` of the kit (std_heap/tests/others).
+-- The inner allocator takes the block back. The proof is that of the toolchain's allocator `Via`
+-- (std_heap/tests/others).
 use Rattle.std.proofs.Common.{◌≡◌, ℕ, ◌+◌, ◌^◌, ◌<◌, List, [], ◌∷◌, refl, w64, Bor}
 use seplogic.Ra.Ura.{Ura}
 use mir.Syntax.{Ty, Args, Fn, a_type, dnil, dcons}

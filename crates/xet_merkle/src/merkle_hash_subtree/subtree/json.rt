@@ -23,14 +23,14 @@ use serde_json::{Value, json};
 use std::alloc::{AllocError, Allocator, Global};
 use xet_hash::laws::{hex_text_is_lowercase_digits, hex_text_tells_hashes_apart};
 
-// How many left and right nodes a level has.
+// Returns the numbers of left and right nodes of a level.
 fn count_to_json<A: Allocator>(alloc: Global, level: &LevelNodes<A>) -> Result<Value, AllocError>
     ensures { IfOk result (λ value. view value ≡ counts_json (count_of level.now)) }
 {
     json!(in alloc; [level.left().len(), level.right().len()])
 }
 
-// The numbers of left and right nodes of all levels.
+// Returns the numbers of left and right nodes of all levels.
 fn counts_to_json<A: Allocator>(
     alloc: Global,
     levels: &[LevelNodes<A>],
@@ -44,7 +44,7 @@ fn counts_to_json<A: Allocator>(
     Ok(Value::Array(values))
 }
 
-// Values with those of some nodes after them, each with the hex text of its hash and its size.
+// Appends the values of some nodes, each with its hash as hex text and its size.
 fn with_nodes(alloc: Global, values: Vec<Value>, nodes: &[Node]) -> Result<Vec<Value>, AllocError>
     ensures json { IfOk result (λ all. map view all.items ≡ map view values.items ++ map node_json nodes.now) }
     ensures hashes { IfOk result (λ _. AllByRecursion (λ node. IsHash node.0) nodes.now) }
@@ -56,7 +56,7 @@ fn with_nodes(alloc: Global, values: Vec<Value>, nodes: &[Node]) -> Result<Vec<V
     Ok(values)
 }
 
-// The nodes of all levels: the left ones by rising level, then the right ones by falling level.
+// Returns the nodes of all levels: the left ones, lowest level first, then the right ones, highest level first.
 fn nodes_to_json<A: Allocator>(alloc: Global, levels: &[LevelNodes<A>]) -> Result<Value, AllocError>
     ensures json { IfOk result (λ value. view value ≡ array (items_of (map node_json (flat_nodes levels.now)))) }
     ensures hashes { IfOk result (λ _. AllByRecursion (λ node. IsHash node.0) (flat_nodes levels.now)) }
@@ -73,7 +73,7 @@ fn nodes_to_json<A: Allocator>(alloc: Global, levels: &[LevelNodes<A>]) -> Resul
     Ok(Value::Array(values))
 }
 
-// The object of a subtree's marks, levels and nodes.
+// Returns the object of a subtree's marks, levels and nodes.
 fn object_of(
     alloc: Global,
     at_start: bool,
@@ -86,7 +86,7 @@ fn object_of(
     json!(in alloc; {"at_end": at_end, "at_start": at_start, "levels": levels, "nodes": nodes})
 }
 
-// The sum of all counts, where it is at most `usize::MAX`.
+// Returns the sum of all counts, if it is at most `usize::MAX`.
 fn count_sum(counts: &[(usize, usize)]) -> Option<usize>
     ensures { SomeIff result (count_sum counts.now < 2 ^ 64) (count_sum counts.now) }
 {
@@ -97,14 +97,14 @@ fn count_sum(counts: &[(usize, usize)]) -> Option<usize>
     Some(sum)
 }
 
-// Whether counts add up to a number of nodes.
+// Returns whether counts add up to a number of nodes.
 fn add_up(counts: &[(usize, usize)], len: usize) -> bool
     ensures { IsTrue result ↔ (count_sum counts.now ≡ len) }
 {
     count_sum(counts) == Some(len)
 }
 
-// The levels that counts cut out of a list of nodes.
+// Cuts a list of nodes into levels with these counts.
 fn cut_levels<A: Allocator + Clone>(
     alloc: A,
     counts: &[(usize, usize)],
@@ -125,31 +125,29 @@ fn cut_levels<A: Allocator + Clone>(
 }
 
 impl<A: Allocator + Clone> MerkleHashSubtree<A> {
-    /// The subtree that a JSON value says, in the form that [`Self::to_json`] gives. Hex digits of either case are
-    /// read, and members other than the four are ignored; a number with a fraction or an exponent is no whole
-    /// number.
+    /// Reads a subtree from a JSON value of the form that [`Self::to_json`] writes. Upper-case hex digits are read too.
+    /// Members other than the four are ignored. A number with a fraction or an exponent isn't a whole number.
     ///
-    /// It fails with [`CoreError::InvalidJson`] and the least broken rule:
+    /// Fails with [`CoreError::InvalidJson`] and the lowest rule that the value breaks:
     ///
-    /// 1. the value is no object;
-    /// 2. `nodes` or `levels` isn't an array, or `at_start` or `at_end` no truth value;
-    /// 3. a node isn't an object with `hash`, a string of 64 hex digits, and `size`, a whole number from 0 to
-    ///    2^64 - 1;
-    /// 4. a level isn't an array of two whole numbers from 0 to 2^64 - 1;
-    /// 5. there are no levels;
-    /// 6. the counts of all levels don't add up to the number of nodes;
-    /// 7. the sizes of all nodes pass 2^64 - 1;
-    /// 8. the top level has right nodes, or any level has under `at_end`;
-    /// 9. a level below the top has left nodes under `at_start`;
-    /// 10. both ends are marked, and the top has several nodes;
-    /// 11. the top has no nodes, and there are other levels;
-    /// 12. the start isn't marked, and left nodes below the top don't end with a natural cut 3 to 7 nodes after
-    ///     the natural cut before it, or have a stable point among them;
-    /// 13. the end isn't marked, and right nodes below the top don't have their first natural cut at index 2 to
-    ///     6, or have a stable point among them when a natural cut is put in front of them.
+    /// 1. it is an object;
+    /// 2. `nodes` and `levels` are arrays, and `at_start` and `at_end` are booleans;
+    /// 3. a node is an object with `hash`, a string of 64 hex digits, and `size`, a whole number from 0 to 2^64 - 1;
+    /// 4. a level is an array of two whole numbers from 0 to 2^64 - 1;
+    /// 5. there is at least one level;
+    /// 6. the counts of all levels add up to the number of nodes;
+    /// 7. the sizes of all nodes add up to at most 2^64 - 1;
+    /// 8. the top level has no right nodes; with `at_end`, no level has any;
+    /// 9. with `at_start`, no level below the top has left nodes;
+    /// 10. with both marks, the top level has at most one node;
+    /// 11. if there are several levels, the top level has a node;
+    /// 12. without `at_start`, the left nodes of each level below the top end with a natural cut 3 to 7 nodes after the
+    ///     natural cut before it, and have no stable point among them;
+    /// 13. without `at_end`, the right nodes of each level below the top have their first natural cut at index 2 to 6,
+    ///     and have no stable point among them, even with a natural cut put in front of them.
     ///
-    /// It fails with [`CoreError::OutOfMemory`] where an allocation is refused, which may come in the place of
-    /// a rule. This call is this port's own; it stands for the `Deserialize` of the Rust crate.
+    /// Fails with [`CoreError::OutOfMemory`] if an allocation fails; this may be returned instead of a rule. Only this
+    /// port has this call. It replaces the `Deserialize` of the Rust crate.
     pub fn from_json(alloc: A, value: &Value) -> Result<Self, CoreError>
         ensures reads { IfOk result (Reads (view value.now)) }
         ensures errors { IfErr result (λ e. (e ≡ CoreError.OutOfMemory)
@@ -161,12 +159,13 @@ impl<A: Allocator + Clone> MerkleHashSubtree<A> {
         Ok(Self::from_parts(alloc, parts)?)
     }
 
-    /// The subtree that marks and flat lists say: for each level, from the chunks up, the numbers of left and right nodes,
-    /// and in one list the left nodes of all levels by rising level, then the right nodes by falling level.
+    /// Makes a subtree from marks and flat lists. `counts` has the numbers of left and right nodes of each level, from
+    /// the chunks up. `nodes` has the left nodes of all levels, lowest level first, then the right nodes of all levels,
+    /// highest level first.
     ///
-    /// It fails with [`CoreError::InvalidJson`] and the least broken of the rules 5 to 13 of [`Self::from_json`], and with
-    /// [`CoreError::OutOfMemory`] where an allocation is refused, which may come in the place of a rule. This call is this
-    /// port's own; it stands for `Deserialize` of the Rust crate in a binary form.
+    /// Fails with [`CoreError::InvalidJson`] and the lowest rule from 5 to 13 of [`Self::from_json`] that they break.
+    /// Fails with [`CoreError::OutOfMemory`] if an allocation fails; this may be returned instead of a rule. Only this
+    /// port has this call. It replaces the `Deserialize` of the Rust crate in binary formats.
     pub fn from_flat(
         alloc: A,
         at_start: bool,
@@ -192,7 +191,7 @@ impl<A: Allocator + Clone> MerkleHashSubtree<A> {
         )
     }
 
-    // The subtree of parts that keep the rules 5 to 13.
+    // Makes the subtree of these parts. Fails with the lowest rule from 5 to 13 that they break.
     fn from_parts(alloc: A, parts: Parts<A>) -> Result<Self, CoreError>
         ensures start { IfOk result (λ subtree. subtree.at_start ≡ parts.at_start) }
         ensures end { IfOk result (λ subtree. subtree.at_end ≡ parts.at_end) }
@@ -226,12 +225,12 @@ impl<A: Allocator + Clone> MerkleHashSubtree<A> {
 }
 
 impl<A: Allocator> MerkleHashSubtree<A> {
-    /// The JSON object of the subtree: `levels` has the number of left and right nodes of each level, from the
-    /// chunks up, and `nodes` the left nodes of all levels by rising level, then the right nodes by falling
-    /// level, each with its `hash` in hex and its `size` in bytes; `at_start` and `at_end` are the marks.
+    /// Returns the subtree as a JSON object. `levels` has the numbers of left and right nodes of each level, from the
+    /// chunks up. `nodes` has the left nodes of all levels, lowest level first, then the right nodes of all levels,
+    /// highest level first. Each has its `hash` in hex and its `size` in bytes. `at_start` and `at_end` are the marks.
     ///
-    /// It fails with [`CoreError::OutOfMemory`] where an allocation is refused. This call is this port's own;
-    /// it stands for the `Serialize` of the Rust crate.
+    /// Fails with [`CoreError::OutOfMemory`] if an allocation fails. Only this port has this call. It replaces the
+    /// `Serialize` of the Rust crate.
     pub fn to_json(&self, alloc: Global) -> Result<Value, CoreError>
         ensures json { IfOk result (λ value. view value ≡ subtree_json self.now) }
         ensures says { IfOk result (λ value. Reads (view value) self.now) }

@@ -1,4 +1,4 @@
-//! Merging the subtrees of adjacent ranges, without their chunks.
+//! Merges the subtrees of adjacent ranges, without their chunks.
 
 ghost use Rattle.std.specs.Prelude.{◌≡◌, ◌+◌, ◌-◌, ◌*◌, ◌^◌, ◌<◌, ◌≤◌, ◌⊎◌, ◌↔◌, List, [], ◌∷◌, length, flat_map, IfOk, IfErr, SomeIff, IsErrOf, IsTrue};
 ghost use Rattle.xet_merkle.specs.Groups.{Node};
@@ -20,7 +20,7 @@ use crate::merkle_hash_subtree::split::Marks;
 use crate::parent_maker::{ParentHashes, ParentMaker};
 use std::alloc::Allocator;
 
-// Why adjacent ranges can't be merged, where there is a reason but memory.
+// Returns why adjacent ranges can't be merged, if there is a reason other than memory.
 fn refusal<A: Allocator + Clone>(ranges: &[MerkleHashSubtree<A>]) -> Option<CoreError>
     ensures { RefusalOf ranges.now result }
 {
@@ -31,7 +31,7 @@ fn refusal<A: Allocator + Clone>(ranges: &[MerkleHashSubtree<A>]) -> Option<Core
     passed.refusal()
 }
 
-// The marks and the size of two adjacent ranges, where they can be merged.
+// Returns the marks and the size of two adjacent ranges together. Fails if they can't be merged.
 fn whole_of<A: Allocator>(
     front: &MerkleHashSubtree<A>,
     back: &MerkleHashSubtree<A>,
@@ -49,14 +49,14 @@ fn whole_of<A: Allocator>(
     let Some(size) = front.total_size().checked_add(back.total_size()) else {
         return Err(CoreError::SizeOverflow);
     };
-    // So many nodes as pass `usize::MAX` are in no memory.
+    // It treats more than `usize::MAX` nodes as a failed allocation, since no memory holds them.
     let Some(_nodes) = front.num_nodes().checked_add(back.num_nodes()) else {
         return Err(CoreError::OutOfMemory);
     };
     Ok((marks, size))
 }
 
-// The same of a range that is the operand named, and of another.
+// Does the same for a range and another one. `kept` says which operand the first is.
 fn whole_with<A: Allocator>(
     this: &MerkleHashSubtree<A>,
     other: &MerkleHashSubtree<A>,
@@ -73,13 +73,13 @@ fn whole_with<A: Allocator>(
 }
 
 impl<A: Allocator + Clone> MerkleHashSubtree<A> {
-    /// Merges the subtree of the range that follows this one's into it: it becomes the canonical subtree
-    /// of the concatenated list, with its own start mark and the other's end mark.
+    /// Merges the subtree of the range that follows into this one. This one becomes the canonical subtree of the
+    /// concatenated list. It keeps its own start mark and takes the end mark of the other.
     ///
-    /// It fails with [`CoreError::InvalidArguments`] where this range is marked at its end or the other at
-    /// its start, also where either is empty; then with [`CoreError::SizeOverflow`] where the sizes of both
-    /// add up to more than `u64::MAX`, before anything is allocated; and with [`CoreError::OutOfMemory`]
-    /// where an allocation is refused.
+    /// Fails with [`CoreError::InvalidArguments`] if this range is marked at its end or the other at its start, even if
+    /// one of them is empty. Otherwise fails with [`CoreError::SizeOverflow`] if the two sizes add up to more than
+    /// `u64::MAX`, before it allocates. Fails with [`CoreError::OutOfMemory`] if an allocation fails. After a failure
+    /// this subtree is unchanged.
     pub fn merge_into(&mut self, other: &Self) -> Result<(), CoreError>
         ensures merged { IfOk result (λ _. IsMerged self.old other.now self.new) }
         ensures unchanged { IfErr result (λ _. self.new ≡ self.old) }
@@ -89,10 +89,10 @@ impl<A: Allocator + Clone> MerkleHashSubtree<A> {
         Ok(())
     }
 
-    /// Does what [`merge_into`](Self::merge_into) does, and answers how many parents were hashed: at most half as many as
-    /// both ranges have nodes, and one more for each level of the merged range but the top.
+    /// Does the same as [`merge_into`](Self::merge_into), and returns how many parents were hashed. That is at most
+    /// half the number of nodes in both ranges, plus one for each level of the merged range but the top.
     ///
-    /// It fails where `merge_into` does, in the same order.
+    /// Fails like `merge_into`, in the same order. After a failure this subtree is unchanged.
     pub fn merge_into_counted(&mut self, other: &Self) -> Result<u128, CoreError>
         ensures merged { IfOk result (λ count. IsMergedBy parent count self.old other.now self.new) }
         ensures bound { IfOk result (λ count.
@@ -106,11 +106,12 @@ impl<A: Allocator + Clone> MerkleHashSubtree<A> {
         Ok(maker.made())
     }
 
-    /// Does what [`merge_into`](Self::merge_into) does, with each parent's hash from `maker`, which comes back with the
-    /// number of hashes that it made and is spent where the merge is refused. It has made none before. Where both ranges
-    /// have the parents that the maker names, so has the merged one.
+    /// Does the same as [`merge_into`](Self::merge_into), but takes the hash of each parent from `maker`. The maker
+    /// must have made no hash before. The call returns it with the number of hashes that it made. If both ranges have
+    /// the parents of this maker, so has the merged one.
     ///
-    /// It fails where `merge_into` does, in the same order.
+    /// Fails like `merge_into`, in the same order. After a failure this subtree is unchanged, and the maker is
+    /// consumed.
     pub fn merge_into_by<P: ParentMaker>(&mut self, other: &Self, maker: P) -> Result<P, CoreError>
         requires { P.count maker ≡ 0 }
         ensures merged { IfOk result (λ maker. IsMergedBy (parent_by P.hash_of) (P.count maker) self.old other.now self.new) }
@@ -124,7 +125,7 @@ impl<A: Allocator + Clone> MerkleHashSubtree<A> {
         self.merge_with(other, Operand::Front, maker)
     }
 
-    // Merges this range's subtree with that of another in place, as the operand that is named.
+    // Merges this range's subtree with another one, in place. `kept` says which operand this range is.
     pub(super) fn merge_with<P: ParentMaker>(
         &mut self,
         other: &Self,
@@ -147,14 +148,13 @@ impl<A: Allocator + Clone> MerkleHashSubtree<A> {
         Ok(maker)
     }
 
-    /// Merges adjacent ranges in order: the canonical subtree of the concatenated list, with the first range's
-    /// start mark and the last one's end mark. Of no ranges it is the empty subtree with both marks; of one
-    /// it is a copy.
+    /// Merges adjacent ranges, in order. Returns the canonical subtree of the concatenated list, with the start mark of
+    /// the first range and the end mark of the last one. With no ranges it is the empty subtree with both marks. With
+    /// one it is a copy.
     ///
-    /// It fails with [`CoreError::InvalidArguments`] where a range other than the first is marked at its
-    /// start or one other than the last at its end; then with [`CoreError::SizeOverflow`] where the sizes of
-    /// all ranges add up to more than `u64::MAX`, before anything is allocated; and with
-    /// [`CoreError::OutOfMemory`] where an allocation is refused.
+    /// Fails with [`CoreError::InvalidArguments`] if a range other than the first is marked at its start, or one other
+    /// than the last at its end. Otherwise fails with [`CoreError::SizeOverflow`] if the sizes of all ranges add up to
+    /// more than `u64::MAX`, before it allocates. Fails with [`CoreError::OutOfMemory`] if an allocation fails.
     pub fn merge(alloc: A, ranges: &[MerkleHashSubtree<A>]) -> Result<Self, CoreError>
         ensures canonical { IfOk result (λ merged. (lists : List (List Node)) →
             AreCanonical ranges.now lists → IsCanonical merged (flat_map (λ list. list) lists)) }
@@ -174,7 +174,7 @@ impl<A: Allocator + Clone> MerkleHashSubtree<A> {
         }
     }
 
-    // Some adjacent ranges, merged: the first half of them and the second apart, and then the two.
+    // Merges adjacent ranges: the first half and the second half separately, and then the two results.
     fn merge_halves(alloc: A, ranges: &[MerkleHashSubtree<A>]) -> Result<Self, CoreError>
         requires some { 0 < length ranges.now }
         requires marks { NoMarkBetweenSubtrees ranges.now }

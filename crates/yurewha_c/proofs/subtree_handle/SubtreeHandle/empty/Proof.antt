@@ -1,4 +1,4 @@
--- `empty` puts the null pointer beside the allocator: the handle owns nothing.
+-- `empty` stores the null pointer and the allocator: the handle owns nothing.
 use mathlib.Core.Path.{refl, sym, subst}
 use mathlib.Core.List.{List, [], ◌∷◌, ◌++◌}
 use Rattle.std.specs.Prelude.{None}

@@ -1,5 +1,5 @@
--- `into_parts` compares the pointer with null: a handle with a null pointer owned nothing, and each other one hands what it
--- owned to the parts.
+-- `into_parts` compares the pointer with null. A handle with a null pointer owned nothing. Any other handle passes what
+-- it owned to the parts.
 use Rattle.std.proofs.Common.{◌≡◌, List, [], ◌∷◌, ◌++◌, refl, sym, subst, lit<}
 use Rattle.std.specs.Prelude.{None, Some}
 use seplogic.Ra.Ura.{Ura}
