@@ -1,4 +1,5 @@
 -- Definitions that only the contracts of private functions use.
+pub mod LaneRows
 pub mod Lanes
 pub mod Rows
 pub mod Tree

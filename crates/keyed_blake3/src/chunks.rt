@@ -5,7 +5,7 @@ ghost use Rattle.keyed_blake3.specs.Blake3.{block, chunk_value, compress, words_
 ghost use Rattle.keyed_blake3.specs.Steps.Lanes.{AreFull, chunk_at, lane};
 
 use crate::chunk::{BLOCK_LEN, BLOCKS_PER_CHUNK, CHUNK_END, CHUNK_LEN, KEYED_HASH, start_flag};
-use crate::compression::lanes::{LANES, Lanes, compress_each};
+use crate::compression::lanes::{LANES, Lanes, compress_each, counters};
 use crate::transposition::Transposed;
 use std::simd::prelude::*;
 
@@ -68,7 +68,7 @@ fn after_block(h: &[Lanes; 8], chunks: &[u8], n: usize, first: u64, flags: u32) 
         → lane j result ≡ compress (lane j h.now) (words_at 16 (block (chunk_at j chunks.now) n))
         (first + j) 64 flags }
 {
-    compress_each(h, &block_of_each(chunks, n), first, flags)
+    compress_each(h, &block_of_each(chunks, n), counters(first), flags)
 }
 
 // The key's words, the same for each chunk.

@@ -112,7 +112,7 @@ word_of_four bytes h =
       get_or-take 4 bytes 3 0 (omega arith),
     ) (omega arith)
 
-length-digits : (p n x : ℕ) → length (digits_l p n x) ≡ n
+pub length-digits : (p n x : ℕ) → length (digits_l p n x) ≡ n
 length-digits p zero x = refl
 length-digits p (suc n) x = ap suc (length-digits p n (x / p))
 

@@ -27,11 +27,11 @@ full-set : (v : List (List ℕ)) (i : ℕ) (w : List ℕ) → AreFull v → leng
 full-set v i w full h = All-set (λ (u : List ℕ). length u ≡ LANES) v i w h full
 
 -- a lane of two vectors
-both_at : (f : ℕ → ℕ → ℕ) (j : ℕ) (x y : List ℕ) → j < LANES → length x ≡ LANES → length y ≡ LANES
+pub both_at : (f : ℕ → ℕ → ℕ) (j : ℕ) (x y : List ℕ) → j < LANES → length x ≡ LANES → length y ≡ LANES
     → get_or (zip2 f x y) j 0 ≡ f (get_or x j 0) (get_or y j 0)
 both_at f j x y h hx hy = get_or-zip2 f x y j 0 0 0 (rw hx h) (rw hy h)
 
-both_full : (f : ℕ → ℕ → ℕ) (x y : List ℕ) → length x ≡ LANES → length y ≡ LANES → length (zip2 f x y) ≡ LANES
+pub both_full : (f : ℕ → ℕ → ℕ) (x y : List ℕ) → length x ≡ LANES → length y ≡ LANES → length (zip2 f x y) ≡ LANES
 both_full f x y hx hy = length-zip2 f x y (hx ∙ sym hy) ∙ hx
 
 -- the words of a square table, row by row

@@ -1,74 +1,22 @@
-// The compression function (BLAKE3 specification, 2.2) on a block of each of `LANES` chunks, side by side: lane j of
-// each vector belongs to chunk j.
+// The compression function (BLAKE3 specification, 2.2) on `LANES` blocks side by side: lane j of each vector belongs to
+// block j.
 
 ghost use Rattle.std.specs.Prelude.{◌≡◌, ℕ, ◌+◌, ◌/◌, ◌%◌, ◌^◌, ◌<◌, ◌≤◌, length, slice_index};
-ghost use Rattle.keyed_blake3.specs.Blake3.{compress, first_state, folded, half_mix, mix, permuted, round};
+ghost use Rattle.keyed_blake3.specs.Blake3.{compress, first_state, folded, permuted};
+ghost use Rattle.keyed_blake3.specs.Steps.LaneRows.{state_at};
 ghost use Rattle.keyed_blake3.specs.Steps.Lanes.{AreFull, lane};
 
-use crate::compression::{INITIALIZATION_VECTOR, rotated};
+use crate::compression::INITIALIZATION_VECTOR;
+use crate::compression::in_step::{round, row, xor};
+use crate::compression::lane_rows::LaneRows;
 use std::simd::prelude::*;
 
-// How many chunks are compressed side by side: the words that a vector register holds. The proofs hold for 8, too,
+// How many blocks are compressed side by side: the words that a vector register holds. The proofs hold for 8, too,
 // with which a build for x86-64-v3 is faster.
 pub(crate) const LANES: usize = 4;
 
-// One word of each chunk.
+// One word of each block.
 pub(crate) type Lanes = Simd<u32, LANES>;
-
-// Half of G on the places a, b, c, d of each state: a message word of each, and two rotations.
-#[inline(always)]
-fn half_mix(v: &mut [Lanes; 16], a: usize, b: usize, c: usize, d: usize, x: Lanes, r: u32, s: u32)
-    requires a { a < 16 }
-    requires b { b < 16 }
-    requires c { c < 16 }
-    requires d { d < 16 }
-    requires r_low { 1 ≤ r }
-    requires r_high { r < 32 }
-    requires s_low { 1 ≤ s }
-    requires s_high { s < 32 }
-    requires full { AreFull v.old }
-    ensures full { AreFull v.new }
-    ensures lanes { (j : ℕ) → j < LANES
-        → lane j v.new ≡ half_mix (lane j v.old) a b c d (slice_index x j) r s }
-{
-    v[a] = v[a] + v[b] + x;
-    v[d] = rotated(v[d] ^ v[a], r);
-    v[c] = v[c] + v[d];
-    v[b] = rotated(v[b] ^ v[c], s);
-}
-
-// G on the places a, b, c, d of each state.
-#[inline(always)]
-fn mix(v: &mut [Lanes; 16], a: usize, b: usize, c: usize, d: usize, x: Lanes, y: Lanes)
-    requires a { a < 16 }
-    requires b { b < 16 }
-    requires c { c < 16 }
-    requires d { d < 16 }
-    requires full { AreFull v.old }
-    ensures full { AreFull v.new }
-    ensures lanes { (j : ℕ) → j < LANES
-        → lane j v.new ≡ mix (lane j v.old) a b c d (slice_index x j) (slice_index y j) }
-{
-    half_mix(v, a, b, c, d, x, 16, 12);
-    half_mix(v, a, b, c, d, y, 8, 7);
-}
-
-// One round of each state: G on the four columns, then on the four diagonals.
-#[inline(always)]
-fn round(v: &mut [Lanes; 16], m: &[Lanes; 16])
-    requires full { AreFull v.old }
-    ensures full { AreFull v.new }
-    ensures lanes { (j : ℕ) → j < LANES → lane j v.new ≡ round (lane j v.old) (lane j m.now) }
-{
-    mix(v, 0, 4, 8, 12, m[0], m[1]);
-    mix(v, 1, 5, 9, 13, m[2], m[3]);
-    mix(v, 2, 6, 10, 14, m[4], m[5]);
-    mix(v, 3, 7, 11, 15, m[6], m[7]);
-    mix(v, 0, 5, 10, 15, m[8], m[9]);
-    mix(v, 1, 6, 11, 12, m[10], m[11]);
-    mix(v, 2, 7, 8, 13, m[12], m[13]);
-    mix(v, 3, 4, 9, 14, m[14], m[15]);
-}
 
 // The message words of the next round.
 #[inline(always)]
@@ -81,9 +29,9 @@ fn permuted(m: &[Lanes; 16]) -> [Lanes; 16]
     ]
 }
 
-// The halves of the chunks' numbers, of which `first` is the first.
+// The halves of numbers that follow on `first`, one for each lane.
 #[inline(always)]
-fn counters(first: u64) -> (Lanes, Lanes)
+pub(crate) fn counters(first: u64) -> (Lanes, Lanes)
     requires { first + LANES ≤ 2 ^ 64 }
     ensures full { (length result.0 ≡ LANES) × (length result.1 ≡ LANES) }
     ensures lanes { (j : ℕ) → j < LANES → (slice_index result.0 j ≡ (first + j) % 2 ^ 32)
@@ -101,79 +49,68 @@ fn counters(first: u64) -> (Lanes, Lanes)
 
 // The states at first.
 #[inline(always)]
-fn first_state(h: &[Lanes; 8], first: u64, block_len: u32, flags: u32) -> [Lanes; 16]
-    requires counter { first + LANES ≤ 2 ^ 64 }
+fn first_state(h: &[Lanes; 8], counters: (Lanes, Lanes), block_len: u32, flags: u32) -> LaneRows
+    requires counters { (length counters.0 ≡ LANES) × (length counters.1 ≡ LANES) }
     requires full { AreFull h.now }
-    ensures full { AreFull result }
-    ensures lanes { (j : ℕ) → j < LANES
-        → lane j result ≡ first_state (lane j h.now) (first + j) block_len flags }
+    ensures { (j n : ℕ) → j < LANES → slice_index counters.0 j ≡ n % 2 ^ 32 → slice_index counters.1 j ≡ n / 2 ^ 32
+        → state_at j result ≡ first_state (lane j h.now) n block_len flags }
 {
     let [iv0, iv1, iv2, iv3] = INITIALIZATION_VECTOR;
-    let (low, high) = counters(first);
-    [
-        h[0],
-        h[1],
-        h[2],
-        h[3],
-        h[4],
-        h[5],
-        h[6],
-        h[7],
-        Simd::splat(iv0),
-        Simd::splat(iv1),
-        Simd::splat(iv2),
-        Simd::splat(iv3),
-        low,
-        high,
-        Simd::splat(block_len),
-        Simd::splat(flags),
-    ]
+    let (low, high) = counters;
+    LaneRows {
+        a: row(h[0], h[1], h[2], h[3]),
+        b: row(h[4], h[5], h[6], h[7]),
+        c: row(
+            Simd::splat(iv0),
+            Simd::splat(iv1),
+            Simd::splat(iv2),
+            Simd::splat(iv3),
+        ),
+        d: row(low, high, Simd::splat(block_len), Simd::splat(flags)),
+    }
 }
 
 // The first eight words of each output.
 #[inline(always)]
-fn folded(v: &[Lanes; 16]) -> [Lanes; 8]
-    requires { AreFull v.now }
+fn folded(v: LaneRows) -> [Lanes; 8]
     ensures full { AreFull result }
-    ensures lanes { (j : ℕ) → j < LANES → lane j result ≡ folded (lane j v.now) }
+    ensures lanes { (j : ℕ) → j < LANES → lane j result ≡ folded (state_at j v) }
 {
-    [
-        v[0] ^ v[8],
-        v[1] ^ v[9],
-        v[2] ^ v[10],
-        v[3] ^ v[11],
-        v[4] ^ v[12],
-        v[5] ^ v[13],
-        v[6] ^ v[14],
-        v[7] ^ v[15],
-    ]
+    let x = xor(v.a, v.c);
+    let y = xor(v.b, v.d);
+    [x.w0, x.w1, x.w2, x.w3, y.w0, y.w1, y.w2, y.w3]
 }
 
-// The compression of a block of 64 bytes of each chunk, from the chaining values `h`; the first chunk has number
-// `first`.
+// The compression of blocks of 64 bytes, from the chaining values `h`. `counters` has the halves of each one's counter.
 #[inline(always)]
-pub(crate) fn compress_each(h: &[Lanes; 8], m: &[Lanes; 16], first: u64, flags: u32) -> [Lanes; 8]
-    requires counter { first + LANES ≤ 2 ^ 64 }
+pub(crate) fn compress_each(
+    h: &[Lanes; 8],
+    m: &[Lanes; 16],
+    counters: (Lanes, Lanes),
+    flags: u32,
+) -> [Lanes; 8]
+    requires counters { (length counters.0 ≡ LANES) × (length counters.1 ≡ LANES) }
     requires full { AreFull h.now }
     ensures full { AreFull result }
-    ensures lanes { (j : ℕ) → j < LANES
-        → lane j result ≡ compress (lane j h.now) (lane j m.now) (first + j) 64 flags }
+    ensures lanes { (j n : ℕ) → j < LANES → slice_index counters.0 j ≡ n % 2 ^ 32
+        → slice_index counters.1 j ≡ n / 2 ^ 32
+        → lane j result ≡ compress (lane j h.now) (lane j m.now) n 64 flags }
 {
-    let mut v = first_state(h, first, 64, flags);
-    round(&mut v, m);
+    let v = first_state(h, counters, 64, flags);
+    let v = round(v, m);
     let m = permuted(m);
-    round(&mut v, &m);
+    let v = round(v, &m);
     let m = permuted(&m);
-    round(&mut v, &m);
+    let v = round(v, &m);
     let m = permuted(&m);
-    round(&mut v, &m);
+    let v = round(v, &m);
     let m = permuted(&m);
-    round(&mut v, &m);
+    let v = round(v, &m);
     let m = permuted(&m);
-    round(&mut v, &m);
+    let v = round(v, &m);
     let m = permuted(&m);
-    round(&mut v, &m);
-    folded(&v)
+    let v = round(v, &m);
+    folded(v)
 }
 
 // Lane j of the chaining values.

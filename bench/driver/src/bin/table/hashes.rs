@@ -9,6 +9,8 @@ use yurewha::own::Hasher;
 
 const PEER: &str = if cfg!(feature = "portable") {
     "`blake3`, no SIMD"
+} else if cfg!(feature = "sse2") {
+    "`blake3`, SSE2"
 } else if cfg!(feature = "sse41") {
     "`blake3`, SSE4.1"
 } else if cfg!(feature = "avx2") {

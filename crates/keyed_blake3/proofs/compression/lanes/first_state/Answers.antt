@@ -1,21 +1,14 @@
-use Rattle.std.proofs.Common.{ℕ, ◌+◌, List, [], ◌∷◌, refl, replicate}
+use Rattle.std.proofs.Common.{◌≡◌, ℕ, get_or, refl, replicate, ◌∙◌}
 use Rattle.std.proofs.lemmas.Simd.{get_or-replicate}
+use Rattle.keyed_blake3.specs.Steps.LaneRows.{row_at}
 use Rattle.keyed_blake3.specs.declared.compression.lanes.TheConstants.{LANES}
-use Rattle.keyed_blake3.proofs.Blake3.Lanes.{eight_full, first_state_at}
+use Rattle.keyed_blake3.proofs.Blake3.InStep.{first_state_by_rows}
 use Rattle.keyed_blake3.proofs.compression.lanes.first_state.Goals as goal
 
-pub returns-clause-full : goal.returns-clause-full
-returns-clause-full c =
-    let rest : List (List ℕ) =
-    replicate LANES 0x6A09E667 ∷ replicate LANES 0xBB67AE85 ∷ replicate LANES 0x3C6EF372 ∷ replicate LANES 0xA54FF53A
-    ∷ c.counters.result.0 ∷ c.counters.result.1 ∷ replicate LANES c.args.block_len ∷ replicate LANES c.args.flags ∷ [] in
-    eight_full c.args.h.now rest c.told-h c.requires.full
-    (refl, (refl, (refl, (refl, (c.counters.ensures.full.0, (c.counters.ensures.full.1, (refl, (refl, tt))))))))
-
-pub returns-clause-lanes : goal.returns-clause-lanes
-returns-clause-lanes c = λ j h.
-    let halves = c.counters.ensures.lanes j h in
-    first_state_at j c.args.h.now (replicate LANES 0x6A09E667) (replicate LANES 0xBB67AE85) (replicate LANES 0x3C6EF372) (replicate LANES 0xA54FF53A)
-    c.counters.result.0 c.counters.result.1 (replicate LANES c.args.block_len) (replicate LANES c.args.flags) (c.args.first + j) c.args.block_len c.args.flags
-    (get_or-replicate LANES j 0x6A09E667 0 h) (get_or-replicate LANES j 0xBB67AE85 0 h) (get_or-replicate LANES j 0x3C6EF372 0 h) (get_or-replicate LANES j 0xA54FF53A 0 h)
-    halves.0 halves.1 (get_or-replicate LANES j c.args.block_len 0 h) (get_or-replicate LANES j c.args.flags 0 h)
+pub returns : goal.returns
+returns c = λ j n h low high.
+    let splat : (x : ℕ) → get_or (replicate LANES x) j 0 ≡ x = λ x. get_or-replicate LANES j x 0 h in
+    first_state_by_rows j c.args.h.now (row_at j c.row.result) (row_at j c.row-2.result) (row_at j c.row-3.result) (row_at j c.row-4.result)
+    n c.args.block_len c.args.flags (c.row.ensures j) (c.row-2.ensures j)
+    (c.row-3.ensures j ∙ rw (splat 0x6A09E667, splat 0xBB67AE85, splat 0x3C6EF372, splat 0xA54FF53A) refl)
+    (c.row-4.ensures j ∙ rw (low, high, splat c.args.block_len, splat c.args.flags) refl)

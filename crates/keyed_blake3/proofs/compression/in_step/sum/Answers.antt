@@ -1,0 +1,28 @@
+use Rattle.std.proofs.Common.{refl}
+use Rattle.keyed_blake3.specs.Blake3.{add32}
+use Rattle.keyed_blake3.proofs.Blake3.Lanes.{both_at, both_full}
+use Rattle.keyed_blake3.proofs.compression.in_step.sum.Goals as goal
+
+pub invariant_of-result : goal.invariant_of-result
+invariant_of-result c =
+    let x = c.args.x in
+    let y = c.args.y in
+    record {
+      full = (
+        both_full add32 x.w0 y.w0 x.full.0 y.full.0,
+        both_full add32 x.w1 y.w1 x.full.1 y.full.1,
+        both_full add32 x.w2 y.w2 x.full.2 y.full.2,
+        both_full add32 x.w3 y.w3 x.full.3 y.full.3,
+      );
+    }
+
+pub returns : goal.returns
+returns c = λ j h.
+    let x = c.args.x in
+    let y = c.args.y in
+    rw (
+      both_at add32 j x.w0 y.w0 h x.full.0 y.full.0,
+      both_at add32 j x.w1 y.w1 h x.full.1 y.full.1,
+      both_at add32 j x.w2 y.w2 h x.full.2 y.full.2,
+      both_at add32 j x.w3 y.w3 h x.full.3 y.full.3,
+    ) refl
