@@ -1,6 +1,6 @@
 //! Ranges of chunks by their positions, merged as they become adjacent.
 
-ghost use Rattle.std.specs.Prelude.{◌≡◌, ◌≢◌, ◌+◌, ◌^◌, ◌<◌, ◌≤◌, List, ℕ, [], ◌∷◌, ◌++◌, false, length, option_map, slice_get, Some, None, IfOk, IfErr, IfSome, IfNone, IsSome, IsTrue, OnOk, OnErr};
+ghost use Rattle.std.specs.Prelude.{◌≡◌, ◌≢◌, ◌+◌, ◌^◌, ◌<◌, ◌≤◌, List, ℕ, [], ◌∷◌, ◌++◌, false, length, find, option_map, slice_get, Some, None, IfOk, IfErr, IfSome, IfNone, IsSome, IsTrue, OnOk, OnErr};
 ghost use Rattle.std.specs.Ordering.{nat_cmp};
 ghost use Rattle.std.specs.BTreeMap.{is_at};
 ghost use Rattle.std.specs.Map.{lookup};
@@ -9,7 +9,7 @@ ghost use Rattle.xet_merkle.specs.Groups.{Node};
 ghost use Rattle.xet_merkle.specs.Roots.{total_size};
 ghost use Rattle.upload_session.specs.Steps.Neighbours.{EndsAt, NoneEndsAt, IsWithNext, AreAround, IsPutBefore, Places};
 ghost use Rattle.upload_session.specs.Steps.OpenRuns.{IsOpen, AreOpen, AreOpenUpTo, HaveRoom, size_at, sizes_of};
-ghost use Rattle.upload_session.specs.Session.{Placed, PlacedRun, HoldsAt, place, chunks_of, is_taken, overlaps, IsWhole, StandFor};
+ghost use Rattle.upload_session.specs.Session.{Placed, PlacedRun, ends_after, place, chunks_of, is_taken, overlaps, IsWhole, StandFor};
 
 use crate::session_fault::SessionFault;
 use std::alloc::{AllocError, Allocator};
@@ -130,24 +130,19 @@ impl<C: ChunkRange> Runs<C> {
         Some((*first, &run.range))
     }
 
-    /// The run that holds a position: its first position, the position after its last one, and its range. It takes no
-    /// memory.
-    pub fn at(&self, position: u64) -> Option<(u64, u64, &C)>
-        ensures some { IfSome result (λ found.
-            HoldsAt self.now position (found.0, record { end = found.1; range = found.2.now })) }
-        ensures none { IfNone result ((placed : List Placed) → StandFor C.ChunkRange self.now placed →
-            is_taken placed position ≡ false) }
+    /// The first run that ends after a position, which is the one that holds it or else the next one: its first position, the
+    /// position after its last one, and its range. It takes no memory.
+    pub fn run_from(&self, position: u64) -> Option<(u64, u64, &C)>
+        ensures { (placed : List Placed) → StandFor C.ChunkRange self.now placed →
+            option_map {U = PlacedRun C} (λ found. (found.0, record { end = found.1; range = found.2.now })) result
+            ≡ find (ends_after position) self.now }
     {
-        match self.runs.range(..=position).next_back() {
-            Some((first, run)) => {
-                if position < run.end {
-                    Some((*first, run.end, &run.range))
-                } else {
-                    None
-                }
-            }
-            None => None,
+        if self.taken(position) {
+            let (first, run) = self.runs.range(..=position).next_back()?;
+            return Some((*first, run.end, &run.range));
         }
+        let (first, run) = self.runs.range(position..).next()?;
+        Some((*first, run.end, &run.range))
     }
 
     /// The range of all chunks, or `None` where there is none. It fails with [`SessionFault::Gap`] where the positions taken
