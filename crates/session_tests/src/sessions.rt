@@ -163,6 +163,13 @@ fn a_session_lends_the_ranges_of_its_runs(rt: HostRuntime) -> Result<(), Fail> {
     for position in 0..9 {
         let is_taken = position < 3 || position == 7;
         assert!(rt; session.taken(position) == is_taken, "{position}");
+        let run = match session.run_from(position) {
+            Some((first, end, _)) => Some((first, end)),
+            None => None,
+        };
+        let expected = [Some((0, 3)), Some((7, 8)), None];
+        let place = usize::from(2 < position) + usize::from(7 < position);
+        assert!(rt; Some(&run) == expected.get(place), "{position}");
     }
     assert!(rt; !session.taken(u64::MAX));
     Ok(())

@@ -1,6 +1,6 @@
 -- The positions that runs have.
 use Rattle.std.proofs.Common.{arith, nat_cmp, is_le, get_or, ◌≡◌, ◌+◌, ◌-◌, ◌<◌, ◌≤◌, ℕ, Bool, true, false, List, [], ◌∷◌, ◌++◌, ◌&&◌, ◌||◌, nat_eq, nat_lt, length, refl, sym, ap, subst, ◌∙◌}
-use Rattle.std.specs.Prelude.{All, cond}
+use Rattle.std.specs.Prelude.{All, None, Some, cond, find}
 use Rattle.std.specs.declared.ops.Bound.TheVariants.{Included, Unbounded}
 use Rattle.std.specs.BTreeMap.Range.{entries_between}
 use Rattle.std.specs.List.{list_any}
@@ -9,7 +9,7 @@ use Rattle.std.proofs.lemmas.List.Elements.{All-nil, All-cons, All-head, All-tai
 use Rattle.std.proofs.lemmas.List.Folds.{list_any-append, list_any_none}
 use Rattle.xet_merkle.specs.Groups.{Node}
 use Rattle.xet_merkle.specs.declared.chunk_range.ChunkRange as chunk_range
-use Rattle.upload_session.specs.Session.{Placed, PlacedRun, placed_from, is_taken, overlaps, AreFrom, StandFor}
+use Rattle.upload_session.specs.Session.{Placed, PlacedRun, placed_from, ends_after, is_taken, overlaps, AreFrom, StandFor}
 use Rattle.upload_session.proofs.Placing.{Rises, rises-after}
 
 -- what holds of all holds of each
@@ -82,7 +82,7 @@ module _ {C A : Type 0} (kind : chunk_range.Ghosts C A) where
       (runs-from bound runs others rest (others-from bound run.0 chunks others pieces))
 
   -- the runs in front of one end before it
-  fronts_end : (front : List (PlacedRun C)) (last : PlacedRun C) (back : List (PlacedRun C)) (placed : List Placed)
+  pub fronts_end : (front : List (PlacedRun C)) (last : PlacedRun C) (back : List (PlacedRun C)) (placed : List Placed)
       → StandFor kind (front ++ last ∷ back) placed → All (λ (run : PlacedRun C). run.1.end < last.0) front
   fronts_end [] last back placed stand = All-nil (λ (run : PlacedRun C). run.1.end < last.0)
   fronts_end (run ∷ front) last back placed (chunks, others, is, of_run, apart, rest) =
@@ -200,6 +200,67 @@ module _ {C : Type 0} (first count : ℕ) where
             ∙ ap (λ (runs : List (PlacedRun C)). nat_lt ((get_or runs 0 run).0 - first) count) {y = next ∷ more} h
         choose rest (one, free) false far h =
             ap (λ b. b || list_any (meets first count) runs) (not_begun run one (begins_before first run.0 far)) ∙ rest h free
+
+ended_before : {C : Type 0} (first : ℕ) (run : PlacedRun C) → meets first 1 run ≡ false → run.0 < first → nat_lt first run.1.end ≡ false
+ended_before first run free begins = grind (arith, free, begins)
+
+-- runs that end before a position don't count
+pub find-last : {C : Type 0} (position : ℕ) (front : List (PlacedRun C)) (last : PlacedRun C) (back : List (PlacedRun C))
+    → All (λ (run : PlacedRun C). run.1.end ≤ position) front → nat_lt position last.1.end ≡ true
+    → find (ends_after position) (front ++ last ∷ back) ≡ Some last
+find-last position [] last back ended holds = ap (λ b. cond b (Some last) (find (ends_after position) back)) holds
+find-last position (run ∷ front) last back ended holds =
+    let ends = All-head (λ run. run.1.end ≤ position) run front ended in
+    ap (λ b. cond b (Some run) (find (ends_after position) (front ++ last ∷ back))) {y = false} (grind (arith, ends))
+    ∙ find-last position front last back (All-tail (λ run. run.1.end ≤ position) run front ended) holds
+
+module _ {C A : Type 0} (kind : chunk_range.Ghosts C A) (first : ℕ) where
+  -- the first run that ends after a taken position is the last one that begins at it or before it
+  pub find-taken : (front : List (PlacedRun C)) (last : PlacedRun C) (back : List (PlacedRun C)) (placed : List Placed)
+      → StandFor kind (front ++ last ∷ back) placed → last.0 ≤ first → All (λ (run : PlacedRun C). first < run.0) back
+      → is_taken placed first ≡ true → find (ends_after first) (front ++ last ∷ back) ≡ Some last
+  find-taken front last back placed stand begun after taken =
+      find-last first front last back
+      (All-weaker (λ (run : PlacedRun C). run.1.end < last.0) (λ (run : PlacedRun C). run.1.end ≤ first)
+      (λ run ends. omega (arith, ends, begun)) front (fronts_end kind front last back placed stand))
+      (sym (taken-last kind front last back placed first stand begun after) ∙ taken)
+
+  -- after a free position it is the first one that begins there
+  pub find-next : (runs : List (PlacedRun C)) (placed : List Placed) (next : PlacedRun C) (more : List (PlacedRun C)) → StandFor kind runs placed
+      → from first runs ≡ next ∷ more → list_any (meets first 1) runs ≡ false → find (ends_after first) runs ≡ Some next
+  find-next [] placed next more stand is free = absurd (omega (arith, ap length is))
+  find-next (run ∷ runs) placed next more (chunks, others, _, of_run, apart, stand) is free =
+      choose (λ is free. find-next runs others next more stand is free)
+      (neither (meets first 1 run) (list_any (meets first 1) runs) free) (is_le (nat_cmp first run.0)) refl is
+    where
+      begins : run.0 < run.1.end
+      begins = omega (arith, of_run.0, of_run.1)
+
+      choose : (from first runs ≡ next ∷ more → list_any (meets first 1) runs ≡ false → find (ends_after first) runs ≡ Some next)
+          → (meets first 1 run ≡ false) × (list_any (meets first 1) runs ≡ false)
+          → (b : Bool) → is_le (nat_cmp first run.0) ≡ b → cond (b && true) (run ∷ from first runs) (from first runs) ≡ next ∷ more
+          → find (ends_after first) (run ∷ runs) ≡ Some next
+      choose rest (one, free) true near h =
+          let begun = begins_from first run.0 near in
+          ap (λ b. cond b (Some run) (find (ends_after first) runs)) {y = true} (grind (arith, begun, begins))
+          ∙ ap (λ (runs : List (PlacedRun C)). Some (get_or runs 0 run)) {y = next ∷ more} h
+      choose rest (one, free) false far h =
+          ap (λ b. cond b (Some run) (find (ends_after first) runs)) (ended_before first run one (begins_before first run.0 far)) ∙ rest h free
+
+-- where the position is free and no run begins after it, there is none
+pub find-none : {C : Type 0} (first : ℕ) (runs : List (PlacedRun C)) → from first runs ≡ [] → list_any (meets first 1) runs ≡ false
+    → find (ends_after first) runs ≡ None
+find-none first [] none free = refl
+find-none {C} first (run ∷ runs) none free =
+    choose (find-none first runs) (neither (meets first 1 run) (list_any (meets first 1) runs) free) (is_le (nat_cmp first run.0)) refl none
+  where
+    choose : (from first runs ≡ [] → list_any (meets first 1) runs ≡ false → find (ends_after first) runs ≡ None)
+        → (meets first 1 run ≡ false) × (list_any (meets first 1) runs ≡ false)
+        → (b : Bool) → is_le (nat_cmp first run.0) ≡ b → cond (b && true) (run ∷ from first runs) (from first runs) ≡ []
+        → find (ends_after first) (run ∷ runs) ≡ None
+    choose rest (one, free) true near h = absurd (omega (arith, ap length h))
+    choose rest (one, free) false far h =
+        ap (λ b. cond b (Some run) (find (ends_after first) runs)) (ended_before first run one (begins_before first run.0 far)) ∙ rest h free
 
 -- the positions rise
 pub stand-rises : {C A : Type 0} (kind : chunk_range.Ghosts C A) (runs : List (PlacedRun C)) (placed : List Placed)

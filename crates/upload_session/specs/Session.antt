@@ -59,10 +59,9 @@ AreFrom bound placed = All (λ p. bound ≤ p.0) placed
 abbrev pub PlacedRun : Type 0 → Type 0
 PlacedRun C = ℕ × Run C
 
--- a run is among others, and contains a position
-abbrev pub HoldsAt : {C : Type 0} → List (PlacedRun C) → ℕ → PlacedRun C → Type 0
-HoldsAt {C} runs position run =
-    (front back : List (PlacedRun C)) × (runs ≡ front ++ run ∷ back) × (run.0 ≤ position) × (position < run.1.end)
+-- whether a run ends after a position, so that it contains the position or begins after it
+abbrev pub ends_after : {C : Type 0} → ℕ → PlacedRun C → Bool
+ends_after position run = nat_lt position run.1.end
 
 module _ {C A : Type 0} (kind : chunk_range.Ghosts C A) where
   -- a run stands for chunks, at least one, by a range that is open at both ends

@@ -1,6 +1,6 @@
 //! Ranges of chunks by their positions, merged as they become adjacent.
 
-ghost use Rattle.std.specs.Prelude.{◌≡◌, ◌≢◌, ◌+◌, ◌^◌, ◌<◌, ◌≤◌, List, ℕ, [], ◌∷◌, ◌++◌, false, length, option_map, slice_get, Some, None, IfOk, IfErr, IfSome, IfNone, IsSome, IsTrue, OnOk, OnErr};
+ghost use Rattle.std.specs.Prelude.{◌≡◌, ◌≢◌, ◌+◌, ◌^◌, ◌<◌, ◌≤◌, List, ℕ, [], ◌∷◌, ◌++◌, false, length, find, option_map, slice_get, Some, None, IfOk, IfErr, IfSome, IfNone, IsSome, IsTrue, OnOk, OnErr};
 ghost use Rattle.std.specs.Ordering.{nat_cmp};
 ghost use Rattle.std.specs.BTreeMap.{is_at};
 ghost use Rattle.std.specs.Map.{lookup};
@@ -9,7 +9,7 @@ ghost use Rattle.xet_merkle.specs.Groups.{Node};
 ghost use Rattle.xet_merkle.specs.Roots.{total_size};
 ghost use Rattle.upload_session.specs.Steps.Neighbours.{EndsAt, NoneEndsAt, IsWithNext, AreAround, IsPutBefore, Places};
 ghost use Rattle.upload_session.specs.Steps.OpenRuns.{IsOpen, AreOpen, AreOpenUpTo, HaveRoom, size_at, sizes_of};
-ghost use Rattle.upload_session.specs.Session.{Placed, PlacedRun, HoldsAt, place, chunks_of, is_taken, overlaps, IsWhole, StandFor};
+ghost use Rattle.upload_session.specs.Session.{Placed, PlacedRun, ends_after, place, chunks_of, is_taken, overlaps, IsWhole, StandFor};
 
 use crate::session_fault::SessionFault;
 use std::alloc::{AllocError, Allocator};
@@ -131,24 +131,19 @@ impl<C: ChunkRange> Runs<C> {
         Some((*first, &run.range))
     }
 
-    /// Returns the run that contains a position: its first position, the position after its last one, and its range.
-    /// Returns `None` if the position isn't taken. It allocates nothing.
-    pub fn at(&self, position: u64) -> Option<(u64, u64, &C)>
-        ensures some { IfSome result (λ found.
-            HoldsAt self.now position (found.0, record { end = found.1; range = found.2.now })) }
-        ensures none { IfNone result ((placed : List Placed) → StandFor C.ChunkRange self.now placed →
-            is_taken placed position ≡ false) }
+    /// Returns the run that contains a position, or else the next one: its first position, the position after its last
+    /// one, and its range. Returns `None` if all runs end before. It allocates nothing.
+    pub fn run_from(&self, position: u64) -> Option<(u64, u64, &C)>
+        ensures { (placed : List Placed) → StandFor C.ChunkRange self.now placed →
+            option_map {U = PlacedRun C} (λ found. (found.0, record { end = found.1; range = found.2.now })) result
+            ≡ find (ends_after position) self.now }
     {
-        match self.runs.range(..=position).next_back() {
-            Some((first, run)) => {
-                if position < run.end {
-                    Some((*first, run.end, &run.range))
-                } else {
-                    None
-                }
-            }
-            None => None,
+        if self.taken(position) {
+            let (first, run) = self.runs.range(..=position).next_back()?;
+            return Some((*first, run.end, &run.range));
         }
+        let (first, run) = self.runs.range(position..).next()?;
+        Some((*first, run.end, &run.range))
     }
 
     /// Returns the range of all chunks, or `None` if there are no chunks. Fails with [`SessionFault::Gap`] if the taken

@@ -1,10 +1,10 @@
 //! A session: ranges of chunks that come in any order, merged as they become adjacent.
 
-ghost use Rattle.std.specs.Prelude.{◌≡◌, ℕ, ◌+◌, ◌^◌, ◌<◌, ◌≤◌, ◌↔◌, ◌⊎◌, List, [], false, length, replicate, sum_by, option_map, slice_get, Ok, IfOk, IfErr, IfSome, IfNone, SomeIff, OnOk, OnErr, IsOk, IsTrue, IsErrOf};
+ghost use Rattle.std.specs.Prelude.{◌≡◌, ℕ, ◌+◌, ◌^◌, ◌<◌, ◌≤◌, ◌↔◌, ◌⊎◌, List, [], false, length, replicate, sum_by, find, option_map, slice_get, Ok, IfOk, IfErr, IfSome, IfNone, SomeIff, OnOk, OnErr, IsOk, IsTrue, IsErrOf};
 ghost use Rattle.xet_merkle.specs.Groups.{Node};
 ghost use Rattle.xet_merkle.specs.Roots.{total_size, IsRoot, IsFileHash};
 ghost use Rattle.upload_session.specs.Hashes.{Hash, hashes_of};
-ghost use Rattle.upload_session.specs.Session.{Placed, HoldsAt, place, chunks_of, is_taken, overlaps, IsWhole, SessionStands};
+ghost use Rattle.upload_session.specs.Session.{Placed, PlacedRun, ends_after, place, chunks_of, is_taken, overlaps, IsWhole, SessionStands};
 
 use crate::kept_hashes::{KeptHashes, SeenHashes};
 use crate::runs::Runs;
@@ -106,15 +106,15 @@ impl<C: ChunkRange, H: KeptHashes<C::Alloc>> SessionOf<C, H> {
         self.runs.nth(i)
     }
 
-    /// Returns the run that contains a position: its first position, the position after its last one, and its range.
-    /// Returns `None` if the position isn't taken. It allocates nothing.
-    pub fn run_at(&self, position: u64) -> Option<(u64, u64, &C)>
-        ensures some { IfSome result (λ found.
-            HoldsAt self.now.runs position (found.0, record { end = found.1; range = found.2.now })) }
-        ensures none { IfNone result ((placed : List Placed) →
-            SessionStands C.ChunkRange H.KeptHashes self.now placed → is_taken placed position ≡ false) }
+    /// Returns the run that contains a position, or else the next one: its first position, the position after its last
+    /// one, and its range. Returns `None` if all runs end before. Calls from position 0 and then from each run's end
+    /// walk all runs. It allocates nothing.
+    pub fn run_from(&self, position: u64) -> Option<(u64, u64, &C)>
+        ensures { (placed : List Placed) → SessionStands C.ChunkRange H.KeptHashes self.now placed →
+            option_map {U = PlacedRun C} (λ found. (found.0, record { end = found.1; range = found.2.now })) result
+            ≡ find (ends_after position) self.now.runs }
     {
-        self.runs.at(position)
+        self.runs.run_from(position)
     }
 
     /// Puts chunks at the positions from `first` on. Returns how many of their hashes no earlier successful put had,
