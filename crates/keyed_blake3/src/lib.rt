@@ -3,7 +3,7 @@
 //!
 //! A block of 64 bytes is compressed into a chaining value (`compression`), the blocks of a chunk one after
 //! the other (`chunk`), those of several chunks side by side (`chunks`), and the chaining values of two subtrees
-//! into their parent's, up to the root (`tree`).
+//! into their parent's, side by side (`subtrees`) and one by one up to the root (`tree`).
 #![tactic(auto)]
 
 ghost use Rattle.std.specs.Prelude.{◌≡◌};
@@ -13,6 +13,7 @@ mod chunk;
 mod chunks;
 mod compression;
 mod hasher;
+mod subtrees;
 mod transposition;
 mod tree;
 
