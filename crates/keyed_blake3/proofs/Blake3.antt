@@ -7,4 +7,5 @@ pub mod InStep
 pub mod Lanes
 pub mod Merging
 pub mod Rows
+pub mod Subtrees
 pub mod Waiting

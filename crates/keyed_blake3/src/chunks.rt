@@ -68,11 +68,11 @@ fn after_block(h: &[Lanes; 8], chunks: &[u8], n: usize, first: u64, flags: u32) 
         → lane j result ≡ compress (lane j h.now) (words_at 16 (block (chunk_at j chunks.now) n))
         (first + j) 64 flags }
 {
-    compress_each(h, &block_of_each(chunks, n), counters(first), flags)
+    compress_each::<0>(h, &block_of_each(chunks, n), counters(first), flags)
 }
 
-// The key's words, the same for each chunk.
-fn key_of_each(key: &[u32; 8]) -> [Lanes; 8]
+// The key's words, the same for each lane.
+pub(crate) fn key_of_each(key: &[u32; 8]) -> [Lanes; 8]
     ensures full { AreFull result }
     ensures lanes { (j : ℕ) → j < LANES → lane j result ≡ key.now }
 {

@@ -6,6 +6,7 @@
 //! - `compression` compresses a block of 64 bytes into a chaining value.
 //! - `chunk` compresses the blocks of a chunk one after another.
 //! - `chunks` compresses those of several chunks side by side.
+//! - `subtrees` compresses several chunks and their parents side by side, up to the value of a complete subtree.
 //! - `tree` compresses the chaining values of two subtrees into their parent's, up to the root.
 #![tactic(auto)]
 
@@ -16,6 +17,7 @@ mod chunk;
 mod chunks;
 mod compression;
 mod hasher;
+mod subtrees;
 mod transposition;
 mod tree;
 

@@ -1,18 +1,18 @@
 // The tree of chaining values above the chunks, as it grows (BLAKE3 specification, 2.5 and 5.1.2).
 
-ghost use Rattle.std.specs.Prelude.{◌≡◌, ◌==◌, ℕ, ◌+◌, ◌*◌, ◌/◌, ◌%◌, ◌^◌, ◌≤◌, ◌<◌, if◌then◌else◌, List, drop, length, take};
+ghost use Rattle.std.specs.Prelude.{◌≡◌, ◌==◌, ℕ, ◌+◌, ◌*◌, ◌/◌, ◌%◌, ◌^◌, ◌≤◌, ◌<◌, if◌then◌else◌, IsFalse, IsTrue, List, drop, length, take};
 ghost use Rattle.std.specs.Int.{to_le_bytes, w32};
 ghost use Rattle.std.specs.List.{flat_map};
 ghost use Rattle.keyed_blake3.specs.Blake3.{parent_value, root_flag};
 ghost use Rattle.keyed_blake3.specs.Steps.Lanes.{AreFull, lane};
-ghost use Rattle.keyed_blake3.specs.Steps.Tree.{IsAbsorbed, IsEnded, IsWaiting, joined, subtree_at};
+ghost use Rattle.keyed_blake3.specs.Steps.Tree.{IsAbsorbed, IsEnded, IsWaiting, IsWaitingAtEnd, joined, subtree_at};
 
 use crate::chunk::{
     BLOCK_LEN, BLOCKS_PER_CHUNK, CHUNK_END, CHUNK_LEN, KEYED_HASH, compress_block, start_flag,
 };
-use crate::chunks::chunk_values;
 use crate::compression::compress;
 use crate::compression::lanes::{LANES, Lanes, lane};
+use crate::subtrees::{PARENT, subtree_values};
 
 // The most chaining values that may wait: a message has at most 2^54 chunks.
 pub(crate) const MAX_DEPTH: usize = 54;
@@ -20,9 +20,7 @@ pub(crate) const MAX_DEPTH: usize = 54;
 // The fewest chunks that are hashed side by side: two alone are slower so than one after the other.
 const CHUNKS_SIDE_BY_SIDE: usize = 3;
 
-// The domain flags (table 3) of a parent and of the root.
-const PARENT: u32 = 4;
-
+// The domain flag (table 3) of the root.
 pub(crate) const ROOT: u32 = 8;
 
 // ROOT where no chaining value waits.
@@ -61,27 +59,55 @@ pub(crate) fn output(value: &[u32; 8]) -> [u8; 32]
     bytes
 }
 
-// Adds the chaining value of chunk number `chunk` to those that wait, joined with each subtree of its size
-// on its left: as a 1 is added to a binary number, with a carry for each join.
-fn add_chunk_chaining_value(
+// Whether a value is joined with the last of the `used` values that wait: `rest`, the number of subtrees of its size before
+// it, is odd, and more than `kept` values wait.
+fn is_joined(rest: u64, used: usize, kept: usize) -> bool
+    ensures joined { IsTrue result → (rest % 2 ≡ 1) × (kept < used) }
+    ensures put { IsFalse result → rest % 2 ≡ 1 → used ≤ kept }
+{
+    rest % 2 == 1 && used > kept
+}
+
+// Adds the value of subtree number `number` of one size to those that wait, joined with each of its size on its left: as
+// a 1 is added to a binary number, with a carry for each join. The first `kept` values aren't joined: `kept` is 0 if more
+// bytes follow, and 1 if the message ends, since that join may make the root.
+fn add_subtree_value(
     cv_stack: &mut [[u32; 8]; MAX_DEPTH],
     key: &[u32; 8],
-    chunk: u64,
+    number: u64,
     value: [u32; 8],
+    kept: usize,
 )
-    requires { chunk + 1 < 2 ^ 54 }
-    ensures { (m : List ℕ) → IsWaiting key.now cv_stack.old chunk m → value ≡ subtree_at key.now 0 chunk m
-        → 1024 * (chunk + 1) ≤ length m → IsWaiting key.now cv_stack.new (chunk + 1) m }
+    requires { number + 1 < 2 ^ 54 }
+    ensures joined { kept ≡ 0 → (k c : ℕ) (m : List ℕ) → c ≡ 2 ^ k * number → IsWaiting key.now cv_stack.old c m
+        → value ≡ subtree_at key.now k c m → c + 2 ^ k < 2 ^ 54 → 1024 * (c + 2 ^ k) ≤ length m
+        → IsWaiting key.now cv_stack.new (c + 2 ^ k) m }
+    ensures kept { kept ≡ 1 → 0 < number → (k c : ℕ) (m : List ℕ) → c ≡ 2 ^ k * number
+        → IsWaiting key.now cv_stack.old c m → value ≡ subtree_at key.now k c m → c + 2 ^ k < 2 ^ 54
+        → 1024 * (c + 2 ^ k) ≤ length m → IsWaitingAtEnd key.now cv_stack.new (c + 2 ^ k) m }
 {
     let mut value = value;
-    let mut rest = chunk;
-    let mut used = chunk.count_ones() as usize;
-    'joins: while rest % 2 == 1 {
+    let mut rest = number;
+    let mut used = number.count_ones() as usize;
+    'joins: while is_joined(rest, used, kept) {
         used -= 1;
         value = parent_value(key, &cv_stack[used], &value, 0);
         rest /= 2;
     }
     cv_stack[used] = value;
+}
+
+// The number of chunks in each of `LANES` subtrees side by side, the first of which begins with chunk number `first`: the
+// largest power of two that divides `first` and for which `chunks` chunks suffice.
+fn subtree_len(first: u64, chunks: usize) -> usize
+    requires { chunks < 2 ^ 54 }
+    ensures { (k : ℕ) × (result ≡ 2 ^ k) × (first % result ≡ 0) × (0 < k → LANES * result ≤ chunks) }
+{
+    let mut len = 1;
+    'doubled: while 2 * LANES * len <= chunks && first % (2 * len as u64) == 0 {
+        len *= 2;
+    }
+    len
 }
 
 // What a message's blocks before its last one have made: the chaining value of the open chunk, and those of
@@ -107,7 +133,7 @@ impl Tree {
         if place == BLOCKS_PER_CHUNK - 1 {
             let flags = KEYED_HASH + CHUNK_END;
             let value = compress_block(&self.chaining_value, block, chunk, BLOCK_LEN as u32, flags);
-            add_chunk_chaining_value(&mut self.cv_stack, &self.key, chunk, value);
+            add_subtree_value(&mut self.cv_stack, &self.key, chunk, value, 0);
             self.chaining_value = self.key;
         } else {
             let flags = KEYED_HASH + start_flag(place);
@@ -121,58 +147,55 @@ impl Tree {
         }
     }
 
-    // Adds the values of `count` chunks, of which the first has number `first`.
-    fn add_values(&mut self, first: u64, count: usize, values: &[Lanes; 8])
-        requires first { first + count < 2 ^ 54 }
+    // Adds the values of the first `count` of some subtrees of one size, of which the first has number `number`.
+    fn add_values(&mut self, number: u64, count: usize, values: &[Lanes; 8])
+        requires number { number + count < 2 ^ 54 }
         requires count { count ≤ LANES }
         requires full { AreFull values.now }
         ensures key { self.new.key ≡ self.old.key }
         ensures chaining_value { self.new.chaining_value ≡ self.old.chaining_value }
-        ensures waits { (m : List ℕ) → IsWaiting self.old.key self.old.cv_stack first m
-            → 1024 * (first + count) ≤ length m
-            → ((j : ℕ) → j < count → lane j values.now ≡ subtree_at self.old.key 0 (first + j) m)
-            → IsWaiting self.old.key self.new.cv_stack (first + count) m }
+        ensures waits { (k c : ℕ) (m : List ℕ) → c ≡ 2 ^ k * number → IsWaiting self.old.key self.old.cv_stack c m
+            → c + 2 ^ k * count < 2 ^ 54 → 1024 * (c + 2 ^ k * count) ≤ length m
+            → ((j : ℕ) → j < count → lane j values.now ≡ subtree_at self.old.key k (c + 2 ^ k * j) m)
+            → IsWaiting self.old.key self.new.cv_stack (c + 2 ^ k * count) m }
     {
         'values: for j in 0..count {
             let value = lane(values, j);
-            add_chunk_chaining_value(&mut self.cv_stack, &self.key, first + j as u64, value);
+            add_subtree_value(&mut self.cv_stack, &self.key, number + j as u64, value, 0);
         }
     }
 
-    // Takes in `count` whole chunks, of which the first has number `first`. The last of them is not the message's last.
-    fn absorb_chunks(&mut self, first: u64, count: usize, chunks: &[u8])
-        requires first { first + count < 2 ^ 54 }
-        requires some { 0 < count }
+    // Takes in `count` subtrees of `len` chunks each, of which the first begins with chunk number `first`. `kept` is 1 if the
+    // message ends with them, and else 0.
+    fn absorb_subtrees(&mut self, first: u64, len: usize, count: usize, chunks: &[u8], kept: usize)
+        requires len { (k : ℕ) × (len ≡ 2 ^ k) }
+        requires first { first % len ≡ 0 }
+        requires end { first + len * count < 2 ^ 54 }
+        requires some { 1 < count }
         requires count { count ≤ LANES }
-        requires chunks { length chunks.now ≡ 1024 * count }
-        ensures { (key m : List ℕ) → IsAbsorbed key self.old (16 * first) m
-            → 1024 * (first + count) ≤ length m
-            → chunks.now ≡ take (1024 * count) (drop (1024 * first) m)
-            → IsAbsorbed key self.new (16 * (first + count)) m }
+        requires all { 1 < len → count ≡ LANES }
+        requires chunks { length chunks.now ≡ 1024 * (len * count) }
+        ensures absorbed { kept ≡ 0 → (key m : List ℕ) → IsAbsorbed key self.old (16 * first) m
+            → 1024 * (first + len * count) ≤ length m
+            → chunks.now ≡ take (1024 * (len * count)) (drop (1024 * first) m)
+            → IsAbsorbed key self.new (16 * (first + len * count)) m }
+        ensures ended { kept ≡ 1 → (key m : List ℕ) → IsAbsorbed key self.old (16 * first) m
+            → 1024 * (first + len * count) ≤ length m
+            → chunks.now ≡ take (1024 * (len * count)) (drop (1024 * first) m)
+            → IsEnded key self.new (first + len * count) m }
     {
-        let values = chunk_values(&self.key, chunks, first);
-        self.add_values(first, count, &values);
-    }
-
-    // Takes in `count` whole chunks, of which the first has number `first`. They are the message's last ones.
-    fn end_with_chunks(&mut self, first: u64, count: usize, chunks: &[u8])
-        requires first { first + count < 2 ^ 54 }
-        requires some { 0 < count }
-        requires count { count ≤ LANES }
-        requires chunks { length chunks.now ≡ 1024 * count }
-        ensures { (key m : List ℕ) → IsAbsorbed key self.old (16 * first) m
-            → 1024 * (first + count) ≤ length m
-            → chunks.now ≡ take (1024 * count) (drop (1024 * first) m)
-            → IsEnded key self.new (first + count) m }
-    {
+        let values = subtree_values(&self.key, chunks, first);
+        let number = first / len as u64;
         let last = count - 1;
-        let values = chunk_values(&self.key, chunks, first);
-        self.add_values(first, last, &values);
-        self.cv_stack[(first + last as u64).count_ones() as usize] = lane(&values, last);
+        self.add_values(number, last, &values);
+        let value = lane(&values, last);
+        let number = number + last as u64;
+        add_subtree_value(&mut self.cv_stack, &self.key, number, value, kept);
     }
 
     // Takes in the last block of chunk number `chunk`, with which the message ends.
     pub(crate) fn end_with_block(&mut self, chunk: u64, block: &[u8])
+        requires some { 0 < chunk }
         requires chunk { chunk + 1 < 2 ^ 54 }
         requires block { length block.now ≡ 64 }
         ensures { (key m : List ℕ) → IsAbsorbed key self.old (16 * chunk + 15) m → 1024 * (chunk + 1) ≤ length m
@@ -180,25 +203,25 @@ impl Tree {
     {
         let flags = KEYED_HASH + CHUNK_END;
         let value = compress_block(&self.chaining_value, block, chunk, BLOCK_LEN as u32, flags);
-        self.cv_stack[chunk.count_ones() as usize] = value;
+        add_subtree_value(&mut self.cv_stack, &self.key, chunk, value, 1);
         self.chaining_value = self.key;
     }
 
-    // Joins the value of the last of `chunks` chunks with those before it, since more bytes follow.
-    pub(crate) fn join_last(&mut self, chunks: u64)
-        requires some { 0 < chunks }
-        requires chunks { chunks < 2 ^ 54 }
+    // Joins the message's halves, which wait if it has a power of two of chunks, since more bytes follow. It has `chunks`
+    // chunks so far.
+    pub(crate) fn join_halves(&mut self, chunks: u64)
+        requires { chunks < 2 ^ 54 }
         ensures { (key m : List ℕ) → IsEnded key self.old chunks m → 1024 * chunks ≤ length m
             → IsAbsorbed key self.new (16 * chunks) m }
     {
-        let last = chunks - 1;
-        let value = self.cv_stack[last.count_ones() as usize];
-        add_chunk_chaining_value(&mut self.cv_stack, &self.key, last, value);
+        if chunks.count_ones() == 1 {
+            let (left, right) = (self.cv_stack[0], self.cv_stack[1]);
+            self.cv_stack[0] = parent_value(&self.key, &left, &right, 0);
+        }
     }
 
-    // Takes in what comes next of `rest`, the bytes of the message from block number `number` on: up to `LANES` whole
-    // chunks where several begin here, and else a block. Gives the number of blocks. Where no bytes follow them, the
-    // message ends with them.
+    // Takes in what comes next of `rest`, the bytes of the message from block number `number` on: whole chunks if several
+    // begin here, and else a block. Returns the number of blocks. If no bytes follow them, the message ends with them.
     pub(crate) fn absorb_next(&mut self, number: u64, rest: &[u8]) -> usize
         requires number { 64 * number + length rest.now < 2 ^ 64 }
         requires rest { 64 < length rest.now }
@@ -210,20 +233,22 @@ impl Tree {
         ensures ended { 64 * result ≡ length rest.now → (key m : List ℕ) → IsAbsorbed key self.old number m
             → rest.now ≡ drop (64 * number) m → IsEnded key self.new ((number + result) / 16) m }
     {
-        let count = (rest.len() / CHUNK_LEN).min(LANES);
-        if number % BLOCKS_PER_CHUNK > 0 || count < CHUNKS_SIDE_BY_SIDE {
+        let whole = rest.len() / CHUNK_LEN;
+        if number % BLOCKS_PER_CHUNK > 0 || whole < CHUNKS_SIDE_BY_SIDE {
             let block = &rest[..BLOCK_LEN];
             self.absorb(number, block);
             return 1;
         }
         let first = number / BLOCKS_PER_CHUNK;
-        let chunks = &rest[..CHUNK_LEN * count];
+        let len = subtree_len(first, whole);
+        let count = whole.min(LANES);
+        let chunks = &rest[..CHUNK_LEN * (len * count)];
         if chunks.len() == rest.len() {
-            self.end_with_chunks(first, count, chunks);
-            return CHUNK_LEN * count / BLOCK_LEN;
+            self.absorb_subtrees(first, len, count, chunks, 1);
+            return chunks.len() / BLOCK_LEN;
         }
-        self.absorb_chunks(first, count, chunks);
-        CHUNK_LEN * count / BLOCK_LEN
+        self.absorb_subtrees(first, len, count, chunks, 0);
+        chunks.len() / BLOCK_LEN
     }
 
     // The value `value` of what follows the first `used` values that wait, joined with them: the root's.

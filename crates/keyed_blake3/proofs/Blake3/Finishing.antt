@@ -1,19 +1,19 @@
 -- The end of a message: the waiting values are joined with the open chunk, from the top of the stack.
-use Rattle.std.proofs.Common.{◌≡◌, ℕ, zero, suc, inl, inr, ◌+◌, ◌-◌, ◌*◌, ◌/◌, ◌%◌, ◌^◌, ◌<◌, ◌≤◌, ◌==◌, if◌then◌else◌, List, [], ◌∷◌, ◌++◌, length, take, drop, get_or, replicate, refl, sym, ap, ◌∙◌, arith, length-drop}
+use Rattle.std.proofs.Common.{◌≡◌, ℕ, inl, inr, ◌+◌, ◌-◌, ◌*◌, ◌/◌, ◌%◌, ◌^◌, ◌<◌, ◌≤◌, ◌==◌, if◌then◌else◌, List, [], ◌∷◌, ◌++◌, length, take, drop, get_or, replicate, refl, sym, ap, ◌∙◌, arith, length-drop}
 use Rattle.std.specs.Int.RustNames.{count_ones}
-use Rattle.std.proofs.Math.Nat.{one-mul, pow-succ'}
+use Rattle.std.proofs.Math.Nat.{lt_of_mul-lt-mul_left, mul-add, one-mul}
+use Rattle.std.proofs.lemmas.Nat.{mul-le, pow-add, pow_pos}
 use Rattle.std.proofs.lemmas.List.{drop-drop, take_all, take_more}
-use Rattle.std.proofs.lemmas.Bool.{cases_lt}
 use Rattle.std.proofs.lemmas.Bool.Decides.{nat_tests}
 use Rattle.keyed_blake3.specs.Blake3.{after_blocks, block, blocks_before_last, chunk_end_flag, compress, keyed_hash_flag, parent_value, root_flag, start_flag, subtree_value, words_at}
 use Rattle.keyed_blake3.specs.Blake3Hasher.{IsTaken}
-use Rattle.keyed_blake3.specs.Steps.Tree.{IsEnded, joined, waiting}
+use Rattle.keyed_blake3.specs.Steps.Tree.{IsEnded, IsWaitingAtEnd, joined, waiting}
 use Rattle.keyed_blake3.specs.declared.hasher.Hasher.{Hasher}
 use Rattle.keyed_blake3.specs.declared.tree.Tree.{Tree}
 use Rattle.keyed_blake3.proofs.Blake3.Absorbing.{chunk_value-last}
 use Rattle.keyed_blake3.proofs.Blake3.Blocks.{subtree_value-chunk}
-use Rattle.keyed_blake3.proofs.Blake3.Merging.{ones_of_odd}
-use Rattle.keyed_blake3.proofs.Blake3.Waiting.{joined-same, joined-waiting, ones-even, joined_push, rest_at}
+use Rattle.keyed_blake3.proofs.Blake3.Merging.{at_end_ones, ones_some}
+use Rattle.keyed_blake3.proofs.Blake3.Waiting.{joined-same, joined-waiting, joined_push, rest_at}
 
 -- the value of the open chunk, by the flag that is added, is joined with what waits
 pub root_value : (key : List ℕ) (s : Hasher) (m rest : List ℕ) (number held : ℕ) → IsTaken key s number m → s.count < 2 ^ 64
@@ -69,26 +69,30 @@ pub IsTaken_key : (key : List ℕ) (s : Hasher) (n : ℕ) (m : List ℕ) → IsT
 unfolding IsTaken
 IsTaken_key key s n m h = h.1.0
 
--- what waits under a number of chunks is something
-pub ones_some : (bits n : ℕ) → n < 2 ^ bits → 0 < n → 0 < count_ones n
-ones_some zero n h some = absurd (omega arith)
-ones_some (suc bits) n h some =
-    let twice : 2 ^ suc bits ≡ 2 * 2 ^ bits = pow-succ' 2 bits in
-    elim (cases_lt (n % 2) 1) [
-      | inl even ↦
-          let e : n ≡ 2 * (n / 2) = omega arith in
-          let same : count_ones n ≡ count_ones (n / 2) = ap count_ones e ∙ ones-even (n / 2) in
-          omega (arith, ones_some bits (n / 2) (omega arith) (omega arith))
-      | inr odd ↦ omega (arith, ones_of_odd n (omega arith))
-    ]
-
--- the value of the last chunk of a message of c whole chunks is joined with what waits
-pub ended_value : (kw : List ℕ) (t : Tree) (c : ℕ) (m : List ℕ) → IsEnded kw t c m → 1 < c → c < 2 ^ 54 → length m ≡ 1024 * c
-    → (get_or t.cv_stack (count_ones (c - 1)) [] ≡ rest_at kw 0 (c - 1) m 0)
-    × (joined kw (take (count_ones (c - 1)) t.cv_stack) (rest_at kw 0 (c - 1) m) 8 ≡ subtree_value kw 54 0 m 8)
-ended_value kw t c m h some few size =
-    let last : ℕ = c - 1 in
-    let start : 2 ^ 0 * last ≡ last = one-mul last in
-    let whole : take 1024 (drop (1024 * last) m) ≡ drop (1024 * last) m = take_all 1024 (drop (1024 * last) m) (omega (arith, length-drop (1024 * last) m)) in
-    let law = joined-waiting kw 54 0 last 54 m (omega arith) refl (omega arith) (omega arith) 8 in
-    (h.3 ∙ ap (λ (x : List ℕ). subtree_value kw 0 last x 0) whole, rw h.2 (rw start at law))
+-- where m ends with a chunk the last value is joined with what waits before it
+pub ended_value : (kw : List ℕ) (t : Tree) (c used : ℕ) (m : List ℕ) → IsEnded kw t c m → c < 2 ^ 54 → length m ≡ 1024 * c
+    → (count_ones c ≤ 2 → used ≡ 1) → (2 ≤ count_ones c → used ≡ count_ones c - 1)
+    → (0 < used) × (x : ℕ → List ℕ) × (get_or t.cv_stack used [] ≡ x 0) × (joined kw (take used t.cv_stack) x 8 ≡ subtree_value kw 54 0 m 8)
+ended_value kw t c used m h small size few several =
+    let e : IsWaitingAtEnd kw t.cv_stack c m = h.2 in
+    let n : ℕ = e.number in
+    let r = e.merging in
+    let k : ℕ = r.level in
+    let place : ℕ = 2 ^ k * n in
+    let some : 0 < 2 ^ k = pow_pos k in
+    let end : place + 2 ^ k ≡ c = omega (arith, mul-add (2 ^ k) n 1, r.place) in
+    let all : 2 ^ k * 2 ^ r.bits ≡ 2 ^ 54 = sym (pow-add 2 k r.bits) ∙ ap (λ (i : ℕ). 2 ^ i) r.depth in
+    let low : n < 2 ^ r.bits = lt_of_mul-lt-mul_left (2 ^ k) {m = n} {n = 2 ^ r.bits} (omega (arith, all, end)) in
+    let whole : take (1024 * 2 ^ k) (drop (1024 * place) m) ≡ drop (1024 * place) m =
+    take_all (1024 * 2 ^ k) (drop (1024 * place) m) (omega (arith, length-drop (1024 * place) m)) in
+    let before : used ≡ count_ones n = elim (at_end_ones kw t.cv_stack c m e small) [
+      | inl o ↦ several (omega (arith, o.1, o.2)) ∙ omega (arith, o.1)
+      | inr o ↦ few (omega (arith, o.1)) ∙ sym o.2
+    ] in
+    let law = joined-waiting kw r.bits k n 54 m low r.depth (omega arith) (omega arith) 8 in
+    let any : 0 < count_ones n = ones_some 54 n (omega (arith, end, mul-le 1 n (2 ^ k) n (omega arith) (omega arith))) e.some in (
+      omega (arith, before, any),
+      rest_at kw k place m,
+      ap (λ (i : ℕ). get_or t.cv_stack i []) before ∙ r.joined ∙ ap (λ (x : List ℕ). subtree_value kw k place x 0) whole,
+      rw (before, r.values) law,
+    )

@@ -20,7 +20,7 @@ use lib.Lanes.{Each1, zip2}
 pub lane_at : (j : ℕ) (v : List (List ℕ)) (i : ℕ) → get_or (get_or v i []) j 0 ≡ get_or (lane j v) i 0
 lane_at j v i = sym (get_or-map (λ (w : List ℕ). get_or w j 0) v i [])
 
-full_at : (v : List (List ℕ)) (i : ℕ) → AreFull v → i < length v → length (get_or v i []) ≡ LANES
+pub full_at : (v : List (List ℕ)) (i : ℕ) → AreFull v → i < length v → length (get_or v i []) ≡ LANES
 full_at v i full h = All-get_or (λ (w : List ℕ). length w ≡ LANES) v i [] h full
 
 full-set : (v : List (List ℕ)) (i : ℕ) (w : List ℕ) → AreFull v → length w ≡ LANES → AreFull (set v i w)

@@ -5,7 +5,7 @@ use Rattle.std.proofs.lemmas.List.{append-nil, take-append-le, drop-append-le, d
 use Rattle.std.proofs.lemmas.Bool.{cases_lt}
 use Rattle.std.proofs.lemmas.Bool.Decides.{nat_tests}
 use Rattle.std.proofs.lemmas.Nat.{pow_pos, ones_cat}
-use Rattle.std.proofs.Math.Nat.{pow-succ', mul_assoc}
+use Rattle.std.proofs.Math.Nat.{pow-succ', mul_assoc, one-mul}
 use Rattle.std.specs.Int.RustNames.{count_ones}
 use Rattle.keyed_blake3.specs.Blake3.{parent_value, subtree_value}
 use Rattle.keyed_blake3.specs.Steps.Tree.{joined, subtree_at, waiting}
@@ -125,6 +125,24 @@ ones-odd q =
     let twice : 2 * q + 1 ≡ q * 2 ^ 1 + 1 = omega arith in
     let single : count_ones 1 ≡ 1 = unfold count_ones in refl in
     rw (twice, ones_cat 1 q 1 (omega arith), single) refl
+
+-- zeros at the end of a number change neither its ones nor what waits
+pub ones-shift : (k n : ℕ) → count_ones (2 ^ k * n) ≡ count_ones n
+ones-shift zero n = ap count_ones (one-mul n)
+ones-shift (suc k) n = ap count_ones (double k n) ∙ ones-even (2 ^ k * n) ∙ ones-shift k n
+
+pub waiting-shift : (key : List ℕ) (k bits top level up n : ℕ) (m : List ℕ) → k + bits ≡ top → level + k ≡ up
+    → waiting key top level (2 ^ k * n) m ≡ waiting key bits up n m
+waiting-shift key zero bits top level up n m e at =
+    let same : top ≡ bits = omega arith in
+    let here : level ≡ up = omega arith in
+    ap (λ (b : ℕ). waiting key b level (2 ^ 0 * n) m) same ∙ ap (λ (c : ℕ). waiting key bits level c m) (one-mul n)
+    ∙ ap (λ (l : ℕ). waiting key bits l n m) here
+waiting-shift key (suc k) bits top level up n m e at =
+    let rest : ℕ = k + bits in
+    let more : top ≡ suc rest = omega arith in
+    ap (λ (b : ℕ). waiting key b level (2 ^ suc k * n) m) more ∙ ap (λ (c : ℕ). waiting key (suc rest) level c m) (double k n)
+    ∙ waiting-even key rest level (2 ^ k * n) m ∙ waiting-shift key k bits rest (suc level) up n m refl (omega arith)
 
 pub length-waiting : (key : List ℕ) (bits k n : ℕ) (m : List ℕ) → n < 2 ^ bits → length (waiting key bits k n m) ≡ count_ones n
 unfolding waiting count_ones

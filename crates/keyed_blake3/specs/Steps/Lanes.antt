@@ -1,12 +1,16 @@
 -- Several lists of words side by side. Vector number k has word number k of each list, and lane j of a vector belongs
 -- to list j.
-use Rattle.std.specs.Prelude.{◌≡◌, ℕ, ◌*◌, List, drop, length, map, slice_index, take}
-use Rattle.std.specs.List.{All}
+use Rattle.std.specs.Prelude.{◌≡◌, ℕ, ◌*◌, ◌++◌, List, [], drop, get_or, length, map, slice_index, take}
+use Rattle.std.specs.List.{All, range_with_len}
 use Rattle.keyed_blake3.specs.declared.compression.lanes.TheConstants.{LANES}
 
 -- the words at lane j
 abbrev pub lane : ℕ → List (List ℕ) → List ℕ
 lane j v = map (λ w. slice_index w j) v
+
+-- the eight vectors of v with those of w at their right, so that the lanes of w follow on those of v
+abbrev pub beside : List (List ℕ) → List (List ℕ) → List (List ℕ)
+beside v w = map (λ i. get_or v i [] ++ get_or w i []) (range_with_len 0 8)
 
 -- each vector has all its lanes
 abbrev pub AreFull : List (List ℕ) → Type 0

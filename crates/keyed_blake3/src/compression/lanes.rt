@@ -82,8 +82,9 @@ fn folded(v: LaneRows) -> [Lanes; 8]
 }
 
 // The compression of blocks of 64 bytes, from the chaining values `h`. `counters` has the halves of each one's counter.
+// Each caller has a copy of its own, by its number `CALLER`: LLVM inlines a function of this size at its only call alone.
 #[inline(always)]
-pub(crate) fn compress_each(
+pub(crate) fn compress_each<const CALLER: usize>(
     h: &[Lanes; 8],
     m: &[Lanes; 16],
     counters: (Lanes, Lanes),

@@ -15,12 +15,12 @@ returns-then-ends_with_chunk-clause-message c = λ key m holds.
     let total : s.count ≡ length m = holds.0 in
     let same : length m / 1024 ≡ s.count / 1024 = omega arith in
     let ended = subst (λ (k : ℕ). IsEnded (words_at 8 key) s.tree k m) same (holds.2 (omega arith) (omega arith)) in
-    let done = c.join_last.ensures (words_at 8 key) m ended (omega arith) in
+    let done = c.join_halves.ensures (words_at 8 key) m ended (omega arith) in
     let number : 16 * (s.count / 1024) ≡ s.count / 64 = omega arith in
     let none : length m - 64 * (s.count / 64) ≡ 0 = omega arith in
     let past : drop (64 * (s.count / 64)) m ≡ [] = drop_all (64 * (s.count / 64)) m (omega arith) in (
       total,
-      subst (λ (k : ℕ). IsAbsorbed (words_at 8 key) c.join_last.new.self k m) number done,
+      subst (λ (k : ℕ). IsAbsorbed (words_at 8 key) c.join_halves.new.self k m) number done,
       rw (none, past) refl,
     )
 

@@ -1,18 +1,16 @@
 use Rattle.std.proofs.Common.{◌≡◌, ℕ, ◌+◌, ◌-◌, ◌*◌, ◌/◌, ◌%◌, ◌<◌, List, length, take, arith, refl, subst}
-use Rattle.std.specs.Int.RustNames.{count_ones}
 use Rattle.keyed_blake3.specs.Blake3.{block, blocks_before_last, chunk_end_flag, compress, keyed_hash_flag, start_flag, words_at}
 use Rattle.keyed_blake3.specs.Blake3Hasher.{Holds, IsTaken}
 use Rattle.keyed_blake3.specs.Steps.Tree.{IsEnded}
-use Rattle.keyed_blake3.proofs.Blake3.Finishing.{IsTaken_key, ended_value, ones_some, root_flag-some, root_value}
-use Rattle.keyed_blake3.proofs.Blake3.Merging.{ones_below, ones_lt}
-use Rattle.keyed_blake3.proofs.Blake3.Waiting.{rest_at}
+use Rattle.keyed_blake3.proofs.Blake3.Finishing.{IsTaken_key, ended_value, root_flag-some, root_value}
+use Rattle.keyed_blake3.proofs.Blake3.Merging.{ones_below}
 use Rattle.keyed_blake3.proofs.hasher.Hasher.rightmost.Goals as goal
 
 pub bounds-self-used : goal.bounds-self-used
-bounds-self-used c = ones_lt 54 (c.args.self.now.count / 1024 - 1) (omega arith)
+bounds-self-used c = omega (arith, ones_below (c.args.self.now.count / 1024) (omega arith))
 
 pub returns-then-ends_with_chunk-clause-used : goal.returns-then-ends_with_chunk-clause-used
-returns-then-ends_with_chunk-clause-used c = ones_below (c.args.self.now.count / 1024 - 1) (omega arith)
+returns-then-ends_with_chunk-clause-used c = omega (arith, ones_below (c.args.self.now.count / 1024) (omega arith))
 
 pub returns-then-ends_with_chunk-clause-joined : goal.returns-then-ends_with_chunk-clause-joined
 unfolding Holds
@@ -22,14 +20,14 @@ returns-then-ends_with_chunk-clause-joined c = λ key m holds.
     let several : 1024 < s.count = e.0 in
     let whole : s.count % 1024 ≡ 0 = e.1 in
     let total : s.count ≡ length m = holds.0 in
-    let last : ℕ = s.count / 1024 - 1 in
-    let same : length m / 1024 ≡ s.count / 1024 = omega arith in
+    let chunks : ℕ = s.count / 1024 in
+    let same : length m / 1024 ≡ chunks = omega arith in
     let ended = subst (λ (k : ℕ). IsEnded (words_at 8 key) s.tree k m) same (holds.2 (omega arith) (omega arith)) in
-    let value = ended_value (words_at 8 key) s.tree (s.count / 1024) m ended (omega arith) (omega arith) (omega arith) in (
-      rest_at (words_at 8 key) 0 last m,
-      ended.0,
-      rw (root_flag-some (count_ones last) (ones_some 54 last (omega arith) (omega arith))) value.0,
+    let value = ended_value (words_at 8 key) s.tree chunks (c.max.result - 1) m ended (omega arith) (omega arith) (λ few. omega arith) (λ more. omega arith) in (
       value.1,
+      ended.0,
+      rw (root_flag-some (c.max.result - 1) value.0) value.2,
+      value.3,
     )
 
 pub returns-clause-used : goal.returns-clause-used

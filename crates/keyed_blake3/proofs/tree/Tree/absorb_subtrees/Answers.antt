@@ -1,0 +1,55 @@
+use Rattle.std.proofs.Common.{◌≡◌, ℕ, ◌+◌, ◌-◌, ◌*◌, ◌/◌, ◌%◌, ◌^◌, ◌<◌, ◌≤◌, List, arith, drop, length, take, sym, ap, ◌∙◌}
+use Rattle.std.proofs.Math.Nat.{div-add-mod, mul-add}
+use Rattle.std.proofs.lemmas.Nat.{pow_below}
+use Rattle.keyed_blake3.specs.Blake3.{after_blocks}
+use Rattle.keyed_blake3.specs.Steps.Lanes.{lane}
+use Rattle.keyed_blake3.specs.Steps.Tree.{IsWaiting, subtree_at}
+use Rattle.keyed_blake3.specs.declared.compression.lanes.TheConstants.{LANES}
+use Rattle.keyed_blake3.proofs.tree.Tree.absorb_subtrees.Goals as goal
+
+pub returns : goal.returns
+unfolding after_blocks
+returns c =
+    let s = c.args.self.now in
+    let first : ℕ = c.args.first in
+    let count : ℕ = c.args.count in
+    let k : ℕ = c.requires.len.0 in
+    let power : c.args.len ≡ 2 ^ k = c.requires.len.1 in
+    let last : ℕ = count - 1 in
+    let size : ℕ = c.args.len * count in
+    let same : size ≡ 2 ^ k * count = ap (λ (n : ℕ). n * count) power in
+    let full : 0 < k → count ≡ LANES = λ more. c.requires.all (omega (arith, power, pow_below 0 k more)) in
+    let whole : first ≡ 2 ^ k * (first / c.args.len) =
+    sym (ap (λ (n : ℕ). n * (first / c.args.len)) (sym power) ∙ omega (arith, div-add-mod first c.args.len, c.requires.first)) in
+    let place : first + 2 ^ k * last ≡ 2 ^ k * (first / c.args.len + last) = omega (arith, mul-add (2 ^ k) (first / c.args.len) last, whole) in
+    let split : 2 ^ k * (last + 1) ≡ 2 ^ k * last + 2 ^ k * 1 = mul-add (2 ^ k) last 1 in
+    let all : last + 1 ≡ count = omega arith in
+    let end : first + 2 ^ k * last + 2 ^ k ≡ first + size = omega (arith, rw all at split, same) in
+    let values : (m : List ℕ) → c.args.chunks.now ≡ take (1024 * size) (drop (1024 * first) m)
+    → (j : ℕ) → j < count → lane j c.subtree_values-values.result ≡ subtree_at s.key k (first + 2 ^ k * j) m =
+    λ m is j h. c.subtree_values-values.ensures.lanes k count j m (c.requires.chunks ∙ ap (λ (n : ℕ). 1024 * n) same) c.requires.count full
+    (is ∙ ap (λ (n : ℕ). take n (drop (1024 * first) m)) (sym c.requires.chunks)) h in
+    let waits : (m : List ℕ) → IsWaiting s.key s.cv_stack first m → 1024 * (first + size) ≤ length m
+    → c.args.chunks.now ≡ take (1024 * size) (drop (1024 * first) m) → IsWaiting s.key c.add_values.new.self.cv_stack (first + 2 ^ k * last) m =
+    λ m held long is. c.add_values.ensures.waits k first m whole held (omega (arith, end, c.requires.end)) (omega (arith, end, long)) (λ j h. values m is j (omega arith)) in
+    let here : 16 * first / 16 ≡ first = omega arith in
+    let before : 16 * first % 16 ≡ 0 = omega arith in
+    let next : 16 * (first + size) / 16 ≡ first + size = omega arith in
+    let start : 16 * (first + size) % 16 ≡ 0 = omega arith in
+    let small : first + 2 ^ k * last + 2 ^ k < 2 ^ 54 = omega (arith, end, c.requires.end) in
+    record {
+      absorbed = λ none key m held long is.
+          let added = (rw c.add_values.ensures.key at c.add_subtree_value.ensures.joined) none k (first + 2 ^ k * last) m place
+          (waits m (rw held.0 (rw here at held.2)) long is) (c.lane-value.ensures ∙ values m is last (omega arith)) small (omega (arith, end, long)) in (
+            c.add_values.ensures.key ∙ held.0,
+            rw start (c.add_values.ensures.chaining_value ∙ (rw before at held.1)),
+            rw (next, ← held.0) (rw end at added),
+          );
+      ended = λ one key m held long is.
+          let added = (rw c.add_values.ensures.key at c.add_subtree_value.ensures.kept) one (omega arith) k (first + 2 ^ k * last) m place
+          (waits m (rw held.0 (rw here at held.2)) long is) (c.lane-value.ensures ∙ values m is last (omega arith)) small (omega (arith, end, long)) in (
+            c.add_values.ensures.key ∙ held.0,
+            c.add_values.ensures.chaining_value ∙ (rw before at held.1),
+            rw (← held.0) (rw end at added),
+          );
+    }
