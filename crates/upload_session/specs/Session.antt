@@ -6,7 +6,7 @@ use Rattle.xet_merkle.specs.Roots.{total_size}
 use Rattle.xet_merkle.specs.declared.chunk_range.ChunkRange as chunk_range
 use Rattle.upload_session.specs.declared.kept_hashes.KeptHashes as kept_hashes
 use Rattle.upload_session.specs.declared.runs.Run.{Run}
-use Rattle.upload_session.specs.Hashes.{hashes_of}
+use Rattle.upload_session.specs.Hashes.{Hash, hashes_of}
 
 -- a chunk at a position
 abbrev pub Placed : Type 0
@@ -89,3 +89,21 @@ module _ {C H A : Type 0} (kind : chunk_range.Ghosts C A) (hashes : kept_hashes.
   SessionStands session placed =
       StandFor kind session.runs placed × hashes.knows session.kept (hashes_of (chunks_of placed))
       × (session.size ≡ total_size (chunks_of placed))
+
+  -- a fact holds of the chunks that a session stands for
+  abbrev pub HoldsOfPlaced : Parts C H → (List Placed → Type 0) → Type 0
+  HoldsOfPlaced session fact = (placed : List Placed) → SessionStands session placed → fact placed
+
+  -- what a session stood for, another stands for
+  abbrev pub KeepsPlaced : Parts C H → Parts C H → Type 0
+  KeepsPlaced old new = HoldsOfPlaced old (SessionStands new)
+
+  -- and for more chunks at adjacent positions
+  abbrev pub PlacesChunks : Parts C H → ℕ → List Node → Parts C H → Type 0
+  PlacesChunks old first chunks new = HoldsOfPlaced old (λ placed. SessionStands new (place placed first chunks))
+
+-- a number counts the hashes of chunks that are told as new, where those of the chunks placed are known
+abbrev pub CountsNew : {H A : Type 0} → kept_hashes.Ghosts H A → List Placed → List Node → ℕ → Type 0
+CountsNew hashes placed chunks count =
+    (new : List Hash) × hashes.tells (hashes_of (chunks_of placed)) (hashes_of chunks) new
+    × (count ≡ length new)

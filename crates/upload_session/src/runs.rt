@@ -7,8 +7,8 @@ ghost use Rattle.std.specs.Map.{lookup};
 ghost use Rattle.upload_session.specs.declared.runs.Run.{Run};
 ghost use Rattle.xet_merkle.specs.Groups.{Node};
 ghost use Rattle.xet_merkle.specs.Roots.{total_size};
-ghost use Rattle.upload_session.specs.Steps.Neighbours.{EndsAt, NoneEndsAt, IsWithNext, AreAround, IsPutBefore, Places};
-ghost use Rattle.upload_session.specs.Steps.OpenRuns.{IsOpen, AreOpen, AreOpenUpTo, HaveRoom, size_at, sizes_of};
+ghost use Rattle.upload_session.specs.Steps.Neighbours.{IsPrevious, IsWithNext, AreAround, IsPutBefore, Places};
+ghost use Rattle.upload_session.specs.Steps.OpenRuns.{IsOpen, AreOpen, HaveRoom, HaveRoomFor, GrowBy, size_at, sizes_of};
 ghost use Rattle.upload_session.specs.Session.{Placed, PlacedRun, ends_after, place, chunks_of, is_taken, overlaps, IsWhole, StandFor};
 
 use crate::session_fault::SessionFault;
@@ -188,8 +188,7 @@ impl<C: ChunkRange> Runs<C> {
             StandFor C.ChunkRange self.old placed → 0 < length chunks.now →
             overlaps placed first (length chunks.now) ≡ false →
             StandFor C.ChunkRange self.new (place placed first chunks.now)) }
-        ensures sizes { OnOk result (AreOpenUpTo C.ChunkRange
-            (sizes_of C.ChunkRange self.old + total_size chunks.now) self.new) }
+        ensures sizes { OnOk result (GrowBy C.ChunkRange (total_size chunks.now) self.old self.new) }
         ensures errors { IfErr result (λ e. e ≡ CoreError.OutOfMemory) }
         ensures unchanged { OnErr result (self.new ≡ self.old) }
     {
@@ -232,14 +231,11 @@ impl<C: ChunkRange> Runs<C> {
         made: C,
         after: u64,
     ) -> Result<(), CoreError>
-        requires some { IfSome previous (λ begin. EndsAt self.old first begin) }
-        requires none { IfNone previous (NoneEndsAt self.old first) }
+        requires previous { IsPrevious self.old first previous }
         requires ahead { first < after }
-        requires made { IsOpen C.ChunkRange made }
-        requires room { HaveRoom C.ChunkRange (C.total made) self.old }
+        requires room { HaveRoomFor C.ChunkRange made self.old }
         ensures placed { OnOk result (Places C.ChunkRange self.old first after made self.new) }
-        ensures sizes { OnOk result (AreOpenUpTo C.ChunkRange
-            (sizes_of C.ChunkRange self.old + C.total made) self.new) }
+        ensures sizes { OnOk result (GrowBy C.ChunkRange (C.total made) self.old self.new) }
         ensures errors { IfErr result (λ e. e ≡ CoreError.OutOfMemory) }
         ensures unchanged { OnErr result (self.new ≡ self.old) }
     {
@@ -267,16 +263,13 @@ impl<C: ChunkRange> Runs<C> {
         made: C,
         after: u64,
     ) -> Result<(), CoreError>
-        requires some { IfSome previous (λ begin. EndsAt self.old first begin) }
-        requires none { IfNone previous (NoneEndsAt self.old first) }
+        requires previous { IsPrevious self.old first previous }
         requires ahead { first < after }
-        requires made { IsOpen C.ChunkRange made }
-        requires room { HaveRoom C.ChunkRange (C.total made) self.old }
+        requires room { HaveRoomFor C.ChunkRange made self.old }
         requires next { IsSome (lookup (is_at (nat_cmp after)) self.old) }
         requires free { IfNone previous (lookup (is_at (nat_cmp first)) self.old ≡ None) }
         ensures placed { OnOk result (Places C.ChunkRange self.old first after made self.new) }
-        ensures sizes { OnOk result (AreOpenUpTo C.ChunkRange
-            (sizes_of C.ChunkRange self.old + C.total made) self.new) }
+        ensures sizes { OnOk result (GrowBy C.ChunkRange (C.total made) self.old self.new) }
         ensures errors { IfErr result (λ e. e ≡ CoreError.OutOfMemory) }
         ensures unchanged { OnErr result (self.new ≡ self.old) }
     {
@@ -325,13 +318,11 @@ impl<C: ChunkRange> Runs<C> {
         requires free { lookup (is_at (nat_cmp first)) self.old ≡ None }
         requires next { IsSome (lookup (is_at (nat_cmp after)) self.old) }
         requires ahead { first < after }
-        requires made { IsOpen C.ChunkRange made }
-        requires room { HaveRoom C.ChunkRange (C.total made) self.old }
+        requires room { HaveRoomFor C.ChunkRange made self.old }
         ensures put { OnOk result ((others : List (PlacedRun C)) (next : Run C) (back : List (PlacedRun C)) →
             self.old ≡ others ++ (after, next) ∷ back → AreAround first after others back →
             IsPutBefore C.ChunkRange first made next others back self.new) }
-        ensures sizes { OnOk result (AreOpenUpTo C.ChunkRange
-            (sizes_of C.ChunkRange self.old + C.total made) self.new) }
+        ensures sizes { OnOk result (GrowBy C.ChunkRange (C.total made) self.old self.new) }
         ensures errors { IfErr result (λ e. e ≡ CoreError.OutOfMemory) }
         ensures unchanged { OnErr result (self.new ≡ self.old) }
     {
@@ -393,8 +384,7 @@ impl<C: ChunkRange> Runs<C> {
 
     // Returns the first position of the run that ends right before a position.
     fn run_before(&self, position: u64) -> Option<u64>
-        ensures some { IfSome result (λ begin. EndsAt self.now position begin) }
-        ensures none { IfNone result (NoneEndsAt self.now position) }
+        ensures { IsPrevious self.now position result }
     {
         match self.runs.range(..=position).next_back() {
             Some((start, run)) if run.end == position => Some(*start),

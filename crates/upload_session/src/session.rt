@@ -3,8 +3,7 @@
 ghost use Rattle.std.specs.Prelude.{◌≡◌, ℕ, ◌+◌, ◌^◌, ◌<◌, ◌≤◌, ◌↔◌, ◌⊎◌, List, [], false, length, replicate, sum_by, find, option_map, slice_get, Ok, IfOk, IfErr, IfSome, IfNone, SomeIff, OnOk, OnErr, IsOk, IsTrue, IsErrOf};
 ghost use Rattle.xet_merkle.specs.Groups.{Node};
 ghost use Rattle.xet_merkle.specs.Roots.{total_size, IsRoot, IsFileHash};
-ghost use Rattle.upload_session.specs.Hashes.{Hash, hashes_of};
-ghost use Rattle.upload_session.specs.Session.{Placed, PlacedRun, ends_after, place, chunks_of, is_taken, overlaps, IsWhole, SessionStands};
+ghost use Rattle.upload_session.specs.Session.{PlacedRun, ends_after, chunks_of, is_taken, overlaps, IsWhole, SessionStands, HoldsOfPlaced, KeepsPlaced, PlacesChunks, CountsNew};
 
 use crate::kept_hashes::{KeptHashes, SeenHashes};
 use crate::runs::Runs;
@@ -84,8 +83,7 @@ impl<C: ChunkRange, H: KeptHashes<C::Alloc>> SessionOf<C, H> {
 
     /// Returns whether a position is taken. It allocates nothing.
     pub fn taken(&self, position: u64) -> bool
-        ensures { (placed : List Placed) → SessionStands C.ChunkRange H.KeptHashes self.now placed →
-            result ≡ is_taken placed position }
+        ensures { HoldsOfPlaced C.ChunkRange H.KeptHashes self.now (λ placed. result ≡ is_taken placed position) }
     {
         self.runs.taken(position)
     }
@@ -110,9 +108,9 @@ impl<C: ChunkRange, H: KeptHashes<C::Alloc>> SessionOf<C, H> {
     /// one, and its range. Returns `None` if all runs end before. Calls from position 0 and then from each run's end
     /// walk all runs. It allocates nothing.
     pub fn run_from(&self, position: u64) -> Option<(u64, u64, &C)>
-        ensures { (placed : List Placed) → SessionStands C.ChunkRange H.KeptHashes self.now placed →
+        ensures { HoldsOfPlaced C.ChunkRange H.KeptHashes self.now (λ _.
             option_map {U = PlacedRun C} (λ found. (found.0, record { end = found.1; range = found.2.now })) result
-            ≡ find (ends_after position) self.now.runs }
+            ≡ find (ends_after position) self.now.runs) }
     {
         self.runs.run_from(position)
     }
@@ -129,35 +127,23 @@ impl<C: ChunkRange, H: KeptHashes<C::Alloc>> SessionOf<C, H> {
     /// Otherwise fails with [`SessionFault::Memory`] if an allocation fails. After a failure the session stands for the
     /// same chunks, and its ranges are unchanged.
     pub fn put(&mut self, first: u64, chunks: &[Node]) -> Result<u64, SessionFault>
-        ensures placed { OnOk result ((placed : List Placed) →
-            SessionStands C.ChunkRange H.KeptHashes self.old placed →
-            SessionStands C.ChunkRange H.KeptHashes self.new (place placed first chunks.now)) }
-        ensures new { IfOk result (λ count. (placed : List Placed) →
-            SessionStands C.ChunkRange H.KeptHashes self.old placed → 0 < length chunks.now →
-            (new : List Hash) × H.tells (hashes_of (chunks_of placed)) (hashes_of chunks.now) new
-            × (count ≡ length new)) }
+        ensures placed { OnOk result (PlacesChunks C.ChunkRange H.KeptHashes self.old first chunks.now self.new) }
+        ensures new { IfOk result (λ count. HoldsOfPlaced C.ChunkRange H.KeptHashes self.old (λ placed.
+            0 < length chunks.now → CountsNew H.KeptHashes placed chunks.now count)) }
         ensures nothing { length chunks.now ≡ 0 → (result ≡ Ok 0) × (self.new ≡ self.old) }
-        ensures overlap { (placed : List Placed) →
-            SessionStands C.ChunkRange H.KeptHashes self.old placed →
-            (IsErrOf result SessionFault.Overlap
-            ↔ IsTrue (overlaps placed first (length chunks.now))) }
-        ensures positions { (placed : List Placed) →
-            SessionStands C.ChunkRange H.KeptHashes self.old placed →
-            (IsErrOf result SessionFault.Positions
-            ↔ (¬ IsTrue (overlaps placed first (length chunks.now))
-            × (2 ^ 64 ≤ first + length chunks.now))) }
-        ensures sizes { (placed : List Placed) →
-            SessionStands C.ChunkRange H.KeptHashes self.old placed →
-            (IsErrOf result SessionFault.Sizes
-            ↔ (¬ IsTrue (overlaps placed first (length chunks.now))
-            × (first + length chunks.now < 2 ^ 64)
+        ensures overlap { HoldsOfPlaced C.ChunkRange H.KeptHashes self.old (λ placed.
+            IsErrOf result SessionFault.Overlap ↔ IsTrue (overlaps placed first (length chunks.now))) }
+        ensures positions { HoldsOfPlaced C.ChunkRange H.KeptHashes self.old (λ placed.
+            IsErrOf result SessionFault.Positions
+            ↔ (¬ IsTrue (overlaps placed first (length chunks.now)) × (2 ^ 64 ≤ first + length chunks.now))) }
+        ensures sizes { HoldsOfPlaced C.ChunkRange H.KeptHashes self.old (λ placed.
+            IsErrOf result SessionFault.Sizes
+            ↔ (¬ IsTrue (overlaps placed first (length chunks.now)) × (first + length chunks.now < 2 ^ 64)
             × (2 ^ 64 ≤ total_size (chunks_of placed) + total_size chunks.now))) }
         ensures errors { IfErr result (λ e.
             (e ≡ SessionFault.Overlap) ⊎ ((e ≡ SessionFault.Positions)
             ⊎ ((e ≡ SessionFault.Sizes) ⊎ (e ≡ SessionFault.Memory)))) }
-        ensures refused { OnErr result ((placed : List Placed) →
-            SessionStands C.ChunkRange H.KeptHashes self.old placed →
-            SessionStands C.ChunkRange H.KeptHashes self.new placed) }
+        ensures refused { OnErr result (KeepsPlaced C.ChunkRange H.KeptHashes self.old self.new) }
         ensures unchanged { OnErr result (self.new.runs ≡ self.old.runs) }
     {
         let (count, size) = (chunks.len() as u64, self.size);
@@ -179,21 +165,14 @@ impl<C: ChunkRange, H: KeptHashes<C::Alloc>> SessionOf<C, H> {
     /// Fails only if an allocation fails. Then the session is as a failed [`SessionOf::put`] leaves it.
     pub fn place(&mut self, first: u64, chunks: &[Node], size: u64) -> Result<u64, AllocError>
         requires some { 0 < length chunks.now }
-        requires free { (placed : List Placed) →
-            SessionStands C.ChunkRange H.KeptHashes self.old placed →
-            overlaps placed first (length chunks.now) ≡ false }
+        requires free { HoldsOfPlaced C.ChunkRange H.KeptHashes self.old (λ placed.
+            overlaps placed first (length chunks.now) ≡ false) }
         requires positions { first + length chunks.now < 2 ^ 64 }
         requires sizes { size ≡ self.old.size + total_size chunks.now }
-        ensures placed { OnOk result ((placed : List Placed) →
-            SessionStands C.ChunkRange H.KeptHashes self.old placed →
-            SessionStands C.ChunkRange H.KeptHashes self.new (place placed first chunks.now)) }
-        ensures new { IfOk result (λ count. (placed : List Placed) →
-            SessionStands C.ChunkRange H.KeptHashes self.old placed →
-            (new : List Hash) × H.tells (hashes_of (chunks_of placed)) (hashes_of chunks.now) new
-            × (count ≡ length new)) }
-        ensures refused { OnErr result ((placed : List Placed) →
-            SessionStands C.ChunkRange H.KeptHashes self.old placed →
-            SessionStands C.ChunkRange H.KeptHashes self.new placed) }
+        ensures placed { OnOk result (PlacesChunks C.ChunkRange H.KeptHashes self.old first chunks.now self.new) }
+        ensures new { IfOk result (λ count.
+            HoldsOfPlaced C.ChunkRange H.KeptHashes self.old (λ placed. CountsNew H.KeptHashes placed chunks.now count)) }
+        ensures refused { OnErr result (KeepsPlaced C.ChunkRange H.KeptHashes self.old self.new) }
         ensures unchanged { OnErr result (self.new.runs ≡ self.old.runs) }
     {
         let new = self.kept.keep(self.runs.allocator().clone()?, chunks)?;
@@ -215,16 +194,12 @@ impl<C: ChunkRange, H: KeptHashes<C::Alloc>> SessionOf<C, H> {
     /// Fails with [`SessionFault::Gap`] if the taken positions aren't exactly those from 0 to `total` - 1, before it
     /// allocates. Fails with [`SessionFault::Memory`] if an allocation fails.
     pub fn hashes(&self, total: u64) -> Result<(MerkleHash, MerkleHash), SessionFault>
-        ensures root { IfOk result (λ hashes. (placed : List Placed) →
-            SessionStands C.ChunkRange H.KeptHashes self.now placed →
-            IsRoot (chunks_of placed) hashes.0) }
-        ensures file { IfOk result (λ hashes. (placed : List Placed) →
-            SessionStands C.ChunkRange H.KeptHashes self.now placed →
-            IsFileHash (chunks_of placed) (replicate 32 0) hashes.1) }
-        ensures whole { ¬ IsErrOf result SessionFault.Gap → (placed : List Placed) →
-            SessionStands C.ChunkRange H.KeptHashes self.now placed → IsWhole total placed }
-        ensures gap { IsErrOf result SessionFault.Gap → (placed : List Placed) →
-            SessionStands C.ChunkRange H.KeptHashes self.now placed → ¬ IsWhole total placed }
+        ensures root { IfOk result (λ hashes. HoldsOfPlaced C.ChunkRange H.KeptHashes self.now (λ placed.
+            IsRoot (chunks_of placed) hashes.0)) }
+        ensures file { IfOk result (λ hashes. HoldsOfPlaced C.ChunkRange H.KeptHashes self.now (λ placed.
+            IsFileHash (chunks_of placed) (replicate 32 0) hashes.1)) }
+        ensures whole { ¬ IsErrOf result SessionFault.Gap → HoldsOfPlaced C.ChunkRange H.KeptHashes self.now (IsWhole total) }
+        ensures gap { IsErrOf result SessionFault.Gap → HoldsOfPlaced C.ChunkRange H.KeptHashes self.now (λ placed. ¬ IsWhole total placed) }
         ensures errors { IfErr result (λ e. (e ≡ SessionFault.Gap) ⊎ (e ≡ SessionFault.Memory)) }
     {
         let whole = self.runs.whole_range(total)?;
@@ -233,13 +208,10 @@ impl<C: ChunkRange, H: KeptHashes<C::Alloc>> SessionOf<C, H> {
 
     /// Returns the root of all chunks in the order of their positions. Fails like [`SessionOf::hashes`].
     pub fn root(&self, total: u64) -> Result<MerkleHash, SessionFault>
-        ensures root { IfOk result (λ root. (placed : List Placed) →
-            SessionStands C.ChunkRange H.KeptHashes self.now placed →
-            IsRoot (chunks_of placed) root) }
-        ensures whole { ¬ IsErrOf result SessionFault.Gap → (placed : List Placed) →
-            SessionStands C.ChunkRange H.KeptHashes self.now placed → IsWhole total placed }
-        ensures gap { IsErrOf result SessionFault.Gap → (placed : List Placed) →
-            SessionStands C.ChunkRange H.KeptHashes self.now placed → ¬ IsWhole total placed }
+        ensures root { IfOk result (λ root. HoldsOfPlaced C.ChunkRange H.KeptHashes self.now (λ placed.
+            IsRoot (chunks_of placed) root)) }
+        ensures whole { ¬ IsErrOf result SessionFault.Gap → HoldsOfPlaced C.ChunkRange H.KeptHashes self.now (IsWhole total) }
+        ensures gap { IsErrOf result SessionFault.Gap → HoldsOfPlaced C.ChunkRange H.KeptHashes self.now (λ placed. ¬ IsWhole total placed) }
         ensures errors { IfErr result (λ e. (e ≡ SessionFault.Gap) ⊎ (e ≡ SessionFault.Memory)) }
     {
         Ok(self.hashes(total)?.0)
@@ -248,13 +220,10 @@ impl<C: ChunkRange, H: KeptHashes<C::Alloc>> SessionOf<C, H> {
     /// Returns the file hash, without a salt, of all chunks in the order of their positions. It is the one under 32
     /// zero bytes. Fails like [`SessionOf::hashes`].
     pub fn finish(&self, total: u64) -> Result<MerkleHash, SessionFault>
-        ensures file { IfOk result (λ file. (placed : List Placed) →
-            SessionStands C.ChunkRange H.KeptHashes self.now placed →
-            IsFileHash (chunks_of placed) (replicate 32 0) file) }
-        ensures whole { ¬ IsErrOf result SessionFault.Gap → (placed : List Placed) →
-            SessionStands C.ChunkRange H.KeptHashes self.now placed → IsWhole total placed }
-        ensures gap { IsErrOf result SessionFault.Gap → (placed : List Placed) →
-            SessionStands C.ChunkRange H.KeptHashes self.now placed → ¬ IsWhole total placed }
+        ensures file { IfOk result (λ file. HoldsOfPlaced C.ChunkRange H.KeptHashes self.now (λ placed.
+            IsFileHash (chunks_of placed) (replicate 32 0) file)) }
+        ensures whole { ¬ IsErrOf result SessionFault.Gap → HoldsOfPlaced C.ChunkRange H.KeptHashes self.now (IsWhole total) }
+        ensures gap { IsErrOf result SessionFault.Gap → HoldsOfPlaced C.ChunkRange H.KeptHashes self.now (λ placed. ¬ IsWhole total placed) }
         ensures errors { IfErr result (λ e. (e ≡ SessionFault.Gap) ⊎ (e ≡ SessionFault.Memory)) }
     {
         Ok(self.hashes(total)?.1)

@@ -24,6 +24,11 @@ NoneEndsAt {C} runs position =
     → entries_between nat_cmp Unbounded (Included position) runs ≡ front ++ last ∷ []
     → last.1.end ≢ position
 
+-- where the run begins that ends just before a position, if there is one
+abbrev pub IsPrevious : {C : Type 0} → List (PlacedRun C) → ℕ → Option ℕ → Type 0
+IsPrevious runs position None = NoneEndsAt runs position
+IsPrevious runs position (Some begin) = EndsAt runs position begin
+
 -- two positions, the runs before the first of them, and those after the second
 abbrev pub AreAround : {C : Type 0} → ℕ → ℕ → List (PlacedRun C) → List (PlacedRun C) → Type 0
 AreAround {C} begin after others back =

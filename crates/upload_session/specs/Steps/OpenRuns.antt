@@ -32,3 +32,11 @@ module _ {C A : Type 0} (kind : chunk_range.Ghosts C A) where
   -- runs are open, and their sizes are at most a bound
   abbrev pub AreOpenUpTo : ℕ → List (PlacedRun C) → Type 0
   AreOpenUpTo bound runs = AreOpen runs × (sizes_of runs ≤ bound)
+
+  -- so are a range and the runs, and there is room for its size
+  abbrev pub HaveRoomFor : C → List (PlacedRun C) → Type 0
+  HaveRoomFor range runs = IsOpen range × HaveRoom (kind.total range) runs
+
+  -- the sizes of runs, which are open, have grown by a number at most
+  abbrev pub GrowBy : ℕ → List (PlacedRun C) → List (PlacedRun C) → Type 0
+  GrowBy size old new = AreOpenUpTo (sizes_of old + size) new

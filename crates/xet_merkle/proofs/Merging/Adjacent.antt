@@ -1,14 +1,18 @@
 -- Adjacent ranges that were passed one after another: what is known of them, and the errors of merging them.
 use Rattle.std.proofs.Common.{◌≡◌, ℕ, ◌+◌, ◌^◌, ◌<◌, ◌≤◌, ◌↔◌, inl, inr, Bool, true, false, IsTrue, Option, Some, None, List, [], ◌∷◌, ◌++◌, refl, sym, ap, subst, ◌∙◌, arith}
-use Rattle.std.specs.Prelude.{SomeIff, Ok, Err}
+use Rattle.std.specs.Prelude.{SomeIff, Result, Ok, Err, IfErr}
 use Rattle.std.proofs.lemmas.Bool.{cases_lt, false≢true}
 use Rattle.std.proofs.lemmas.List.Sums.{sum_by-append, sum_by-cons}
 use Rattle.xet_merkle.specs.declared.error.CoreError.{CoreError}
 use Rattle.xet_merkle.specs.declared.error.CoreError.TheVariants.{InvalidArguments, SizeOverflow, OutOfMemory}
 use Rattle.xet_merkle.specs.declared.adjacent.Passed.{Passed}
+use Rattle.xet_merkle.specs.Levels.{levels_size}
+use Rattle.xet_merkle.specs.Subtree.{Subtree}
+use Rattle.xet_merkle.specs.Merging.{NoMarkBetweenSubtrees, ranges_size}
 use Rattle.xet_merkle.specs.Ranges.{NoMarkBetween, Refusals, total_of}
 use Rattle.xet_merkle.specs.Steps.Adjacent.{IsPassed, Follows, refusal}
 use Rattle.xet_merkle.specs.Steps.RangeMerging.{end_of_last}
+use Rattle.xet_merkle.specs.Steps.SubtreeMerging.{RefusalOf}
 
 not_less : (m n : ℕ) → (m < n → ⊥) → n ≤ m
 not_less m n none = elim (cases_lt m n) [ inl less ↦ absurd (none less) | inr more ↦ more ]
@@ -94,6 +98,10 @@ module _ {T : Type 0} {no_mark_between : Type 0} {size : ℕ} (marks : no_mark_b
     errors = inr (inr is);
   }
 
+  pub memory_alone : (result : Result T CoreError) → IfErr result (λ e. e ≡ OutOfMemory) → Refusals no_mark_between size result
+  memory_alone (Ok x) h = accepted x
+  memory_alone (Err error) h = out_of_memory error h
+
   -- what refuses them is memory
   pub for_memory : (error : CoreError) → Refusals {T = T} no_mark_between size (Err error) → error ≡ OutOfMemory
   for_memory error h = elim h.errors [
@@ -103,3 +111,14 @@ module _ {T : Type 0} {no_mark_between : Type 0} {size : ℕ} (marks : no_mark_b
       | inr memory ↦ memory
     ]
   ]
+
+-- ---- subtrees, by the reason why they can't be merged
+
+pub refused_subtrees : {T : Type 0} (ranges : List Subtree) (reason : Option CoreError) (error : CoreError) → RefusalOf ranges reason → reason ≡ Some error →
+    Refusals {T = T} (NoMarkBetweenSubtrees ranges) (ranges_size ranges) (Err error)
+refused_subtrees ranges reason error told is =
+    refused (λ (range : Subtree). range.at_start) (λ (range : Subtree). range.at_end) (λ (range : Subtree). levels_size range.levels) told.0 ranges error told.1 (sym told.2 ∙ is)
+
+pub allowed_subtrees : (ranges : List Subtree) (reason : Option CoreError) → RefusalOf ranges reason → reason ≡ None → NoMarkBetweenSubtrees ranges × (ranges_size ranges < 2 ^ 64)
+allowed_subtrees ranges reason told none =
+    allowed_ranges (λ (range : Subtree). range.at_start) (λ (range : Subtree). range.at_end) (λ (range : Subtree). levels_size range.levels) told.0 ranges told.1 (sym told.2 ∙ none)

@@ -1,19 +1,22 @@
 -- Merging with the levels of one operand changed in place: below its top it keeps its outer side.
-use Rattle.std.proofs.Common.{◌≡◌, ℕ, zero, suc, ◌+◌, ◌<◌, ◌≤◌, ◌^◌, Bool, false, List, [], ◌∷◌, ◌++◌, length, take, drop, refl, sym, ap, subst, ◌∙◌, arith}
+use Rattle.std.proofs.Common.{◌≡◌, ℕ, zero, suc, ◌+◌, ◌-◌, ◌*◌, ◌<◌, ◌≤◌, ◌^◌, Bool, false, List, [], ◌∷◌, ◌++◌, length, take, drop, refl, sym, ap, subst, ◌∙◌, arith, length-append}
 use Rattle.std.proofs.lemmas.List.{length-drop, drop-drop}
 use Rattle.xet_merkle.specs.Groups.{Node}
+use Rattle.xet_merkle.specs.Roots.{parent_by}
 use Rattle.xet_merkle.specs.Levels.{Level, left_at, right_at, node_count}
 use Rattle.xet_merkle.specs.Subtree.{Subtree}
+use Rattle.xet_merkle.specs.Merging.{IsMergedBy}
 use Rattle.xet_merkle.specs.Steps.Scan.{AreParents}
 use Rattle.xet_merkle.specs.Steps.StableScan.{AddsNoStable, AddsNoStableBefore}
 use Rattle.xet_merkle.specs.Steps.LevelMerging.{HaveSides, operand, inner_nodes, IsMergeSplit, IsLevelMerge, Sight, sight_up, IsSightSplit, IsSightMerge, front_of, back_of, sight_of, levels_of, inner_side, HaveSidesOf, with_side, lowest_with, OnlyExtends, extended}
 use Rattle.xet_merkle.specs.Steps.LevelMerging.IsMergeSplit.{both, left_alone, right_alone}
-use Rattle.xet_merkle.specs.Steps.Building.{MergeBelow, CanMerge, AreMergeable}
+use Rattle.xet_merkle.specs.Steps.Building.{MergeBelow, CanMerge, MergesLevel, MergesLower, AreMergeable, IsStored}
 use Rattle.xet_merkle.specs.declared.merkle_hash_subtree.levels.Operand.{Operand}
 use Rattle.xet_merkle.specs.declared.merkle_hash_subtree.levels.Operand.TheVariants.{Front, Back}
-use Rattle.xet_merkle.proofs.Levels.Reading.{operand-some, operand-length, operand-left, operand-up}
+use Rattle.xet_merkle.proofs.Levels.Reading.{operand-some, operand-length, operand-left, operand-up, up-shorter}
 use Rattle.xet_merkle.proofs.Levels.InPlace.{put, put-in_front, lowest_with-more, sides-above}
-use Rattle.xet_merkle.proofs.Merging.LevelByLevel.{merge_step, operands}
+use Rattle.xet_merkle.proofs.Merging.LevelByLevel.{can_merge_above, merge_step, operands, merged_stored, merged_by}
+use Rattle.xet_merkle.proofs.Merging.Bounds.{merge_work}
 use Rattle.xet_merkle.proofs.Merging.Appending.{level_merge_after}
 use Rattle.xet_merkle.proofs.Merging.Prepending.{level_merge_before}
 
@@ -29,6 +32,15 @@ sight_up-next n whole sight carry is =
       at_start = whole.at_start;
       at_end = whole.at_end;
     })
+
+pub sight_up-none : (sight : Sight) → 0 < length sight.front → 0 < length sight.back → sight_up 0 sight sight.carry ≡ sight
+sight_up-none sight some_front some_back = λ i. record {
+  front = operand-some sight.front some_front i;
+  carry = sight.carry;
+  back = operand-some sight.back some_back i;
+  at_start = sight.at_start;
+  at_end = sight.at_end;
+}
 
 pub levels_of-up : (kept : Operand) (n : ℕ) (sight : Sight) (carry : List Node) → levels_of kept (sight_up n sight carry) ≡ operand (drop n (levels_of kept sight))
 levels_of-up Front n sight carry = refl
@@ -67,6 +79,61 @@ lower_step make kept whole sight sides done some_front some_back below is within
     subst (λ (l : List Level). MergeBelow make whole l (done + length parents) (sight_up 1 sight parents)) (sym here)
     (merge_step make whole (lowest_with kept sides levels) done sight below some_front some_back parents split made)
 
+some_kept : (kept : Operand) (made : ℕ) (sight : Sight) → CanMerge made sight → 0 < length (levels_of kept sight)
+some_kept Front made sight can = can.some_front
+some_kept Back made sight can = can.some_back
+
+pub lower_none : (make : List Node → Node) (kept : Operand) (sight : Sight) (made : ℕ) → made ≡ 0 → CanMerge made sight → MergesLower make kept sight [] made sight
+lower_none make kept sight made none can = record {
+  within = some_kept kept made sight can;
+  up = sym (sight_up-none sight can.some_front can.some_back);
+  below = λ top work merged. subst (λ (n : ℕ). IsSightMerge make sight top n) (let n : work ≡ made + work = omega arith in n) merged;
+  can_merge = can;
+}
+
+-- one level more
+pub lower_next : (hash : List Node → List ℕ) (kept : Operand) (whole sight next : Sight) (sides more : List (List Node)) (made now : ℕ) →
+    MergesLower (parent_by hash) kept whole sides made sight → 1 < length (levels_of kept sight) →
+    MergesLevel (parent_by hash) kept sight sides next more → now ≡ made + length next.carry → MergesLower (parent_by hash) kept whole more now next
+lower_next hash kept whole sight next sides more made now lower longer level count =
+    let make = parent_by hash in
+    let can = lower.can_merge in
+    let parents = next.carry in
+    let lists = sides ++ inner_side kept level.left level.right ∷ [] in
+    let len : length lists ≡ length sides + 1 = omega (arith, length-append sides (inner_side kept level.left level.right ∷ [])) in
+    let within = lower.within in
+    let rest = ap length (levels_of-rest kept (length sides) whole sight lower.up within) in
+    let there : MergesLower make kept whole lists (made + length parents) (sight_up 1 sight parents) = record {
+      within = omega (arith, length-drop (length sides) (levels_of kept whole));
+      up = sight_up-next (length sides) whole sight parents lower.up ∙ ap (λ (n : ℕ). sight_up n whole parents) (sym len);
+      below = lower_step make kept whole sight sides made can.some_front can.some_back lower.below lower.up within longer parents level.split level.parents;
+      can_merge = can_merge_above hash made sight can level.split parents level.parents;
+    } in
+    subst (λ (s : Sight). MergesLower make kept whole more now s) (sym level.above)
+    (subst (λ (l : List (List Node)). MergesLower make kept whole l now (sight_up 1 sight parents)) (sym level.pushed)
+    (subst (λ (n : ℕ). MergesLower make kept whole lists n (sight_up 1 sight parents)) (sym count) there))
+
+-- what is in sight next is shorter
+pub next-shorter : (make : List Node → Node) (kept : Operand) (sight next : Sight) (sides more : List (List Node)) → MergesLevel make kept sight sides next more →
+    1 < length (levels_of kept sight) → length (levels_of kept next) < length (levels_of kept sight)
+next-shorter make kept sight next sides more level longer =
+    let above = ap (λ (s : Sight). length (levels_of kept s)) level.above ∙ ap length (levels_of-up kept 1 sight next.carry) in
+    let shorter = up-shorter (levels_of kept sight) longer in
+    omega arith
+
+module _ (make : List Node → Node) (kept : Operand) (whole : Sight) (sides : List (List Node)) (made : ℕ) (sight : Sight) (lower : MergesLower make kept whole sides made sight)
+    (n : ℕ) (len : length sides ≡ n) where
+  -- what is in sight above the sides
+  pub lower_rest : (carry : List Node) → carry ≡ sight.carry → sight ≡ sight_up n whole carry
+  lower_rest carry carried = lower.up ∙ (λ i. sight_up (len i) whole (sym carried i))
+
+  -- they are those of all levels but the top
+  pub lower_top : ¬ (1 < length (levels_of kept sight)) → length (levels_of kept whole) ≡ n + 1
+  lower_top one =
+      let within = lower.within in
+      let rest = ap length (levels_of-rest kept (length sides) whole sight lower.up within) in
+      omega (arith, length-drop (length sides) (levels_of kept whole))
+
 -- the lowest levels have other nodes on the inner side, and the others are the merge of what is in sight of them
 pub merge_in_place : (make : List Node → Node) (kept : Operand) (whole rest : Sight) (sides : List (List Node)) (others changed : List Level) (done work : ℕ) →
     MergeBelow make whole (lowest_with kept sides (levels_of kept whole)) done rest → length sides ≤ length (levels_of kept whole) →
@@ -95,15 +162,6 @@ merge_extended make Back at_start at_end levels other carry some sides told =
 pub levels_of-sight : (kept : Operand) (at_start at_end : Bool) (levels other : List Level) → levels_of kept (sight_of kept at_start at_end levels [] other) ≡ levels
 levels_of-sight Front at_start at_end levels other = refl
 levels_of-sight Back at_start at_end levels other = refl
-
-pub sight_up-none : (sight : Sight) → 0 < length sight.front → 0 < length sight.back → sight_up 0 sight sight.carry ≡ sight
-sight_up-none sight some_front some_back = λ i. record {
-  front = operand-some sight.front some_front i;
-  carry = sight.carry;
-  back = operand-some sight.back some_back i;
-  at_start = sight.at_start;
-  at_end = sight.at_end;
-}
 
 pub sight_of-up : (kept : Operand) (at_start at_end : Bool) (n : ℕ) (levels other : List Level) (carry : List Node) →
     sight_up 0 (sight_of kept at_start at_end (drop n levels) [] (drop n other)) carry ≡ sight_up n (sight_of kept at_start at_end levels [] other) carry
@@ -145,7 +203,7 @@ kept_can_merge Back this other at_start at_end size h few_this few_other =
     let few = h.few in
     record { some_front = h.front_is.some_level; some_back = h.back_is.some_level; fits = omega arith; room = omega arith }
 
-pub kept_merge : (make : List Node → Node) (kept : Operand) (this other : Subtree) (at_start at_end : Bool) (levels : List Level) (work : ℕ) →
+kept_merge : (make : List Node → Node) (kept : Operand) (this other : Subtree) (at_start at_end : Bool) (levels : List Level) (work : ℕ) →
     at_start ≡ (front_of kept this other).at_start → at_end ≡ (back_of kept this other).at_end → IsSightMerge make (sight_of kept at_start at_end this.levels [] other.levels) levels work →
     IsLevelMerge make (front_of kept this other).at_start (back_of kept this other).at_end (front_of kept this other).levels [] (back_of kept this other).levels levels work
 kept_merge make Front this other at_start at_end levels work start end merged =
@@ -155,7 +213,35 @@ kept_merge make Back this other at_start at_end levels work start end merged =
     subst (λ (e : Bool). IsLevelMerge make other.at_start e other.levels [] this.levels levels work) end
     (subst (λ (s : Bool). IsLevelMerge make s at_end other.levels [] this.levels levels work) start merged)
 
-pub kept_nodes : (kept : Operand) (this other : Subtree) →
+kept_nodes : (kept : Operand) (this other : Subtree) →
     node_count (front_of kept this other).levels + node_count (back_of kept this other).levels ≡ node_count this.levels + node_count other.levels
 kept_nodes Front this other = refl
 kept_nodes Back this other = omega arith
+
+-- levels that those of both are merged to: what they store, and the bound of the work
+module _ (hash : List Node → List ℕ) (kept : Operand) (this other : Subtree) (at_start at_end : Bool) (size : ℕ)
+    (h : AreMergeable (front_of kept this other) (back_of kept this other) at_start at_end size) (xs ys levels : List Level) (work : ℕ) (xs_are : xs ≡ this.levels) (ys_are : ys ≡ other.levels)
+    (merged : IsSightMerge (parent_by hash) (sight_of kept at_start at_end xs [] ys) levels work) where
+  both_merged : IsLevelMerge (parent_by hash) (front_of kept this other).at_start (back_of kept this other).at_end (front_of kept this other).levels [] (back_of kept this other).levels levels work
+  both_merged = kept_merge (parent_by hash) kept this other at_start at_end levels work h.start h.end
+      (subst (λ (l : List Level). IsSightMerge (parent_by hash) (sight_of kept at_start at_end this.levels [] l) levels work) ys_are
+      (subst (λ (l : List Level). IsSightMerge (parent_by hash) (sight_of kept at_start at_end l [] ys) levels work) xs_are merged))
+
+  pub both_stored : IsStored at_start at_end levels size
+  both_stored =
+      let stored = merged_stored (front_of kept this other) (back_of kept this other) h.front_is h.back_is h.no_end h.no_start hash levels work both_merged size h.size_is h.fits h.few in
+      subst (λ (s : Bool). IsStored s at_end levels size) (sym h.start) (subst (λ (e : Bool). IsStored (front_of kept this other).at_start e levels size) (sym h.end) stored)
+
+  pub both_merged_by : IsMergedBy (parent_by hash) work (front_of kept this other) (back_of kept this other) (record { at_start = at_start; at_end = at_end; levels = levels })
+  both_merged_by =
+      let front = front_of kept this other in
+      let back = back_of kept this other in
+      let whole = merged_by front back h.front_is h.back_is h.no_end h.no_start hash levels work both_merged in
+      subst (λ (s : Bool). IsMergedBy (parent_by hash) work front back (record { at_start = s; at_end = at_end; levels = levels })) (sym h.start)
+      (subst (λ (e : Bool). IsMergedBy (parent_by hash) work front back (record { at_start = front.at_start; at_end = e; levels = levels })) (sym h.end) whole)
+
+  pub both_bound : 2 * work ≤ node_count this.levels + node_count other.levels + 2 * (length levels - 1)
+  both_bound =
+      let bound = merge_work (parent_by hash) (front_of kept this other).at_start (back_of kept this other).at_end both_merged in
+      let nodes = kept_nodes kept this other in
+      omega arith

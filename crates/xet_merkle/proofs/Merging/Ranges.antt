@@ -7,7 +7,7 @@ use Rattle.xet_merkle.specs.Roots.{parent}
 use Rattle.xet_merkle.specs.Levels.{levels_size}
 use Rattle.xet_merkle.specs.Canonical.{IsCanonicalBy}
 use Rattle.xet_merkle.specs.Subtree.{Subtree, IsCanonical}
-use Rattle.xet_merkle.specs.Merging.{IsMerged, NoMarkBetweenSubtrees, end_mark, ranges_size, AreCanonical}
+use Rattle.xet_merkle.specs.Merging.{IsMerged, NoMarkBetweenSubtrees, start_mark, end_mark, ranges_size, AreCanonical}
 use Rattle.xet_merkle.specs.Ranges.{NoMarkBetween, total_of}
 use Rattle.xet_merkle.specs.Steps.RangeMerging.{JoinsTo, start_of_first, end_of_last}
 use Rattle.xet_merkle.specs.Steps.SubtreeMerging.{MergesTo}
@@ -174,6 +174,13 @@ MergesTo-end (range ∷ ranges) merged h =
     let last : Some merged.at_end ≡ end_of_last end_of (range ∷ ranges) = h.last in
     let same : Some merged.at_end ≡ Some (end_mark (range ∷ ranges)) = last ∙ end_mark-last range ranges in
     cc
+
+pub MergesTo-start : (ranges : List Subtree) (merged : Subtree) → MergesTo ranges (merged ∷ []) → merged.at_start ≡ start_mark ranges
+MergesTo-start [] merged h = let first = h.first in let clash : ⊥ = cc in absurd clash
+MergesTo-start (range ∷ ranges) merged h = let first : Some merged.at_start ≡ Some range.at_start = h.first in cc
+
+pub MergesTo-size : (ranges : List Subtree) (merged : Subtree) → MergesTo ranges (merged ∷ []) → levels_size merged.levels ≡ ranges_size ranges
+MergesTo-size ranges merged h = sym (size_of_one merged) ∙ h.sum
 
 -- ---- in any order
 

@@ -1,13 +1,15 @@
 -- Levels of a canonical subtree and of a merge while they are built, and what a subtree stores. Only private contracts
 -- and proofs use them.
-use Rattle.std.specs.Prelude.{◌≡◌, ℕ, ◌+◌, ◌^◌, ◌<◌, ◌≤◌, Bool, false, List, ◌++◌, length}
+use Rattle.std.specs.Prelude.{◌≡◌, ℕ, ◌+◌, ◌^◌, ◌<◌, ◌≤◌, Bool, false, List, [], ◌∷◌, ◌++◌, length}
 use Rattle.xet_merkle.specs.Groups.{Node}
 use Rattle.xet_merkle.specs.Roots.{total_size}
 use Rattle.xet_merkle.specs.Levels.{Level, top_nodes, node_count, levels_size}
 use Rattle.xet_merkle.specs.Canonical.{IsCanonicalBy}
 use Rattle.xet_merkle.specs.Subtree.{Subtree}
 use Rattle.xet_merkle.specs.WellFormed.{IsWellFormed}
-use Rattle.xet_merkle.specs.Steps.LevelMerging.{HaveSides, Sight, IsSightMerge}
+use Rattle.xet_merkle.specs.Steps.Scan.{AreParents}
+use Rattle.xet_merkle.specs.Steps.LevelMerging.{HaveSides, Sight, sight_up, IsSightSplit, IsSightMerge, levels_of, inner_side, lowest_with}
+use Rattle.xet_merkle.specs.declared.merkle_hash_subtree.levels.Operand.{Operand}
 use Rattle.xet_merkle.specs.Steps.Room.{most_made}
 
 -- the levels of two subtrees that can be merged, under these outer marks
@@ -33,6 +35,25 @@ pub record CanMerge (made : ℕ) (sight : Sight) : Type 0 where
   pub some_back : 0 < length sight.back
   pub fits : levels_size sight.front + (total_size sight.carry + levels_size sight.back) < 2 ^ 64
   pub room : made + (length sight.carry + ((node_count sight.front + length sight.front) + (node_count sight.back + length sight.back))) ≤ most_made
+
+-- one level of a merge, below the top of an operand: the nodes that stay towards the other operand were pushed onto the
+-- sides, and the parents of the rest are carried in what is in sight next
+pub record MergesLevel (make : List Node → Node) (kept : Operand) (sight : Sight) (sides : List (List Node)) (next : Sight) (more : List (List Node)) : Type 0 where
+  pub left : List Node
+  pub middle : List Node
+  pub right : List Node
+  pub split : IsSightSplit sight left middle right
+  pub parents : AreParents make middle next.carry
+  pub above : next ≡ sight_up 1 sight next.carry
+  pub pushed : more ≡ sides ++ inner_side kept left right ∷ []
+
+-- the lowest levels of an operand, all below its top, keep these sides towards the other one. This many parents were made,
+-- and what is then in sight can be merged
+pub record MergesLower (make : List Node → Node) (kept : Operand) (whole : Sight) (sides : List (List Node)) (made : ℕ) (sight : Sight) : Type 0 where
+  pub within : length sides < length (levels_of kept whole)
+  pub up : sight ≡ sight_up (length sides) whole sight.carry
+  pub below : MergeBelow make whole (lowest_with kept sides (levels_of kept whole)) made sight
+  pub can_merge : CanMerge made sight
 
 -- two subtrees can be merged: no mark is between them, and both their sizes and their numbers of nodes add up to less
 -- than 2 ^ 64. The outer marks and the sum of the sizes are those of the merged one.

@@ -7,8 +7,8 @@
 ghost use Rattle.std.specs.Prelude.{◌≡◌, ℕ, ◌+◌, ◌<◌, false, List, [], length, map, IfOk, IfErr, IsTrue};
 ghost use Rattle.xet_merkle.specs.Groups.{Node};
 ghost use Rattle.xet_merkle.specs.Roots.{parent_by};
-ghost use Rattle.xet_merkle.specs.Steps.LevelMerging.{Sight, sight_up, IsSightMerge, sight_of, levels_of, HaveSidesOf, lowest_with, OnlyExtends};
-ghost use Rattle.xet_merkle.specs.Steps.Building.{MergeBelow, CanMerge};
+ghost use Rattle.xet_merkle.specs.Steps.LevelMerging.{Sight, sight_up, IsSightMerge, sight_of, levels_of, HaveSidesOf, OnlyExtends};
+ghost use Rattle.xet_merkle.specs.Steps.Building.{CanMerge, MergesLevel, MergesLower};
 
 use super::collapse::collapse_middle;
 use super::in_sight::InSight;
@@ -29,6 +29,28 @@ struct Lower<A: Allocator> {
     extends: bool,
 }
 
+// Merges one level below the top of an operand. Pushes the nodes that stay towards the other operand onto the sides, and
+// returns what is in sight above, which carries the parents of the rest.
+fn merge_level<'a, A: Allocator + Clone, P: ParentMaker>(
+    alloc: A,
+    sight: InSight<'a, A>,
+    kept: Operand,
+    sides: &mut Vec<Vec<Node, A>, A>,
+    maker: &mut P,
+) -> Result<InSight<'a, A>, AllocError>
+    requires below_top { 1 < length (levels_of kept sight) }
+    requires can_merge { CanMerge (P.count maker.old) sight }
+    ensures merges { IfOk result (λ next. MergesLevel (parent_by P.hash_of) kept sight.entry
+        (map (λ side. side.items) sides.old.items) next (map (λ side. side.items) sides.new.items)) }
+    ensures count { IfOk result (λ next. P.count maker.new ≡ P.count maker.old + length next.carry) }
+{
+    let nodes = sight.nodes()?;
+    let split = sight.split(&nodes);
+    sides.push(split.inner(kept).to_vec(alloc.clone()?)?)?;
+    let parents = parents(alloc, split.middle, maker)?;
+    Ok(sight.above(parents))
+}
+
 // Merges what is in sight below the top of one operand, as long as something is collapsed.
 fn merge_lower<A: Allocator + Clone, P: ParentMaker>(
     alloc: A,
@@ -38,23 +60,16 @@ fn merge_lower<A: Allocator + Clone, P: ParentMaker>(
 ) -> Result<Lower<A>, AllocError>
     requires none_made { P.count maker.old ≡ 0 }
     requires can_merge { CanMerge (P.count maker.old) sight }
-    ensures within { IfOk result (λ lower. length lower.sides.items < length (levels_of kept sight.entry)) }
-    ensures merges { IfOk result (λ lower. MergeBelow (parent_by P.hash_of) sight.entry
-        (lowest_with kept (map (λ side. side.items) lower.sides.items) (levels_of kept sight.entry)) (P.count maker.new)
-        (sight_up (length lower.sides.items) sight.entry lower.carry.items)) }
+    ensures merges { IfOk result (λ lower. MergesLower (parent_by P.hash_of) kept sight.entry (map (λ side. side.items) lower.sides.items)
+        (P.count maker.new) (sight_up (length lower.sides.items) sight.entry lower.carry.items)) }
     ensures extends { IfOk result (λ lower. IsTrue lower.extends → OnlyExtends kept (sight_up (length lower.sides.items) sight.entry lower.carry.items)) }
     ensures top { IfOk result (λ lower. lower.extends ≡ false → length (levels_of kept sight.entry) ≡ length lower.sides.items + 1) }
-    ensures can_merge { IfOk result (λ lower. CanMerge (P.count maker.new) (sight_up (length lower.sides.items) sight.entry lower.carry.items)) }
 {
     let mut sides = Vec::new(alloc.clone()?);
     let mut sight = sight;
     let mut extends = sight.only_extends(kept);
     'levels: while !extends && sight.is_collapsed(kept) {
-        let nodes = sight.nodes()?;
-        let split = sight.split(&nodes);
-        sides.push(split.inner(kept).to_vec(alloc.clone()?)?)?;
-        let carry = parents(alloc.clone()?, split.middle, maker)?;
-        sight = sight.above(carry);
+        sight = merge_level(alloc.clone()?, sight, kept, &mut sides, maker)?;
         extends = sight.only_extends(kept);
     }
     Ok(Lower {

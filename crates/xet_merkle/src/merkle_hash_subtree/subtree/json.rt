@@ -1,11 +1,12 @@
 //! The JSON form of a subtree.
 
-ghost use Rattle.std.specs.Prelude.{◌≡◌, ℕ, ◌^◌, ◌<◌, ◌⊎◌, ◌↔◌, ◌++◌, map, length, IfOk, IfErr, SomeIff, IsTrue};
+ghost use Rattle.std.specs.Prelude.{◌≡◌, ℕ, Bool, ◌^◌, ◌<◌, ◌⊎◌, ◌↔◌, ◌++◌, map, length, IfOk, IfErr, SomeIff, IsTrue};
 ghost use Rattle.std.specs.List.{AllByRecursion};
 ghost use Rattle.serde_json.specs.Data.{array};
 ghost use Rattle.serde_json.specs.View.{view, items_of};
 ghost use Rattle.xet_hash.specs.Hash.{IsHash};
 ghost use Rattle.xet_merkle.specs.Groups.{Node};
+ghost use Rattle.xet_merkle.specs.Roots.{total_size};
 ghost use Rattle.xet_merkle.specs.Levels.{levels_size};
 ghost use Rattle.xet_merkle.specs.WellFormed.{IsWellFormed};
 ghost use Rattle.xet_merkle.specs.FlatLevels.{IsFlat, count_of, flat_nodes, levels_of};
@@ -102,6 +103,25 @@ fn add_up(counts: &[(usize, usize)], len: usize) -> bool
     ensures { IsTrue result ↔ (count_sum counts.now ≡ len) }
 {
     count_sum(counts) == Some(len)
+}
+
+// Returns the sum of the sizes of flat lists. Fails unless the lists keep the rules 5 to 7.
+fn flat_size(counts: &[(usize, usize)], nodes: &[Node]) -> Result<u64, CoreError>
+    ensures keeps { IfOk result (λ size. (0 < length counts.now) × (count_sum counts.now ≡ length nodes.now)
+        × (size ≡ total_size nodes.now) × (size < 2 ^ 64)) }
+    ensures breaks { IfErr result (λ e. (rule : ℕ) × (e ≡ InvalidJson rule)
+        × ((at_start at_end : Bool) → BreaksValueRule at_start at_end counts.now nodes.now rule)) }
+{
+    if counts.is_empty() {
+        return Err(CoreError::InvalidJson(5));
+    }
+    if !add_up(counts, nodes.len()) {
+        return Err(CoreError::InvalidJson(6));
+    }
+    match total_size(nodes) {
+        Some(size) => Ok(size),
+        None => Err(CoreError::InvalidJson(7)),
+    }
 }
 
 // Cuts a list of nodes into levels with these counts.
@@ -207,15 +227,7 @@ impl<A: Allocator + Clone> MerkleHashSubtree<A> {
             counts,
             nodes,
         } = parts;
-        if counts.is_empty() {
-            return Err(CoreError::InvalidJson(5));
-        }
-        if !add_up(&counts, nodes.len()) {
-            return Err(CoreError::InvalidJson(6));
-        }
-        let Some(total_size) = total_size(&nodes) else {
-            return Err(CoreError::InvalidJson(7));
-        };
+        let total_size = flat_size(&counts, &nodes)?;
         let levels = cut_levels(alloc, &counts, &nodes)?;
         if let Some(rule) = broken_rule(&levels, at_start, at_end) {
             return Err(CoreError::InvalidJson(rule));

@@ -53,10 +53,10 @@ put_before_next-requires-clause-room g c =
     let more = insert_entry nat_cmp runs first empty in
     let entries : c.insert.new.self.entries ≡ more = c.in_ok-insert.ensures.entries ∙ ap (λ runs. insert_entry nat_cmp runs first empty) c.self.view_is in
     let sorted = subst (λ (runs : List (PlacedRun g.row.C.Denot)). IsStrictlySortedBy nat_cmp (keys_of runs)) c.self.view_is c.in_ok-insert.ensures.was_ordered in
-    let put = inserted-open kind runs c.requires.room.0 empty (c.in_ok-range.ensures.start, c.in_ok-range.ensures.end) first sorted in
+    let put = inserted-open kind runs c.requires.room.1.0 empty (c.in_ok-range.ensures.start, c.in_ok-range.ensures.end) first sorted in
     let none : kind.total empty.range ≡ 0 = c.in_ok-range.ensures.total in
     subst (λ (now : List (PlacedRun g.row.C.Denot)). AreOpen kind now × (kind.total c.args.made + size_at kind c.args.after now < 2 ^ 64)) (sym entries)
-    (put.0, omega (arith, put.1, none, one-within kind c.args.after more, c.requires.room.1))
+    (put.0, omega (arith, put.1, none, one-within kind c.args.after more, c.requires.room.1.1))
 
 pub returns-in-Ok-clause-sizes : goal.returns-in-Ok-clause-sizes
 returns-in-Ok-clause-sizes g c =
@@ -67,6 +67,6 @@ returns-in-Ok-clause-sizes g c =
     let more = insert_entry nat_cmp runs first empty in
     let entries : c.insert.new.self.entries ≡ more = c.in_ok-insert.ensures.entries ∙ ap (λ runs. insert_entry nat_cmp runs first empty) c.self.view_is in
     let sorted = subst (λ (runs : List (PlacedRun g.row.C.Denot)). IsStrictlySortedBy nat_cmp (keys_of runs)) c.self.view_is c.in_ok-insert.ensures.was_ordered in
-    let put = inserted-open kind runs c.requires.room.0 empty (c.in_ok-range.ensures.start, c.in_ok-range.ensures.end) first sorted in
+    let put = inserted-open kind runs c.requires.room.1.0 empty (c.in_ok-range.ensures.start, c.in_ok-range.ensures.end) first sorted in
     let none : kind.total empty.range ≡ 0 = c.in_ok-range.ensures.total in
     (c.in-Ok.ensures.sizes.0, omega (arith, c.in-Ok.ensures.sizes.1, put.1, none, ap (λ (now : List (PlacedRun g.row.C.Denot)). sizes_of kind now) entries))

@@ -1,5 +1,5 @@
 use Rattle.std.proofs.Common.{arith, nat_cmp, ◌≡◌, ◌≢◌, ◌+◌, ◌^◌, ◌<◌, List, length, sym, subst, ◌∙◌, ap}
-use Rattle.std.specs.Prelude.{Err, Some, is_some, IfErr, IfSome, IfNone}
+use Rattle.std.specs.Prelude.{Err, Some, is_some, IfErr}
 use Rattle.std.proofs.lemmas.Bool.{true≢false}
 use Rattle.std.proofs.lemmas.Option.{same_Some}
 use Rattle.std.specs.BTreeMap.{is_at, insert_entry}
@@ -10,7 +10,7 @@ use Rattle.std.proofs.lemmas.Result.{err_from_is_err_and}
 use Rattle.xet_merkle.specs.declared.error.CoreError.TheVariants.{OutOfMemory}
 use Rattle.upload_session.specs.declared.runs.Run.{Run}
 use Rattle.upload_session.specs.Session.{PlacedRun}
-use Rattle.upload_session.specs.Steps.Neighbours.{EndsAt, NoneEndsAt, IsWithNext}
+use Rattle.upload_session.specs.Steps.Neighbours.{IsPrevious, IsWithNext}
 use Rattle.upload_session.specs.Steps.OpenRuns.{IsOpen, AreOpenUpTo, sizes_of}
 use Rattle.upload_session.proofs.AroundEntries.{previous-some, previous-none, previous-found, ends-near, ends-found}
 use Rattle.upload_session.proofs.Merging.{made-with, placed-alone, placed-merged}
@@ -49,7 +49,7 @@ returns-clause-placed g c = λ placed chunks stand some after_is free meant open
     elim c.match-previous.branch [
       | in-Some w ↦
           let begin = w.in-Some.begin in
-          let ends = subst (λ p. IfSome p (λ begin. EndsAt runs first begin)) w.in-Some.is c.requires.some in
+          let ends = subst (IsPrevious runs first) w.in-Some.is c.requires.previous in
           let (last, previous) = previous-some first after ahead runs at begin ends in
           let found = ap (λ runs. lookup (is_at (nat_cmp begin)) runs) view ∙ previous-found first after ahead runs at (begin, last) previous in
           elim w.match-get_mut.branch [
@@ -71,7 +71,7 @@ returns-clause-placed g c = λ placed chunks stand some after_is free meant open
           ]
       | in-None+in_ok-insert-in-None w ↦
           placed-alone kind first chunks some runs at placed stand c.remove.new.self.entries made of_made
-          (previous-none first after ahead runs at (subst (λ p. IfNone p (NoneEndsAt runs first)) w.in-None.is c.requires.none))
+          (previous-none first after ahead runs at (subst (IsPrevious runs first) w.in-None.is c.requires.previous))
           (c.remove.ensures.entries
           ∙ ap (λ n. remove_entry (is_at (nat_cmp n)) c.match-previous.self-inside.runs.entries) after_is
           ∙ ap (λ inside. remove_entry test inside.runs.entries) w.self-inside-is
@@ -81,7 +81,7 @@ returns-clause-placed g c = λ placed chunks stand some after_is free meant open
 
 pub with_next-requires-clause-room : goal.with_next-requires-clause-room
 with_next-requires-clause-room g c =
-    (c.requires.room.0, omega (arith, c.requires.room.1, one-within g.C.ChunkRange c.args.after c.args.self.now))
+    (c.requires.room.1.0, omega (arith, c.requires.room.1.1, one-within g.C.ChunkRange c.args.after c.args.self.now))
 
 pub returns-in_err-join-in-Some-clause-errors : goal.returns-in_err-join-in-Some-clause-errors
 returns-in_err-join-in-Some-clause-errors g c =
@@ -90,16 +90,16 @@ returns-in_err-join-in-Some-clause-errors g c =
     let begin = c.in-Some.begin in
     let after = c.args.after in
     let run = c.in-Some-get_mut.run'.now in
-    let ends = subst (λ p. IfSome p (λ begin. EndsAt runs c.args.first begin)) c.in-Some.is c.requires.some in
+    let ends = subst (IsPrevious runs c.args.first) c.in-Some.is c.requires.previous in
     let near = ends-near c.args.first begin runs ends in
     let apart : begin ≢ after = λ same. omega (arith, same, near, c.requires.ahead) in
     let is : lookup (is_at (nat_cmp begin)) runs ≡ Some run = sym (c.in-Some-get_mut.ensures.value ∙ ap (λ runs. lookup (is_at (nat_cmp begin)) runs) c.self.view_is) in
     let fits : kind.total run.range + kind.total c.in_ok-made.made.range < 2 ^ 64 =
-    omega (arith, c.in_ok-made.ensures.total, two-within kind begin after apart runs, size-at kind begin runs (Some run) is, c.requires.room.1) in
+    omega (arith, c.in_ok-made.ensures.total, two-within kind begin after apart runs, size-at kind begin runs (Some run) is, c.requires.room.1.1) in
     let p = err_from_is_err_and c.from_residual-in_err-join-in-Some.result c.from_residual-in_err-join-in-Some.ensures.1 in
     subst (λ answer. IfErr answer (λ e. e ≡ OutOfMemory)) (sym (p.1 ∙ ap Err p.2))
     (memory_alone (kind.total run.range + kind.total c.in_ok-made.made.range) (Err c.in_err-join-in-Some.field-0.0) c.in_err-join-in-Some.ensures.refusals
-    ((open_at kind begin runs run c.requires.room.0 is).1, c.in_ok-made.ensures.marks.0) fits)
+    ((open_at kind begin runs run c.requires.room.1.0 is).1, c.in_ok-made.ensures.marks.0) fits)
 
 pub returns-clause-sizes : goal.returns-clause-sizes
 returns-clause-sizes g c =
@@ -116,7 +116,7 @@ returns-clause-sizes g c =
     elim c.match-previous.branch [
       | in-Some w ↦
           let begin = w.in-Some.begin in
-          let ends = subst (λ p. IfSome p (λ begin. EndsAt runs first begin)) w.in-Some.is c.requires.some in
+          let ends = subst (IsPrevious runs first) w.in-Some.is c.requires.previous in
           let near = ends-near first begin runs ends in
           let apart : after ≢ begin = λ same. omega (arith, same, near, ahead) in
           elim w.match-get_mut.branch [
@@ -125,14 +125,14 @@ returns-clause-sizes g c =
                 let is : lookup (is_at (nat_cmp begin)) runs ≡ Some last = sym (w'.in-Some-get_mut.ensures.value ∙ ap (λ runs. lookup (is_at (nat_cmp begin)) runs) view) in
                 let new : Run g.row.C.Denot = run_to made.end w'.join.new.self in
                 let merged = w'.in_ok-join-in-Some.ensures in
-                let of_new : IsOpen kind new.range = (merged.start ∙ (open_at kind begin runs last c.requires.room.0 is).0, merged.end ∙ of_made.1) in
+                let of_new : IsOpen kind new.range = (merged.start ∙ (open_at kind begin runs last c.requires.room.1.0 is).0, merged.end ∙ of_made.1) in
                 subst (λ (now : List (PlacedRun g.row.C.Denot)). AreOpenUpTo kind (sizes_of kind runs + size) now)
                 (sym (c.remove.ensures.entries
                 ∙ ap (λ inside. remove_entry test inside.runs.entries) w.self-inside-is
                 ∙ ap (λ inside. remove_entry test inside.runs.entries) w'.self-inside-is
                 ∙ ap (remove_entry test) (w.get_mut.follows.holds new).0
                 ∙ ap (λ runs. remove_entry test (set_value (is_at (nat_cmp begin)) runs new)) view))
-                (merged-open kind runs c.requires.room.0 new of_new begin after apart last is size
+                (merged-open kind runs c.requires.room.1.0 new of_new begin after apart last is size
                 (merged.total ∙ ap (λ n. kind.total last.range + n) c.in_ok-made.ensures.total))
             | in_default w' ↦
                 absurd (true≢false (sym (ends-found first begin runs ends) ∙ sym (ap is_some (w'.in_default.ensures.value ∙ ap (λ runs. lookup (is_at (nat_cmp begin)) runs) view))))
@@ -145,5 +145,5 @@ returns-clause-sizes g c =
           ∙ ap (λ inside. remove_entry test inside.runs.entries) w.self-inside-is
           ∙ ap (remove_entry test) w.in_ok-insert-in-None.ensures.entries
           ∙ ap (λ runs. remove_entry test (insert_entry nat_cmp runs first made)) view))
-          (alone-open kind runs c.requires.room.0 made of_made first after apart sorted size c.in_ok-made.ensures.total)
+          (alone-open kind runs c.requires.room.1.0 made of_made first after apart sorted size c.in_ok-made.ensures.total)
     ]

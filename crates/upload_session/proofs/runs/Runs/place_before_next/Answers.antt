@@ -1,9 +1,9 @@
 use Rattle.std.proofs.Common.{arith, nat_cmp, ◌≡◌, ◌≢◌, ◌+◌, ◌<◌, ◌∷◌, ◌++◌, length, refl, sym, ap, subst, ◌∙◌}
-use Rattle.std.specs.Prelude.{Option, Some, None, IfSome, IfNone, IsSome}
+use Rattle.std.specs.Prelude.{Option, Some, None, IsSome}
 use Rattle.std.specs.BTreeMap.{is_at}
 use Rattle.std.specs.Map.{lookup}
 use Rattle.std.proofs.lemmas.Bool.{true≢false}
-use Rattle.upload_session.specs.Steps.Neighbours.{EndsAt, NoneEndsAt, AreAround}
+use Rattle.upload_session.specs.Steps.Neighbours.{IsPrevious, AreAround}
 use Rattle.upload_session.proofs.AroundEntries.{previous-some, previous-none, previous-found, next-found, around-previous, around-first, ends-near, ends-found}
 use Rattle.upload_session.proofs.Merging.{placed-before, placed-first}
 use Rattle.upload_session.proofs.Neighbours.{around, with_run}
@@ -25,7 +25,7 @@ returns-in_ok-put_before_next-in-Some-clause-placed g c = λ placed chunks stand
     let ahead : first < after = omega (arith, some) in
     let at = around kind first count runs placed stand (sym (overlaps-runs first count some kind runs placed stand) ∙ free) in
     let begin = c.in-Some.begin in
-    let ends = subst (λ p. IfSome p (λ begin. EndsAt runs first begin)) c.in-Some.is c.requires.some in
+    let ends = subst (IsPrevious runs first) c.in-Some.is c.requires.previous in
     let (last, previous) = previous-some first after ahead runs at begin ends in
     let found = some-of (lookup (is_at (nat_cmp c.args.after)) runs) c.requires.next in
     let next = found.0 in
@@ -49,7 +49,7 @@ returns-in_ok-begin_before_next-in-None-clause-placed g c = λ placed chunks sta
     let after = first + count in
     let ahead : first < after = omega (arith, some) in
     let at = around kind first count runs placed stand (sym (overlaps-runs first count some kind runs placed stand) ∙ free) in
-    let previous = previous-none first after ahead runs at (subst (λ p. IfNone p (NoneEndsAt runs first)) c.in-None.is c.requires.none) in
+    let previous = previous-none first after ahead runs at (subst (IsPrevious runs first) c.in-None.is c.requires.previous) in
     let found = some-of (lookup (is_at (nat_cmp c.args.after)) runs) c.requires.next in
     let next = found.0 in
     let next_is = next-found first after ahead runs at next (subst (λ n. lookup (is_at (nat_cmp n)) runs ≡ Some next) after_is found.1) in
@@ -63,24 +63,24 @@ returns-in_ok-begin_before_next-in-None-clause-placed g c = λ placed chunks sta
 
 pub with_previous-requires-clause-room : goal.with_previous-requires-clause-room
 with_previous-requires-clause-room g c =
-    (c.requires.room.0, omega (arith, c.requires.room.1, one-within g.C.ChunkRange c.in-Some.begin c.args.self.now))
+    (c.requires.room.1.0, omega (arith, c.requires.room.1.1, one-within g.C.ChunkRange c.in-Some.begin c.args.self.now))
 
 pub put_before_next-requires-clause-begin : goal.put_before_next-requires-clause-begin
 put_before_next-requires-clause-begin g c =
     ends-found c.args.first c.in-Some.begin c.args.self.now
-    (subst (λ p. IfSome p (λ begin. EndsAt c.args.self.now c.args.first begin)) c.in-Some.is c.requires.some)
+    (subst (IsPrevious c.args.self.now c.args.first) c.in-Some.is c.requires.previous)
 
 pub put_before_next-requires-clause-apart : goal.put_before_next-requires-clause-apart
 put_before_next-requires-clause-apart g c =
-    let ends = subst (λ p. IfSome p (λ begin. EndsAt c.args.self.now c.args.first begin)) c.in-Some.is c.requires.some in
+    let ends = subst (IsPrevious c.args.self.now c.args.first) c.in-Some.is c.requires.previous in
     let near = ends-near c.args.first c.in-Some.begin c.args.self.now ends in
     let ahead = c.requires.ahead in
     λ same. omega (arith, same, near, ahead)
 
 pub put_before_next-requires-clause-room : goal.put_before_next-requires-clause-room
 put_before_next-requires-clause-room g c =
-    let ends = subst (λ p. IfSome p (λ begin. EndsAt c.args.self.now c.args.first begin)) c.in-Some.is c.requires.some in
+    let ends = subst (IsPrevious c.args.self.now c.args.first) c.in-Some.is c.requires.previous in
     let near = ends-near c.args.first c.in-Some.begin c.args.self.now ends in
     let ahead = c.requires.ahead in
     let apart : c.in-Some.begin ≢ c.args.after = λ same. omega (arith, same, near, ahead) in
-    (c.requires.room.0, omega (arith, c.requires.room.1, c.in_ok-front-in-Some.ensures.total, two-within g.C.ChunkRange c.in-Some.begin c.args.after apart c.args.self.now))
+    (c.requires.room.1.0, omega (arith, c.requires.room.1.1, c.in_ok-front-in-Some.ensures.total, two-within g.C.ChunkRange c.in-Some.begin c.args.after apart c.args.self.now))

@@ -1,4 +1,4 @@
-use Rattle.std.proofs.Common.{◌≡◌, ℕ, ◌+◌, ◌<◌, ◌≤◌, ◌-◌, Bool, List, [], ◌++◌, length, map, take, drop, sym, ap, subst, ◌∙◌, arith, rules}
+use Rattle.std.proofs.Common.{◌≡◌, ℕ, ◌+◌, ◌<◌, ◌-◌, Bool, List, [], ◌++◌, length, map, take, drop, sym, ap, subst, ◌∙◌, arith, rules}
 use Rattle.std.proofs.lemmas.List.{length-map}
 use Rattle.xet_merkle.specs.Groups.{Node}
 use Rattle.xet_merkle.specs.Roots.{parent_by}
@@ -42,8 +42,8 @@ extend-requires g c =
     let is = whole_is c.args.kept c.args.marks.at_start c.args.marks.at_end c.args.levels.now.items c.args.other.now _ c.deref.ensures.value _ _ c.new-sight.ensures c.new-none.ensures.items 0 c.requires.can_merge in
     let len = length_is c.args.kept c.args.marks.at_start c.args.marks.at_end c.args.levels.now.items c.args.other.now _ c.deref.ensures.value _ is in
     let at : c.len-at.result ≡ length c.in_ok-sides.field-0.sides.items = search rules in
-    let within = c.in_ok-sides.ensures.within in
-    omega arith
+    let within = c.in_ok-sides.ensures.merges.within in
+    omega (arith, length-map c.in_ok-sides.field-0.sides.items (λ side. side.items))
 
 pub merge_top-requires : goal.merge_top-requires
 merge_top-requires g c =
@@ -56,14 +56,14 @@ merge_top-requires g c =
     let rest : c.new-sight-else-extends.result ≡ sight_up n whole carry =
     rest_is c.args.kept c.args.marks.at_start c.args.marks.at_end c.args.levels.now.items c.args.other.now _ c.deref-else-extends.ensures.value _ carry _ _ _ n c.new-sight-else-extends.ensures
     c.levels_from.ensures c.levels_from-other.ensures at in
-    subst (λ (s : Sight). CanMerge made s) (sym rest) (subst (λ (s : Sight). CanMerge made (sight_up n s carry)) is c.in_ok-sides.ensures.can_merge)
+    subst (λ (s : Sight). CanMerge made s) (sym rest) (subst (λ (s : Sight). CanMerge made (sight_up n s carry)) is c.in_ok-sides.ensures.merges.can_merge)
 
 pub replace_top-requires : goal.replace_top-requires
 replace_top-requires g c =
     let is = whole_is c.args.kept c.args.marks.at_start c.args.marks.at_end c.args.levels.now.items c.args.other.now _ c.deref.ensures.value _ _ c.new-sight.ensures c.new-none.ensures.items 0 c.requires.can_merge in
     let len = length_is c.args.kept c.args.marks.at_start c.args.marks.at_end c.args.levels.now.items c.args.other.now _ c.deref.ensures.value _ is in
-    let within = c.in_ok-sides.ensures.within in
-    omega arith
+    let within = c.in_ok-sides.ensures.merges.within in
+    omega (arith, length-map c.in_ok-sides.field-0.sides.items (λ side. side.items))
 
 pub replace_sides-requires : goal.replace_sides-requires
 replace_sides-requires g c =
@@ -71,7 +71,8 @@ replace_sides-requires g c =
     let is = whole_is c.args.kept c.args.marks.at_start c.args.marks.at_end levels c.args.other.now _ c.deref.ensures.value _ _ c.new-sight.ensures c.new-none.ensures.items 0 c.requires.can_merge in
     let len = length_is c.args.kept c.args.marks.at_start c.args.marks.at_end levels c.args.other.now _ c.deref.ensures.value _ is in
     let at : c.len-at.result ≡ length c.in_ok-sides.field-0.sides.items = search rules in
-    let within = c.in_ok-sides.ensures.within in
+    let few = c.in_ok-sides.ensures.merges.within in
+    let within : length c.in_ok-sides.field-0.sides.items < length levels = omega (arith, length-map c.in_ok-sides.field-0.sides.items (λ side. side.items)) in
     elim c.if-extends.branch [
       | then-extends+in_ok-extend w ↦
           let changed = ap length (ap (λ vec. vec.items) w.levels-is ∙ w.in_ok-extend.ensures.extended) in
@@ -102,10 +103,10 @@ returns-clause-merged g c =
     let kept_is : levels_of kept whole ≡ levels = levels_of-sight kept at_start at_end levels other in
     let len_kept = ap length kept_is in
     let len = length_is kept at_start at_end levels other _ c.deref.ensures.value _ is in
-    let within : n < length levels = let few = c.in_ok-sides.ensures.within in omega arith in
+    let within : n < length levels = let few = c.in_ok-sides.ensures.merges.within in omega arith in
     let below : MergeBelow make whole (lowest_with kept lists (levels_of kept whole)) done (sight_up n whole carry) =
     subst (λ (m : ℕ). MergeBelow make whole (lowest_with kept lists (levels_of kept whole)) done (sight_up m whole carry)) (sym len_lists)
-    (subst (λ (s : Sight). MergeBelow make s (lowest_with kept lists (levels_of kept s)) done (sight_up (length sides) s carry)) is c.in_ok-sides.ensures.merges) in
+    (subst (λ (s : Sight). MergeBelow make s (lowest_with kept lists (levels_of kept s)) done (sight_up (length sides) s carry)) is c.in_ok-sides.ensures.merges.below) in
     let count_is : c.len-at.result ≡ length sides = search rules in
     let at : c.len-at.result ≡ n = count_is ∙ sym len_lists in
     let changed : List Level = c.if-extends.levels.items in

@@ -1,8 +1,9 @@
-use Rattle.std.proofs.Common.{◌≡◌, ◌∷◌, [], List, drop, subst, sym, ap, ◌∙◌, arith}
+use Rattle.std.proofs.Common.{◌≡◌, ◌∷◌, [], List, length, drop, subst, sym, ap, ◌∙◌, arith, rules}
 use Rattle.std.proofs.lemmas.List.{drop_more, drop_all}
 use Rattle.xet_merkle.specs.Subtree.{Subtree}
 use Rattle.xet_merkle.specs.Steps.SubtreeMerging.{MergesTo}
-use Rattle.xet_merkle.proofs.Merging.Ranges.{MergesTo-all, MergesTo-one, MergesTo-end}
+use Rattle.xet_merkle.proofs.Merging.Adjacent.{refused_subtrees, allowed_subtrees, accepted, memory_alone}
+use Rattle.xet_merkle.proofs.Merging.Ranges.{MergesTo-all, MergesTo-one, MergesTo-start, MergesTo-end, MergesTo-size}
 use Rattle.xet_merkle.proofs.merkle_hash_subtree.subtree.MerkleHashSubtree.merge.Goals as goal
 
 pub returns-in_ok-copy-in-len1-clause-canonical : goal.returns-in_ok-copy-in-len1-clause-canonical
@@ -22,3 +23,45 @@ returns-in_ok-merge_halves-in_default-ranges-clause-canonical g c =
 pub returns-in_ok-merge_halves-in_default-ranges-clause-end : goal.returns-in_ok-merge_halves-in_default-ranges-clause-end
 returns-in_ok-merge_halves-in_default-ranges-clause-end g c =
     MergesTo-end c.args.ranges.now c.in_ok-merge_halves-in_default-ranges.field-0 c.in_ok-merge_halves-in_default-ranges.ensures.merges
+
+pub returns-in-Some-clause-refusals : goal.returns-in-Some-clause-refusals
+returns-in-Some-clause-refusals g c =
+    refused_subtrees c.args.ranges.now c.refusal.result c.in-Some.error c.refusal.ensures c.in-Some.is
+
+pub merge_halves-requires-clause-marks : goal.merge_halves-requires-clause-marks
+merge_halves-requires-clause-marks g c = (allowed_subtrees c.args.ranges.now c.refusal.result c.refusal.ensures c.in_default.is).0
+
+pub merge_halves-requires-clause-fits : goal.merge_halves-requires-clause-fits
+merge_halves-requires-clause-fits g c = (allowed_subtrees c.args.ranges.now c.refusal.result c.refusal.ensures c.in_default.is).1
+
+pub returns-in_ok-copy-in-len1-clause-refusals : goal.returns-in_ok-copy-in-len1-clause-refusals
+returns-in_ok-copy-in-len1-clause-refusals g c =
+    let allowed = allowed_subtrees c.args.ranges.now c.refusal.result c.refusal.ensures c.in_default.is in
+    accepted allowed.0 allowed.1 _
+
+pub returns-in_ok-merge_halves-in_default-ranges-clause-refusals : goal.returns-in_ok-merge_halves-in_default-ranges-clause-refusals
+returns-in_ok-merge_halves-in_default-ranges-clause-refusals g c =
+    let allowed = allowed_subtrees c.args.ranges.now c.refusal.result c.refusal.ensures c.in_default.is in
+    accepted allowed.0 allowed.1 _
+
+pub returns-in_ok-merge_halves-in_default-ranges-clause-start : goal.returns-in_ok-merge_halves-in_default-ranges-clause-start
+returns-in_ok-merge_halves-in_default-ranges-clause-start g c =
+    MergesTo-start c.args.ranges.now c.in_ok-merge_halves-in_default-ranges.field-0 c.in_ok-merge_halves-in_default-ranges.ensures.merges
+
+pub returns-in_ok-merge_halves-in_default-ranges-clause-size : goal.returns-in_ok-merge_halves-in_default-ranges-clause-size
+returns-in_ok-merge_halves-in_default-ranges-clause-size g c =
+    MergesTo-size c.args.ranges.now c.in_ok-merge_halves-in_default-ranges.field-0 c.in_ok-merge_halves-in_default-ranges.ensures.merges
+
+pub returns-in_ok-merge_halves-in_default-ranges-clause-copy : goal.returns-in_ok-merge_halves-in_default-ranges-clause-copy
+returns-in_ok-merge_halves-in_default-ranges-clause-copy g c = λ range one.
+    absurd (let len = ap length one in let more = c.in_default-ranges.len_at_least in omega arith)
+
+pub returns-in_err-copy-in-len1-clause-refusals : goal.returns-in_err-copy-in-len1-clause-refusals
+returns-in_err-copy-in-len1-clause-refusals g c =
+    let allowed = allowed_subtrees c.args.ranges.now c.refusal.result c.refusal.ensures c.in_default.is in
+    memory_alone allowed.0 allowed.1 c.from_residual.result (search rules)
+
+pub returns-in_err-merge_halves-in_default-ranges-clause-refusals : goal.returns-in_err-merge_halves-in_default-ranges-clause-refusals
+returns-in_err-merge_halves-in_default-ranges-clause-refusals g c =
+    let allowed = allowed_subtrees c.args.ranges.now c.refusal.result c.refusal.ensures c.in_default.is in
+    memory_alone allowed.0 allowed.1 c.from_residual-in_err-merge_halves-in_default-ranges.result (search rules)
