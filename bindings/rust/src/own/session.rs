@@ -353,7 +353,9 @@ impl Session {
         let mut gaps = room(self.num_runs() + 1)?;
         let mut position = 0;
         while position < total {
-            let next = self.try_run_from(position)?.map_or(total..total, |(positions, _)| positions);
+            let next = self
+                .try_run_from(position)?
+                .map_or(total..total, |(positions, _)| positions);
             let end = next.start.min(total);
             if position < end {
                 gaps.push(position..end);

@@ -79,7 +79,11 @@ fn runs_are_told_by_rising_position() {
     assert_eq!(session.num_runs(), 2);
     assert_eq!(session.try_range(1), Ok(Some(runs[1].clone())));
     assert_eq!(session.try_range(2), Ok(None));
-    let from = |position| session.run_from(position).map(|(positions, range)| (positions.start, positions.end, range));
+    let from = |position| {
+        session
+            .run_from(position)
+            .map(|(positions, range)| (positions.start, positions.end, range))
+    };
     for position in 0..10 {
         let (end, it) = if position < 2 { (2, 0) } else { (12, 1) };
         assert_eq!(from(position), Some((runs[it].0, end, runs[it].1.clone())));
