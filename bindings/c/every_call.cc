@@ -8,7 +8,7 @@
 #include <type_traits>
 #include <vector>
 
-static_assert(std::is_trivially_copyable<yurewha_hasher>::value && sizeof(yurewha_hasher) == 1864, "the hasher");
+static_assert(std::is_trivially_copyable<yurewha_hasher>::value && sizeof(yurewha_hasher) == 2048, "the hasher");
 static_assert(std::is_standard_layout<yurewha_chunk>::value && sizeof(yurewha_chunk) == 40, "a chunk");
 static_assert(std::is_same<yurewha_status, std::uint32_t>::value, "a status");
 
@@ -77,6 +77,7 @@ void hashes(Checks &check)
     std::uint64_t remainder = 9;
     check(yurewha_remainder(&drawn, 4, &remainder) == YUREWHA_DONE && remainder < 4, "remainder");
 
+    check(std::string(yurewha_status_text(YUREWHA_MEMORY)) == "out of memory", "the text of a status");
     std::array<char, 80> text{};
     std::size_t length = 0;
     check(yurewha_version(text.data(), text.size(), &length) == YUREWHA_DONE, "version");
@@ -165,6 +166,8 @@ void trees(Checks &check)
     check(yurewha_session_taken(&session, 27, &taken) == YUREWHA_DONE && taken, "taken");
     check(yurewha_session_num_runs(&session, &runs) == YUREWHA_DONE && runs == 1, "num_runs");
     check(yurewha_session_run(&session, 0, &fresh, &parts[3]) == YUREWHA_DONE && fresh == 0, "run");
+    std::uint64_t end = 0;
+    check(yurewha_session_run_from(&session, 9, &fresh, &end, &parts[3]) == YUREWHA_DONE && end == 28, "run_from");
     Session copy;
     check(yurewha_session_copy(&session, &copy) == YUREWHA_DONE, "copy");
     check(yurewha_session_root(&session, 28, &told) == YUREWHA_DONE && same(told, root), "root");

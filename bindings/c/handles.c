@@ -6,6 +6,7 @@
 struct room {
     yurewha_hash hash;
     uint64_t number;
+    uint64_t end;
     size_t counts[2];
     yurewha_level levels[8];
     yurewha_chunk nodes[64];
@@ -114,6 +115,10 @@ static yurewha_status run(struct handles h, struct room *r)
 {
     return yurewha_session_run(h.session, 0, &r->number, h.other);
 }
+static yurewha_status run_from(struct handles h, struct room *r)
+{
+    return yurewha_session_run_from(h.session, 0, &r->number, &r->end, h.other);
+}
 static yurewha_status copy(struct handles h, struct room *r)
 {
     yurewha_session made = {0};
@@ -149,6 +154,7 @@ static const struct {
     {"taken", taken},
     {"num_runs", num_runs},
     {"run", run},
+    {"run_from", run_from},
     {"copy", copy},
     {"root", root},
     {"finish", finish},

@@ -197,7 +197,7 @@ static void pieces(void)
         const size_t size = sizes[i / 3 % LENGTH(sizes)];
         const char *const wanted[] = {it->data, it->internal, it->keyed};
         uint8_t *bytes = message_of(it->length);
-        yurewha_hasher hasher;
+        yurewha_hasher hasher = {{0}};
         yurewha_bytes key;
         yurewha_hash hash;
         for (size_t j = 0; j < 32; j++)
@@ -232,14 +232,28 @@ static void pieces(void)
     }
 }
 
+/* Which word of a hasher is the length of its message: the one that is the length of this message. */
+static size_t place_of_count(void)
+{
+    static const uint8_t message[12345] = {0};
+    yurewha_hasher hasher = {{0}};
+    size_t place = 0;
+    yurewha_hasher_begin_data(&hasher);
+    EXPECT_STATUS(YUREWHA_DONE, yurewha_hasher_update(&hasher, message, sizeof message));
+    while (place < LENGTH(hasher.state) - 1 && hasher.state[place] != sizeof message)
+        place++;
+    return place;
+}
+
 /* No test can add 2^64 bytes, so the count is written by hand. A refused update looks at nothing else. */
 static void full_hasher(void)
 {
     static const uint8_t piece[8] = {0};
+    const size_t count = place_of_count();
     for (size_t length = 4; length <= sizeof piece; length++) {
-        yurewha_hasher hasher, before;
+        yurewha_hasher hasher = {{0}}, before;
         yurewha_hasher_begin_data(&hasher);
-        hasher.count = UINT64_MAX - 3;
+        hasher.state[count] = UINT64_MAX - 3;
         before = hasher;
         row("%zu bytes to 2^64 - 4", length);
         EXPECT_STATUS(YUREWHA_SIZES, yurewha_hasher_update(&hasher, piece, length));

@@ -236,6 +236,19 @@ static void puts_in_order(struct list *it)
     }
 }
 
+/* The runs of every second position, each from the end of the one before it. */
+static void walk(yurewha_session *session, size_t runs)
+{
+    yurewha_subtree range = {0};
+    uint64_t first = 0, end = 0;
+    for (size_t i = 0; i < runs; i++) {
+        EXPECT_STATUS(YUREWHA_DONE, yurewha_session_run_from(session, end, &first, &end, &range));
+        EXPECT(first == 2 * i && end == 2 * i + 1);
+    }
+    EXPECT_STATUS(YUREWHA_ARGUMENTS, yurewha_session_run_from(session, end, &first, &end, &range));
+    yurewha_subtree_free(&range);
+}
+
 /* Every second position, so that there are many runs, and then those between them. */
 static void runs(struct list *it)
 {
@@ -252,6 +265,7 @@ static void runs(struct list *it)
     yurewha_subtree wanted = range_of(it->chunks, first, first + 1, false, false);
     EXPECT(first == 2 * (runs - 1) && same_subtree(&range, &wanted));
     EXPECT_STATUS(YUREWHA_ARGUMENTS, yurewha_session_run(&session, runs, &first, &range));
+    walk(&session, runs);
     for (size_t i = 1; i < it->count; i += 2)
         put(&session, it, i, i + 1);
     check_whole(&session, it);

@@ -1,5 +1,28 @@
-/* The sizes of the types, where their members stand, and the numbers of the statuses and of the version. */
+/* The sizes of the types, where their members stand, the numbers and the texts of the statuses, and the version. */
 #include "harness.h"
+
+/* Each status has a text of its own, but for the two of a failed allocation; other numbers have one and the same. */
+static void status_texts(void)
+{
+    const char *const unknown = yurewha_status_text(7);
+    for (yurewha_status status = 0; status < 60; status++) {
+        const bool is_known = status <= YUREWHA_EMPTY_HANDLE || (status > YUREWHA_RULE && status <= YUREWHA_RULE + 13)
+            || (status >= YUREWHA_SESSION_OVERLAP && status <= YUREWHA_SESSION_GAP);
+        const char *const text = yurewha_status_text(status);
+        row("text of status %u: %s", status, text);
+        EXPECT(strlen(text) > 0 && (strcmp(text, unknown) != 0) == is_known);
+        for (yurewha_status other = 0; is_known && other < status; other++) {
+            const bool is_same = status == YUREWHA_SESSION_MEMORY && other == YUREWHA_MEMORY;
+            EXPECT((strcmp(text, yurewha_status_text(other)) == 0) == is_same);
+        }
+    }
+    char rule[8];
+    for (yurewha_status number = 1; number <= 13; number++) {
+        const int length = snprintf(rule, sizeof rule, "rule %u", number);
+        EXPECT(strncmp(yurewha_status_text(YUREWHA_RULE + number), rule, (size_t)length) == 0);
+    }
+    EXPECT(yurewha_status_text(UINT32_MAX) == unknown);
+}
 
 void test_layout(void)
 {
@@ -17,11 +40,8 @@ void test_layout(void)
         {"chunk's size", offsetof(yurewha_chunk, size), 32},
         {"level", sizeof(yurewha_level), 2 * sizeof(size_t)},
         {"level's right", offsetof(yurewha_level, right), sizeof(size_t)},
-        {"hasher", sizeof(yurewha_hasher), 1864},
-        {"hasher's chaining value", offsetof(yurewha_hasher, tree.chaining_value), 32},
-        {"hasher's stack", offsetof(yurewha_hasher, tree.cv_stack), 64},
-        {"hasher's block", offsetof(yurewha_hasher, block), 1792},
-        {"hasher's count", offsetof(yurewha_hasher, count), 1856},
+        {"hasher", sizeof(yurewha_hasher), 2048},
+        {"hasher's alignment", _Alignof(yurewha_hasher), 8},
         {"subtree", sizeof(yurewha_subtree), sizeof(void *)},
         {"session", sizeof(yurewha_session), sizeof(void *)},
         {"DONE", YUREWHA_DONE, 0},
@@ -43,4 +63,5 @@ void test_layout(void)
     row("version");
     snprintf(version, sizeof version, "%d.%d.%d", YUREWHA_VERSION_MAJOR, YUREWHA_VERSION_MINOR, YUREWHA_VERSION_PATCH);
     EXPECT(strcmp(version, YUREWHA_VERSION) == 0);
+    status_texts();
 }

@@ -46,6 +46,7 @@ struct world {
     struct room {
         yurewha_hash hash;
         uint64_t number;
+        uint64_t end;
         size_t count;
         size_t more;
     } room;
@@ -338,6 +339,14 @@ static yurewha_status no_run(struct world *w)
 {
     return yurewha_session_run(&w->session, runs_of(w), &w->room.number, &w->owned);
 }
+static yurewha_status run_from(struct world *w)
+{
+    return yurewha_session_run_from(&w->session, 36, &w->room.number, &w->room.end, &w->owned);
+}
+static yurewha_status no_run_from(struct world *w)
+{
+    return yurewha_session_run_from(&w->session, UINT64_MAX, &w->room.number, &w->room.end, &w->owned);
+}
 static yurewha_status copy_session(struct world *w) { return yurewha_session_copy(&w->session, &w->none); }
 static yurewha_status gap(struct world *w) { return yurewha_session_root(&w->session, 45, &w->room.hash); }
 
@@ -440,6 +449,8 @@ static const struct scenario {
     {"put past 64 bits", put_past, YUREWHA_SESSION_SIZES, YUREWHA_SESSION_MEMORY, false},
     {"run", run, YUREWHA_DONE, YUREWHA_MEMORY, false},
     {"run that isn't there", no_run, YUREWHA_ARGUMENTS, YUREWHA_ARGUMENTS, false},
+    {"run from a position", run_from, YUREWHA_DONE, YUREWHA_MEMORY, false},
+    {"run from past the last", no_run_from, YUREWHA_ARGUMENTS, YUREWHA_ARGUMENTS, false},
     {"copy of a session", copy_session, YUREWHA_DONE, YUREWHA_MEMORY, false},
     {"root", root, YUREWHA_DONE, YUREWHA_SESSION_MEMORY, true},
     {"root over a gap", gap, YUREWHA_SESSION_GAP, YUREWHA_SESSION_GAP, false},

@@ -55,6 +55,49 @@ static void run(yurewha_session *session, const struct call *it)
     yurewha_subtree_free(&wanted);
 }
 
+/* From each position of a run the run is found, and from its end another one or none. */
+static void run_from_each(yurewha_session *session, const struct call *it)
+{
+    const uint64_t count = strlen(it->said);
+    yurewha_chunk *chunks = digits_of(it->said);
+    yurewha_subtree wanted = range_of(chunks, 0, count, false, false), range = {0};
+    for (uint64_t i = 0; i < count; i++) {
+        uint64_t first = NEVER, end = NEVER;
+        EXPECT_STATUS(YUREWHA_DONE, yurewha_session_run_from(session, it->number + i, &first, &end, &range));
+        EXPECT(first == it->number && end == it->number + count);
+        EXPECT(same_subtree(&range, &wanted));
+    }
+    yurewha_subtree_free(&range);
+    yurewha_subtree_free(&wanted);
+    free(chunks);
+}
+
+/* From position 0, and then from each run's end, all runs are found; after the last one nothing is written. */
+static void walk(yurewha_session *session, size_t count)
+{
+    yurewha_subtree range = {0}, wanted = {0};
+    uint64_t first = NEVER, end = NEVER, begin = NEVER, position = 0;
+    for (size_t i = 0; i < count; i++, position = end) {
+        bool taken = false;
+        EXPECT_STATUS(YUREWHA_DONE, yurewha_session_run_from(session, position, &first, &end, &range));
+        EXPECT_STATUS(YUREWHA_DONE, yurewha_session_run(session, i, &begin, &wanted));
+        EXPECT(first == begin && first >= position && end > first && same_subtree(&range, &wanted));
+        EXPECT_STATUS(YUREWHA_DONE, yurewha_session_taken(session, end - 1, &taken));
+        EXPECT(taken);
+        EXPECT_STATUS(YUREWHA_DONE, yurewha_session_taken(session, end, &taken));
+        EXPECT(!taken);
+    }
+    first = end = NEVER;
+    const yurewha_chunk chunk = {{{7, 7, 7, 7}}, 7};
+    EXPECT_STATUS(YUREWHA_DONE, yurewha_subtree_from_chunks(true, &chunk, 1, true, &range));
+    EXPECT_STATUS(YUREWHA_DONE, yurewha_subtree_clone(&range, &wanted));
+    EXPECT_STATUS(YUREWHA_ARGUMENTS, yurewha_session_run_from(session, position, &first, &end, &range));
+    EXPECT_STATUS(YUREWHA_ARGUMENTS, yurewha_session_run_from(session, UINT64_MAX, &first, &end, &range));
+    EXPECT(first == NEVER && end == NEVER && same_subtree(&range, &wanted));
+    yurewha_subtree_free(&range);
+    yurewha_subtree_free(&wanted);
+}
+
 /* A copy is as the session, and a put into one leaves the other as it was. */
 static void copies(yurewha_session *session)
 {
@@ -96,11 +139,14 @@ static void make_call(yurewha_session *session, const struct call *it)
     case RUNS:
         EXPECT_STATUS(it->status, yurewha_session_num_runs(session, &count));
         EXPECT(count == it->number);
+        walk(session, count);
         break;
     case RUN:
         run(session, it);
-        if (it->status == YUREWHA_DONE)
+        if (it->status == YUREWHA_DONE) {
+            run_from_each(session, it);
             copies(session);
+        }
         break;
     default:
         EXPECT_STATUS(it->status, it->step == ROOT ? yurewha_session_root(session, it->argument, &hash)
@@ -155,6 +201,8 @@ static void calls(void)
         {PUT, UINT64_MAX - 1, "11", YUREWHA_SESSION_OVERLAP, 0},
         {TAKEN, UINT64_MAX - 1, NULL, YUREWHA_DONE, 1},
         {TAKEN, UINT64_MAX, NULL, YUREWHA_DONE, 0},
+        {RUN, 0, "1", YUREWHA_DONE, UINT64_MAX - 1},
+        {RUNS, 0, NULL, YUREWHA_DONE, 1},
         {END, 0, NULL, YUREWHA_DONE, 0},
         {PUT, 0, "X", YUREWHA_DONE, 1},
         {PUT, 5, "1", YUREWHA_SESSION_SIZES, 0},

@@ -41,6 +41,20 @@
 #include <stddef.h>
 #include <stdint.h>
 
+/* Attributes, if the compiler has them: the result must be used, and the arguments with these numbers may not be null. */
+#if (defined(__cplusplus) && __cplusplus >= 201703L) || (defined(__STDC_VERSION__) && __STDC_VERSION__ >= 202311L)
+#define YUREWHA_NODISCARD [[nodiscard]]
+#elif defined(__GNUC__)
+#define YUREWHA_NODISCARD __attribute__((warn_unused_result))
+#else
+#define YUREWHA_NODISCARD
+#endif
+#ifdef __GNUC__
+#define YUREWHA_NONNULL(...) __attribute__((nonnull(__VA_ARGS__)))
+#else
+#define YUREWHA_NONNULL(...)
+#endif
+
 #ifdef __cplusplus
 extern "C" {
 #endif
@@ -78,6 +92,65 @@ typedef uint32_t yurewha_status;
 #define YUREWHA_SESSION_MEMORY 36u    /* an allocation failed */
 #define YUREWHA_SESSION_GAP 37u       /* the taken positions aren't exactly those below the total */
 
+/* Returns what a status means, in English. The text ends with a 0 byte, and lasts as long as the program. */
+YUREWHA_NODISCARD
+static inline const char *yurewha_status_text(yurewha_status status)
+{
+    switch (status) {
+    case YUREWHA_DONE:
+        return "the call succeeded";
+    case YUREWHA_ARGUMENTS:
+        return "the arguments don't fit together, or the requested thing doesn't exist";
+    case YUREWHA_SIZES:
+        return "sizes or lengths add up to more than 2^64 - 1";
+    case YUREWHA_MEMORY:
+    case YUREWHA_SESSION_MEMORY:
+        return "out of memory";
+    case YUREWHA_TEXT:
+        return "a text doesn't have the expected form";
+    case YUREWHA_ROOM:
+        return "the room is too small";
+    case YUREWHA_EMPTY_HANDLE:
+        return "a handle is empty";
+    case YUREWHA_RULE + 1:
+        return "rule 1: the value isn't an object";
+    case YUREWHA_RULE + 2:
+        return "rule 2: the nodes or levels aren't an array, or a mark isn't a boolean";
+    case YUREWHA_RULE + 3:
+        return "rule 3: a node isn't a hash and a size";
+    case YUREWHA_RULE + 4:
+        return "rule 4: a level isn't two counts";
+    case YUREWHA_RULE + 5:
+        return "rule 5: there is no level";
+    case YUREWHA_RULE + 6:
+        return "rule 6: the counts don't add up to the number of nodes";
+    case YUREWHA_RULE + 7:
+        return "rule 7: the sizes add up to more than 2^64 - 1";
+    case YUREWHA_RULE + 8:
+        return "rule 8: there are right nodes at the top, or although the end is marked";
+    case YUREWHA_RULE + 9:
+        return "rule 9: there are left nodes below the top, although the start is marked";
+    case YUREWHA_RULE + 10:
+        return "rule 10: the top has several nodes, although both ends are marked";
+    case YUREWHA_RULE + 11:
+        return "rule 11: the top of several levels has no node";
+    case YUREWHA_RULE + 12:
+        return "rule 12: left nodes don't end at a first stable point";
+    case YUREWHA_RULE + 13:
+        return "rule 13: right nodes don't begin at a last stable point";
+    case YUREWHA_SESSION_OVERLAP:
+        return "a position is taken";
+    case YUREWHA_SESSION_POSITIONS:
+        return "the first position plus the number of chunks passes 2^64 - 1";
+    case YUREWHA_SESSION_SIZES:
+        return "the sizes of all chunks add up to more than 2^64 - 1";
+    case YUREWHA_SESSION_GAP:
+        return "the taken positions aren't exactly those below the total";
+    default:
+        return "no status of this library";
+    }
+}
+
 /* ---- Values */
 
 /* A hash: four words. Its 32 bytes are the words in order, each little-endian. The default hash is all zeros. */
@@ -102,16 +175,11 @@ typedef struct yurewha_level {
     size_t right;
 } yurewha_level;
 
-/* A streaming hasher of 1864 bytes, in the caller's own memory. Begin it before any other call. It holds no pointers and
- * allocates nothing. A copy of its bytes is a copy of the hasher, and there is nothing to free. */
+/* A streaming hasher of 2048 bytes, in the caller's own memory. Begin it before any other call. It holds no pointers and
+ * allocates nothing. A copy of its bytes is a copy of the hasher, and there is nothing to free. The member is private to the
+ * library. It uses the first 1864 bytes, and the other 184 are room for later versions. */
 typedef struct yurewha_hasher {
-    struct {
-        uint32_t key[8];
-        uint32_t chaining_value[8];
-        uint32_t cv_stack[54][8];
-    } tree;
-    uint8_t block[64];
-    uint64_t count;
+    uint64_t state[256];
 } yurewha_hasher;
 
 /* Handles. The rules for them are at the top. The member is private to the library. */
@@ -133,11 +201,13 @@ typedef struct yurewha_session {
  * The version of the header is YUREWHA_VERSION. Allocates nothing.
  *   DONE  it is written
  *   ROOM  the version is longer than `room`; nothing is written to `text`, and `length` is the needed length */
+YUREWHA_NODISCARD YUREWHA_NONNULL(3)
 yurewha_status yurewha_version(char *text, size_t room, size_t *length);
 
 /* ---- Hashes */
 
 /* Writes the hash of a chunk. `bytes` is its data. The hash is keyed BLAKE3 under the data key. Allocates nothing. */
+YUREWHA_NONNULL(3)
 void yurewha_data_hash(const uint8_t *bytes, size_t length, yurewha_hash *hash);
 
 /* Writes the hashes of `count` chunks, whose data is in one buffer. The data of chunk i starts at `offsets[i]` and ends
@@ -145,43 +215,53 @@ void yurewha_data_hash(const uint8_t *bytes, size_t length, yurewha_hash *hash);
  *   DONE       the hashes are written
  *   ARGUMENTS  if and only if `offset_count` isn't `count` + 1, an offset is less than the one before it, or an offset is
  *              greater than `length` */
+YUREWHA_NODISCARD
 yurewha_status yurewha_data_hashes(const uint8_t *bytes, size_t length, const size_t *offsets, size_t offset_count,
                                    yurewha_hash *hashes, size_t count);
 
 /* Writes the hash of an inner node of the tree. `bytes` is its text. The hash is keyed BLAKE3 under the internal key.
  * Allocates nothing. */
+YUREWHA_NONNULL(3)
 void yurewha_internal_node_hash(const uint8_t *bytes, size_t length, yurewha_hash *hash);
 
 /* Writes the keyed BLAKE3 hash of the bytes of `hash`, under the bytes of `key`. Allocates nothing. */
+YUREWHA_NONNULL(1, 2, 3)
 void yurewha_hmac(const yurewha_hash *hash, const yurewha_hash *key, yurewha_hash *result);
 
 /* Writes a pseudorandom hash, for tests. Its bytes are the first 32 of Xoshiro256++, seeded by SplitMix64 from `seed`. */
+YUREWHA_NONNULL(2)
 void yurewha_random_from_seed(uint64_t seed, yurewha_hash *hash);
 
 /* Writes the 32 bytes of a hash: its words in order, each little-endian on every machine. */
+YUREWHA_NONNULL(1, 2)
 void yurewha_hash_to_bytes(const yurewha_hash *hash, yurewha_bytes *bytes);
 
 /* Writes the hash that has these 32 bytes. */
+YUREWHA_NONNULL(1, 2)
 void yurewha_hash_from_bytes(const yurewha_bytes *bytes, yurewha_hash *hash);
 
 /* Compares the words of two hashes in order. This is also the order of their hex texts. Returns -1, 0 or 1 if the first
  * hash is less, equal or greater. */
+YUREWHA_NODISCARD YUREWHA_NONNULL(1, 2)
 int32_t yurewha_compare(const yurewha_hash *first, const yurewha_hash *second);
 
 /* Writes word 3 of a hash modulo a divisor.
  *   DONE       the divisor isn't 0
  *   ARGUMENTS  the divisor is 0 */
+YUREWHA_NODISCARD YUREWHA_NONNULL(1, 3)
 yurewha_status yurewha_remainder(const yurewha_hash *hash, uint64_t divisor, uint64_t *remainder);
 
 /* Writes the hex text of a hash to the beginning of `text`, which has room for `room` bytes. The text is 64 lower-case
  * digits. `length` always becomes 64.
  *   DONE  `room` is at least 64
  *   ROOM  `room` is less than 64; nothing is written to `text` */
+YUREWHA_NODISCARD YUREWHA_NONNULL(1, 4)
 yurewha_status yurewha_hex(const yurewha_hash *hash, char *text, size_t room, size_t *length);
 
 /* Writes the hash that has this hex text. Allocates nothing.
  *   DONE  the text is 64 hex digits, lower or upper case
  *   TEXT  the text is anything else */
+YUREWHA_NODISCARD YUREWHA_NONNULL(3)
 yurewha_status yurewha_from_hex(const char *text, size_t length, yurewha_hash *hash);
 
 /* Writes the base64 text of a hash to the beginning of `text`, which has room for `room` bytes. The text is 43 characters
@@ -189,31 +269,39 @@ yurewha_status yurewha_from_hex(const char *text, size_t length, yurewha_hash *h
  *   DONE    it is written
  *   ROOM    `room` is less than 43; nothing is written to `text`
  *   MEMORY  an allocation failed */
+YUREWHA_NODISCARD YUREWHA_NONNULL(1, 4)
 yurewha_status yurewha_base64(const yurewha_hash *hash, char *text, size_t room, size_t *length);
 
 /* Writes the hash that has this base64 text.
  *   DONE    the text is one that yurewha_base64 writes
  *   TEXT    it is any other text
  *   MEMORY  an allocation failed */
+YUREWHA_NODISCARD YUREWHA_NONNULL(3)
 yurewha_status yurewha_from_base64(const char *text, size_t length, yurewha_hash *hash);
 
 /* ---- The streaming hasher */
 
 /* Each begins a hasher of the empty message. Under the data key the hasher computes the same as yurewha_data_hash. Under
  * the internal key it computes the same as yurewha_internal_node_hash. The third takes any key of 32 bytes. */
+YUREWHA_NONNULL(1)
 void yurewha_hasher_begin_data(yurewha_hasher *hasher);
+YUREWHA_NONNULL(1)
 void yurewha_hasher_begin_internal(yurewha_hasher *hasher);
+YUREWHA_NONNULL(1, 2)
 void yurewha_hasher_begin_keyed(yurewha_hasher *hasher, const yurewha_bytes *key);
 
 /* Returns the length of the message in bytes. */
+YUREWHA_NODISCARD YUREWHA_NONNULL(1)
 uint64_t yurewha_hasher_count(const yurewha_hasher *hasher);
 
 /* Appends a piece to the message.
  *   DONE   the message now has at most 2^64 - 1 bytes
  *   SIZES  it would have more */
+YUREWHA_NODISCARD YUREWHA_NONNULL(1)
 yurewha_status yurewha_hasher_update(yurewha_hasher *hasher, const uint8_t *piece, size_t length);
 
 /* Writes the keyed hash of the message. The hasher is unchanged, so it can take more pieces, and be finalized again. */
+YUREWHA_NONNULL(1, 2)
 void yurewha_hasher_finalize(const yurewha_hasher *hasher, yurewha_hash *hash);
 
 /* ---- Roots */
@@ -223,11 +311,14 @@ void yurewha_hasher_finalize(const yurewha_hasher *hasher, yurewha_hash *hash);
  *   DONE    the root is written
  *   SIZES   if and only if the sizes add up to more than 2^64 - 1
  *   MEMORY  an allocation failed; never with one chunk or none */
+YUREWHA_NODISCARD YUREWHA_NONNULL(3)
 yurewha_status yurewha_xorb_hash(const yurewha_chunk *chunks, size_t count, yurewha_hash *root);
 
 /* Writes the file hash of a list of chunks. With no chunks it is the default hash. Otherwise it is the hmac of their root,
  * under the salt or, without one, under 32 zero bytes. The statuses are those of yurewha_xorb_hash. */
+YUREWHA_NODISCARD YUREWHA_NONNULL(3)
 yurewha_status yurewha_file_hash(const yurewha_chunk *chunks, size_t count, yurewha_hash *hash);
+YUREWHA_NODISCARD YUREWHA_NONNULL(3, 4)
 yurewha_status yurewha_file_hash_with_salt(const yurewha_chunk *chunks, size_t count, const yurewha_bytes *salt,
                                            yurewha_hash *hash);
 
@@ -236,7 +327,9 @@ yurewha_status yurewha_file_hash_with_salt(const yurewha_chunk *chunks, size_t c
  *   DONE       the point is written
  *   ARGUMENTS  there is none
  *   MEMORY     an allocation failed */
+YUREWHA_NODISCARD YUREWHA_NONNULL(3)
 yurewha_status yurewha_find_stable_start(const yurewha_chunk *nodes, size_t count, size_t *point);
+YUREWHA_NODISCARD YUREWHA_NONNULL(3)
 yurewha_status yurewha_find_stable_end(const yurewha_chunk *nodes, size_t count, size_t *point);
 
 /* ---- Subtrees: what is kept of a range of chunks, to merge it with its neighbours without the chunks */
@@ -246,6 +339,7 @@ yurewha_status yurewha_find_stable_end(const yurewha_chunk *nodes, size_t count,
  *   DONE    it is made
  *   SIZES   if and only if the sizes add up to more than 2^64 - 1
  *   MEMORY  an allocation failed */
+YUREWHA_NODISCARD YUREWHA_NONNULL(5)
 yurewha_status yurewha_subtree_from_chunks(bool at_start, const yurewha_chunk *chunks, size_t count, bool at_end,
                                            yurewha_subtree *subtree);
 
@@ -253,20 +347,26 @@ yurewha_status yurewha_subtree_from_chunks(bool at_start, const yurewha_chunk *c
  *   DONE          it is copied
  *   MEMORY        an allocation failed
  *   EMPTY_HANDLE  if and only if the first handle is empty */
+YUREWHA_NODISCARD YUREWHA_NONNULL(1, 2)
 yurewha_status yurewha_subtree_clone(yurewha_subtree *subtree, yurewha_subtree *copy);
 
 /* Writes whether two subtrees have the same marks, levels and nodes. Allocates nothing.
  *   DONE          it is written
  *   EMPTY_HANDLE  a handle is empty */
+YUREWHA_NODISCARD YUREWHA_NONNULL(1, 2, 3)
 yurewha_status yurewha_subtree_equal(yurewha_subtree *first, yurewha_subtree *second, bool *equal);
 
 /* These write the marks, the total size of the chunks in bytes, the number of kept nodes, and the number of levels. They
  * allocate nothing.
  *   DONE          it is written
  *   EMPTY_HANDLE  the handle is empty */
+YUREWHA_NODISCARD YUREWHA_NONNULL(1, 2, 3)
 yurewha_status yurewha_subtree_marks(yurewha_subtree *subtree, bool *at_start, bool *at_end);
+YUREWHA_NODISCARD YUREWHA_NONNULL(1, 2)
 yurewha_status yurewha_subtree_total_size(yurewha_subtree *subtree, uint64_t *size);
+YUREWHA_NODISCARD YUREWHA_NONNULL(1, 2)
 yurewha_status yurewha_subtree_num_nodes(yurewha_subtree *subtree, size_t *count);
+YUREWHA_NODISCARD YUREWHA_NONNULL(1, 2)
 yurewha_status yurewha_subtree_num_levels(yurewha_subtree *subtree, size_t *count);
 
 /* Merges `other`, the subtree of the range that follows, into `subtree`. `subtree` becomes the canonical subtree of the
@@ -276,10 +376,12 @@ yurewha_status yurewha_subtree_num_levels(yurewha_subtree *subtree, size_t *coun
  *   ARGUMENTS     if and only if neither handle is empty, and `subtree` is marked at its end or `other` at its start
  *   SIZES         if and only if neither of these applies, and the two sizes add up to more than 2^64 - 1
  *   MEMORY        an allocation failed */
+YUREWHA_NODISCARD YUREWHA_NONNULL(1, 2)
 yurewha_status yurewha_subtree_merge_into(yurewha_subtree *subtree, yurewha_subtree *other);
 
 /* Does the same, and writes how many parents were hashed for it, or UINT64_MAX if there were more. The
  * statuses are the same. */
+YUREWHA_NODISCARD YUREWHA_NONNULL(1, 2, 3)
 yurewha_status yurewha_subtree_merge_into_counted(yurewha_subtree *subtree, yurewha_subtree *other, uint64_t *parents);
 
 /* Merges the subtrees of adjacent ranges, in order, into one. `merged` owns it. With no ranges it is the empty subtree with
@@ -289,12 +391,14 @@ yurewha_status yurewha_subtree_merge_into_counted(yurewha_subtree *subtree, yure
  *   ARGUMENTS     a range other than the first is marked at its start, or one other than the last at its end
  *   SIZES         the sizes of all ranges add up to more than 2^64 - 1
  *   MEMORY        an allocation failed; this may be returned instead of the three above */
+YUREWHA_NODISCARD YUREWHA_NONNULL(3)
 yurewha_status yurewha_subtree_merge(yurewha_subtree *ranges, size_t count, yurewha_subtree *merged);
 
 /* Writes the root of the chunks. Both ends of the subtree must be marked. Allocates nothing.
  *   DONE          the root is written
  *   ARGUMENTS     an end isn't marked, so there is no root yet
  *   EMPTY_HANDLE  the handle is empty */
+YUREWHA_NODISCARD YUREWHA_NONNULL(1, 2)
 yurewha_status yurewha_subtree_final_hash(yurewha_subtree *subtree, yurewha_hash *hash);
 
 /* Writes a subtree as compact JSON text to the beginning of `text`, which has room for `room` bytes, and the length of the
@@ -303,6 +407,7 @@ yurewha_status yurewha_subtree_final_hash(yurewha_subtree *subtree, yurewha_hash
  *   ROOM          the JSON text is longer than `room`; nothing is written to `text`, and `length` is the needed length
  *   MEMORY        an allocation failed
  *   EMPTY_HANDLE  if and only if the handle is empty */
+YUREWHA_NODISCARD YUREWHA_NONNULL(1, 4)
 yurewha_status yurewha_subtree_to_json(yurewha_subtree *subtree, char *text, size_t room, size_t *length);
 
 /* Reads a subtree from JSON text. The handle owns it. The value is an object with these members: `at_start` and `at_end`,
@@ -326,6 +431,7 @@ yurewha_status yurewha_subtree_to_json(yurewha_subtree *subtree, char *text, siz
  *                12  without `at_start`, left nodes below the top end like the nodes before a first stable point
  *                13  without `at_end`, right nodes below the top begin like the nodes after a last stable point
  *   MEMORY       an allocation failed; this may be returned instead of TEXT or a rule */
+YUREWHA_NODISCARD YUREWHA_NONNULL(3)
 yurewha_status yurewha_subtree_from_json(const char *text, size_t length, yurewha_subtree *subtree);
 
 /* Writes a subtree as flat lists. `levels` gets the number of left and right nodes of each level, from the chunks up.
@@ -335,6 +441,7 @@ yurewha_status yurewha_subtree_from_json(const char *text, size_t length, yurewh
  *   DONE          the lists are written
  *   ROOM          a list is longer than its room; nothing is written to either, and the counts are the needed lengths
  *   EMPTY_HANDLE  if and only if the handle is empty */
+YUREWHA_NODISCARD YUREWHA_NONNULL(1, 6, 7)
 yurewha_status yurewha_subtree_to_flat(yurewha_subtree *subtree, yurewha_level *levels, size_t level_room,
                                        yurewha_chunk *nodes, size_t node_room, size_t *level_count, size_t *node_count);
 
@@ -342,11 +449,13 @@ yurewha_status yurewha_subtree_to_flat(yurewha_subtree *subtree, yurewha_level *
  *   DONE         it is made
  *   RULE + rule  they break this rule, from 5 to 13 of yurewha_subtree_from_json, and none of these with a lower number
  *   MEMORY       an allocation failed; this may be returned instead of a rule */
+YUREWHA_NODISCARD YUREWHA_NONNULL(7)
 yurewha_status yurewha_subtree_from_flat(bool at_start, const yurewha_level *levels, size_t level_count,
                                          const yurewha_chunk *nodes, size_t node_count, bool at_end,
                                          yurewha_subtree *subtree);
 
 /* Frees what the handle owns, and leaves it empty. */
+YUREWHA_NONNULL(1)
 void yurewha_subtree_free(yurewha_subtree *subtree);
 
 /* ---- Sessions: chunks by their positions, which come in any order */
@@ -354,6 +463,7 @@ void yurewha_subtree_free(yurewha_subtree *subtree);
 /* Makes a session without chunks. The handle owns it.
  *   DONE    it is made
  *   MEMORY  an allocation failed */
+YUREWHA_NODISCARD YUREWHA_NONNULL(1)
 yurewha_status yurewha_session_new(yurewha_session *session);
 
 /* Puts chunks at the positions from `first` on. Writes how many of their hashes no earlier successful put had, and counts
@@ -364,17 +474,20 @@ yurewha_status yurewha_session_new(yurewha_session *session);
  *   SESSION_POSITIONS  otherwise, `first` plus the number of chunks is more than 2^64 - 1
  *   SESSION_SIZES      otherwise, the sizes of all chunks add up to more than 2^64 - 1
  *   SESSION_MEMORY     an allocation failed; this may be returned instead of the three above */
+YUREWHA_NODISCARD YUREWHA_NONNULL(1, 5)
 yurewha_status yurewha_session_put(yurewha_session *session, uint64_t first, const yurewha_chunk *chunks, size_t count,
                                    uint64_t *new_hashes);
 
 /* Writes whether a position is taken. Allocates nothing.
  *   DONE          it is written
  *   EMPTY_HANDLE  the handle is empty */
+YUREWHA_NODISCARD YUREWHA_NONNULL(1, 3)
 yurewha_status yurewha_session_taken(yurewha_session *session, uint64_t position, bool *taken);
 
 /* Writes the number of runs of adjacent taken positions. Allocates nothing.
  *   DONE          it is written
  *   EMPTY_HANDLE  the handle is empty */
+YUREWHA_NODISCARD YUREWHA_NONNULL(1, 2)
 yurewha_status yurewha_session_num_runs(yurewha_session *session, size_t *count);
 
 /* Writes the first position of a run, and a copy of the subtree of its chunks. The subtree is open at both ends, and
@@ -383,23 +496,39 @@ yurewha_status yurewha_session_num_runs(yurewha_session *session, size_t *count)
  *   EMPTY_HANDLE  if and only if the handle of the session is empty
  *   ARGUMENTS     if and only if there is a session, and it has no such run
  *   MEMORY        an allocation failed */
+YUREWHA_NODISCARD YUREWHA_NONNULL(1, 3, 4)
 yurewha_status yurewha_session_run(yurewha_session *session, size_t index, uint64_t *first, yurewha_subtree *range);
+
+/* Writes the first run that ends after a position: the run that holds it or else the next one. `first` gets the run's first
+ * position, and `end` the position after its last one. `range` owns a copy of the subtree of its chunks, which is open at
+ * both ends. To go through all runs, begin at position 0 and go on at each run's end. Finding a run takes logarithmic time.
+ *   DONE          they are written
+ *   EMPTY_HANDLE  if and only if the handle of the session is empty
+ *   ARGUMENTS     if and only if there is a session, and no run ends after the position
+ *   MEMORY        an allocation failed */
+YUREWHA_NODISCARD YUREWHA_NONNULL(1, 3, 4, 5)
+yurewha_status yurewha_session_run_from(yurewha_session *session, uint64_t position, uint64_t *first, uint64_t *end,
+                                        yurewha_subtree *range);
 
 /* Write the root, or the file hash without a salt, of all chunks in the order of their positions. The session is unchanged.
  *   DONE            the hash is written
  *   EMPTY_HANDLE    if and only if the handle is empty
  *   SESSION_GAP     if and only if the taken positions aren't exactly those from 0 to `total` - 1
  *   SESSION_MEMORY  an allocation failed */
+YUREWHA_NODISCARD YUREWHA_NONNULL(1, 3)
 yurewha_status yurewha_session_root(yurewha_session *session, uint64_t total, yurewha_hash *root);
+YUREWHA_NODISCARD YUREWHA_NONNULL(1, 3)
 yurewha_status yurewha_session_finish(yurewha_session *session, uint64_t total, yurewha_hash *hash);
 
 /* Copies a session. The second handle owns the copy. The first session is unchanged, and the two are independent.
  *   DONE          it is copied
  *   MEMORY        an allocation failed
  *   EMPTY_HANDLE  if and only if the first handle is empty */
+YUREWHA_NODISCARD YUREWHA_NONNULL(1, 2)
 yurewha_status yurewha_session_copy(yurewha_session *session, yurewha_session *copy);
 
 /* Frees what the handle owns, and leaves it empty. */
+YUREWHA_NONNULL(1)
 void yurewha_session_free(yurewha_session *session);
 
 #ifdef __cplusplus

@@ -102,8 +102,8 @@ def test_bytes_that_do_not_lie_one_after_the_other():
 
 def test_each_buffer_is_given_back():
     """A `bytearray` can't grow while somebody has its place."""
-    full = y.Hasher()
-    full._state.count = 2**64 - 1
+    full = y.Hasher(bytes(12345))
+    full._state.state[list(full._state.state).index(12345)] = 2**64 - 1
     for length in (10, 3000, MIB + 1):
         for promised in (False, True):
             block = bytearray(length)

@@ -44,8 +44,9 @@ def freed_session():
 
 
 def full_hasher():
-    hasher = y.Hasher(b"abc")
-    hasher._state.count = MAX
+    """No test can add 2^64 bytes, so the word that is the length of the message is written by hand."""
+    hasher = y.Hasher(bytes(12345))
+    hasher._state.state[list(hasher._state.state).index(12345)] = MAX
     return hasher
 
 

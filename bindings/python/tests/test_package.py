@@ -70,7 +70,7 @@ def test_the_structs_are_those_of_the_header(tmp_path):
     lines = []
     members = {
         "yurewha_hash": ["words"], "yurewha_bytes": ["bytes"], "yurewha_chunk": ["hash", "size"],
-        "yurewha_level": ["left", "right"], "yurewha_hasher": ["tree", "block", "count"], "yurewha_subtree": ["at"],
+        "yurewha_level": ["left", "right"], "yurewha_hasher": ["state"], "yurewha_subtree": ["at"],
         "yurewha_session": ["at"],
     }
     expected = []

@@ -292,15 +292,15 @@ def test_runs_while_a_handler_joins_some(monkeypatch):
         session.put(2 * place, chunks[place:place + 1])
     looked = []
 
-    def look(self, at, plain=y.Session.run):
-        found = plain(self, at)
-        looked.append(at)
-        if len(looked) == 1:
-            signal.raise_signal(signal.SIGUSR1)
-        return found
+    def look(self, plain=y.Session._walk):
+        for found in plain(self):
+            looked.append(found)
+            if len(looked) == 1:
+                signal.raise_signal(signal.SIGUSR1)
+            yield found
 
     with handled(signal.SIGUSR1, lambda number, frame: session.put(1, chunks[:1])):
-        monkeypatch.setattr(y.Session, "run", look)
+        monkeypatch.setattr(y.Session, "_walk", look)
         runs = session.runs()
         monkeypatch.undo()
     assert [first for first, _ in runs] == [0, 4] and runs == session.runs()

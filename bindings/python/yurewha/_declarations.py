@@ -73,6 +73,9 @@ DECLARATIONS: Dict[str, Declaration] = {
     "yurewha_session_num_runs": ("yurewha_status", ("yurewha_session *", "size_t *")),
     "yurewha_session_run": (
         "yurewha_status", ("yurewha_session *", "size_t", "uint64_t *", "yurewha_subtree *")),
+    "yurewha_session_run_from": (
+        "yurewha_status",
+        ("yurewha_session *", "uint64_t", "uint64_t *", "uint64_t *", "yurewha_subtree *")),
     "yurewha_session_root": ("yurewha_status", ("yurewha_session *", "uint64_t", "yurewha_hash *")),
     "yurewha_session_finish": ("yurewha_status", ("yurewha_session *", "uint64_t", "yurewha_hash *")),
     "yurewha_session_copy": ("yurewha_status", ("yurewha_session *", "yurewha_session *")),
@@ -108,7 +111,7 @@ STRUCTS: Dict[str, int] = {
     "yurewha_bytes": 32,
     "yurewha_chunk": 40,
     "yurewha_level": 16,
-    "yurewha_hasher": 1864,
+    "yurewha_hasher": 2048,
     "yurewha_subtree": 8,
     "yurewha_session": 8,
 }

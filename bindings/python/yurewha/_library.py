@@ -45,16 +45,8 @@ class CLevel(ctypes.Structure):
     _fields_ = [("left", ctypes.c_size_t), ("right", ctypes.c_size_t)]
 
 
-class CTree(ctypes.Structure):
-    _fields_ = [
-        ("key", ctypes.c_uint32 * 8),
-        ("chaining_value", ctypes.c_uint32 * 8),
-        ("cv_stack", (ctypes.c_uint32 * 8) * 54),
-    ]
-
-
 class CHasher(ctypes.Structure):
-    _fields_ = [("tree", CTree), ("block", ctypes.c_uint8 * 64), ("count", ctypes.c_uint64)]
+    _fields_ = [("state", ctypes.c_uint64 * 256)]
 
 
 class CSubtree(ctypes.Structure):

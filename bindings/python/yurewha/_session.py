@@ -7,7 +7,7 @@ from typing import Iterator, List, NoReturn, Tuple, final
 
 from ._chunks import Chunks, ChunksLike
 from ._declarations import STATUSES
-from ._errors import InvalidArguments, SessionOverlap, YurewhaError, error_of
+from ._errors import SessionOverlap, YurewhaError, error_of
 from ._guard import Guarded
 from ._hash import Hash, checked_u64
 from ._library import LONG_CHUNKS, CChunk, CHash, CSession, calls_for, long, short
@@ -132,8 +132,6 @@ class Session(Guarded):
     def runs(self) -> List[Tuple[int, Subtree]]:
         """Returns all runs by rising position, each as its first position and its subtree.
 
-        The time is proportional to the square of their number.
-
         >>> session = Session(); _ = session.put(3, [(Hash(), 1)]), session.put(5, [(Hash(), 1)])
         >>> [first for first, _ in session.runs()]
         [3, 5]
@@ -141,12 +139,21 @@ class Session(Guarded):
         with self._locked():
             while True:
                 puts = self._puts
-                try:
-                    runs = [self.run(number) for number in range(self.num_runs)]
-                except InvalidArguments:
-                    runs = []  # a handler made one run of two
+                runs = list(self._walk())
                 if puts == self._puts:
                     return runs
+
+    def _walk(self) -> Iterator[Tuple[int, Subtree]]:
+        """Yields each run: the first that ends after the one before it. The lock must be held."""
+        first, end = ctypes.c_uint64(), ctypes.c_uint64()
+        while True:
+            subtree = Subtree._empty()
+            status = short.yurewha_session_run_from(self._handle, end, first, end, subtree._handle)
+            if status == STATUSES["YUREWHA_ARGUMENTS"]:
+                return
+            if status:
+                raise error_of(status)
+            yield first.value, subtree
 
     def __iter__(self) -> Iterator[Tuple[int, Subtree]]:
         """Iterates over the runs at the time of the call, as `runs` returns them.

@@ -54,31 +54,13 @@ pub struct yurewha_level {
 
 #[repr(C)]
 #[derive(Clone, Copy)]
-pub struct yurewha_hasher_tree {
-    pub key: [u32; 8],
-    pub chaining_value: [u32; 8],
-    pub cv_stack: [[u32; 8]; 54],
-}
-
-#[repr(C)]
-#[derive(Clone, Copy)]
 pub struct yurewha_hasher {
-    pub tree: yurewha_hasher_tree,
-    pub block: [u8; 64],
-    pub count: u64,
+    pub state: [u64; 256],
 }
 
 impl yurewha_hasher {
     // Room for a hasher. It must be begun before use.
-    pub const ROOM: Self = yurewha_hasher {
-        tree: yurewha_hasher_tree {
-            key: [0; 8],
-            chaining_value: [0; 8],
-            cv_stack: [[0; 8]; 54],
-        },
-        block: [0; 64],
-        count: 0,
-    };
+    pub const ROOM: Self = yurewha_hasher { state: [0; 256] };
 }
 
 #[repr(C)]
@@ -114,8 +96,7 @@ const _: () = {
     assert_layout::<yurewha_bytes>(32, 1);
     assert_layout::<yurewha_chunk>(40, 8);
     assert_layout::<yurewha_level>(2 * size_of::<usize>(), align_of::<usize>());
-    assert_layout::<yurewha_hasher_tree>(1792, 4);
-    assert_layout::<yurewha_hasher>(1864, 8);
+    assert_layout::<yurewha_hasher>(2048, 8);
     assert_layout::<yurewha_subtree>(size_of::<usize>(), align_of::<usize>());
     assert_layout::<yurewha_session>(size_of::<usize>(), align_of::<usize>());
 };
@@ -241,6 +222,13 @@ extern "C" {
         session: *mut yurewha_session,
         index: usize,
         first: *mut u64,
+        range: *mut yurewha_subtree,
+    ) -> yurewha_status;
+    pub fn yurewha_session_run_from(
+        session: *mut yurewha_session,
+        position: u64,
+        first: *mut u64,
+        end: *mut u64,
         range: *mut yurewha_subtree,
     ) -> yurewha_status;
     pub fn yurewha_session_root(session: *mut yurewha_session, total: u64, root: *mut yurewha_hash) -> yurewha_status;

@@ -228,6 +228,7 @@ fn sessions_are_refused() {
         }
     }
     assert_each_refusal(NO_MEMORY, || session.try_range(0));
+    assert_each_refusal(NO_MEMORY, || session.try_run_from(59));
     assert_each_refusal(NO_MEMORY, || session.try_clone());
     assert_each_refusal(NO_MEMORY, || session.gaps(60));
     assert_each_refusal(SessionFault::Memory, || session.root(60));
@@ -314,6 +315,7 @@ fn calls_without_a_result_name_call_and_cause_in_a_panic() {
     assert_eq!(panic_of(|| drop(Session::new())), "Session::new: out of memory");
     assert_eq!(panic_of(|| drop(Session::default())), "Session::new: out of memory");
     assert_eq!(panic_of(|| session.range(0)), "Session::range: out of memory");
+    assert_eq!(panic_of(|| session.run_from(0)), "Session::run_from: out of memory");
     assert_eq!(panic_of(|| session.clone()), "Session::clone: out of memory");
 }
 

@@ -6,7 +6,7 @@ import { HASH_LENGTH, thirtyTwo } from "./hash.js";
 import { AREA } from "./library.js";
 
 /** The size of `yurewha_hasher`, which holds no pointers: a copy of its bytes is a copy of the hasher. */
-const STATE_LENGTH = 1864;
+const STATE_LENGTH = 2048;
 const PIECE = AREA / 2;
 
 /** The class `Hasher`, whose state is a copy in JavaScript's memory, so that there is nothing to free. */

@@ -56,8 +56,19 @@ export function makeSession(library, { result }, { packedOf }, { owned }) {
             });
         }
 
+        // Each run is the first that ends after the one before it.
         runs() {
-            return Array.from({ length: this.numRuns }, (_, place) => this.run(place));
+            const { pointer } = this.#handle;
+            let position = 0n;
+            return Array.from({ length: this.numRuns }, () =>
+                library.over([8, 8], (first, end) => {
+                    const subtree = owned((made) => {
+                        check(library.call("yurewha_session_run_from", pointer, position, first, end, made));
+                    });
+                    position = library.u64(end);
+                    return [library.u64(first), subtree];
+                }),
+            );
         }
 
         root(total) {

@@ -1,12 +1,12 @@
 -- Sessions over subtrees that keep all hashes, as handles own them.
-use Rattle.std.specs.Prelude.{◌≡◌, ◌⊎◌, ◌↔◌, ℕ, Option, None, List, is_some, IfSome, IsSomeAnd}
+use Rattle.std.specs.Prelude.{◌≡◌, ◌⊎◌, ◌↔◌, ℕ, Option, None, List, find, is_some, IfSome, IsSomeAnd}
 use Rattle.std.specs.declared.alloc.Global.{Global}
 use Rattle.xet_hash.specs.FiniteMap.{value_at}
 use Rattle.xet_merkle.specs.Levels.{levels_size}
 use Rattle.xet_merkle.specs.Subtree.{Subtree, IsCanonical}
 use Rattle.xet_merkle.specs.declared.chunk_range.ChunkRange as chunk_range
 use Rattle.upload_session.specs.Hashes.{Hash, hash_eq, is_among, AreNew}
-use Rattle.upload_session.specs.Session.{Placed, IsWhole, SessionStands}
+use Rattle.upload_session.specs.Session.{Placed, PlacedRun, ends_after, IsWhole, SessionStands}
 use Rattle.yurewha_c.specs.Statuses.{done, empty_handle, session_memory, session_gap}
 use Rattle.yurewha_c.specs.declared.kept_session.KeptSession.{KeptSession}
 
@@ -26,6 +26,10 @@ Stands kept placed =
       knows = λ seen known. (hash : Hash) → is_some (value_at hash_eq seen.hashes hash) ≡ is_among known hash;
       tells = AreNew;
     }) kept.session placed
+
+-- the first run of a session that ends after a position
+abbrev pub run_from : KeptSession → ℕ → Option (PlacedRun Subtree)
+run_from kept position = find (ends_after position) kept.session.runs
 
 -- the status of a call on all chunks of a session, which must have exactly the positions below a total
 pub record IsWholeStatus (session : Option KeptSession) (total status : ℕ) : Type 0 where

@@ -1,8 +1,11 @@
 //! The runs of a session.
 
-ghost use Rattle.std.specs.Prelude.{◌≡◌, ◌≢◌, ◌⊎◌, ◌↔◌, None, Some, IfErr, IfOk, IsSomeAnd, length, slice_get};
-ghost use Rattle.yurewha_c.specs.Handles.{Reads};
+ghost use Rattle.std.specs.Prelude.{◌≡◌, ◌≢◌, ◌⊎◌, ◌↔◌, None, Some, IfErr, IfOk, IfSome, IsSomeAnd, List, length, slice_get};
+ghost use Rattle.upload_session.specs.Session.{Placed};
+ghost use Rattle.yurewha_c.specs.Handles.{BothHold, Reads};
+ghost use Rattle.yurewha_c.specs.Sessions.{Stands, run_from};
 
+use crate::kept_session::KeptSession;
 use crate::session_handle::SessionHandle;
 use crate::status::{ARGUMENTS, DONE, EMPTY_HANDLE, MEMORY, status_of};
 use crate::subtree_handle::SubtreeHandle;
@@ -83,6 +86,67 @@ pub extern "C" fn yurewha_session_run(
             let status = range.hold(alloc, copy);
             if status == DONE {
                 *first = position;
+            }
+            status
+        }
+        Err(status) => status,
+    }
+}
+
+// The first run that ends after a position, with a copy of its range, or the status that says why not.
+fn copied_run_from(kept: &KeptSession, position: u64) -> Result<(u64, u64, MerkleHashSubtree), u32>
+    ensures copied { IfOk result (λ copied. (placed : List Placed) → Stands kept.now placed →
+        run_from kept.now position ≡ Some (copied.0, record { end = copied.1; range = copied.2 })) }
+    ensures refused { IfErr result (λ status. (placed : List Placed) → Stands kept.now placed →
+        ((status ≡ ARGUMENTS) × (run_from kept.now position ≡ None))
+        ⊎ ((status ≡ MEMORY) × (run_from kept.now position ≢ None))) }
+    ensures statuses { IfErr result (λ status. (status ≡ ARGUMENTS) ⊎ (status ≡ MEMORY)) }
+{
+    let Some((first, end, range)) = kept.session.run_from(position) else {
+        return Err(ARGUMENTS);
+    };
+    match range.try_clone() {
+        Ok(copy) => Ok((first, end, copy)),
+        Err(error) => Err(status_of(error)),
+    }
+}
+
+/// Writes the first position of the first run of adjacent positions that ends after a position, and the position after its
+/// last one, and puts a copy of the subtree of its chunks, which is open at both ends, into a handle. The run holds the
+/// position or else is the next one. From position 0 on, and then from each run's end, it gives all runs.
+///
+/// Status `DONE`; `EMPTY_HANDLE` where the session's handle is empty; `ARGUMENTS` where each run ends before; `MEMORY` where
+/// an allocation is refused. Nothing has changed where it isn't `DONE`. The session stays as it is.
+#[unsafe(no_mangle)]
+pub extern "C" fn yurewha_session_run_from(
+    alloc: Global,
+    session: &mut SessionHandle,
+    position: u64,
+    first: &mut u64,
+    end: &mut u64,
+    range: &mut SubtreeHandle,
+) -> u32
+    ensures run { result ≡ DONE → BothHold session.old.value range.new.value (λ kept range. (placed : List Placed) →
+        Stands kept placed → run_from kept position ≡ Some (first.new, record { end = end.new; range = range })) }
+    ensures arguments { IfSome session.old.value (λ kept. (placed : List Placed) → Stands kept placed →
+        ((result ≡ ARGUMENTS) ↔ (run_from kept position ≡ None))) }
+    ensures empty { (result ≡ EMPTY_HANDLE) ↔ (session.old.value ≡ None) }
+    ensures statuses { (result ≡ DONE) ⊎ ((result ≡ EMPTY_HANDLE) ⊎ ((result ≡ ARGUMENTS) ⊎ (result ≡ MEMORY))) }
+    ensures kept { session.new.value ≡ session.old.value }
+    ensures unchanged { result ≢ DONE → (first.new ≡ first.old) × (end.new ≡ end.old)
+        × (range.new.value ≡ range.old.value) }
+{
+    let Some(kept) = session.take(alloc) else {
+        return EMPTY_HANDLE;
+    };
+    let copied = copied_run_from(&kept, position);
+    session.put(kept);
+    match copied {
+        Ok((from, to, copy)) => {
+            let status = range.hold(alloc, copy);
+            if status == DONE {
+                *first = from;
+                *end = to;
             }
             status
         }

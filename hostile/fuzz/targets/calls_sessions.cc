@@ -192,11 +192,16 @@ void Sessions::compare_all()
         if (!kept[which])
             continue;
         const Runs runs = runs_of(*kept[which]);
+        uint64_t position = 0;
         for (size_t i = 0; i < runs.size(); i++) {
-            Out<uint64_t> first;
+            Out<uint64_t> first, start, end;
             yurewha_subtree range = {};
             is_done(YUREWHA_DONE, YUREWHA_MEMORY, [&] { return yurewha_session_run(&handles[which], i, &first, &range); });
             EXPECT(*first == runs[i].first);
+            is_done(YUREWHA_DONE, YUREWHA_MEMORY,
+                    [&] { return yurewha_session_run_from(&handles[which], position, &start, &end, &range); });
+            EXPECT(*start == *first && *end == *first + runs[i].second.size());
+            position = *end;
             const second::Subtree wanted = second::canonical(runs[i].second, false, false);
             Out<size_t> levels, nodes;
             EXPECT(yurewha_subtree_num_levels(&range, &levels) == YUREWHA_DONE && *levels == wanted.levels.size());

@@ -237,7 +237,10 @@ mod tests {
     #[test]
     fn a_message_past_the_greatest_length_is_refused_and_left_as_it_was() {
         let mut hasher = Hasher::new_data();
-        hasher.state.count = u64::MAX - 5;
+        // The word of the state that is the length of the message.
+        let of_message = hasher.clone().update(&[0; 12345]).state.state;
+        let count = of_message.iter().position(|&word| word == 12345).unwrap();
+        hasher.state.state[count] = u64::MAX - 5;
         assert!(hasher.has_room(5) && !hasher.has_room(6));
         assert_eq!(hasher.try_update(&[0; 6]).err(), Some(CoreError::SizeOverflow));
         assert_eq!(hasher.write(&[0; 6]).unwrap_err().kind(), ErrorKind::InvalidInput);

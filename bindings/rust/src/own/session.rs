@@ -223,7 +223,7 @@ impl Session {
     /// Returns the first position of a run, and a copy of the subtree of its chunks, which is open at both ends.
     ///
     /// Runs are numbered from 0, by rising position. The result is `None` if there is no such run. The time is
-    /// proportional to the index.
+    /// proportional to the index; see [`run_from`](Self::run_from).
     ///
     /// ```
     /// use yurewha::merklehash::MerkleHash;
@@ -261,8 +261,51 @@ impl Session {
         Ok(run.map(|(first, range)| (first, MerkleHashSubtree::of(range))))
     }
 
-    /// Returns all runs by rising position, each as [`range`](Self::range) returns it. The time to iterate over all
-    /// of them is proportional to the square of their number.
+    /// Returns the first run that ends after a position: the run that holds it or else the next one. The result is
+    /// its positions, and a copy of the subtree of its chunks, which is open at both ends. Finding a run takes
+    /// logarithmic time.
+    ///
+    /// The result is `None` if no run ends after the position.
+    ///
+    /// ```
+    /// use yurewha::merklehash::MerkleHash;
+    /// use yurewha::own::Session;
+    ///
+    /// let mut session = Session::new();
+    /// session.put(7, &[(MerkleHash::default(), 100); 2])?;
+    /// for position in [0, 7, 8] {
+    ///     let (positions, range) = session.run_from(position).unwrap();
+    ///     assert_eq!((positions, range.total_size()), (7..9, 200));
+    /// }
+    /// assert!(session.run_from(9).is_none());
+    /// # Ok::<(), yurewha::own::SessionFault>(())
+    /// ```
+    ///
+    /// # Panics
+    ///
+    /// If an allocation fails; see [`try_run_from`](Self::try_run_from).
+    #[track_caller]
+    pub fn run_from(&self, position: u64) -> Option<(Range<u64>, MerkleHashSubtree)> {
+        plain("Session::run_from", self.try_run_from(position))
+    }
+
+    /// Does the same as [`run_from`](Self::run_from), but returns an error if an allocation fails.
+    ///
+    /// ```
+    /// use yurewha::own::Session;
+    ///
+    /// assert!(Session::new().try_run_from(0)?.is_none());
+    /// # Ok::<(), yurewha::error::CoreError>(())
+    /// ```
+    pub fn try_run_from(&self, position: u64) -> Result<Option<(Range<u64>, MerkleHashSubtree)>> {
+        // SAFETY: a handle, two numbers to write to, and an empty handle to write to.
+        let run = looked_up(|(Range { start, end }, range): &mut (Range<u64>, Owned<_>)| unsafe {
+            ffi::yurewha_session_run_from(&mut *self.lock(), position, start, end, range.get_mut())
+        })?;
+        Ok(run.map(|(positions, range)| (positions, MerkleHashSubtree::of(range))))
+    }
+
+    /// Returns all runs by rising position, each as [`range`](Self::range) returns it.
     ///
     /// ```
     /// use yurewha::merklehash::MerkleHash;
@@ -281,11 +324,15 @@ impl Session {
     ///
     /// If an allocation fails.
     pub fn runs(&self) -> impl ExactSizeIterator<Item = (u64, MerkleHashSubtree)> + '_ {
-        (0..self.num_runs()).map(|index| self.range(index).expect("a run that was counted"))
+        let mut position = 0;
+        (0..self.num_runs()).map(move |_| {
+            let (positions, range) = self.run_from(position).expect("a run that was counted");
+            position = positions.end;
+            (positions.start, range)
+        })
     }
 
-    /// Returns the ranges of positions below `total` that aren't taken, by rising position. The time is proportional to
-    /// the square of the number of runs, because the library finds a run only by its index.
+    /// Returns the ranges of positions below `total` that aren't taken, by rising position.
     ///
     /// ```
     /// use yurewha::merklehash::MerkleHash;
@@ -304,30 +351,18 @@ impl Session {
     /// [`OutOfMemory`](crate::error::CoreError::OutOfMemory) if an allocation fails
     pub fn gaps(&self, total: u64) -> Result<Vec<Range<u64>>> {
         let mut gaps = room(self.num_runs() + 1)?;
-        let mut run_before = None;
-        for index in 0..=self.num_runs() {
-            let next = self.try_range(index)?.map_or(total, |(first, _)| first.min(total));
-            let begin = run_before.map_or(0, |first| self.end_of_run(first, next));
-            if begin < next {
-                gaps.push(begin..next);
+        let mut position = 0;
+        while position < total {
+            let next = self
+                .try_run_from(position)?
+                .map_or(total..total, |(positions, _)| positions);
+            let end = next.start.min(total);
+            if position < end {
+                gaps.push(position..end);
             }
-            run_before = Some(next);
+            position = next.end;
         }
         Ok(gaps)
-    }
-
-    // The end of the run that begins at `first`, at most `bound`. No other run begins between them.
-    fn end_of_run(&self, first: u64, bound: u64) -> u64 {
-        let (mut taken, mut free) = (first, bound);
-        while free - taken > 1 {
-            let middle = taken + (free - taken) / 2;
-            if self.taken(middle) {
-                taken = middle;
-            } else {
-                free = middle;
-            }
-        }
-        free
     }
 
     /// Returns the root of all chunks by position.

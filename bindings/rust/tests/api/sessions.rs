@@ -79,6 +79,17 @@ fn runs_are_told_by_rising_position() {
     assert_eq!(session.num_runs(), 2);
     assert_eq!(session.try_range(1), Ok(Some(runs[1].clone())));
     assert_eq!(session.try_range(2), Ok(None));
+    let from = |position| {
+        session
+            .run_from(position)
+            .map(|(positions, range)| (positions.start, positions.end, range))
+    };
+    for position in 0..10 {
+        let (end, it) = if position < 2 { (2, 0) } else { (12, 1) };
+        assert_eq!(from(position), Some((runs[it].0, end, runs[it].1.clone())));
+    }
+    assert_eq!([10, 11].map(|position| from(position).unwrap().1), [12; 2]);
+    assert_eq!([12, u64::MAX].map(from), [None, None]);
     assert_eq!(
         [0, 1, 2, 9, 10, 11, 12].map(|i| session.taken(i)),
         [true, true, false, false, true, true, false]
@@ -147,6 +158,7 @@ fn gaps_are_the_positions_that_are_not_taken() {
     session.put(9, &[chunk]).unwrap();
     let last = u64::MAX - 1;
     assert_eq!(gaps(&session, u64::MAX), format!("[0..5, 8..9, 10..{last}]"));
+    assert_eq!(session.runs().map(|(first, _)| first).collect::<Vec<_>>(), [5, 9, last]);
     for (total, text) in [
         (last, &*format!("[0..5, 8..9, 10..{last}]")),
         (20, "[0..5, 8..9, 10..20]"),
