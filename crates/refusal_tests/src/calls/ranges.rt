@@ -92,14 +92,13 @@ pub fn merge_into(
     parts: &[Chunks<'_>; 2],
 ) -> Result<Outcome, Fail> {
     let (merged, count) = merged(alloc, parts)?;
-    let before = both(alloc, parts)?;
-    let mut ranges = both(alloc, parts)?;
-    let [front, back] = &mut ranges;
+    let [front_before, back_before] = both(alloc, parts)?;
+    let [mut front, back] = both(alloc, parts)?;
     alloc.grant(granted);
-    let answer = merges(call, front, back, count);
-    let is_merged = *front == merged;
-    let answer = answer.map(|is_right| is_right && is_merged);
-    Ok(outcome_of(alloc, answer, ranges == before))
+    let answer = merges(call, &mut front, &back, count);
+    let is_merged = front == merged;
+    let is_same = front == front_before && back == back_before;
+    Ok(outcome_of(alloc, answer.map(|is_right| is_right && is_merged), is_same))
 }
 
 // Returns the subtrees of three parts of some chunks.
