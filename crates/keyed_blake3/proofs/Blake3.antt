@@ -1,9 +1,9 @@
 -- What the proofs of keyed BLAKE3 share. Each file is about one step from the blocks of a message to its root.
 pub mod Absorbing
 pub mod Blocks
-pub mod ByteRotations
 pub mod Finishing
 pub mod InStep
+pub mod LaneBytes
 pub mod Lanes
 pub mod Merging
 pub mod Rows

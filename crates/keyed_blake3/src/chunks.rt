@@ -40,6 +40,18 @@ fn row_of_each(chunks: &[u8], at: usize) -> [Lanes; LANES]
     rows
 }
 
+// Writes `columns` over the words from place `at` on. LLVM would copy a slice through memory once more.
+#[inline(always)]
+fn put_columns(words: &mut [Lanes; 16], at: usize, columns: &[Lanes; LANES])
+    requires { at + LANES ≤ 16 }
+    ensures before { (k : ℕ) → k < at → get_or words.new k [] ≡ get_or words.old k [] }
+    ensures columns { (k : ℕ) → k < LANES → get_or words.new (at + k) [] ≡ get_or columns.now k [] }
+{
+    'columns: for k in 0..LANES {
+        words[at + k] = columns[k];
+    }
+}
+
 // The words of block number `n` of each chunk.
 #[inline(always)]
 fn block_of_each(chunks: &[u8], n: usize) -> [Lanes; 16]
@@ -51,7 +63,7 @@ fn block_of_each(chunks: &[u8], n: usize) -> [Lanes; 16]
     let mut words = [Simd::splat(0u32); 16];
     'rows: for i in 0..ROWS_PER_BLOCK {
         let columns = row_of_each(chunks, BLOCK_LEN * n + ROW_LEN * i).transposed();
-        words[LANES * i..LANES * i + LANES].copy_from_slice(&columns);
+        put_columns(&mut words, LANES * i, &columns);
     }
     words
 }

@@ -5,8 +5,8 @@ ghost use Rattle.std.specs.Int.{rotate_right, w32};
 ghost use Rattle.keyed_blake3.specs.Blake3.{compress, first_state, folded, permuted, round};
 ghost use Rattle.keyed_blake3.specs.Steps.Rows.{half_columns, state_of, words_of};
 
-mod byte_rotations;
 mod in_step;
+mod lane_bytes;
 mod lane_rows;
 pub(crate) mod lanes;
 mod rows;

@@ -1,16 +1,25 @@
 -- The round in step, and the ends of a compression.
-use Rattle.std.proofs.Common.{◌≡◌, ℕ, ◌/◌, ◌%◌, ◌^◌, List, [], ◌∷◌, ◌++◌, length, map, get_or, bit_xor, refl, sym, ap, ◌∙◌}
+use Rattle.std.proofs.Common.{◌≡◌, ℕ, ◌/◌, ◌%◌, ◌^◌, ◌<◌, List, [], ◌∷◌, ◌++◌, length, map, get_or, bit_xor, refl, ap, ◌∙◌}
+use Rattle.std.proofs.lemmas.List.{get_or-map as get_or-map-at}
 use Rattle.std.proofs.lemmas.Simd.{Each1-get_or}
 use Rattle.std.specs.Int.{rotate_right, w32}
 use Rattle.keyed_blake3.specs.Blake3.{add32, first_state, folded, round}
 use Rattle.keyed_blake3.specs.Steps.Lanes.{AreFull, lane}
 use Rattle.keyed_blake3.specs.Steps.Rows.{half_columns}
 use Rattle.keyed_blake3.specs.declared.compression.lanes.TheConstants.{LANES}
-use Rattle.keyed_blake3.proofs.Blake3.Lanes.{lane_at}
+use Rattle.keyed_blake3.proofs.Blake3.Lanes.{both_at, both_full, lane_at}
 use Rattle.keyed_blake3.proofs.Blake3.Rows.{columns, columns_by_halves, diagonals, diagonals_by_halves, folded-rows, four, half_columns-rows, turned, turned_back}
 use lib.Lanes.{zip2}
 
 -- ---- half of G on each column
+
+-- a lane of a rotated xor
+pub rotated_xor_at : (j n : ℕ) (x y z : List ℕ) → j < LANES → length x ≡ LANES → length y ≡ LANES → z ≡ map (λ t. rotate_right w32 t n) (zip2 bit_xor x y)
+    → get_or z j 0 ≡ rotate_right w32 (bit_xor (get_or x j 0) (get_or y j 0)) n
+rotated_xor_at j n x y z h hx hy is =
+    ap (λ (l : List ℕ). get_or l j 0) is
+    ∙ get_or-map-at (λ (t : ℕ). rotate_right w32 t n) (zip2 bit_xor x y) j 0 0 (rw (both_full bit_xor x y hx hy) h)
+    ∙ ap (λ (t : ℕ). rotate_right w32 t n) (both_at bit_xor j x y h hx hy)
 
 pub half_columns_by_steps : (a b c d x a0 a1 x1 d1 c1 x2 b1 : List ℕ) (r s : ℕ) → length a ≡ 4 → length b ≡ 4 → length c ≡ 4 → length d ≡ 4 → length x ≡ 4
     → a0 ≡ zip2 add32 a b → a1 ≡ zip2 add32 a0 x → x1 ≡ zip2 bit_xor d a1 → d1 ≡ map (λ y. rotate_right w32 y r) x1 → c1 ≡ zip2 add32 c d1

@@ -4,13 +4,13 @@ ghost use Rattle.std.specs.Prelude.{◌≡◌, ◌<◌, ◌≤◌, ℕ, ◌∷�
 ghost use Rattle.std.specs.Int.{rotate_right, w32};
 ghost use Rattle.keyed_blake3.specs.Blake3.{add32, round};
 ghost use Rattle.keyed_blake3.specs.Steps.Lanes.{lane};
-ghost use Rattle.keyed_blake3.specs.Steps.LaneRows.{row_at, state_at};
+ghost use Rattle.keyed_blake3.specs.Steps.LaneRows.{byte_row_at, row_at, state_at};
 ghost use Rattle.keyed_blake3.specs.Steps.Rows.{half_columns};
 ghost use lib.Lanes.{zip2};
 ghost use Rattle.keyed_blake3.specs.declared.compression.lanes.TheConstants.{LANES};
 
-use crate::compression::byte_rotations::ByteRotations;
-use crate::compression::lane_rows::{LaneRows, Row};
+use crate::compression::lane_bytes::{bytes_of, rotated_xor, words_of};
+use crate::compression::lane_rows::{ByteRow, LaneRows, Row};
 use crate::compression::lanes::Lanes;
 use crate::compression::rotated;
 
@@ -46,20 +46,6 @@ pub(crate) fn xor(x: Row, y: Row) -> Row
     }
 }
 
-// Each lane rotated to the right.
-#[inline(always)]
-fn rotated_lanes(x: Lanes, n: u32) -> Lanes
-    requires low { 1 ≤ n }
-    requires high { n < 32 }
-    ensures { result ≡ map (λ y. rotate_right w32 y n) x }
-{
-    match n {
-        16 => x.rotated_by_16(),
-        8 => x.rotated_by_8(),
-        _ => rotated(x, n),
-    }
-}
-
 // Each word rotated to the right.
 #[inline(always)]
 fn rotated_row(x: Row, n: u32) -> Row
@@ -68,10 +54,50 @@ fn rotated_row(x: Row, n: u32) -> Row
     ensures { (j : ℕ) → j < LANES → row_at j result ≡ map (λ y. rotate_right w32 y n) (row_at j x) }
 {
     Row {
-        w0: rotated_lanes(x.w0, n),
-        w1: rotated_lanes(x.w1, n),
-        w2: rotated_lanes(x.w2, n),
-        w3: rotated_lanes(x.w3, n),
+        w0: rotated(x.w0, n),
+        w1: rotated(x.w1, n),
+        w2: rotated(x.w2, n),
+        w3: rotated(x.w3, n),
+    }
+}
+
+#[inline(always)]
+pub(crate) fn byte_row(x: Row) -> ByteRow
+    ensures { (j : ℕ) → byte_row_at j result ≡ row_at j x }
+{
+    ByteRow {
+        w0: bytes_of(x.w0),
+        w1: bytes_of(x.w1),
+        w2: bytes_of(x.w2),
+        w3: bytes_of(x.w3),
+    }
+}
+
+#[inline(always)]
+pub(crate) fn word_row(x: ByteRow) -> Row
+    ensures { (j : ℕ) → row_at j result ≡ byte_row_at j x }
+{
+    Row {
+        w0: words_of(x.w0),
+        w1: words_of(x.w1),
+        w2: words_of(x.w2),
+        w3: words_of(x.w3),
+    }
+}
+
+// Each word of `x` xored with one of `y`, and rotated to the right.
+#[inline(always)]
+fn rotated_xor_row(x: ByteRow, y: Row, n: u32) -> ByteRow
+    requires low { 1 ≤ n }
+    requires high { n < 32 }
+    ensures { (j : ℕ) → j < LANES
+        → byte_row_at j result ≡ map (λ t. rotate_right w32 t n) (zip2 bit_xor (byte_row_at j x) (row_at j y)) }
+{
+    ByteRow {
+        w0: rotated_xor(x.w0, y.w0, n),
+        w1: rotated_xor(x.w1, y.w1, n),
+        w2: rotated_xor(x.w2, y.w2, n),
+        w3: rotated_xor(x.w3, y.w3, n),
     }
 }
 
@@ -85,8 +111,8 @@ fn half_columns(v: LaneRows, x: Row, r: u32, s: u32) -> LaneRows
     ensures { (j : ℕ) → j < LANES → state_at j result ≡ half_columns (state_at j v) (row_at j x) r s }
 {
     let a = sum(sum(v.a, v.b), x);
-    let d = rotated_row(xor(v.d, a), r);
-    let c = sum(v.c, d);
+    let d = rotated_xor_row(v.d, a, r);
+    let c = sum(v.c, word_row(d));
     let b = rotated_row(xor(v.b, c), s);
     LaneRows { a, b, c, d }
 }
@@ -102,7 +128,12 @@ pub(crate) fn round(v: LaneRows, m: &[Lanes; 16]) -> LaneRows
         a: row(v.a.w3, v.a.w0, v.a.w1, v.a.w2),
         b: v.b,
         c: row(v.c.w1, v.c.w2, v.c.w3, v.c.w0),
-        d: row(v.d.w2, v.d.w3, v.d.w0, v.d.w1),
+        d: ByteRow {
+            w0: v.d.w2,
+            w1: v.d.w3,
+            w2: v.d.w0,
+            w3: v.d.w1,
+        },
     };
     let v = half_columns(v, row(m[14], m[8], m[10], m[12]), 16, 12);
     let v = half_columns(v, row(m[15], m[9], m[11], m[13]), 8, 7);
@@ -110,6 +141,11 @@ pub(crate) fn round(v: LaneRows, m: &[Lanes; 16]) -> LaneRows
         a: row(v.a.w1, v.a.w2, v.a.w3, v.a.w0),
         b: v.b,
         c: row(v.c.w3, v.c.w0, v.c.w1, v.c.w2),
-        d: row(v.d.w2, v.d.w3, v.d.w0, v.d.w1),
+        d: ByteRow {
+            w0: v.d.w2,
+            w1: v.d.w3,
+            w2: v.d.w0,
+            w3: v.d.w1,
+        },
     }
 }

@@ -7,7 +7,7 @@ ghost use Rattle.keyed_blake3.specs.Steps.LaneRows.{state_at};
 ghost use Rattle.keyed_blake3.specs.Steps.Lanes.{AreFull, lane};
 
 use crate::compression::INITIALIZATION_VECTOR;
-use crate::compression::in_step::{round, row, xor};
+use crate::compression::in_step::{byte_row, round, row, word_row, xor};
 use crate::compression::lane_rows::LaneRows;
 use std::simd::prelude::*;
 
@@ -66,7 +66,7 @@ fn first_state(h: &[Lanes; 8], counters: (Lanes, Lanes), block_len: u32, flags: 
             Simd::splat(iv2),
             Simd::splat(iv3),
         ),
-        d: row(low, high, Simd::splat(block_len), Simd::splat(flags)),
+        d: byte_row(row(low, high, Simd::splat(block_len), Simd::splat(flags))),
     }
 }
 
@@ -77,7 +77,7 @@ fn folded(v: LaneRows) -> [Lanes; 8]
     ensures lanes { (j : ℕ) → j < LANES → lane j result ≡ folded (state_at j v) }
 {
     let x = xor(v.a, v.c);
-    let y = xor(v.b, v.d);
+    let y = xor(v.b, word_row(v.d));
     [x.w0, x.w1, x.w2, x.w3, y.w0, y.w1, y.w2, y.w3]
 }
 

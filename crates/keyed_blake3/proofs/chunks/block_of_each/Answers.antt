@@ -1,41 +1,34 @@
-use Rattle.std.proofs.Common.{◌≡◌, ℕ, ◌+◌, ◌-◌, ◌*◌, ◌<◌, ◌≤◌, inl, inr, List, [], drop, get_or, length, arith, sym, ap, ◌∙◌, length-drop}
+use Rattle.std.proofs.Common.{◌≡◌, ℕ, ◌+◌, ◌-◌, ◌*◌, ◌<◌, inl, inr, List, [], drop, get_or, arith, sym, ap, ◌∙◌}
 use Rattle.std.proofs.lemmas.Bool.{cases_lt}
-use Rattle.std.proofs.lemmas.List.{drop-drop, length-map, length-take-le}
+use Rattle.std.proofs.lemmas.List.{drop-drop, length-map}
 use Rattle.std.proofs.lemmas.List.FromFn.{fill_by_all, get_or-map-range_with_len}
 use Rattle.std.specs.Int.{from_le_bytes, w32}
 use Rattle.keyed_blake3.specs.Blake3.{block, words_at}
 use Rattle.keyed_blake3.specs.Steps.Lanes.{chunk_at, lane}
 use Rattle.keyed_blake3.specs.declared.compression.lanes.TheConstants.{LANES}
 use Rattle.keyed_blake3.proofs.Blake3.Blocks.{word_at_place}
-use Rattle.keyed_blake3.proofs.Blake3.Lanes.{lane_at, length-written, written_at, written_before}
-use borrow.Rule.Slice.PartMut.{put_mid}
+use Rattle.keyed_blake3.proofs.Blake3.Lanes.{lane_at}
 use Rattle.keyed_blake3.proofs.chunks.block_of_each.Goals as goal
 
 pub rows-preserved : goal.rows-preserved
 unfolding words_at
 rows-preserved c =
     let bytes = c.args.chunks.now in
-    let words = c.rows.words in
     let i : ℕ = c.rows.i in
-    let part = c.copy_from_slice.new.self in
-    let width : LANES * i + LANES - LANES * i ≡ LANES = omega arith in
-    let room : LANES * i + LANES ≤ length words = omega (arith, c.rows.invariant.size) in
-    let size : length part ≡ LANES =
-    (rw width at c.copy_from_slice.ensures.len) ∙ length-take-le LANES (drop (LANES * i) words) (omega (arith, length-drop (LANES * i) words)) in
+    let part = c.transposed-columns.result in
     let rows : (j : ℕ) → j < LANES → lane j part ≡ get_or c.row_of_each.result j [] =
-    λ j h. ap (lane j) c.copy_from_slice.ensures.after
-    ∙ sym (get_or-map-range_with_len (λ j. lane j c.transposed-columns.result) 0 LANES j j [] h (omega arith))
+    λ j h. sym (get_or-map-range_with_len (λ j. lane j part) 0 LANES j j [] h (omega arith))
     ∙ ap (λ (rows : List (List ℕ)). get_or rows j []) (c.transposed-columns.ensures.lanes c.row_of_each.ensures.full) in
-    rw width record {
-      size = length-written (LANES * i) LANES words part room size ∙ c.rows.invariant.size;
+    record {
+      size = c.type_inv.words;
       words = λ k below j h long. elim (cases_lt k (LANES * i)) [
-        | inl before ↦ ap (λ (w : List ℕ). get_or w j 0) (written_before (LANES * i) LANES k words part room size before) ∙ c.rows.invariant.words k before j h long
+        | inl before ↦ ap (λ (w : List ℕ). get_or w j 0) (c.put_columns.ensures.before k before) ∙ c.rows.invariant.words k before j h long
         | inr past ↦
             let at : ℕ = k - LANES * i in
             let place : k ≡ LANES * i + at = omega arith in
             let within : at < LANES = omega arith in
             let bytes_at : 4 * at + (1024 * j + (64 * c.args.n + 4 * LANES * i)) ≡ 1024 * j + (64 * c.args.n + 4 * k) = omega arith in
-            ap (λ (w : List ℕ). get_or w j 0) (ap (λ (n : ℕ). get_or (put_mid (LANES * i) LANES words part) n []) place ∙ written_at (LANES * i) LANES at words part room size within)
+            ap (λ (w : List ℕ). get_or w j 0) (ap (λ (n : ℕ). get_or c.put_columns.new.words n []) place ∙ c.put_columns.ensures.columns at within)
             ∙ lane_at j part at ∙ ap (λ (row : List ℕ). get_or row at 0) (rows j h ∙ c.row_of_each.ensures.rows j h long)
             ∙ get_or-map-range_with_len (λ k. from_le_bytes w32 (drop (4 * k) (drop (1024 * j + (64 * c.args.n + 4 * LANES * i)) bytes))) 0 LANES at at 0 within (omega arith)
             ∙ ap (from_le_bytes w32) (drop-drop (4 * at) (1024 * j + (64 * c.args.n + 4 * LANES * i)) bytes ∙ ap (λ (n : ℕ). drop n bytes) (omega arith))

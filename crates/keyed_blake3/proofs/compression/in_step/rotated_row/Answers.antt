@@ -8,10 +8,10 @@ invariant_of-result c =
     let x = c.args.x in
     record {
       full = (
-        ap length c.rotated_lanes.ensures ∙ length-map _ _ ∙ x.full.0,
-        ap length c.rotated_lanes-2.ensures ∙ length-map _ _ ∙ x.full.1,
-        ap length c.rotated_lanes-3.ensures ∙ length-map _ _ ∙ x.full.2,
-        ap length c.rotated_lanes-4.ensures ∙ length-map _ _ ∙ x.full.3,
+        ap length c.rotated.ensures ∙ length-map _ _ ∙ x.full.0,
+        ap length c.rotated-2.ensures ∙ length-map _ _ ∙ x.full.1,
+        ap length c.rotated-3.ensures ∙ length-map _ _ ∙ x.full.2,
+        ap length c.rotated-4.ensures ∙ length-map _ _ ∙ x.full.3,
       );
     }
 
@@ -20,10 +20,10 @@ returns c = λ j h.
     let x = c.args.x in
     let f = λ (y : ℕ). rotate_right w32 y c.args.n in
     rw (
-      c.rotated_lanes.ensures,
-      c.rotated_lanes-2.ensures,
-      c.rotated_lanes-3.ensures,
-      c.rotated_lanes-4.ensures,
+      c.rotated.ensures,
+      c.rotated-2.ensures,
+      c.rotated-3.ensures,
+      c.rotated-4.ensures,
       get_or-map-at f x.w0 j 0 0 (rw x.full.0 h),
       get_or-map-at f x.w1 j 0 0 (rw x.full.1 h),
       get_or-map-at f x.w2 j 0 0 (rw x.full.2 h),
