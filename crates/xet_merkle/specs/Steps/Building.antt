@@ -23,6 +23,11 @@ abbrev pub StandBelow : (List Node → Node) → Bool → Bool → List Node →
 StandBelow make at_start at_end all levels done nodes = (top : List Level) (work : ℕ) →
     IsCanonicalBy make at_start at_end nodes top work → IsCanonicalBy make at_start at_end all (levels ++ top) (done + work)
 
+-- levels with those of the canonical subtree of some nodes on top, and the number of parents that were made before and after
+abbrev pub AddsCanonical : (List Node → Node) → Bool → Bool → List Node → List Level → ℕ → List Level → ℕ → Type 0
+AddsCanonical make at_start at_end nodes levels made all now =
+    (top : List Level) × (work : ℕ) × IsCanonicalBy make at_start at_end nodes top work × (all ≡ levels ++ top) × (now ≡ made + work)
+
 -- levels below what is in sight, and the work that is done, make it the merge of what was in sight
 abbrev pub MergeBelow : (List Node → Node) → Sight → List Level → ℕ → Sight → Type 0
 MergeBelow make sight levels done rest = (top : List Level) (work : ℕ) →
