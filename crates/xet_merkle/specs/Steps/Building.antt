@@ -24,6 +24,11 @@ abbrev pub StandBelow : (List Node → Node) → Bool → Bool → List Node →
 StandBelow make at_start at_end all levels done nodes = (top : List Level) (work : ℕ) →
     IsCanonicalBy make at_start at_end nodes top work → IsCanonicalBy make at_start at_end all (levels ++ top) (done + work)
 
+-- levels with those of the canonical subtree of some nodes on top, and the number of parents made before and after
+abbrev pub AddsCanonical : (List Node → Node) → Bool → Bool → List Node → List Level → ℕ → List Level → ℕ → Type 0
+AddsCanonical make at_start at_end nodes levels made all now =
+    (top : List Level) × (work : ℕ) × IsCanonicalBy make at_start at_end nodes top work × (all ≡ levels ++ top) × (now ≡ made + work)
+
 -- put below the merge of `rest`, these levels and the work already done make the merge of `sight`
 abbrev pub MergeBelow : (List Node → Node) → Sight → List Level → ℕ → Sight → Type 0
 MergeBelow make sight levels done rest = (top : List Level) (work : ℕ) →

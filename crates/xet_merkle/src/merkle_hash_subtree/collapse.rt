@@ -1,10 +1,10 @@
 //! The levels of canonical subtrees, from the lowest level up.
 
-ghost use Rattle.std.specs.Prelude.{◌≡◌, ℕ, ◌+◌, ◌^◌, ◌<◌, ◌≤◌, List, ◌++◌, ◌∷◌, [], length, IfOk};
+ghost use Rattle.std.specs.Prelude.{◌≡◌, ℕ, ◌+◌, ◌^◌, ◌<◌, ◌≤◌, ◌++◌, ◌∷◌, [], length, IfOk};
 ghost use Rattle.xet_merkle.specs.Groups.{Node};
 ghost use Rattle.xet_merkle.specs.Roots.{total_size, parent_by, parent};
-ghost use Rattle.xet_merkle.specs.Levels.{Level};
 ghost use Rattle.xet_merkle.specs.Canonical.{IsCanonicalBy};
+ghost use Rattle.xet_merkle.specs.Steps.Building.{AddsCanonical};
 ghost use Rattle.xet_merkle.specs.Steps.Scan.{AreParents};
 ghost use Rattle.xet_merkle.specs.Steps.Room.{most_made};
 
@@ -45,8 +45,8 @@ pub(super) fn collapse<A: Allocator + Clone, P: ParentMaker>(
 ) -> Result<Vec<LevelNodes<A>, A>, AllocError>
     requires fits { total_size nodes.items < 2 ^ 64 }
     requires room { P.count maker.old + length nodes.items ≤ most_made }
-    ensures { IfOk result (λ all. (top : List Level) × (work : ℕ) × IsCanonicalBy (parent_by P.hash_of) marks.at_start marks.at_end nodes.items top work
-        × (all.items ≡ levels.items ++ top) × (P.count maker.new ≡ P.count maker.old + work)) }
+    ensures { IfOk result (λ all. AddsCanonical (parent_by P.hash_of) marks.at_start marks.at_end nodes.items
+        levels.items (P.count maker.old) all.items (P.count maker.new)) }
 {
     let mut levels = levels;
     let mut nodes = nodes;
@@ -66,8 +66,8 @@ pub(super) fn collapse_slice<A: Allocator + Clone, P: ParentMaker>(
 ) -> Result<Vec<LevelNodes<A>, A>, AllocError>
     requires fits { total_size nodes.now < 2 ^ 64 }
     requires room { P.count maker.old + length nodes.now ≤ most_made }
-    ensures { IfOk result (λ all. (top : List Level) × (work : ℕ) × IsCanonicalBy (parent_by P.hash_of) marks.at_start marks.at_end nodes.now top work
-        × (all.items ≡ levels.items ++ top) × (P.count maker.new ≡ P.count maker.old + work)) }
+    ensures { IfOk result (λ all. AddsCanonical (parent_by P.hash_of) marks.at_start marks.at_end nodes.now
+        levels.items (P.count maker.old) all.items (P.count maker.new)) }
 {
     match find_split(nodes, marks) {
         None => Ok(pushed(levels, LevelNodes::copied(alloc, nodes, &[])?)?),

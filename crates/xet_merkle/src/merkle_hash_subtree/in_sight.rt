@@ -1,10 +1,9 @@
 //! What is in sight at a level of a merge: the inner nodes of both operands, and the parents made one level below.
 
-ghost use Rattle.std.specs.Prelude.{◌≡◌, ℕ, ◌+◌, ◌^◌, ◌<◌, ◌≤◌, ◌⊎◌, ◌↔◌, List, [], ◌++◌, length, take, drop, IfOk, IsTrue, false};
+ghost use Rattle.std.specs.Prelude.{◌≡◌, ◌+◌, ◌^◌, ◌<◌, ◌≤◌, ◌⊎◌, ◌↔◌, [], length, take, drop, IfOk, IsTrue};
 ghost use Rattle.xet_merkle.specs.Roots.{total_size, parent_by};
-ghost use Rattle.xet_merkle.specs.Levels.{Level, left_at};
-ghost use Rattle.xet_merkle.specs.Canonical.{IsCanonicalBy};
-ghost use Rattle.xet_merkle.specs.Steps.StableScan.{AddsNoStable, AddsNoStableBefore};
+ghost use Rattle.xet_merkle.specs.Levels.{left_at};
+ghost use Rattle.xet_merkle.specs.Steps.Building.{AddsCanonical};
 ghost use Rattle.xet_merkle.specs.Steps.LevelMerging.{operand, inner_nodes, IsHighAfter, IsLowBefore, seen, sight_up, IsSightSplit, sight_of, levels_of, OnlyExtends};
 ghost use Rattle.xet_merkle.specs.Steps.Room.{most_made};
 
@@ -217,9 +216,8 @@ impl<'a, A: Allocator + Clone> InSight<'a, A> {
     ) -> Result<Vec<LevelNodes<A>, A>, AllocError>
         requires fits { total_size (seen self.now) < 2 ^ 64 }
         requires room { P.count maker.old + length (seen self.now) ≤ most_made }
-        ensures { IfOk result (λ all. (top : List Level) × (work : ℕ)
-            × IsCanonicalBy (parent_by P.hash_of) self.now.at_start self.now.at_end (seen self.now) top work
-            × (all.items ≡ levels.items ++ top) × (P.count maker.new ≡ P.count maker.old + work)) }
+        ensures { IfOk result (λ all. AddsCanonical (parent_by P.hash_of) self.now.at_start self.now.at_end (seen self.now)
+            levels.items (P.count maker.old) all.items (P.count maker.new)) }
     {
         let alloc = self.carry.allocator().clone()?;
         if self.is_front_alone() {

@@ -4,10 +4,10 @@
 //! nodes. Above the first level at which nothing is collapsed, all levels stay. It allocates everything before it
 //! changes anything.
 
-ghost use Rattle.std.specs.Prelude.{◌≡◌, ℕ, ◌+◌, ◌<◌, false, List, [], length, map, IfOk, IfErr, IsTrue};
+ghost use Rattle.std.specs.Prelude.{◌≡◌, ℕ, ◌+◌, ◌<◌, false, [], length, map, IfOk, IfErr, IsTrue};
 ghost use Rattle.xet_merkle.specs.Groups.{Node};
 ghost use Rattle.xet_merkle.specs.Roots.{parent_by};
-ghost use Rattle.xet_merkle.specs.Steps.LevelMerging.{Sight, sight_up, IsSightMerge, sight_of, levels_of, HaveSidesOf, OnlyExtends};
+ghost use Rattle.xet_merkle.specs.Steps.LevelMerging.{sight_up, IsSightMerge, sight_of, levels_of, HaveSidesOf, OnlyExtends};
 ghost use Rattle.xet_merkle.specs.Steps.Building.{CanMerge, MergesLevel, MergesLower};
 
 use super::collapse::collapse_middle;
