@@ -39,6 +39,20 @@ fn hashes_of_at_most_one_pair_take_no_memory(rt: HostRuntime) -> Result<(), Fail
     Ok(())
 }
 
+// Returns whether a subtree has both marks or none, this size, and this root as its final hash.
+fn shows<'a>(
+    subtree: &MerkleHashSubtree<&'a Refusing>,
+    is_marked: bool,
+    size: u64,
+    root: Option<MerkleHash>,
+) -> bool {
+    subtree.at_start() == is_marked
+        && subtree.at_end() == is_marked
+        && subtree.total_size() == size
+        && subtree.final_hash() == root
+        && subtree.root() == Ok(root)
+}
+
 // Returns whether an open subtree of 24 nodes and a closed one of 28 show the right values.
 fn show_what_they_are<'a>(
     open: &MerkleHashSubtree<&'a Refusing>,
@@ -46,17 +60,9 @@ fn show_what_they_are<'a>(
     root: MerkleHash,
 ) -> bool {
     has_counts(open, &[(8, 4), (3, 0)])
-        && !open.at_start()
-        && !open.at_end()
-        && open.total_size() == 24
-        && open.final_hash().is_none()
-        && open.root() == Ok(None)
+        && shows(open, false, 24, None)
         && open != closed
-        && closed.at_start()
-        && closed.at_end()
-        && closed.total_size() == 28
-        && closed.final_hash() == Some(root)
-        && closed.root() == Ok(Some(root))
+        && shows(closed, true, 28, Some(root))
 }
 
 #[test]
