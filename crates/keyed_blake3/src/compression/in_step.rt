@@ -1,6 +1,6 @@
 // The round of `LANES` compressions side by side. Each step works on a whole row, so that the four columns go in step.
 
-ghost use Rattle.std.specs.Prelude.{◌≡◌, ◌<◌, ◌≤◌, ℕ, ◌∷◌, [], bit_xor, length, map, slice_index};
+ghost use Rattle.std.specs.Prelude.{◌≡◌, ◌<◌, ◌≤◌, ℕ, ◌∷◌, [], bit_xor, map, slice_index};
 ghost use Rattle.std.specs.Int.{rotate_right, w32};
 ghost use Rattle.keyed_blake3.specs.Blake3.{add32, round};
 ghost use Rattle.keyed_blake3.specs.Steps.Lanes.{lane};
