@@ -165,14 +165,19 @@ fn stranger(memory: Global, left: &[Node], right: &[Node], of: &[Node]) -> Resul
 // right nodes have no natural cut. The third is right.
 fn strangers(memory: Global) -> Result<[Value; 3], Fail> {
     let nodes = with_cuts::<28>(&EACH_FOURTH);
-    let (first, last, right) = (&nodes[..8], &nodes[16..24], &nodes[20..24]);
+    let (nodes, _) = nodes.split_at(24);
+    let (twenty, _) = nodes.split_at(20);
+    let (first, rest) = nodes.split_at(8);
+    let (_, last) = rest.split_at(8);
+    let (_, right) = rest.split_at(12);
+    let plain = with_cuts::<4>(&[]);
     let mut longer = Vec::new(memory);
     longer.extend_from_slice(first)?;
     longer.extend_from_slice(last)?;
     Ok([
-        stranger(memory, &longer, &[], &nodes[..20])?,
-        stranger(memory, first, &with_cuts::<4>(&[]), &nodes[..24])?,
-        stranger(memory, first, right, &nodes[..24])?,
+        stranger(memory, longer.as_slice(), &[], twenty)?,
+        stranger(memory, first, &plain, nodes)?,
+        stranger(memory, first, right, nodes)?,
     ])
 }
 

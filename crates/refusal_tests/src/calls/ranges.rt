@@ -65,13 +65,16 @@ fn merges<'a>(
     }
 }
 
+// Two subtrees, the front one first.
+type Pair<'a> = (
+    MerkleHashSubtree<&'a Refusing>,
+    MerkleHashSubtree<&'a Refusing>,
+);
+
 // Returns the subtrees of two lists of chunks.
-fn both<'a>(
-    alloc: &'a Refusing,
-    parts: &[Chunks<'_>; 2],
-) -> Result<[MerkleHashSubtree<&'a Refusing>; 2], CoreError> {
+fn both<'a>(alloc: &'a Refusing, parts: &[Chunks<'_>; 2]) -> Result<Pair<'a>, CoreError> {
     let [first, second] = parts;
-    Ok([subtree(alloc, first)?, subtree(alloc, second)?])
+    Ok((subtree(alloc, first)?, subtree(alloc, second)?))
 }
 
 // Returns what the subtrees of two lists of chunks merge to, and how many parents that hashes.
@@ -79,7 +82,7 @@ fn merged<'a>(
     alloc: &'a Refusing,
     parts: &[Chunks<'_>; 2],
 ) -> Result<(MerkleHashSubtree<&'a Refusing>, u128), CoreError> {
-    let [mut front, back] = both(alloc, parts)?;
+    let (mut front, back) = both(alloc, parts)?;
     let count = front.merge_into_counted(&back)?;
     Ok((front, count))
 }
@@ -92,8 +95,8 @@ pub fn merge_into(
     parts: &[Chunks<'_>; 2],
 ) -> Result<Outcome, Fail> {
     let (merged, count) = merged(alloc, parts)?;
-    let [front_before, back_before] = both(alloc, parts)?;
-    let [mut front, back] = both(alloc, parts)?;
+    let (front_before, back_before) = both(alloc, parts)?;
+    let (mut front, back) = both(alloc, parts)?;
     alloc.grant(granted);
     let answer = merges(call, &mut front, &back, count);
     let is_merged = front == merged;
@@ -169,13 +172,15 @@ pub fn join<'a, R: Kind<Alloc = &'a Refusing>>(
     chunks: &Chunks<'_>,
 ) -> Result<Outcome, Fail> {
     let expected: R = range(alloc, chunks)?;
-    let before: (R, R) = parts(alloc, chunks)?;
+    let (front_before, back_before): (R, R) = parts(alloc, chunks)?;
     let (mut front, back): (R, R) = parts(alloc, chunks)?;
     alloc.grant(granted);
     let answer = front.join(&back);
-    let is_same = front.equals(&before.0) && back.equals(&before.1);
-    let answer = answer.map(|()| front.equals(&expected));
-    Ok(outcome_of(alloc, answer, is_same))
+    let is_same = front.equals(&front_before) && back.equals(&back_before);
+    match answer {
+        Ok(()) => Ok(outcome_of(alloc, Ok(front.equals(&expected)), is_same)),
+        Err(error) => Ok(outcome_of(alloc, Err(error), is_same)),
+    }
 }
 
 /// Tries to get the root of some chunks.
