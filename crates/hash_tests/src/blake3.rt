@@ -214,11 +214,32 @@ const HASHES: &str = "0 73492b19995d71cdb1e9d74decc09809eb732f1b00bc95c27cb15f9d
 4097 a3b7fe277011b5efcde8a33d90b0edb88c29e73831f34d9b02aebab51c98e2a6
 5120 8bb4f2ab4db1d207713b4240105ec14d57452bc53073c480f8377279fa959a95
 5121 f5e92bc50eb02296aad75a7fb1faf6bf95c0f3eccfaaed506e2448df16b45c0b
+6144 40b1e813ec046e44a9818020f1e04cdc0e849d86636492191229f3f7257a636a
+7168 fabe20ee334b76c0b7fe08a7592829f8493c150393c8532f9505d27a22574fab
+7169 accec9095f0b3bed3223a28fa90c84f8c7b4cd5570331664b4ecc52041468ade
 8191 c0d7ec24ed861b344c89db577b89dc90b9de9ca50766165f5d0e4b66c0e2ffb4
 8192 c659141d9d7e6efafd2f274d4307b9ab3369f058c6d03cd5ba17d4518d77bd49
 8193 c666ccf5fa240c07a9d0a6b8ae92c67668b482e7c2751fb5e1d9d7078fa9637e
+9216 4c0092a5f8dfc813aad4346f14b0b249d2ac053d936ee9372c15d701cd2c9b33
+12288 707b57bfb81179f30e7d2a9c296c4d386286c0e780c8a2e8f4736e86fd73a2bd
+12289 f2b209513b02239a4567f4529643096770a1826f835d0e3bde542b25c3c1f5b9
+16384 8880ce020ab0459420eee7e95f173d8a0d55c9b499d857880b0c661eb4162bae
 16385 4343c3dd9cc572142984258a08652588589d1683adf926283c37681508a138fe
+17408 6e640586efc979f6bbdf1c799bb1fa37f31daebcb1ed55796a2e4248f39d5663
+24576 a7f60d41d57f3ed553fa2bf5522f3c3bff8e4b729047175d682c8eb61d3da4f8
+28672 17dbee74c0d98bc69088d639267d0eb27c2ab75fc6bbe72e316166479ad905d0
 31744 55253f057bce59e7811fea47ac0e72751ca12c40c4a5b8f3c42e54daa5073272
+32768 a4b14842316ac86f46cd4c68ee7cb03190ca5e6bc2c50d0aac7fd7ca76891035
+32769 87107d53b5c78806aee89afbd11e77f62df4573527de70a75193c9710d619d72
+36864 559ece084512391afd30d5853bcda4647ce84c5c56de1ebd8668fcd610464b0a
+49152 2f433f2d5d5795eb1d331d60d91e6eceebb78ad17c749593827b4261cb73e771
+65535 c4a758e5f0cd41e8bc3d2689533c3fcf9575daee607c632f85e744f5e825ffff
+65536 ca2a089711002f4987989e5fab9c11ca9940e94ee258ea062d2bcb402de11ca9
+65537 77630e1400f2542f6c837ad042df8c5299643cfadbba280355f628f1e966b62a
+69632 1d3669f5d1ea80d2ac7aae820afa45ecc559f6114f2a2dda4db9e23ce1b2d7b7
+98304 a2869974a41792afc77411f104422482ca99f558a4f10cdad62091b73b324d50
+131072 0eed93ee0e31b0d5ba7c0feaf30758ac652cf202ed65e63a380a11369e95a086
+131073 9536698737c96a47a16810f8ebf13eb2c2cb527f5ef8c309ec9c852d29dc0bc6
 ";
 
 // Returns the hash of a message that is fed in pieces. Their lengths alternate between these two.
@@ -242,7 +263,7 @@ fn has_the_known_hashes(rt: HostRuntime) -> Result<(), Fail> {
     for (byte, number) in key.iter_mut().zip(0..32) {
         *byte = number;
     }
-    let message = message::<31744>();
+    let message = message::<131073>();
     for row in HASHES.lines() {
         let (length, hash) = row.split_once(' ').ok_or("no hash")?;
         let message = message.get(..length.parse()?).ok_or("too long")?;
@@ -250,16 +271,17 @@ fn has_the_known_hashes(rt: HostRuntime) -> Result<(), Fail> {
         assert!(rt; text.as_str() == hash);
         for (first, second) in [
             (message.len(), message.len()),
-            (1, 1),
             (1, 1024),
             (1000, 4097),
             (1024, 5000),
+            (2048, 16384),
+            (65536, 1024),
             (64, 8192),
         ] {
             let text = hex::encode(rt.alloc(), hash_in_pieces(&key, message, first, second))?;
             assert!(rt; text.as_str() == hash);
         }
     }
-    assert!(rt; HASHES.lines().count() == 24);
+    assert!(rt; HASHES.lines().count() == 45);
     Ok(())
 }
