@@ -1,14 +1,17 @@
 /* Compares the library's hashes with a second reading of the definition: of every length up to 20,000, of lengths around the
- * multiples of 1024, 4096, 8192 and 65,536 up to 2^20, and of drawn messages that are cut into drawn pieces. */
+ * multiples of 1024, 4096, 8192 and 65,536 up to 2^20, of drawn messages that are cut into drawn pieces, and of messages of
+ * about 2^32 chunks, from a state that is written into the hasher. */
 #include "../fuzz/second/hash.h"
 #include "yurewha.h"
 
 #include <algorithm>
+#include <bitset>
 #include <cstdio>
 #include <cstdlib>
 #include <cstring>
 #include <random>
 #include <string>
+#include <vector>
 
 namespace {
 
@@ -21,10 +24,8 @@ const uint8_t *bytes_of(std::string_view text) { return reinterpret_cast<const u
 void expect(const yurewha_hash &hash, const second::Hash &wanted, const char *what, size_t length)
 {
     checks++;
-    if (!std::equal(wanted.begin(), wanted.end(), hash.words)) {
-        failures++;
+    if (!std::equal(wanted.begin(), wanted.end(), hash.words) && ++failures <= 10)
         std::printf("%s: %zu bytes\n", what, length);
-    }
 }
 
 std::string drawn(std::mt19937_64 &random, size_t length)
@@ -62,6 +63,38 @@ void cut(std::mt19937_64 &random, std::string_view message, size_t longest)
     expect(hash, second::data_hash(message), "in pieces", message.size());
 }
 
+/* Hashes a message from a state in which so many chunks came before, no power of two. The state is private to the library: the
+ * key, the value of the open chunk, room for 54 values of subtrees, the last block, and the count of bytes. */
+void after(std::mt19937_64 &random, uint64_t chunks, std::string_view rest)
+{
+    yurewha_bytes key;
+    second::Bytes32 same_key;
+    for (size_t i = 0; i < same_key.size(); i++)
+        key.bytes[i] = same_key[i] = static_cast<uint8_t>(random());
+    std::vector<second::Words> subtrees(std::bitset<64>(chunks).count());
+    for (second::Words &subtree : subtrees)
+        for (uint32_t &word : subtree)
+            word = static_cast<uint32_t>(random());
+    const uint64_t count = chunks * 1024;
+    yurewha_hasher hasher;
+    yurewha_hash hash;
+    yurewha_hasher_begin_keyed(&hasher, &key);
+    uint8_t *state = reinterpret_cast<uint8_t *>(&hasher);
+    std::memcpy(state + 64, subtrees.data(), subtrees.size() * sizeof(second::Words));
+    std::memcpy(state + 64 + 54 * 32 + 64, &count, sizeof count);
+    for (size_t done = 0; done < rest.size();) {
+        const std::string_view piece = rest.substr(done, random() % 9000);
+        if (yurewha_hasher_update(&hasher, bytes_of(piece), piece.size()) != YUREWHA_DONE)
+            std::abort();
+        done += piece.size();
+    }
+    if (yurewha_hasher_count(&hasher) != count + rest.size())
+        std::abort();
+    yurewha_hasher_finalize(&hasher, &hash);
+    const second::Bytes32 wanted = second::keyed_blake3_after(same_key, chunks, subtrees, rest);
+    expect(hash, second::hash_of(wanted), "after about 2^32 chunks", rest.size());
+}
+
 }  // namespace
 
 int main()
@@ -80,6 +113,10 @@ int main()
         const size_t length = random() % (i % 100 == 0 ? 300'000 : 40'000);
         cut(random, message.substr(0, length), LONGEST_PIECES[random() % std::size(LONGEST_PIECES)]);
     }
+    constexpr uint64_t NEAR = UINT64_C(1) << 32;
+    for (uint64_t chunks = NEAR - 40; chunks < NEAR + 40; chunks++)
+        for (int i = 0; i < 50 && chunks != NEAR; i++)
+            after(random, chunks, message.substr(0, 1 + random() % 100'000));
     std::printf("%zu checks, %zu failed\n", checks, failures);
     return failures != 0;
 }

@@ -1,12 +1,12 @@
 /* Keyed BLAKE3, as its specification says it: a message is cut in two from the top until one chunk is left. */
 #include "hash.h"
 
-#include <utility>
+#include <algorithm>
+#include <bitset>
 
 namespace second {
 namespace {
 
-using Words = std::array<uint32_t, 8>;
 using Block = std::array<uint32_t, 16>;
 
 constexpr uint32_t CHUNK_START = 1, CHUNK_END = 2, PARENT = 4, ROOT = 8, KEYED_HASH = 16;
@@ -76,15 +76,25 @@ Words value_of_chunk(const Words &key, uint64_t number, std::string_view chunk, 
     return value;
 }
 
-Words value_of(const Words &key, uint64_t number, std::string_view message, uint32_t root)
+/* A message: the values of the complete subtrees of its first chunks, the largest first, and the bytes of the others. */
+struct Message {
+    uint64_t chunks;
+    const std::vector<Words> &subtrees;
+    std::string_view rest;
+};
+
+/* The value of `count` chunks from number `first` on. */
+Words value_of(const Words &key, const Message &message, uint64_t first, uint64_t count, uint32_t root)
 {
-    if (message.size() <= CHUNK)
-        return value_of_chunk(key, number, message, root);
-    size_t left = CHUNK;
-    while (2 * left < message.size())
+    if (first + count <= message.chunks)
+        return message.subtrees[std::bitset<64>(first).count()];
+    if (count == 1)
+        return value_of_chunk(key, first, message.rest.substr((first - message.chunks) * CHUNK, CHUNK), root);
+    uint64_t left = 1;
+    while (2 * left < count)
         left *= 2;
-    const Words parts[2] = {value_of(key, number, message.substr(0, left), 0),
-                            value_of(key, number + left / CHUNK, message.substr(left), 0)};
+    const Words parts[2] = {value_of(key, message, first, left, 0),
+                            value_of(key, message, first + left, count - left, 0)};
     Block block;
     for (size_t i = 0; i < 16; i++)
         block[i] = parts[i / 8][i % 8];
@@ -93,17 +103,20 @@ Words value_of(const Words &key, uint64_t number, std::string_view message, uint
 
 }  // namespace
 
-Bytes32 keyed_blake3(const Bytes32 &key, std::string_view message)
+Bytes32 keyed_blake3_after(const Bytes32 &key, uint64_t chunks, const std::vector<Words> &subtrees, std::string_view rest)
 {
     Words words;
     const std::string_view key_text(reinterpret_cast<const char *>(key.data()), key.size());
     for (size_t i = 0; i < 8; i++)
         words[i] = word_at(key_text, 4 * i);
-    const Words value = value_of(words, 0, message, ROOT);
+    const uint64_t count = std::max<uint64_t>(chunks + (rest.size() + CHUNK - 1) / CHUNK, 1);
+    const Words value = value_of(words, {chunks, subtrees, rest}, 0, count, ROOT);
     Bytes32 bytes;
     for (size_t i = 0; i < 32; i++)
         bytes[i] = static_cast<uint8_t>(value[i / 4] >> 8 * (i % 4));
     return bytes;
 }
+
+Bytes32 keyed_blake3(const Bytes32 &key, std::string_view message) { return keyed_blake3_after(key, 0, {}, message); }
 
 }  // namespace second

@@ -9,14 +9,20 @@
 #include <optional>
 #include <string>
 #include <string_view>
+#include <vector>
 
 namespace second {
 
 using Bytes32 = std::array<uint8_t, 32>;
 using Hash = std::array<uint64_t, 4>;
+using Words = std::array<uint32_t, 8>;
 
 /* Keyed BLAKE3 of a message, by the tree over the whole of it. */
 Bytes32 keyed_blake3(const Bytes32 &key, std::string_view message);
+
+/* The same for a message that begins with so many whole chunks, of which the values of the complete subtrees are known, the
+ * largest first, and that goes on with `rest`, which isn't empty. */
+Bytes32 keyed_blake3_after(const Bytes32 &key, uint64_t chunks, const std::vector<Words> &subtrees, std::string_view rest);
 
 /* The words in order, each little-endian. */
 Bytes32 bytes_of(const Hash &hash);
