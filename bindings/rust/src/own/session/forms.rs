@@ -72,7 +72,7 @@ impl<'de> Deserialize<'de> for Session {
 }
 
 #[derive(Deserialize)]
-#[serde(rename = "Session")]
+#[serde(rename = "Session", expecting = "struct Session")]
 struct Parts {
     runs: Restored,
     known_hashes: Hashes,
