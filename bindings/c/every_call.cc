@@ -170,6 +170,15 @@ void trees(Checks &check)
     check(yurewha_session_run_from(&session, 9, &fresh, &end, &parts[3]) == YUREWHA_DONE && end == 28, "run_from");
     Session copy;
     check(yurewha_session_copy(&session, &copy) == YUREWHA_DONE, "copy");
+    Session restored;
+    std::size_t known = 0;
+    check(yurewha_session_num_known_hashes(&session, &known) == YUREWHA_DONE && known == 28, "num_known_hashes");
+    std::vector<yurewha_hash> hashes(known);
+    check(yurewha_session_known_hashes(&session, hashes.data(), hashes.size()) == YUREWHA_DONE, "known_hashes");
+    check(yurewha_session_new(&restored) == YUREWHA_DONE, "another session_new");
+    check(yurewha_session_push_run(&restored, fresh, end, &parts[3]) == YUREWHA_DONE, "push_run");
+    check(yurewha_session_keep_hashes(&restored, hashes.data(), hashes.size()) == YUREWHA_DONE, "keep_hashes");
+    check(yurewha_session_put(&restored, end, all.data(), 28, &fresh) == YUREWHA_DONE && fresh == 0, "put after restoring");
     check(yurewha_session_root(&session, 28, &told) == YUREWHA_DONE && same(told, root), "root");
     check(yurewha_session_finish(&session, 28, &told) == YUREWHA_DONE && same(told, file), "finish");
 }

@@ -126,6 +126,38 @@ static yurewha_status copy(struct handles h, struct room *r)
     EXPECT(made.at == NULL);
     return (void)r, status;
 }
+static yurewha_status push_run(struct handles h, struct room *r)
+{
+    return (void)r, yurewha_session_push_run(h.session, 0, 1, h.other);
+}
+static yurewha_status push_empty(struct handles h, struct room *r)
+{
+    yurewha_session made = {0};
+    size_t runs = 0;
+    EXPECT_STATUS(YUREWHA_DONE, yurewha_session_new(&made));
+    const yurewha_status status = yurewha_session_push_run(&made, 0, 1, h.subtree);
+    EXPECT_STATUS(YUREWHA_DONE, yurewha_session_num_runs(&made, &runs));
+    EXPECT(runs == 0);
+    yurewha_session_free(&made);
+    return (void)r, status;
+}
+static yurewha_status keep_hashes(struct handles h, struct room *r)
+{
+    const yurewha_hash hash = {{1, 2, 3, 4}};
+    return (void)r, yurewha_session_keep_hashes(h.session, &hash, 1);
+}
+static yurewha_status num_known_hashes(struct handles h, struct room *r)
+{
+    return yurewha_session_num_known_hashes(h.session, &r->counts[0]);
+}
+static yurewha_status known_hashes_of(struct handles h, struct room *r)
+{
+    return yurewha_session_known_hashes(h.session, &r->hash, 1);
+}
+static yurewha_status known_hashes_without_room(struct handles h, struct room *r)
+{
+    return (void)r, yurewha_session_known_hashes(h.session, NULL, 0);
+}
 static yurewha_status root(struct handles h, struct room *r) { return yurewha_session_root(h.session, 0, &r->hash); }
 static yurewha_status finish(struct handles h, struct room *r) { return yurewha_session_finish(h.session, 0, &r->hash); }
 
@@ -156,6 +188,12 @@ static const struct {
     {"run", run},
     {"run_from", run_from},
     {"copy", copy},
+    {"push_run", push_run},
+    {"push_run, range", push_empty},
+    {"keep_hashes", keep_hashes},
+    {"num_known_hashes", num_known_hashes},
+    {"known_hashes", known_hashes_of},
+    {"known_hashes without room", known_hashes_without_room},
     {"root", root},
     {"finish", finish},
 };

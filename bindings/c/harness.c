@@ -135,6 +135,18 @@ void tell_subtree(yurewha_hasher *message, yurewha_subtree *subtree)
     free(nodes);
 }
 
+static int by_order(const void *first, const void *second) { return yurewha_compare(first, second); }
+
+yurewha_hash *known_hashes(yurewha_session *session, size_t *count)
+{
+    *count = 0;
+    const yurewha_status status = yurewha_session_num_known_hashes(session, count);
+    yurewha_hash *hashes = block(*count * sizeof *hashes);
+    EXPECT_STATUS(status, yurewha_session_known_hashes(session, hashes, *count));
+    qsort(hashes, *count, sizeof *hashes, by_order);
+    return hashes;
+}
+
 void tell_session(yurewha_hasher *message, yurewha_session *session)
 {
     size_t runs = 0;
@@ -154,6 +166,10 @@ void tell_session(yurewha_hasher *message, yurewha_session *session)
         EXPECT_STATUS(YUREWHA_DONE, yurewha_session_taken(session, position, &taken));
         tell(message, &taken, sizeof taken);
     }
+    size_t count = 0;
+    yurewha_hash *hashes = known_hashes(session, &count);
+    tell(message, hashes, count * sizeof *hashes);
+    free(hashes);
 }
 
 int main(int count, char **names)

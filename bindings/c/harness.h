@@ -39,6 +39,9 @@ yurewha_chunk *digits_of(const char *digits);
 yurewha_subtree range_of(const yurewha_chunk *chunks, size_t from, size_t to, bool at_start, bool at_end);
 bool same_subtree(yurewha_subtree *first, yurewha_subtree *second);
 
+/* The hashes that a session knows, by rising order, in a block of their own. With an empty handle there are none. */
+yurewha_hash *known_hashes(yurewha_session *session, size_t *count);
+
 /* Adds to a message all that can be told of a subtree, or of a session. A session's takes memory. */
 void tell_subtree(yurewha_hasher *message, yurewha_subtree *subtree);
 void tell_session(yurewha_hasher *message, yurewha_session *session);

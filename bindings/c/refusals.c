@@ -43,6 +43,8 @@ struct world {
     yurewha_session none;
     char *text; /* room for the JSON text */
     size_t text_room;
+    yurewha_hash *hashes; /* `count` of them, which no chunk has */
+    yurewha_hash *known;  /* room for `count` */
     struct room {
         yurewha_hash hash;
         uint64_t number;
@@ -131,6 +133,15 @@ static void make_texts(struct world *w)
     EXPECT_STATUS(YUREWHA_DONE, yurewha_subtree_to_json(&w->ranges[1], w->json, w->text_room, &w->json_length));
 }
 
+static void make_hashes(struct world *w)
+{
+    w->hashes = block(w->count * sizeof *w->hashes);
+    for (size_t i = 0; i < w->count; i++)
+        w->hashes[i] = (yurewha_hash){{i, 1, 1, 1}};
+    w->known = block(w->count * sizeof *w->known);
+    memset(w->known, 0xa5, w->count * sizeof *w->known);
+}
+
 static void make(struct world *w, const struct shape *shape, bool is_filled)
 {
     memset(w, 0, sizeof *w);
@@ -153,6 +164,7 @@ static void make(struct world *w, const struct shape *shape, bool is_filled)
     w->huge = range_of(huge, 0, 1, false, false);
     free(huge);
     make_texts(w);
+    make_hashes(w);
     make_session(w, is_filled);
 }
 
@@ -169,6 +181,8 @@ static void unmake(struct world *w)
     free(w->json);
     free(w->text);
     free(w->nodes);
+    free(w->hashes);
+    free(w->known);
 }
 
 static yurewha_hash told_of(struct world *w)
@@ -185,6 +199,8 @@ static yurewha_hash told_of(struct world *w)
     tell_session(&message, &w->none);
     EXPECT_STATUS(YUREWHA_DONE, yurewha_hasher_update(&message, (const uint8_t *)&w->room, sizeof w->room));
     EXPECT_STATUS(YUREWHA_DONE, yurewha_hasher_update(&message, (const uint8_t *)w->text, w->text_room));
+    EXPECT_STATUS(YUREWHA_DONE,
+                  yurewha_hasher_update(&message, (const uint8_t *)w->known, w->count * sizeof *w->known));
     yurewha_hasher_finalize(&message, &hash);
     return hash;
 }
@@ -348,6 +364,42 @@ static yurewha_status no_run_from(struct world *w)
     return yurewha_session_run_from(&w->session, UINT64_MAX, &w->room.number, &w->room.end, &w->owned);
 }
 static yurewha_status copy_session(struct world *w) { return yurewha_session_copy(&w->session, &w->none); }
+
+/* Runs pushed after all others, and refused ones. */
+static yurewha_status push_run(struct world *w)
+{
+    return yurewha_session_push_run(&w->session, 3 * LONG_RUNS, 3 * LONG_RUNS + w->count, &w->ranges[1]);
+}
+static yurewha_status push_taken(struct world *w)
+{
+    return yurewha_session_push_run(&w->session, 40, 45, &w->ranges[1]);
+}
+static yurewha_status push_marked(struct world *w)
+{
+    return yurewha_session_push_run(&w->session, 3 * LONG_RUNS, 3 * LONG_RUNS + w->count, &w->ranges[0]);
+}
+static yurewha_status push_past(struct world *w)
+{
+    return yurewha_session_push_run(&w->session, 3 * LONG_RUNS, 3 * LONG_RUNS + 1, &w->huge);
+}
+static yurewha_status push_none(struct world *w)
+{
+    return yurewha_session_push_run(&w->session, 3 * LONG_RUNS, 3 * LONG_RUNS + 1, &w->empty);
+}
+static yurewha_status keep_hashes(struct world *w)
+{
+    return yurewha_session_keep_hashes(&w->session, w->hashes, w->count);
+}
+static yurewha_status known(struct world *w)
+{
+    size_t count = 0;
+    EXPECT_STATUS(YUREWHA_DONE, yurewha_session_num_known_hashes(&w->session, &count));
+    return yurewha_session_known_hashes(&w->session, w->known, count);
+}
+static yurewha_status known_miscounted(struct world *w)
+{
+    return yurewha_session_known_hashes(&w->session, w->known, 0);
+}
 static yurewha_status gap(struct world *w) { return yurewha_session_root(&w->session, 45, &w->room.hash); }
 
 /* Sessions without a gap. */
@@ -392,6 +444,7 @@ static void takes_no_memory(struct world *w)
                                                         &w->room.count, &w->room.more));
     EXPECT_STATUS(YUREWHA_DONE, yurewha_session_taken(&w->session, 3, &truths[0]));
     EXPECT_STATUS(YUREWHA_DONE, yurewha_session_num_runs(&w->session, &w->room.count));
+    EXPECT_STATUS(YUREWHA_DONE, yurewha_session_num_known_hashes(&w->session, &w->room.count));
     EXPECT(requests() == 0);
     refuse(0, false);
 }
@@ -452,6 +505,14 @@ static const struct scenario {
     {"run from a position", run_from, YUREWHA_DONE, YUREWHA_MEMORY, false},
     {"run from past the last", no_run_from, YUREWHA_ARGUMENTS, YUREWHA_ARGUMENTS, false},
     {"copy of a session", copy_session, YUREWHA_DONE, YUREWHA_MEMORY, false},
+    {"push of a run", push_run, YUREWHA_DONE, YUREWHA_MEMORY, false},
+    {"push at taken positions", push_taken, YUREWHA_ARGUMENTS, YUREWHA_MEMORY, false},
+    {"push of a marked range", push_marked, YUREWHA_ARGUMENTS, YUREWHA_MEMORY, false},
+    {"push past 64 bits", push_past, YUREWHA_SIZES, YUREWHA_MEMORY, false},
+    {"push of none", push_none, YUREWHA_EMPTY_HANDLE, YUREWHA_EMPTY_HANDLE, false},
+    {"keep_hashes", keep_hashes, YUREWHA_DONE, YUREWHA_MEMORY, false},
+    {"known_hashes", known, YUREWHA_DONE, YUREWHA_MEMORY, false},
+    {"known_hashes, miscounted", known_miscounted, YUREWHA_ARGUMENTS, YUREWHA_MEMORY, false},
     {"root", root, YUREWHA_DONE, YUREWHA_SESSION_MEMORY, true},
     {"root over a gap", gap, YUREWHA_SESSION_GAP, YUREWHA_SESSION_GAP, false},
     {"finish", finish, YUREWHA_DONE, YUREWHA_SESSION_MEMORY, true},

@@ -118,6 +118,33 @@ static void copies(yurewha_session *session)
     yurewha_session_free(&copy);
 }
 
+/* A session of the same runs and hashes is told as the session, and knows the same hashes of a later put. */
+static void restores(yurewha_session *session)
+{
+    static const char digits[] = "0123456789";
+    size_t count = 0;
+    yurewha_hash *hashes = known_hashes(session, &count);
+    yurewha_session restored = {0}, copy = {0};
+    yurewha_subtree range = {0};
+    uint64_t first = 0, end = 0, fresh = NEVER, wanted = NEVER;
+    EXPECT_STATUS(YUREWHA_DONE, yurewha_session_new(&restored));
+    while (yurewha_session_run_from(session, end, &first, &end, &range) == YUREWHA_DONE)
+        EXPECT_STATUS(YUREWHA_DONE, yurewha_session_push_run(&restored, first, end, &range));
+    EXPECT_STATUS(YUREWHA_DONE, yurewha_session_keep_hashes(&restored, hashes, count));
+    yurewha_hash before = told_of(session), told = told_of(&restored);
+    EXPECT(same_hash(&before, &told));
+    yurewha_chunk *chunks = digits_of(digits);
+    EXPECT_STATUS(YUREWHA_DONE, yurewha_session_copy(session, &copy));
+    const yurewha_status status = yurewha_session_put(&copy, 40, chunks, strlen(digits), &wanted);
+    EXPECT_STATUS(status, yurewha_session_put(&restored, 40, chunks, strlen(digits), &fresh));
+    EXPECT(fresh == wanted);
+    yurewha_session_free(&restored);
+    yurewha_session_free(&copy);
+    yurewha_subtree_free(&range);
+    free(chunks);
+    free(hashes);
+}
+
 static void make_call(yurewha_session *session, const struct call *it)
 {
     const yurewha_hash before = {{1, 2, 3, 4}};
@@ -140,6 +167,7 @@ static void make_call(yurewha_session *session, const struct call *it)
         EXPECT_STATUS(it->status, yurewha_session_num_runs(session, &count));
         EXPECT(count == it->number);
         walk(session, count);
+        restores(session);
         break;
     case RUN:
         run(session, it);
@@ -255,8 +283,121 @@ static void orders(void)
     }
 }
 
+/* Runs that are pushed, in turn, to one session. */
+static void pushes(void)
+{
+    static const struct {
+        const char *what;
+        uint64_t first;
+        uint64_t end;
+        const char *digits;
+        bool at_start;
+        bool at_end;
+        yurewha_status status;
+    } rows[] = {
+        {"no position", 5, 5, "1", false, false, YUREWHA_ARGUMENTS},
+        {"an end before the first position", 5, 4, "1", false, false, YUREWHA_ARGUMENTS},
+        {"marked at its start", 5, 8, "123", true, false, YUREWHA_ARGUMENTS},
+        {"marked at its end", 5, 8, "123", false, true, YUREWHA_ARGUMENTS},
+        {"marked at both ends", 0, 1, "1", true, true, YUREWHA_ARGUMENTS},
+        {"the first run", 5, 8, "123", false, false, YUREWHA_DONE},
+        {"the same positions", 5, 8, "123", false, false, YUREWHA_ARGUMENTS},
+        {"positions of that run", 6, 7, "1", false, false, YUREWHA_ARGUMENTS},
+        {"around that run", 4, 9, "12345", false, false, YUREWHA_ARGUMENTS},
+        {"before that run", 0, 2, "12", false, false, YUREWHA_ARGUMENTS},
+        {"adjacent", 8, 9, "1", false, false, YUREWHA_ARGUMENTS},
+        {"too great", 9, 10, "X", false, false, YUREWHA_SIZES},
+        {"too great, and adjacent", 8, 9, "X", false, false, YUREWHA_ARGUMENTS},
+        {"too great, and marked", 9, 10, "X", true, false, YUREWHA_ARGUMENTS},
+        {"after a gap of one", 9, 11, "12", false, false, YUREWHA_DONE},
+        {"no hash and no size", 20, 21, "0", false, false, YUREWHA_DONE},
+        {"an end at 0", UINT64_MAX, 0, "1", false, false, YUREWHA_ARGUMENTS},
+        {"the last position", UINT64_MAX - 1, UINT64_MAX, "1", false, false, YUREWHA_DONE},
+        {"after the last position", UINT64_MAX, UINT64_MAX, "1", false, false, YUREWHA_ARGUMENTS},
+    };
+    yurewha_session session = {0};
+    size_t runs = 0, wanted = 0, known = NEVER;
+    EXPECT_STATUS(YUREWHA_DONE, yurewha_session_new(&session));
+    for (size_t i = 0; i < LENGTH(rows); i++) {
+        const yurewha_hash before = told_of(&session);
+        yurewha_chunk *chunks = digits_of(rows[i].digits);
+        const size_t count = strlen(rows[i].digits);
+        yurewha_subtree range = range_of(chunks, 0, count, rows[i].at_start, rows[i].at_end), found = {0};
+        yurewha_subtree kept = range_of(chunks, 0, count, rows[i].at_start, rows[i].at_end);
+        uint64_t first = NEVER, end = NEVER;
+        row("push of %s", rows[i].what);
+        EXPECT_STATUS(rows[i].status, yurewha_session_push_run(&session, rows[i].first, rows[i].end, &range));
+        EXPECT(same_subtree(&range, &kept));
+        const yurewha_hash after = told_of(&session);
+        EXPECT(same_hash(&before, &after) == (rows[i].status != YUREWHA_DONE));
+        if (rows[i].status == YUREWHA_DONE) {
+            wanted++;
+            EXPECT_STATUS(YUREWHA_DONE, yurewha_session_run_from(&session, rows[i].first, &first, &end, &found));
+            EXPECT(first == rows[i].first && end == rows[i].end && same_subtree(&range, &found));
+        }
+        yurewha_subtree_free(&range);
+        yurewha_subtree_free(&kept);
+        yurewha_subtree_free(&found);
+        free(chunks);
+    }
+    EXPECT_STATUS(YUREWHA_DONE, yurewha_session_num_runs(&session, &runs));
+    EXPECT(runs == wanted);
+    EXPECT_STATUS(YUREWHA_DONE, yurewha_session_num_known_hashes(&session, &known));
+    EXPECT(known == 0);
+    yurewha_session_free(&session);
+}
+
+static bool is_among(const yurewha_hash *hash, const yurewha_hash *hashes, size_t count)
+{
+    for (size_t i = 0; i < count; i++)
+        if (same_hash(hash, &hashes[i]))
+            return true;
+    return false;
+}
+
+/* Known hashes are those of puts and those that were kept, each once. A wrong count is refused, and nothing is written. */
+static void knows(void)
+{
+    yurewha_chunk *chunks = digits_of("1213");
+    const yurewha_hash hashes[] = {chunks[0].hash, {{0, 0, 0, 0}}, {{0, 0, 0, 0}}};
+    yurewha_session session = {0};
+    size_t count = NEVER;
+    uint64_t fresh = NEVER;
+    row("known hashes");
+    EXPECT_STATUS(YUREWHA_DONE, yurewha_session_new(&session));
+    EXPECT_STATUS(YUREWHA_DONE, yurewha_session_known_hashes(&session, NULL, 0));
+    EXPECT_STATUS(YUREWHA_DONE, yurewha_session_keep_hashes(&session, NULL, 0));
+    EXPECT_STATUS(YUREWHA_DONE, yurewha_session_keep_hashes(&session, hashes, LENGTH(hashes)));
+    EXPECT_STATUS(YUREWHA_DONE, yurewha_session_num_runs(&session, &count));
+    EXPECT(count == 0);
+    EXPECT_STATUS(YUREWHA_DONE, yurewha_session_put(&session, 5, chunks, 4, &fresh));
+    EXPECT(fresh == 2);
+    EXPECT_STATUS(YUREWHA_DONE, yurewha_session_num_known_hashes(&session, &count));
+    EXPECT(count == 4);
+    yurewha_hash *known = known_hashes(&session, &count);
+    for (size_t i = 0; i + 1 < count; i++)
+        EXPECT(yurewha_compare(&known[i], &known[i + 1]) < 0);
+    for (size_t i = 0; i < 4; i++)
+        EXPECT(is_among(&chunks[i].hash, known, count));
+    EXPECT(is_among(&hashes[1], known, count));
+    free(known);
+    const size_t wrong[] = {0, 3, 5};
+    for (size_t i = 0; i < LENGTH(wrong); i++) {
+        yurewha_hash *room = block(wrong[i] * sizeof *room);
+        memset(room, 0xa5, wrong[i] * sizeof *room);
+        EXPECT_STATUS(YUREWHA_ARGUMENTS, yurewha_session_known_hashes(&session, room, wrong[i]));
+        for (size_t j = 0; j < wrong[i]; j++)
+            EXPECT(is_hash(&room[j], "a5a5a5a5a5a5a5a5a5a5a5a5a5a5a5a5a5a5a5a5a5a5a5a5a5a5a5a5a5a5a5a5"));
+        free(room);
+    }
+    yurewha_session_free(&session);
+    free(chunks);
+}
+
 void test_sessions(void)
 {
     calls();
+    pushes();
+    knows();
     orders();
 }

@@ -531,6 +531,43 @@ yurewha_status yurewha_session_copy(yurewha_session *session, yurewha_session *c
 YUREWHA_NONNULL(1)
 void yurewha_session_free(yurewha_session *session);
 
+/* ---- Saving a session: its runs, by yurewha_session_run_from, and the hashes that it knows */
+
+/* To restore a session, push its runs to a new one by rising position, and keep the hashes.
+ *
+ * Adds a run after all runs of a session. Its positions are those from `first` to `end` - 1. The session gets a copy of
+ * `range`, the subtree of the run's chunks. `range` is unchanged. The call can't check that `range` is of `end` - `first`
+ * chunks. The session doesn't know the hashes of these chunks before they are kept or put.
+ *   DONE          the run is added
+ *   EMPTY_HANDLE  if and only if a handle is empty
+ *   ARGUMENTS     `end` isn't greater than `first`, `range` is marked at an end, or a position from `first` - 1 on is taken
+ *   SIZES         otherwise, the sizes of all chunks add up to more than 2^64 - 1
+ *   MEMORY        an allocation failed; this may be returned instead of the two above */
+YUREWHA_NODISCARD YUREWHA_NONNULL(1, 4)
+yurewha_status yurewha_session_push_run(yurewha_session *session, uint64_t first, uint64_t end, yurewha_subtree *range);
+
+/* Keeps hashes, as if an earlier put had had them. The session then knows them.
+ *   DONE          they are kept
+ *   EMPTY_HANDLE  if and only if the handle is empty
+ *   MEMORY        an allocation failed */
+YUREWHA_NODISCARD YUREWHA_NONNULL(1)
+yurewha_status yurewha_session_keep_hashes(yurewha_session *session, const yurewha_hash *hashes, size_t count);
+
+/* Writes the number of hashes that a session knows: those of all chunks that were put, and those that were kept. Each is
+ * counted once. Allocates nothing.
+ *   DONE          it is written
+ *   EMPTY_HANDLE  the handle is empty */
+YUREWHA_NODISCARD YUREWHA_NONNULL(1, 2)
+yurewha_status yurewha_session_num_known_hashes(yurewha_session *session, size_t *count);
+
+/* Writes the hashes that a session knows, each once, in no particular order.
+ *   DONE          they are written
+ *   EMPTY_HANDLE  if and only if the handle is empty
+ *   ARGUMENTS     if and only if there is a session, and it doesn't know exactly `count` hashes
+ *   MEMORY        an allocation failed */
+YUREWHA_NODISCARD YUREWHA_NONNULL(1)
+yurewha_status yurewha_session_known_hashes(yurewha_session *session, yurewha_hash *hashes, size_t count);
+
 #ifdef __cplusplus
 }
 #endif

@@ -107,6 +107,20 @@ REFUSED = [
     (y.InvalidArguments, lambda: session().finish(-1)),
     (y.InvalidArguments, lambda: session(1).run(1)),
     (y.InvalidArguments, lambda: session(1).run(-1)),
+    (y.InvalidArguments, lambda: session(1).run_from(-1)),
+    (y.InvalidArguments, lambda: session(1).push_run(2, 3, open_tree())),
+    (y.InvalidArguments, lambda: session(1).push_run(1, 2, open_tree())),
+    (y.InvalidArguments, lambda: session(1).push_run(0, 1, open_tree())),
+    (y.InvalidArguments, lambda: session(1).push_run(3, 3, open_tree())),
+    (y.InvalidArguments, lambda: session(1).push_run(3, 2, open_tree())),
+    (y.InvalidArguments, lambda: session(1).push_run(3, 4, closed_tree())),
+    (y.InvalidArguments, lambda: session().push_run(0, 1, y.Subtree.from_chunks(True, [ONE], False))),
+    (y.InvalidArguments, lambda: session().push_run(0, 1, y.Subtree.from_chunks(False, [ONE], True))),
+    (y.InvalidArguments, lambda: session().push_run(-1, 1, open_tree())),
+    (y.InvalidArguments, lambda: session().push_run(0, MAX + 1, open_tree())),
+    (y.SizeOverflow, lambda: session(1).push_run(3, 4, y.Subtree.from_chunks(False, [(Z, MAX)], False))),
+    (y.InvalidArguments, lambda: session().keep_hashes([bytes(31)])),
+    (y.InvalidArguments, lambda: session().keep_hashes(bytes(33))),
     # Handles that were freed by hand, and one that nothing was put in
     *((y.EmptyHandle, call) for call in (
         lambda: y.Subtree.__new__(y.Subtree).num_nodes,
@@ -135,6 +149,12 @@ REFUSED = [
         lambda: freed_session().run(0),
         lambda: freed_session().runs(),
         lambda: freed_session().copy(),
+        lambda: freed_session().run_from(0),
+        lambda: freed_session().push_run(0, 1, open_tree()),
+        lambda: session().push_run(0, 1, freed()),
+        lambda: freed_session().keep_hashes([Z]),
+        lambda: freed_session().known_hashes(),
+        lambda: pickle.dumps(freed_session()),
         lambda: freed_session().root(0),
         lambda: freed_session().finish(0),
     )),
@@ -178,7 +198,11 @@ REFUSED = [
         lambda: y.svg_of([1]),
         lambda: session().put("1", []),
         lambda: session().taken(1.0),
-        lambda: pickle.dumps(session()),
+        lambda: session().run_from("0"),
+        lambda: session().push_run(0, 1, [ONE]),
+        lambda: session().push_run(0, 1.0, open_tree()),
+        lambda: session().keep_hashes([7]),
+        lambda: session().keep_hashes(64 * "0"),
         lambda: pickle.dumps(y.Hasher()),
         lambda: type("Other", (y.Hash,), {}),
         lambda: type("Other", (y.Hasher,), {}),
@@ -217,6 +241,11 @@ def test_a_refusal_changes_nothing():
     for first, chunks in ((3, [ONE]), (2, [ONE, ONE]), (MAX, [ONE]), (0, [(Z, MAX)])):
         with pytest.raises(y.SessionError):
             one.put(first, chunks)
+    great = y.Subtree.from_chunks(False, [(Z, MAX)], False)
+    for first, end, subtree in ((4, 5, open_tree()), (5, 6, closed_tree()), (5, 6, great)):
+        with pytest.raises((y.InvalidArguments, y.SizeOverflow)):
+            one.push_run(first, end, subtree)
+    assert list(one.known_hashes()) == [Z]
     assert [first for first, _ in one.runs()] == [3] and one.put(7, [ONE]) == 0
     hasher = full_hasher()
     with pytest.raises(y.SizeOverflow):
@@ -262,6 +291,9 @@ NAMED = [
     ("picture 1 ", lambda: y.svg_of([open_tree(), 7])),
     ("position 3 is taken", lambda: session(3).put(0, 5 * [ONE])),
     ("hash 1 ", lambda: y.Hashes([Z, 7])),
+    ("hash 1 ", lambda: session().keep_hashes([Z, 7])),
+    ("the run has no position", lambda: session(3).push_run(4, 5, open_tree())),
+    ("a run is a Subtree", lambda: session(3).push_run(5, 6, [ONE])),
 ]
 
 
@@ -295,7 +327,7 @@ count = 1_000_000
 chunks = y.Chunks(b"".join(i.to_bytes(24, "little") + b"\\1" + bytes(7) + b"\\1" + bytes(7) for i in range(count)))
 tree = y.Subtree.from_chunks(False, chunks, False)
 other = y.Subtree.from_chunks(False, [(y.Hash(), 1)], False)
-session, full = y.Session(), y.Session()
+session, full, hashes = y.Session(), y.Session(), chunks.hashes
 full.put(0, chunks)
 pages = int(open("/proc/self/statm").read().split()[0])
 resource.setrlimit(resource.RLIMIT_AS, (pages * resource.getpagesize() + (8 << 20), resource.RLIM_INFINITY))
@@ -307,6 +339,8 @@ calls = [
     lambda: y.file_hash(chunks),
     lambda: session.put(0, chunks),
     lambda: full.copy(),
+    lambda: session.push_run(0, count, tree),
+    lambda: session.keep_hashes(hashes),
     lambda: y.Subtree.merge_all([tree, tree]),
 ]
 for call in calls:
@@ -316,7 +350,7 @@ for call in calls:
         assert isinstance(error, MemoryError) and "out of memory" in str(error)
     else:
         raise AssertionError("it wasn't refused")
-assert tree.num_nodes == count and session.num_runs == 0
+assert tree.num_nodes == count and session.num_runs == 0 and len(session.known_hashes()) == 0
 print("refused", len(calls))
 """
 
@@ -325,7 +359,7 @@ print("refused", len(calls))
 def test_out_of_memory():
     done = subprocess.run(
         [sys.executable, "-c", OUT_OF_MEMORY.format(path=sys.path)], capture_output=True, text=True, check=False)
-    assert done.stdout == "refused 8\n", done.stderr
+    assert done.stdout == "refused 10\n", done.stderr
 
 
 def test_no_leak():
@@ -341,6 +375,7 @@ def test_no_leak():
             one = y.Session()
             one.put(0, chunks)
             one.runs()
+            pickle.loads(pickle.dumps(one))
             y.Hasher(bytes(1000)).copy().digest()
             for call in (lambda: tree + closed_tree(), lambda: y.Subtree.from_json("[]")):
                 with pytest.raises(ValueError):

@@ -230,6 +230,11 @@ final: Optional[y.Hash] = tree.final_hash()
 session = y.Session()
 new: int = session.put(0, packed)
 runs: List[Tuple[int, y.Subtree]] = session.runs()
+run: Optional[Tuple[int, int, y.Subtree]] = session.run_from(0)
+if run is not None:
+    session.push_run(*run)
+session.keep_hashes(session.known_hashes())
+session.keep_hashes([y.Hash(), bytes(32)])
 first: Tuple[y.Hash, int] = packed[0]
 some: y.Chunks = packed[1:]
 data: bytes = root.bytes + y.Hasher(b"a").digest()
@@ -310,6 +315,12 @@ WRONG = [
     'session.put("0", [])',
     "session.put([])",
     "session.root()",
+    "session.run_from(0)[0]",
+    "session.push_run(0, 1, [])",
+    "session.push_run(0, tree)",
+    'session.keep_hashes("text")',
+    "session.keep_hashes([7])",
+    "session.known_hashes().packed + 1",
 ]
 WRONG_FRAME = "import yurewha as y\ntree, session = y.Subtree.merge_all([]), y.Session()\n"
 

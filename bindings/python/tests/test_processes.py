@@ -54,6 +54,10 @@ def test_pickles(protocol):
     tree = piece(1)
     for value in (tree, y.Hash.random_from_seed(1), block(1, 10), [tree, {"a": tree}]):
         assert pickle.loads(pickle.dumps(value, protocol)) == value
+    session = y.Session()
+    session.put(7, block(1, 10))
+    read = pickle.loads(pickle.dumps(session, protocol))
+    assert read.runs() == session.runs() and set(read.known_hashes()) == set(session.known_hashes())
 
 
 def test_a_changed_pickle():
@@ -64,6 +68,12 @@ def test_a_changed_pickle():
     ):
         with pytest.raises(y.InvalidJson):
             make(*arguments)
+    session = y.Session()
+    session.put(7, block(1, 10)), session.put(2, block(2, 3))
+    make, ((low, high), hashes) = session.__reduce__()
+    for runs in ((high, low), (low, low), (low, (5, 8, high[2])), (low, (7, 7, high[2]))):
+        with pytest.raises(y.InvalidArguments):
+            make(runs, hashes)
 
 
 def in_child(work):

@@ -306,6 +306,26 @@ def test_runs_while_a_handler_joins_some(monkeypatch):
     assert [first for first, _ in runs] == [0, 4] and runs == session.runs()
 
 
+def test_a_pickle_while_a_handler_puts(monkeypatch):
+    """The handler puts a chunk after the runs were looked at. The pickle has both, the run and the hash."""
+    session, chunks = y.Session(), block(8, 2)
+    session.put(0, chunks[:1])
+    looked = []
+
+    def look(self, plain=y.Session._walk):
+        yield from plain(self)
+        looked.append(True)
+        if len(looked) == 1:
+            signal.raise_signal(signal.SIGUSR1)
+
+    with handled(signal.SIGUSR1, lambda number, frame: session.put(5, chunks[1:])):
+        monkeypatch.setattr(y.Session, "_walk", look)
+        pickled = pickle.dumps(session)
+        monkeypatch.undo()
+    read = pickle.loads(pickled)
+    assert len(looked) == 2 and read.runs() == session.runs() and len(read.known_hashes()) == read.num_runs == 2
+
+
 def test_no_update_by_a_handler_is_lost():
     """Signals by the clock, at any place of the other updates."""
     hasher, counts = y.Hasher(), {"taken": 0, "refused": 0}

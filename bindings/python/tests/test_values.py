@@ -2,6 +2,8 @@
 
 import copy
 import json
+import pickle
+import random
 
 import pytest
 import xet_model as m
@@ -192,3 +194,43 @@ def test_a_copy_of_a_session():
         assert other.taken(0) and not session.taken(0)
     assert other.put(4, [seeded(1), seeded(2), seeded(3)]) == 0
     assert other.finish(8) == y.file_hash([seeded(k) for k in (1, 2, 3, 4, 1, 2, 3, 1)])
+
+
+def by_hand(session):
+    """The session, restored by calls."""
+    restored, run = y.Session(), session.run_from(0)
+    while run is not None:
+        restored.push_run(*run)
+        run = session.run_from(run[1])
+    restored.keep_hashes(session.known_hashes())
+    return restored
+
+
+@pytest.mark.parametrize("restored", [by_hand, lambda session: pickle.loads(pickle.dumps(session))], ids=["by hand", "pickle"])
+def test_saved_sessions(restored):
+    """Drawn sessions, and the same puts into each and what is restored of it."""
+    rng = random.Random(16)
+    for _ in range(100):
+        session = y.Session()
+        for _ in range(rng.randrange(12)):
+            try:
+                session.put(rng.randrange(100), [seeded(rng.randrange(30)) for _ in range(rng.randrange(20))])
+            except y.SessionOverlap:
+                pass
+        session.keep_hashes([y.Hash.random_from_seed(rng.randrange(60))])
+        other = restored(session)
+        assert other.runs() == session.runs() and set(other.known_hashes()) == set(session.known_hashes())
+        assert len(other.known_hashes()) == len(set(other.known_hashes()))
+        for place in filter(lambda place: not session.taken(place), range(120)):
+            chunk = seeded(rng.randrange(60))
+            assert other.put(place, [chunk]) == session.put(place, [chunk])
+        total = session.run_from(0)[1]
+        assert total >= 120 and other.finish(total) == session.finish(total) and other.root(total) == session.root(total)
+
+
+def test_runs_by_position():
+    session = y.Session()
+    session.put(2, [seeded(3), seeded(4)]), session.put(7, [seeded(1)])
+    first, last = (2, 4, session.run(0)[1]), (7, 8, session.run(1)[1])
+    assert [session.run_from(place) for place in range(9)] == 4 * [first] + 4 * [last] + [None]
+    assert session.run_from(2**64 - 1) is None

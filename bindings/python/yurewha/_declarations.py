@@ -80,6 +80,11 @@ DECLARATIONS: Dict[str, Declaration] = {
     "yurewha_session_finish": ("yurewha_status", ("yurewha_session *", "uint64_t", "yurewha_hash *")),
     "yurewha_session_copy": ("yurewha_status", ("yurewha_session *", "yurewha_session *")),
     "yurewha_session_free": ("void", ("yurewha_session *",)),
+    "yurewha_session_push_run": (
+        "yurewha_status", ("yurewha_session *", "uint64_t", "uint64_t", "yurewha_subtree *")),
+    "yurewha_session_keep_hashes": ("yurewha_status", ("yurewha_session *", "const yurewha_hash *", "size_t")),
+    "yurewha_session_num_known_hashes": ("yurewha_status", ("yurewha_session *", "size_t *")),
+    "yurewha_session_known_hashes": ("yurewha_status", ("yurewha_session *", "yurewha_hash *", "size_t")),
 }
 
 #: The statuses, by their names in the header.

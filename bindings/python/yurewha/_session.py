@@ -3,19 +3,24 @@
 from __future__ import annotations
 
 import ctypes
-from typing import Iterator, List, NoReturn, Tuple, final
+from typing import Callable, Iterable, Iterator, List, Optional, Tuple, TypeVar, final
 
 from ._chunks import Chunks, ChunksLike
 from ._declarations import STATUSES
 from ._errors import SessionOverlap, YurewhaError, error_of
-from ._guard import Guarded
+from ._guard import Guarded, both_locked
 from ._hash import Hash, checked_u64
-from ._library import LONG_CHUNKS, CChunk, CHash, CSession, calls_for, long, short
+from ._hashes import Hashes, HashesLike
+from ._library import LONG_CHUNKS, LONG_NODES, CChunk, CHash, CSession, calls_for, long, short
 from ._subtree import Subtree
 
 __all__ = ["Session"]
 
 _CHUNK_SIZE = ctypes.sizeof(CChunk)
+_HASH_SIZE = ctypes.sizeof(CHash)
+#: A run: its first position, the position after its last one, and the subtree of its chunks.
+_Run = Tuple[int, int, Subtree]
+_T = TypeVar("_T")
 
 
 @final
@@ -28,19 +33,26 @@ class Session(Guarded):
     (2, 0)
     >>> session.finish(4).hex()[:16]
     '284ea045e5a579e9'
+
+    A pickle has the runs and the known hashes.
+
+    >>> import pickle
+    >>> pickle.loads(pickle.dumps(session)).put(4, [one, two])
+    0
     """
 
-    __slots__ = ("_handle", "_puts")
+    __slots__ = ("_handle", "_changes")
 
     _handle: CSession
-    # How many calls of `put` began. A call that reads several times notices by it that a signal handler called `put`.
-    _puts: int
+    # How many calls that change the session began. A call that reads several times notices by it that a signal handler made
+    # one.
+    _changes: int
 
     def __new__(cls) -> Session:
         self = object.__new__(cls)
         self._guard()
         self._handle = CSession()
-        self._puts = 0
+        self._changes = 0
         status = short.yurewha_session_new(self._handle)
         if status:
             raise error_of(status)
@@ -75,7 +87,7 @@ class Session(Guarded):
         packed = Chunks(chunks).packed
         count, out = len(packed) // _CHUNK_SIZE, ctypes.c_uint64()
         with self._locked():
-            self._puts += 1
+            self._changes += 1
             status = calls_for(count, LONG_CHUNKS).yurewha_session_put(self._handle, place, packed, count, out)
             if status == STATUSES["YUREWHA_SESSION_OVERLAP"]:
                 taken = next(filter(self.taken, range(place, min(place + count, 2**64))), place)
@@ -136,24 +148,48 @@ class Session(Guarded):
         >>> [first for first, _ in session.runs()]
         [3, 5]
         """
+        return [(first, subtree) for first, _, subtree in self._read(lambda: list(self._walk()))]
+
+    def run_from(self, position: int) -> Optional[Tuple[int, int, Subtree]]:
+        """Returns the first run that ends after a position: the run that holds it or else the next one.
+
+        The result is its first position, the position after its last one, and the subtree of its chunks, open at both ends. It
+        is None if no run ends after the position.
+
+        >>> session = Session(); _ = session.put(3, [(Hash(), 1)])
+        >>> first, end, subtree = session.run_from(0)
+        >>> first, end, session.run_from(end)
+        (3, 4, None)
+        """
+        place = checked_u64(position, "a position")
+        with self._locked():
+            return self._run_from(place)
+
+    def _run_from(self, place: int) -> Optional[_Run]:
+        """Returns the first run that ends after a position, or None. The lock must be held."""
+        first, end, subtree = ctypes.c_uint64(), ctypes.c_uint64(), Subtree._empty()
+        status = short.yurewha_session_run_from(self._handle, place, first, end, subtree._handle)
+        if status == STATUSES["YUREWHA_ARGUMENTS"]:
+            return None
+        if status:
+            raise error_of(status)
+        return first.value, end.value, subtree
+
+    def _walk(self) -> Iterator[_Run]:
+        """Yields each run: the first that ends after the one before it. The lock must be held."""
+        run = self._run_from(0)
+        while run is not None:
+            yield run
+            run = self._run_from(run[1])
+
+    def _read(self, read: Callable[[], _T]) -> _T:
+        """Returns what several calls read, with no change by a signal handler between them."""
         with self._locked():
             while True:
-                puts = self._puts
-                runs = list(self._walk())
-                if puts == self._puts:
-                    return runs
-
-    def _walk(self) -> Iterator[Tuple[int, Subtree]]:
-        """Yields each run: the first that ends after the one before it. The lock must be held."""
-        first, end = ctypes.c_uint64(), ctypes.c_uint64()
-        while True:
-            subtree = Subtree._empty()
-            status = short.yurewha_session_run_from(self._handle, end, first, end, subtree._handle)
-            if status == STATUSES["YUREWHA_ARGUMENTS"]:
-                return
-            if status:
-                raise error_of(status)
-            yield first.value, subtree
+                changes = self._changes
+                found = read()
+                if changes == self._changes:
+                    return found
 
     def __iter__(self) -> Iterator[Tuple[int, Subtree]]:
         """Iterates over the runs at the time of the call, as `runs` returns them.
@@ -210,8 +246,87 @@ class Session(Guarded):
     def __deepcopy__(self, memo: object) -> Session:
         return self.copy()
 
-    def __reduce__(self) -> NoReturn:
-        raise TypeError("a Session can't be pickled, because no call of the library lists its hashes; its runs can be")
+    # ---- Saving
+
+    def push_run(self, first: int, end: int, subtree: Subtree) -> None:
+        """Adds a run after all runs of this session: the positions from `first` to `end` - 1, and the subtree of its chunks.
+
+        So a session can be restored from what `run_from` and `known_hashes` returned. The call can't check that there are as
+        many chunks as positions. The session doesn't know their hashes before these are kept or put.
+
+        Raises `InvalidArguments` if there is no position, the subtree is marked at an end, or a position from `first` - 1 on is
+        taken. Otherwise raises `SizeOverflow` if the sizes of all chunks add up to more than 2^64 - 1. After an error nothing
+        has changed.
+
+        >>> saved, restored = Session(), Session()
+        >>> _ = saved.put(3, [(Hash(), 1)])
+        >>> restored.push_run(*saved.run_from(0))
+        >>> restored.keep_hashes(saved.known_hashes())
+        >>> restored.runs() == saved.runs(), restored.put(4, [(Hash(), 1)])
+        (True, 0)
+        """
+        place, after = checked_u64(first, "a position"), checked_u64(end, "a position")
+        if not isinstance(subtree, Subtree):
+            raise TypeError(f"a run is a Subtree, not {type(subtree).__name__}")
+        one, other = both_locked(self, subtree)
+        with one, other:
+            self._changes += 1
+            calls = calls_for(subtree._nodes(), LONG_NODES)
+            status = calls.yurewha_session_push_run(self._handle, place, after, subtree._handle)
+        if status:
+            raise error_of(status, "the run has no position, is marked at an end, or leaves no gap after the runs before it")
+
+    def keep_hashes(self, hashes: HashesLike) -> None:
+        """Keeps hashes, as if an earlier put had had them. The session then knows them. After an error nothing has changed.
+
+        >>> session = Session(); session.keep_hashes([Hash()])
+        >>> session.put(0, [(Hash(), 1), (Hash.random_from_seed(1), 1)])
+        1
+        """
+        packed = Hashes(hashes).packed
+        count = len(packed) // _HASH_SIZE
+        with self._locked():
+            self._changes += 1
+            status = calls_for(count, LONG_CHUNKS).yurewha_session_keep_hashes(self._handle, packed, count)
+        if status:
+            raise error_of(status)
+
+    def known_hashes(self) -> Hashes:
+        """Returns the hashes that this session knows, each once, in no particular order.
+
+        They are the hashes of all chunks that were put, and those that were kept.
+
+        >>> session = Session(); _ = session.put(3, [(Hash(), 1), (Hash(), 1)])
+        >>> list(session.known_hashes()) == [Hash()]
+        True
+        """
+        count = ctypes.c_size_t()
+        with self._locked():
+            # A signal handler may change their number between the two calls. Then both are repeated.
+            while True:
+                status = short.yurewha_session_num_known_hashes(self._handle, count)
+                if status:
+                    raise error_of(status)
+                out = (CHash * count.value)()
+                calls = calls_for(len(out), LONG_CHUNKS)
+                status = calls.yurewha_session_known_hashes(self._handle, out, len(out))
+                if status != STATUSES["YUREWHA_ARGUMENTS"]:
+                    break
+        if status:
+            raise error_of(status)
+        return Hashes._of(bytes(out))
+
+    @staticmethod
+    def _restored(runs: Iterable[_Run], hashes: HashesLike) -> Session:
+        session = Session()
+        for run in runs:
+            session.push_run(*run)
+        session.keep_hashes(hashes)
+        return session
+
+    def __reduce__(self) -> Tuple[Callable[[Iterable[_Run], HashesLike], Session], Tuple[Tuple[_Run, ...], Hashes]]:
+        # The runs of a pickle are checked when it is read, and so are their subtrees.
+        return Session._restored, self._read(lambda: (tuple(self._walk()), self.known_hashes()))
 
     def __repr__(self) -> str:
         try:

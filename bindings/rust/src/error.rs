@@ -27,7 +27,8 @@ use std::fmt;
 #[derive(Clone, Copy, Debug, PartialEq, Eq)]
 #[non_exhaustive]
 pub enum CoreError {
-    /// A range other than the last is marked at its end, or one other than the first at its start.
+    /// A range other than the last is marked at its end, or one other than the first at its start. For a session, a
+    /// run that is [pushed](crate::own::Session::push_run) has no position or leaves no gap, or its subtree is marked.
     InvalidArguments,
     /// The sizes of all nodes add up to more than `u64::MAX` bytes.
     SizeOverflow,

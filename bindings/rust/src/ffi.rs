@@ -236,6 +236,23 @@ extern "C" {
         -> yurewha_status;
     pub fn yurewha_session_copy(session: *mut yurewha_session, copy: *mut yurewha_session) -> yurewha_status;
     pub fn yurewha_session_free(session: *mut yurewha_session);
+    pub fn yurewha_session_push_run(
+        session: *mut yurewha_session,
+        first: u64,
+        end: u64,
+        range: *mut yurewha_subtree,
+    ) -> yurewha_status;
+    pub fn yurewha_session_keep_hashes(
+        session: *mut yurewha_session,
+        hashes: *const yurewha_hash,
+        count: usize,
+    ) -> yurewha_status;
+    pub fn yurewha_session_num_known_hashes(session: *mut yurewha_session, count: *mut usize) -> yurewha_status;
+    pub fn yurewha_session_known_hashes(
+        session: *mut yurewha_session,
+        hashes: *mut yurewha_hash,
+        count: usize,
+    ) -> yurewha_status;
 }
 
 // Tests of the calls that no other module makes.

@@ -9,8 +9,8 @@ pub(crate) trait Refusal: Sized {
     fn of(status: ffi::yurewha_status) -> Option<Self>;
 }
 
-// `Ok` if the call succeeded, else its error. Panics if the call never returns this status.
-fn done<E: Refusal>(status: ffi::yurewha_status) -> std::result::Result<(), E> {
+/// `Ok` if the call succeeded, else its error. Panics if the call never returns this status.
+pub(crate) fn done<E: Refusal>(status: ffi::yurewha_status) -> std::result::Result<(), E> {
     match status {
         ffi::YUREWHA_DONE => Ok(()),
         status => Err(E::of(status).unwrap_or_else(|| panic!("yurewha answered the status {status}"))),

@@ -109,6 +109,18 @@ fn assert_each_refusal<T: Debug, E: Debug + PartialEq>(error: E, call: impl Fn()
     }
 }
 
+// That a call that changes a value is refused with each of its requests in turn. It has to make one.
+fn refuse_each(mut call: impl FnMut() -> Result<(), CoreError>) {
+    for before in 0.. {
+        let (answer, refused) = with_refusal(before, &mut call);
+        assert_eq!(answer, if refused { Err(NO_MEMORY) } else { Ok(()) });
+        if !refused {
+            assert!(before > 0, "no request was made");
+            return;
+        }
+    }
+}
+
 // How many blocks a call takes and doesn't free.
 fn blocks_left(call: impl FnOnce()) -> i64 {
     let before = BLOCKS.get();
@@ -181,6 +193,21 @@ fn forms_of_serde_are_refused() {
     assert_each_refusal(true, || {
         bincode::deserialize::<MerkleHashSubtree>(&bytes).map_err(is_no_memory)
     });
+    let mut session = Session::new();
+    session.put(40, &nodes(20)).unwrap();
+    session.put(7, &nodes(20)).unwrap();
+    let (text, bytes) = (
+        serde_json::to_string(&session).unwrap(),
+        bincode::serialize(&session).unwrap(),
+    );
+    assert_each_refusal(true, || {
+        serde_json::to_writer(std::io::sink(), &session).map_err(is_no_memory)
+    });
+    assert_each_refusal(true, || {
+        bincode::serialize_into(std::io::sink(), &session).map_err(is_no_memory)
+    });
+    assert_each_refusal(true, || serde_json::from_str::<Session>(&text).map_err(is_no_memory));
+    assert_each_refusal(true, || bincode::deserialize::<Session>(&bytes).map_err(is_no_memory));
 }
 
 #[test]
@@ -231,6 +258,14 @@ fn sessions_are_refused() {
     assert_each_refusal(NO_MEMORY, || session.try_run_from(59));
     assert_each_refusal(NO_MEMORY, || session.try_clone());
     assert_each_refusal(NO_MEMORY, || session.gaps(60));
+    assert_each_refusal(NO_MEMORY, || session.known_hashes());
+    let (positions, range) = session.run_from(0).unwrap();
+    let mut restored = Session::new();
+    refuse_each(|| restored.push_run(positions.clone(), &range));
+    assert_eq!(restored.total_size(), 60);
+    let hashes: Vec<_> = nodes.iter().map(|node| node.0).collect();
+    refuse_each(|| restored.keep_hashes(&hashes));
+    assert_eq!(restored.known_hashes().unwrap().len(), 60);
     assert_each_refusal(SessionFault::Memory, || session.root(60));
     assert_each_refusal(SessionFault::Memory, || session.finish(60));
     assert_eq!(session.finish(60), Ok(file_hash(&nodes)));
@@ -341,7 +376,7 @@ fn other_calls_take_no_memory() {
         assert!(subtree == copy && subtree.at_start() && subtree.at_end());
         assert!(subtree.final_hash().is_some());
         assert!(subtree.total_size() == 60 && subtree.num_nodes() == 1 && subtree.num_levels() > 1);
-        assert!(session.taken(0) && session.num_runs() == 1);
+        assert!(session.taken(0) && session.num_runs() == 1 && session.total_size() == 60);
     });
     assert_eq!(taken, 0);
 }

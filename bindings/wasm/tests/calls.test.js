@@ -292,6 +292,42 @@ test("a session's faults have their classes", () => {
     assert.deepEqual([first, range.totalSize], [5n, 1n]);
 });
 
+test("a session is restored by its runs and the hashes that it knows", () => {
+    for (const [, it] of all) {
+        const chunks = chunksOf(it, { drawn: { firstSeed: "1", count: 60 } });
+        const [session, restored] = [new it.Session(), new it.Session()];
+        session.put(40, chunks.slice(40));
+        session.put(0, chunks.slice(0, 30));
+        for (let run, end = 0n; (run = session.runFrom(end)) !== null; end = run[1]) restored.pushRun(...run);
+        assert.deepEqual(restored.knownHashes(), []);
+        restored.keepHashes(session.knownHashes());
+        const known = session.knownHashes().map((hash) => hash.hex());
+        assert.equal(new Set(known).size, 50);
+        assert.deepEqual(restored.knownHashes().map((hash) => hash.hex()).sort(), known.sort());
+        assert.deepEqual([restored.runFrom(35).slice(0, 2), restored.runFrom(60)], [[40n, 60n], null]);
+        for (const each of [session, restored]) assert.equal(each.put(30, chunks.slice(25, 35)), 5);
+        assert.ok(restored.root(60).equals(session.root(60)));
+    }
+});
+
+test("a run that doesn't fit is refused", () => {
+    const session = new y.Session();
+    const run = (atStart, atEnd) => y.Subtree.fromChunks(atStart, [[new y.Hash(), 1]], atEnd);
+    session.pushRun(5, 8, run(false, false));
+    for (const [first, end, range] of [
+        [9, 9, run(false, false)], [9, 8, run(false, false)], [8, 9, run(false, false)], [5, 8, run(false, false)],
+        [0, 2, run(false, false)], [9, 10, run(true, false)], [9, 10, run(false, true)],
+    ]) {
+        assert.throws(() => session.pushRun(first, end, range), errors.InvalidArguments);
+    }
+    const great = y.Subtree.fromChunks(false, [[new y.Hash(), MAX]], false);
+    assert.throws(() => session.pushRun(9, 10, great), errors.SizeOverflow);
+    assert.throws(() => session.pushRun(9, 10, session), TypeError);
+    assert.throws(() => session.pushRun(9, "10", great), TypeError);
+    assert.throws(() => session.keepHashes([new y.Hash(), "00"]), new TypeError("hash 1 is a Hash of the same module"));
+    assert.deepEqual([session.numRuns, session.knownHashes()], [1, []]);
+});
+
 test("load takes an address, bytes, a compiled module and a response", async () => {
     const bytes = BYTES.wasm32;
     const file = new URL("bindings/wasm/yurewha/yurewha.wasm", ROOT);

@@ -41,6 +41,10 @@ const session: Session = new y.Session();
 const fresh: number = session.put(0, chunks);
 const [position, run] = session.runs()[0]!;
 const start: bigint = position + run.totalSize;
+const saved: [bigint, bigint, Subtree] | null = session.runFrom(0);
+const restored: Session = new y.Session();
+if (saved !== null) restored.pushRun(...saved);
+restored.keepHashes(session.knownHashes());
 const point: number | null = y.findStableStart(chunks) ?? y.findStableEnd(chunks);
 
 try {
@@ -70,10 +74,12 @@ export function refused(): void {
     hash.compare("00");
     // @ts-expect-error the bytes are those of a Uint8Array
     y.dataHash([1, 2]);
+    // @ts-expect-error there may be no run
+    session.runFrom(0)[0];
     // @ts-expect-error a Subtree is made by its calls
     new y.Subtree();
 }
 
-const same = final !== null && final.equals(root) && session.root(2).equals(root) && files[0]!.equals(session.finish(2));
+const same = final !== null && final.equals(root) && restored.root(2).equals(root) && session.root(2).equals(root) && files[0]!.equals(session.finish(2));
 const hashed = order === 0 && streamed.equals(hasher.digest()) && streamed.equals(hash);
 console.log(same && hashed && fresh === 2 && start > 0n && levels.length > 0 && parents >= 0 && point === null && `${first} ${rest[0]}`.length > 128);

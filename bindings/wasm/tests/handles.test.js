@@ -37,11 +37,12 @@ function callsOf(y) {
             (it) => it.atStart, (it) => it.atEnd, (it) => it.totalSize, (it) => it.numNodes, (it) => it.numLevels, (it) => it.levels,
             (it) => it.mergeInto(other), (it) => other.mergeInto(it), (it) => it.mergeInto(it), (it) => it.finalHash(), (it) => it.clone(),
             (it) => it.equals(other), (it) => other.equals(it), (it) => it.equals(it), (it) => it.toJSON(), (it) => it.toFlat(),
-            (it) => y.Subtree.merge([other, it]), (it) => y.Subtree.merge([it]), (it) => y.Subtree.merge([it, it]),
+            (it) => new y.Session().pushRun(0, 1, it), (it) => y.Subtree.merge([other, it]), (it) => y.Subtree.merge([it]), (it) => y.Subtree.merge([it, it]),
         ]],
         Session: [() => new y.Session(), [
             (it) => it.put(0, []), (it) => it.taken(0), (it) => it.numRuns, (it) => it.run(0), (it) => it.runs(), (it) => it.root(0),
-            (it) => it.finish(0),
+            (it) => it.finish(0), (it) => it.runFrom(0), (it) => it.pushRun(0, 1, other), (it) => it.keepHashes([]),
+            (it) => it.knownHashes(),
         ]],
     };
 }

@@ -20,8 +20,11 @@ function scene(y) {
     const flat = back.toFlat();
     const hash = y.Hash.randomFromSeed(1);
     const base64 = hash.base64();
+    const restored = new y.Session();
+    const middle = y.Subtree.fromChunks(false, chunks.slice(100, 200), false);
+    const others = Array.from({ length: COUNT }, (_, k) => y.Hash.randomFromSeed(1000 + k));
     const state = () => [
-        plain(front), plain(back), session.numRuns, [0, 99, 100, 199, 200, 299, 300].map((position) => session.taken(position)), hash.hex(),
+        plain(front), plain(back), session.numRuns, restored.numRuns, [0, 99, 100, 199, 200, 299, 300].map((position) => session.taken(position)), hash.hex(),
     ];
     const calls = {
         base64: () => hash.base64(),
@@ -39,7 +42,11 @@ function scene(y) {
         fromFlat: () => plain(y.Subtree.fromFlat(flat)),
         "new Session": () => new y.Session().numRuns,
         run: () => plain(session.run(1)[1]),
+        runFrom: () => plain(session.runFrom(100)[2]),
+        knownHashes: () => session.knownHashes().length,
         // These change an object, so they come last.
+        pushRun: () => [restored.pushRun(400, 500, middle), restored.numRuns],
+        keepHashes: () => [restored.keepHashes(others), restored.knownHashes().length],
         put: () => [session.put(100, chunks.slice(100, 200)), session.numRuns],
         root: () => session.root(COUNT).hex(),
         finish: () => session.finish(COUNT).hex(),

@@ -301,6 +301,26 @@ export interface Session extends Freed {
     /** Returns all runs, by rising position. */
     runs(): [first: bigint, range: Subtree][];
 
+    /** Returns the first run that ends after a position: the run that holds it or else the next one. `first` is its first position,
+     * and `end` the position after its last one. The result is null if no run ends after the position. */
+    runFrom(position: U64): [first: bigint, end: bigint, range: Subtree] | null;
+
+    /**
+     * Adds a run after all runs of this session: the positions from `first` to `end` - 1, and a copy of the subtree of its chunks. So
+     * a session can be restored from what `runFrom` and `knownHashes` returned. The call can't check that there are as many chunks
+     * as positions. The session doesn't know their hashes before these are kept or put.
+     * @throws InvalidArguments there is no position, the subtree is marked at an end, or a position from `first` - 1 on is taken
+     * @throws SizeOverflow otherwise, the sizes of all chunks add up to more than 2^64 - 1
+     */
+    pushRun(first: U64, end: U64, range: Subtree): void;
+
+    /** Keeps hashes, as if an earlier put had had them. The session then knows them. */
+    keepHashes(hashes: Iterable<Hash>): void;
+
+    /** Returns the hashes that this session knows, each once, in no particular order: those of all chunks that were put, and those
+     * that were kept. */
+    knownHashes(): Hash[];
+
     /** Returns the root of all chunks in the order of their positions. The session is unchanged.
      * @throws SessionGap the taken positions aren't exactly those from 0 to `total` - 1 */
     root(total: U64): Hash;

@@ -2,11 +2,14 @@
 
 import { u64 } from "./arguments.js";
 import { CHUNK_LENGTH } from "./chunks.js";
-import { check } from "./errors.js";
+import { STATUS, check } from "./errors.js";
 import { Handles, disposable } from "./handle.js";
+import { HASH_LENGTH } from "./hash.js";
+
+const unfit = "the run has no position, is marked at an end, or leaves no gap after the runs before it";
 
 /** The class `Session` over a library. */
-export function makeSession(library, { result }, { packedOf }, { owned }) {
+export function makeSession(library, { Hash, rawOf, result }, { packedOf }, { owned, pointerOf }) {
     const handles = new Handles(library, "yurewha_session_free");
 
     class Session {
@@ -56,19 +59,58 @@ export function makeSession(library, { result }, { packedOf }, { owned }) {
             });
         }
 
+        runFrom(position) {
+            const { pointer } = this.#handle;
+            const number = u64(position, "a position");
+            return library.over([8, 8], (first, end) => {
+                let status;
+                const subtree = owned((made) => {
+                    status = library.call("yurewha_session_run_from", pointer, number, first, end, made);
+                    if (status !== STATUS.ARGUMENTS) check(status);
+                });
+                if (status === STATUS.DONE) return [library.u64(first), library.u64(end), subtree];
+                subtree.free();
+                return null;
+            });
+        }
+
         // Each run is the first that ends after the one before it.
         runs() {
-            const { pointer } = this.#handle;
             let position = 0n;
-            return Array.from({ length: this.numRuns }, () =>
-                library.over([8, 8], (first, end) => {
-                    const subtree = owned((made) => {
-                        check(library.call("yurewha_session_run_from", pointer, position, first, end, made));
-                    });
-                    position = library.u64(end);
-                    return [library.u64(first), subtree];
-                }),
-            );
+            return Array.from({ length: this.numRuns }, () => {
+                const [first, end, subtree] = this.runFrom(position);
+                position = end;
+                return [first, subtree];
+            });
+        }
+
+        pushRun(first, end, range) {
+            const { pointer } = this.#handle;
+            const positions = [u64(first, "a position"), u64(end, "a position")];
+            check(library.call("yurewha_session_push_run", pointer, ...positions, pointerOf(range)), unfit);
+        }
+
+        keepHashes(hashes) {
+            const { pointer } = this.#handle;
+            const listed = [...hashes];
+            const packed = new Uint8Array(HASH_LENGTH * listed.length);
+            listed.forEach((hash, k) => packed.set(rawOf(hash, `hash ${k}`), HASH_LENGTH * k));
+            library.over([packed], (at) => {
+                check(library.call("yurewha_session_keep_hashes", pointer, at, BigInt(listed.length)));
+            });
+        }
+
+        knownHashes() {
+            const { pointer } = this.#handle;
+            const count = library.over([8], (out) => {
+                check(library.call("yurewha_session_num_known_hashes", pointer, out));
+                return library.count(out);
+            });
+            const packed = library.over([HASH_LENGTH * count], (at) => {
+                check(library.call("yurewha_session_known_hashes", pointer, at, BigInt(count)));
+                return library.read(at, HASH_LENGTH * count);
+            });
+            return Array.from({ length: count }, (_, k) => new Hash(packed.subarray(HASH_LENGTH * k, HASH_LENGTH * (k + 1))));
         }
 
         root(total) {

@@ -10,7 +10,7 @@ const decoder = new TextDecoder();
 const flag = (value) => (value ? 1 : 0);
 const misplaced = "of adjacent ranges, only the first may be marked at its start, and only the last at its end";
 
-/** The class `Subtree` over a library. `owned` makes one that a call writes to its handle. */
+/** The class `Subtree` over a library. `owned` makes one that a call writes to its handle; `pointerOf` is where a handle is. */
 export function makeSubtree(library, { result }, { Chunks, packedOf }) {
     const handles = new Handles(library, "yurewha_subtree_free");
     const owned = (fill) => new Subtree(handles.make(fill));
@@ -203,7 +203,7 @@ export function makeSubtree(library, { result }, { Chunks, packedOf }) {
         );
     }
 
-    return { Subtree: disposable(Subtree), owned };
+    return { Subtree: disposable(Subtree), owned, pointerOf };
 }
 
 function packedLevels(levels) {

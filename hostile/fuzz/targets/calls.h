@@ -71,6 +71,9 @@ private:
     void hash(size_t which, Input &input, bool is_root);
     void compare(size_t which);
     void compare_taken(size_t which, uint64_t position);
+    void push_runs(size_t which, yurewha_session *restored);
+    std::vector<yurewha_hash> known_hashes(size_t which);
+    void restore(size_t which);
     static Runs runs_of(const Chunks &chunks);
     static yurewha_status refusal_of(const Chunks &chunks, uint64_t first, const second::Nodes &nodes);
 };

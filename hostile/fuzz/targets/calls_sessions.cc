@@ -184,13 +184,66 @@ void Sessions::compare(size_t which)
     }
 }
 
-/* Each run, and whether the positions beside it are taken. */
+/* Pushes each run to another session, and what would be adjacent to it, which is refused. */
+void Sessions::push_runs(size_t which, yurewha_session *restored)
+{
+    yurewha_subtree range = {};
+    uint64_t position = 0;
+    for (size_t i = runs_of(*kept[which]).size(); i > 0; i--) {
+        Out<uint64_t> first, end;
+        is_done(YUREWHA_DONE, YUREWHA_MEMORY,
+                [&] { return yurewha_session_run_from(&handles[which], position, &first, &end, &range); });
+        is_done(YUREWHA_DONE, YUREWHA_MEMORY, [&] { return yurewha_session_push_run(restored, *first, *end, &range); });
+        is_done(YUREWHA_ARGUMENTS, YUREWHA_MEMORY, [&] { return yurewha_session_push_run(restored, *end, *end + 1, &range); });
+        position = *end;
+    }
+    begin_call();
+    yurewha_subtree_free(&range);
+    end_call();
+}
+
+/* The hashes that are known, each once. */
+std::vector<yurewha_hash> Sessions::known_hashes(size_t which)
+{
+    Out<size_t> count;
+    is_done_without_memory(YUREWHA_DONE, [&] { return yurewha_session_num_known_hashes(&handles[which], &count); });
+    EXPECT(*count == kept[which]->hashes.size());
+    std::vector<yurewha_hash> hashes(*count);
+    is_done(YUREWHA_DONE, YUREWHA_MEMORY,
+            [&] { return yurewha_session_known_hashes(&handles[which], hashes.data(), hashes.size()); });
+    std::set<second::Hash> known;
+    for (const yurewha_hash &hash : hashes)
+        known.insert(hash_from_c(hash));
+    EXPECT(known == kept[which]->hashes);
+    return hashes;
+}
+
+/* Puts a session of the same runs and hashes in the place of another, so that it is compared from then on. */
+void Sessions::restore(size_t which)
+{
+    const std::vector<yurewha_hash> hashes = known_hashes(which);
+    yurewha_session restored = {};
+    is_done(YUREWHA_DONE, YUREWHA_MEMORY, [&] { return yurewha_session_new(&restored); });
+    push_runs(which, &restored);
+    is_done(YUREWHA_DONE, YUREWHA_MEMORY,
+            [&] { return yurewha_session_keep_hashes(&restored, hashes.data(), hashes.size()); });
+    std::swap(handles[which], restored);
+    begin_call();
+    yurewha_session_free(&restored);
+    end_call();
+    known_hashes(which);
+    Input nothing(nullptr, 0);
+    hash(which, nothing, true);
+}
+
+/* Each run, and whether the positions beside it are taken, after the session was restored. */
 void Sessions::compare_all()
 {
     for (size_t which = 0; which < COUNT; which++) {
         compare(which);
         if (!kept[which])
             continue;
+        restore(which);
         const Runs runs = runs_of(*kept[which]);
         uint64_t position = 0;
         for (size_t i = 0; i < runs.size(); i++) {

@@ -50,8 +50,8 @@ impl MerkleHashSubtree {
         MerkleHashSubtree(handle)
     }
 
-    // The handle, for one call.
-    fn lock(&self) -> MutexGuard<'_, ffi::yurewha_subtree> {
+    /// The handle, for one call.
+    pub(crate) fn lock(&self) -> MutexGuard<'_, ffi::yurewha_subtree> {
         self.0.lock()
     }
 

@@ -12,6 +12,10 @@ use std::fmt;
 use std::ops::Range;
 use std::sync::MutexGuard;
 
+#[cfg(feature = "serde")]
+mod forms;
+mod saving;
+
 /// Why a call of a session failed. If several reasons apply, the call returns the first of them, unless an allocation
 /// fails before that. After a failure nothing has changed.
 ///
@@ -80,7 +84,8 @@ impl Refusal for SessionFault {
 /// assert_eq!(session.finish(5), Ok(file_hash(&[first, second, third, first, third])));
 /// ```
 ///
-/// A session can't be serialized, because no call of the library lists its hashes.
+/// A session can be saved and restored: with serde, or by its runs and [`known_hashes`](Self::known_hashes), which
+/// [`push_run`](Self::push_run) and [`keep_hashes`](Self::keep_hashes) put into another session.
 ///
 /// Threads may share a session. Threads that read it at once take turns, call by call.
 pub struct Session {

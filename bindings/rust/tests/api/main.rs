@@ -13,6 +13,9 @@ mod own;
 mod panics;
 mod reference_lists;
 mod roots;
+mod saving;
+#[cfg(feature = "serde")]
+mod session_forms;
 mod sessions;
 mod subtrees;
 mod threads;
