@@ -3,9 +3,7 @@
 use std::cmp::Ordering;
 use std::hash::{DefaultHasher, Hash, Hasher};
 use std::test::Fail;
-use xet_hash::data_hash::{
-    DataHash, DataHashHexParseError, MerkleHash, compute_data_hash, compute_internal_node_hash,
-};
+use xet_hash::data_hash::{DataHash, MerkleHash, compute_data_hash, compute_internal_node_hash};
 
 // A hash as its 32 bytes, as its words and as its text.
 const BYTES: [u8; 32] = [
@@ -60,17 +58,12 @@ fn reads_64_hex_digits(rt: HostRuntime) -> Result<(), Fail> {
 }
 
 #[test]
-fn prints_the_text_alone(rt: HostRuntime) -> Result<(), Fail> {
+fn prints_the_text_whatever_the_flags(rt: HostRuntime) -> Result<(), Fail> {
     let hash = DataHash::from(BYTES);
-    let printed = format!(in rt.alloc();
-        "{hash} {hash:>80} {hash:#.3} {hash:?} {hash:#?} {hash:+?} {hash:080?} {hash:<80?} {hash:>80?} {hash:*^#80?} {hash:.3?} {hash:1?}"
-    )?;
-    assert!(rt; printed.split(' ').count() == 12);
+    let printed = format!(in rt.alloc(); "{hash} {hash:*^80.3} {hash:?} {hash:#080?}")?;
     for word in printed.split(' ') {
         assert!(rt; word == TEXT);
     }
-    let refused = format!(in rt.alloc(); "{DataHashHexParseError}")?;
-    assert!(rt; refused.as_str() == "Invalid hex input for DataHash");
     Ok(())
 }
 
@@ -155,15 +148,18 @@ const HMACS: &str =
 cfc5d07f6f03c29bbf424132963fe08d19a37d5757aaf520bf08119f05cd56d6 c3e67584b5c4fc2a89837ec39e40f2c8a6bb0b2987ac94cd4b31e5fbdd210a72 9cb37f73951e7bd6d139f1ca83c6a60db18b413b391e2ea0552d9731140289ae
 ";
 
+// Returns whether the first hash of a row, under the key of the row, has the last hash.
+fn has_hmac(row: &str) -> Result<bool, Fail> {
+    let (hash, rest) = row.split_once(' ').ok_or("no key")?;
+    let (key, expected) = rest.split_once(' ').ok_or("no hash")?;
+    let found = DataHash::from_hex(hash)?.hmac(DataHash::from_hex(key)?);
+    Ok(found == DataHash::from_hex(expected)?)
+}
+
 #[test]
 fn the_hash_and_the_key_of_hmac_both_count(rt: HostRuntime) -> Result<(), Fail> {
     for row in HMACS.lines() {
-        let columns: Vec<&str> = row.split(' ').collect(rt.alloc())?;
-        let [hash, key, expected] = columns.as_slice() else {
-            return Err("a row lacks a column")?;
-        };
-        let found = DataHash::from_hex(hash)?.hmac(DataHash::from_hex(key)?);
-        assert!(rt; found == DataHash::from_hex(expected)?, "{row}");
+        assert!(rt; has_hmac(row)?, "{row}");
     }
     Ok(())
 }

@@ -135,74 +135,96 @@ fn printed(alloc: Global, answer: io::Result<usize>) -> Result<String, AllocErro
     }
 }
 
+// Returns the columns of a row. An error in the last one has spaces.
+fn columns(row: &str) -> Result<(&str, &str, &str, &str), Fail> {
+    let (first, rest) = row.split_once(' ').ok_or("no second column")?;
+    let (second, rest) = rest.split_once(' ').ok_or("no third column")?;
+    let (third, last) = rest.split_once(' ').ok_or("no last column")?;
+    Ok((first, second, third, last))
+}
+
+// Returns the slice of each inner call, one after another. It is an end of the slice of the call.
+fn slices_of_inner_calls(alloc: Global, message: &[u8]) -> Result<Vec<u8>, Fail> {
+    let mut given = Vec::new(alloc);
+    let mut length = 0usize;
+    for row in CALLS.lines() {
+        let (first, second, third, _) = columns(row)?;
+        if first == ">" {
+            let before = length.saturating_sub(third.parse()?);
+            given.extend_from_slice(message.get(before..length).ok_or("no such end")?)?;
+        } else {
+            length = second.parse()?;
+        }
+    }
+    Ok(given)
+}
+
+// Returns the rows of the inner calls.
+fn inner_calls(alloc: Global) -> Result<String, Fail> {
+    let mut calls = String::new(alloc);
+    for row in CALLS.lines() {
+        if row.starts_with('>') {
+            writeln!(calls, "{row}")?;
+        }
+    }
+    Ok(calls)
+}
+
+// Makes the call of a row. Returns whether it has the row's result, and the hash is that of all bytes that were taken.
+fn is_answered(
+    alloc: Global,
+    writer: &mut HashedWrite<Recorder>,
+    message: &[u8],
+    taken: &mut Vec<u8>,
+    row: &str,
+) -> Result<bool, Fail> {
+    let (name, length, count, expected) = columns(row)?;
+    let slice = message.get(..length.parse()?).ok_or("no such slice")?;
+    let answer = called(writer, name, slice);
+    taken.extend_from_slice(slice.get(..count.parse()?).ok_or("too many")?)?;
+    let is_hashed = writer.hash() == compute_data_hash(taken.as_slice());
+    Ok(is_hashed && printed(alloc, answer)?.as_str() == expected)
+}
+
+// Returns a writer that records what it gets.
+fn recording(alloc: Global) -> HashedWrite<Recorder> {
+    HashedWrite::new(Recorder {
+        rows: CALLS.lines(),
+        calls: String::new(alloc),
+        given: Vec::new(alloc),
+    })
+}
+
+// Makes the calls in turn. Returns what the inner writer got, or fails at a wrong result.
+fn recorded(alloc: Global, message: &[u8]) -> Result<Recorder, Fail> {
+    let mut writer = recording(alloc);
+    let mut taken = Vec::new(alloc);
+    for row in CALLS.lines() {
+        if !row.starts_with('>') && !is_answered(alloc, &mut writer, message, &mut taken, row)? {
+            return Err(format!(in alloc; "{row}")?)?;
+        }
+    }
+    Ok(writer.into_inner())
+}
+
 #[test]
 fn calls_are_handed_on_and_what_is_taken_is_hashed(rt: HostRuntime) -> Result<(), Fail> {
     let alloc = rt.alloc();
     let mut message = Vec::from_elem(alloc, 0u8, 1 << 20)?;
     Xoshiro256PlusPlus::seed_from_u64(14).fill_bytes(message.as_mut_slice());
-    let mut writer = HashedWrite::new(Recorder {
-        rows: CALLS.lines(),
-        calls: String::new(alloc),
-        given: Vec::new(alloc),
-    });
-    let mut calls = String::new(alloc);
-    let mut given = Vec::new(alloc);
-    let mut taken = Vec::new(alloc);
-    let mut length = 0usize;
-    for row in CALLS.lines() {
-        let columns: Vec<&str> = row.splitn(4, ' ').collect(alloc)?;
-        let [first, second, third, last] = columns.as_slice() else {
-            return Err("a row lacks a column")?;
-        };
-        if *first == ">" {
-            // The slice of an inner call is an end of that of the call.
-            let before = length.saturating_sub(third.parse()?);
-            given.extend_from_slice(message.get(before..length).ok_or("no such end")?)?;
-            writeln!(calls, "{row}")?;
-        } else {
-            length = second.parse()?;
-            let slice = message.get(..length).ok_or("no such slice")?;
-            let answer = called(&mut writer, first, slice);
-            assert!(rt; printed(alloc, answer)?.as_str() == *last, "{row}");
-            taken.extend_from_slice(slice.get(..third.parse()?).ok_or("too many")?)?;
-            assert!(rt;
-                writer.hash() == compute_data_hash(taken.as_slice()),
-                "{row}"
-            );
-        }
-    }
-    let recorder = writer.into_inner();
-    assert!(rt; recorder.calls.as_str() == calls.as_str());
-    assert!(rt; recorder.given.as_slice() == given.as_slice());
+    let recorder = recorded(alloc, &message)?;
+    assert!(rt; recorder.calls == inner_calls(alloc)?);
+    assert!(rt; recorder.given == slices_of_inner_calls(alloc, &message)?);
     Ok(())
-}
-
-// Returns the hash of a message that is written in pieces of a length. Fails if other bytes are passed on.
-fn hash_in_pieces(alloc: Global, message: &[u8], length: usize) -> Result<DataHash, Fail> {
-    let mut writer = HashedWrite::new(Vec::new(alloc));
-    for piece in message.chunks(length.max(1)) {
-        writer.write_all(piece)?;
-    }
-    writer.flush()?;
-    let hash = writer.hash();
-    if writer.into_inner().as_slice() != message {
-        return Err("other bytes are handed on")?;
-    }
-    Ok(hash)
 }
 
 // The hash was computed without this code.
 #[test]
-fn drawn_bytes_are_hashed_and_handed_on(rt: HostRuntime) -> Result<(), Fail> {
+fn drawn_bytes_are_hashed(rt: HostRuntime) -> Result<(), Fail> {
     let mut message = [0u8; 300];
     Xoshiro256PlusPlus::seed_from_u64(13).fill_bytes(&mut message);
     let hash = "bbd96a1fac984cb7e9dba7f6755195d59d9bb115e45cff0f96c3cd211560b0fc";
-    let hash = DataHash::from_hex(hash)?;
-    assert!(rt; compute_data_hash(&message) == hash);
-    for length in [1, 10, 64, 300] {
-        let in_pieces = hash_in_pieces(rt.alloc(), &message, length)?;
-        assert!(rt; in_pieces == hash, "{length}");
-    }
+    assert!(rt; compute_data_hash(&message) == DataHash::from_hex(hash)?);
     Ok(())
 }
 
@@ -236,19 +258,6 @@ impl Write for Narrow {
     fn flush(&mut self) -> io::Result<()> {
         Ok(())
     }
-}
-
-#[test]
-fn short_writes_are_hashed_one_after_another(rt: HostRuntime) -> Result<(), Fail> {
-    let mut message = [0u8; 1025];
-    Xoshiro256PlusPlus::seed_from_u64(12).fill_bytes(&mut message);
-    let mut writer = HashedWrite::new(Narrow::new(rt.alloc(), 1025));
-    assert!(rt; writer.hash() == compute_data_hash(b""));
-    writer.write_all(&message)?;
-    assert!(rt; writer.hash() == compute_data_hash(&message));
-    let Narrow { taken, .. } = writer.into_inner();
-    assert!(rt; taken.as_slice() == message.as_slice());
-    Ok(())
 }
 
 #[test]

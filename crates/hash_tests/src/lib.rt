@@ -1,5 +1,4 @@
-//! Tests of `xet_hash` and of the crates below it, with values that were computed without this code, and with simple
-//! references.
+//! Tests of `xet_hash` and of the crates below it, with values that were computed without this code.
 #![tactic(auto)]
 
 #[cfg(test)]

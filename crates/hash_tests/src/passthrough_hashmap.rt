@@ -1,5 +1,5 @@
-//! Each call of the map for deduplication, on an empty map or one of two pairs. The keys are hashes, numbers, or of a
-//! type that is defined here.
+//! Calls of the map for deduplication, on an empty map or one of two pairs. The keys are hashes, numbers, or of a type
+//! that is defined here. `refusal_tests` makes the other calls.
 
 ghost use Rattle.std.specs.Prelude.{◌≡◌, Some, IfSome, OnErr, OnOk, nat_eq};
 ghost use Rattle.xet_hash.specs.FiniteMap.{value_at};
@@ -25,28 +25,6 @@ impl U64HashExtractable for ChunkName {
     ghost use Rattle.std.proofs.Common.{rules};
 
     ghost hash_value = { λ name. name.number };
-
-    ghost equal_values = { Prim.search (hashing, rules) };
-
-    fn u64_hash_value(&self) -> u64 {
-        self.number
-    }
-}
-
-// A key with a part that isn't compared.
-#[derive(Clone, Copy)]
-#[derive_where(PartialEq, Eq, Hash)]
-struct Labelled {
-    number: u64,
-    #[derive_where(skip)]
-    label: u8,
-}
-
-impl U64HashExtractable for Labelled {
-    ghost use Rattle.std.specs.Cmp.Rules.{hashing};
-    ghost use Rattle.std.proofs.Common.{rules};
-
-    ghost hash_value = { λ key. key.number };
 
     ghost equal_values = { Prim.search (hashing, rules) };
 
@@ -104,27 +82,18 @@ fn finds<Key: U64HashExtractable + Hash + Eq>(
         && map.as_map().get(key) == Some(value)
 }
 
-// Returns whether each iteration over a map gives two keys, with the values 10 and 20.
-fn walks<Key: U64HashExtractable + Hash + Eq>(
-    map: &PassThroughHashMap<Key, u32>,
-    first: &Key,
-    second: &Key,
-) -> bool {
+// Returns whether each iteration over a map gives two entries, with the values 10 and 20.
+fn walks<Key: U64HashExtractable + Hash + Eq>(map: &PassThroughHashMap<Key, u32>) -> bool {
     let mut sum = 0u32;
     for (key, value) in map {
-        if map.get(key) != Some(value) {
-            return false;
-        }
-        sum = sum.saturating_add(*value);
-    }
-    for key in map.keys() {
-        if key != first && key != second {
-            return false;
+        if map.get(key) == Some(value) {
+            sum = sum.saturating_add(*value);
         }
     }
+    let count = map.len();
     sum == 30
-        && map.iter().count() == 2
-        && map.keys().count() == 2
+        && map.iter().count() == count
+        && map.keys().count() == count
         && map.values().copied().max() == Some(20)
 }
 
@@ -139,7 +108,7 @@ fn reads<Key: U64HashExtractable + Hash + Eq>(
         && finds(map, first, &10)
         && finds(map, second, &20)
         && lacks(map, lacking)
-        && walks(map, first, second)
+        && walks(map)
 }
 
 // Returns whether a map and a standard map keep their entries when each is converted to the other. They have two keys,
@@ -161,17 +130,33 @@ fn converts<Key: U64HashExtractable + Hash + Eq + Copy>(
     had_both && has_one
 }
 
+// Returns a map of two keys, with the values 10 and 20.
+fn two_entries<Key: U64HashExtractable + Hash + Eq + Copy>(
+    alloc: Global,
+    first: Key,
+    second: Key,
+) -> Result<PassThroughHashMap<Key, u32>, AllocError> {
+    let mut map = PassThroughHashMap::new(alloc);
+    map.insert(first, 10)?;
+    map.insert(second, 20)?;
+    Ok(map)
+}
+
+// Returns whether a map of two keys finds both, and keeps its entries when it is converted.
+fn is_kept<Key: U64HashExtractable + Hash + Eq + Copy>(
+    alloc: Global,
+    keys: [Key; 3],
+) -> Result<bool, AllocError> {
+    let [first, second, _] = keys;
+    let map = two_entries(alloc, first, second)?;
+    Ok(reads(&map, &keys) && converts(map, &keys))
+}
+
 #[test]
 fn finds_hashes_numbers_and_other_keys(rt: HostRuntime) -> Result<(), Fail> {
-    let keys = hashes();
-    let map = PassThroughHashMap::from_array(rt.alloc(), [(keys[0], 10), (keys[1], 20)])?;
-    assert!(rt; reads(&map, &keys) && converts(map, &keys));
-    let keys = NUMBERS;
-    let map = PassThroughHashMap::from_array(rt.alloc(), [(keys[0], 10), (keys[1], 20)])?;
-    assert!(rt; reads(&map, &keys) && converts(map, &keys));
-    let keys = NAMES;
-    let map = PassThroughHashMap::from_array(rt.alloc(), [(keys[0], 10), (keys[1], 20)])?;
-    assert!(rt; reads(&map, &keys) && converts(map, &keys));
+    assert!(rt; is_kept(rt.alloc(), hashes())?);
+    assert!(rt; is_kept(rt.alloc(), NUMBERS)?);
+    assert!(rt; is_kept(rt.alloc(), NAMES)?);
     Ok(())
 }
 
@@ -200,18 +185,16 @@ fn writes<Key: U64HashExtractable + Hash + Eq>(
     map.get(key) == Some(&"value3") && map.get_mut(lacking).is_none()
 }
 
-// Adds a value at the entry of a new key, twice, and then changes it.
+// Adds a value at the entry of a new key, and then changes it.
 fn enters<Key: U64HashExtractable + Hash + Eq + Copy>(
     map: &mut Texts<Key>,
     key: Key,
 ) -> Result<bool, AllocError> {
-    let filled = *map.entry(key).or_insert("value4")?;
-    map.remove(&key);
-    let refilled = *map.entry(key).or_insert_with(|| "value6")?;
+    let is_filled = *map.entry(key).or_insert("value4")? == "value4";
     map.entry(key)
         .and_modify(|value| *value = "value5")
-        .or_insert_with(|| "value7")?;
-    Ok(filled == "value4" && refilled == "value6" && map.get(&key) == Some(&"value5"))
+        .or_insert_with(|| "value6")?;
+    Ok(is_filled && map.get(&key) == Some(&"value5"))
 }
 
 // Removes a key that isn't in the map, and the two that are.
@@ -264,36 +247,6 @@ fn changes_at_hashes_numbers_and_other_keys(rt: HostRuntime) -> Result<(), Fail>
     Ok(())
 }
 
-// Returns whether a map has no entries: none of these keys, and none in an iteration.
-fn has_nothing<Key: U64HashExtractable + Hash + Eq>(
-    map: &PassThroughHashMap<Key, u32>,
-    keys: &[Key; 3],
-) -> bool {
-    for key in keys {
-        if !lacks(map, key) {
-            return false;
-        }
-    }
-    map.len() == 0 && map.is_empty() && map.iter().count() == 0
-}
-
-// Returns whether both kinds of new maps have no entries.
-fn start_empty<Key: U64HashExtractable + Hash + Eq + Copy>(
-    alloc: Global,
-    keys: &[Key; 3],
-) -> Result<bool, AllocError> {
-    let with_room = PassThroughHashMap::with_capacity(alloc, 100)?;
-    Ok(has_nothing(&PassThroughHashMap::new(alloc), keys) && has_nothing(&with_room, keys))
-}
-
-#[test]
-fn new_maps_have_no_entries(rt: HostRuntime) -> Result<(), Fail> {
-    assert!(rt; start_empty(rt.alloc(), &hashes())?);
-    assert!(rt; start_empty(rt.alloc(), &NUMBERS)?);
-    assert!(rt; start_empty(rt.alloc(), &NAMES)?);
-    Ok(())
-}
-
 #[test]
 fn a_map_of_pairs_has_each_of_them(rt: HostRuntime) -> Result<(), Fail> {
     let map = PassThroughHashMap::from_pairs(rt.alloc(), [(12345u64, "first"), (67890, "second")])?;
@@ -301,54 +254,6 @@ fn a_map_of_pairs_has_each_of_them(rt: HostRuntime) -> Result<(), Fail> {
     assert!(rt; map.get(&12345) == Some(&"first"));
     assert!(rt; map.get(&67890) == Some(&"second"));
     assert!(rt; map.get(&1).is_none());
-    Ok(())
-}
-
-#[test]
-fn the_last_value_of_a_key_wins(rt: HostRuntime) -> Result<(), Fail> {
-    let pairs = [(1u64, 10), (2, 20), (1, 30)];
-    for map in [
-        PassThroughHashMap::from_array(rt.alloc(), pairs)?,
-        PassThroughHashMap::from_pairs(rt.alloc(), pairs)?,
-    ] {
-        assert!(rt; map.len() == 2);
-        assert!(rt; map.get(&1) == Some(&30));
-        assert!(rt; map.get(&2) == Some(&20));
-    }
-    let keys = hashes();
-    let [first, second, _] = hashes();
-    let map = PassThroughHashMap::from_array(rt.alloc(), [(first, 30), (second, 20), (first, 10)])?;
-    assert!(rt; reads(&map, &keys));
-    let map = PassThroughHashMap::from_pairs(rt.alloc(), [(first, 30), (second, 20), (first, 10)])?;
-    assert!(rt; reads(&map, &keys));
-    Ok(())
-}
-
-#[test]
-fn the_first_of_equal_keys_stays(rt: HostRuntime) -> Result<(), Fail> {
-    let pairs = [1, 2, 3].map(|label| (Labelled { number: 7, label }, label));
-    for map in [
-        PassThroughHashMap::from_array(rt.alloc(), pairs)?,
-        PassThroughHashMap::from_pairs(rt.alloc(), pairs)?,
-    ] {
-        assert!(rt; map.len() == 1);
-        for (key, value) in map {
-            assert!(rt; (key.label, value) == (1, 3));
-        }
-    }
-    Ok(())
-}
-
-#[test]
-fn a_copy_has_the_same_entries(rt: HostRuntime) -> Result<(), Fail> {
-    let [first, second, _] = hashes();
-    let mut of_hashes = PassThroughHashMap::from_array(rt.alloc(), [(first, 10u8), (second, 20)])?;
-    let copy = of_hashes.try_clone()?;
-    of_hashes.clear();
-    assert!(rt; copy.len() == 2);
-    assert!(rt; copy.get(&second) == Some(&20));
-    let of_numbers = PassThroughHashMap::from_array(rt.alloc(), [(12345u64, 10u8), (67890, 20)])?;
-    assert!(rt; of_numbers.try_clone()?.get(&12345) == Some(&10));
     Ok(())
 }
 
@@ -377,47 +282,17 @@ fn write_one_at_place(map: &mut PassThroughHashMap<u64, u64>, key: u64) -> Resul
     Ok(())
 }
 
-// Returns the number of a key plus one, as a value.
-fn value_of<Key: U64HashExtractable>(key: &Key) -> u32 {
-    (key.u64_hash_value() % 1000) as u32 + 1
-}
-
-// Returns what the calls of an entry return for a key, one after another. The map must have nothing at the key.
-fn values_given<Key: U64HashExtractable + Hash + Eq + Copy>(
-    map: &mut PassThroughHashMap<Key, u32>,
-    key: Key,
-) -> Result<[u32; 5], AllocError> {
-    let by_default = *map.entry(key).or_default()?;
-    let there = *map.entry(key).or_insert_with_key(value_of)?;
-    let mut place = map.entry(key).insert_entry(5)?;
-    let put = *place.get();
-    *place.get_mut() = 6;
-    let written = map.remove(&key).unwrap_or(0);
-    let by_key = *map.entry(key).or_insert_with_key(value_of)?;
-    map.remove(&key);
-    Ok([by_default, there, put, written, by_key])
-}
-
-// Adds a value at the vacant entry of a key, removes it, and adds it again.
+// Adds a value at the vacant entry of a key, and then one to it.
 fn fills<Key: U64HashExtractable + Hash + Eq + Copy>(
     map: &mut PassThroughHashMap<Key, u32>,
     key: Key,
 ) -> Result<bool, AllocError> {
-    let are_given = values_given(map, key)? == [0, 0, 5, 6, value_of(&key)];
-    let has_place = *map.entry(key).key() == key;
-    if let Entry::Vacant(place) = map.entry(key) {
-        let place = place.insert_entry(7)?;
-        let is_filled = *place.key() == key && place.remove() == 7;
-        if !is_filled {
-            return Ok(false);
-        }
-    }
     match map.entry(key) {
         Entry::Occupied(_) => Ok(false),
         Entry::Vacant(place) => {
             let is_of_key = *place.key() == key;
             *place.insert(1)? += 1;
-            Ok(are_given && has_place && is_of_key)
+            Ok(is_of_key)
         }
     }
 }
@@ -453,17 +328,6 @@ fn emptied<Key: U64HashExtractable + Hash + Eq + Copy>(
     }
 }
 
-// Removes the entry of a key, and returns the value.
-fn removed<Key: U64HashExtractable + Hash + Eq + Copy>(
-    map: &mut PassThroughHashMap<Key, u32>,
-    key: Key,
-) -> Option<u32> {
-    match map.entry(key) {
-        Entry::Occupied(place) => Some(place.remove()),
-        Entry::Vacant(_) => None,
-    }
-}
-
 // Makes the calls of an occupied entry and of a vacant one.
 fn changes_at_places<Key: U64HashExtractable + Hash + Eq + Copy>(
     alloc: Global,
@@ -471,11 +335,9 @@ fn changes_at_places<Key: U64HashExtractable + Hash + Eq + Copy>(
 ) -> Result<bool, AllocError> {
     let mut map = PassThroughHashMap::new(alloc);
     let is_filled = fills(&mut map, first)? && overwrites(&mut map, first);
-    let stays_vacant = emptied(&mut map, second) == (second, None) && map.len() == 1;
-    let is_removed = removed(&mut map, first) == Some(4);
-    map.insert(second, 5)?;
-    let is_emptied = emptied(&mut map, second) == (second, Some(5)) && map.is_empty();
-    Ok(is_filled && stays_vacant && is_removed && is_emptied)
+    let are_emptied = emptied(&mut map, second) == (second, None)
+        && emptied(&mut map, first) == (first, Some(4));
+    Ok(is_filled && are_emptied && map.is_empty())
 }
 
 #[test]

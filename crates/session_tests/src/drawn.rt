@@ -112,37 +112,73 @@ fn has_runs<C: ChunkRange, H: KeptHashes<C::Alloc>>(
     session.range(count).is_none()
 }
 
+// A random list, and the ranges that it is put in.
+#[derive(Drop)]
+struct Drawn {
+    numbers: Vec<u64>,
+    chunks: Vec<Node>,
+    pieces: BTreeMap<u64, (u64, u64)>,
+}
+
+impl Drawn {
+    fn new(generator: &mut Xoshiro256PlusPlus, alloc: Global) -> Result<Drawn, AllocError> {
+        let numbers = drawn_numbers(generator, alloc)?;
+        let mut chunks = Vec::new(alloc);
+        for number in &numbers {
+            chunks.push(chunk(*number))?;
+        }
+        let pieces = drawn_pieces(generator, alloc, numbers.len() as u64)?;
+        Ok(Drawn {
+            numbers,
+            chunks,
+            pieces,
+        })
+    }
+}
+
+// Returns whether a put of a range returns what the model does, and a session has the model's runs.
+fn put_agrees<C: ChunkRange<Alloc = Global>>(
+    session: &mut SessionOf<C>,
+    plain: &mut Plain,
+    drawn: &Drawn,
+    (begin, end): (u64, u64),
+) -> Result<bool, AllocError> {
+    let is_early = session.finish(drawn.chunks.len() as u64) == Err(SessionFault::Gap);
+    let expected = plain.put(begin, part(&drawn.numbers, begin, end))?;
+    let answer = session.put(begin, part(&drawn.chunks, begin, end));
+    Ok(is_early && answer == expected && has_runs(session, plain))
+}
+
+// Returns whether a put at a taken position is refused.
+fn is_refused<C: ChunkRange<Alloc = Global>>(
+    session: &mut SessionOf<C>,
+    plain: &Plain,
+    drawn: &Drawn,
+    place: u64,
+) -> bool {
+    let others = part(&drawn.chunks, place, place.saturating_add(3));
+    !plain.taken.contains(&place) || session.put(place, others) == Err(SessionFault::Overlap)
+}
+
 // Returns whether a random session returns what the model does, and in the end the file hash of the list.
 fn agrees<C: ChunkRange<Alloc = Global>>(alloc: Global, seed: u64) -> Result<bool, Fail> {
     let mut generator = Xoshiro256PlusPlus::seed_from_u64(seed);
-    let numbers = drawn_numbers(&mut generator, alloc)?;
-    let mut chunks = Vec::new(alloc);
-    for number in &numbers {
-        chunks.push(chunk(*number))?;
-    }
-    let total = chunks.len() as u64;
-    let pieces = drawn_pieces(&mut generator, alloc, total)?;
+    let drawn = Drawn::new(&mut generator, alloc)?;
     let mut plain = Plain {
         taken: BTreeSet::new(alloc),
         seen: BTreeSet::new(alloc),
     };
     let mut session: SessionOf<C> = SessionOf::new(alloc);
-    for (begin, end) in pieces.values() {
-        let is_early = session.finish(total) == Err(SessionFault::Gap);
-        let expected = plain.put(*begin, part(&numbers, *begin, *end))?;
-        let is_right = session.put(*begin, part(&chunks, *begin, *end)) == expected;
-        if !is_early || !is_right || !has_runs(&session, &plain) {
-            return Ok(false);
-        }
+    let total = drawn.chunks.len() as u64;
+    for piece in drawn.pieces.values() {
         let place = generator.next_u64() % total.max(1);
-        let others = part(&chunks, place, place.saturating_add(3));
-        if plain.taken.contains(&place)
-            && session.put(place, others) != Err(SessionFault::Overlap)
+        if !put_agrees(&mut session, &mut plain, &drawn, *piece)?
+            || !is_refused(&mut session, &plain, &drawn, place)
         {
             return Ok(false);
         }
     }
-    Ok(session.finish(total) == Ok(file_hash(alloc, &chunks)?))
+    Ok(session.finish(total) == Ok(file_hash(alloc, &drawn.chunks)?))
 }
 
 #[test]

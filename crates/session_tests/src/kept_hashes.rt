@@ -1,5 +1,6 @@
 //! What is kept of the hashes of chunks.
 
+use std::alloc::{AllocError, Global};
 use std::test::Fail;
 use upload_session::kept_hashes::{KeptHashes, NoHashes, SeenHashes};
 use xet_hash::data_hash::MerkleHash;
@@ -19,18 +20,25 @@ fn are_of(hashes: &[MerkleHash], numbers: &[u64]) -> bool {
             .all(|(hash, number)| *hash == chunk(*number).0)
 }
 
+// Returns whether the hashes that some chunks add are those of some numbers.
+fn tells(
+    alloc: Global,
+    seen: &mut SeenHashes,
+    chunks: &[Node],
+    numbers: &[u64],
+) -> Result<bool, AllocError> {
+    let hashes = seen.keep(alloc, chunks)?;
+    Ok(are_of(&hashes, numbers))
+}
+
 #[test]
 fn new_hashes_are_told_once(rt: HostRuntime) -> Result<(), Fail> {
     let alloc = rt.alloc();
     let mut seen: SeenHashes = KeptHashes::new(alloc);
-    let first = seen.keep(alloc, &[chunk(1), chunk(1), chunk(2)])?;
-    assert!(rt; are_of(&first, &[1, 2]));
-    let second = seen.keep(alloc, &[chunk(2), chunk(3), chunk(1)])?;
-    assert!(rt; are_of(&second, &[3]));
-    seen.give_up(&second);
-    let third = seen.keep(alloc, &[chunk(3), chunk(1)])?;
-    assert!(rt; are_of(&third, &[3]));
-    let none = KeptHashes::keep(&mut NoHashes, alloc, &[chunk(1)])?;
-    assert!(rt; none.is_empty());
+    assert!(rt; tells(alloc, &mut seen, &[chunk(1), chunk(1), chunk(2)], &[1, 2])?);
+    assert!(rt; tells(alloc, &mut seen, &[chunk(2), chunk(3), chunk(1)], &[3])?);
+    seen.give_up(&[chunk(3).0]);
+    assert!(rt; tells(alloc, &mut seen, &[chunk(3), chunk(1)], &[3])?);
+    assert!(rt; KeptHashes::keep(&mut NoHashes, alloc, &[chunk(1)])?.is_empty());
     Ok(())
 }

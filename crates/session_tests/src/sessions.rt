@@ -59,8 +59,37 @@ fn text_of<T: Display + Drop>(
     }
 }
 
-// Returns whether the calls of a row return what they should. `counts` says whether the number of new hashes is
-// compared.
+// Makes a call, and returns its result as text.
+fn answer<C: ChunkRange, H: KeptHashes<C::Alloc>>(
+    alloc: Global,
+    session: &mut SessionOf<C, H>,
+    (word, number, chunks): (&str, u64, &str),
+) -> Result<String, Fail> {
+    match word {
+        "put" => text_of(alloc, session.put(number, &nodes(alloc, chunks)?)),
+        "finish" => text_of(alloc, session.finish(number)),
+        _ => text_of(alloc, session.root(number)),
+    }
+}
+
+// Returns whether a call returns what it should. `counts` says whether the number of new hashes is compared.
+fn is_answered<C: ChunkRange, H: KeptHashes<C::Alloc>>(
+    alloc: Global,
+    session: &mut SessionOf<C, H>,
+    call: &str,
+    counts: bool,
+) -> Result<bool, Fail> {
+    let (word, number, chunks, expected) = four_fields(call, ' ')?;
+    let answer = answer(alloc, session, (word, number.parse()?, chunks))?;
+    let is_any = !counts && word == "put" && is_number(&answer) && is_number(expected);
+    Ok(is_any || answer.as_str() == expected)
+}
+
+fn is_number(text: &str) -> bool {
+    text.parse::<u64>().is_ok()
+}
+
+// Returns whether the calls of a row return what they should.
 fn answers<C: ChunkRange, H: KeptHashes<C::Alloc>>(
     alloc: Global,
     session: &mut SessionOf<C, H>,
@@ -68,36 +97,29 @@ fn answers<C: ChunkRange, H: KeptHashes<C::Alloc>>(
     counts: bool,
 ) -> Result<bool, Fail> {
     for call in row.split(';') {
-        let (word, number, chunks, expected) = four_fields(call, ' ')?;
-        let number = number.parse()?;
-        let answer = match word {
-            "put" => text_of(alloc, session.put(number, &nodes(alloc, chunks)?))?,
-            "finish" => text_of(alloc, session.finish(number))?,
-            _ => text_of(alloc, session.root(number))?,
-        };
-        let is_count = word == "put" && is_number(answer.as_str()) && is_number(expected);
-        if answer.as_str() != expected && (counts || !is_count) {
+        if !is_answered(alloc, session, call, counts)? {
             return Ok(false);
         }
     }
     Ok(true)
 }
 
-fn is_number(text: &str) -> bool {
-    text.parse::<u64>().is_ok()
+// Returns whether the calls of a row return what they should, over each kind of range, and without hashes.
+fn each_kind_answers(alloc: Global, row: &str) -> Result<bool, Fail> {
+    let mut subtrees: Session = SessionOf::new(alloc);
+    let mut plain: SessionOf<PlainRange> = SessionOf::new(alloc);
+    let mut without: SessionOf<MerkleHashSubtree, NoHashes> = SessionOf::new(alloc);
+    Ok(
+        answers(alloc, &mut subtrees, row, true)?
+            && answers(alloc, &mut plain, row, true)?
+            && answers(alloc, &mut without, row, false)?,
+    )
 }
 
 #[test]
 fn sessions_answer_as_other_implementations_do(rt: HostRuntime) -> Result<(), Fail> {
-    let alloc = rt.alloc();
     for row in SESSIONS.lines() {
-        let mut subtrees: Session = SessionOf::new(alloc);
-        let mut plain: SessionOf<PlainRange> = SessionOf::new(alloc);
-        let mut without: SessionOf<MerkleHashSubtree, NoHashes> = SessionOf::new(alloc);
-        let is_right = answers(alloc, &mut subtrees, row, true)?
-            && answers(alloc, &mut plain, row, true)?
-            && answers(alloc, &mut without, row, false)?;
-        assert!(rt; is_right, "{row}");
+        assert!(rt; each_kind_answers(rt.alloc(), row)?, "{row}");
     }
     Ok(())
 }
@@ -135,43 +157,39 @@ fn lends(
     })
 }
 
-#[test]
-fn a_session_of_three_chunks_lends_one_range(rt: HostRuntime) -> Result<(), Fail> {
-    let alloc = rt.alloc();
-    let puts = "put 2 3:300 1;put 0 1:100,2:200 2";
-    let mut subtrees: Session = SessionOf::new(alloc);
-    let mut plain: SessionOf<PlainRange> = SessionOf::new(alloc);
-    assert!(rt; answers(alloc, &mut subtrees, puts, true)?);
-    assert!(rt; answers(alloc, &mut plain, puts, true)?);
-    assert!(rt; lends(alloc, &subtrees, 0, 0, "1:100,2:200,3:300")?);
-    assert!(rt; subtrees.range(1).is_none() && plain.range(1).is_none());
-    let Some((0, kept)) = plain.range(0) else {
-        return Err("no range at position 0")?;
-    };
-    assert!(rt; kept.chunks() == nodes(alloc, "1:100,2:200,3:300")?.as_slice());
-    Ok(())
+// Returns a session with two runs, of three chunks and of one.
+fn of_two_runs(alloc: Global) -> Result<Session, SessionFault> {
+    let mut session: Session = SessionOf::new(alloc);
+    session.put(2, &[node(3, 300)])?;
+    session.put(7, &[node(4, 400)])?;
+    session.put(0, &[node(1, 100), node(2, 200)])?;
+    Ok(session)
+}
+
+// Returns where the first run begins and ends that ends after a position.
+fn run_from(session: &Session, position: u64) -> Option<(u64, u64)> {
+    match session.run_from(position) {
+        Some((first, end, _)) => Some((first, end)),
+        None => None,
+    }
 }
 
 #[test]
 fn a_session_lends_the_ranges_of_its_runs(rt: HostRuntime) -> Result<(), Fail> {
-    let alloc = rt.alloc();
-    let puts = "put 2 3:300 1;put 7 4:400 1;put 0 1:100,2:200 2";
-    let mut session: Session = SessionOf::new(alloc);
-    assert!(rt; answers(alloc, &mut session, puts, true)?);
-    assert!(rt; lends(alloc, &session, 0, 0, "1:100,2:200,3:300")?);
-    assert!(rt; lends(alloc, &session, 1, 7, "4:400")? && session.range(2).is_none());
+    let session = of_two_runs(rt.alloc())?;
+    assert!(rt; lends(rt.alloc(), &session, 0, 0, "1:100,2:200,3:300")?);
+    assert!(rt; lends(rt.alloc(), &session, 1, 7, "4:400")?);
+    assert!(rt; session.range(2).is_none());
     for position in 0..9 {
         let is_taken = position < 3 || position == 7;
-        assert!(rt; session.taken(position) == is_taken, "{position}");
-        let run = match session.run_from(position) {
-            Some((first, end, _)) => Some((first, end)),
-            None => None,
+        let run = if position < 3 {
+            Some((0, 3))
+        } else {
+            (position < 8).then_some((7, 8))
         };
-        let expected = [Some((0, 3)), Some((7, 8)), None];
-        let place = usize::from(2 < position) + usize::from(7 < position);
-        assert!(rt; Some(&run) == expected.get(place), "{position}");
+        let found = (session.taken(position), run_from(&session, position));
+        assert!(rt; found == (is_taken, run), "{position}");
     }
-    assert!(rt; !session.taken(u64::MAX));
     Ok(())
 }
 
