@@ -12,7 +12,7 @@ use Rattle.std.specs.Ordering.{match_ordering}
 use Rattle.std.specs.List.Sorted.{IsStrictlySortedBy}
 use Rattle.std.specs.Map.{keys_of}
 use Rattle.std.proofs.lemmas.List.Elements.{All-nil, All-cons, All-head, All-tail}
-use Rattle.std.proofs.lemmas.List.{length-append}
+use Rattle.std.proofs.lemmas.List.{append-nil, length-append}
 use Rattle.std.proofs.lemmas.Map.Keys.{sorted_tail}
 use Rattle.std.proofs.lemmas.Map.Views.{All-after_first}
 
@@ -121,6 +121,20 @@ module _ {X : Type 0} (k : ℕ) where
   insert-between (e ∷ front) back w low high =
       ap (λ o. match_ordering o ((k, w) ∷ e ∷ front ++ back) ((e.0, w) ∷ front ++ back) (e ∷ insert_entry nat_cmp (front ++ back) k w)) (below k e.0 (All-head (λ (e : ℕ × X). e.0 < k) e front low))
       ∙ ap (λ l. e ∷ l) (insert-between front back w (All-tail (λ (e : ℕ × X). e.0 < k) e front low) high)
+
+  -- entries up to one that is below the number are all below it
+  pub all-before : (entries : List (ℕ × X)) (last : ℕ) → last < k → All (λ (n : ℕ). is_lt (nat_cmp last n) ≡ false) (keys_of entries) → AllBelow entries
+  all-before [] last near all = All-nil (λ (e : ℕ × X). e.0 < k)
+  all-before (e ∷ entries) last near all =
+      let here = All-head (λ (n : ℕ). is_lt (nat_cmp last n) ≡ false) e.0 (keys_of entries) all in
+      All-cons (λ (e : ℕ × X). e.0 < k) e entries (grind (arith, here, near))
+      (all-before entries last near (All-tail (λ (n : ℕ). is_lt (nat_cmp last n) ≡ false) e.0 (keys_of entries) all))
+
+  -- an entry after all others is put at the end
+  pub insert-last : (entries : List (ℕ × X)) (w : X) → AllBelow entries → insert_entry nat_cmp entries k w ≡ entries ++ (k, w) ∷ []
+  insert-last entries w low =
+      ap (λ l. insert_entry nat_cmp l k w) (sym (append-nil entries))
+      ∙ insert-between entries [] w low (All-nil (λ (e : ℕ × X). k < e.0))
 
   remove-below : (front back : List (ℕ × X)) → AllBelow front → remove_entry (test k) (front ++ back) ≡ front ++ remove_entry (test k) back
   remove-below [] back low = refl

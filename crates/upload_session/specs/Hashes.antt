@@ -1,8 +1,10 @@
 -- The hashes of chunks as sets: lists for which only membership counts.
-use Rattle.std.specs.Prelude.{◌≡◌, ℕ, Bool, not, List, ◌&&◌, ◌||◌, map, nat_eq}
+use Rattle.std.specs.Prelude.{◌≡◌, ℕ, Bool, not, List, ◌&&◌, ◌||◌, is_some, map, nat_eq}
 use Rattle.std.specs.Cmp.Lexicographic.{pointwise}
 use Rattle.std.specs.List.{IsDistinct, list_any}
+use Rattle.xet_hash.specs.FiniteMap.{value_at}
 use Rattle.xet_merkle.specs.Groups.{Node}
+use Rattle.upload_session.specs.declared.kept_hashes.SeenHashes.{SeenHashes}
 
 -- a hash as its four words
 abbrev pub Hash : Type 0
@@ -30,3 +32,12 @@ pub record AreNew (known hashes new : List Hash) : Type 0 where
   pub each_once : IsDistinct hash_eq new
   pub among : (hash : Hash)
       → is_among new hash ≡ (is_among hashes hash && not (is_among known hash))
+
+-- `distinct` has each hash of `hashes`, once
+pub record AreEachOnce (hashes distinct : List Hash) : Type 0 where
+  pub each_once : IsDistinct hash_eq distinct
+  pub among : (hash : Hash) → is_among distinct hash ≡ is_among hashes hash
+
+-- the hashes that were seen are exactly those of a list
+abbrev pub Knows : {A : Type 0} → SeenHashes A → List Hash → Type 0
+Knows seen known = (hash : Hash) → is_some (value_at hash_eq seen.hashes hash) ≡ is_among known hash

@@ -1,5 +1,5 @@
 -- Chunks by their positions, and the runs of a session that stand for them.
-use Rattle.std.specs.Prelude.{◌≡◌, ℕ, ◌+◌, ◌<◌, ◌≤◌, Bool, false, not, List, [], ◌∷◌, ◌++◌, ◌&&◌, length, filter, map, All, nat_eq, nat_lt}
+use Rattle.std.specs.Prelude.{◌≡◌, ℕ, ◌+◌, ◌-◌, ◌<◌, ◌≤◌, Bool, false, not, List, [], ◌∷◌, ◌++◌, ◌&&◌, length, filter, map, All, IfSome, nat_eq, nat_lt, slice_get}
 use Rattle.std.specs.List.{list_any}
 use Rattle.xet_merkle.specs.Groups.{Node}
 use Rattle.xet_merkle.specs.Roots.{total_size}
@@ -63,7 +63,17 @@ PlacedRun C = ℕ × Run C
 abbrev pub ends_after : {C : Type 0} → ℕ → PlacedRun C → Bool
 ends_after position run = nat_lt position run.1.end
 
+-- the last of some runs, if there is one, begins and ends before a position
+abbrev pub EndBefore : {C : Type 0} → List (PlacedRun C) → ℕ → Type 0
+EndBefore {C} runs position =
+    IfSome (slice_get runs (length runs - 1)) (λ (last : PlacedRun C). (last.0 < position) × (last.1.end < position))
+
 module _ {C A : Type 0} (kind : chunk_range.Ghosts C A) where
+  -- a run can follow others: it has a position, its range is open at both ends, and a position before it stays free
+  abbrev pub CanFollow : List (PlacedRun C) → PlacedRun C → Type 0
+  CanFollow runs run =
+      (run.0 < run.1.end) × (kind.start run.1.range ≡ false) × (kind.end run.1.range ≡ false) × EndBefore runs run.0
+
   -- a run stands for chunks, at least one, by a range that is open at both ends
   abbrev pub IsRunOf : List Node → PlacedRun C → Type 0
   IsRunOf chunks run =
@@ -82,6 +92,14 @@ pub record Parts (C H : Type 0) : Type 0 where
   pub runs : List (PlacedRun C)
   pub kept : H
   pub size : ℕ
+
+-- a session after a run is added to its end
+abbrev pub with_last : {C H A : Type 0} → chunk_range.Ghosts C A → Parts C H → PlacedRun C → Parts C H
+with_last kind session run = record {
+  runs = session.runs ++ run ∷ [];
+  kept = session.kept;
+  size = session.size + kind.total run.1.range;
+}
 
 -- a session stands for chunks by their positions, and knows their hashes
 module _ {C H A : Type 0} (kind : chunk_range.Ghosts C A) (hashes : kept_hashes.Ghosts H A) where
@@ -102,7 +120,7 @@ module _ {C H A : Type 0} (kind : chunk_range.Ghosts C A) (hashes : kept_hashes.
   abbrev pub PlacesChunks : Parts C H → ℕ → List Node → Parts C H → Type 0
   PlacesChunks old first chunks new = HoldsOfPlaced old (λ placed. SessionStands new (place placed first chunks))
 
--- a number counts the hashes of chunks that are told as new, where those of the chunks placed are known
+-- a number counts the hashes of chunks that are reported as new, where those of the chunks placed are known
 abbrev pub CountsNew : {H A : Type 0} → kept_hashes.Ghosts H A → List Placed → List Node → ℕ → Type 0
 CountsNew hashes placed chunks count =
     (new : List Hash) × hashes.tells (hashes_of (chunks_of placed)) (hashes_of chunks) new

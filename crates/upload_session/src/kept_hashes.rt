@@ -1,9 +1,9 @@
 //! What is kept of the hashes of chunks, to find out which later hashes are new.
 
-ghost use Rattle.std.specs.Prelude.{◌≡◌, not, List, [], ◌&&◌, ◌||◌, is_some, IfOk, OnOk, OnErr};
+ghost use Rattle.std.specs.Prelude.{◌≡◌, not, List, [], ◌&&◌, ◌||◌, is_some, length, IfOk, OnOk, OnErr};
 ghost use Rattle.std.specs.List.{IsDistinct};
 ghost use Rattle.xet_hash.specs.FiniteMap.{value_at};
-ghost use Rattle.upload_session.specs.Hashes.{Hash, hash_eq, hashes_of, is_among, AreBoth, AreNew};
+ghost use Rattle.upload_session.specs.Hashes.{Hash, hash_eq, hashes_of, is_among, AreBoth, AreEachOnce, AreNew, Knows};
 
 use std::alloc::{AllocError, Allocator, Global};
 use xet_hash::data_hash::MerkleHash;
@@ -56,6 +56,23 @@ impl<A: Allocator + Clone> SeenHashes<A> {
         })
     }
 
+    /// Returns the number of hashes. It allocates nothing.
+    pub fn len(&self) -> usize
+        ensures { (known distinct : List Hash) → Knows self.now known → AreEachOnce known distinct →
+            result ≡ length distinct }
+    {
+        self.hashes.len()
+    }
+
+    /// Returns all hashes, each once, in no particular order. The list allocates by `alloc`. Fails if an allocation
+    /// fails.
+    pub fn to_vec(&self, alloc: A) -> Result<Vec<MerkleHash, A>, AllocError>
+        ensures { IfOk result (λ hashes. (known : List Hash) → Knows self.now known →
+            AreEachOnce known hashes.items) }
+    {
+        self.hashes.keys().copied().collect(alloc)
+    }
+
     // Keeps the hashes of some chunks, and lists those that are new, each once. If it fails, the list has the hashes
     // that it kept.
     fn keep_into(&mut self, chunks: &[Node], new: &mut Vec<MerkleHash, A>) -> Result<(), AllocError>
@@ -93,8 +110,7 @@ impl<A: Allocator + Clone> SeenHashes<A> {
 }
 
 impl<A: Allocator + Clone> KeptHashes<A> for SeenHashes<A> {
-    ghost knows = { λ seen known. (hash : Hash) →
-        is_some (value_at hash_eq seen.hashes hash) ≡ is_among known hash };
+    ghost knows = { Knows };
 
     ghost tells = { AreNew };
 

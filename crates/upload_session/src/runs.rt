@@ -1,6 +1,6 @@
 //! Ranges of chunks by their positions, merged as they become adjacent.
 
-ghost use Rattle.std.specs.Prelude.{◌≡◌, ◌≢◌, ◌+◌, ◌^◌, ◌<◌, ◌≤◌, List, ℕ, [], ◌∷◌, ◌++◌, false, length, find, option_map, slice_get, Some, None, IfOk, IfErr, IfSome, IfNone, IsSome, IsTrue, OnOk, OnErr};
+ghost use Rattle.std.specs.Prelude.{◌≡◌, ◌≢◌, ◌↔◌, ◌+◌, ◌^◌, ◌<◌, ◌≤◌, List, ℕ, [], ◌∷◌, ◌++◌, false, length, find, option_map, slice_get, Some, None, All, IfOk, IfErr, IfSome, IfNone, IsSome, IsTrue, OnOk, OnErr};
 ghost use Rattle.std.specs.Ordering.{nat_cmp};
 ghost use Rattle.std.specs.BTreeMap.{is_at};
 ghost use Rattle.std.specs.Map.{lookup};
@@ -9,7 +9,7 @@ ghost use Rattle.xet_merkle.specs.Groups.{Node};
 ghost use Rattle.xet_merkle.specs.Roots.{total_size};
 ghost use Rattle.upload_session.specs.Steps.Neighbours.{IsPrevious, IsWithNext, AreAround, IsPutBefore, Places};
 ghost use Rattle.upload_session.specs.Steps.OpenRuns.{IsOpen, AreOpen, HaveRoom, HaveRoomFor, GrowBy, size_at, sizes_of};
-ghost use Rattle.upload_session.specs.Session.{Placed, PlacedRun, ends_after, place, chunks_of, is_taken, overlaps, IsWhole, StandFor};
+ghost use Rattle.upload_session.specs.Session.{Placed, PlacedRun, ends_after, place, chunks_of, is_taken, overlaps, EndBefore, IsWhole, StandFor};
 
 use crate::session_fault::SessionFault;
 use std::alloc::{AllocError, Allocator};
@@ -173,6 +173,28 @@ impl<C: ChunkRange> Runs<C> {
             return Err(SessionFault::Gap);
         }
         Ok(Some(&run.range))
+    }
+
+    /// Returns whether the last run, if there is one, begins and ends before a position. It allocates nothing.
+    pub fn end_before(&self, position: u64) -> bool
+        ensures last { IsTrue result ↔ EndBefore self.now position }
+        ensures all { IsTrue result → All (λ (run : PlacedRun C). run.0 < position) self.now }
+    {
+        match self.runs.last_key_value() {
+            Some((first, run)) => *first < position && run.end < position,
+            None => true,
+        }
+    }
+
+    /// Adds a run after all others, which must begin before it. Fails if an allocation fails. After a failure nothing
+    /// has changed.
+    pub fn push(&mut self, first: u64, end: u64, range: C) -> Result<(), AllocError>
+        requires { All (λ (run : PlacedRun C). run.0 < first) self.old }
+        ensures pushed { OnOk result (self.new ≡ self.old ++ (first, record { end = end; range = range }) ∷ []) }
+        ensures unchanged { OnErr result (self.new ≡ self.old) }
+    {
+        self.runs.insert(first, Run { end, range })?;
+        Ok(())
     }
 
     /// Places chunks, at least one, at adjacent positions that aren't taken. Fails with [`CoreError::OutOfMemory`] if

@@ -1,9 +1,10 @@
 //! A session: ranges of chunks that come in any order, merged as they become adjacent.
 
-ghost use Rattle.std.specs.Prelude.{◌≡◌, ℕ, ◌+◌, ◌^◌, ◌<◌, ◌≤◌, ◌↔◌, ◌⊎◌, List, [], false, length, replicate, sum_by, find, option_map, slice_get, Ok, IfOk, IfErr, IfSome, IfNone, SomeIff, OnOk, OnErr, IsOk, IsTrue, IsErrOf};
+ghost use Rattle.std.specs.Prelude.{◌≡◌, ℕ, ◌+◌, ◌^◌, ◌<◌, ◌≤◌, ◌↔◌, ◌⊎◌, List, [], false, length, replicate, find, option_map, slice_get, Ok, All, IfOk, IfErr, SomeIff, OnOk, OnErr, IsOk, IsTrue, IsErrOf};
 ghost use Rattle.xet_merkle.specs.Groups.{Node};
 ghost use Rattle.xet_merkle.specs.Roots.{total_size, IsRoot, IsFileHash};
-ghost use Rattle.upload_session.specs.Session.{PlacedRun, ends_after, chunks_of, is_taken, overlaps, IsWhole, SessionStands, HoldsOfPlaced, KeepsPlaced, PlacesChunks, CountsNew};
+ghost use Rattle.upload_session.specs.Hashes.{Hash, hashes_of, AreBoth, AreEachOnce, Knows};
+ghost use Rattle.upload_session.specs.Session.{PlacedRun, ends_after, chunks_of, is_taken, overlaps, with_last, CanFollow, IsWhole, SessionStands, HoldsOfPlaced, KeepsPlaced, PlacesChunks, CountsNew};
 
 use crate::kept_hashes::{KeptHashes, SeenHashes};
 use crate::runs::Runs;
@@ -188,6 +189,65 @@ impl<C: ChunkRange, H: KeptHashes<C::Alloc>> SessionOf<C, H> {
         }
     }
 
+    /// Adds a run after all runs, as saved from another session. The caller vouches that `range` stands for
+    /// `end - first` chunks, since a range doesn't know their number.
+    ///
+    /// Fails with the first of these that applies:
+    ///
+    /// - [`CoreError::InvalidArguments`] if `end` is at most `first`, if an end of the range is marked, or if the last
+    ///   run leaves no free position before `first`;
+    /// - [`CoreError::SizeOverflow`] if the sizes of all chunks add up to more than `u64::MAX` bytes;
+    /// - [`CoreError::OutOfMemory`] if an allocation fails.
+    ///
+    /// After a failure the session is unchanged.
+    pub fn push_run(&mut self, first: u64, end: u64, range: C) -> Result<(), CoreError>
+        ensures pushed { OnOk result (self.new
+            ≡ with_last C.ChunkRange self.old (first, record { end = end; range = range })) }
+        ensures arguments { IsErrOf result CoreError.InvalidArguments
+            ↔ ¬ CanFollow C.ChunkRange self.old.runs (first, record { end = end; range = range }) }
+        ensures sizes { IsErrOf result CoreError.SizeOverflow
+            ↔ (CanFollow C.ChunkRange self.old.runs (first, record { end = end; range = range })
+            × (2 ^ 64 ≤ self.old.size + C.total range)) }
+        ensures errors { IfErr result (λ e. (e ≡ CoreError.InvalidArguments)
+            ⊎ ((e ≡ CoreError.SizeOverflow) ⊎ (e ≡ CoreError.OutOfMemory))) }
+        ensures unchanged { OnErr result (self.new ≡ self.old) }
+    {
+        if !self.can_push(first, end, &range) {
+            return Err(CoreError::InvalidArguments);
+        }
+        let size = self
+            .size
+            .checked_add(range.total_size())
+            .ok_or(CoreError::SizeOverflow)?;
+        self.runs.push(first, end, range)?;
+        self.size = size;
+        Ok(())
+    }
+
+    // Returns whether a run can follow all runs.
+    fn can_push(&self, first: u64, end: u64, range: &C) -> bool
+        ensures follows { IsTrue result
+            ↔ CanFollow C.ChunkRange self.now.runs (first, record { end = end; range = range.now }) }
+        ensures all { IsTrue result → All (λ (run : PlacedRun C). run.0 < first) self.now.runs }
+    {
+        first < end && !range.at_start() && !range.at_end() && self.runs.end_before(first)
+    }
+
+    /// Keeps the hashes of some chunks, as if an earlier put had had them. The sizes aren't used.
+    ///
+    /// Fails if an allocation fails. The session then knows the same hashes as before.
+    pub fn keep_hashes(&mut self, chunks: &[Node]) -> Result<(), AllocError>
+        ensures kept { OnOk result ((known all : List Hash) → H.knows self.old.kept known →
+            AreBoth known (hashes_of chunks.now) all → H.knows self.new.kept all) }
+        ensures refused { OnErr result ((known : List Hash) →
+            H.knows self.old.kept known → H.knows self.new.kept known) }
+        ensures runs { self.new.runs ≡ self.old.runs }
+        ensures size { self.new.size ≡ self.old.size }
+    {
+        self.kept.keep(self.runs.allocator().clone()?, chunks)?;
+        Ok(())
+    }
+
     /// Returns the root and the file hash of all chunks in the order of their positions. The file hash has no salt, so
     /// it is the one under 32 zero bytes.
     ///
@@ -231,6 +291,23 @@ impl<C: ChunkRange, H: KeptHashes<C::Alloc>> SessionOf<C, H> {
 }
 
 impl<A: Allocator + Clone> Session<A> {
+    /// Returns the number of known hashes: those that puts had and those that [`SessionOf::keep_hashes`] kept, each
+    /// counted once. It allocates nothing.
+    pub fn num_known_hashes(&self) -> usize
+        ensures { (known distinct : List Hash) → Knows self.now.kept known → AreEachOnce known distinct →
+            result ≡ length distinct }
+    {
+        self.kept.len()
+    }
+
+    /// Returns all known hashes, each once, in no particular order. Fails if an allocation fails.
+    pub fn known_hashes(&self) -> Result<Vec<MerkleHash, A>, AllocError>
+        ensures { IfOk result (λ hashes. (known : List Hash) → Knows self.now.kept known →
+            AreEachOnce known hashes.items) }
+    {
+        self.kept.to_vec(self.runs.allocator().clone()?)
+    }
+
     /// Returns a copy, which stands for the same chunks. Fails if an allocation fails.
     pub fn try_clone(&self) -> Result<Self, AllocError>
         ensures { IfOk result (λ copy. copy ≡ self.now) }

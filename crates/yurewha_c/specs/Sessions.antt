@@ -1,13 +1,13 @@
 -- Sessions over subtrees that keep all hashes, as handles own them.
-use Rattle.std.specs.Prelude.{◌≡◌, ◌⊎◌, ◌↔◌, ℕ, Option, None, List, find, is_some, IfSome, IsSomeAnd}
+use Rattle.std.specs.Prelude.{◌≡◌, ◌≢◌, ◌⊎◌, ◌↔◌, ℕ, ◌+◌, ◌^◌, ◌≤◌, Option, None, List, find, IfSome, IsSomeAnd}
 use Rattle.std.specs.declared.alloc.Global.{Global}
-use Rattle.xet_hash.specs.FiniteMap.{value_at}
 use Rattle.xet_merkle.specs.Levels.{levels_size}
 use Rattle.xet_merkle.specs.Subtree.{Subtree, IsCanonical}
 use Rattle.xet_merkle.specs.declared.chunk_range.ChunkRange as chunk_range
-use Rattle.upload_session.specs.Hashes.{Hash, hash_eq, is_among, AreNew}
-use Rattle.upload_session.specs.Session.{Placed, PlacedRun, ends_after, IsWhole, SessionStands}
-use Rattle.yurewha_c.specs.Statuses.{done, empty_handle, session_memory, session_gap}
+use Rattle.upload_session.specs.Hashes.{AreNew, Knows}
+use Rattle.upload_session.specs.Session.{Placed, PlacedRun, ends_after, with_last, CanFollow, IsWhole, SessionStands}
+use Rattle.yurewha_c.specs.Handles.{BothHold}
+use Rattle.yurewha_c.specs.Statuses.{done, arguments, sizes, memory, empty_handle, session_memory, session_gap}
 use Rattle.yurewha_c.specs.declared.kept_session.KeptSession.{KeptSession}
 
 -- subtrees as a kind of range
@@ -21,11 +21,7 @@ subtrees = record {
 
 -- a session stands for chunks by their positions, and knows all of their hashes
 abbrev pub Stands : KeptSession → List Placed → Type 0
-Stands kept placed =
-    SessionStands {A = Global} subtrees (record {
-      knows = λ seen known. (hash : Hash) → is_some (value_at hash_eq seen.hashes hash) ≡ is_among known hash;
-      tells = AreNew;
-    }) kept.session placed
+Stands kept placed = SessionStands {A = Global} subtrees (record { knows = Knows; tells = AreNew }) kept.session placed
 
 -- the first run of a session that ends after a position
 abbrev pub run_from : KeptSession → ℕ → Option (PlacedRun Subtree)
@@ -37,3 +33,25 @@ pub record IsWholeStatus (session : Option KeptSession) (total status : ℕ) : T
   pub whole : status ≡ done → IsSomeAnd session (λ kept. (placed : List Placed) → Stands kept placed → IsWhole total placed)
   pub on_empty : (status ≡ empty_handle) ↔ (session ≡ None)
   pub statuses : (status ≡ done) ⊎ ((status ≡ empty_handle) ⊎ ((status ≡ session_gap) ⊎ (status ≡ session_memory)))
+
+-- a run by its first position, the position after its last one, and its range
+abbrev pub run_of : ℕ → ℕ → Subtree → PlacedRun Subtree
+run_of first end range = (first, record { end = end; range = range })
+
+-- a run can follow all runs of a session
+abbrev pub CanPush : KeptSession → PlacedRun Subtree → Type 0
+CanPush kept run = CanFollow {A = Global} subtrees kept.session.runs run
+
+-- a session after a run is added to its end
+abbrev pub pushed : KeptSession → PlacedRun Subtree → KeptSession
+pushed kept run = record { session = with_last {A = Global} subtrees kept.session run }
+
+-- the status of a call that adds a run to the end of a session; if an allocation fails, it may be `memory` instead of
+-- `arguments` or `sizes`
+pub record IsPushStatus (session : Option KeptSession) (first end : ℕ) (range : Option Subtree) (status : ℕ) : Type 0 where
+  pub on_empty : (status ≡ empty_handle) ↔ ((session ≡ None) ⊎ (range ≡ None))
+  pub on_arguments : status ≢ memory → ((status ≡ arguments)
+      ↔ BothHold session range (λ kept range. ¬ CanPush kept (run_of first end range)))
+  pub on_sizes : status ≢ memory → ((status ≡ sizes) ↔ BothHold session range (λ kept range.
+      CanPush kept (run_of first end range) × (2 ^ 64 ≤ kept.session.size + levels_size range.levels)))
+  pub statuses : (status ≡ done) ⊎ ((status ≡ empty_handle) ⊎ ((status ≡ arguments) ⊎ ((status ≡ sizes) ⊎ (status ≡ memory))))

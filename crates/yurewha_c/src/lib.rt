@@ -16,6 +16,7 @@ mod roots;
 mod session;
 mod session_handle;
 mod session_runs;
+mod session_saving;
 mod status;
 mod subtree;
 mod subtree_flat;

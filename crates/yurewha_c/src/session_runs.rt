@@ -93,7 +93,8 @@ pub extern "C" fn yurewha_session_run(
     }
 }
 
-// The first run that ends after a position, with a copy of its range, or the status that says why not.
+// Returns the first run that ends after a position: its first position, the position after its last one, and a copy of
+// its range. Fails with the status.
 fn copied_run_from(kept: &KeptSession, position: u64) -> Result<(u64, u64, MerkleHashSubtree), u32>
     ensures copied { IfOk result (λ copied. (placed : List Placed) → Stands kept.now placed →
         run_from kept.now position ≡ Some (copied.0, record { end = copied.1; range = copied.2 })) }
@@ -111,12 +112,16 @@ fn copied_run_from(kept: &KeptSession, position: u64) -> Result<(u64, u64, Merkl
     }
 }
 
-/// Writes the first position of the first run of adjacent positions that ends after a position, and the position after its
-/// last one, and puts a copy of the subtree of its chunks, which is open at both ends, into a handle. The run holds the
-/// position or else is the next one. From position 0 on, and then from each run's end, it gives all runs.
+/// Writes the run that contains a position, or else the next one: its first position, the position after its last one,
+/// and a copy of the subtree of its chunks. The subtree is open at both ends, and `range` owns it. Calls from position
+/// 0 and then from each run's end walk all runs. The session is unchanged.
 ///
-/// Status `DONE`; `EMPTY_HANDLE` where the session's handle is empty; `ARGUMENTS` where each run ends before; `MEMORY` where
-/// an allocation is refused. Nothing has changed where it isn't `DONE`. The session stays as it is.
+/// - `DONE`: they are written.
+/// - `EMPTY_HANDLE`: the handle of the session is empty.
+/// - `ARGUMENTS`: there is a session, and all its runs end before.
+/// - `MEMORY`: an allocation failed.
+///
+/// Unless the status is `DONE`, nothing has changed.
 #[unsafe(no_mangle)]
 pub extern "C" fn yurewha_session_run_from(
     alloc: Global,

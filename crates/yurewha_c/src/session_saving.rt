@@ -1,0 +1,214 @@
+//! What saves a session and restores it: its runs, which `session_runs` reads, and its known hashes.
+
+ghost use Rattle.std.specs.Prelude.{◌≡◌, ◌≢◌, ◌⊎◌, ◌↔◌, None, Some, IfOk, IfSome, IsSomeAnd, List, OnErr, OnOk, length};
+ghost use Rattle.upload_session.specs.Hashes.{Hash as HashWords, hashes_of, AreBoth, AreEachOnce, Knows};
+ghost use Rattle.yurewha_c.specs.Handles.{BothHold, Reads};
+ghost use Rattle.yurewha_c.specs.Pieces.{words_of};
+ghost use Rattle.yurewha_c.specs.Sessions.{IsPushStatus, pushed, run_of};
+
+use crate::hash::Hash;
+use crate::kept_session::KeptSession;
+use crate::session_handle::SessionHandle;
+use crate::status::{ARGUMENTS, DONE, EMPTY_HANDLE, MEMORY, status_of};
+use crate::subtree_handle::SubtreeHandle;
+use std::alloc::{AllocError, Global};
+use xet_hash::data_hash::MerkleHash;
+use xet_merkle::aggregated_hashes::Node;
+
+// Adds a copy of the subtree of a handle to the end of a session. Returns the status.
+fn push_copy(
+    alloc: Global,
+    kept: &mut KeptSession,
+    first: u64,
+    end: u64,
+    range: &mut SubtreeHandle,
+) -> u32
+    ensures pushed { result ≡ DONE → IsSomeAnd range.old.value (λ range.
+        kept.new ≡ pushed kept.old (run_of first end range)) }
+    ensures status { IsPushStatus (Some kept.old) first end range.old.value result }
+    ensures kept { range.new.value ≡ range.old.value }
+    ensures unchanged { result ≢ DONE → kept.new ≡ kept.old }
+{
+    let copy = match range.copy(alloc) {
+        Ok(copy) => copy,
+        Err(status) => return status,
+    };
+    match kept.session.push_run(first, end, copy) {
+        Ok(()) => DONE,
+        Err(error) => status_of(error),
+    }
+}
+
+/// Adds a run after all runs of a session, as saved from another session. The session gets a copy of the subtree of
+/// `range`. The caller vouches that the subtree stands for `end - first` chunks. `range` is unchanged.
+///
+/// - `DONE`: it is added.
+/// - `EMPTY_HANDLE`: a handle is empty.
+/// - `ARGUMENTS`: neither handle is empty, and `end` is at most `first`, an end of the subtree is marked, or the last
+///   run leaves no free position before `first`.
+/// - `SIZES`: neither of these applies, and the sizes of all chunks add up to more than 2^64 - 1.
+/// - `MEMORY`: an allocation failed; this may be returned instead of `ARGUMENTS` or `SIZES`.
+///
+/// Unless the status is `DONE`, nothing has changed.
+#[unsafe(no_mangle)]
+pub extern "C" fn yurewha_session_push_run(
+    alloc: Global,
+    session: &mut SessionHandle,
+    first: u64,
+    end: u64,
+    range: &mut SubtreeHandle,
+) -> u32
+    ensures pushed { result ≡ DONE → BothHold session.old.value range.old.value (λ before range.
+        session.new.value ≡ Some (pushed before (run_of first end range))) }
+    ensures status { IsPushStatus session.old.value first end range.old.value result }
+    ensures kept { range.new.value ≡ range.old.value }
+    ensures unchanged { result ≢ DONE → session.new.value ≡ session.old.value }
+{
+    let Some(mut kept) = session.take(alloc) else {
+        return EMPTY_HANDLE;
+    };
+    let status = push_copy(alloc, &mut kept, first, end, range);
+    session.put(kept);
+    status
+}
+
+// Returns chunks of size 0 that have some hashes, in allocated memory.
+fn nodes_of_hashes(alloc: Global, hashes: &[Hash]) -> Result<Vec<Node>, AllocError>
+    ensures { IfOk result (λ nodes. hashes_of nodes.items ≡ words_of hashes.now) }
+{
+    let mut nodes = Vec::with_capacity(alloc, hashes.len())?;
+    'hashes: for hash in hashes {
+        nodes.push((hash.value(), 0))?;
+    }
+    Ok(nodes)
+}
+
+// Keeps hashes, as `keep_hashes` of a session does.
+fn keep(alloc: Global, kept: &mut KeptSession, hashes: &[Hash]) -> Result<(), AllocError>
+    ensures kept { OnOk result ((known all : List HashWords) → Knows kept.old.session.kept known →
+        AreBoth known (words_of hashes.now) all → Knows kept.new.session.kept all) }
+    ensures refused { OnErr result ((known : List HashWords) →
+        Knows kept.old.session.kept known → Knows kept.new.session.kept known) }
+    ensures runs { kept.new.session.runs ≡ kept.old.session.runs }
+    ensures size { kept.new.session.size ≡ kept.old.session.size }
+{
+    let nodes = nodes_of_hashes(alloc, hashes)?;
+    kept.session.keep_hashes(&nodes)
+}
+
+/// Keeps hashes, as if an earlier put had had them. The runs of the session are unchanged.
+///
+/// - `DONE`: they are kept.
+/// - `EMPTY_HANDLE`: the handle is empty.
+/// - `MEMORY`: an allocation failed. The session knows the same hashes as before.
+#[unsafe(no_mangle)]
+pub extern "C" fn yurewha_session_keep_hashes(
+    alloc: Global,
+    session: &mut SessionHandle,
+    hashes: &[Hash],
+) -> u32
+    ensures kept { result ≡ DONE → BothHold session.old.value session.new.value (λ before after.
+        (known all : List HashWords) → Knows before.session.kept known →
+        AreBoth known (words_of hashes.now) all → Knows after.session.kept all) }
+    ensures refused { result ≡ MEMORY → BothHold session.old.value session.new.value (λ before after.
+        (known : List HashWords) → Knows before.session.kept known → Knows after.session.kept known) }
+    ensures runs { result ≢ EMPTY_HANDLE → BothHold session.old.value session.new.value (λ before after.
+        (after.session.runs ≡ before.session.runs) × (after.session.size ≡ before.session.size)) }
+    ensures empty { (result ≡ EMPTY_HANDLE) ↔ (session.old.value ≡ None) }
+    ensures still_empty { result ≡ EMPTY_HANDLE → session.new.value ≡ None }
+    ensures statuses { (result ≡ DONE) ⊎ ((result ≡ EMPTY_HANDLE) ⊎ (result ≡ MEMORY)) }
+{
+    let Some(mut kept) = session.take(alloc) else {
+        return EMPTY_HANDLE;
+    };
+    let done = keep(alloc, &mut kept, hashes);
+    session.put(kept);
+    match done {
+        Ok(()) => DONE,
+        Err(_) => MEMORY,
+    }
+}
+
+/// Writes the number of hashes that a session knows: those that puts had and those that `yurewha_session_keep_hashes`
+/// kept, each counted once. It allocates nothing. The session is unchanged.
+///
+/// - `DONE`: it is written.
+/// - `EMPTY_HANDLE`: the handle is empty. Nothing is written.
+#[unsafe(no_mangle)]
+pub extern "C" fn yurewha_session_num_known_hashes(
+    alloc: Global,
+    session: &mut SessionHandle,
+    count: &mut usize,
+) -> u32
+    ensures { Reads session.old.value session.new.value result (count.new ≡ count.old) (λ kept.
+        (known distinct : List HashWords) → Knows kept.session.kept known → AreEachOnce known distinct →
+        count.new ≡ length distinct) }
+{
+    let Some(kept) = session.take(alloc) else {
+        return EMPTY_HANDLE;
+    };
+    *count = kept.session.num_known_hashes();
+    session.put(kept);
+    DONE
+}
+
+// Writes hashes to a list of their length.
+fn write_known(known: &[MerkleHash], hashes: &mut [Hash])
+    requires { length known.now ≡ length hashes.old }
+    ensures { words_of hashes.new ≡ known.now }
+{
+    'hashes: for i in 0..hashes.len() {
+        hashes[i] = Hash::of(known[i]);
+    }
+}
+
+// Writes the hashes that a session knows. Returns the status.
+fn write_hashes(kept: &KeptSession, hashes: &mut [Hash]) -> u32
+    ensures hashes { result ≡ DONE → (known : List HashWords) → Knows kept.now.session.kept known →
+        AreEachOnce known (words_of hashes.new) }
+    ensures arguments { (known distinct : List HashWords) → Knows kept.now.session.kept known →
+        AreEachOnce known distinct → ((result ≡ ARGUMENTS) ↔ (length hashes.old ≢ length distinct)) }
+    ensures statuses { (result ≡ DONE) ⊎ ((result ≡ ARGUMENTS) ⊎ (result ≡ MEMORY)) }
+    ensures unchanged { result ≢ DONE → hashes.new ≡ hashes.old }
+{
+    if hashes.len() != kept.session.num_known_hashes() {
+        return ARGUMENTS;
+    }
+    let Ok(known) = kept.session.known_hashes() else {
+        return MEMORY;
+    };
+    write_known(&known, hashes);
+    DONE
+}
+
+/// Writes all hashes that a session knows, each once, in no particular order. The session is unchanged.
+///
+/// - `DONE`: they are written.
+/// - `EMPTY_HANDLE`: the handle is empty.
+/// - `ARGUMENTS`: there is a session, and the length of the list isn't the number of hashes that it knows.
+/// - `MEMORY`: an allocation failed.
+///
+/// Unless the status is `DONE`, nothing is written.
+#[unsafe(no_mangle)]
+pub extern "C" fn yurewha_session_known_hashes(
+    alloc: Global,
+    session: &mut SessionHandle,
+    hashes: &mut [Hash],
+) -> u32
+    ensures hashes { result ≡ DONE → IsSomeAnd session.old.value (λ kept. (known : List HashWords) →
+        Knows kept.session.kept known → AreEachOnce known (words_of hashes.new)) }
+    ensures arguments { IfSome session.old.value (λ kept. (known distinct : List HashWords) →
+        Knows kept.session.kept known → AreEachOnce known distinct →
+        ((result ≡ ARGUMENTS) ↔ (length hashes.old ≢ length distinct))) }
+    ensures empty { (result ≡ EMPTY_HANDLE) ↔ (session.old.value ≡ None) }
+    ensures statuses { (result ≡ DONE) ⊎ ((result ≡ EMPTY_HANDLE) ⊎ ((result ≡ ARGUMENTS) ⊎ (result ≡ MEMORY))) }
+    ensures kept { session.new.value ≡ session.old.value }
+    ensures unchanged { result ≢ DONE → hashes.new ≡ hashes.old }
+{
+    let Some(kept) = session.take(alloc) else {
+        return EMPTY_HANDLE;
+    };
+    let status = write_hashes(&kept, hashes);
+    session.put(kept);
+    status
+}
