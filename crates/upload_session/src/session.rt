@@ -190,7 +190,8 @@ impl<C: ChunkRange, H: KeptHashes<C::Alloc>> SessionOf<C, H> {
     }
 
     /// Adds a run after all runs, as saved from another session. The caller vouches that `range` stands for
-    /// `end - first` chunks, since a range doesn't know their number.
+    /// `end - first` chunks, since a range doesn't know their number. The session doesn't learn the hashes of the
+    /// chunks, so pass them to [`SessionOf::keep_hashes`] before other calls.
     ///
     /// Fails with the first of these that applies:
     ///

@@ -23,14 +23,18 @@ subtrees = record {
 abbrev pub Stands : KeptSession → List Placed → Type 0
 Stands kept placed = SessionStands {A = Global} subtrees (record { knows = Knows; tells = AreNew }) kept.session placed
 
+-- a fact holds of the chunks that a session stands for
+abbrev pub HoldsOfPlaced : KeptSession → (List Placed → Type 0) → Type 0
+HoldsOfPlaced kept fact = (placed : List Placed) → Stands kept placed → fact placed
+
 -- the first run of a session that ends after a position
 abbrev pub run_from : KeptSession → ℕ → Option (PlacedRun Subtree)
 run_from kept position = find (ends_after position) kept.session.runs
 
 -- the status of a call on all chunks of a session, which must have exactly the positions below a total
 pub record IsWholeStatus (session : Option KeptSession) (total status : ℕ) : Type 0 where
-  pub on_gap : IfSome session (λ kept. (placed : List Placed) → Stands kept placed → ((status ≡ session_gap) ↔ (¬ IsWhole total placed)))
-  pub whole : status ≡ done → IsSomeAnd session (λ kept. (placed : List Placed) → Stands kept placed → IsWhole total placed)
+  pub on_gap : IfSome session (λ kept. HoldsOfPlaced kept (λ placed. (status ≡ session_gap) ↔ ¬ IsWhole total placed))
+  pub whole : status ≡ done → IsSomeAnd session (λ kept. HoldsOfPlaced kept (IsWhole total))
   pub on_empty : (status ≡ empty_handle) ↔ (session ≡ None)
   pub statuses : (status ≡ done) ⊎ ((status ≡ empty_handle) ⊎ ((status ≡ session_gap) ⊎ (status ≡ session_memory)))
 

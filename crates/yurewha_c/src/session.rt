@@ -3,10 +3,10 @@
 ghost use Rattle.std.specs.Prelude.{◌≡◌, ◌≢◌, ◌⊎◌, ◌↔◌, ◌+◌, ◌^◌, ◌<◌, ◌≤◌, None, IfErr, IfOk, IfSome, IsErrOf, IsSomeAnd, IsTrue, List, [], OnErr, OnOk, Ok, replicate, length};
 ghost use Rattle.xet_merkle.specs.Roots.{IsRoot, IsFileHash, total_size};
 ghost use Rattle.upload_session.specs.Hashes.{Hash as HashWords, hashes_of, AreNew};
-ghost use Rattle.upload_session.specs.Session.{Placed, place, chunks_of, is_taken, overlaps, IsWhole};
+ghost use Rattle.upload_session.specs.Session.{place, chunks_of, is_taken, overlaps, IsWhole};
 ghost use Rattle.yurewha_c.specs.Chunks.{nodes_of};
 ghost use Rattle.yurewha_c.specs.Handles.{BothHold, IsCopyStatus, Reads};
-ghost use Rattle.yurewha_c.specs.Sessions.{IsWholeStatus, Stands};
+ghost use Rattle.yurewha_c.specs.Sessions.{HoldsOfPlaced, IsWholeStatus, Stands};
 
 use crate::chunks::{Chunk, nodes_of};
 use crate::hash::Hash;
@@ -44,24 +44,24 @@ fn put_chunks(
     first: u64,
     chunks: &[Chunk],
 ) -> Result<u64, SessionFault>
-    ensures placed { OnOk result ((placed : List Placed) → Stands kept.old placed →
-        Stands kept.new (place placed first (nodes_of chunks.now))) }
-    ensures new { IfOk result (λ count. (placed : List Placed) → Stands kept.old placed → 0 < length chunks.now →
+    ensures placed { OnOk result (HoldsOfPlaced kept.old (λ placed.
+        Stands kept.new (place placed first (nodes_of chunks.now)))) }
+    ensures new { IfOk result (λ count. HoldsOfPlaced kept.old (λ placed. 0 < length chunks.now →
         (new : List HashWords) × AreNew (hashes_of (chunks_of placed)) (hashes_of (nodes_of chunks.now)) new
-        × (count ≡ length new)) }
+        × (count ≡ length new))) }
     ensures nothing { length chunks.now ≡ 0 → (result ≡ Ok 0) × (kept.new ≡ kept.old) }
-    ensures overlap { (placed : List Placed) → Stands kept.old placed → ¬ IsErrOf result SessionFault.Memory →
-        (IsErrOf result SessionFault.Overlap ↔ IsTrue (overlaps placed first (length chunks.now))) }
-    ensures positions { (placed : List Placed) → Stands kept.old placed → ¬ IsErrOf result SessionFault.Memory →
+    ensures overlap { HoldsOfPlaced kept.old (λ placed. ¬ IsErrOf result SessionFault.Memory →
+        (IsErrOf result SessionFault.Overlap ↔ IsTrue (overlaps placed first (length chunks.now)))) }
+    ensures positions { HoldsOfPlaced kept.old (λ placed. ¬ IsErrOf result SessionFault.Memory →
         (IsErrOf result SessionFault.Positions ↔ (¬ IsTrue (overlaps placed first (length chunks.now))
-        × (2 ^ 64 ≤ first + length chunks.now))) }
-    ensures sizes { (placed : List Placed) → Stands kept.old placed → ¬ IsErrOf result SessionFault.Memory →
+        × (2 ^ 64 ≤ first + length chunks.now)))) }
+    ensures sizes { HoldsOfPlaced kept.old (λ placed. ¬ IsErrOf result SessionFault.Memory →
         (IsErrOf result SessionFault.Sizes ↔ (¬ IsTrue (overlaps placed first (length chunks.now))
         × (first + length chunks.now < 2 ^ 64)
-        × (2 ^ 64 ≤ total_size (chunks_of placed) + total_size (nodes_of chunks.now)))) }
+        × (2 ^ 64 ≤ total_size (chunks_of placed) + total_size (nodes_of chunks.now))))) }
     ensures errors { IfErr result (λ e. (e ≡ SessionFault.Overlap) ⊎ ((e ≡ SessionFault.Positions)
         ⊎ ((e ≡ SessionFault.Sizes) ⊎ (e ≡ SessionFault.Memory)))) }
-    ensures refused { OnErr result ((placed : List Placed) → Stands kept.old placed → Stands kept.new placed) }
+    ensures refused { OnErr result (HoldsOfPlaced kept.old (Stands kept.new)) }
     ensures unchanged { OnErr result (kept.new.session.runs ≡ kept.old.session.runs) }
 {
     if chunks.is_empty() {
@@ -91,30 +91,27 @@ pub extern "C" fn yurewha_session_put(
     new_hashes: &mut u64,
 ) -> u32
     ensures placed { result ≡ DONE → BothHold session.old.value session.new.value (λ before after.
-        (placed : List Placed) → Stands before placed → Stands after (place placed first (nodes_of chunks.now))) }
-    ensures new { result ≡ DONE → IsSomeAnd session.old.value (λ before. (placed : List Placed) → Stands before placed →
+        HoldsOfPlaced before (λ placed. Stands after (place placed first (nodes_of chunks.now)))) }
+    ensures new { result ≡ DONE → IsSomeAnd session.old.value (λ before. HoldsOfPlaced before (λ placed.
         0 < length chunks.now → (new : List HashWords)
-        × AreNew (hashes_of (chunks_of placed)) (hashes_of (nodes_of chunks.now)) new × (new_hashes.new ≡ length new)) }
+        × AreNew (hashes_of (chunks_of placed)) (hashes_of (nodes_of chunks.now)) new × (new_hashes.new ≡ length new))) }
     ensures nothing { length chunks.now ≡ 0 → session.old.value ≢ None →
         (result ≡ DONE) × (new_hashes.new ≡ 0) × (session.new.value ≡ session.old.value) }
     ensures empty { (result ≡ EMPTY_HANDLE) ↔ (session.old.value ≡ None) }
-    ensures overlap { result ≢ SESSION_MEMORY → IfSome session.old.value (λ before.
-        (placed : List Placed) → Stands before placed →
-        ((result ≡ SESSION_OVERLAP) ↔ IsTrue (overlaps placed first (length chunks.now)))) }
-    ensures positions { result ≢ SESSION_MEMORY → IfSome session.old.value (λ before.
-        (placed : List Placed) → Stands before placed →
-        ((result ≡ SESSION_POSITIONS) ↔ (¬ IsTrue (overlaps placed first (length chunks.now))
+    ensures overlap { result ≢ SESSION_MEMORY → IfSome session.old.value (λ before. HoldsOfPlaced before (λ placed.
+        (result ≡ SESSION_OVERLAP) ↔ IsTrue (overlaps placed first (length chunks.now)))) }
+    ensures positions { result ≢ SESSION_MEMORY → IfSome session.old.value (λ before. HoldsOfPlaced before (λ placed.
+        (result ≡ SESSION_POSITIONS) ↔ (¬ IsTrue (overlaps placed first (length chunks.now))
         × (2 ^ 64 ≤ first + length chunks.now)))) }
-    ensures sizes { result ≢ SESSION_MEMORY → IfSome session.old.value (λ before.
-        (placed : List Placed) → Stands before placed →
-        ((result ≡ SESSION_SIZES) ↔ (¬ IsTrue (overlaps placed first (length chunks.now))
+    ensures sizes { result ≢ SESSION_MEMORY → IfSome session.old.value (λ before. HoldsOfPlaced before (λ placed.
+        (result ≡ SESSION_SIZES) ↔ (¬ IsTrue (overlaps placed first (length chunks.now))
         × (first + length chunks.now < 2 ^ 64)
         × (2 ^ 64 ≤ total_size (chunks_of placed) + total_size (nodes_of chunks.now))))) }
     ensures statuses { (result ≡ DONE) ⊎ ((result ≡ EMPTY_HANDLE) ⊎ ((result ≡ SESSION_OVERLAP)
         ⊎ ((result ≡ SESSION_POSITIONS) ⊎ ((result ≡ SESSION_SIZES) ⊎ (result ≡ SESSION_MEMORY))))) }
     ensures refused { result ≢ DONE → result ≢ EMPTY_HANDLE →
-        BothHold session.old.value session.new.value (λ before after. (after.session.runs ≡ before.session.runs)
-        × ((placed : List Placed) → Stands before placed → Stands after placed)) }
+        BothHold session.old.value session.new.value (λ before after.
+        (after.session.runs ≡ before.session.runs) × HoldsOfPlaced before (Stands after)) }
     ensures still_empty { result ≡ EMPTY_HANDLE → session.new.value ≡ None }
     ensures unchanged { result ≢ DONE → new_hashes.new ≡ new_hashes.old }
 {
@@ -144,7 +141,7 @@ pub extern "C" fn yurewha_session_taken(
     taken: &mut bool,
 ) -> u32
     ensures { Reads session.old.value session.new.value result (taken.new ≡ taken.old)
-        (λ kept. (placed : List Placed) → Stands kept placed → taken.new ≡ is_taken placed position) }
+        (λ kept. HoldsOfPlaced kept (λ placed. taken.new ≡ is_taken placed position)) }
 {
     let Some(kept) = session.take(alloc) else {
         return EMPTY_HANDLE;
@@ -169,8 +166,8 @@ pub extern "C" fn yurewha_session_root(
     total: u64,
     root: &mut Hash,
 ) -> u32
-    ensures root { result ≡ DONE → IsSomeAnd session.old.value (λ kept. (placed : List Placed) → Stands kept placed →
-        IsRoot (chunks_of placed) root.new.words) }
+    ensures root { result ≡ DONE → IsSomeAnd session.old.value (λ kept. HoldsOfPlaced kept (λ placed.
+        IsRoot (chunks_of placed) root.new.words)) }
     ensures status { IsWholeStatus session.old.value total result }
     ensures kept { session.new.value ≡ session.old.value }
     ensures unchanged { result ≢ DONE → root.new ≡ root.old }
@@ -200,8 +197,8 @@ pub extern "C" fn yurewha_session_finish(
     total: u64,
     hash: &mut Hash,
 ) -> u32
-    ensures file { result ≡ DONE → IsSomeAnd session.old.value (λ kept. (placed : List Placed) → Stands kept placed →
-        IsFileHash (chunks_of placed) (replicate 32 0) hash.new.words) }
+    ensures file { result ≡ DONE → IsSomeAnd session.old.value (λ kept. HoldsOfPlaced kept (λ placed.
+        IsFileHash (chunks_of placed) (replicate 32 0) hash.new.words)) }
     ensures status { IsWholeStatus session.old.value total result }
     ensures kept { session.new.value ≡ session.old.value }
     ensures unchanged { result ≢ DONE → hash.new ≡ hash.old }

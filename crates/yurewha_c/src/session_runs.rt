@@ -1,9 +1,8 @@
 //! The runs of a session.
 
-ghost use Rattle.std.specs.Prelude.{◌≡◌, ◌≢◌, ◌⊎◌, ◌↔◌, None, Some, IfErr, IfOk, IfSome, IsSomeAnd, List, length, slice_get};
-ghost use Rattle.upload_session.specs.Session.{Placed};
+ghost use Rattle.std.specs.Prelude.{◌≡◌, ◌≢◌, ◌⊎◌, ◌↔◌, None, Some, IfErr, IfOk, IfSome, IsSomeAnd, length, slice_get};
 ghost use Rattle.yurewha_c.specs.Handles.{BothHold, Reads};
-ghost use Rattle.yurewha_c.specs.Sessions.{Stands, run_from};
+ghost use Rattle.yurewha_c.specs.Sessions.{HoldsOfPlaced, run_from, run_of};
 
 use crate::kept_session::KeptSession;
 use crate::session_handle::SessionHandle;
@@ -96,11 +95,11 @@ pub extern "C" fn yurewha_session_run(
 // Returns the first run that ends after a position: its first position, the position after its last one, and a copy of
 // its range. Fails with the status.
 fn copied_run_from(kept: &KeptSession, position: u64) -> Result<(u64, u64, MerkleHashSubtree), u32>
-    ensures copied { IfOk result (λ copied. (placed : List Placed) → Stands kept.now placed →
-        run_from kept.now position ≡ Some (copied.0, record { end = copied.1; range = copied.2 })) }
-    ensures refused { IfErr result (λ status. (placed : List Placed) → Stands kept.now placed →
+    ensures copied { IfOk result (λ copied. HoldsOfPlaced kept.now (λ _.
+        run_from kept.now position ≡ Some (run_of copied.0 copied.1 copied.2))) }
+    ensures refused { IfErr result (λ status. HoldsOfPlaced kept.now (λ _.
         ((status ≡ ARGUMENTS) × (run_from kept.now position ≡ None))
-        ⊎ ((status ≡ MEMORY) × (run_from kept.now position ≢ None))) }
+        ⊎ ((status ≡ MEMORY) × (run_from kept.now position ≢ None)))) }
     ensures statuses { IfErr result (λ status. (status ≡ ARGUMENTS) ⊎ (status ≡ MEMORY)) }
 {
     let Some((first, end, range)) = kept.session.run_from(position) else {
@@ -131,10 +130,10 @@ pub extern "C" fn yurewha_session_run_from(
     end: &mut u64,
     range: &mut SubtreeHandle,
 ) -> u32
-    ensures run { result ≡ DONE → BothHold session.old.value range.new.value (λ kept range. (placed : List Placed) →
-        Stands kept placed → run_from kept position ≡ Some (first.new, record { end = end.new; range = range })) }
-    ensures arguments { IfSome session.old.value (λ kept. (placed : List Placed) → Stands kept placed →
-        ((result ≡ ARGUMENTS) ↔ (run_from kept position ≡ None))) }
+    ensures run { result ≡ DONE → BothHold session.old.value range.new.value (λ kept range. HoldsOfPlaced kept (λ _.
+        run_from kept position ≡ Some (run_of first.new end.new range))) }
+    ensures arguments { IfSome session.old.value (λ kept. HoldsOfPlaced kept (λ _.
+        (result ≡ ARGUMENTS) ↔ (run_from kept position ≡ None))) }
     ensures empty { (result ≡ EMPTY_HANDLE) ↔ (session.old.value ≡ None) }
     ensures statuses { (result ≡ DONE) ⊎ ((result ≡ EMPTY_HANDLE) ⊎ ((result ≡ ARGUMENTS) ⊎ (result ≡ MEMORY))) }
     ensures kept { session.new.value ≡ session.old.value }
