@@ -1,43 +1,43 @@
-//! The hashes of the crate `xet-core-structures` for thirteen lists of chunks, and the parents of groups and their
-//! texts.
+//! The hashes of the crate `xet-core-structures` for thirteen lists of chunks.
 
 use std::alloc::Global;
-use std::fmt::Write;
 use std::test::Fail;
-use test_support::{reference_chunk, reference_list};
-use xet_hash::data_hash::{DataHash, MerkleHash, compute_internal_node_hash};
+use test_support::reference_list;
+use test_support::texts::two_fields;
+use xet_hash::data_hash::{DataHash, MerkleHash};
 use xet_merkle::CoreError;
 use xet_merkle::aggregated_hashes::{Node, file_hash, file_hash_with_salt, xorb_hash};
 
-// Returns a salt, and the hash under it.
-fn salted(alloc: Global, nodes: &[Node], salt: &str) -> Result<String, Fail> {
-    let hash = file_hash_with_salt(alloc, nodes, &DataHash::from_hex(salt)?.as_bytes())?;
-    Ok(format!(in alloc; "{salt} {hash}")?)
+// Returns the hashes of a row.
+fn read_hashes(texts: &str) -> Result<[MerkleHash; 6], Fail> {
+    let mut hashes = [MerkleHash::default(); 6];
+    for (hash, text) in hashes.iter_mut().zip(texts.split(' ')) {
+        *hash = DataHash::from_hex(text)?;
+    }
+    Ok(hashes)
 }
 
-// Returns the row of a list and two salts.
-fn row_of(alloc: Global, numbers: &str, salts: (&str, &str)) -> Result<String, Fail> {
+// Returns the file hash under a salt.
+fn salted(alloc: Global, nodes: &[Node], salt: MerkleHash) -> Result<MerkleHash, CoreError> {
+    file_hash_with_salt(alloc, nodes, &salt.as_bytes())
+}
+
+// Returns whether the list of a row has its hashes.
+fn agrees(alloc: Global, row: &str) -> Result<bool, Fail> {
+    let (numbers, texts) = two_fields(row, ' ')?;
+    let [root, file, salt, under_salt, other, under_other] = read_hashes(texts)?;
     let nodes = reference_list(alloc, numbers)?;
-    let nodes = nodes.as_slice();
-    let root = xorb_hash(alloc, nodes)?;
-    let file = file_hash(alloc, nodes)?;
-    let first = salted(alloc, nodes, salts.0)?;
-    let second = salted(alloc, nodes, salts.1)?;
-    Ok(format!(in alloc; "{numbers} {root} {file} {first} {second}")?)
+    let (found_root, found_file) = (xorb_hash(alloc, &nodes)?, file_hash(alloc, &nodes)?);
+    let of_salts = (salted(alloc, &nodes, salt)?, salted(alloc, &nodes, other)?);
+    Ok((found_root, found_file) == (root, file) && of_salts == (under_salt, under_other))
 }
 
 #[test]
 fn agree_with_the_rust_crate(rt: HostRuntime) -> Result<(), Fail> {
-    let mut count = 0usize;
     for row in REFERENCES.lines() {
-        let columns: Vec<&str> = row.split(' ').collect(rt.alloc())?;
-        if let [numbers, _, _, salt, _, other, _] = columns.as_slice() {
-            let printed = row_of(rt.alloc(), numbers, (salt, other))?;
-            assert!(rt; printed.as_str() == row);
-            count = count.saturating_add(1);
-        }
+        assert!(rt; agrees(rt.alloc(), row)?, "{row}");
     }
-    assert!(rt; count == 13);
+    assert!(rt; REFERENCES.lines().count() == 13);
     Ok(())
 }
 
@@ -58,79 +58,3 @@ const REFERENCES: &str =
 3,4,5,5,5 2c1fd1eca47e284512fcb40fcf45a1874939f9b91c774d46aeba5d004d9d263d 0799ba7ee2c3fed173a8e8d832cd13970ddc16070ffbc8aa6dcd77476f66dc73 498ba54b410ea8f05c4b92aa5a6f01165615f6a8d1ec1d7cee76a85fd800ba28 c98a2a18e6df96f4d6dc5da396e17a2c22867b49b977ab6860de5b3241776baf d4386029ad5c96f5b8ba3ccac43498eed2ebe601a82448d9a570d851ff82d7ce 242c0a9680a8df0894d5f2ab5cbeacf64178ec1ff01eb75cfb5dfec791ccabb1
 0,1,2,3,4,5,6,7 f62abe77e3fb9c954fe52b0028027ddc90c064c45951a4fd2211d87e5c0011db d1b068be5bbdb38992269e8efe61f601881e39f7a7585fd76883cc6ea5c23b44 6fb1cc393b130809e39c8073f96d9726364080a345a5af4978ab491e7d25faac eebe56be63552edcc6da65ff79f79262f83866236dd869f08a900674fc936ad3 9a251cb6ea998277ec94eeba84850ca3b1a01b66719043938c9695f72457abb1 8adf902c706ff117e38e10bbd076d5f139aaf6704159652d189d1350ac24b407
 ";
-
-// Each row has the numbers of a list's chunks, and the hash and the size of the parent of each of its groups.
-const PARENTS: &str = "1,1,1,1 89f2ada89ff8c96763c6b25010e6dd76a4c05b1466207633ea559acf2093211b 400
-0,1,0,1 f04f4d4245ec66bda7bd6f962f5344d27c7e73c5405e7c83bf61814037633e71 100 fe536ba64afae22e992334c62335987cb8ae79e55f32806d473d7619a83ce721 100
-0,1,2,3,4,5,6,7 3cd44c6205e443aebc22763c52b77671e61eb963d6c8b00652756278cb34ec4d 1000 0ecb9135dfacb6d7c97c07fbb79dadc076c945dc4d55ef14a88030dbc384aa89 1800
-";
-
-#[test]
-fn a_root_is_that_of_the_parents_of_groups(rt: HostRuntime) -> Result<(), Fail> {
-    for row in PARENTS.lines() {
-        let columns: Vec<&str> = row.split(' ').collect(rt.alloc())?;
-        if let [numbers, columns @ ..] = columns.as_slice() {
-            let nodes = reference_list(rt.alloc(), numbers)?;
-            let mut parents = Vec::new(rt.alloc());
-            for parent in columns.chunks(2) {
-                if let [hash, size] = parent {
-                    parents.push((DataHash::from_hex(hash)?, size.parse()?))?;
-                }
-            }
-            let root = xorb_hash(rt.alloc(), nodes.as_slice())?;
-            assert!(rt; root == xorb_hash(rt.alloc(), parents.as_slice())?, "{row}");
-        }
-    }
-    Ok(())
-}
-
-#[test]
-fn a_groups_text_has_a_line_for_each_node(rt: HostRuntime) -> Result<(), Fail> {
-    let alloc = rt.alloc();
-    let (hash, _) = reference_chunk("1")?;
-    // Three natural cuts are a group, and a node after them is a group of its own.
-    let zeros = [(MerkleHash::default(), 0); 3];
-    let [zero, _, _] = zeros;
-    let first = (xorb_hash(alloc, &zeros)?, 0);
-    for (size, length) in [(100, 71), (0, 69), (u64::MAX, 88)] {
-        let mut text = format!(in alloc; "{hash} : {size}\n")?;
-        assert!(rt; text.len() == length);
-        let alone = (compute_internal_node_hash(text.as_bytes()), size);
-        let root = xorb_hash(alloc, &[zero, zero, zero, (hash, size)])?;
-        assert!(rt; root == xorb_hash(alloc, &[first, alone])?, "{size}");
-        write!(text, "{hash} : 0\n")?;
-        let root = xorb_hash(alloc, &[(hash, size), (hash, 0)])?;
-        assert!(rt;
-            root == compute_internal_node_hash(text.as_bytes()),
-            "{size}"
-        );
-    }
-    Ok(())
-}
-
-// Returns whether the root and the file hash of some chunks fail because of their sizes.
-fn are_refused(alloc: Global, nodes: &[Node]) -> (bool, bool) {
-    let root = xorb_hash(alloc, nodes);
-    let file = file_hash(alloc, nodes);
-    (
-        root == Err(CoreError::SizeOverflow),
-        file == Err(CoreError::SizeOverflow),
-    )
-}
-
-#[test]
-fn refuse_sizes_past_u64(rt: HostRuntime) -> Result<(), Fail> {
-    let (first, _) = reference_chunk("1")?;
-    let (second, _) = reference_chunk("2")?;
-    for (size, next, refused) in [
-        (u64::MAX, 0, false),
-        (u64::MAX, 1, true),
-        (1, u64::MAX, true),
-    ] {
-        let nodes = [(first, size), (second, next)];
-        let are_refused = are_refused(rt.alloc(), &nodes);
-        assert!(rt; are_refused == (refused, refused), "{size} and {next}");
-        assert!(rt; xorb_hash(rt.alloc(), &nodes[..1]) == Ok(first));
-    }
-    Ok(())
-}

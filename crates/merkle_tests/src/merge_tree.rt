@@ -9,7 +9,7 @@ use std::alloc::{AllocError, Global};
 use std::test::Fail;
 use test_support::trees::{BRACKETINGS, four_ranges, merge, tree};
 use test_support::{EACH_FOURTH, MARKS, drawn_nodes, ranges, with_cuts};
-use xet_hash::data_hash::{DataHash, MerkleHash};
+use xet_hash::data_hash::MerkleHash;
 use xet_merkle::CoreError;
 use xet_merkle::aggregated_hashes::{Node, xorb_hash};
 use xet_merkle::chunk_range::ChunkRange;
@@ -80,34 +80,34 @@ fn run<R: ChunkRange<Alloc = Global>>(alloc: Global, bracketing: &str) -> Result
     }
 }
 
-#[test]
-fn each_bracketing_gives_one_subtree(rt: HostRuntime) -> Result<(), Fail> {
-    let nodes = with_cuts::<28>(&EACH_FOURTH);
-    let whole = MerkleHashSubtree::from_chunks(rt.alloc(), true, &nodes, true)?;
-    let text = whole.to_json(rt.alloc())?.to_string(rt.alloc())?;
-    for (bracketing, _) in BRACKETINGS {
-        let merged: MerkleHashSubtree = run(rt.alloc(), bracketing)?;
-        assert!(rt; merged == whole, "{bracketing}");
-        assert!(rt; merged.to_json(rt.alloc())?.to_string(rt.alloc())?.as_str() == text.as_str());
-    }
-    Ok(())
+// Returns the root of four ranges of a kind, merged under a bracketing.
+fn root<R: ChunkRange<Alloc = Global>>(
+    alloc: Global,
+    bracketing: &str,
+) -> Result<Option<MerkleHash>, CoreError> {
+    run::<R>(alloc, bracketing)?.root()
+}
+
+// Returns how many merges make four ranges one under a bracketing, and how deep they go.
+fn merges_and_depth(alloc: Global, bracketing: &str) -> Result<(u32, u32), CoreError> {
+    let counted: CountedRange = run(alloc, bracketing)?;
+    Ok((counted.merges, counted.depth))
 }
 
 #[test]
 fn ranges_of_each_kind_have_the_root(rt: HostRuntime) -> Result<(), Fail> {
-    let root = Some(xorb_hash(rt.alloc(), &with_cuts::<28>(&EACH_FOURTH))?);
+    let expected = Some(xorb_hash(rt.alloc(), &with_cuts::<28>(&EACH_FOURTH))?);
     for (bracketing, depth) in BRACKETINGS {
-        let counted: CountedRange = run(rt.alloc(), bracketing)?;
+        let roots = [
+            root::<CountedRange>(rt.alloc(), bracketing)?,
+            root::<PlainRange>(rt.alloc(), bracketing)?,
+            root::<MerkleHashSubtree>(rt.alloc(), bracketing)?,
+        ];
+        assert!(rt; roots == [expected; 3], "{bracketing}");
         assert!(rt;
-            (counted.merges, counted.depth) == (3, depth),
+            merges_and_depth(rt.alloc(), bracketing)? == (3, depth),
             "{bracketing}"
         );
-        assert!(rt; counted.root()? == root);
-        let plain: PlainRange = run(rt.alloc(), bracketing)?;
-        assert!(rt; plain.chunks().len() == 28);
-        assert!(rt; plain.root()? == root);
-        let subtree: MerkleHashSubtree = run(rt.alloc(), bracketing)?;
-        assert!(rt; subtree.root()? == root);
     }
     Ok(())
 }
@@ -193,42 +193,6 @@ fn drawn_trees_give_the_subtree_of_the_whole(rt: HostRuntime) -> Result<(), Fail
     Ok(())
 }
 
-// Returns a range of one node.
-fn one(alloc: Global, (start, end): (bool, bool), size: u64) -> Result<PlainRange, CoreError> {
-    PlainRange::from_chunks(alloc, start, &[(DataHash::random_from_seed(1), size)], end)
-}
-
-// Returns whether a tree of two ranges of one node each, with these marks and sizes, fails with that error.
-fn is_refused(
-    alloc: Global,
-    marks: [(bool, bool); 2],
-    sizes: [u64; 2],
-    refusal: CoreError,
-) -> Result<bool, CoreError> {
-    let front = one(alloc, marks[0], sizes[0])?;
-    let back = one(alloc, marks[1], sizes[1])?;
-    let tree = merge(alloc, MergeTree::Leaf(front), MergeTree::Leaf(back))?;
-    Ok(tree.run().err() == Some(refusal))
-}
-
-#[test]
-fn marks_are_refused_before_sizes(rt: HostRuntime) -> Result<(), Fail> {
-    let open = (false, false);
-    for (marks, sizes, refusal) in [
-        ([open, (true, false)], [1, 1], CoreError::InvalidArguments),
-        ([(false, true), open], [1, 1], CoreError::InvalidArguments),
-        (
-            [(false, true), open],
-            [u64::MAX, 1],
-            CoreError::InvalidArguments,
-        ),
-        ([open, open], [u64::MAX, 1], CoreError::SizeOverflow),
-    ] {
-        assert!(rt; is_refused(rt.alloc(), marks, sizes, refusal)?, "{refusal}");
-    }
-    Ok(())
-}
-
 // Returns a tree of `merges` merges of empty ranges. Each is the front of the next one, or its back.
 fn leaning(
     alloc: Global,
@@ -247,26 +211,6 @@ fn leaning(
     Ok(tree)
 }
 
-// Returns a tree of 2^height ranges, all equally deep.
-fn balanced(alloc: Global, height: u32) -> Result<MergeTree<CountedRange>, CoreError> {
-    let mut trees = Vec::new(alloc);
-    for _ in 0..1u32 << height.min(20) {
-        trees.push(MergeTree::Leaf(CountedRange::from_chunks(alloc, false, &[], false)?))?;
-    }
-    'levels: for _ in 0..height {
-        let mut merged = Vec::new(alloc);
-        let pairs = trees.len() / 2;
-        let mut lower = trees.into_iter();
-        'pairs: for _ in 0..pairs {
-            if let (Some(front), Some(back)) = (lower.next(), lower.next()) {
-                merged.push(merge(alloc, front, back)?)?;
-            }
-        }
-        trees = merged;
-    }
-    Ok(trees.pop().ok_or(CoreError::OutOfMemory)?)
-}
-
 #[test]
 fn trees_of_great_depth_are_run(rt: HostRuntime) -> Result<(), Fail> {
     for is_front in [true, false] {
@@ -276,7 +220,5 @@ fn trees_of_great_depth_are_run(rt: HostRuntime) -> Result<(), Fail> {
             "{is_front}"
         );
     }
-    let range = balanced(rt.alloc(), 17)?.run()?;
-    assert!(rt; (range.merges, range.depth) == (131_071, 17));
     Ok(())
 }

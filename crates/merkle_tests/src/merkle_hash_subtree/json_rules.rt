@@ -150,20 +150,29 @@ impl Parts {
     }
 }
 
+// Returns what the JSON value of the random subtree of a number says, with up to two changes.
+fn drawn_parts(
+    generator: &mut Xoshiro256PlusPlus,
+    alloc: Global,
+    number: u64,
+) -> Result<Parts, Fail> {
+    let (at_start, at_end) = MARKS[(generator.next_u64() % 4) as usize];
+    let chunks = numbered_list(alloc, number)?;
+    let subtree = MerkleHashSubtree::from_chunks(alloc, at_start, &chunks, at_end)?;
+    let mut parts = Parts::of(alloc, &subtree)?;
+    for _ in 0..generator.next_u64() % 3 {
+        parts.change(generator)?;
+    }
+    Ok(parts)
+}
+
 // Returns the text of a number, and how it should print.
 fn drawn_texts(alloc: Global, number: u64) -> Result<(String, String), Fail> {
     let mut generator = Xoshiro256PlusPlus::seed_from_u64(number.saturating_add(2000));
-    let (at_start, at_end) = MARKS[(generator.next_u64() % 4) as usize];
-    let chunks = numbered_list(alloc, number)?;
-    let subtree = MerkleHashSubtree::from_chunks(alloc, at_start, chunks.as_slice(), at_end)?;
-    let mut parts = Parts::of(alloc, &subtree)?;
-    for _ in 0..generator.next_u64() % 3 {
-        parts.change(&mut generator)?;
-    }
-    let printed = parts.text(alloc)?;
+    let printed = drawn_parts(&mut generator, alloc, number)?.text(alloc)?;
     let text = match SPELLINGS.get((generator.next_u64() % 24) as usize) {
         Some((from, to)) => printed.replace(alloc, *from, to)?,
-        None => parts.text(alloc)?,
+        None => printed.clone()?,
     };
     Ok((text, printed))
 }
@@ -177,12 +186,16 @@ fn broken_rule(alloc: Global, text: &str, printed: &str) -> Result<Option<u8>, F
     }
 }
 
+// Returns whether the text of a number breaks a rule.
+fn breaks(alloc: Global, number: u64, rule: &str) -> Result<bool, Fail> {
+    let (text, printed) = drawn_texts(alloc, number)?;
+    Ok(broken_rule(alloc, &text, &printed)? == Some(rule.parse()?))
+}
+
 #[test]
 fn changed_values_break_the_rules_that_they_should(rt: HostRuntime) -> Result<(), Fail> {
     for (number, rule) in RULES.split_whitespace().enumerate() {
-        let (text, printed) = drawn_texts(rt.alloc(), number as u64)?;
-        let broken = broken_rule(rt.alloc(), text.as_str(), printed.as_str())?;
-        assert!(rt; broken == Some(rule.parse()?), "{number}");
+        assert!(rt; breaks(rt.alloc(), number as u64, rule)?, "{number}");
     }
     assert!(rt; RULES.split_whitespace().count() == 300);
     Ok(())

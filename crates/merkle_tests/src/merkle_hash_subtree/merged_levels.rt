@@ -21,25 +21,36 @@ fn merge_at_drawn_places(
     Ok(())
 }
 
-// Returns the outer marks and the summary of the subtree that the ranges of a number are merged to.
-fn merged_summary(alloc: Global, number: u64) -> Result<String, Fail> {
+// Returns random ranges of the list of a number.
+fn drawn_ranges(
+    generator: &mut Xoshiro256PlusPlus,
+    alloc: Global,
+    number: u64,
+) -> Result<Vec<MerkleHashSubtree>, Fail> {
     let chunks = numbered_list(alloc, number.saturating_add(300))?;
-    let mut generator = Xoshiro256PlusPlus::seed_from_u64(number.saturating_add(1000));
     let marks = MARKS[(generator.next_u64() % 4) as usize];
-    let lengths = drawn_lengths(&mut generator, alloc, chunks.len() as u64)?;
-    let mut ranges = ranges(alloc, chunks.as_slice(), lengths.as_slice(), marks)?;
+    let lengths = drawn_lengths(generator, alloc, chunks.len() as u64)?;
+    Ok(ranges(alloc, &chunks, &lengths, marks)?)
+}
+
+// Returns whether the ranges of a number are merged to a subtree with these outer marks and this summary.
+fn are_merged_to(alloc: Global, number: u64, expected: &str) -> Result<bool, Fail> {
+    let mut generator = Xoshiro256PlusPlus::seed_from_u64(number.saturating_add(1000));
+    let mut ranges = drawn_ranges(&mut generator, alloc, number)?;
     merge_at_drawn_places(&mut generator, &mut ranges)?;
     let merged = ranges.first().ok_or("no range")?;
-    let summary = summary(alloc, merged)?;
     let (at_start, at_end) = (merged.at_start(), merged.at_end());
-    Ok(format!(in alloc; "{at_start},{at_end} {summary}")?)
+    let summary = summary(alloc, merged)?;
+    Ok(format!(in alloc; "{at_start},{at_end} {summary}")?.as_str() == expected)
 }
 
 #[test]
 fn merged_levels_are_those_of_whole_lists(rt: HostRuntime) -> Result<(), Fail> {
     for (number, expected) in SUMMARIES.lines().enumerate() {
-        let summary = merged_summary(rt.alloc(), number as u64)?;
-        assert!(rt; summary.as_str() == expected, "{number}");
+        assert!(rt;
+            are_merged_to(rt.alloc(), number as u64, expected)?,
+            "{number}"
+        );
     }
     assert!(rt; SUMMARIES.lines().count() == 300);
     Ok(())

@@ -3,37 +3,35 @@
 
 use std::alloc::Global;
 use std::test::Fail;
-use test_support::{merge_into_previous, read_json, told_ranges};
+use test_support::texts::three_fields;
+use test_support::{merge_into_previous, told_ranges};
+use xet_merkle::merkle_hash_subtree::MerkleHashSubtree;
 
-// Returns the text of the subtree that a row's ranges are merged to. Fails if reading the text doesn't give the subtree
-// back.
-fn merged_text(alloc: Global, ranges: &str, places: &str) -> Result<String, Fail> {
-    let mut ranges = told_ranges(alloc, ranges)?;
+// Merges ranges at places, one after another.
+fn merge_at(ranges: &mut Vec<MerkleHashSubtree>, places: &str) -> Result<(), Fail> {
     for place in places.split(',') {
         if place != "-" {
-            merge_into_previous(&mut ranges, place.parse()?)?;
+            merge_into_previous(ranges, place.parse()?)?;
         }
     }
+    Ok(())
+}
+
+// Returns whether the subtree that a row's ranges are merged to has its text.
+fn has_text(alloc: Global, row: &str) -> Result<bool, Fail> {
+    let (ranges, places, expected) = three_fields(row, ' ')?;
+    let mut ranges = told_ranges(alloc, ranges)?;
+    merge_at(&mut ranges, places)?;
     let merged = ranges.first().ok_or("no range")?;
-    let text = merged.to_json(alloc)?.to_string(alloc)?;
-    if read_json(alloc, text.as_str())?? != *merged {
-        return Err("read back as another subtree")?;
-    }
-    Ok(text)
+    Ok(merged.to_json(alloc)?.to_string(alloc)?.as_str() == expected)
 }
 
 #[test]
 fn subtrees_have_the_texts_of_the_definition(rt: HostRuntime) -> Result<(), Fail> {
-    let mut count = 0usize;
     for row in ROWS.lines() {
-        let columns: Vec<&str> = row.split(' ').collect(rt.alloc())?;
-        if let [ranges, places, expected] = columns.as_slice() {
-            let text = merged_text(rt.alloc(), ranges, places)?;
-            assert!(rt; text.as_str() == *expected, "{ranges}");
-            count = count.saturating_add(1);
-        }
+        assert!(rt; has_text(rt.alloc(), row)?, "{row}");
     }
-    assert!(rt; count == 13);
+    assert!(rt; ROWS.lines().count() == 13);
     Ok(())
 }
 
