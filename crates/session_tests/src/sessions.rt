@@ -10,6 +10,7 @@ use upload_session::kept_hashes::{KeptHashes, NoHashes};
 use upload_session::session::{Session, SessionOf};
 use upload_session::session_fault::SessionFault;
 use xet_hash::data_hash::DataHash;
+use xet_merkle::CoreError;
 use xet_merkle::aggregated_hashes::{Node, file_hash};
 use xet_merkle::chunk_range::ChunkRange;
 use xet_merkle::merkle_hash_subtree::MerkleHashSubtree;
@@ -172,6 +173,33 @@ fn a_session_lends_the_ranges_of_its_runs(rt: HostRuntime) -> Result<(), Fail> {
         assert!(rt; Some(&run) == expected.get(place), "{position}");
     }
     assert!(rt; !session.taken(u64::MAX));
+    Ok(())
+}
+
+#[test]
+fn a_saved_session_is_restored(rt: HostRuntime) -> Result<(), Fail> {
+    let alloc = rt.alloc();
+    let mut session: Session = SessionOf::new(alloc);
+    let mut restored: Session = SessionOf::new(alloc);
+    let puts = "put 2 3:300 1;put 7 4:400 1;put 0 1:100,2:200 2";
+    assert!(rt; answers(alloc, &mut session, puts, true)?);
+    for position in [0, 3] {
+        if let Some((first, end, range)) = session.run_from(position) {
+            restored.push_run(first, end, range.try_clone()?)?;
+        }
+    }
+    let none = MerkleHashSubtree::from_chunks(alloc, false, &[], false)?;
+    assert!(rt; restored.push_run(8, 9, none) == Err(CoreError::InvalidArguments));
+    let mut known = Vec::new(alloc);
+    for hash in &session.known_hashes()? {
+        known.push((*hash, 0))?;
+    }
+    restored.keep_hashes(&known)?;
+    assert!(rt; session.num_known_hashes() == 4 && restored.num_known_hashes() == 4);
+    let rest = "put 3 4:400,5:500,1:100,6:600 2";
+    assert!(rt; answers(alloc, &mut session, rest, true)?);
+    assert!(rt; answers(alloc, &mut restored, rest, true)?);
+    assert!(rt; restored.finish(8) == session.finish(8) && restored.finish(8).is_ok());
     Ok(())
 }
 
