@@ -254,7 +254,7 @@ fn attempt(
         | Call::TwoValuesOfOneKey
         | Call::BracketingsOfSubtrees
         | Call::BracketingsOfPlainRanges => examples::attempt(call, alloc, granted, chunks.alloc),
-        Call::KeepHashes => sessions::keep_hashes(alloc, granted, chunks.alloc),
+        Call::KeepHashes => sessions::keep_hashes(alloc, granted),
         Call::SessionOfSubtrees(row) => {
             sessions::attempt::<MerkleHashSubtree<&Refusing>>(alloc, granted, chunks.alloc, row)
         }

@@ -6,7 +6,7 @@ use std::fmt::Display;
 use std::test::Fail;
 use std::vec::Vec;
 use test_support::texts::{four_fields, two_fields};
-use upload_session::kept_hashes::{KeptHashes, NoHashes};
+use upload_session::kept_hashes::{KeptHashes, NoHashes, SeenHashes};
 use upload_session::session::{Session, SessionOf};
 use upload_session::session_fault::SessionFault;
 use xet_hash::data_hash::DataHash;
@@ -105,40 +105,46 @@ fn answers<C: ChunkRange, H: KeptHashes<C::Alloc>>(
     Ok(true)
 }
 
-// Returns whether the calls of a row return what they should, over each kind of range, and without hashes.
-fn each_kind_answers(alloc: Global, row: &str) -> Result<bool, Fail> {
-    let mut subtrees: Session = SessionOf::new(alloc);
-    let mut plain: SessionOf<PlainRange> = SessionOf::new(alloc);
-    let mut without: SessionOf<MerkleHashSubtree, NoHashes> = SessionOf::new(alloc);
-    Ok(
-        answers(alloc, &mut subtrees, row, true)?
-            && answers(alloc, &mut plain, row, true)?
-            && answers(alloc, &mut without, row, false)?,
-    )
+// Returns whether the calls of a row return what they should in a new session.
+fn new_session_answers<C: ChunkRange<Alloc = Global>, H: KeptHashes<Global>>(
+    alloc: Global,
+    row: &str,
+    counts: bool,
+) -> Result<bool, Fail> {
+    let mut session: SessionOf<C, H> = SessionOf::new(alloc);
+    answers(alloc, &mut session, row, counts)
 }
 
 #[test]
 fn sessions_answer_as_other_implementations_do(rt: HostRuntime) -> Result<(), Fail> {
+    let alloc = rt.alloc();
     for row in SESSIONS.lines() {
-        assert!(rt; each_kind_answers(rt.alloc(), row)?, "{row}");
+        let are_right = [
+            new_session_answers::<MerkleHashSubtree, SeenHashes>(alloc, row, true)?,
+            new_session_answers::<PlainRange, SeenHashes>(alloc, row, true)?,
+            new_session_answers::<MerkleHashSubtree, NoHashes>(alloc, row, false)?,
+        ];
+        assert!(rt; are_right == [true; 3], "{row}");
     }
     Ok(())
 }
 
 #[test]
 fn chunks_are_put_in_any_order(rt: HostRuntime) -> Result<(), Fail> {
-    let alloc = rt.alloc();
     let (first, second, third) = (node(1, 100), node(2, 200), node(3, 300));
-    let mut session: Session = SessionOf::new(alloc);
-    assert!(rt; session.put(2, &[third]) == Ok(1));
-    assert!(rt; session.put(0, &[first, second]) == Ok(2));
-    assert!(rt; session.put(1, &[third]) == Err(SessionFault::Overlap));
+    let mut session: Session = SessionOf::new(rt.alloc());
+    let early = [
+        session.put(2, &[third]),
+        session.put(0, &[first, second]),
+        session.put(1, &[third]),
+        session.put(4, &[third]),
+    ];
+    assert!(rt; early == [Ok(1), Ok(2), Err(SessionFault::Overlap), Ok(0)]);
     assert!(rt; session.taken(2) && !session.taken(3));
-    assert!(rt; session.put(4, &[third]) == Ok(0));
     assert!(rt; session.finish(4) == Err(SessionFault::Gap));
     assert!(rt; session.put(3, &[first]) == Ok(0));
-    let file = [first, second, third, first, third];
-    assert!(rt; session.finish(5) == Ok(file_hash(alloc, &file)?));
+    let file = file_hash(rt.alloc(), &[first, second, third, first, third])?;
+    assert!(rt; session.finish(5) == Ok(file));
     Ok(())
 }
 
@@ -175,12 +181,9 @@ fn run_from(session: &Session, position: u64) -> Option<(u64, u64)> {
     }
 }
 
-#[test]
-fn a_session_lends_the_ranges_of_its_runs(rt: HostRuntime) -> Result<(), Fail> {
-    let session = of_two_runs(rt.alloc())?;
-    assert!(rt; lends(rt.alloc(), &session, 0, 0, "1:100,2:200,3:300")?);
-    assert!(rt; lends(rt.alloc(), &session, 1, 7, "4:400")?);
-    assert!(rt; session.range(2).is_none());
+// Returns whether a session has the positions of these two runs.
+fn has_two_runs(session: &Session) -> bool {
+    let mut is_right = session.range(2).is_none();
     for position in 0..9 {
         let is_taken = position < 3 || position == 7;
         let run = if position < 3 {
@@ -188,9 +191,18 @@ fn a_session_lends_the_ranges_of_its_runs(rt: HostRuntime) -> Result<(), Fail> {
         } else {
             (position < 8).then_some((7, 8))
         };
-        let found = (session.taken(position), run_from(&session, position));
-        assert!(rt; found == (is_taken, run), "{position}");
+        let found = (session.taken(position), run_from(session, position));
+        is_right = is_right && found == (is_taken, run);
     }
+    is_right
+}
+
+#[test]
+fn a_session_lends_the_ranges_of_its_runs(rt: HostRuntime) -> Result<(), Fail> {
+    let session = of_two_runs(rt.alloc())?;
+    assert!(rt; has_two_runs(&session));
+    assert!(rt; lends(rt.alloc(), &session, 0, 0, "1:100,2:200,3:300")?);
+    assert!(rt; lends(rt.alloc(), &session, 1, 7, "4:400")?);
     Ok(())
 }
 

@@ -161,6 +161,13 @@ fn stranger(memory: Global, left: &[Node], right: &[Node], of: &[Node]) -> Resul
     two_levels(memory, left, right, range.left(1))
 }
 
+// Returns some nodes and some others.
+fn joined(memory: Global, nodes: &[Node], others: &[Node]) -> Result<Vec<Node>, Fail> {
+    let mut joined = nodes.to_vec(memory)?;
+    joined.extend_from_slice(others)?;
+    Ok(joined)
+}
+
 // Returns the JSON values of three subtrees. In the first, a level's left nodes have a stable point. In the second,
 // right nodes have no natural cut. The third is right.
 fn strangers(memory: Global) -> Result<[Value; 3], Fail> {
@@ -170,13 +177,10 @@ fn strangers(memory: Global) -> Result<[Value; 3], Fail> {
     let (first, rest) = nodes.split_at(8);
     let (_, last) = rest.split_at(8);
     let (_, right) = rest.split_at(12);
-    let plain = with_cuts::<4>(&[]);
-    let mut longer = Vec::new(memory);
-    longer.extend_from_slice(first)?;
-    longer.extend_from_slice(last)?;
+    let longer = joined(memory, first, last)?;
     Ok([
-        stranger(memory, longer.as_slice(), &[], twenty)?,
-        stranger(memory, first, &plain, nodes)?,
+        stranger(memory, &longer, &[], twenty)?,
+        stranger(memory, first, &with_cuts::<4>(&[]), nodes)?,
         stranger(memory, first, right, nodes)?,
     ])
 }

@@ -68,17 +68,31 @@ fn calls_on_long_lists_are_answered(rt: HostRuntime) -> Result<(), Fail> {
     Ok(())
 }
 
+// Returns the subtree of a list's beginning, merged with that of the others.
+fn merged(alloc: Global, nodes: &[Node]) -> Result<MerkleHashSubtree, CoreError> {
+    let (front, back) = nodes.split_at(MORE.min(nodes.len()));
+    let mut merged = MerkleHashSubtree::from_chunks(alloc, true, front, false)?;
+    merged.merge_into(&MerkleHashSubtree::from_chunks(alloc, false, back, false)?)?;
+    Ok(merged)
+}
+
+// Returns whether the subtree of nodes that are no natural cuts is copied, and made from them.
+fn is_copied(
+    alloc: Global,
+    subtree: &MerkleHashSubtree,
+    nodes: &[Node],
+) -> Result<bool, CoreError> {
+    let (counts, kept) = ([(nodes.len(), 0)].to_vec(alloc)?, nodes.to_vec(alloc)?);
+    let made = MerkleHashSubtree::from_flat(alloc, true, counts, kept, false)?;
+    Ok(made == *subtree && subtree.try_clone()? == *subtree)
+}
+
 #[test]
 fn the_longest_lists_are_answered(rt: HostRuntime) -> Result<(), Fail> {
     let nodes = uncut(rt.alloc(), MOST)?;
-    let (front, back) = nodes.split_at(MORE.min(nodes.len()));
-    let mut merged = MerkleHashSubtree::from_chunks(rt.alloc(), true, front, false)?;
-    merged.merge_into(&MerkleHashSubtree::from_chunks(rt.alloc(), false, back, false)?)?;
+    let mut merged = merged(rt.alloc(), &nodes)?;
     assert!(rt; merged.num_nodes() == MOST && merged.left(0) == nodes.as_slice());
-    assert!(rt; merged.try_clone()? == merged);
-    let counts = [(MOST, 0)].to_vec(rt.alloc())?;
-    let kept = nodes.to_vec(rt.alloc())?;
-    assert!(rt; MerkleHashSubtree::from_flat(rt.alloc(), true, counts, kept, false)? == merged);
+    assert!(rt; is_copied(rt.alloc(), &merged, &nodes)?);
     merged.merge_into(&MerkleHashSubtree::from_chunks(rt.alloc(), false, &[], true)?)?;
     assert!(rt; merged.final_hash() == Some(xorb_hash(rt.alloc(), &nodes)?));
     Ok(())
@@ -216,16 +230,20 @@ fn are_ranges_taken<'a, R: Kind<Alloc = &'a Refusing>>(
     )
 }
 
+// Returns whether ranges of one chunk each are merged, whatever their kind.
+fn are_all_merged(memory: Global, nodes: &[Node]) -> Result<bool, Fail> {
+    let alloc = refusing(memory);
+    Ok(
+        are_merged(&alloc, memory, nodes)?
+            && are_ranges_taken::<MerkleHashSubtree<&Refusing>>(&alloc, memory, nodes)?
+            && are_ranges_taken::<PlainRange<&Refusing>>(&alloc, memory, nodes)?,
+    )
+}
+
 #[test]
 fn many_ranges_are_merged(rt: HostRuntime) -> Result<(), Fail> {
-    let (alloc, memory) = (refusing(rt.alloc()), rt.alloc());
-    for nodes in [drawn(memory, MANY)?, uncut(memory, MORE)?] {
-        let count = nodes.len();
-        assert!(rt; are_merged(&alloc, memory, &nodes)?, "{count}");
-        let are_taken = are_ranges_taken::<MerkleHashSubtree<&Refusing>>(&alloc, memory, &nodes)?
-            && are_ranges_taken::<PlainRange<&Refusing>>(&alloc, memory, &nodes)?;
-        assert!(rt; are_taken, "{count}");
-    }
+    assert!(rt; are_all_merged(rt.alloc(), &drawn(rt.alloc(), MANY)?)?);
+    assert!(rt; are_all_merged(rt.alloc(), &uncut(rt.alloc(), MORE)?)?);
     Ok(())
 }
 
@@ -275,7 +293,7 @@ fn long_line(memory: Global, first: char, count: usize) -> Result<String, Fail> 
 }
 
 // Returns whether a call writes the right answer to lines.
-fn is_answered(memory: Global, call: &str, input: &String, answer: &String) -> Result<bool, Fail> {
+fn is_answered(memory: Global, call: &str, input: &str, answer: &str) -> bool {
     let mut output = Vec::new(memory);
     let status = status_of(
         &refusing(memory),
@@ -284,77 +302,102 @@ fn is_answered(memory: Global, call: &str, input: &String, answer: &String) -> R
         input.as_bytes(),
         &mut output,
     );
-    Ok(status == 0 && output.as_slice() == answer.as_bytes())
+    status == 0 && output.as_slice() == answer.as_bytes()
+}
+
+// Returns whether calls write the right answer to the lines of some pairs.
+fn are_pairs_answered(memory: Global, nodes: &[Node]) -> Result<bool, Fail> {
+    let answer = answer_to(memory, nodes)?;
+    let pairs = lines_of(memory, nodes, true)?;
+    let placed = lines_by_position(memory, nodes)?;
+    Ok(
+        is_answered(memory, "run", &pairs, &answer)
+            && is_answered(memory, "run", &placed, &answer)
+            && is_answered(memory, "run over plain ranges", &placed, &answer),
+    )
 }
 
 #[test]
 fn many_pairs_are_answered(rt: HostRuntime) -> Result<(), Fail> {
-    let memory = rt.alloc();
-    for nodes in [drawn(memory, MANY)?, uncut(memory, MORE)?] {
-        let count = nodes.len();
-        let answer = answer_to(memory, &nodes)?;
-        let (pairs, placed) = (
-            lines_of(memory, &nodes, true)?,
-            lines_by_position(memory, &nodes)?,
-        );
-        assert!(rt; is_answered(memory, "run", &pairs, &answer)?, "{count}");
-        assert!(rt; is_answered(memory, "run", &placed, &answer)?, "{count}");
-        assert!(rt;
-            is_answered(memory, "run over plain ranges", &placed, &answer)?,
-            "{count}"
-        );
-    }
+    assert!(rt; are_pairs_answered(rt.alloc(), &drawn(rt.alloc(), MANY)?)?);
+    assert!(rt; are_pairs_answered(rt.alloc(), &uncut(rt.alloc(), MORE)?)?);
     Ok(())
+}
+
+// Returns whether `make` writes the range of some pairs, and `root` reads it.
+fn is_range_answered(memory: Global, nodes: &[Node]) -> Result<bool, Fail> {
+    let range = range_of(memory, nodes)?;
+    let pairs = lines_of(memory, nodes, true)?;
+    let answer = answer_to(memory, nodes)?;
+    Ok(is_answered(memory, "make", &pairs, &range) && is_answered(memory, "root", &range, &answer))
+}
+
+// Returns whether `join` and `root` write the right answer to ranges of one chunk each.
+fn are_ranges_answered(memory: Global, nodes: &[Node]) -> Result<bool, Fail> {
+    let range = range_of(memory, nodes)?;
+    let ranges = lines_of(memory, nodes, false)?;
+    let answer = answer_to(memory, nodes)?;
+    Ok(
+        is_answered(memory, "join", &ranges, &range)
+            && is_answered(memory, "root", &ranges, &answer),
+    )
 }
 
 #[test]
 fn many_ranges_are_read_and_written(rt: HostRuntime) -> Result<(), Fail> {
-    let memory = rt.alloc();
-    let nodes = uncut(memory, MANY)?;
-    let (answer, range) = (answer_to(memory, &nodes)?, range_of(memory, &nodes)?);
-    let (pairs, ranges) = (
-        lines_of(memory, &nodes, true)?,
-        lines_of(memory, &nodes, false)?,
-    );
-    assert!(rt; is_answered(memory, "make", &pairs, &range)?);
-    assert!(rt; is_answered(memory, "join", &ranges, &range)?);
-    assert!(rt; is_answered(memory, "root", &ranges, &answer)?);
-    assert!(rt; is_answered(memory, "root", &range, &answer)?);
+    let nodes = uncut(rt.alloc(), MANY)?;
+    assert!(rt; is_range_answered(rt.alloc(), &nodes)?);
+    assert!(rt; are_ranges_answered(rt.alloc(), &nodes)?);
     Ok(())
+}
+
+// Returns whether the chunk of a long line is answered.
+fn is_chunk_answered(memory: Global, count: usize) -> Result<bool, Fail> {
+    let chunk = long_line(memory, '+', count)?;
+    let data = chunk.as_bytes().get(1..=count).unwrap_or_default();
+    let answer = answer_to(memory, &[(compute_data_hash(data), count as u64)])?;
+    Ok(
+        is_answered(memory, "run", &chunk, &answer)
+            && is_answered(memory, "run over plain ranges", &chunk, &answer),
+    )
+}
+
+// Returns whether each call finds a line faulty.
+fn is_bad(memory: Global, line: &str) -> bool {
+    let mut is_bad = true;
+    for call in ["run", "run over plain ranges", "make", "join", "root"] {
+        let mut output = Vec::new(memory);
+        let alloc = refusing(memory);
+        let status = status_of(&alloc, memory, call, line.as_bytes(), &mut output);
+        is_bad = is_bad && (status == 1 || status == 8);
+    }
+    is_bad
 }
 
 #[test]
 fn long_lines_are_answered(rt: HostRuntime) -> Result<(), Fail> {
-    let memory = rt.alloc();
     for count in [MANY, MORE, MOST] {
-        let chunk = long_line(memory, '+', count)?;
-        let data = chunk.as_bytes().get(1..=count).unwrap_or_default();
-        let answer = answer_to(memory, &[(compute_data_hash(data), count as u64)])?;
-        assert!(rt; is_answered(memory, "run", &chunk, &answer)?, "{count}");
+        assert!(rt; is_chunk_answered(rt.alloc(), count)?, "{count}");
         assert!(rt;
-            is_answered(memory, "run over plain ranges", &chunk, &answer)?,
+            is_bad(rt.alloc(), &long_line(rt.alloc(), 'a', count)?),
             "{count}"
         );
-        let bad = long_line(memory, 'a', count)?;
-        for call in ["run", "run over plain ranges", "make", "join", "root"] {
-            let mut output = Vec::new(memory);
-            let alloc = refusing(memory);
-            let status = status_of(&alloc, memory, call, bad.as_bytes(), &mut output);
-            assert!(rt; status == 1 || status == 8, "{call}, {count}");
-        }
     }
     Ok(())
 }
 
+// Returns whether a long text is refused as base64.
+fn is_no_hash(memory: Global, first: char, count: usize) -> Result<bool, Fail> {
+    let text = long_line(memory, first, count)?;
+    let answer = DataHash::from_base64(&refusing(memory), text.as_str().trim());
+    Ok(matches!(answer, Err(HashTextError::Bytes(_))))
+}
+
 #[test]
 fn long_texts_are_no_hashes(rt: HostRuntime) -> Result<(), Fail> {
-    let memory = rt.alloc();
     for count in [MANY, MORE, MOST] {
-        for first in ['a', '='] {
-            let text = long_line(memory, first, count)?;
-            let answer = DataHash::from_base64(&refusing(memory), text.as_str().trim());
-            assert!(rt; matches!(answer, Err(HashTextError::Bytes(_))), "{count}");
-        }
+        assert!(rt; is_no_hash(rt.alloc(), 'a', count)?, "{count}");
+        assert!(rt; is_no_hash(rt.alloc(), '=', count)?, "{count}");
     }
     Ok(())
 }

@@ -40,26 +40,43 @@ pub fn range_of(memory: Global, nodes: &[Node]) -> Result<String, Fail> {
     Ok(line)
 }
 
+// Returns the lines of some pairs.
+fn pairs_of(memory: Global, nodes: &[Node]) -> Result<String, Fail> {
+    let mut pairs = String::new(memory);
+    for (hash, size) in nodes {
+        writeln!(pairs, "{hash} {size}")?;
+    }
+    Ok(pairs)
+}
+
+// Returns some nodes twice.
+fn twice(memory: Global, nodes: &[Node]) -> Result<Vec<Node>, Fail> {
+    let mut twice = Vec::new(memory);
+    twice.extend_from_slice(nodes)?;
+    twice.extend_from_slice(nodes)?;
+    Ok(twice)
+}
+
+// Returns what `join` and `root` read: the range of some nodes, twice.
+fn two_ranges_of(memory: Global, nodes: &[Node]) -> Result<String, Fail> {
+    let range = range_of(memory, nodes)?;
+    Ok(format!(in memory; "{range}{range}")?)
+}
+
 // Returns what a command of `xetrange` reads, and what it should write.
 fn of_command(memory: Global, call: &str) -> Result<(String, String), Fail> {
     let nodes = with_cuts::<28>(&EACH_FOURTH);
-    let mut twice = Vec::new(memory);
-    twice.extend_from_slice(&nodes)?;
-    twice.extend_from_slice(&nodes)?;
-    let range = range_of(memory, &nodes)?;
-    if call == "make" {
-        let mut pairs = String::new(memory);
-        for (hash, size) in &nodes {
-            writeln!(pairs, "{hash} {size}")?;
+    match call {
+        "make" => Ok((pairs_of(memory, &nodes)?, range_of(memory, &nodes)?)),
+        "join" => {
+            let answer = range_of(memory, &twice(memory, &nodes)?)?;
+            Ok((two_ranges_of(memory, &nodes)?, answer))
         }
-        return Ok((pairs, range));
+        _ => {
+            let answer = answer_to(memory, &twice(memory, &nodes)?)?;
+            Ok((two_ranges_of(memory, &nodes)?, answer))
+        }
     }
-    let ranges = format!(in memory; "{range}{range}")?;
-    let answer = match call {
-        "join" => range_of(memory, &twice)?,
-        _ => answer_to(memory, &twice)?,
-    };
-    Ok((ranges, answer))
 }
 
 // Returns what a call reads, and what it should write.

@@ -92,18 +92,20 @@ fn are_same<'a, R: Kind<Alloc = &'a Refusing>>(
 }
 
 // How many chunks a session has in the end, their root and their file hash.
-#[derive(Drop)]
+#[derive(Clone, Copy)]
 struct End {
     total: u64,
     root: MerkleHash,
     file: MerkleHash,
 }
 
-fn end_of(memory: Global, chunks: &[Node]) -> Result<End, CoreError> {
+// Returns the end of a session of some reference chunks.
+fn end_of(memory: Global, numbers: &str) -> Result<End, Fail> {
+    let chunks = reference_list(memory, numbers)?;
     Ok(End {
         total: chunks.len() as u64,
-        root: xorb_hash(memory, chunks)?,
-        file: file_hash(memory, chunks)?,
+        root: xorb_hash(memory, &chunks)?,
+        file: file_hash(memory, &chunks)?,
     })
 }
 
@@ -134,20 +136,21 @@ fn begun<'a, R: Kind<Alloc = &'a Refusing>>(
     Ok(session)
 }
 
-// Tries a call: the put, if there is one. The other session is equal to the session before the call.
+// Tries a call: the put that a text states, if the call is a put. The session is that after the puts before.
 fn tried<'a, R: Kind<Alloc = &'a Refusing>>(
-    alloc: &Refusing,
-    granted: u32,
-    (session, other): (&mut SessionOf<R>, &SessionOf<R>),
-    put: Option<Put>,
-    is_root: bool,
+    (alloc, granted, memory): (&'a Refusing, u32, Global),
+    session: &mut SessionOf<R>,
+    before: &str,
+    (call, text): (&str, &str),
     end: &End,
-) -> Outcome {
+) -> Result<Outcome, Fail> {
+    let other: SessionOf<R> = begun(alloc, memory, before)?;
+    let put = put_of(memory, call, text)?;
     alloc.grant(granted);
-    let answer = answers(session, put, is_root, end);
-    let outcome = outcome_of(alloc, answer, are_same(session, other));
+    let answer = answers(session, put, call == "root", end);
+    let outcome = outcome_of(alloc, answer, are_same(session, &other));
     alloc.grant(u32::MAX);
-    outcome
+    Ok(outcome)
 }
 
 // Returns the put that a text states, if the call is a put.
@@ -181,21 +184,11 @@ pub fn attempt<'a, R: Kind<Alloc = &'a Refusing>>(
     row: &str,
 ) -> Result<Outcome, Fail> {
     let (call, chunks, before, puts) = four_fields(row, '|')?;
-    let end = end_of(memory, &reference_list(memory, chunks)?)?;
+    let end = end_of(memory, chunks)?;
     let (first, others) = puts.split_once(' ').unwrap_or((puts, ""));
     let mut session: SessionOf<R> = begun(alloc, memory, before)?;
-    let outcome = {
-        let other: SessionOf<R> = begun(alloc, memory, before)?;
-        let put = put_of(memory, call, first)?;
-        tried(
-            alloc,
-            granted,
-            (&mut session, &other),
-            put,
-            call == "root",
-            &end,
-        )
-    };
+    let granted = (alloc, granted, memory);
+    let outcome = tried(granted, &mut session, before, (call, first), &end)?;
     let remaining = if matches!(outcome, Outcome::Refused) {
         puts
     } else {
@@ -204,28 +197,36 @@ pub fn attempt<'a, R: Kind<Alloc = &'a Refusing>>(
     Ok(outcome.if_so(goes_on(memory, &mut session, remaining, &end)?))
 }
 
-/// Tries to keep 100 hashes besides another one. After a refusal all of them must be new again, and otherwise none.
-pub fn keep_hashes(alloc: &Refusing, granted: u32, memory: Global) -> Result<Outcome, Fail> {
-    let mut chunks = Vec::new(memory);
-    for number in 0..100 {
-        chunks.push((MerkleHash::from([number, 0, 0, 0]), 1))?;
+// Returns the chunk of a number.
+fn chunk(number: u64) -> Node {
+    (MerkleHash::from([number, 0, 0, 0]), 1)
+}
+
+// Returns 100 chunks of different hashes.
+fn hundred() -> [Node; 100] {
+    let mut chunks = [chunk(0); 100];
+    for (place, number) in chunks.iter_mut().zip(0..100) {
+        *place = chunk(number);
     }
+    chunks
+}
+
+/// Tries to keep 100 hashes besides another one. After a refusal all of them must be new again, and otherwise none.
+pub fn keep_hashes(alloc: &Refusing, granted: u32) -> Result<Outcome, Fail> {
+    let chunks = hundred();
     let mut seen: SeenHashes<&Refusing> = KeptHashes::new(alloc);
-    let before = seen
-        .keep(alloc, &[(MerkleHash::from([200, 0, 0, 0]), 1)])?
-        .len();
+    let before = seen.keep(alloc, &[chunk(200)])?.len();
     alloc.grant(granted);
     let answer = match seen.keep(alloc, &chunks) {
         Ok(new) => Ok(new.len() == 100),
         Err(error) => Err(error.into()),
     };
-    let outcome = outcome_of(alloc, answer, true);
+    let outcome = outcome_of(alloc, answer, before == 1);
     alloc.grant(u32::MAX);
     let new_again = if matches!(outcome, Outcome::Refused) {
         100
     } else {
         0
     };
-    let is_right = before == 1 && seen.keep(alloc, &chunks)?.len() == new_again;
-    Ok(outcome.if_so(is_right))
+    Ok(outcome.if_so(seen.keep(alloc, &chunks)?.len() == new_again))
 }
