@@ -273,10 +273,18 @@ struct Outcome {
     written: Vec<u8>,
 }
 
-fn outcome_of(alloc: Global, call: Call, text: &[u8], manners: Manners) -> Outcome {
-    let mut r = Input::new(text, manners.read);
-    let mut w = Output::new(alloc, manners.write, manners.flush);
-    let end = end_of_call(alloc, call, &mut r, &mut w);
+// A call and the text that it reads.
+#[derive(Clone, Copy)]
+struct Run<'a> {
+    alloc: Global,
+    call: Call,
+    text: &'a [u8],
+}
+
+fn outcome_of(run: Run<'_>, manners: Manners) -> Outcome {
+    let mut r = Input::new(run.text, manners.read);
+    let mut w = Output::new(run.alloc, manners.write, manners.flush);
+    let end = end_of_call(run.alloc, run.call, &mut r, &mut w);
     let Output {
         bytes,
         device,
@@ -346,38 +354,65 @@ fn is_fault(even: &Outcome, failed: &Outcome, place: Place, manner: Manner) -> b
         && even.written.starts_with(&failed.written)
 }
 
+// Returns whether a run goes on as an even one does if a place goes wrong in this manner.
+fn bears(run: Run<'_>, even: &Outcome, place: Place, manner: Manner) -> bool {
+    let late = outcome_of(run, manners_with(place, manner));
+    is_borne(even, &late, place, manner.odd_times)
+}
+
+// Returns whether a run has the fault of a place that goes wrong in this manner.
+fn fails(run: Run<'_>, even: &Outcome, place: Place, manner: Manner) -> bool {
+    let failed = outcome_of(run, manners_with(place, manner));
+    is_fault(even, &failed, place, manner)
+}
+
+// Returns whether a run makes each call of an even device once.
+fn is_even(run: Run<'_>, even: &Outcome) -> bool {
+    // The last read finds the end.
+    let reads = run.text.len().div_ceil(20).saturating_add(1);
+    let writes = even.written.len().div_ceil(20);
+    even.end == DONE && even.calls == (reads, writes, 1) && even.largest == 65536
+}
+
+// Returns whether a run goes on after 1, 15 and 16 interruptions in a row, and fails at 17.
+fn is_repeated(run: Run<'_>, even: &Outcome, place: Place, odd_call: usize) -> bool {
+    let interrupted = Some(ErrorKind::Interrupted);
+    bears(run, even, place, odd(odd_call, 1, interrupted))
+        && bears(run, even, place, odd(odd_call, 15, interrupted))
+        && bears(run, even, place, odd(odd_call, 16, interrupted))
+        && fails(run, even, place, odd(odd_call, 17, interrupted))
+}
+
+// Returns whether a run with slow devices writes the same as an even one.
+fn is_done_slowly(run: Run<'_>, even: &Outcome) -> bool {
+    let slow = outcome_of(run, ALL_SLOW);
+    slow.end == DONE && slow.written == even.written
+}
+
+// Returns the run of a call on a line that it takes.
+fn run_of(alloc: Global, call: Call) -> Run<'static> {
+    Run {
+        alloc,
+        call,
+        text: line_of(call).as_bytes(),
+    }
+}
+
 #[test]
 fn each_call_is_made_once_and_repeated_sixteen_times_where_it_is_interrupted(rt: HostRuntime) {
-    let interrupted = Some(ErrorKind::Interrupted);
     for call in CALLS {
-        let text = line_of(call).as_bytes();
-        let even = outcome_of(rt.alloc(), call, text, ALL_EVEN);
-        // The last read finds the end.
-        let reads = text.len().div_ceil(20).saturating_add(1);
-        let writes = even.written.len().div_ceil(20);
-        let is_even = even.end == DONE && even.calls == (reads, writes, 1);
-        assert!(rt; is_even && even.largest == 65536, "{call:?}");
+        let run = run_of(rt.alloc(), call);
+        let even = outcome_of(run, ALL_EVEN);
+        assert!(rt;
+            is_even(run, &even) && is_done_slowly(run, &even),
+            "{call:?}"
+        );
         for (place, odd_call) in PLACES {
-            for times in [1, 15, 16] {
-                let manners = manners_with(place, odd(odd_call, times, interrupted));
-                let late = outcome_of(rt.alloc(), call, text, manners);
-                assert!(rt;
-                    is_borne(&even, &late, place, times),
-                    "{call:?} {place:?} {times}"
-                );
-            }
-            let manner = odd(odd_call, 17, interrupted);
-            let failed = outcome_of(rt.alloc(), call, text, manners_with(place, manner));
             assert!(rt;
-                is_fault(&even, &failed, place, manner),
+                is_repeated(run, &even, place, odd_call),
                 "{call:?} {place:?}"
             );
         }
-        let slow = outcome_of(rt.alloc(), call, text, ALL_SLOW);
-        assert!(rt;
-            slow.end == DONE && slow.written == even.written,
-            "{call:?}"
-        );
     }
 }
 
@@ -396,66 +431,78 @@ const LASTING: [ErrorKind; 11] = [
     ErrorKind::StorageFull,
 ];
 
+// Returns whether each error that lasts ends a run at once.
+fn ends_at_errors(run: Run<'_>, even: &Outcome, place: Place, odd_call: usize) -> bool {
+    let mut is_ended = true;
+    for kind in LASTING {
+        is_ended = is_ended && fails(run, even, place, odd(odd_call, 1, Some(kind)));
+    }
+    is_ended
+}
+
 #[test]
 fn no_call_follows_an_error_that_lasts_or_a_write_that_takes_nothing(rt: HostRuntime) {
     for call in CALLS {
-        let text = line_of(call).as_bytes();
-        let even = outcome_of(rt.alloc(), call, text, ALL_EVEN);
+        let run = run_of(rt.alloc(), call);
+        let even = outcome_of(run, ALL_EVEN);
         for (place, odd_call) in PLACES {
-            for kind in LASTING {
-                let manner = odd(odd_call, 1, Some(kind));
-                let failed = outcome_of(rt.alloc(), call, text, manners_with(place, manner));
-                assert!(rt;
-                    is_fault(&even, &failed, place, manner),
-                    "{call:?} {place:?} {kind:?}"
-                );
-            }
-        }
-        for odd_call in [1, 3] {
-            let manner = odd(odd_call, 1, None);
-            let failed = outcome_of(rt.alloc(), call, text, manners_with(Place::Write, manner));
             assert!(rt;
-                is_fault(&even, &failed, Place::Write, manner),
+                ends_at_errors(run, &even, place, odd_call),
+                "{call:?} {place:?}"
+            );
+        }
+        for manner in [odd(1, 1, None), odd(3, 1, None)] {
+            assert!(rt; fails(run, &even, Place::Write, manner), "{call:?}");
+        }
+    }
+}
+
+// Returns whether a run has written the bytes before the write that fails, and no others.
+fn leaves_a_beginning(run: Run<'_>, even: &Outcome, odd_call: usize) -> bool {
+    let mut manners = manners_with(Place::Write, SLOW);
+    manners.write.odd_call = odd_call;
+    manners.write.odd_times = 17;
+    let failed = outcome_of(run, manners);
+    let done = odd_call.saturating_sub(1);
+    failed.end.status == 5
+        && failed.written.len() == done
+        && even.written.starts_with(&failed.written)
+}
+
+#[test]
+fn a_failed_write_leaves_a_beginning(rt: HostRuntime) {
+    for call in CALLS {
+        let run = run_of(rt.alloc(), call);
+        let even = outcome_of(run, manners_with(Place::Write, SLOW));
+        for odd_call in 1..=even.written.len() {
+            assert!(rt;
+                leaves_a_beginning(run, &even, odd_call),
                 "{call:?} {odd_call}"
             );
         }
     }
 }
 
-#[test]
-fn a_failed_write_leaves_a_beginning(rt: HostRuntime) {
-    for call in CALLS {
-        let text = line_of(call).as_bytes();
-        let mut manners = manners_with(Place::Write, SLOW);
-        let even = outcome_of(rt.alloc(), call, text, manners);
-        for odd_call in 1..=even.written.len() {
-            manners.write.odd_call = odd_call;
-            manners.write.odd_times = 17;
-            let failed = outcome_of(rt.alloc(), call, text, manners);
-            let done = odd_call - 1;
-            let is_beginning = even.written.starts_with(&failed.written);
-            assert!(rt;
-                failed.end.status == 5 && failed.written.len() == done && is_beginning,
-                "{call:?} {done}"
-            );
-        }
-    }
+// Returns whether a run ends after the first of three lines if the second read gives nothing. A read gives one line.
+fn ends_at_the_first_end(alloc: Global, call: Call) -> Result<bool, Fail> {
+    let line = line_of(call);
+    let lines = format!(in alloc; "{line}\n{line}\n{line}\n")?;
+    let mut manner = odd(2, 1, None);
+    manner.most = line.len().saturating_add(1);
+    let run = Run {
+        alloc,
+        call,
+        text: lines.as_bytes(),
+    };
+    let ended = outcome_of(run, manners_with(Place::Read, manner));
+    let single = outcome_of(run_of(alloc, call), ALL_EVEN);
+    Ok(ended.end == DONE && ended.calls.0 == 2 && ended.written == single.written)
 }
 
 #[test]
 fn the_first_end_of_the_input_is_its_end(rt: HostRuntime) -> Result<(), Fail> {
     for call in CALLS {
-        let line = line_of(call);
-        let lines = format!(in rt.alloc(); "{line}\n{line}\n{line}\n")?;
-        let mut manner = odd(2, 1, None);
-        manner.most = line.len().saturating_add(1);
-        let manners = manners_with(Place::Read, manner);
-        let ended = outcome_of(rt.alloc(), call, lines.as_bytes(), manners);
-        let single = outcome_of(rt.alloc(), call, line.as_bytes(), ALL_EVEN);
-        assert!(rt;
-            ended.end == DONE && ended.calls.0 == 2 && ended.written == single.written,
-            "{call:?}"
-        );
+        assert!(rt; ends_at_the_first_end(rt.alloc(), call)?, "{call:?}");
     }
     Ok(())
 }
@@ -470,23 +517,36 @@ const BEFORE_A_FAILURE: &str = "4|
 6|h1 100;@0;h2 200;
 4|@1;h1 100;";
 
+// Returns whether a run has a status and writes nothing if a read fails after its lines.
+fn has_status(run: Run<'_>, status: u8) -> bool {
+    // All lines come with one read.
+    let odd_call = if run.text.is_empty() { 1 } else { 2 };
+    let mut read = odd(odd_call, 1, Some(ErrorKind::Other));
+    read.most = usize::MAX;
+    let failed = outcome_of(run, manners_with(Place::Read, read));
+    failed.end.status == status && failed.written.is_empty()
+}
+
+// Returns whether a call has the status of a row.
+fn has_status_of_row(alloc: Global, call: Call, row: &str) -> Result<bool, Fail> {
+    let (status, lines) = two_fields(row, '|')?;
+    let input = lines_of_row(alloc, lines)?;
+    let run = Run {
+        alloc,
+        call,
+        text: input.as_bytes(),
+    };
+    Ok(has_status(run, status.parse()?))
+}
+
 #[test]
 fn a_failed_read_is_a_fault_unless_a_line_before_it_is_faulty(rt: HostRuntime) -> Result<(), Fail> {
-    let mut read = odd(1, 1, Some(ErrorKind::Other));
-    read.most = usize::MAX;
     for row in BEFORE_A_FAILURE.lines() {
-        let (status, lines) = two_fields(row, '|')?;
-        let (status, input) = (status.parse()?, lines_of_row(rt.alloc(), lines)?);
-        // All lines come with one read.
-        read.odd_call = if lines.is_empty() { 1 } else { 2 };
-        let manners = manners_with(Place::Read, read);
-        for call in [Call::Run, Call::RunOverPlainRanges] {
-            let failed = outcome_of(rt.alloc(), call, input.as_bytes(), manners);
-            assert!(rt;
-                failed.end.status == status && failed.written.is_empty(),
-                "{call:?} {row}"
-            );
-        }
+        assert!(rt; has_status_of_row(rt.alloc(), Call::Run, row)?, "{row}");
+        assert!(rt;
+            has_status_of_row(rt.alloc(), Call::RunOverPlainRanges, row)?,
+            "{row}"
+        );
     }
     Ok(())
 }

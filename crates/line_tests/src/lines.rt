@@ -32,8 +32,6 @@ enum Kind {
     Plain,
 }
 
-const KINDS: [Kind; 2] = [Kind::Subtree, Kind::Plain];
-
 // Runs the program over a kind of range.
 fn run_over<R: Read, W: Write>(
     alloc: Global,
@@ -47,20 +45,23 @@ fn run_over<R: Read, W: Write>(
     }
 }
 
+// Returns what a run writes, and after it the text of its fault.
+fn output_of(alloc: Global, kind: Kind, input: &[u8]) -> Result<Vec<u8>, Fail> {
+    let (mut reader, mut output) = (input, Vec::new(alloc));
+    if let Err(fault) = run_over(alloc, kind, &mut reader, &mut output) {
+        output.extend_from_slice(fault.to_string(alloc)?.as_bytes())?;
+    }
+    Ok(output)
+}
+
 // Returns whether a run writes a text and nothing else, or has the fault of a text and writes nothing, over both kinds
 // of range.
 fn answers(alloc: Global, input: &[u8], expected: &str) -> Result<bool, Fail> {
-    for kind in KINDS {
-        let mut reader = input;
-        let mut output = Vec::new(alloc);
-        if let Err(fault) = run_over(alloc, kind, &mut reader, &mut output) {
-            output.extend_from_slice(fault.to_string(alloc)?.as_bytes())?;
-        }
-        if output.as_slice() != expected.as_bytes() {
-            return Ok(false);
-        }
-    }
-    Ok(true)
+    let expected = expected.as_bytes();
+    Ok(
+        output_of(alloc, Kind::Subtree, input)?.as_slice() == expected
+            && output_of(alloc, Kind::Plain, input)?.as_slice() == expected,
+    )
 }
 
 // Returns the answer of a name, or the fault of a text.
@@ -75,12 +76,20 @@ fn answer_of(expected: &str) -> &str {
     }
 }
 
-// Fails unless the lines of each row give the answer or the fault at the end of the row.
+// Returns whether the lines of a row give the answer or the fault at its end.
+fn is_answered(alloc: Global, row: &str) -> Result<bool, Fail> {
+    let (lines, expected) = two_fields(row, '|')?;
+    answers(
+        alloc,
+        lines_of_row(alloc, lines)?.as_bytes(),
+        answer_of(expected),
+    )
+}
+
+// Fails unless the lines of each row give the answer or the fault at its end.
 fn are_answered(alloc: Global, rows: &str) -> Result<(), Fail> {
     for row in rows.lines() {
-        let (lines, expected) = two_fields(row, '|')?;
-        let input = lines_of_row(alloc, lines)?;
-        if !answers(alloc, input.as_bytes(), answer_of(expected))? {
+        if !is_answered(alloc, row)? {
             return Err(String::from_str(alloc, row)?)?;
         }
     }
@@ -180,16 +189,22 @@ const FEWER_PAIRS: &str = "xorb 1fa8c4f5d2b1ecb1ed7ec711894bcfaaa0c225182391131b
 file 05fe8458ce220b994314c014b404ea97b6b86ef0ed06b74ab4c4b60cf2bc1beb
 ";
 
+// Returns the lines of 9000 pairs, the last half first.
+fn halves_in_reverse(alloc: Global) -> Result<String, Fail> {
+    let mut lines = String::new(alloc);
+    writeln!(lines, "@4500")?;
+    push_lines(&mut lines, 4500..9000)?;
+    writeln!(lines, "@0")?;
+    push_lines(&mut lines, 0..4500)?;
+    Ok(lines)
+}
+
 #[test]
 fn long_ranges_are_answered_as_a_whole(rt: HostRuntime) -> Result<(), Fail> {
     let mut in_order = String::new(rt.alloc());
     push_lines(&mut in_order, 0..20_000)?;
     assert!(rt; answers(rt.alloc(), in_order.as_bytes(), MANY_PAIRS)?);
-    let mut in_reverse = String::new(rt.alloc());
-    writeln!(in_reverse, "@4500")?;
-    push_lines(&mut in_reverse, 4500..9000)?;
-    writeln!(in_reverse, "@0")?;
-    push_lines(&mut in_reverse, 0..4500)?;
+    let in_reverse = halves_in_reverse(rt.alloc())?;
     assert!(rt; answers(rt.alloc(), in_reverse.as_bytes(), FEWER_PAIRS)?);
     Ok(())
 }
@@ -255,20 +270,20 @@ fn prints(alloc: Global, fault: Fault, status: u8, end: &str) -> Result<bool, Fa
     Ok(fault.status() == status && fault.to_string(alloc)? == text)
 }
 
+// Returns whether the faults of a line print it.
+fn print_line(alloc: Global, line: u64) -> Result<bool, Fail> {
+    let end = format!(in alloc; " at line {line}")?;
+    Ok(
+        prints(alloc, Fault::BadLine(line), 1, &end)?
+            && prints(alloc, Fault::Sizes(line), 2, &end)?
+            && prints(alloc, Fault::Overlap(line), 6, &end)?,
+    )
+}
+
 #[test]
 fn faults_print_their_status_and_line(rt: HostRuntime) -> Result<(), Fail> {
     for line in LINES {
-        let end = format!(in rt.alloc(); " at line {line}")?;
-        for (fault, status) in [
-            (Fault::BadLine(line), 1),
-            (Fault::Sizes(line), 2),
-            (Fault::Overlap(line), 6),
-        ] {
-            assert!(rt;
-                prints(rt.alloc(), fault, status, end.as_str())?,
-                "{line} {status}"
-            );
-        }
+        assert!(rt; print_line(rt.alloc(), line)?, "{line}");
     }
     for (fault, status) in [
         (Fault::Memory, 3),

@@ -106,13 +106,17 @@ fn manner(is_failing: bool) -> Manner {
     if is_failing { FAILING } else { EVEN }
 }
 
-// Returns the status of a run, and what it wrote to standard output and standard error, in the form of a row of `RUNS`.
-fn outcome(alloc: Global, command: &str, failing: &str, input: &str) -> Result<String, Fail> {
+// Runs a program, and returns its status and what it wrote to standard output and standard error.
+fn run(
+    alloc: Global,
+    command: &str,
+    failing: &str,
+    args: io::Result<Args>,
+    input: &[u8],
+) -> (u8, Vec<u8>, Vec<u8>) {
     let granted = if failing == "memory" { 0 } else { u32::MAX };
     let refusing: RefusingAllocator<Global> = RefusingAllocator::new(alloc, granted);
-    let args = arguments(alloc, command, failing)?;
-    let text = input.replace(alloc, ";", "\n")?;
-    let mut r = Input::new(text.as_bytes(), manner(failing == "input"));
+    let mut r = Input::new(input, manner(failing == "input"));
     let mut w = Output::new(alloc, manner(failing == "output"), EVEN);
     let mut errors = Output::new(alloc, manner(failing == "errors"), EVEN);
     let status = if command.starts_with("xetroot") {
@@ -121,8 +125,16 @@ fn outcome(alloc: Global, command: &str, failing: &str, input: &str) -> Result<S
         xetrange_text::program::program(&refusing, alloc, args, &mut r, &mut w, &mut errors)
     };
     let (Output { bytes, .. }, Output { bytes: lines, .. }) = (w, errors);
-    let (output, printed) = (String::from_utf8(bytes)?, String::from_utf8(lines)?);
-    let row = format!(in alloc; "{status}|{output}|{printed}")?;
+    (status, bytes, lines)
+}
+
+// Returns the status of a run, and what it wrote to standard output and standard error, in the form of a row of `RUNS`.
+fn outcome(alloc: Global, command: &str, failing: &str, input: &str) -> Result<String, Fail> {
+    let text = input.replace(alloc, ";", "\n")?;
+    let args = arguments(alloc, command, failing)?;
+    let (status, output, errors) = run(alloc, command, failing, args, text.as_bytes());
+    let (output, errors) = (String::from_utf8(output)?, String::from_utf8(errors)?);
+    let row = format!(in alloc; "{status}|{output}|{errors}")?;
     Ok(row.as_str().replace(alloc, "\n", ";")?)
 }
 
@@ -156,17 +168,24 @@ fn help_goes_to_standard_output(rt: HostRuntime) -> Result<(), Fail> {
     Ok(())
 }
 
+// Returns whether a program refuses some words.
+fn is_refused(alloc: Global, program: &str, words: &str, known: &str) -> Result<bool, Fail> {
+    let command = format!(in alloc; "{program} {words}")?;
+    let expected = format!(in alloc; "64||{program}: expected {known}, --help or --version;")?;
+    Ok(outcome(alloc, &command, "nothing", "")? == expected)
+}
+
 #[test]
 fn wrong_words_are_refused_by_both_programs(rt: HostRuntime) -> Result<(), Fail> {
     for words in WRONG_WORDS.lines() {
-        for (program, known) in [("xetroot", "no argument"), ("xetrange", "make, join, root")] {
-            let command = format!(in rt.alloc(); "{program} {words}")?;
-            let expected = format!(in rt.alloc();
-                "64||{program}: expected {known}, --help or --version;"
-            )?;
-            let found = outcome(rt.alloc(), command.as_str(), "nothing", "")?;
-            assert!(rt; found == expected, "{command}: {found}");
-        }
+        assert!(rt;
+            is_refused(rt.alloc(), "xetroot", words, "no argument")?,
+            "{words}"
+        );
+        assert!(rt;
+            is_refused(rt.alloc(), "xetrange", words, "make, join, root")?,
+            "{words}"
+        );
     }
     Ok(())
 }
@@ -202,21 +221,27 @@ const LINES: [(usize, usize, bool); 9] = [
     (500, 7000, false),
 ];
 
+// Returns whether a text of two pieces is printed as a line, by one write or more.
+fn is_printed(
+    alloc: Global,
+    (front, back): (usize, usize),
+    is_one_write: bool,
+) -> Result<bool, Fail> {
+    let text = TwoPieces::new(alloc, front, back)?;
+    let expected = format!(in alloc; "{text}\n")?;
+    let mut whole = EVEN;
+    whole.most = usize::MAX;
+    let mut printed = Output::new(alloc, whole, EVEN);
+    print_line(&mut printed, text);
+    let is_right = printed.device.calls == 1 || !is_one_write;
+    Ok(is_right && printed.bytes.as_slice() == expected.as_bytes())
+}
+
 #[test]
 fn a_line_is_printed_whole_however_long(rt: HostRuntime) -> Result<(), Fail> {
     for (front, back, is_one_write) in LINES {
-        let mut whole = EVEN;
-        whole.most = usize::MAX;
-        let mut printed = Output::new(rt.alloc(), whole, EVEN);
-        print_line(&mut printed, TwoPieces::new(rt.alloc(), front, back)?);
-        let text = TwoPieces::new(rt.alloc(), front, back)?;
-        let expected = format!(in rt.alloc(); "{text}\n")?;
         assert!(rt;
-            printed.bytes.as_slice() == expected.as_bytes(),
-            "{front} {back}"
-        );
-        assert!(rt;
-            printed.device.calls == 1 || !is_one_write,
+            is_printed(rt.alloc(), (front, back), is_one_write)?,
             "{front} {back}"
         );
     }

@@ -1,8 +1,9 @@
 //! Devices under lines of pairs. Neither the answer nor the line number of a fault depends on how the bytes come.
 
 use super::{
-    ALL_SLOW, Call, DONE, End, Manner, Place, is_borne, is_fault, manners_with, outcome_of,
+    ALL_SLOW, Call, DONE, End, Manner, Outcome, Place, Run, bears, fails, manners_with, outcome_of,
 };
+use std::alloc::Global;
 use std::io::ErrorKind;
 use std::test::Fail;
 use test_support::texts::{THREE_PAIRS, four_fields, lines_of_row, with_hashes};
@@ -46,6 +47,29 @@ fn bytewise(odd_call: usize, odd_times: usize, odd_kind: ErrorKind) -> Manner {
     }
 }
 
+// Returns whether a run goes on after 16 interruptions in a row, and fails at 17, and at an error that lasts.
+fn bears_interruptions(run: Run<'_>, even: &Outcome, place: Place, odd_call: usize) -> bool {
+    bears(run, even, place, bytewise(odd_call, 16, INTERRUPTED))
+        && fails(run, even, place, bytewise(odd_call, 17, INTERRUPTED))
+        && fails(run, even, place, bytewise(odd_call, 1, LASTING))
+}
+
+// Returns whether a run writes an answer, whichever call of a device is interrupted.
+fn is_answered(run: Run<'_>, place: Place, expected: &str) -> bool {
+    let even = outcome_of(run, manners_with(place, bytewise(0, 0, LASTING)));
+    let count = match place {
+        Place::Read => run.text.len().saturating_add(1),
+        Place::Write => expected.len(),
+        Place::Flush => 1,
+    };
+    for odd_call in 1..=count {
+        if !bears_interruptions(run, &even, place, odd_call) {
+            return false;
+        }
+    }
+    even.end == DONE && even.written.as_slice() == expected.as_bytes()
+}
+
 #[test]
 fn three_pairs_are_answered_though_any_call_of_a_device_is_interrupted(
     rt: HostRuntime,
@@ -53,36 +77,13 @@ fn three_pairs_are_answered_though_any_call_of_a_device_is_interrupted(
     let input = lines_of_row(rt.alloc(), THREE_LINES)?;
     for call in CALLS {
         let expected = with_hashes(rt.alloc(), answer(call))?;
+        let run = Run {
+            alloc: rt.alloc(),
+            call,
+            text: input.as_bytes(),
+        };
         for place in [Place::Read, Place::Write, Place::Flush] {
-            let manners = manners_with(place, bytewise(0, 0, LASTING));
-            let even = outcome_of(rt.alloc(), call, input.as_bytes(), manners);
-            assert!(rt;
-                even.end == DONE && even.written.as_slice() == expected.as_bytes(),
-                "{call:?}"
-            );
-            let count = match place {
-                Place::Read => input.len().saturating_add(1),
-                Place::Write => expected.len(),
-                Place::Flush => 1,
-            };
-            for k in 1..=count {
-                let manners = manners_with(place, bytewise(k, 16, INTERRUPTED));
-                let late = outcome_of(rt.alloc(), call, input.as_bytes(), manners);
-                assert!(rt; is_borne(&even, &late, place, 16), "{call:?} {place:?} {k}");
-                for (times, kind) in [(17, INTERRUPTED), (1, LASTING)] {
-                    let manner = bytewise(k, times, kind);
-                    let failed = outcome_of(
-                        rt.alloc(),
-                        call,
-                        input.as_bytes(),
-                        manners_with(place, manner),
-                    );
-                    assert!(rt;
-                        is_fault(&even, &failed, place, manner),
-                        "{call:?} {place:?} {k}"
-                    );
-                }
-            }
+            assert!(rt; is_answered(run, place, &expected), "{call:?} {place:?}");
         }
     }
     Ok(())
@@ -96,34 +97,61 @@ const FAULTY: &str = "1|1|zz;|h1 100;
 2|2|h1 18446744073709551615;h2 1;|h3 300;zz
 2|3|h1 100;h2 200;h3 18446744073709551316;|zz;";
 
+// Returns whether a run ends in this way and writes nothing, if its reads go in this manner.
+fn ends(run: Run<'_>, read: Manner, end: End) -> bool {
+    let failed = outcome_of(run, manners_with(Place::Read, read));
+    failed.end == end && failed.written.is_empty()
+}
+
+// Returns whether a run has a fault of its first `front` bytes. A failed read of one of them must be its fault instead.
+fn has_fault(run: Run<'_>, front: usize, fault: End) -> bool {
+    for odd_call in 1..=run.text.len() {
+        let expected = if odd_call <= front {
+            FAILED_READ
+        } else {
+            fault
+        };
+        if !ends(run, bytewise(odd_call, 17, INTERRUPTED), expected)
+            || !ends(run, bytewise(odd_call, 1, LASTING), expected)
+        {
+            return false;
+        }
+    }
+    let slow = outcome_of(run, ALL_SLOW);
+    slow.end == fault && slow.written.is_empty()
+}
+
+// Returns the lines of two fields, and how many bytes those of the first have.
+fn input_of(alloc: Global, front: &str, rest: &str) -> Result<(String, usize), Fail> {
+    let mut input = lines_of_row(alloc, front)?;
+    let length = input.len();
+    input.push_str(&lines_of_row(alloc, rest)?)?;
+    Ok((input, length))
+}
+
+// Returns whether a call has the fault of a row, though any read is interrupted or fails.
+fn has_fault_of_row(alloc: Global, call: Call, row: &str) -> Result<bool, Fail> {
+    let (status, line, front, rest) = four_fields(row, '|')?;
+    let fault = End {
+        status: status.parse()?,
+        line: Some(line.parse()?),
+    };
+    let (input, front) = input_of(alloc, front, rest)?;
+    let run = Run {
+        alloc,
+        call,
+        text: input.as_bytes(),
+    };
+    Ok(has_fault(run, front, fault))
+}
+
 #[test]
 fn a_fault_names_its_line_though_any_read_is_interrupted_or_fails(
     rt: HostRuntime,
 ) -> Result<(), Fail> {
     for row in FAULTY.lines() {
-        let (status, line, front, rest) = four_fields(row, '|')?;
-        let (status, line) = (status.parse()?, Some(line.parse()?));
-        let fault = End { status, line };
-        let front = lines_of_row(rt.alloc(), front)?;
-        let rest = lines_of_row(rt.alloc(), rest)?;
-        let input = format!(in rt.alloc(); "{front}{rest}")?;
         for call in CALLS {
-            let slow = outcome_of(rt.alloc(), call, input.as_bytes(), ALL_SLOW);
-            assert!(rt;
-                slow.end == fault && slow.written.is_empty(),
-                "{call:?} {row}"
-            );
-            for k in 1..=input.len() {
-                for (times, kind) in [(17, INTERRUPTED), (1, LASTING)] {
-                    let manners = manners_with(Place::Read, bytewise(k, times, kind));
-                    let failed = outcome_of(rt.alloc(), call, input.as_bytes(), manners);
-                    let expected = if k <= front.len() { FAILED_READ } else { fault };
-                    assert!(rt;
-                        failed.end == expected && failed.written.is_empty(),
-                        "{call:?} {row} {k} {times}"
-                    );
-                }
-            }
+            assert!(rt; has_fault_of_row(rt.alloc(), call, row)?, "{call:?} {row}");
         }
     }
     Ok(())
