@@ -3,7 +3,7 @@
 use Rattle.std.proofs.Common.{◌≡◌, ◌+◌, ◌<◌, ◌≤◌, ◌⊎◌, ◌&&◌, not, true, false, List, [], ◌∷◌, ◌++◌, length, refl, sym, ap, subst, ◌∙◌, inl, inr, arith, append_assoc, append-nil, length-append}
 use Rattle.std.proofs.lemmas.Bool.{cases_Bool, and_parts, and_from, cases_lt, not-true}
 use Rattle.xet_merkle.specs.Groups.{Node, is_cut, Cut}
-use Rattle.xet_merkle.specs.StablePoints.{EndsStable, BeginsStable, IsStable, NoStable}
+use Rattle.xet_merkle.specs.StablePoints.{NoCut, EndsStable, BeginsStable, IsStable, NoStable}
 use Rattle.xet_merkle.specs.Steps.StableScan.{completes, next_scan, scan_after, completes_none, AddsNoStable}
 use Rattle.xet_merkle.specs.declared.merkle_hash_subtree.stable_points.CutScan.{CutScan}
 use Rattle.xet_merkle.proofs.Lists.Places.{meets}
@@ -190,6 +190,16 @@ module _ (near more : List Node) (none : (cut : Node) → Cut cut → NoNew (cut
 pub adds_none_after : (before near more : List Node) → (before ≡ []) ⊎ (14 ≤ length near) →
     completes_none (scan_after (record { has_cut = true; ends_stable = false; since_cut = 0 }) near) more ≡ true → AddsNoStable (before ++ near) more
 adds_none_after before near more enough none = adds_none near more (none_after near more none) before enough
+
+-- ---- nodes without a natural cut
+
+completes_none-without : (scan : CutScan) (nodes : List Node) → NoCut nodes → completes_none scan nodes ≡ true
+completes_none-without scan [] none = refl
+completes_none-without scan (x ∷ nodes) none = rw none.0 (completes_none-without (next_scan scan false) nodes none.1)
+
+pub adds_none_without : (nodes more : List Node) → NoCut more → AddsNoStable nodes more
+adds_none_without nodes more none =
+    adds_none_after [] nodes more (inl refl) (completes_none-without (scan_after (record { has_cut = true; ends_stable = false; since_cut = 0 }) nodes) more none)
 
 -- ---- what it keeps
 

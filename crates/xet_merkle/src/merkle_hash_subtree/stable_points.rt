@@ -2,7 +2,7 @@
 
 ghost use Rattle.std.specs.Prelude.{◌≡◌, ◌+◌, ◌<◌, ◌≤◌, ◌↔◌, List, ◌++◌, true, false, length, take, drop, IfSome, IfNone, IsTrue};
 ghost use Rattle.xet_merkle.specs.Groups.{Node};
-ghost use Rattle.xet_merkle.specs.StablePoints.{EndsStable, NoStable, IsFirstStable, IsLastStable, IsGroupBoundary};
+ghost use Rattle.xet_merkle.specs.StablePoints.{NoCut, EndsStable, NoStable, IsFirstStable, IsLastStable, IsGroupBoundary};
 ghost use Rattle.xet_merkle.specs.Steps.Scan.{is_stable_gap};
 ghost use Rattle.xet_merkle.specs.Steps.StableScan.{completes, next_scan, IsFront, scan_after, completes_none, AddsNoStable, AddsNoStableBefore};
 
@@ -89,14 +89,29 @@ impl CutScan {
     }
 }
 
+// Returns whether none of some nodes is a natural cut.
+fn has_no_cut(nodes: &[Node]) -> bool
+    ensures { IsTrue result → NoCut nodes.now }
+{
+    'nodes: for i in 0..nodes.len() {
+        if is_natural_cut(&nodes[i]) {
+            return false;
+        }
+    }
+    true
+}
+
 // The third natural cut of a stable point is at most this many nodes after its first one.
 const LOOK_BACK: usize = 2 * (MAX_GAP + 1);
 
 // Returns whether no stable point is added if two lists of nodes are appended to others. It looks at only the last few
-// of the others.
+// of the others, and at none of them if no natural cut is appended.
 pub(super) fn adds_no_stable(nodes: &[Node], first: &[Node], second: &[Node]) -> bool
     ensures { IsTrue result → AddsNoStable nodes.now (first.now ++ second.now) }
 {
+    if has_no_cut(first) && has_no_cut(second) {
+        return true;
+    }
     let (_, near) = nodes.split_at(nodes.len().saturating_sub(LOOK_BACK));
     let mut scan = CutScan::new(true);
     let _ = scan.pass_all(near);

@@ -2,7 +2,8 @@ use Rattle.std.proofs.Common.{◌≡◌, ◌≤◌, ◌⊎◌, true, false, List
 use Rattle.std.proofs.lemmas.Bool.{cases_lt}
 use Rattle.xet_merkle.specs.Groups.{Node}
 use Rattle.xet_merkle.specs.Steps.StableScan.{scan_after, completes_none, AddsNoStable}
-use Rattle.xet_merkle.proofs.StablePoints.Appending.{nothing_of, completes_none-append, since_after, adds_none_after}
+use Rattle.xet_merkle.proofs.StablePoints.Appending.{nothing_of, completes_none-append, since_after, adds_none_after, adds_none_without}
+use Rattle.xet_merkle.proofs.StablePoints.CutPlaces.{NoCut-append}
 use Rattle.xet_merkle.proofs.merkle_hash_subtree.stable_points.adds_no_stable.Goals as goal
 
 pub pass_all-requires-2 : goal.pass_all-requires-2
@@ -48,3 +49,8 @@ returns-then-pass_all c = λ is_true.
     ap (λ s. completes_none s second) (sym after_first) ∙ sym c.pass_all-then-pass_all.ensures.none ∙ is_true in
     let none = completes_none-append (scan_after (record { has_cut = true; ends_stable = false; since_cut = 0 }) near) first second none_first none_second in
     subst (λ (l : List Node). AddsNoStable l (first ++ second)) (sym parts) (adds_none_after before near (first ++ second) enough none)
+
+pub returns-then-has_no_cut-2 : goal.returns-then-has_no_cut-2
+returns-then-has_no_cut-2 c = λ _.
+    adds_none_without c.args.nodes.now (c.args.first.now ++ c.args.second.now)
+    (NoCut-append c.args.first.now c.args.second.now (c.has_no_cut.ensures c.if-has_no_cut.true) (c.has_no_cut-then-has_no_cut.ensures c.if-has_no_cut-2.true))
