@@ -6,10 +6,11 @@ use Rattle.std.proofs.lemmas.List.Sums.{sum_by-append, sum_by-cons}
 use Rattle.xet_merkle.specs.Groups.{Node}
 use Rattle.xet_merkle.specs.Roots.{parent_hash, total_size}
 use Rattle.xet_merkle.specs.Levels.{levels_size}
-use Rattle.xet_merkle.specs.Subtree.{Subtree, IsCanonical}
+use Rattle.xet_merkle.specs.Subtree.{Subtree}
 use Rattle.xet_merkle.proofs.Canonical.Collapsing.{levels_size-canonical}
 use Rattle.xet_merkle.specs.declared.chunk_range.ChunkRange as chunk_range
 use Rattle.upload_session.specs.Session.{Placed, PlacedRun, placed_from, chunks_of, StandFor}
+use Rattle.upload_session.specs.Subtrees.{subtrees}
 use Rattle.upload_session.proofs.Placing.{chunks-placed}
 
 module _ {C A : Type 0} (kind : chunk_range.Ghosts C A)
@@ -34,15 +35,6 @@ module _ {C A : Type 0} (kind : chunk_range.Ghosts C A)
         sum_by-cons size run runs,
         sum_by-append (λ (node : Node). node.1) chunks (chunks_of others),
       )
-
--- subtrees as a kind of range
-abbrev pub subtrees : {A : Type 0} → chunk_range.Ghosts Subtree A
-subtrees = record {
-  stands = IsCanonical;
-  start = λ range. range.at_start;
-  end = λ range. range.at_end;
-  total = λ range. levels_size range.levels;
-}
 
 -- the same of runs whose ranges are subtrees
 pub sizes-subtrees : (A : Type 0) (runs : List (PlacedRun Subtree)) (placed : List Placed) → StandFor {A = A} subtrees runs placed

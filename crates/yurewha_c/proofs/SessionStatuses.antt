@@ -1,14 +1,12 @@
 -- What the status of a failed session call says about the fault.
 use Rattle.std.specs.Prelude.{Some, Result, Err, IsErrOf}
-use Rattle.std.proofs.Common.{arith, ◌≡◌, ℕ, ◌⊎◌, ◌↔◌, List, [], ◌∷◌, length, refl, sym, ap, ◌∙◌, inl, inr}
+use Rattle.std.proofs.Common.{arith, ◌≡◌, ℕ, ◌⊎◌, ◌↔◌, List, refl, sym, ap, ◌∙◌, inl, inr}
 use Rattle.upload_session.specs.declared.session_fault.SessionFault.{SessionFault}
 use Rattle.upload_session.specs.declared.session_fault.SessionFault.TheVariants.{Overlap, Positions, Sizes, Memory, Gap}
 use Rattle.upload_session.specs.Session.{Placed, IsWhole}
 use Rattle.yurewha_c.specs.Sessions.{IsWholeStatus, Stands}
 use Rattle.yurewha_c.specs.Statuses.{session_status}
 use Rattle.yurewha_c.specs.declared.kept_session.KeptSession.{KeptSession}
-use Rattle.yurewha_c.specs.declared.chunks.Chunk.{Chunk}
-use Rattle.yurewha_c.specs.Chunks.{nodes_of}
 
 session_status-injective : (a b : SessionFault) → session_status a ≡ session_status b → a ≡ b
 session_status-injective Overlap Overlap e = refl
@@ -63,7 +61,3 @@ done_status kept total whole = record {
   on_empty = (λ e. absurd (omega (arith, e)), λ e. cc);
   statuses = inl refl;
 }
-
-pub no_nodes : (chunks : List Chunk) → length chunks ≡ 0 → nodes_of chunks ≡ []
-no_nodes [] h = refl
-no_nodes (chunk ∷ chunks) h = absurd (omega (arith, h))

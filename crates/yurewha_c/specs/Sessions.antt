@@ -2,22 +2,13 @@
 use Rattle.std.specs.Prelude.{◌≡◌, ◌≢◌, ◌⊎◌, ◌↔◌, ℕ, ◌+◌, ◌^◌, ◌≤◌, Option, None, List, find, IfSome, IsSomeAnd}
 use Rattle.std.specs.declared.alloc.Global.{Global}
 use Rattle.xet_merkle.specs.Levels.{levels_size}
-use Rattle.xet_merkle.specs.Subtree.{Subtree, IsCanonical}
-use Rattle.xet_merkle.specs.declared.chunk_range.ChunkRange as chunk_range
+use Rattle.xet_merkle.specs.Subtree.{Subtree}
 use Rattle.upload_session.specs.Hashes.{AreNew, Knows}
 use Rattle.upload_session.specs.Session.{Placed, PlacedRun, ends_after, with_last, CanFollow, IsWhole, SessionStands}
+use Rattle.upload_session.specs.Subtrees.{subtrees}
 use Rattle.yurewha_c.specs.Handles.{BothHold}
 use Rattle.yurewha_c.specs.Statuses.{done, arguments, sizes, memory, empty_handle, session_memory, session_gap}
 use Rattle.yurewha_c.specs.declared.kept_session.KeptSession.{KeptSession}
-
--- subtrees as a kind of range
-abbrev pub subtrees : {A : Type 0} → chunk_range.Ghosts Subtree A
-subtrees = record {
-  stands = IsCanonical;
-  start = λ range. range.at_start;
-  end = λ range. range.at_end;
-  total = λ range. levels_size range.levels;
-}
 
 -- a session stands for chunks by their positions, and knows all of their hashes
 abbrev pub Stands : KeptSession → List Placed → Type 0

@@ -4,7 +4,8 @@ use Rattle.xet_merkle.specs.Levels.{levels_size}
 use Rattle.xet_merkle.specs.Subtree.{Subtree}
 use Rattle.upload_session.specs.Hashes.{hashes_of}
 use Rattle.upload_session.specs.Session.{PlacedRun, chunks_of, StandFor}
-use Rattle.upload_session.proofs.Restoring.{subtrees, sizes-subtrees}
+use Rattle.upload_session.specs.Subtrees.{subtrees}
+use Rattle.upload_session.proofs.Restoring.{sizes-subtrees}
 use Rattle.upload_session.proofs.laws.sessions_can_be_restored.Goals as goal
 
 pub returns : goal.returns
