@@ -520,12 +520,6 @@ static const struct scenario {
     {"free of a session", free_session, YUREWHA_DONE, YUREWHA_DONE, false},
 };
 
-/* A list of known hashes first asks for its whole room, and grows bit by bit if that is refused. */
-static bool does_without(const struct scenario *it, size_t number, bool all)
-{
-    return it->call == known && number == 1 && !all;
-}
-
 /* Makes the call with one request refused, or with all from it on. */
 static void turn(const struct shape *shape, const struct scenario *it, size_t number, bool all, const yurewha_hash *done)
 {
@@ -539,8 +533,7 @@ static void turn(const struct shape *shape, const struct scenario *it, size_t nu
     EXPECT(was_refused());
     refuse(0, false);
     const yurewha_hash after = told_of(&w);
-    const bool is_wanted = status == it->wanted && (it->wanted != YUREWHA_DONE || does_without(it, number, all));
-    EXPECT_STATUS(is_wanted ? it->wanted : it->refusal, status);
+    EXPECT_STATUS(it->wanted != YUREWHA_DONE && status == it->wanted ? it->wanted : it->refusal, status);
     if (status != YUREWHA_DONE) {
         EXPECT(same_hash(&before, &after));
         EXPECT(live_blocks() == live);

@@ -70,7 +70,9 @@ impl<A: Allocator + Clone> SeenHashes<A> {
         ensures { IfOk result (λ hashes. (known : List Hash) → Knows self.now known →
             AreEachOnce known hashes.items) }
     {
-        self.hashes.keys().copied().collect(alloc)
+        let mut hashes = Vec::with_capacity(alloc, self.hashes.len())?;
+        hashes.extend(self.hashes.keys().copied())?;
+        Ok(hashes)
     }
 
     // Keeps the hashes of some chunks, and lists those that are new, each once. If it fails, the list has the hashes

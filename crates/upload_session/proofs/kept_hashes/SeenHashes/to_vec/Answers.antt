@@ -1,16 +1,15 @@
-use Rattle.std.proofs.Common.{◌≡◌, List, Vec, sym, subst, rules}
-use Rattle.std.proofs.lemmas.Result.{IfOk-weaker}
+use Rattle.std.proofs.Common.{◌≡◌, ℕ, ◌++◌, List, Ok, sym, subst, ap, ◌∙◌}
+use Rattle.std.proofs.lemmas.Iterator.Adapters.{items_from_extend}
+use Rattle.std.proofs.lemmas.Iterator.Consumers.{YieldsList-from_rest, YieldsList-from_copied}
 use Rattle.std.specs.Map.{keys_of}
-use Rattle.std.specs.Prelude.{IfOk}
-use Rattle.upload_session.specs.Hashes.{Hash, AreEachOnce, Knows}
+use Rattle.upload_session.specs.Hashes.{Hash, AreEachOnce}
 use Rattle.upload_session.proofs.Hashes.{each_once-keys}
 use Rattle.upload_session.proofs.kept_hashes.SeenHashes.to_vec.Goals as goal
 
 pub returns : goal.returns
-returns g c =
+returns g c = λ known knows.
     let entries = c.args.self.now.hashes in
-    let listed : IfOk c.collect.result (λ (list : Vec Hash g.row.A.Denot). list.items ≡ keys_of entries) = search rules in
-    IfOk-weaker c.collect.result (λ (list : Vec Hash g.row.A.Denot). list.items ≡ keys_of entries)
-    (λ list. (known : List Hash) → Knows c.args.self.now known → AreEachOnce known list.items)
-    (λ list is known knows. subst (λ (hashes : List Hash). AreEachOnce known hashes) (sym is) (each_once-keys entries known c.keys.ensures.map knows))
-    listed
+    let keys = YieldsList-from_copied (YieldsList-from_rest (keys_of entries) (c.copied.ensures.source ∙ c.keys.ensures.keys)) in
+    let listed : c.extend.new.self.items ≡ keys_of entries =
+    (items_from_extend {E = ℕ} (Ok tt) c.in_ok-extend.ensures.ran keys).0 ∙ ap (λ (l : List Hash). l ++ keys_of entries) c.in_ok-hashes.ensures.items in
+    subst (λ (hashes : List Hash). AreEachOnce known hashes) (sym listed) (each_once-keys entries known c.keys.ensures.map knows)
