@@ -199,6 +199,19 @@ fn halves_in_reverse(alloc: Global) -> Result<String, Fail> {
     Ok(lines)
 }
 
+// Returns the lines of the same pairs, those at even positions first.
+fn even_then_odd(alloc: Global) -> Result<String, Fail> {
+    let mut lines = String::new(alloc);
+    for odd in [0, 1] {
+        for i in 0..4500u64 {
+            let position = i.saturating_mul(2).saturating_add(odd);
+            writeln!(lines, "@{position}")?;
+            push_lines(&mut lines, position..position.saturating_add(1))?;
+        }
+    }
+    Ok(lines)
+}
+
 #[test]
 fn long_ranges_are_answered_as_a_whole(rt: HostRuntime) -> Result<(), Fail> {
     let mut in_order = String::new(rt.alloc());
@@ -206,6 +219,8 @@ fn long_ranges_are_answered_as_a_whole(rt: HostRuntime) -> Result<(), Fail> {
     assert!(rt; answers(rt.alloc(), in_order.as_bytes(), MANY_PAIRS)?);
     let in_reverse = halves_in_reverse(rt.alloc())?;
     assert!(rt; answers(rt.alloc(), in_reverse.as_bytes(), FEWER_PAIRS)?);
+    let odd_last = even_then_odd(rt.alloc())?;
+    assert!(rt; answers(rt.alloc(), odd_last.as_bytes(), FEWER_PAIRS)?);
     Ok(())
 }
 
@@ -226,17 +241,16 @@ file f51f13f534f02922122f84c1c3cb040392afd49ff95185d599d31942e1fcc597
 #[test]
 fn answers_chunks_in_lines(rt: HostRuntime) -> Result<(), Fail> {
     let mixed = format!(in rt.alloc(); "{H1} 100\n+\n--\n++a\0\r\n+--\n")?;
-    let mut long = vec![in rt.alloc(); b'a'; 1_000_001]?;
-    if let Some(first) = long.first_mut() {
-        *first = b'+';
-    }
+    let faulty = "a".repeat(rt.alloc(), 1_000_000)?;
+    let long = format!(in rt.alloc(); "+{faulty}")?;
     for (input, want) in [
-        (b"+abc".as_slice(), ABC),
-        (b"+", NO_BYTES),
-        (mixed.as_bytes(), PAIR_AND_CHUNKS),
-        (long.as_slice(), LONG_CHUNK),
+        ("+abc", ABC),
+        ("+", NO_BYTES),
+        (mixed.as_str(), PAIR_AND_CHUNKS),
+        (long.as_str(), LONG_CHUNK),
+        (faulty.as_str(), "xetroot: fault 1 at line 1"),
     ] {
-        assert!(rt; answers(rt.alloc(), input, want)?);
+        assert!(rt; answers(rt.alloc(), input.as_bytes(), want)?);
     }
     Ok(())
 }

@@ -5,6 +5,7 @@ use std::alloc::{Allocator, Global};
 use std::io::{Read, Write};
 use std::test::Fail;
 use test_support::texts::{NO_CHUNK, NO_PAIR, THREE_PAIRS, lines_of_row, two_fields, with_hashes};
+use xet_hash::data_hash::DataHash;
 use xetrange_text::fault::RangeFault;
 use xetrange_text::join::{join, root};
 use xetrange_text::make::make;
@@ -241,14 +242,38 @@ fn the_range_of_many_pairs_has_their_root(rt: HostRuntime) -> Result<(), Fail> {
     Ok(())
 }
 
+// Returns the ranges of one chunk each of the pairs of `MANY_PAIRS`.
+fn many_ranges(alloc: Global) -> Result<String, Fail> {
+    let mut ranges = String::new(alloc);
+    for i in 0..20_000 {
+        let hash = DataHash::from([i, 0, 0, i % 4]);
+        writeln!(
+            ranges,
+            "{{\"at_end\":false,\"at_start\":false,\"levels\":[[1,0]],\"nodes\":[{{\"hash\":\"{hash}\",\"size\":1}}]}}"
+        )?;
+    }
+    Ok(ranges)
+}
+
 #[test]
 fn many_ranges_are_merged(rt: HostRuntime) -> Result<(), Fail> {
-    let mut ranges = String::new(rt.alloc());
-    for _ in 0..20_000 {
-        writeln!(ranges, "{NO_CHUNK}")?;
-    }
+    let ranges = many_ranges(rt.alloc())?;
+    assert!(rt; output_of(rt.alloc(), Command::Root, ranges.as_bytes())?.as_str() == MANY_PAIRS);
     let joined = output_of(rt.alloc(), Command::Join, ranges.as_bytes())?;
-    assert!(rt; joined.as_str().trim_end() == NO_CHUNK);
+    assert!(rt; output_of(rt.alloc(), Command::Root, joined.as_bytes())?.as_str() == MANY_PAIRS);
+    Ok(())
+}
+
+#[test]
+fn a_faulty_line_may_be_long(rt: HostRuntime) -> Result<(), Fail> {
+    let line = "a".repeat(rt.alloc(), 1_000_000)?;
+    for (command, fault) in [
+        (Command::Make, "xetrange: fault 1 at line 1"),
+        (Command::Join, "xetrange: fault 8 at line 1"),
+        (Command::Root, "xetrange: fault 8 at line 1"),
+    ] {
+        assert!(rt; fault_of(rt.alloc(), command, &line)?.as_str() == fault);
+    }
     Ok(())
 }
 
