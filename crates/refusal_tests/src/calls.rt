@@ -3,7 +3,6 @@
 //! it is out of memory, and everything that it borrowed must equal a copy made before. The crate `global_refusals`
 //! tests what calls of `serde_json::Value` allocate by the global allocator.
 
-mod examples;
 mod hashes;
 mod large;
 mod lines;
@@ -15,11 +14,13 @@ mod sessions;
 use lines::OF_LINES;
 use rand_core::SeedableRng;
 use rand_xoshiro::Xoshiro256PlusPlus;
+use ranges::BROKEN_JSON;
 use refusing_allocator::RefusingAllocator;
 use sessions::OF_SESSIONS;
 use std::alloc::Global;
 use std::test::Fail;
-use test_support::{MARKS, drawn_list, drawn_nodes};
+use test_support::texts::two_fields;
+use test_support::{MARKS, drawn_list, drawn_nodes, told_nodes};
 use xet_merkle::CoreError;
 use xet_merkle::aggregated_hashes::Node;
 use xet_merkle::merkle_hash_subtree::MerkleHashSubtree;
@@ -100,7 +101,7 @@ pub fn outcome_of(alloc: &Refusing, answer: Result<bool, CoreError>, is_same: bo
     }
 }
 
-/// The calls that take an allocator and allocate, and the worked examples that do.
+/// The calls that take an allocator and allocate.
 #[derive(Clone, Copy)]
 pub enum Call {
     Hex,
@@ -127,7 +128,6 @@ pub enum Call {
     MergeInto,
     MergeIntoCounted,
     MergeIntoBy,
-    Append,
     Merge,
     JoinSubtree,
     JoinPlain,
@@ -135,23 +135,16 @@ pub enum Call {
     RunSubtrees,
     RunPlain,
     FromJson,
-    ThreePairs,
-    OpenRanges,
-    RangesFromTheStart,
-    SubtreesFromStrangers,
-    NoPairs,
-    OnePair,
-    TwoValuesOfOneKey,
-    BracketingsOfSubtrees,
-    BracketingsOfPlainRanges,
-    KeepHashes,
-    // Each has its row: that of a session, or that of a call that answers lines.
+    // Merges the chunks from a place on into those before it.
+    MergeAt(usize),
+    // Each has its row: that of a JSON text that is no subtree, that of a session, or that of a call that answers lines.
+    FromBrokenJson(&'static str),
     SessionOfSubtrees(&'static str),
     SessionOfPlainRanges(&'static str),
     OfLines(&'static str),
 }
 
-// The calls that work on a list of chunks, each with the seed of the list. `Append` has lists of its own.
+// The calls that work on a list of chunks, each with the seed of the list. `MergeAt` has lists of its own.
 const OF_CHUNKS: [(Call, u64); 15] = [
     (Call::XorbHash, 3),
     (Call::FileHash, 5),
@@ -171,7 +164,7 @@ const OF_CHUNKS: [(Call, u64); 15] = [
 ];
 
 // The calls that have values of their own.
-const OF_OWN_VALUES: [Call; 17] = [
+const OF_OWN_VALUES: [Call; 16] = [
     Call::Hex,
     Call::Base64,
     Call::ToVec,
@@ -188,20 +181,6 @@ const OF_OWN_VALUES: [Call; 17] = [
     Call::InsertEntry,
     Call::VacantInsert,
     Call::VacantInsertEntry,
-    Call::KeepHashes,
-];
-
-// The worked examples.
-const EXAMPLES: [Call; 9] = [
-    Call::ThreePairs,
-    Call::OpenRanges,
-    Call::RangesFromTheStart,
-    Call::SubtreesFromStrangers,
-    Call::NoPairs,
-    Call::OnePair,
-    Call::TwoValuesOfOneKey,
-    Call::BracketingsOfSubtrees,
-    Call::BracketingsOfPlainRanges,
 ];
 
 // Makes a call that is granted some requests. Returns how it ends.
@@ -234,9 +213,8 @@ fn attempt(
         Call::MergeInto | Call::MergeIntoCounted | Call::MergeIntoBy => {
             ranges::merge_into(call, alloc, granted, &chunks.split(chunks.nodes.len() / 2))
         }
-        Call::Append => {
-            let others = chunks.nodes.len().saturating_sub(1);
-            ranges::merge_into(Call::MergeInto, alloc, granted, &chunks.split(others))
+        Call::MergeAt(place) => {
+            ranges::merge_into(Call::MergeInto, alloc, granted, &chunks.split(place))
         }
         Call::Merge => ranges::merge(alloc, granted, chunks),
         Call::JoinSubtree => ranges::join::<MerkleHashSubtree<&Refusing>>(alloc, granted, chunks),
@@ -245,16 +223,7 @@ fn attempt(
         Call::RunSubtrees => ranges::run::<MerkleHashSubtree<&Refusing>>(alloc, granted, chunks),
         Call::RunPlain => ranges::run::<PlainRange<&Refusing>>(alloc, granted, chunks),
         Call::FromJson => ranges::from_json(alloc, granted, chunks),
-        Call::ThreePairs
-        | Call::OpenRanges
-        | Call::RangesFromTheStart
-        | Call::SubtreesFromStrangers
-        | Call::NoPairs
-        | Call::OnePair
-        | Call::TwoValuesOfOneKey
-        | Call::BracketingsOfSubtrees
-        | Call::BracketingsOfPlainRanges => examples::attempt(call, alloc, granted, chunks.alloc),
-        Call::KeepHashes => sessions::keep_hashes(alloc, granted),
+        Call::FromBrokenJson(row) => ranges::from_broken_json(alloc, granted, chunks.alloc, row),
         Call::SessionOfSubtrees(row) => {
             sessions::attempt::<MerkleHashSubtree<&Refusing>>(alloc, granted, chunks.alloc, row)
         }
@@ -306,24 +275,49 @@ fn calls_on_chunks_are_refused_with_each_request(rt: HostRuntime) -> Result<(), 
     Ok(())
 }
 
-// Fails unless each of some calls, which have values of their own, can be refused each request.
-fn are_refused_with_each_request(alloc: Global, calls: &[Call]) -> Result<(), Fail> {
-    for (number, call) in calls.iter().enumerate() {
-        if !is_refused_with_each_request(*call, &Chunks::none(alloc))? {
-            return Err(format!(in alloc; "call {number} of its table")?)?;
-        }
+#[test]
+fn calls_on_values_of_their_own_are_refused_with_each_request(rt: HostRuntime) -> Result<(), Fail> {
+    for (number, call) in OF_OWN_VALUES.iter().enumerate() {
+        assert!(rt;
+            is_refused_with_each_request(*call, &Chunks::none(rt.alloc()))?,
+            "call {number} of the table"
+        );
+    }
+    Ok(())
+}
+
+// Merges of all levels. Each row has a list with the marks of its ends, and how many chunks the range in front has.
+const MERGES: &str = "(...|...|...|...|...|...|) 20
+(...|...|...|...|...|...|) 4
+[...|...|...|...|...|...|...|) 4
+[...|...|...|...|...|...|...|] 28";
+
+#[test]
+fn merges_of_worked_examples_are_refused_with_each_request(rt: HostRuntime) -> Result<(), Fail> {
+    for row in MERGES.lines() {
+        let (text, place) = two_fields(row, ' ')?;
+        let nodes = told_nodes(rt.alloc(), text)?;
+        let chunks = Chunks {
+            alloc: rt.alloc(),
+            at_start: text.starts_with('['),
+            nodes: nodes.as_slice(),
+            at_end: text.ends_with(']'),
+        };
+        let call = Call::MergeAt(place.parse()?);
+        assert!(rt; is_refused_with_each_request(call, &chunks)?, "{row}");
     }
     Ok(())
 }
 
 #[test]
-fn calls_on_values_of_their_own_are_refused_with_each_request(rt: HostRuntime) -> Result<(), Fail> {
-    are_refused_with_each_request(rt.alloc(), &OF_OWN_VALUES)
-}
-
-#[test]
-fn worked_examples_are_refused_with_each_request(rt: HostRuntime) -> Result<(), Fail> {
-    are_refused_with_each_request(rt.alloc(), &EXAMPLES)
+fn json_of_no_subtree_is_refused_with_each_request(rt: HostRuntime) -> Result<(), Fail> {
+    for row in BROKEN_JSON.lines() {
+        assert!(rt;
+            is_refused_with_each_request(Call::FromBrokenJson(row), &Chunks::none(rt.alloc()))?,
+            "{row}"
+        );
+    }
+    Ok(())
 }
 
 #[test]
@@ -367,7 +361,7 @@ fn appending_changes_nothing_where_a_request_is_refused(rt: HostRuntime) -> Resu
                 at_end: false,
             };
             assert!(rt;
-                is_refused_with_each_request(Call::Append, &chunks)?,
+                is_refused_with_each_request(Call::MergeAt(count.saturating_sub(1)), &chunks)?,
                 "{count}"
             );
         }

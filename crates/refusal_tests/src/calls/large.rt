@@ -1,21 +1,20 @@
 //! Calls on long lists, on long texts and on many ranges, with enough memory. A call may only be out of memory because
-//! of a refused request. Each result is compared with that of another call, or with what the values were made from.
+//! of a refused request. Each result is compared with that of another call, or with what the values were made from. The
+//! crate `line_tests` has long inputs of lines.
 //!
-//! Lines, and lists that are hashed, are shorter than other values, so that these tests take seconds.
+//! Lists that are hashed are shorter than other values, so that these tests take seconds.
 
-use super::lines::{answer_to, range_of, status_of};
 use super::maps::{Numbers, fill, has_numbers};
 use super::ranges::Kind;
 use super::{Call, Chunks, OF_CHUNKS, Outcome, Refusing, attempt, refusing};
 use rand_core::SeedableRng;
 use rand_xoshiro::Xoshiro256PlusPlus;
 use std::alloc::Global;
-use std::fmt::Write;
 use std::test::Fail;
 use test_support::drawn_nodes;
 use test_support::trees::merge;
 use upload_session::session::SessionOf;
-use xet_hash::data_hash::{DataHash, HashTextError, MerkleHash, compute_data_hash};
+use xet_hash::data_hash::{DataHash, HashTextError, MerkleHash};
 use xet_hash::passthrough_hashmap::PassThroughHashMap;
 use xet_merkle::CoreError;
 use xet_merkle::aggregated_hashes::{Node, file_hash, xorb_hash};
@@ -23,7 +22,7 @@ use xet_merkle::merge_tree::MergeTree;
 use xet_merkle::merkle_hash_subtree::MerkleHashSubtree;
 use xet_merkle::plain_range::PlainRange;
 
-// How many nodes, ranges, lines, numbers or bytes there are: slightly more than 10^3, 10^4 and 10^5.
+// How many nodes, ranges, numbers or letters there are: slightly more than 10^3, 10^4 and 10^5.
 const MANY: usize = 1_001;
 
 const MORE: usize = 10_001;
@@ -255,149 +254,18 @@ fn a_session_takes_the_most_chunks_at_once(rt: HostRuntime) -> Result<(), Fail> 
     Ok(())
 }
 
-// Returns lines of pairs, or of ranges of one chunk each.
-fn lines_of(memory: Global, nodes: &[Node], are_pairs: bool) -> Result<String, Fail> {
-    let mut lines = String::new(memory);
-    for node in nodes {
-        if are_pairs {
-            writeln!(lines, "{} {}", node.0, node.1)?;
-        } else {
-            lines.push_str(&range_of(memory, &[*node])?)?;
-        }
-    }
-    Ok(lines)
-}
-
-// Returns lines of pairs by position: first those at even positions, then those at odd ones.
-fn lines_by_position(memory: Global, nodes: &[Node]) -> Result<String, Fail> {
-    let mut lines = String::new(memory);
-    for odd in [0, 1] {
-        for (position, (hash, size)) in (0u64..).zip(nodes) {
-            if position % 2 == odd {
-                writeln!(lines, "@{position}\n{hash} {size}")?;
-            }
-        }
-    }
-    Ok(lines)
-}
-
-// Returns a line of `count` letters after a first one.
-fn long_line(memory: Global, first: char, count: usize) -> Result<String, Fail> {
-    let mut line = String::new(memory);
-    line.push(first)?;
-    for _ in 0..count {
-        line.push('a')?;
-    }
-    line.push('\n')?;
-    Ok(line)
-}
-
-// Returns whether a call writes the right answer to lines.
-fn is_answered(memory: Global, call: &str, input: &str, answer: &str) -> bool {
-    let mut output = Vec::new(memory);
-    let status = status_of(
-        &refusing(memory),
-        memory,
-        call,
-        input.as_bytes(),
-        &mut output,
-    );
-    status == 0 && output.as_slice() == answer.as_bytes()
-}
-
-// Returns whether calls write the right answer to the lines of some pairs.
-fn are_pairs_answered(memory: Global, nodes: &[Node]) -> Result<bool, Fail> {
-    let answer = answer_to(memory, nodes)?;
-    let pairs = lines_of(memory, nodes, true)?;
-    let placed = lines_by_position(memory, nodes)?;
-    Ok(
-        is_answered(memory, "run", &pairs, &answer)
-            && is_answered(memory, "run", &placed, &answer)
-            && is_answered(memory, "run over plain ranges", &placed, &answer),
-    )
-}
-
-#[test]
-fn many_pairs_are_answered(rt: HostRuntime) -> Result<(), Fail> {
-    assert!(rt; are_pairs_answered(rt.alloc(), &drawn(rt.alloc(), MANY)?)?);
-    assert!(rt; are_pairs_answered(rt.alloc(), &uncut(rt.alloc(), MORE)?)?);
-    Ok(())
-}
-
-// Returns whether `make` writes the range of some pairs, and `root` reads it.
-fn is_range_answered(memory: Global, nodes: &[Node]) -> Result<bool, Fail> {
-    let range = range_of(memory, nodes)?;
-    let pairs = lines_of(memory, nodes, true)?;
-    let answer = answer_to(memory, nodes)?;
-    Ok(is_answered(memory, "make", &pairs, &range) && is_answered(memory, "root", &range, &answer))
-}
-
-// Returns whether `join` and `root` write the right answer to ranges of one chunk each.
-fn are_ranges_answered(memory: Global, nodes: &[Node]) -> Result<bool, Fail> {
-    let range = range_of(memory, nodes)?;
-    let ranges = lines_of(memory, nodes, false)?;
-    let answer = answer_to(memory, nodes)?;
-    Ok(
-        is_answered(memory, "join", &ranges, &range)
-            && is_answered(memory, "root", &ranges, &answer),
-    )
-}
-
-#[test]
-fn many_ranges_are_read_and_written(rt: HostRuntime) -> Result<(), Fail> {
-    let nodes = uncut(rt.alloc(), MANY)?;
-    assert!(rt; is_range_answered(rt.alloc(), &nodes)?);
-    assert!(rt; are_ranges_answered(rt.alloc(), &nodes)?);
-    Ok(())
-}
-
-// Returns whether the chunk of a long line is answered.
-fn is_chunk_answered(memory: Global, count: usize) -> Result<bool, Fail> {
-    let chunk = long_line(memory, '+', count)?;
-    let data = chunk.as_bytes().get(1..=count).unwrap_or_default();
-    let answer = answer_to(memory, &[(compute_data_hash(data), count as u64)])?;
-    Ok(
-        is_answered(memory, "run", &chunk, &answer)
-            && is_answered(memory, "run over plain ranges", &chunk, &answer),
-    )
-}
-
-// Returns whether each call finds a line faulty.
-fn is_bad(memory: Global, line: &str) -> bool {
-    let mut is_bad = true;
-    for call in ["run", "run over plain ranges", "make", "join", "root"] {
-        let mut output = Vec::new(memory);
-        let alloc = refusing(memory);
-        let status = status_of(&alloc, memory, call, line.as_bytes(), &mut output);
-        is_bad = is_bad && (status == 1 || status == 8);
-    }
-    is_bad
-}
-
-#[test]
-fn long_lines_are_answered(rt: HostRuntime) -> Result<(), Fail> {
-    for count in [MANY, MORE, MOST] {
-        assert!(rt; is_chunk_answered(rt.alloc(), count)?, "{count}");
-        assert!(rt;
-            is_bad(rt.alloc(), &long_line(rt.alloc(), 'a', count)?),
-            "{count}"
-        );
-    }
-    Ok(())
-}
-
-// Returns whether a long text is refused as base64.
-fn is_no_hash(memory: Global, first: char, count: usize) -> Result<bool, Fail> {
-    let text = long_line(memory, first, count)?;
-    let answer = DataHash::from_base64(&refusing(memory), text.as_str().trim());
+// Returns whether many equal letters are refused as base64.
+fn is_no_hash(memory: Global, letter: &str, count: usize) -> Result<bool, Fail> {
+    let text = letter.repeat(memory, count)?;
+    let answer = DataHash::from_base64(&refusing(memory), &text);
     Ok(matches!(answer, Err(HashTextError::Bytes(_))))
 }
 
 #[test]
 fn long_texts_are_no_hashes(rt: HostRuntime) -> Result<(), Fail> {
     for count in [MANY, MORE, MOST] {
-        assert!(rt; is_no_hash(rt.alloc(), 'a', count)?, "{count}");
-        assert!(rt; is_no_hash(rt.alloc(), '=', count)?, "{count}");
+        assert!(rt; is_no_hash(rt.alloc(), "a", count)?, "{count}");
+        assert!(rt; is_no_hash(rt.alloc(), "=", count)?, "{count}");
     }
     Ok(())
 }

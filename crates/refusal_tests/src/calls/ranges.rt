@@ -1,7 +1,10 @@
 //! Ranges of chunks of each kind, their merges and trees.
 
 use super::{Call, Chunks, Outcome, Refusing, outcome_of};
+use serde_json::Value;
+use std::alloc::Global;
 use std::test::Fail;
+use test_support::texts::{two_fields, with_hashes};
 use xet_merkle::CoreError;
 use xet_merkle::aggregated_hashes::xorb_hash;
 use xet_merkle::chunk_range::ChunkRange;
@@ -234,4 +237,43 @@ pub fn from_json(alloc: &Refusing, granted: u32, chunks: &Chunks<'_>) -> Result<
     alloc.grant(granted);
     let answer = MerkleHashSubtree::from_json(alloc, &value);
     Ok(subtree_outcome(alloc, answer, &expected, value == before))
+}
+
+/// JSON texts of no subtree, each after the rule that it breaks. Reading them takes memory.
+pub const BROKEN_JSON: &str =
+    r#"3|{"at_end":false,"at_start":false,"levels":[[1,0]],"nodes":[{"hash":"h1","size":-1}]}
+4|{"at_end":false,"at_start":false,"levels":[[1]],"nodes":[{"hash":"h1","size":1}]}
+5|{"at_end":false,"at_start":false,"levels":[],"nodes":[{"hash":"h1","size":1}]}
+6|{"at_end":false,"at_start":false,"levels":[[1,0]],"nodes":[]}
+7|{"at_end":false,"at_start":false,"levels":[[2,0]],"nodes":[{"hash":"h1","size":18446744073709551615},{"hash":"h2","size":1}]}
+8|{"at_end":false,"at_start":false,"levels":[[0,1]],"nodes":[{"hash":"h1","size":1}]}
+9|{"at_end":false,"at_start":true,"levels":[[1,0],[1,0]],"nodes":[{"hash":"h1","size":1},{"hash":"h2","size":1}]}
+10|{"at_end":true,"at_start":true,"levels":[[2,0]],"nodes":[{"hash":"h1","size":1},{"hash":"h2","size":1}]}
+11|{"at_end":false,"at_start":false,"levels":[[0,0],[0,0]],"nodes":[]}
+12|{"at_end":false,"at_start":false,"levels":[[1,0],[1,0]],"nodes":[{"hash":"h1","size":1},{"hash":"h2","size":1}]}
+13|{"at_end":false,"at_start":true,"levels":[[0,1],[1,0]],"nodes":[{"hash":"h1","size":1},{"hash":"h2","size":1}]}"#;
+
+// Returns the JSON value of a text in which h1 and h2 stand for hashes.
+fn json_value(memory: Global, text: &str) -> Result<Value, Fail> {
+    let text = with_hashes(memory, text)?;
+    Ok(Value::from_str(memory, &text)?)
+}
+
+/// Tries to read the JSON value of a row, which breaks the row's rule.
+pub fn from_broken_json(
+    alloc: &Refusing,
+    granted: u32,
+    memory: Global,
+    row: &str,
+) -> Result<Outcome, Fail> {
+    let (rule, text) = two_fields(row, '|')?;
+    let refusal = CoreError::InvalidJson(rule.parse()?);
+    let (value, before) = (json_value(memory, text)?, json_value(memory, text)?);
+    alloc.grant(granted);
+    let answer = match MerkleHashSubtree::from_json(alloc, &value) {
+        Err(error) if error == refusal => Ok(true),
+        Err(error) => Err(error),
+        Ok(_) => Ok(false),
+    };
+    Ok(outcome_of(alloc, answer, value == before))
 }

@@ -1,30 +1,32 @@
-//! Sessions over each kind of range, and what they keep of hashes.
+//! Sessions over each kind of range.
 
 use super::ranges::Kind;
 use super::{Outcome, Refusing, outcome_of};
 use std::alloc::Global;
 use std::test::Fail;
 use test_support::reference_list;
-use test_support::texts::{four_fields, three_fields};
-use upload_session::kept_hashes::{KeptHashes, SeenHashes};
+use test_support::texts::{four_fields, three_fields, two_fields};
 use upload_session::session::SessionOf;
 use upload_session::session_fault::SessionFault;
 use xet_hash::data_hash::MerkleHash;
 use xet_merkle::CoreError;
 use xet_merkle::aggregated_hashes::{Node, file_hash, xorb_hash};
 
-/// Calls of a session. Each row has the reference chunks of all positions in the end, the puts before the call, and the
-/// puts from the call on. A put has its first position, its chunks, and how many hashes are new.
-pub const OF_SESSIONS: &str = "put alone|1,2,3||2:3:1 0:1,2:2
-put of equal chunks|1,1,1,1||0:1,1:1 2:1,1:0
-put before a run|1,2,3|2:3:1|0:1,2:2
-put after a run|1,1,1,1|0:1,1:1|2:1,1:0
-put between two runs|1,2,3|0:1:1 2:3:1|1:2:1
-put before a longer run|1,2,3,1|1:2,3,1:3|0:1:0
-put between a run and a longer one|1,2,3,2,1|0:1:1 2:3,2,1:2|1:2:0
-finish|1,2,3|2:3:1 0:1,2:2|
-finish with equal chunks|1,1,1,1|0:1,1:1 2:1,1:0|
-root|1,2,3|2:3:1 0:1,2:2|";
+/// Calls of a session. Each row has the reference chunks of all positions in the end, the puts before the call, the puts
+/// after a refusal, and the puts after another end. A put has its first position, its chunks, and how many hashes are new.
+/// The first put after a refusal says what the call puts, pushes or keeps.
+pub const OF_SESSIONS: &str = "put alone|1,2,3||2:3:1 0:1,2:2|0:1,2:2
+put of equal chunks|1,1,1,1||0:1,1:1 2:1,1:0|2:1,1:0
+put before a run|1,2,3|2:3:1|0:1,2:2|
+put after a run|1,1,1,1|0:1,1:1|2:1,1:0|
+put between two runs|1,2,3|0:1:1 2:3:1|1:2:1|
+put before a longer run|1,2,3,1|1:2,3,1:3|0:1:0|
+put between a run and a longer one|1,2,3,2,1|0:1:1 2:3,2,1:2|1:2:0|
+push of a run|1,2,3||2:3:1 0:1,2:2|0:1,2:2
+hashes to keep|0,1,2,3,4,5,6,7||0:0,1,2,3,4,5,6,7:8|0:0,1,2,3,4,5,6,7:0
+finish|1,2,3|2:3:1 0:1,2:2||
+finish with equal chunks|1,1,1,1|0:1,1:1 2:1,1:0||
+root|1,2,3|2:3:1 0:1,2:2||";
 
 // Returns whether a call returns what it should.
 fn is_right<T: PartialEq + Drop>(
@@ -109,17 +111,38 @@ fn end_of(memory: Global, numbers: &str) -> Result<End, Fail> {
     })
 }
 
-// Returns whether a session returns what it should for a put or, without a put, for its root or its file hash.
-fn answers<'a, R: Kind<Alloc = &'a Refusing>>(
+// Makes a call with the chunks of a put. Returns whether it returns what it should.
+fn takes<'a, R: Kind<Alloc = &'a Refusing>>(
+    alloc: &'a Refusing,
     session: &mut SessionOf<R>,
-    put: Option<Put>,
+    call: &str,
+    put: &Put,
+) -> Result<bool, CoreError> {
+    let (first, chunks) = (put.first, put.chunks.as_slice());
+    match call {
+        "push of a run" => {
+            let range = R::from_chunks(alloc, false, chunks, false)?;
+            session.push_run(first, first.saturating_add(chunks.len() as u64), range)?;
+            Ok(true)
+        }
+        "hashes to keep" => {
+            session.keep_hashes(chunks)?;
+            Ok(true)
+        }
+        _ => is_right(session.put(first, chunks), put.new),
+    }
+}
+
+// Returns whether a session returns the root of all chunks, or else their file hash.
+fn ends<'a, R: Kind<Alloc = &'a Refusing>>(
+    session: &SessionOf<R>,
     is_root: bool,
     end: &End,
 ) -> Result<bool, CoreError> {
-    match put {
-        Some(put) => is_right(session.put(put.first, &put.chunks), put.new),
-        None if is_root => is_right(session.root(end.total), end.root),
-        None => is_right(session.finish(end.total), end.file),
+    if is_root {
+        is_right(session.root(end.total), end.root)
+    } else {
+        is_right(session.finish(end.total), end.file)
     }
 }
 
@@ -136,30 +159,31 @@ fn begun<'a, R: Kind<Alloc = &'a Refusing>>(
     Ok(session)
 }
 
-// Tries a call: the put that a text states, if the call is a put. The session is that after the puts before.
+// Returns the first of some puts.
+fn first_put(memory: Global, puts: &str) -> Result<Option<Put>, Fail> {
+    match puts.split_whitespace().next() {
+        Some(text) => Ok(Some(read(memory, text)?)),
+        None => Ok(None),
+    }
+}
+
+// Tries a call with the chunks of a put, if there is one. The session is that after the puts before.
 fn tried<'a, R: Kind<Alloc = &'a Refusing>>(
     (alloc, granted, memory): (&'a Refusing, u32, Global),
     session: &mut SessionOf<R>,
-    before: &str,
-    (call, text): (&str, &str),
+    (call, before): (&str, &str),
+    put: Option<Put>,
     end: &End,
 ) -> Result<Outcome, Fail> {
     let other: SessionOf<R> = begun(alloc, memory, before)?;
-    let put = put_of(memory, call, text)?;
     alloc.grant(granted);
-    let answer = answers(session, put, call == "root", end);
+    let answer = match &put {
+        Some(put) => takes(alloc, session, call, put),
+        None => ends(session, call == "root", end),
+    };
     let outcome = outcome_of(alloc, answer, are_same(session, &other));
     alloc.grant(u32::MAX);
     Ok(outcome)
-}
-
-// Returns the put that a text states, if the call is a put.
-fn put_of(memory: Global, call: &str, text: &str) -> Result<Option<Put>, Fail> {
-    if call.starts_with("put") {
-        Ok(Some(read(memory, text)?))
-    } else {
-        Ok(None)
-    }
 }
 
 // Returns whether a session takes some more puts and then has the right root and file hash.
@@ -169,14 +193,10 @@ fn goes_on<'a, R: Kind<Alloc = &'a Refusing>>(
     puts: &str,
     end: &End,
 ) -> Result<bool, Fail> {
-    Ok(
-        are_put(memory, session, puts)?
-            && answers(session, None, true, end)?
-            && answers(session, None, false, end)?,
-    )
+    Ok(are_put(memory, session, puts)? && ends(session, true, end)? && ends(session, false, end)?)
 }
 
-/// Tries a call of a session, and where it is refused goes on from the session as it was.
+/// Tries a call of a session. After a refusal it goes on from the session as it was.
 pub fn attempt<'a, R: Kind<Alloc = &'a Refusing>>(
     alloc: &'a Refusing,
     granted: u32,
@@ -184,49 +204,16 @@ pub fn attempt<'a, R: Kind<Alloc = &'a Refusing>>(
     row: &str,
 ) -> Result<Outcome, Fail> {
     let (call, chunks, before, puts) = four_fields(row, '|')?;
+    let (after_refusal, others) = two_fields(puts, '|')?;
     let end = end_of(memory, chunks)?;
-    let (first, others) = puts.split_once(' ').unwrap_or((puts, ""));
+    let put = first_put(memory, after_refusal)?;
     let mut session: SessionOf<R> = begun(alloc, memory, before)?;
     let granted = (alloc, granted, memory);
-    let outcome = tried(granted, &mut session, before, (call, first), &end)?;
+    let outcome = tried(granted, &mut session, (call, before), put, &end)?;
     let remaining = if matches!(outcome, Outcome::Refused) {
-        puts
+        after_refusal
     } else {
         others
     };
     Ok(outcome.if_so(goes_on(memory, &mut session, remaining, &end)?))
-}
-
-// Returns the chunk of a number.
-fn chunk(number: u64) -> Node {
-    (MerkleHash::from([number, 0, 0, 0]), 1)
-}
-
-// Returns 100 chunks of different hashes.
-fn hundred() -> [Node; 100] {
-    let mut chunks = [chunk(0); 100];
-    for (place, number) in chunks.iter_mut().zip(0..100) {
-        *place = chunk(number);
-    }
-    chunks
-}
-
-/// Tries to keep 100 hashes besides another one. After a refusal all of them must be new again, and otherwise none.
-pub fn keep_hashes(alloc: &Refusing, granted: u32) -> Result<Outcome, Fail> {
-    let chunks = hundred();
-    let mut seen: SeenHashes<&Refusing> = KeptHashes::new(alloc);
-    let before = seen.keep(alloc, &[chunk(200)])?.len();
-    alloc.grant(granted);
-    let answer = match seen.keep(alloc, &chunks) {
-        Ok(new) => Ok(new.len() == 100),
-        Err(error) => Err(error.into()),
-    };
-    let outcome = outcome_of(alloc, answer, before == 1);
-    alloc.grant(u32::MAX);
-    let new_again = if matches!(outcome, Outcome::Refused) {
-        100
-    } else {
-        0
-    };
-    Ok(outcome.if_so(seen.keep(alloc, &chunks)?.len() == new_again))
 }
