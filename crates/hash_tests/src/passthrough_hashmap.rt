@@ -63,19 +63,12 @@ fn hashes() -> [DataHash; 3] {
 }
 
 // Returns whether look-ups of a key find nothing.
-fn lacks<Key: U64HashExtractable + Hash + Eq>(
-    map: &PassThroughHashMap<Key, u32>,
-    key: &Key,
-) -> bool {
+fn lacks(map: &PassThroughHashMap<DataHash, u32>, key: &DataHash) -> bool {
     map.get(key).is_none() && !map.contains_key(key)
 }
 
 // Returns whether look-ups of a key find a value.
-fn finds<Key: U64HashExtractable + Hash + Eq>(
-    map: &PassThroughHashMap<Key, u32>,
-    key: &Key,
-    value: &u32,
-) -> bool {
+fn finds(map: &PassThroughHashMap<DataHash, u32>, key: &DataHash, value: &u32) -> bool {
     map.get(key) == Some(value)
         && map.get_key_value(key) == Some((key, value))
         && map.contains_key(key)
@@ -83,7 +76,7 @@ fn finds<Key: U64HashExtractable + Hash + Eq>(
 }
 
 // Returns whether each iteration over a map gives two entries, with the values 10 and 20.
-fn walks<Key: U64HashExtractable + Hash + Eq>(map: &PassThroughHashMap<Key, u32>) -> bool {
+fn walks(map: &PassThroughHashMap<DataHash, u32>) -> bool {
     let mut sum = 0u32;
     for (key, value) in map {
         if map.get(key) == Some(value) {
@@ -98,10 +91,7 @@ fn walks<Key: U64HashExtractable + Hash + Eq>(map: &PassThroughHashMap<Key, u32>
 }
 
 // Returns whether a map has two keys, with the values 10 and 20, and not a third one.
-fn reads<Key: U64HashExtractable + Hash + Eq>(
-    map: &PassThroughHashMap<Key, u32>,
-    keys: &[Key; 3],
-) -> bool {
+fn reads(map: &PassThroughHashMap<DataHash, u32>, keys: &[DataHash; 3]) -> bool {
     let [first, second, lacking] = keys;
     map.len() == 2
         && !map.is_empty()
@@ -113,12 +103,9 @@ fn reads<Key: U64HashExtractable + Hash + Eq>(
 
 // Returns whether a map and a standard map keep their entries when each is converted to the other. They have two keys,
 // with the values 10 and 20.
-fn converts<Key: U64HashExtractable + Hash + Eq + Copy>(
-    map: PassThroughHashMap<Key, u32>,
-    keys: &[Key; 3],
-) -> bool {
+fn converts(map: PassThroughHashMap<DataHash, u32>, keys: &[DataHash; 3]) -> bool {
     let [first, second, _] = keys;
-    let mut inner: HashMap<Key, u32> = map.into();
+    let mut inner: HashMap<DataHash, u32> = map.into();
     let had_both = inner.len() == 2 && inner.remove(first) == Some(10);
     let map = PassThroughHashMap::from(inner);
     let has_one = map.len() == 1;
@@ -131,11 +118,11 @@ fn converts<Key: U64HashExtractable + Hash + Eq + Copy>(
 }
 
 // Returns a map of two keys, with the values 10 and 20.
-fn two_entries<Key: U64HashExtractable + Hash + Eq + Copy>(
+fn two_entries(
     alloc: Global,
-    first: Key,
-    second: Key,
-) -> Result<PassThroughHashMap<Key, u32>, AllocError> {
+    first: DataHash,
+    second: DataHash,
+) -> Result<PassThroughHashMap<DataHash, u32>, AllocError> {
     let mut map = PassThroughHashMap::new(alloc);
     map.insert(first, 10)?;
     map.insert(second, 20)?;
@@ -143,42 +130,30 @@ fn two_entries<Key: U64HashExtractable + Hash + Eq + Copy>(
 }
 
 // Returns whether a map of two keys finds both, and keeps its entries when it is converted.
-fn is_kept<Key: U64HashExtractable + Hash + Eq + Copy>(
-    alloc: Global,
-    keys: [Key; 3],
-) -> Result<bool, AllocError> {
+fn is_kept(alloc: Global, keys: [DataHash; 3]) -> Result<bool, AllocError> {
     let [first, second, _] = keys;
     let map = two_entries(alloc, first, second)?;
     Ok(reads(&map, &keys) && converts(map, &keys))
 }
 
 #[test]
-fn finds_hashes_numbers_and_other_keys(rt: HostRuntime) -> Result<(), Fail> {
+fn finds_hashes(rt: HostRuntime) -> Result<(), Fail> {
     assert!(rt; is_kept(rt.alloc(), hashes())?);
-    assert!(rt; is_kept(rt.alloc(), NUMBERS)?);
-    assert!(rt; is_kept(rt.alloc(), NAMES)?);
     Ok(())
 }
 
 // A map whose values are texts.
-type Texts<Key> = PassThroughHashMap<Key, &'static str>;
+type Texts = PassThroughHashMap<u64, &'static str>;
 
 // Inserts two values at a key, one after another.
-fn inserts<Key: U64HashExtractable + Hash + Eq + Copy>(
-    map: &mut Texts<Key>,
-    key: Key,
-) -> Result<bool, AllocError> {
+fn inserts(map: &mut Texts, key: u64) -> Result<bool, AllocError> {
     let before = map.insert(key, "value1")?;
     let replaced = map.insert(key, "value2")?;
     Ok(before.is_none() && replaced == Some("value1") && map.get(&key) == Some(&"value2"))
 }
 
 // Writes to a value that exists, and looks for one that doesn't.
-fn writes<Key: U64HashExtractable + Hash + Eq>(
-    map: &mut Texts<Key>,
-    key: &Key,
-    lacking: &Key,
-) -> bool {
+fn writes(map: &mut Texts, key: &u64, lacking: &u64) -> bool {
     if let Some(value) = map.get_mut(key) {
         *value = "value3";
     }
@@ -186,10 +161,7 @@ fn writes<Key: U64HashExtractable + Hash + Eq>(
 }
 
 // Adds a value at the entry of a new key, and then changes it.
-fn enters<Key: U64HashExtractable + Hash + Eq + Copy>(
-    map: &mut Texts<Key>,
-    key: Key,
-) -> Result<bool, AllocError> {
+fn enters(map: &mut Texts, key: u64) -> Result<bool, AllocError> {
     let is_filled = *map.entry(key).or_insert("value4")? == "value4";
     map.entry(key)
         .and_modify(|value| *value = "value5")
@@ -198,10 +170,7 @@ fn enters<Key: U64HashExtractable + Hash + Eq + Copy>(
 }
 
 // Removes a key that isn't in the map, and the two that are.
-fn removes<Key: U64HashExtractable + Hash + Eq + Copy>(
-    map: &mut Texts<Key>,
-    keys: &[Key; 3],
-) -> bool {
+fn removes(map: &mut Texts, keys: &[u64; 3]) -> bool {
     let [first, second, lacking] = keys;
     map.remove(lacking).is_none()
         && map.len() == 2
@@ -212,10 +181,7 @@ fn removes<Key: U64HashExtractable + Hash + Eq + Copy>(
 }
 
 // Inserts a value through the inner map, and removes all.
-fn clears<Key: U64HashExtractable + Hash + Eq + Copy>(
-    map: &mut Texts<Key>,
-    key: Key,
-) -> Result<bool, AllocError> {
+fn clears(map: &mut Texts, key: u64) -> Result<bool, AllocError> {
     map.as_map_mut().insert(key, "value7")?;
     let has_value = map.get(&key) == Some(&"value7");
     map.clear();
@@ -223,10 +189,7 @@ fn clears<Key: U64HashExtractable + Hash + Eq + Copy>(
 }
 
 // Makes the changes to a map, one after another.
-fn changes<Key: U64HashExtractable + Hash + Eq + Copy>(
-    alloc: Global,
-    keys: [Key; 3],
-) -> Result<bool, AllocError> {
+fn changes(alloc: Global, keys: [u64; 3]) -> Result<bool, AllocError> {
     let [first, second, _] = keys;
     let mut map = PassThroughHashMap::with_capacity(alloc, 100)?;
     Ok(
@@ -240,10 +203,8 @@ fn changes<Key: U64HashExtractable + Hash + Eq + Copy>(
 }
 
 #[test]
-fn changes_at_hashes_numbers_and_other_keys(rt: HostRuntime) -> Result<(), Fail> {
-    assert!(rt; changes(rt.alloc(), hashes())?);
+fn changes_at_numbers(rt: HostRuntime) -> Result<(), Fail> {
     assert!(rt; changes(rt.alloc(), NUMBERS)?);
-    assert!(rt; changes(rt.alloc(), NAMES)?);
     Ok(())
 }
 
@@ -283,10 +244,7 @@ fn write_one_at_place(map: &mut PassThroughHashMap<u64, u64>, key: u64) -> Resul
 }
 
 // Adds a value at the vacant entry of a key, and then one to it.
-fn fills<Key: U64HashExtractable + Hash + Eq + Copy>(
-    map: &mut PassThroughHashMap<Key, u32>,
-    key: Key,
-) -> Result<bool, AllocError> {
+fn fills(map: &mut PassThroughHashMap<ChunkName, u32>, key: ChunkName) -> Result<bool, AllocError> {
     match map.entry(key) {
         Entry::Occupied(_) => Ok(false),
         Entry::Vacant(place) => {
@@ -298,10 +256,7 @@ fn fills<Key: U64HashExtractable + Hash + Eq + Copy>(
 }
 
 // Reads the value 2 at the occupied entry of a key, and writes to it three times.
-fn overwrites<Key: U64HashExtractable + Hash + Eq + Copy>(
-    map: &mut PassThroughHashMap<Key, u32>,
-    key: Key,
-) -> bool {
+fn overwrites(map: &mut PassThroughHashMap<ChunkName, u32>, key: ChunkName) -> bool {
     match map.entry(key) {
         Entry::Occupied(mut place) => {
             let was_two = *place.key() == key && *place.get() == 2 && place.insert(3) == 2;
@@ -315,10 +270,10 @@ fn overwrites<Key: U64HashExtractable + Hash + Eq + Copy>(
 }
 
 // Removes the entry of a key. Returns the key and the value, or only the key if the entry is vacant.
-fn emptied<Key: U64HashExtractable + Hash + Eq + Copy>(
-    map: &mut PassThroughHashMap<Key, u32>,
-    key: Key,
-) -> (Key, Option<u32>) {
+fn emptied(
+    map: &mut PassThroughHashMap<ChunkName, u32>,
+    key: ChunkName,
+) -> (ChunkName, Option<u32>) {
     match map.entry(key) {
         Entry::Occupied(place) => {
             let (key, value) = place.remove_entry();
@@ -329,9 +284,9 @@ fn emptied<Key: U64HashExtractable + Hash + Eq + Copy>(
 }
 
 // Makes the calls of an occupied entry and of a vacant one.
-fn changes_at_places<Key: U64HashExtractable + Hash + Eq + Copy>(
+fn changes_at_places(
     alloc: Global,
-    [first, second, _]: [Key; 3],
+    [first, second, _]: [ChunkName; 3],
 ) -> Result<bool, AllocError> {
     let mut map = PassThroughHashMap::new(alloc);
     let is_filled = fills(&mut map, first)? && overwrites(&mut map, first);
@@ -342,8 +297,6 @@ fn changes_at_places<Key: U64HashExtractable + Hash + Eq + Copy>(
 
 #[test]
 fn places_are_read_filled_and_emptied(rt: HostRuntime) -> Result<(), Fail> {
-    assert!(rt; changes_at_places(rt.alloc(), hashes())?);
-    assert!(rt; changes_at_places(rt.alloc(), NUMBERS)?);
     assert!(rt; changes_at_places(rt.alloc(), NAMES)?);
     Ok(())
 }
