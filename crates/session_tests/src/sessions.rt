@@ -1,7 +1,7 @@
 //! Sessions that test what no contract says: worked examples with the results of other implementations, and printed
 //! texts.
 
-use std::alloc::Global;
+use std::alloc::{AllocError, Global};
 use std::fmt::Display;
 use std::test::Fail;
 use std::vec::Vec;
@@ -206,29 +206,41 @@ fn a_session_lends_the_ranges_of_its_runs(rt: HostRuntime) -> Result<(), Fail> {
     Ok(())
 }
 
-#[test]
-fn a_saved_session_is_restored(rt: HostRuntime) -> Result<(), Fail> {
-    let alloc = rt.alloc();
-    let mut session: Session = SessionOf::new(alloc);
-    let mut restored: Session = SessionOf::new(alloc);
-    let puts = "put 2 3:300 1;put 7 4:400 1;put 0 1:100,2:200 2";
-    assert!(rt; answers(alloc, &mut session, puts, true)?);
+// Adds the two runs of a session to another one.
+fn push_runs(restored: &mut Session, session: &Session) -> Result<(), CoreError> {
     for position in [0, 3] {
         if let Some((first, end, range)) = session.run_from(position) {
             restored.push_run(first, end, range.try_clone()?)?;
         }
     }
-    let none = MerkleHashSubtree::from_chunks(alloc, false, &[], false)?;
-    assert!(rt; restored.push_run(8, 9, none) == Err(CoreError::InvalidArguments));
+    Ok(())
+}
+
+// Keeps the hashes that a session knows in another one.
+fn keep_known(alloc: Global, restored: &mut Session, session: &Session) -> Result<(), AllocError> {
     let mut known = Vec::new(alloc);
     for hash in &session.known_hashes()? {
         known.push((*hash, 0))?;
     }
-    restored.keep_hashes(&known)?;
+    restored.keep_hashes(&known)
+}
+
+// Returns a session with the runs and the hashes of another one.
+fn restored(alloc: Global, session: &Session) -> Result<Session, CoreError> {
+    let mut restored: Session = SessionOf::new(alloc);
+    push_runs(&mut restored, session)?;
+    keep_known(alloc, &mut restored, session)?;
+    Ok(restored)
+}
+
+#[test]
+fn a_saved_session_is_restored(rt: HostRuntime) -> Result<(), Fail> {
+    let mut session = of_two_runs(rt.alloc())?;
+    let mut restored = restored(rt.alloc(), &session)?;
     assert!(rt; session.num_known_hashes() == 4 && restored.num_known_hashes() == 4);
     let rest = "put 3 4:400,5:500,1:100,6:600 2";
-    assert!(rt; answers(alloc, &mut session, rest, true)?);
-    assert!(rt; answers(alloc, &mut restored, rest, true)?);
+    assert!(rt; answers(rt.alloc(), &mut session, rest, true)?);
+    assert!(rt; answers(rt.alloc(), &mut restored, rest, true)?);
     assert!(rt; restored.finish(8) == session.finish(8) && restored.finish(8).is_ok());
     Ok(())
 }
