@@ -3,12 +3,10 @@
 ghost use Rattle.std.specs.Prelude.{◌≡◌};
 ghost use Rattle.xet_merkle.specs.Roots.{total_size};
 
-use rand_core::{Rng, SeedableRng};
-use rand_xoshiro::Xoshiro256PlusPlus;
-use std::alloc::{AllocError, Global};
+use std::alloc::Global;
 use std::test::Fail;
 use test_support::trees::{BRACKETINGS, four_ranges, merge, tree};
-use test_support::{EACH_FOURTH, MARKS, drawn_nodes, ranges, with_cuts};
+use test_support::{EACH_FOURTH, with_cuts};
 use xet_hash::data_hash::MerkleHash;
 use xet_merkle::CoreError;
 use xet_merkle::aggregated_hashes::{Node, xorb_hash};
@@ -74,7 +72,7 @@ impl ChunkRange for CountedRange {
 }
 
 fn run<R: ChunkRange<Alloc = Global>>(alloc: Global, bracketing: &str) -> Result<R, CoreError> {
-    match tree(alloc, bracketing, four_ranges(alloc, alloc)?)? {
+    match tree(alloc, bracketing, four_ranges(alloc)?)? {
         Some(tree) => Ok(tree.run()?),
         None => Err(CoreError::InvalidArguments),
     }
@@ -107,87 +105,6 @@ fn ranges_of_each_kind_have_the_root(rt: HostRuntime) -> Result<(), Fail> {
         assert!(rt;
             merges_and_depth(rt.alloc(), bracketing)? == (3, depth),
             "{bracketing}"
-        );
-    }
-    Ok(())
-}
-
-// Returns the lengths of 1 to 12 ranges. About each fourth range is empty.
-fn drawn_lengths(
-    generator: &mut Xoshiro256PlusPlus,
-    alloc: Global,
-) -> Result<Vec<usize>, AllocError> {
-    let mut lengths = Vec::new(alloc);
-    for _ in 0..generator.next_u64() % 12 + 1 {
-        let is_empty = generator.next_u64().is_multiple_of(4);
-        let length = (generator.next_u64() % 40) as usize;
-        lengths.push(if is_empty { 0 } else { length })?;
-    }
-    Ok(lengths)
-}
-
-// Returns a random bracketing of `ranges` ranges, at least one.
-fn drawn_bracketing(
-    generator: &mut Xoshiro256PlusPlus,
-    alloc: Global,
-    ranges: usize,
-) -> Result<String, AllocError> {
-    let mut bracketing = String::new(alloc);
-    // How many trees come before the next range.
-    let mut trees = 0u64;
-    for _ in 0..ranges {
-        bracketing.push('.')?;
-        let merges = (generator.next_u64() % 3).min(trees);
-        for _ in 0..merges {
-            bracketing.push('+')?;
-        }
-        trees = trees.saturating_sub(merges).saturating_add(1);
-    }
-    for _ in 1..trees {
-        bracketing.push('+')?;
-    }
-    Ok(bracketing)
-}
-
-fn sum(lengths: &[usize]) -> usize {
-    let mut sum = 0usize;
-    for length in lengths {
-        sum = sum.saturating_add(*length);
-    }
-    sum
-}
-
-// Returns whether the tree of a bracketing over ranges of these lengths gives the subtree of all nodes.
-fn is_the_whole(
-    alloc: Global,
-    nodes: &[Node],
-    lengths: &[usize],
-    bracketing: &str,
-    marks: (bool, bool),
-) -> Result<bool, CoreError> {
-    // The last range takes all nodes that are left, as many as the last length.
-    let (_, others) = lengths.split_last().unwrap_or((&0, &[]));
-    let ranges = ranges(alloc, nodes, others, marks)?;
-    let Some(tree) = tree(alloc, bracketing, ranges)? else {
-        return Ok(false);
-    };
-    Ok(tree.run()? == MerkleHashSubtree::from_chunks(alloc, marks.0, nodes, marks.1)?)
-}
-
-#[test]
-fn drawn_trees_give_the_subtree_of_the_whole(rt: HostRuntime) -> Result<(), Fail> {
-    let alloc = rt.alloc();
-    let mut generator = Xoshiro256PlusPlus::seed_from_u64(12);
-    for number in 0..300usize {
-        let cuts_in_four = [0, 1, 2, 4][number % 4];
-        let marks = MARKS[number / 4 % 4];
-        let lengths = drawn_lengths(&mut generator, alloc)?;
-        let count = sum(&lengths);
-        let nodes = drawn_nodes(&mut generator, alloc, count, cuts_in_four)?;
-        let bracketing = drawn_bracketing(&mut generator, alloc, lengths.len())?;
-        assert!(rt;
-            is_the_whole(alloc, &nodes, &lengths, &bracketing, marks)?,
-            "{number}: {bracketing}"
         );
     }
     Ok(())

@@ -316,28 +316,3 @@ pub fn drawn_lengths(
 pub fn read_json(alloc: Global, text: &str) -> Result<Result<MerkleHashSubtree, CoreError>, Fail> {
     Ok(MerkleHashSubtree::from_json(alloc, &Value::from_str(alloc, text)?))
 }
-
-/// Returns the JSON value of an open subtree of two levels: left and right nodes of the lower one, and left nodes of
-/// the upper one.
-pub fn two_levels(
-    alloc: Global,
-    left: &[Node],
-    right: &[Node],
-    top: &[Node],
-) -> Result<Value, Fail> {
-    let mut text = format!(in alloc;
-        "{{\"at_end\":false,\"at_start\":false,\"levels\":[[{},{}],[{},0]],\"nodes\":[",
-        left.len(),
-        right.len(),
-        top.len()
-    )?;
-    let mut comma = "";
-    for nodes in [left, top, right] {
-        for (hash, size) in nodes {
-            write!(text, "{comma}{{\"hash\":\"{hash}\",\"size\":{size}}}")?;
-            comma = ",";
-        }
-    }
-    write!(text, "]}}")?;
-    Ok(Value::from_str(alloc, text.as_str())?)
-}

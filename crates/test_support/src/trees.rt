@@ -51,17 +51,12 @@ pub fn tree<R: ChunkRange>(
 
 /// Returns four ranges of 28 nodes, each fourth of which is a natural cut: the nodes 0 to 3, 4 to 23, 24 to 27, and
 /// none. The first range is marked at its start, the last at its end.
-pub fn four_ranges<R: ChunkRange>(alloc: Global, of_ranges: R::Alloc) -> Result<Vec<R>, CoreError>
-where
-    R::Alloc: Copy,
-{
+pub fn four_ranges<R: ChunkRange<Alloc = Global>>(alloc: Global) -> Result<Vec<R>, CoreError> {
     let nodes = with_cuts::<28>(&EACH_FOURTH);
-    let (first, others) = nodes.as_slice().split_at(4);
-    let (second, third) = others.split_at(20);
     let mut ranges = Vec::new(alloc);
-    ranges.push(R::from_chunks(of_ranges, true, first, false)?)?;
-    ranges.push(R::from_chunks(of_ranges, false, second, false)?)?;
-    ranges.push(R::from_chunks(of_ranges, false, third, false)?)?;
-    ranges.push(R::from_chunks(of_ranges, false, &[], true)?)?;
+    for (begin, end) in [(0, 4), (4, 24), (24, 28), (28, 28)] {
+        let chunks = nodes.as_slice().get(begin..end).unwrap_or_default();
+        ranges.push(R::from_chunks(alloc, begin == 0, chunks, begin == 28)?)?;
+    }
     Ok(ranges)
 }
