@@ -1,10 +1,11 @@
 -- Appending nodes without adding a stable point. A scan from 14 nodes before them shows it: the third natural cut of a
 -- stable point is at most 14 nodes after the first one.
-use Rattle.std.proofs.Common.{◌≡◌, ◌+◌, ◌<◌, ◌≤◌, ◌⊎◌, ◌&&◌, not, true, false, List, [], ◌∷◌, ◌++◌, length, refl, sym, ap, subst, ◌∙◌, inl, inr, arith, append_assoc, append-nil, length-append}
-use Rattle.std.proofs.lemmas.Bool.{cases_Bool, and_parts, and_from, cases_lt, not-true}
+use Rattle.std.proofs.Common.{◌≡◌, ℕ, ◌+◌, ◌<◌, ◌≤◌, ◌⊎◌, ◌&&◌, ◌||◌, Bool, not, true, false, List, [], ◌∷◌, ◌++◌, length, refl, sym, ap, subst, ◌∙◌, inl, inr, arith, append_assoc, append-nil, length-append}
+use Rattle.std.proofs.lemmas.Bool.{false≢true, cases_Bool, and_parts, and_from, cases_lt, not-true}
 use Rattle.xet_merkle.specs.Groups.{Node, is_cut, Cut}
 use Rattle.xet_merkle.specs.StablePoints.{NoCut, EndsStable, BeginsStable, IsStable, NoStable}
-use Rattle.xet_merkle.specs.Steps.StableScan.{completes, next_scan, scan_after, completes_none, AddsNoStable}
+use Rattle.xet_merkle.specs.Steps.Scan.{is_stable_gap}
+use Rattle.xet_merkle.specs.Steps.StableScan.{after_cut, completes, next_scan, scan_after, completes_none, AddsNoStable}
 use Rattle.xet_merkle.specs.declared.merkle_hash_subtree.stable_points.CutScan.{CutScan}
 use Rattle.xet_merkle.proofs.Lists.Places.{meets}
 use Rattle.xet_merkle.proofs.Lists.Places.Meets.{same, earlier, later}
@@ -68,10 +69,10 @@ none_new (x ∷ more) nodes passed scan h none old =
     old left before.0 before.1 before.2 in
     subst (NoNew nodes) (append_assoc passed (x ∷ []) more) (none_new more nodes (passed ++ x ∷ []) (next_scan scan (is_cut x)) pushed parts.1 here)
 
-none_after : (near more : List Node) → completes_none (scan_after (record { has_cut = true; ends_stable = false; since_cut = 0 }) near) more ≡ true →
+none_after : (near more : List Node) → completes_none (scan_after after_cut near) more ≡ true →
     (cut : Node) → Cut cut → NoNew (cut ∷ near) more
 none_after near more none cut is_cut =
-    let start : CutScan = record { has_cut = true; ends_stable = false; since_cut = 0 } in
+    let start = after_cut in
     let first : Scanned (cut ∷ []) start = (LastSoFar-none [] true (cut ∷ []) (cut, refl, is_cut)).scanned in
     let scanned = Scanned-after near (cut ∷ []) start first in
     none_new more (cut ∷ near) [] (scan_after start near) (subst (λ (l : List Node). Scanned l (scan_after start near)) (sym (append-nil (cut ∷ near))) scanned) none
@@ -188,7 +189,7 @@ module _ (near more : List Node) (none : (cut : Node) → Cut cut → NoNew (cut
 
 -- what a scan that begins after a natural cut tells, in front of nodes that are all there are or 14
 pub adds_none_after : (before near more : List Node) → (before ≡ []) ⊎ (14 ≤ length near) →
-    completes_none (scan_after (record { has_cut = true; ends_stable = false; since_cut = 0 }) near) more ≡ true → AddsNoStable (before ++ near) more
+    completes_none (scan_after after_cut near) more ≡ true → AddsNoStable (before ++ near) more
 adds_none_after before near more enough none = adds_none near more (none_after near more none) before enough
 
 -- ---- nodes without a natural cut
@@ -199,7 +200,42 @@ completes_none-without scan (x ∷ nodes) none = rw none.0 (completes_none-witho
 
 pub adds_none_without : (nodes more : List Node) → NoCut more → AddsNoStable nodes more
 adds_none_without nodes more none =
-    adds_none_after [] nodes more (inl refl) (completes_none-without (scan_after (record { has_cut = true; ends_stable = false; since_cut = 0 }) nodes) more none)
+    adds_none_after [] nodes more (inl refl) (completes_none-without (scan_after after_cut nodes) more none)
+
+-- ---- where a scan may start
+
+-- whether a natural cut is among some nodes
+abbrev pub has_cut : List Node → Bool
+has_cut [] = false
+has_cut (x ∷ nodes) = is_cut x || has_cut nodes
+
+pub has_cut-append : (front back : List Node) → has_cut (front ++ back) ≡ has_cut front || has_cut back
+has_cut-append [] back = refl
+has_cut-append (x ∷ front) back = elim (cases_Bool (is_cut x)) [
+  | inl here ↦ rw here refl
+  | inr not_here ↦ rw not_here (has_cut-append front back)
+]
+
+-- two scans after a natural cut are the same once they have passed another one
+scans_meet : (nodes : List Node) (e f : Bool) (since : ℕ) → has_cut nodes ≡ true →
+    scan_after (record { has_cut = true; ends_stable = e; since_cut = since }) nodes ≡ scan_after (record { has_cut = true; ends_stable = f; since_cut = since }) nodes
+scans_meet [] e f since none = absurd (false≢true none)
+scans_meet (x ∷ nodes) e f since some = elim (cases_Bool (is_cut x)) [
+  | inl here ↦ rw here refl
+  | inr not_here ↦ rw not_here (scans_meet nodes e f (since + 1) (ap (λ c. c || has_cut nodes) (sym not_here) ∙ some))
+]
+
+pub late_scan : (front back : List Node) (x : Node) → Cut x → has_cut back ≡ true → scan_after after_cut back ≡ scan_after after_cut (front ++ x ∷ back)
+late_scan front back x cut some =
+    let at = scan_after after_cut front in
+    sym (scan_after-append after_cut front (x ∷ back) ∙ rw cut (scans_meet back (at.has_cut && is_stable_gap at.since_cut) false 0 some))
+
+-- the same of nodes whose first part ends with a natural cut
+pub late_scan_from : (nodes first front back : List Node) (x : Node) → first ++ back ≡ nodes → first ≡ front ++ x ∷ [] → Cut x → has_cut back ≡ true →
+    scan_after after_cut back ≡ scan_after after_cut nodes
+late_scan_from nodes first front back x parts ends cut some =
+    late_scan front back x cut some
+    ∙ ap (scan_after after_cut) (sym (append_assoc front (x ∷ []) back) ∙ ap (λ (l : List Node). l ++ back) (sym ends) ∙ parts)
 
 -- ---- what it keeps
 

@@ -6,6 +6,10 @@ use Rattle.xet_merkle.specs.StablePoints.{IsStable}
 use Rattle.xet_merkle.specs.Steps.Scan.{is_stable_gap}
 use Rattle.xet_merkle.specs.declared.merkle_hash_subtree.stable_points.CutScan.{CutScan}
 
+-- the scan after one natural cut
+abbrev pub after_cut : CutScan
+after_cut = record { has_cut = true; ends_stable = false; since_cut = 0 }
+
 -- whether the next node is the third natural cut of a stable point: the nodes up to the natural cut before it end
 -- stable, and the gap between the two has the right length
 abbrev pub completes : CutScan → Bool → Bool

@@ -4,7 +4,7 @@ ghost use Rattle.std.specs.Prelude.{◌≡◌, ◌+◌, ◌<◌, ◌≤◌, ◌�
 ghost use Rattle.xet_merkle.specs.Groups.{Node};
 ghost use Rattle.xet_merkle.specs.StablePoints.{NoCut, EndsStable, NoStable, IsFirstStable, IsLastStable, IsGroupBoundary};
 ghost use Rattle.xet_merkle.specs.Steps.Scan.{is_stable_gap};
-ghost use Rattle.xet_merkle.specs.Steps.StableScan.{completes, next_scan, IsFront, scan_after, completes_none, AddsNoStable, AddsNoStableBefore};
+ghost use Rattle.xet_merkle.specs.Steps.StableScan.{after_cut, completes, next_scan, IsFront, scan_after, completes_none, AddsNoStable, AddsNoStableBefore};
 
 use crate::groups::{MAX_GROUP_LEN, MIN_GROUP_LEN, Node, is_natural_cut};
 
@@ -104,6 +104,25 @@ fn has_no_cut(nodes: &[Node]) -> bool
 // The third natural cut of a stable point is at most this many nodes after its first one.
 const LOOK_BACK: usize = 2 * (MAX_GAP + 1);
 
+// Returns how many of the nodes after a natural cut a scan can skip: those up to the last natural cut but one.
+fn late_start(nodes: &[Node]) -> usize
+    ensures bound { result ≤ length nodes.now }
+    ensures scan { scan_after after_cut (drop result nodes.now) ≡ scan_after after_cut nodes.now }
+{
+    let mut has_cut = false;
+    let mut rest = nodes;
+    'nodes: while let [before @ .., node] = rest {
+        if is_natural_cut(node) {
+            if has_cut {
+                return rest.len();
+            }
+            has_cut = true;
+        }
+        rest = before;
+    }
+    0
+}
+
 // Returns whether no stable point is added if two lists of nodes are appended to others. It looks at only the last few
 // of the others, and at none of them if no natural cut is appended.
 pub(super) fn adds_no_stable(nodes: &[Node], first: &[Node], second: &[Node]) -> bool
@@ -113,8 +132,9 @@ pub(super) fn adds_no_stable(nodes: &[Node], first: &[Node], second: &[Node]) ->
         return true;
     }
     let (_, near) = nodes.split_at(nodes.len().saturating_sub(LOOK_BACK));
+    let (_, late) = near.split_at(late_start(near));
     let mut scan = CutScan::new(true);
-    let _ = scan.pass_all(near);
+    let _ = scan.pass_all(late);
     scan.pass_all(first) && scan.pass_all(second)
 }
 
