@@ -10,7 +10,7 @@ from typing import Callable, NoReturn, SupportsIndex, Tuple, Type, TypeVar, Unio
 from ._declarations import LENGTHS
 from ._errors import DivisionByZero, InvalidArguments, InvalidText, ReentrantCall, YurewhaError, error_of
 from ._guard import Guarded
-from ._lent import Lent, bytes_of, in_place, is_read_only, is_whole
+from ._lent import Lent, bytes_of, in_place, is_read_only
 from ._library import LONG_BYTES, CBytes, CHash, CHasher, calls_for, short
 from ._types import BytesLike, view_of
 
@@ -138,7 +138,7 @@ class Hash:
     @classmethod
     def _of(cls, raw: _Bytes) -> Hash:
         self = object.__new__(cls)
-        object.__setattr__(self, "_raw", raw)
+        _set_raw(self, raw)
         return self
 
     def __setattr__(self, name: str, value: object) -> None:
@@ -307,6 +307,10 @@ class Hash:
         return Hash, (self.bytes,)
 
 
+# Sets the bytes of a new hash. It takes half the time of `object.__setattr__`.
+_set_raw: Callable[[Hash, _Bytes], None] = Hash.__dict__["_raw"].__set__
+
+
 def data_hash(data: BytesLike, *, nobody_writes: bool = False) -> Hash:
     """Returns the hash of a chunk with these bytes.
 
@@ -360,10 +364,9 @@ def _handed(
         return at_once(data, len(data))
     with view_of(data) as view:
         length, owner = view.nbytes, view.obj
-        of_bytes = type(owner) is bytes
-        if length < _SHORT or not view.c_contiguous or of_bytes and is_whole(view):
+        if length < _SHORT or not view.c_contiguous or type(owner) is bytes and len(owner) == length:
             return at_once(bytes_of(view), length)
-        if nobody_writes or of_bytes or is_read_only(view):
+        if nobody_writes or type(owner) is bytes or is_read_only(view):
             return in_place(view, at_once)
         if length <= PIECE:
             return at_once(view.tobytes(), length)
