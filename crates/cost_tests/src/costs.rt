@@ -71,14 +71,13 @@ fn chunks(memory: Global, count: u64, has_cuts: bool) -> Result<Vec<Node>, Alloc
     Ok(chunks)
 }
 
-// Puts chunks one by one after a range, or before it. Counts what that asks for.
+// Puts chunks one by one after a range, or before it.
 fn extend<'a>(
     alloc: &'a Counting,
     range: &mut Subtree<'a>,
     chunks: &[Node],
     is_after: bool,
 ) -> Result<(), CoreError> {
-    alloc.grant(u32::MAX);
     for chunk in chunks {
         let one = MerkleHashSubtree::from_chunks(alloc, false, &[*chunk], false)?;
         if is_after {
@@ -90,40 +89,28 @@ fn extend<'a>(
     Ok(())
 }
 
-// Merges a range of some chunks into the one before it, or the one after it. Counts what that asks for.
-fn merge<'a>(
-    alloc: &'a Counting,
-    range: &mut Subtree<'a>,
-    chunks: &[Node],
-    is_after: bool,
-) -> Result<(), CoreError> {
-    let other = MerkleHashSubtree::from_chunks(alloc, false, chunks, false)?;
-    alloc.grant(u32::MAX);
-    if is_after {
-        range.join(&other)
-    } else {
-        range.prepend(other)
-    }
-}
-
 // Adds `count` chunks to a range of some chunks, or of none. Returns what that asks for.
 fn change_range(memory: Global, change: &str, count: u64) -> Result<Granted, Fail> {
     let alloc = counting(memory);
     let has_cuts = change.ends_with("cuts");
+    let chunks = chunks(memory, count, has_cuts)?;
     let is_after = !change.contains("before") && !change.starts_with("prepend");
     let is_merge = change.starts_with("merge");
-    let chunks = chunks(memory, count, has_cuts)?;
     let begun = if is_merge || has_cuts {
         chunks.as_slice()
     } else {
         &[]
     };
     let mut range = MerkleHashSubtree::from_chunks(&alloc, false, begun, false)?;
-    if is_merge {
-        merge(&alloc, &mut range, &chunks, is_after)?;
-    } else {
+    let other = MerkleHashSubtree::from_chunks(&alloc, false, &chunks, false)?;
+    alloc.grant(u32::MAX);
+    if !is_merge {
         let plain = self::chunks(memory, count, false)?;
         extend(&alloc, &mut range, &plain, is_after)?;
+    } else if is_after {
+        range.join(&other)?;
+    } else {
+        range.prepend(other)?;
     }
     Ok(alloc.granted())
 }
@@ -162,44 +149,25 @@ fn puts(memory: Global, change: &str, count: u64) -> Result<BTreeMap<u64, (u64, 
     Ok(puts)
 }
 
-// A session that keeps no hashes.
-type Runs<'a> = SessionOf<Subtree<'a>, NoHashes>;
-
-// Makes the puts of a change. Counts what they ask for.
-fn put_all<'a>(
-    alloc: &'a Counting,
-    memory: Global,
-    session: &mut Runs<'a>,
-    change: &str,
-    chunks: &[Node],
-) -> Result<(), Fail> {
-    alloc.grant(u32::MAX);
-    for (first, len) in puts(memory, change, chunks.len() as u64)?.values() {
-        let end = first.saturating_add(*len) as usize;
-        session.put(*first, chunks.get(*first as usize..end).unwrap_or_default())?;
-    }
-    Ok(())
-}
-
 // Puts chunks one by one or in blocks. Returns what that asks for. With cuts, a run that has them comes after these
 // chunks.
 fn change_session(memory: Global, change: &str, count: u64) -> Result<Granted, Fail> {
     let alloc = counting(memory);
-    let mut session: Runs<'_> = SessionOf::new_in(&alloc)?;
+    let mut session: SessionOf<Subtree<'_>, NoHashes> = SessionOf::new_in(&alloc)?;
     if change.ends_with("cuts") {
         session.put(count, &chunks(memory, count, true)?)?;
     }
-    put_all(
-        &alloc,
-        memory,
-        &mut session,
-        change,
-        &chunks(memory, count, false)?,
-    )?;
+    let chunks = chunks(memory, count, false)?;
+    alloc.grant(u32::MAX);
+    for (first, len) in puts(memory, change, count)?.values() {
+        let end = first.saturating_add(*len) as usize;
+        session.put(*first, chunks.get(*first as usize..end).unwrap_or_default())?;
+    }
+    let asked = alloc.granted();
     if session.num_runs() != 1 {
         return Err("more than one run")?;
     }
-    Ok(alloc.granted())
+    Ok(asked)
 }
 
 // Returns what a change by `count` chunks asks for.
@@ -256,35 +224,20 @@ fn twice_as_many_puts_ask_for_little_more_than_twice_the_bytes(
 // More than a thousand runs.
 const RUNS: u64 = 1_500;
 
-// Puts a chunk at each even position. The positions between stay free.
-fn put_runs(session: &mut Runs<'_>, chunk: Node) -> Result<(), SessionFault> {
-    for number in 0..RUNS {
-        session.put(number.saturating_mul(2), &[chunk])?;
-    }
-    Ok(())
-}
-
-// Returns whether exactly the even positions are taken, and a put at one is refused.
-fn are_taken(session: &mut Runs<'_>, chunk: Node) -> bool {
-    let mut is_right = true;
-    for number in 0..RUNS {
-        let position = number.saturating_mul(2);
-        is_right = is_right
-            && session.taken(position)
-            && !session.taken(position.saturating_add(1))
-            && session.put(position, &[chunk]) == Err(SessionFault::Overlap);
-    }
-    is_right
-}
-
 #[test]
 fn sessions_of_many_runs_tell_what_is_taken_without_memory(rt: HostRuntime) -> Result<(), Fail> {
     let alloc = counting(rt.alloc());
-    let chunk = (MerkleHash::default(), 1);
-    let mut session: Runs<'_> = SessionOf::new_in(&alloc)?;
-    put_runs(&mut session, chunk)?;
+    let mut session: SessionOf<Subtree<'_>, NoHashes> = SessionOf::new_in(&alloc)?;
+    let chunk = [(MerkleHash::default(), 1)];
+    for number in 0..RUNS {
+        session.put(number.saturating_mul(2), &chunk)?;
+    }
     alloc.grant(0);
-    assert!(rt; are_taken(&mut session, chunk));
+    for number in 0..RUNS {
+        let position = number.saturating_mul(2);
+        assert!(rt; session.taken(position) && !session.taken(position.saturating_add(1)));
+        assert!(rt; session.put(position, &chunk) == Err(SessionFault::Overlap));
+    }
     assert!(rt; session.num_runs() as u64 == RUNS && session.range(1_001).is_some());
     assert!(rt; session.finish(RUNS) == Err(SessionFault::Gap));
     assert!(rt; !alloc.has_refused());
