@@ -1,5 +1,6 @@
 """Each exception, and each argument that is refused before it crosses."""
 
+import os
 import pickle
 import resource
 import subprocess
@@ -343,13 +344,13 @@ calls = [
     lambda: session.keep_hashes(hashes),
     lambda: y.Subtree.merge_all([tree, tree]),
 ]
-for call in calls:
+for number, call in enumerate(calls):
     try:
         call()
     except y.OutOfMemory as error:
         assert isinstance(error, MemoryError) and "out of memory" in str(error)
     else:
-        raise AssertionError("it wasn't refused")
+        raise AssertionError("call %d wasn't refused" % number)
 assert tree.num_nodes == count and session.num_runs == 0 and len(session.known_hashes()) == 0
 print("refused", len(calls))
 """
@@ -357,8 +358,11 @@ print("refused", len(calls))
 
 @pytest.mark.skipif(not Path("/proc/self/statm").exists(), reason="it needs /proc")
 def test_out_of_memory():
+    # Large blocks that are freed go back to the system, so that no later call finds them.
+    environment = {**os.environ, "MALLOC_MMAP_THRESHOLD_": "65536", "MALLOC_TRIM_THRESHOLD_": "65536"}
     done = subprocess.run(
-        [sys.executable, "-c", OUT_OF_MEMORY.format(path=sys.path)], capture_output=True, text=True, check=False)
+        [sys.executable, "-c", OUT_OF_MEMORY.format(path=sys.path)], capture_output=True, text=True, check=False,
+        env=environment)
     assert done.stdout == "refused 10\n", done.stderr
 
 
