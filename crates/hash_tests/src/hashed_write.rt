@@ -5,10 +5,10 @@ use rand_core::{Rng, SeedableRng};
 use rand_xoshiro::Xoshiro256PlusPlus;
 use std::alloc::{AllocError, Global};
 use std::fmt::Write as _;
-use std::io::{self, Write};
+use std::io::{self, ErrorKind, Write};
 use std::str::Lines;
 use std::test::Fail;
-use xet_hash::data_hash::{HashedWrite, compute_data_hash};
+use xet_hash::data_hash::{DataHash, HashedWrite, compute_data_hash};
 
 // Calls of one writer in turn. Each row has the length of its slice, how many bytes are taken, and the result. An error
 // has its kind, its code and its text. The rows that follow and begin with `>` are the calls of the inner writer. Each
@@ -199,4 +199,58 @@ fn calls_are_handed_on_and_what_is_taken_is_hashed(rt: HostRuntime) -> Result<()
     Xoshiro256PlusPlus::seed_from_u64(14).fill_bytes(message.as_mut_slice());
     assert!(rt; are_handed_on(rt.alloc(), &message)?);
     Ok(())
+}
+
+// The hash was computed without this code.
+#[test]
+fn drawn_bytes_are_hashed(rt: HostRuntime) -> Result<(), Fail> {
+    let mut message = [0u8; 300];
+    Xoshiro256PlusPlus::seed_from_u64(13).fill_bytes(&mut message);
+    let hash = "bbd96a1fac984cb7e9dba7f6755195d59d9bb115e45cff0f96c3cd211560b0fc";
+    assert!(rt; compute_data_hash(&message) == DataHash::from_hex(hash)?);
+    Ok(())
+}
+
+// A writer that takes at most three bytes a call and `room` bytes in all, and then fails.
+#[derive(Drop)]
+struct Narrow {
+    room: usize,
+    taken: Vec<u8>,
+}
+
+impl Narrow {
+    fn new(alloc: Global, room: usize) -> Narrow {
+        Narrow {
+            room,
+            taken: Vec::new(alloc),
+        }
+    }
+}
+
+impl Write for Narrow {
+    fn write(&mut self, slice: &[u8]) -> io::Result<usize> {
+        if self.room == 0 {
+            return Err(io::Error::from(ErrorKind::StorageFull));
+        }
+        let len = slice.len().min(self.room).min(3);
+        self.taken.extend_from_slice(&slice[..len])?;
+        self.room -= len;
+        Ok(len)
+    }
+
+    fn flush(&mut self) -> io::Result<()> {
+        Ok(())
+    }
+}
+
+#[test]
+fn a_writer_that_fails_midway_has_what_is_hashed(rt: HostRuntime) {
+    for text in ["abc", "abcd"] {
+        let mut writer = HashedWrite::new(Narrow::new(rt.alloc(), text.len()));
+        let answer = writer.write_all(b"abcdef").map_err(|error| error.kind());
+        assert!(rt; answer == Err(ErrorKind::StorageFull));
+        assert!(rt; writer.hash() == compute_data_hash(text.as_bytes()));
+        let Narrow { taken, .. } = writer.into_inner();
+        assert!(rt; taken.as_slice() == text.as_bytes());
+    }
 }
