@@ -209,13 +209,6 @@ abbrev pub has_cut : List Node → Bool
 has_cut [] = false
 has_cut (x ∷ nodes) = is_cut x || has_cut nodes
 
-pub has_cut-append : (front back : List Node) → has_cut (front ++ back) ≡ has_cut front || has_cut back
-has_cut-append [] back = refl
-has_cut-append (x ∷ front) back = elim (cases_Bool (is_cut x)) [
-  | inl here ↦ rw here refl
-  | inr not_here ↦ rw not_here (has_cut-append front back)
-]
-
 -- two scans after a natural cut are the same once they have passed another one
 scans_meet : (nodes : List Node) (e f : Bool) (since : ℕ) → has_cut nodes ≡ true →
     scan_after (record { has_cut = true; ends_stable = e; since_cut = since }) nodes ≡ scan_after (record { has_cut = true; ends_stable = f; since_cut = since }) nodes
