@@ -173,6 +173,23 @@ def test_a_buffer_that_is_another_one_each_time():
         assert y.data_hashes(Changing(), [0, 1 << 16], nobody_writes=promised)[0] == y.data_hash(whole)
 
 
+def test_a_view_stays_the_callers(monkeypatch):
+    """It can't be released during a call, and it can be used after one. A released view is refused."""
+    view = memoryview(b"a" + DATA)[1:]
+    hashed = _library.long.yurewha_data_hash
+
+    def spied(*arguments):
+        with pytest.raises(BufferError):
+            view.release()
+        return hashed(*arguments)
+
+    monkeypatch.setattr(_library.long, "yurewha_data_hash", spied)
+    assert y.data_hash(view) == y.data_hash(view) == EXPECTED
+    view.release()
+    with pytest.raises(ValueError, match="released"):
+        y.data_hash(view)
+
+
 def test_owners_without_end():
     class Endless(bytes):
         """Bytes that name themselves as their owner."""

@@ -362,17 +362,26 @@ def _handed(
         checked_bool(nobody_writes, "nobody_writes")
     if type(data) is bytes:
         return at_once(data, len(data))
+    if type(data) is memoryview:
+        return _handed_view(data, nobody_writes, at_once, by_pieces)
     with view_of(data) as view:
-        length, owner = view.nbytes, view.obj
-        if length < _SHORT or not view.c_contiguous or type(owner) is bytes and len(owner) == length:
-            return at_once(bytes_of(view), length)
-        if nobody_writes or type(owner) is bytes or is_read_only(view):
-            return in_place(view, at_once)
-        if length <= PIECE:
-            return at_once(view.tobytes(), length)
-        with Lent(view) as lent:
-            lent.hold()
-            return by_pieces(lent)
+        return _handed_view(view, nobody_writes, at_once, by_pieces)
+
+
+def _handed_view(
+    view: memoryview, nobody_writes: bool, at_once: Callable[[Start, int], _Result], by_pieces: Callable[[Lent], _Result]
+) -> _Result:
+    """Passes the bytes of a view on. It doesn't release the view, which may be the caller's."""
+    length, owner = view.nbytes, view.obj
+    if length < _SHORT or not view.c_contiguous or type(owner) is bytes and len(owner) == length:
+        return at_once(bytes_of(view), length)
+    if nobody_writes or type(owner) is bytes or is_read_only(view):
+        return in_place(view, at_once)
+    if length <= PIECE:
+        return at_once(view.tobytes(), length)
+    with Lent(view) as lent:
+        lent.hold()
+        return by_pieces(lent)
 
 
 def _add(state: CHasher, start: Start, length: int) -> None:

@@ -114,12 +114,11 @@ def in_place(view: memoryview, call: Callable[[ctypes.c_char_p, int], _Result]) 
     b'bc'
     """
     buffer = _CBuffer()
-    at = ctypes.byref(buffer)
     try:
-        _get_buffer(view, at, _PLAIN)
+        _get_buffer(view, buffer, _PLAIN)
         return call(ctypes.c_char_p(buffer.buf), view.nbytes)
     finally:
-        _release_buffer(at)  # does nothing if there is no buffer
+        _release_buffer(buffer)  # does nothing if there is no buffer
 
 
 def is_whole(view: memoryview) -> bool:
