@@ -120,6 +120,8 @@ pub enum Call {
     InsertEntry,
     VacantInsert,
     VacantInsertEntry,
+    SessionTryClone,
+    KnownHashes,
     XorbHash,
     FileHash,
     FileHashWithSalt,
@@ -164,7 +166,7 @@ const OF_CHUNKS: [(Call, u64); 15] = [
 ];
 
 // The calls that have values of their own.
-const OF_OWN_VALUES: [Call; 16] = [
+const OF_OWN_VALUES: [Call; 10] = [
     Call::Hex,
     Call::Base64,
     Call::ToVec,
@@ -173,6 +175,12 @@ const OF_OWN_VALUES: [Call; 16] = [
     Call::MapFromPairs,
     Call::MapFromArray,
     Call::MapTryClone,
+    Call::SessionTryClone,
+    Call::KnownHashes,
+];
+
+// The calls that fill a map.
+const FILLING_MAPS: [Call; 8] = [
     Call::MapInsert,
     Call::OrInsert,
     Call::OrInsertWith,
@@ -205,6 +213,9 @@ fn attempt(
         | Call::InsertEntry
         | Call::VacantInsert
         | Call::VacantInsertEntry => Ok(maps::fill(call, alloc, granted, 100)),
+        Call::SessionTryClone | Call::KnownHashes => {
+            sessions::copy(call, alloc, granted, chunks.alloc)
+        }
         Call::XorbHash | Call::FileHash | Call::FileHashWithSalt => {
             hashes::of_chunks(call, alloc, granted, chunks)
         }
@@ -277,11 +288,14 @@ fn calls_on_chunks_are_refused_with_each_request(rt: HostRuntime) -> Result<(), 
 
 #[test]
 fn calls_on_values_of_their_own_are_refused_with_each_request(rt: HostRuntime) -> Result<(), Fail> {
-    for (number, call) in OF_OWN_VALUES.iter().enumerate() {
-        assert!(rt;
-            is_refused_with_each_request(*call, &Chunks::none(rt.alloc()))?,
-            "call {number} of the table"
-        );
+    for calls in [OF_OWN_VALUES.as_slice(), FILLING_MAPS.as_slice()] {
+        for (number, call) in calls.iter().enumerate() {
+            assert!(rt;
+                is_refused_with_each_request(*call, &Chunks::none(rt.alloc()))?,
+                "call {number} of {}",
+                calls.len()
+            );
+        }
     }
     Ok(())
 }

@@ -6,7 +6,7 @@
 
 use super::maps::{Numbers, fill, has_numbers};
 use super::ranges::Kind;
-use super::{Call, Chunks, OF_CHUNKS, Outcome, Refusing, attempt, refusing};
+use super::{Call, Chunks, FILLING_MAPS, OF_CHUNKS, Outcome, Refusing, attempt, refusing};
 use rand_core::SeedableRng;
 use rand_xoshiro::Xoshiro256PlusPlus;
 use std::alloc::Global;
@@ -123,18 +123,6 @@ fn ranges_of_each_length_are_answered(rt: HostRuntime) -> Result<(), Fail> {
     Ok(())
 }
 
-// The calls that fill a map.
-const OF_MAPS: [Call; 8] = [
-    Call::MapInsert,
-    Call::OrInsert,
-    Call::OrInsertWith,
-    Call::OrInsertWithKey,
-    Call::OrDefault,
-    Call::InsertEntry,
-    Call::VacantInsert,
-    Call::VacantInsertEntry,
-];
-
 // Returns whether maps of `count` numbers are made and copied.
 fn are_maps_made(alloc: &Refusing, count: u64) -> Result<bool, Fail> {
     let room: Numbers<'_> = PassThroughHashMap::with_capacity(alloc, count as usize)?;
@@ -147,7 +135,7 @@ fn maps_of_many_numbers_are_filled(rt: HostRuntime) -> Result<(), Fail> {
     let alloc = refusing(rt.alloc());
     for count in [MANY, MORE] {
         assert!(rt; are_maps_made(&alloc, count as u64)?, "{count}");
-        for (number, call) in OF_MAPS.iter().enumerate() {
+        for (number, call) in FILLING_MAPS.iter().enumerate() {
             let outcome = fill(*call, &alloc, u32::MAX, count as u64);
             assert!(rt;
                 matches!(outcome, Outcome::Answered),

@@ -1,12 +1,12 @@
 //! Sessions over each kind of range.
 
 use super::ranges::Kind;
-use super::{Outcome, Refusing, outcome_of};
+use super::{Call, Outcome, Refusing, outcome_of};
 use std::alloc::Global;
 use std::test::Fail;
 use test_support::reference_list;
 use test_support::texts::{four_fields, three_fields, two_fields};
-use upload_session::session::SessionOf;
+use upload_session::session::{Session, SessionOf};
 use upload_session::session_fault::SessionFault;
 use xet_hash::data_hash::MerkleHash;
 use xet_merkle::CoreError;
@@ -216,4 +216,23 @@ pub fn attempt<'a, R: Kind<Alloc = &'a Refusing>>(
         others
     };
     Ok(outcome.if_so(goes_on(memory, &mut session, remaining, &end)?))
+}
+
+// Returns whether a session of two runs, or the list of the three hashes that it knows, is copied.
+fn is_copied<'a>(call: Call, session: &Session<&'a Refusing>) -> Result<bool, CoreError> {
+    match call {
+        Call::KnownHashes => Ok(session.known_hashes()?.len() == 3),
+        _ => {
+            let copy = session.try_clone()?;
+            Ok(copy.num_known_hashes() == 3 && are_same(&copy, session))
+        }
+    }
+}
+
+/// Tries a call that copies a session, or the hashes that it knows.
+pub fn copy(call: Call, alloc: &Refusing, granted: u32, memory: Global) -> Result<Outcome, Fail> {
+    let session: Session<&Refusing> = begun(alloc, memory, "0:0,1:2 3:2:1")?;
+    alloc.grant(granted);
+    let answer = is_copied(call, &session);
+    Ok(outcome_of(alloc, answer, true))
 }
