@@ -16,7 +16,8 @@ pub record AnswersInput {F : Type 0} (is_answer : List ℕ → List ℕ → Type
       × Appends before after written)
 
 -- a call that was to write a text to a writer ended this way; the writer held the first bytes before and the second
--- after
+-- after. After a failed write it has got a beginning of the text.
 abbrev pub WritesOut : {F : Type 0} → List ℕ → F → Option (List ℕ) → Option (List ℕ) → Result (Unit {0}) F → Type 0
 WritesOut text write_failed before after (Ok done) = Appends before after text
-WritesOut text write_failed before after (Err fault) = fault ≡ write_failed
+WritesOut text write_failed before after (Err fault) =
+    (fault ≡ write_failed) × ((written rest : List ℕ) × (text ≡ written ++ rest) × Appends before after written)

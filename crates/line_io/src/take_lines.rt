@@ -1,6 +1,6 @@
 //! The traits of what takes the lines of an input, and of what answers them.
 
-ghost use Rattle.std.specs.Prelude.{ℕ, ◌+◌, ◌<◌, ◌≤◌, List, [], ◌∷◌, ◌++◌, length, IfErr, IfOk, OnOk};
+ghost use Rattle.std.specs.Prelude.{ℕ, ◌+◌, ◌<◌, ◌≤◌, List, [], ◌∷◌, ◌++◌, length, IfErr, IfOk, OnErr, OnOk};
 ghost use Rattle.std.specs.List.{concat};
 ghost use Rattle.line_io.specs.Faults.{IfFaulty};
 ghost use Rattle.line_io.specs.Lines.{NoNewline, byte_limit, content, lines_of};
@@ -9,7 +9,10 @@ use crate::fault::Refusal;
 use std::convert::AsSlice;
 
 /// Takes the lines of an input one after another, each as its bytes come. The implementation decides what a line may
-/// say.
+/// say. After a refusal it stands for what it stood for before that call.
+///
+/// An input has at most 2^40 bytes. Bytes past that limit aren't passed on: [`TakeLines::past_limit`] tells the fault of
+/// their line.
 pub trait TakeLines: Drop {
     /// Why a line is faulty.
     type Fault: Drop;
@@ -27,7 +30,9 @@ pub trait TakeLines: Drop {
             has_taken self.new before (line ++ bytes.now)) }
         ensures fault { IfErr result (λ refusal. (before : List (List ℕ)) (line rest : List ℕ) →
             length (concat before) + length (line ++ bytes.now) ≤ byte_limit → has_taken self.old before line →
-            IfFaulty refusal (is_fault before ((line ++ bytes.now) ++ rest))) };
+            IfFaulty refusal (is_fault before ((line ++ bytes.now) ++ rest))) }
+        ensures kept { OnErr result ((before : List (List ℕ)) (line : List ℕ) → has_taken self.old before line →
+            has_taken self.new before line) };
 
     /// Ends the open line.
     fn end_line(&mut self) -> Result<(), Refusal<Self::Fault>>
@@ -36,7 +41,9 @@ pub trait TakeLines: Drop {
             has_taken self.new (before ++ line ∷ []) []) }
         ensures fault { IfErr result (λ refusal. (before : List (List ℕ)) (line : List ℕ) →
             length (concat before) + length line ≤ byte_limit → has_taken self.old before (content line) →
-            IfFaulty refusal (is_fault before line)) };
+            IfFaulty refusal (is_fault before line)) }
+        ensures kept { OnErr result ((before : List (List ℕ)) (line : List ℕ) → has_taken self.old before line →
+            has_taken self.new before line) };
 
     /// Returns the fault of the open line if it contains the first byte past the limit of an input.
     fn past_limit(&self) -> Self::Fault

@@ -48,12 +48,14 @@ impl OpenLine {
         }
     }
 
-    /// Takes the next bytes of the line. Fails if the line then has more bytes than any line that isn't bad.
+    /// Takes the next bytes of the line. Fails if the line then has more bytes than any line that isn't bad. It then has
+    /// the bytes that it had.
     pub fn extend(&mut self, bytes: &[u8]) -> Result<(), Overlong>
         ensures open { OnOk result ((line : List ℕ) →
             IsOpenLine self.old line → IsOpenLine self.new (line ++ bytes.now)) }
         ensures overlong { OnErr result ((line : List ℕ) →
             IsOpenLine self.old line → IsOverlong (line ++ bytes.now)) }
+        ensures kept { OnErr result ((line : List ℕ) → IsOpenLine self.old line → IsOpenLine self.new line) }
     {
         if self.is_empty()
             && let Some(chunk) = bytes.strip_prefix(b"+")

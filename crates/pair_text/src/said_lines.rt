@@ -1,6 +1,6 @@
 //! Lines of pairs, passed on as what they say.
 
-ghost use Rattle.std.specs.Prelude.{ℕ, ◌+◌, ◌<◌, ◌≤◌, ◌⊎◌, List, [], ◌∷◌, ◌++◌, length, IfErr, OnOk};
+ghost use Rattle.std.specs.Prelude.{ℕ, ◌+◌, ◌<◌, ◌≤◌, ◌⊎◌, List, [], ◌∷◌, ◌++◌, length, IfErr, OnErr, OnOk};
 ghost use Rattle.std.specs.List.{concat};
 ghost use Rattle.line_io.specs.Faults.{IfFaulty};
 ghost use Rattle.line_io.specs.Lines.{byte_limit, content};
@@ -22,14 +22,15 @@ pub trait TakeSaid: Drop {
     // The fault of a line after good ones.
     ghost is_fault: { List (List ℕ) → List ℕ → Self.Fault → Type 0 };
 
-    /// Takes what the next line says.
+    /// Takes what the next line says. After a refusal it stands for the same lines as before.
     fn take(&mut self, said: Line) -> Result<(), Refusal<Self::Fault>>
         ensures taken { OnOk result ((before : List (List ℕ)) (line : List ℕ) →
             length (concat before) + length line ≤ byte_limit → Says (content line) said → stands_for self.old before →
             stands_for self.new (before ++ line ∷ [])) }
         ensures fault { IfErr result (λ refusal. (before : List (List ℕ)) (line : List ℕ) →
             length (concat before) + length line ≤ byte_limit → Says (content line) said → stands_for self.old before →
-            IfFaulty refusal (is_fault before line)) };
+            IfFaulty refusal (is_fault before line)) }
+        ensures kept { OnErr result ((before : List (List ℕ)) → stands_for self.old before → stands_for self.new before) };
 
     /// Returns the fault of a next line that says nothing, or that contains the first byte past the limit of an input.
     fn bad(&self) -> Self::Fault

@@ -13,7 +13,7 @@ use Rattle.std.proofs.lemmas.Map.Keys.{IsDistinct-push}
 use Rattle.std.proofs.lemmas.Map.Made.{is_some-lookup, length-from_same_keys}
 use Rattle.xet_hash.specs.FiniteMap.{value_at, IsFiniteMap, Sets}
 use Rattle.xet_merkle.specs.Groups.{Node}
-use Rattle.upload_session.specs.Hashes.{Hash, hash_eq, hashes_of, is_among, AreEachOnce, AreNew}
+use Rattle.upload_session.specs.Hashes.{Hash, hash_eq, hashes_of, is_among, AreNew}
 
 -- one more hash
 pub is_among-next : (hashes : List Hash) (i : ℕ) (next hash : Hash) → i < length hashes → get_or hashes i next ≡ next
@@ -211,19 +211,10 @@ new_where_known first hashes new known once lists has = record {
 pub among-keys : {V : Type 0} (entries : List (Hash × V)) (hash : Hash) → is_some (value_at hash_eq entries hash) ≡ is_among (keys_of entries) hash
 among-keys entries hash = is_some-lookup (hash_eq hash) entries
 
-pub each_once-keys : {V : Type 0} (entries : List (Hash × V)) (known : List Hash) → IsFiniteMap hash_eq entries
-    → ((hash : Hash) → is_some (value_at hash_eq entries hash) ≡ is_among known hash) → AreEachOnce known (keys_of entries)
-each_once-keys entries known map knows = record {
-  each_once = map;
-  among = λ hash. sym (among-keys entries hash) ∙ knows hash;
-}
-
--- two lists of the same hashes, each once, have one length
-pub length-each_once : (known first second : List Hash) → AreEachOnce known first → AreEachOnce known second → length first ≡ length second
-length-each_once known first second a b =
-    length-from_same_keys nat_list_eq_equiv first second a.each_once b.each_once (λ hash. a.among hash ∙ sym (b.among hash))
-
-pub length-keys : {V : Type 0} (entries : List (Hash × V)) (known distinct : List Hash) → IsFiniteMap hash_eq entries
-    → ((hash : Hash) → is_some (value_at hash_eq entries hash) ≡ is_among known hash) → AreEachOnce known distinct → length entries ≡ length distinct
-length-keys entries known distinct map knows once =
-    sym (length-keys_of entries) ∙ length-each_once known (keys_of entries) distinct (each_once-keys entries known map knows) once
+-- a list of them, each once, is as long
+pub length-keys : {V : Type 0} (entries : List (Hash × V)) (distinct : List Hash) → IsFiniteMap hash_eq entries
+    → ((hash : Hash) → is_some (value_at hash_eq entries hash) ≡ is_among distinct hash) → IsDistinct hash_eq distinct
+    → length entries ≡ length distinct
+length-keys entries distinct map knows once =
+    sym (length-keys_of entries)
+    ∙ length-from_same_keys nat_list_eq_equiv (keys_of entries) distinct map once (λ hash. sym (among-keys entries hash) ∙ knows hash)

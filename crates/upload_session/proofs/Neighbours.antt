@@ -1,15 +1,16 @@
 -- The runs around free positions, and the run that results from placing chunks there.
 use Rattle.std.proofs.Common.{arith, ◌≡◌, ◌+◌, ◌<◌, ◌≤◌, ℕ, Bool, true, false, List, [], ◌∷◌, ◌++◌, nat_eq, nat_lt, length, refl, sym, ap, subst, ◌∙◌, append_assoc}
-use Rattle.std.specs.Prelude.{All, Option, None, Some, IfSome}
+use Rattle.std.specs.Prelude.{All, Option, None, Some, IfSome, option_to_list}
 use Rattle.std.specs.List.{list_any}
 use Rattle.std.proofs.lemmas.List.{length-append}
 use Rattle.std.proofs.lemmas.List.Elements.{All-nil, All-cons, All-head, All-tail, All-append, All-weaker}
 use Rattle.xet_merkle.specs.Groups.{Node}
+use Rattle.xet_merkle.specs.Roots.{total_size}
 use Rattle.xet_merkle.specs.declared.chunk_range.ChunkRange as chunk_range
 use Rattle.upload_session.specs.declared.runs.Run.{Run}
-use Rattle.upload_session.specs.Session.{Placed, PlacedRun, placed_from, place, AreFrom, IsRunOf, StandFor}
+use Rattle.upload_session.specs.Session.{Placed, PlacedRun, placed_from, end_of, first_of, meet, meets, place, size_of_runs, AreApart, AreFrom, AreJoined, AreOf, IsRunOf, StandFor}
 use Rattle.upload_session.proofs.Placing.{placed_from-append, placed_from-from, placed_from-below, place-front, place-back, place-from}
-use Rattle.upload_session.proofs.Positions.{meets, neither, holds_of_last, runs-from}
+use Rattle.upload_session.proofs.Positions.{neither, holds_of_last}
 
 -- what is kept of a run, by the position after its last one and by its range
 abbrev pub run_to : {C : Type 0} → ℕ → C → Run C
@@ -19,6 +20,10 @@ run_to end range = record { end = end; range = range }
 abbrev pub with_run : {C : Type 0} → Option (PlacedRun C) → List (PlacedRun C) → List (PlacedRun C)
 with_run None runs = runs
 with_run (Some run) runs = run ∷ runs
+
+pub with_run-list : {C : Type 0} (run : Option (PlacedRun C)) (runs : List (PlacedRun C)) → with_run run runs ≡ option_to_list run ++ runs
+with_run-list None runs = refl
+with_run-list (Some run) runs = refl
 
 -- the runs around adjacent positions that are free: those that end before them, the one that ends just before them, the one
 -- that begins just after them, and those that begin farther on
@@ -34,34 +39,20 @@ pub record Around {C : Type 0} (first after : ℕ) (runs : List (PlacedRun C)) :
   pub next_begins : IfSome next (λ run. run.0 ≡ after)
   pub backs : All (λ (run : PlacedRun C). after < run.0) back
 
-module _ {C A : Type 0} (kind : chunk_range.Ghosts C A) where
-  abbrev Stand : List (PlacedRun C) → List Placed → Type 0
-  Stand = StandFor kind
-
+module _ {C : Type 0} where
   -- where runs begin at a bound or after it
   abbrev BeginFrom : ℕ → List (PlacedRun C) → Type 0
   BeginFrom bound runs = All (λ (run : PlacedRun C). bound ≤ run.0) runs
 
-  placed-from : (bound : ℕ) (runs : List (PlacedRun C)) (placed : List Placed) → Stand runs placed → BeginFrom bound runs → AreFrom bound placed
-  placed-from bound [] placed none all = subst (λ (l : List Placed). AreFrom bound l) (sym none) (All-nil (λ (p : Placed). bound ≤ p.0))
-  placed-from bound (run ∷ runs) placed (chunks, others, is, of_run, apart, rest) all =
-      subst (λ (l : List Placed). AreFrom bound l) (sym is)
-      (All-append (λ (p : Placed). bound ≤ p.0) (placed_from run.0 chunks) others
-      (placed_from-from bound run.0 chunks (All-head (λ (run : PlacedRun C). bound ≤ run.0) run runs all))
-      (placed-from bound runs others rest (All-tail (λ (run : PlacedRun C). bound ≤ run.0) run runs all)))
-
   module _ (first count : ℕ) where
     -- runs that begin after the first of the positions begin after all of them
-    clear : (runs : List (PlacedRun C)) (placed : List Placed) → Stand runs placed → list_any (meets first count) runs ≡ false
-        → BeginFrom first runs → BeginFrom (first + count) runs
-    clear [] placed stand free from = All-nil (λ (run : PlacedRun C). first + count ≤ run.0)
-    clear (run ∷ runs) placed (chunks, others, is, of_run, apart, rest) free from =
+    clear : (runs : List (PlacedRun C)) → AreApart runs → meet runs first count ≡ false → BeginFrom first runs → BeginFrom (first + count) runs
+    clear [] apart free from = All-nil (λ (run : PlacedRun C). first + count ≤ run.0)
+    clear (run ∷ runs) (longer, far, apart) free from =
         let begins = All-head (λ (run : PlacedRun C). first ≤ run.0) run runs from in
-        let some = of_run.0 in
-        let ends = of_run.1 in
         let (one, others_free) = neither (meets first count run) (list_any (meets first count) runs) free in
-        All-cons (λ (run : PlacedRun C). first + count ≤ run.0) run runs (grind (arith, one, begins, some, ends))
-        (clear runs others rest others_free (All-tail (λ (run : PlacedRun C). first ≤ run.0) run runs from))
+        All-cons (λ (run : PlacedRun C). first + count ≤ run.0) run runs (grind (arith, one, begins, longer))
+        (clear runs apart others_free (All-tail (λ (run : PlacedRun C). first ≤ run.0) run runs from))
 
     -- the run that begins just after them, and the others
     record Following (runs : List (PlacedRun C)) : Type 0 where
@@ -71,27 +62,21 @@ module _ {C A : Type 0} (kind : chunk_range.Ghosts C A) where
       next_begins : IfSome next (λ run. run.0 ≡ first + count)
       backs : All (λ (run : PlacedRun C). first + count < run.0) back
 
-    following : (runs : List (PlacedRun C)) (placed : List Placed) → Stand runs placed → BeginFrom (first + count) runs → Following runs
-    following [] placed stand from = record {
+    following : (runs : List (PlacedRun C)) → AreApart runs → BeginFrom (first + count) runs → Following runs
+    following [] apart from = record {
       next = None;
       back = [];
       is = refl;
       next_begins = tt;
       backs = All-nil (λ (run : PlacedRun C). first + count < run.0);
     }
-    following (run ∷ runs) placed (chunks, others, is, of_run, apart, rest) from = choose (nat_eq run.0 (first + count)) refl
+    following (run ∷ runs) (longer, far, apart) from = choose (nat_eq run.0 (first + count)) refl
       where
-        far : All (λ (next : PlacedRun C). run.1.end + 1 ≤ next.0) runs
-        far = runs-from kind (run.1.end + 1) runs others rest apart
-
         begins : first + count ≤ run.0
         begins = All-head (λ (run : PlacedRun C). first + count ≤ run.0) run runs from
 
-        longer : run.0 < run.1.end
-        longer = omega (arith, of_run.0, of_run.1)
-
         others_after : All (λ (next : PlacedRun C). first + count < next.0) runs
-        others_after = All-weaker (λ (next : PlacedRun C). run.1.end + 1 ≤ next.0) (λ (next : PlacedRun C). first + count < next.0)
+        others_after = All-weaker (λ (next : PlacedRun C). run.1.end < next.0) (λ (next : PlacedRun C). first + count < next.0)
             (λ next h. omega (arith, h, begins, longer)) runs far
 
         choose : (b : Bool) → nat_eq run.0 (first + count) ≡ b → Following (run ∷ runs)
@@ -112,17 +97,16 @@ module _ {C A : Type 0} (kind : chunk_range.Ghosts C A) where
 
     -- one more run in front begins before the previous one, too
     before : (run : PlacedRun C) (front : List (PlacedRun C)) (previous : Option (PlacedRun C)) (others : List (PlacedRun C)) → run.0 < run.1.end
-        → All (λ (next : PlacedRun C). run.1.end + 1 ≤ next.0) (front ++ with_run previous others)
+        → All (λ (next : PlacedRun C). run.1.end < next.0) (front ++ with_run previous others)
         → IfSome previous (λ next. All (λ (other : PlacedRun C). other.0 < next.0) front)
         → IfSome previous (λ next. All (λ (other : PlacedRun C). other.0 < next.0) (run ∷ front))
     before run front None others longer far apart = tt
     before run front (Some next) others longer far apart =
-        let farther = holds_of_last (λ (next : PlacedRun C). run.1.end + 1 ≤ next.0) front next others far in
+        let farther = holds_of_last (λ (next : PlacedRun C). run.1.end < next.0) front next others far in
         All-cons (λ (other : PlacedRun C). other.0 < next.0) run front (omega (arith, longer, farther)) apart
 
-    pub around : (runs : List (PlacedRun C)) (placed : List Placed) → Stand runs placed → list_any (meets first count) runs ≡ false
-        → Around first (first + count) runs
-    around [] placed stand free = record {
+    pub around : (runs : List (PlacedRun C)) → AreApart runs → meet runs first count ≡ false → Around first (first + count) runs
+    around [] apart free = record {
       front = [];
       previous = None;
       next = None;
@@ -134,16 +118,10 @@ module _ {C A : Type 0} (kind : chunk_range.Ghosts C A) where
       next_begins = tt;
       backs = All-nil (λ (run : PlacedRun C). first + count < run.0);
     }
-    around (run ∷ runs) placed (chunks, others, is, of_run, apart, rest) free =
-        choose (around runs others rest (neither (meets first count run) (list_any (meets first count) runs) free).1)
+    around (run ∷ runs) (longer, far, apart) free =
+        choose (around runs apart (neither (meets first count run) (list_any (meets first count) runs) free).1)
         (nat_lt run.1.end first) (nat_lt first run.1.end) refl refl
       where
-        far : All (λ (next : PlacedRun C). run.1.end + 1 ≤ next.0) runs
-        far = runs-from kind (run.1.end + 1) runs others rest apart
-
-        longer : run.0 < run.1.end
-        longer = omega (arith, of_run.0, of_run.1)
-
         choose : Around first (first + count) runs → (before after : Bool) → nat_lt run.1.end first ≡ before → nat_lt first run.1.end ≡ after
             → Around first (first + count) (run ∷ runs)
         choose more true after ends _ =
@@ -156,15 +134,15 @@ module _ {C A : Type 0} (kind : chunk_range.Ghosts C A) where
               fronts = All-cons (λ (run : PlacedRun C). (run.0 < run.1.end) × (run.1.end < first)) run more.front
                   (longer, grind (arith, ends)) more.fronts;
               apart = before run more.front more.previous (with_run more.next more.back) longer
-                  (subst (λ (l : List (PlacedRun C)). All (λ (next : PlacedRun C). run.1.end + 1 ≤ next.0) l) more.is far) more.apart;
+                  (subst (λ (l : List (PlacedRun C)). All (λ (next : PlacedRun C). run.1.end < next.0) l) more.is far) more.apart;
               previous_ends = more.previous_ends;
               next_begins = more.next_begins;
               backs = more.backs;
             }
         choose _ false false low high =
             let there : run.1.end ≡ first = grind (arith, low, high) in
-            let from = All-weaker (λ (next : PlacedRun C). run.1.end + 1 ≤ next.0) (λ (next : PlacedRun C). first ≤ next.0) (λ next h. omega (arith, h, there)) runs far in
-            let more = following runs others rest (clear runs others rest (neither (meets first count run) (list_any (meets first count) runs) free).1 from) in
+            let from = All-weaker (λ (next : PlacedRun C). run.1.end < next.0) (λ (next : PlacedRun C). first ≤ next.0) (λ next h. omega (arith, h, there)) runs far in
+            let more = following runs apart (clear runs apart (neither (meets first count run) (list_any (meets first count) runs) free).1 from) in
             record {
               front = [];
               previous = Some run;
@@ -181,8 +159,8 @@ module _ {C A : Type 0} (kind : chunk_range.Ghosts C A) where
             let one = (neither (meets first count run) (list_any (meets first count) runs) free).0 in
             let begins : first + count ≤ run.0 = grind (arith, one, high) in
             let from = All-cons (λ (run : PlacedRun C). first + count ≤ run.0) run runs begins
-            (All-weaker (λ (next : PlacedRun C). run.1.end + 1 ≤ next.0) (λ (next : PlacedRun C). first + count ≤ next.0) (λ next h. omega (arith, h, begins, longer)) runs far) in
-            let more = following (run ∷ runs) placed (chunks, others, is, of_run, apart, rest) from in
+            (All-weaker (λ (next : PlacedRun C). run.1.end < next.0) (λ (next : PlacedRun C). first + count ≤ next.0) (λ next h. omega (arith, h, begins, longer)) runs far) in
+            let more = following (run ∷ runs) (longer, far, apart) from in
             record {
               front = [];
               previous = None;
@@ -195,6 +173,76 @@ module _ {C A : Type 0} (kind : chunk_range.Ghosts C A) where
               next_begins = more.next_begins;
               backs = more.backs;
             }
+
+-- ---- the run that results
+
+module _ {C : Type 0} (first after : ℕ) (ahead : first < after) (range : C) where
+  -- the run between others
+  abbrev pub between : Option (PlacedRun C) → Option (PlacedRun C) → PlacedRun C
+  between previous next = (first_of previous first, run_to (end_of next after) range)
+
+  joined-apart : (previous next : Option (PlacedRun C)) (back : List (PlacedRun C))
+      → IfSome previous (λ run. (run.0 < first) × (run.1.end ≡ first)) → IfSome next (λ run. run.0 ≡ after)
+      → All (λ (run : PlacedRun C). after < run.0) back → AreApart (with_run previous (with_run next back)) → AreApart (between previous next ∷ back)
+  joined-apart None None back begun there backs apart = (ahead, backs, apart)
+  joined-apart None (Some next) back begun there backs (longer, far, apart) = (omega (arith, ahead, there, longer), far, apart)
+  joined-apart (Some last) None back begun there backs (longer, far, apart) = (omega (arith, begun.0, ahead), backs, apart)
+  joined-apart (Some last) (Some next) back begun there backs (longer, far, (longer_next, far_next, apart)) =
+      (omega (arith, begun.0, ahead, there, longer_next), far_next, apart)
+
+  -- what ends before all that was there ends before what is there then
+  before-joined : (end : ℕ) (previous next : Option (PlacedRun C)) (back : List (PlacedRun C)) → end < first
+      → All (λ (run : PlacedRun C). end < run.0) (with_run previous (with_run next back)) → All (λ (run : PlacedRun C). end < run.0) (between previous next ∷ back)
+  before-joined end None None back low far = All-cons (λ (run : PlacedRun C). end < run.0) (between None None) back low far
+  before-joined end None (Some next) back low far =
+      All-cons (λ (run : PlacedRun C). end < run.0) (between None (Some next)) back low (All-tail (λ (run : PlacedRun C). end < run.0) next back far)
+  before-joined end (Some last) None back low far =
+      All-cons (λ (run : PlacedRun C). end < run.0) (between (Some last) None) back (All-head (λ (run : PlacedRun C). end < run.0) last back far)
+      (All-tail (λ (run : PlacedRun C). end < run.0) last back far)
+  before-joined end (Some last) (Some next) back low far =
+      All-cons (λ (run : PlacedRun C). end < run.0) (between (Some last) (Some next)) back (All-head (λ (run : PlacedRun C). end < run.0) last (next ∷ back) far)
+      (All-tail (λ (run : PlacedRun C). end < run.0) next back (All-tail (λ (run : PlacedRun C). end < run.0) last (next ∷ back) far))
+
+  before-all : (end : ℕ) (front : List (PlacedRun C)) (previous next : Option (PlacedRun C)) (back : List (PlacedRun C)) → end < first
+      → All (λ (run : PlacedRun C). end < run.0) (front ++ with_run previous (with_run next back))
+      → All (λ (run : PlacedRun C). end < run.0) (front ++ between previous next ∷ back)
+  before-all end [] previous next back low far = before-joined end previous next back low far
+  before-all end (run ∷ front) previous next back low far =
+      All-cons (λ (run : PlacedRun C). end < run.0) run (front ++ between previous next ∷ back)
+      (All-head (λ (run : PlacedRun C). end < run.0) run (front ++ with_run previous (with_run next back)) far)
+      (before-all end front previous next back low (All-tail (λ (run : PlacedRun C). end < run.0) run (front ++ with_run previous (with_run next back)) far))
+
+  all-apart : (front : List (PlacedRun C)) (previous next : Option (PlacedRun C)) (back : List (PlacedRun C))
+      → All (λ (run : PlacedRun C). (run.0 < run.1.end) × (run.1.end < first)) front
+      → IfSome previous (λ run. (run.0 < first) × (run.1.end ≡ first)) → IfSome next (λ run. run.0 ≡ after)
+      → All (λ (run : PlacedRun C). after < run.0) back → AreApart (front ++ with_run previous (with_run next back))
+      → AreApart (front ++ between previous next ∷ back)
+  all-apart [] previous next back fronts begun there backs apart = joined-apart previous next back begun there backs apart
+  all-apart (run ∷ front) previous next back fronts begun there backs (longer, far, apart) =
+      let ended = All-head (λ (run : PlacedRun C). (run.0 < run.1.end) × (run.1.end < first)) run front fronts in (
+        longer,
+        before-all run.1.end front previous next back ended.1 far,
+        all-apart front previous next back (All-tail (λ (run : PlacedRun C). (run.0 < run.1.end) × (run.1.end < first)) run front fronts) begun there backs apart,
+      )
+
+  pub around-apart : (runs : List (PlacedRun C)) (at : Around first after runs) → AreApart runs
+      → AreApart (at.front ++ between at.previous at.next ∷ at.back)
+  around-apart runs at apart =
+      all-apart at.front at.previous at.next at.back at.fronts at.previous_ends at.next_begins at.backs (subst AreApart at.is apart)
+
+-- ---- the chunks that the runs stand for
+
+module _ {C A : Type 0} (kind : chunk_range.Ghosts C A) where
+  abbrev Stand : List (PlacedRun C) → List Placed → Type 0
+  Stand = StandFor kind
+
+  placed-from : (bound : ℕ) (runs : List (PlacedRun C)) (placed : List Placed) → Stand runs placed → BeginFrom bound runs → AreFrom bound placed
+  placed-from bound [] placed none all = subst (λ (l : List Placed). AreFrom bound l) (sym none) (All-nil (λ (p : Placed). bound ≤ p.0))
+  placed-from bound (run ∷ runs) placed (chunks, others, is, of_run, apart, rest) all =
+      subst (λ (l : List Placed). AreFrom bound l) (sym is)
+      (All-append (λ (p : Placed). bound ≤ p.0) (placed_from run.0 chunks) others
+      (placed_from-from bound run.0 chunks (All-head (λ (run : PlacedRun C). bound ≤ run.0) run runs all))
+      (placed-from bound runs others rest (All-tail (λ (run : PlacedRun C). bound ≤ run.0) run runs all)))
 
   module _ (first : ℕ) (chunks : List Node) where
     -- the runs in front stay
@@ -240,52 +288,39 @@ module _ {C A : Type 0} (kind : chunk_range.Ghosts C A) where
           stand,
         )
 
-    -- what the run on one side keeps, where there is one
-    abbrev pub Keeps : Option (PlacedRun C) → List Node → Type 0
-    Keeps None kept = kept ≡ []
-    Keeps (Some run) kept = kind.stands run.1.range kept
-
-    -- the position at which the run begins, and that after its last
-    abbrev pub begin_of : Option (PlacedRun C) → ℕ
-    begin_of None = first
-    begin_of (Some run) = run.0
-
-    abbrev pub end_of : Option (PlacedRun C) → ℕ
-    end_of None = first + length chunks
-    end_of (Some run) = run.1.end
-
-    -- the range of the run stands for the chunks between those that were there
+    -- the range of the run stands for the chunks between those that were there, and has the sizes of all
     abbrev pub IsBetween : Option (PlacedRun C) → Option (PlacedRun C) → C → Type 0
     IsBetween previous next range =
-        ((front back : List Node) → Keeps previous front → Keeps next back → kind.stands range (front ++ (chunks ++ back)))
+        ((front back : List Node) → AreOf kind previous front → AreOf kind next back → kind.stands range (front ++ (chunks ++ back)))
         × (kind.start range ≡ false) × (kind.end range ≡ false)
+        × (kind.total range ≡ size_of_runs kind (option_to_list previous) + total_size chunks + size_of_runs kind (option_to_list next))
 
     module _ (some : 0 < length chunks) where
       placed-between : (previous next : Option (PlacedRun C)) (runs : List (PlacedRun C)) (range : C) (others : List Placed)
           → IfSome previous (λ run. (run.0 < first) × (run.1.end ≡ first)) → IfSome next (λ run. run.0 ≡ first + length chunks)
           → All (λ (run : PlacedRun C). first + length chunks < run.0) runs → IsBetween previous next range
           → Stand (with_run previous (with_run next runs)) others
-          → Stand ((begin_of previous, run_to (end_of next) range) ∷ runs) (place others first chunks)
-      placed-between None None runs range others previous_ends next_begins backs (meant, open_start, open_end) stand =
+          → Stand ((first_of previous first, run_to (end_of next (first + length chunks)) range) ∷ runs) (place others first chunks)
+      placed-between None None runs range others previous_ends next_begins backs (meant, open_start, open_end, _) stand =
           let run : PlacedRun C = (first, run_to (first + length chunks) range) in
           placed-run [] [] others run runs (omega arith)
           (omega (arith, some, length-append chunks []), omega (arith, length-append chunks []), meant [] [] refl refl, open_start, open_end)
           (placed-from (first + length chunks + 1) runs others stand (All-weaker (λ (run : PlacedRun C). first + length chunks < run.0) (λ (run : PlacedRun C). first + length chunks + 1 ≤ run.0) (λ run h. omega (arith, h)) runs backs))
           stand
-      placed-between None (Some next) runs range others previous_ends there backs (meant, open_start, open_end) (back, rest, is, of_next, apart, stand) =
+      placed-between None (Some next) runs range others previous_ends there backs (meant, open_start, open_end, _) (back, rest, is, of_next, apart, stand) =
           let run : PlacedRun C = (first, run_to next.1.end range) in
           subst (λ l. Stand (run ∷ runs) (place l first chunks)) (sym (is ∙ ap (λ n. placed_from n back ++ rest) there))
           (placed-run [] back rest run runs (omega arith)
           (omega (arith, some, length-append chunks back), omega (arith, length-append chunks back, of_next.1, there), meant [] back refl of_next.2, open_start, open_end)
           apart stand)
-      placed-between (Some last) None runs range others (begun, ended) next_begins backs (meant, open_start, open_end) (front, rest, is, of_last, apart, stand) =
+      placed-between (Some last) None runs range others (begun, ended) next_begins backs (meant, open_start, open_end, _) (front, rest, is, of_last, apart, stand) =
           let run : PlacedRun C = (last.0, run_to (first + length chunks) range) in
           subst (λ l. Stand (run ∷ runs) (place l first chunks)) (sym is)
           (placed-run front [] rest run runs (omega (arith, of_last.1, ended))
           (omega (arith, some, length-append front (chunks ++ []), length-append chunks []), omega (arith, length-append front (chunks ++ []), length-append chunks [], of_last.1, ended), meant front [] of_last.2 refl, open_start, open_end)
           (placed-from (first + length chunks + 1) runs rest stand (All-weaker (λ (run : PlacedRun C). first + length chunks < run.0) (λ (run : PlacedRun C). first + length chunks + 1 ≤ run.0) (λ run h. omega (arith, h)) runs backs))
           stand)
-      placed-between (Some last) (Some next) runs range others (begun, ended) there backs (meant, open_start, open_end) (front, more, is, of_last, _, (back, rest, is_next, of_next, apart, stand)) =
+      placed-between (Some last) (Some next) runs range others (begun, ended) there backs (meant, open_start, open_end, _) (front, more, is, of_last, _, (back, rest, is_next, of_next, apart, stand)) =
           let run : PlacedRun C = (last.0, run_to next.1.end range) in
           subst (λ l. Stand (run ∷ runs) (place l first chunks)) (sym (is ∙ ap (λ l. placed_from last.0 front ++ l) (is_next ∙ ap (λ n. placed_from n back ++ rest) there)))
           (placed-run front back rest run runs (omega (arith, of_last.1, ended))
@@ -294,8 +329,37 @@ module _ {C A : Type 0} (kind : chunk_range.Ghosts C A) where
 
       pub placed-around : (runs : List (PlacedRun C)) (at : Around first (first + length chunks) runs) (range : C) → IsBetween at.previous at.next range
           → (placed : List Placed) → Stand runs placed
-          → Stand (at.front ++ (begin_of at.previous, run_to (end_of at.next) range) ∷ at.back) (place placed first chunks)
+          → Stand (at.front ++ (first_of at.previous first, run_to (end_of at.next (first + length chunks)) range) ∷ at.back) (place placed first chunks)
       placed-around runs at range between placed stand =
-          placed-front at.front (with_run at.previous (with_run at.next at.back)) ((begin_of at.previous, run_to (end_of at.next) range) ∷ at.back) at.fronts
+          placed-front at.front (with_run at.previous (with_run at.next at.back)) ((first_of at.previous first, run_to (end_of at.next (first + length chunks)) range) ∷ at.back) at.fronts
           (λ others. placed-between at.previous at.next at.back range others at.previous_ends at.next_begins at.backs between)
           placed (subst (λ l. Stand l placed) at.is stand)
+
+      pub joined-around : (runs : List (PlacedRun C)) (at : Around first (first + length chunks) runs) (range : C) → IsBetween at.previous at.next range
+          → AreJoined kind runs first chunks (at.front ++ (first_of at.previous first, run_to (end_of at.next (first + length chunks)) range) ∷ at.back)
+      joined-around runs at range (meant, open_start, open_end, size) = record {
+        front = at.front;
+        previous = at.previous;
+        next = at.next;
+        back = at.back;
+        run = (first_of at.previous first, run_to (end_of at.next (first + length chunks)) range);
+        were = at.is
+            ∙ ap (λ l. at.front ++ l) (with_run-list at.previous (with_run at.next at.back) ∙ ap (λ l. option_to_list at.previous ++ l) (with_run-list at.next at.back))
+            ∙ sym (append_assoc at.front (option_to_list at.previous) (option_to_list at.next ++ at.back))
+            ∙ sym (append_assoc (at.front ++ option_to_list at.previous) (option_to_list at.next) at.back);
+        are = refl;
+        front_ends = All-weaker (λ (run : PlacedRun C). (run.0 < run.1.end) × (run.1.end < first)) (λ (run : PlacedRun C). run.1.end < first) (λ run h. h.1) at.front at.fronts;
+        previous_ends = ended at.previous at.previous_ends;
+        next_begins = at.next_begins;
+        back_begins = at.backs;
+        begins = refl;
+        ends = refl;
+        stands = λ a b front back. subst (kind.stands range) (sym (append_assoc a chunks b)) (meant a b front back);
+        no_start = open_start;
+        no_end = open_end;
+        size = size;
+      }
+        where
+          ended : (previous : Option (PlacedRun C)) → IfSome previous (λ run. (run.0 < first) × (run.1.end ≡ first)) → IfSome previous (λ run. run.1.end ≡ first)
+          ended None h = tt
+          ended (Some run) h = h.1

@@ -1,5 +1,5 @@
 -- The marks and the sizes of runs when their map changes.
-use Rattle.std.proofs.Common.{arith, nat_cmp, is_eq, ◌≡◌, ◌≢◌, ◌+◌, ◌≤◌, ℕ, Bool, true, false, List, [], ◌∷◌, refl, sym, ap, subst, ◌∙◌}
+use Rattle.std.proofs.Common.{arith, nat_cmp, is_eq, ◌≡◌, ◌≢◌, ◌+◌, ◌≤◌, ℕ, Bool, true, false, List, [], ◌∷◌, ◌++◌, refl, sym, ap, subst, ◌∙◌}
 use Rattle.std.specs.Prelude.{Option, None, Some, IfSome, cond, is_some, option_map, slice_get, unwrap_or}
 use Rattle.std.specs.declared.cmp.Ordering.{Ordering}
 use Rattle.std.specs.declared.cmp.Ordering.TheVariants.{Less, Equal, Greater}
@@ -9,7 +9,7 @@ use Rattle.std.specs.Map.{keys_of, lookup, remove_entry, set_value, values_of}
 use Rattle.std.specs.Ordering.{match_ordering}
 use Rattle.std.proofs.lemmas.Bool.{true≢false}
 use Rattle.std.proofs.lemmas.Cmp.{nat_cmp_total}
-use Rattle.std.proofs.lemmas.List.Elements.{All-head}
+use Rattle.std.proofs.lemmas.List.Elements.{All-nil, All-cons, All-head, All-tail}
 use Rattle.std.proofs.lemmas.Map.Entries.{sum_by-insert_entry, sum_by-remove_entry, sum_by-set_value}
 use Rattle.std.proofs.lemmas.Map.Views.{All-map-remove_entry, All-values-insert_entry, All-values-set_value, IfSome-lookup_from_All}
 use Rattle.std.proofs.lemmas.Option.{same_Some}
@@ -110,6 +110,13 @@ module _ {C A : Type 0} (kind : chunk_range.Ghosts C A) where
   two-within k m apart runs =
       let others = remove_entry (test m) runs in
       omega (arith, sum_by-remove_entry size (test m) runs, one-within k others, size-same k others runs (lookup-removed k m apart runs))
+
+  -- so are runs and one more
+  pub open-push : (runs : List (PlacedRun C)) (run : PlacedRun C) → AreOpen kind runs → IsOpen kind run.1.range → AreOpen kind (runs ++ run ∷ [])
+  open-push [] run opened of_run = All-cons IsOpenRun run.1 [] of_run (All-nil IsOpenRun)
+  open-push (first ∷ runs) run opened of_run =
+      All-cons IsOpenRun first.1 (values_of (runs ++ run ∷ [])) (All-head IsOpenRun first.1 (values_of runs) opened)
+      (open-push runs run (All-tail IsOpenRun first.1 (values_of runs) opened) of_run)
 
   -- each run is open
   pub open_at : (k : ℕ) (runs : List (PlacedRun C)) (run : Run C) → AreOpen kind runs → lookup (test k) runs ≡ Some run → IsOpen kind run.range

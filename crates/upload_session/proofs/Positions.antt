@@ -1,15 +1,15 @@
 -- The positions that runs have.
-use Rattle.std.proofs.Common.{arith, nat_cmp, is_le, get_or, ◌≡◌, ◌+◌, ◌-◌, ◌<◌, ◌≤◌, ℕ, Bool, true, false, List, [], ◌∷◌, ◌++◌, ◌&&◌, ◌||◌, nat_eq, nat_lt, length, refl, sym, ap, subst, ◌∙◌}
-use Rattle.std.specs.Prelude.{All, None, Some, cond, find}
+use Rattle.std.proofs.Common.{arith, nat_cmp, is_le, get_or, ◌≡◌, ◌+◌, ◌-◌, ◌<◌, ◌≤◌, ℕ, Bool, true, false, List, [], ◌∷◌, ◌++◌, ◌&&◌, ◌||◌, nat_eq, nat_lt, length, refl, suc, sym, ap, subst, ◌∙◌}
+use Rattle.std.specs.Prelude.{All, None, Some, IfSome, cond, find, slice_get}
 use Rattle.std.specs.declared.ops.Bound.TheVariants.{Included, Unbounded}
 use Rattle.std.specs.BTreeMap.Range.{entries_between}
 use Rattle.std.specs.List.{list_any}
 use Rattle.std.proofs.lemmas.Bool.{true≢false}
-use Rattle.std.proofs.lemmas.List.Elements.{All-nil, All-cons, All-head, All-tail, All-weaker}
+use Rattle.std.proofs.lemmas.List.Elements.{All-nil, All-cons, All-append, All-head, All-tail, All-weaker}
 use Rattle.std.proofs.lemmas.List.Folds.{list_any-append, list_any_none}
 use Rattle.xet_merkle.specs.Groups.{Node}
 use Rattle.xet_merkle.specs.declared.chunk_range.ChunkRange as chunk_range
-use Rattle.upload_session.specs.Session.{Placed, PlacedRun, placed_from, ends_after, is_taken, overlaps, AreFrom, StandFor}
+use Rattle.upload_session.specs.Session.{Placed, PlacedRun, placed_from, ends_after, is_taken, meet, meets, overlaps, AreApart, EndBefore, StandFor}
 use Rattle.upload_session.proofs.Placing.{Rises, rises-after}
 
 -- what holds of all holds of each
@@ -35,10 +35,6 @@ one_more : (start first count many more : ℕ) → 0 < count → 0 < many → mo
     ≡ (nat_lt first (start + more) && nat_lt start (first + count))
 one_more start first count many more some others is = grind (arith, some, others, is)
 
--- whether a run has one of some adjacent positions
-abbrev pub meets : {C : Type 0} → ℕ → ℕ → PlacedRun C → Bool
-meets first count run = nat_lt first run.1.end && nat_lt run.0 (first + count)
-
 module _ (first count : ℕ) (some : 0 < count) where
   pub overlaps-run : (start : ℕ) (chunks : List Node) → 0 < length chunks
       → overlaps (placed_from start chunks) first count ≡ (nat_lt first (start + length chunks) && nat_lt start (first + count))
@@ -50,7 +46,7 @@ module _ (first count : ℕ) (some : 0 < count) where
 
   module _ {C A : Type 0} (kind : chunk_range.Ghosts C A) where
     pub overlaps-runs : (runs : List (PlacedRun C)) (placed : List Placed) → StandFor kind runs placed
-        → overlaps placed first count ≡ list_any (meets first count) runs
+        → overlaps placed first count ≡ meet runs first count
     overlaps-runs [] placed none = ap (λ (l : List Placed). overlaps l first count) none
     overlaps-runs (run ∷ runs) placed (chunks, others, is, of_run, apart, rest) =
         ap (λ (l : List Placed). overlaps l first count) is
@@ -59,49 +55,31 @@ module _ (first count : ℕ) (some : 0 < count) where
         (overlaps-run run.0 chunks of_run.0 ∙ ap (λ n. nat_lt first n && nat_lt run.0 (first + count)) (sym of_run.1))
         ∙ ap (λ b. meets first count run || b) (overlaps-runs runs others rest)
 
-module _ {C A : Type 0} (kind : chunk_range.Ghosts C A) where
-  -- runs begin where their positions do
-  first-from : (bound first : ℕ) (chunks : List Node) (others : List Placed) → 0 < length chunks
-      → AreFrom bound (placed_from first chunks ++ others) → bound ≤ first
-  first-from bound first [] others some from = absurd (omega (arith, some))
-  first-from bound first (chunk ∷ chunks) others some from =
-      All-head (λ (p : Placed). bound ≤ p.0) (first, chunk) (placed_from (first + 1) chunks ++ others) from
+pub meet_overlaps : {C A : Type 0} (kind : chunk_range.Ghosts C A) (runs : List (PlacedRun C)) (placed : List Placed) (first count : ℕ) → StandFor kind runs placed
+    → 0 < count → meet runs first count ≡ overlaps placed first count
+meet_overlaps kind runs placed first count stand some = sym (overlaps-runs first count some kind runs placed stand)
 
-  others-from : (bound first : ℕ) (chunks : List Node) (others : List Placed)
-      → AreFrom bound (placed_from first chunks ++ others) → AreFrom bound others
-  others-from bound first [] others from = from
-  others-from bound first (chunk ∷ chunks) others from =
-      others-from bound (first + 1) chunks others (All-tail (λ (p : Placed). bound ≤ p.0) (first, chunk) (placed_from (first + 1) chunks ++ others) from)
+pub taken-runs : {C A : Type 0} (kind : chunk_range.Ghosts C A) (runs : List (PlacedRun C)) (placed : List Placed) (position : ℕ) → StandFor kind runs placed
+    → is_taken placed position ≡ meet runs position 1
+taken-runs kind runs placed position stand = taken-overlaps placed position ∙ overlaps-runs position 1 (omega arith) kind runs placed stand
 
-  pub runs-from : (bound : ℕ) (runs : List (PlacedRun C)) (placed : List Placed) → StandFor kind runs placed → AreFrom bound placed
-      → All (λ (run : PlacedRun C). bound ≤ run.0) runs
-  runs-from bound [] placed none from = All-nil (λ (run : PlacedRun C). bound ≤ run.0)
-  runs-from bound (run ∷ runs) placed (chunks, others, is, of_run, apart, rest) from =
-      let pieces = subst (λ (l : List Placed). AreFrom bound l) is from in
-      All-cons (λ (run : PlacedRun C). bound ≤ run.0) run runs (first-from bound run.0 chunks others of_run.0 pieces)
-      (runs-from bound runs others rest (others-from bound run.0 chunks others pieces))
-
+module _ {C : Type 0} where
   -- the runs in front of one end before it
-  pub fronts_end : (front : List (PlacedRun C)) (last : PlacedRun C) (back : List (PlacedRun C)) (placed : List Placed)
-      → StandFor kind (front ++ last ∷ back) placed → All (λ (run : PlacedRun C). run.1.end < last.0) front
-  fronts_end [] last back placed stand = All-nil (λ (run : PlacedRun C). run.1.end < last.0)
-  fronts_end (run ∷ front) last back placed (chunks, others, is, of_run, apart, rest) =
-      let far = holds_of_last (λ (next : PlacedRun C). run.1.end + 1 ≤ next.0) front last back (runs-from (run.1.end + 1) (front ++ last ∷ back) others rest apart) in
-      All-cons (λ (run : PlacedRun C). run.1.end < last.0) run front (omega (arith, far)) (fronts_end front last back others rest)
-
-  pub taken-runs : (runs : List (PlacedRun C)) (placed : List Placed) (position : ℕ) → StandFor kind runs placed
-      → is_taken placed position ≡ list_any (meets position 1) runs
-  taken-runs runs placed position stand = taken-overlaps placed position ∙ overlaps-runs position 1 (omega arith) kind runs placed stand
+  pub fronts_end : (front : List (PlacedRun C)) (last : PlacedRun C) (back : List (PlacedRun C)) → AreApart (front ++ last ∷ back)
+      → All (λ (run : PlacedRun C). run.1.end < last.0) front
+  fronts_end [] last back apart = All-nil (λ (run : PlacedRun C). run.1.end < last.0)
+  fronts_end (run ∷ front) last back (longer, far, apart) =
+      All-cons (λ (run : PlacedRun C). run.1.end < last.0) run front
+      (holds_of_last (λ (next : PlacedRun C). run.1.end < next.0) front last back far) (fronts_end front last back apart)
 
   -- only the last run that begins at a position or before it can have it
-  pub taken-last : (front : List (PlacedRun C)) (last : PlacedRun C) (back : List (PlacedRun C)) (placed : List Placed) (position : ℕ)
-      → StandFor kind (front ++ last ∷ back) placed → last.0 ≤ position → All (λ (run : PlacedRun C). position < run.0) back
-      → is_taken placed position ≡ nat_lt position last.1.end
-  taken-last front last back placed position stand begun after =
-      let ended = fronts_end front last back placed stand in
+  pub taken-last : (front : List (PlacedRun C)) (last : PlacedRun C) (back : List (PlacedRun C)) (position : ℕ)
+      → AreApart (front ++ last ∷ back) → last.0 ≤ position → All (λ (run : PlacedRun C). position < run.0) back
+      → meet (front ++ last ∷ back) position 1 ≡ nat_lt position last.1.end
+  taken-last front last back position apart begun after =
+      let ended = fronts_end front last back apart in
       let has = meets position 1 in
-      taken-runs (front ++ last ∷ back) placed position stand
-      ∙ list_any-append has front (last ∷ back)
+      list_any-append has front (last ∷ back)
       ∙ ap (λ b. b || list_any has (last ∷ back))
       (list_any_none has front (λ k d inside. let ends = ended k d inside in grind (arith, ends, begun)))
       ∙ ap (λ b. has last || b)
@@ -113,27 +91,23 @@ module _ {C A : Type 0} (kind : chunk_range.Ghosts C A) where
       only true false h = absurd (true≢false (sym h))
       only false b h = refl
 
-  pub taken-none : (runs : List (PlacedRun C)) (placed : List Placed) (position : ℕ)
-      → StandFor kind runs placed → All (λ (run : PlacedRun C). position < run.0) runs → is_taken placed position ≡ false
-  taken-none runs placed position stand after =
-      taken-runs runs placed position stand
-      ∙ list_any_none (meets position 1) runs (λ k d inside. let begins = after k d inside in grind (arith, begins))
+  pub taken-none : (runs : List (PlacedRun C)) (position : ℕ) → All (λ (run : PlacedRun C). position < run.0) runs → meet runs position 1 ≡ false
+  taken-none runs position after =
+      list_any_none (meets position 1) runs (λ k d inside. let begins = after k d inside in grind (arith, begins))
 
--- where a position is taken, one of those from it on is
-pub overlaps-more : (placed : List Placed) (first count : ℕ) → 0 < count → is_taken placed first ≡ true → overlaps placed first count ≡ true
-overlaps-more [] first count some taken = absurd (true≢false (sym taken))
-overlaps-more (p ∷ placed) first count some taken = choose (overlaps-more placed first count some) (nat_eq p.0 first) refl taken
-  where
-    or-true : (b : Bool) → (b || true) ≡ true
-    or-true true = refl
-    or-true false = refl
+  -- where a run has a position, one has one of those from it on
+  pub meet-more : (runs : List (PlacedRun C)) (first count : ℕ) → 0 < count → meet runs first 1 ≡ true → meet runs first count ≡ true
+  meet-more [] first count some taken = absurd (true≢false (sym taken))
+  meet-more (run ∷ runs) first count some taken = choose (meet-more runs first count some) (meets first 1 run) refl taken
+    where
+      or-true : (b : Bool) → (b || true) ≡ true
+      or-true true = refl
+      or-true false = refl
 
-    choose : (is_taken placed first ≡ true → overlaps placed first count ≡ true) → (b : Bool) → nat_eq p.0 first ≡ b
-        → (b || is_taken placed first) ≡ true → overlaps (p ∷ placed) first count ≡ true
-    choose more true there h = ap (λ b. b || overlaps placed first count) {y = true} (grind (arith, there, some))
-    choose more false other h =
-        ap (λ b. (nat_lt first (p.0 + 1) && nat_lt p.0 (first + count)) || b) (more h)
-        ∙ or-true (nat_lt first (p.0 + 1) && nat_lt p.0 (first + count))
+      choose : (meet runs first 1 ≡ true → meet runs first count ≡ true) → (b : Bool) → meets first 1 run ≡ b
+          → (b || meet runs first 1) ≡ true → meet (run ∷ runs) first count ≡ true
+      choose more true there h = ap (λ b. b || meet runs first count) {y = true} (grind (arith, there, some))
+      choose more false other h = ap (λ b. meets first count run || b) (more h) ∙ or-true (meets first count run)
 
 -- the runs that begin at a position or after it
 abbrev pub from : {C : Type 0} → ℕ → List (PlacedRun C) → List (PlacedRun C)
@@ -170,36 +144,29 @@ module _ {C : Type 0} (first count : ℕ) where
       choose rest (one, others) false far h =
           both (meets first count run) (list_any (meets first count) runs) (not_begun run one (begins_before first run.0 far)) (rest h others)
 
-  module _ {A : Type 0} (kind : chunk_range.Ghosts C A) where
-    -- otherwise the first that begins after it has one, or none does
-    pub overlap-next : (runs : List (PlacedRun C)) (placed : List Placed) (next : PlacedRun C) (more : List (PlacedRun C)) → StandFor kind runs placed
-        → from first runs ≡ next ∷ more → list_any (meets first 1) runs ≡ false → list_any (meets first count) runs ≡ nat_lt (next.0 - first) count
-    overlap-next [] placed next more stand is free = absurd (omega (arith, ap length is))
-    overlap-next (run ∷ runs) placed next more (chunks, others, _, of_run, apart, stand) is free =
-        choose (λ is free. overlap-next runs others next more stand is free)
-        (neither (meets first 1 run) (list_any (meets first 1) runs) free) (is_le (nat_cmp first run.0)) refl is
-      where
-        begins : run.0 < run.1.end
-        begins = omega (arith, of_run.0, of_run.1)
+  -- otherwise the first that begins after it has one, or none does
+  pub overlap-next : (runs : List (PlacedRun C)) (next : PlacedRun C) (more : List (PlacedRun C)) → AreApart runs
+      → from first runs ≡ next ∷ more → meet runs first 1 ≡ false → meet runs first count ≡ nat_lt (next.0 - first) count
+  overlap-next [] next more apart is free = absurd (omega (arith, ap length is))
+  overlap-next (run ∷ runs) next more (longer, far, apart) is free =
+      choose (λ is free. overlap-next runs next more apart is free)
+      (neither (meets first 1 run) (list_any (meets first 1) runs) free) (is_le (nat_cmp first run.0)) refl is
+    where
+      at : first ≤ run.0 → (b : Bool) → nat_lt (run.0 - first) count ≡ b → list_any (meets first count) (run ∷ runs) ≡ b
+      at near true inside = ap (λ b. b || list_any (meets first count) runs) {y = true} (grind (arith, near, inside, longer))
+      at near false outside =
+          both (meets first count run) (list_any (meets first count) runs) (grind (arith, near, outside))
+          (list_any_none (meets first count) runs (λ k d inside. let farther = far k d inside in grind (arith, farther, near, outside, longer)))
 
-        farther : All (λ (other : PlacedRun C). run.1.end + 1 ≤ other.0) runs
-        farther = runs-from kind (run.1.end + 1) runs others stand apart
-
-        at : first ≤ run.0 → (b : Bool) → nat_lt (run.0 - first) count ≡ b → list_any (meets first count) (run ∷ runs) ≡ b
-        at near true inside = ap (λ b. b || list_any (meets first count) runs) {y = true} (grind (arith, near, inside, begins))
-        at near false outside =
-            both (meets first count run) (list_any (meets first count) runs) (grind (arith, near, outside))
-            (list_any_none (meets first count) runs (λ k d inside. let far = farther k d inside in grind (arith, far, near, outside, begins)))
-
-        choose : (from first runs ≡ next ∷ more → list_any (meets first 1) runs ≡ false → list_any (meets first count) runs ≡ nat_lt (next.0 - first) count)
-            → (meets first 1 run ≡ false) × (list_any (meets first 1) runs ≡ false)
-            → (b : Bool) → is_le (nat_cmp first run.0) ≡ b → cond (b && true) (run ∷ from first runs) (from first runs) ≡ next ∷ more
-            → list_any (meets first count) (run ∷ runs) ≡ nat_lt (next.0 - first) count
-        choose rest (one, free) true near h =
-            at (begins_from first run.0 near) (nat_lt (run.0 - first) count) refl
-            ∙ ap (λ (runs : List (PlacedRun C)). nat_lt ((get_or runs 0 run).0 - first) count) {y = next ∷ more} h
-        choose rest (one, free) false far h =
-            ap (λ b. b || list_any (meets first count) runs) (not_begun run one (begins_before first run.0 far)) ∙ rest h free
+      choose : (from first runs ≡ next ∷ more → list_any (meets first 1) runs ≡ false → list_any (meets first count) runs ≡ nat_lt (next.0 - first) count)
+          → (meets first 1 run ≡ false) × (list_any (meets first 1) runs ≡ false)
+          → (b : Bool) → is_le (nat_cmp first run.0) ≡ b → cond (b && true) (run ∷ from first runs) (from first runs) ≡ next ∷ more
+          → list_any (meets first count) (run ∷ runs) ≡ nat_lt (next.0 - first) count
+      choose rest (one, free) true near h =
+          at (begins_from first run.0 near) (nat_lt (run.0 - first) count) refl
+          ∙ ap (λ (runs : List (PlacedRun C)). nat_lt ((get_or runs 0 run).0 - first) count) {y = next ∷ more} h
+      choose rest (one, free) false farther h =
+          ap (λ b. b || list_any (meets first count) runs) (not_begun run one (begins_before first run.0 farther)) ∙ rest h free
 
 ended_before : {C : Type 0} (first : ℕ) (run : PlacedRun C) → meets first 1 run ≡ false → run.0 < first → nat_lt first run.1.end ≡ false
 ended_before first run free begins = grind (arith, free, begins)
@@ -214,38 +181,35 @@ find-last position (run ∷ front) last back ended holds =
     ap (λ b. cond b (Some run) (find (ends_after position) (front ++ last ∷ back))) {y = false} (grind (arith, ends))
     ∙ find-last position front last back (All-tail (λ run. run.1.end ≤ position) run front ended) holds
 
-module _ {C A : Type 0} (kind : chunk_range.Ghosts C A) (first : ℕ) where
+module _ {C : Type 0} (first : ℕ) where
   -- the first run that ends after a taken position is the last one that begins at it or before it
-  pub find-taken : (front : List (PlacedRun C)) (last : PlacedRun C) (back : List (PlacedRun C)) (placed : List Placed)
-      → StandFor kind (front ++ last ∷ back) placed → last.0 ≤ first → All (λ (run : PlacedRun C). first < run.0) back
-      → is_taken placed first ≡ true → find (ends_after first) (front ++ last ∷ back) ≡ Some last
-  find-taken front last back placed stand begun after taken =
+  pub find-taken : (front : List (PlacedRun C)) (last : PlacedRun C) (back : List (PlacedRun C))
+      → AreApart (front ++ last ∷ back) → last.0 ≤ first → All (λ (run : PlacedRun C). first < run.0) back
+      → meet (front ++ last ∷ back) first 1 ≡ true → find (ends_after first) (front ++ last ∷ back) ≡ Some last
+  find-taken front last back apart begun after taken =
       find-last first front last back
       (All-weaker (λ (run : PlacedRun C). run.1.end < last.0) (λ (run : PlacedRun C). run.1.end ≤ first)
-      (λ run ends. omega (arith, ends, begun)) front (fronts_end kind front last back placed stand))
-      (sym (taken-last kind front last back placed first stand begun after) ∙ taken)
+      (λ run ends. omega (arith, ends, begun)) front (fronts_end front last back apart))
+      (sym (taken-last front last back first apart begun after) ∙ taken)
 
   -- after a free position it is the first one that begins there
-  pub find-next : (runs : List (PlacedRun C)) (placed : List Placed) (next : PlacedRun C) (more : List (PlacedRun C)) → StandFor kind runs placed
-      → from first runs ≡ next ∷ more → list_any (meets first 1) runs ≡ false → find (ends_after first) runs ≡ Some next
-  find-next [] placed next more stand is free = absurd (omega (arith, ap length is))
-  find-next (run ∷ runs) placed next more (chunks, others, _, of_run, apart, stand) is free =
-      choose (λ is free. find-next runs others next more stand is free)
+  pub find-next : (runs : List (PlacedRun C)) (next : PlacedRun C) (more : List (PlacedRun C)) → AreApart runs
+      → from first runs ≡ next ∷ more → meet runs first 1 ≡ false → find (ends_after first) runs ≡ Some next
+  find-next [] next more apart is free = absurd (omega (arith, ap length is))
+  find-next (run ∷ runs) next more (longer, far, apart) is free =
+      choose (λ is free. find-next runs next more apart is free)
       (neither (meets first 1 run) (list_any (meets first 1) runs) free) (is_le (nat_cmp first run.0)) refl is
     where
-      begins : run.0 < run.1.end
-      begins = omega (arith, of_run.0, of_run.1)
-
       choose : (from first runs ≡ next ∷ more → list_any (meets first 1) runs ≡ false → find (ends_after first) runs ≡ Some next)
           → (meets first 1 run ≡ false) × (list_any (meets first 1) runs ≡ false)
           → (b : Bool) → is_le (nat_cmp first run.0) ≡ b → cond (b && true) (run ∷ from first runs) (from first runs) ≡ next ∷ more
           → find (ends_after first) (run ∷ runs) ≡ Some next
       choose rest (one, free) true near h =
           let begun = begins_from first run.0 near in
-          ap (λ b. cond b (Some run) (find (ends_after first) runs)) {y = true} (grind (arith, begun, begins))
+          ap (λ b. cond b (Some run) (find (ends_after first) runs)) {y = true} (grind (arith, begun, longer))
           ∙ ap (λ (runs : List (PlacedRun C)). Some (get_or runs 0 run)) {y = next ∷ more} h
-      choose rest (one, free) false far h =
-          ap (λ b. cond b (Some run) (find (ends_after first) runs)) (ended_before first run one (begins_before first run.0 far)) ∙ rest h free
+      choose rest (one, free) false farther h =
+          ap (λ b. cond b (Some run) (find (ends_after first) runs)) (ended_before first run one (begins_before first run.0 farther)) ∙ rest h free
 
 -- where the position is free and no run begins after it, there is none
 pub find-none : {C : Type 0} (first : ℕ) (runs : List (PlacedRun C)) → from first runs ≡ [] → list_any (meets first 1) runs ≡ false
@@ -272,6 +236,30 @@ stand-rises kind (run ∷ runs) placed (chunks, others, is, of_run, apart, rest)
     (All-weaker (λ (p : Placed). run.1.end + 1 ≤ p.0) (λ (p : Placed). run.0 + length chunks ≤ p.0) (λ p h. let ends = of_run.1 in omega (arith, h, ends)) others apart)
     (stand-rises kind runs others rest))
 
--- no position is one of none
-pub overlaps-none : (placed : List Placed) (first : ℕ) → overlaps placed first 0 ≡ false
-overlaps-none placed first = list_any_none (λ (p : Placed). nat_lt first (p.0 + 1) && nat_lt p.0 (first + 0)) placed (λ k d inside. grind arith)
+-- runs with a last one that begins after all others
+ends-before : {C : Type 0} (runs : List (PlacedRun C)) (position : ℕ) → AreApart runs → EndBefore runs position → All (λ (run : PlacedRun C). run.1.end < position) runs
+ends-before {C} [] position apart last = All-nil (λ (run : PlacedRun C). run.1.end < position)
+ends-before {C} (run ∷ []) position apart last =
+    All-cons (λ (run : PlacedRun C). run.1.end < position) run [] last.1 (All-nil (λ (run : PlacedRun C). run.1.end < position))
+ends-before {C} (run ∷ next ∷ runs) position (longer, far, apart) last =
+    let near = All-head (λ (next : PlacedRun C). run.1.end < next.0) next runs far in
+    let others = ends-before (next ∷ runs) position apart
+    (subst (λ n. IfSome (slice_get (run ∷ next ∷ runs) n) (λ (last : PlacedRun C). (last.0 < position) × (last.1.end < position)))
+    {x = length (run ∷ next ∷ runs) - 1} {y = suc (length (next ∷ runs) - 1)} (omega arith) last) in
+    let ended = All-head (λ (run : PlacedRun C). run.1.end < position) next runs others in
+    let ahead = apart.0 in
+    All-cons (λ (run : PlacedRun C). run.1.end < position) run (next ∷ runs) (omega (arith, near, ahead, ended)) others
+
+apart-last : {C : Type 0} (runs : List (PlacedRun C)) (last : PlacedRun C) → AreApart runs → last.0 < last.1.end
+    → All (λ (run : PlacedRun C). run.1.end < last.0) runs → AreApart (runs ++ last ∷ [])
+apart-last {C} [] last apart some ended = (some, All-nil (λ (next : PlacedRun C). last.1.end < next.0), tt)
+apart-last {C} (run ∷ runs) last (longer, far, apart) some ended = (
+  longer,
+  All-append (λ (next : PlacedRun C). run.1.end < next.0) runs (last ∷ []) far
+      (All-cons (λ (next : PlacedRun C). run.1.end < next.0) last [] (All-head (λ (run : PlacedRun C). run.1.end < last.0) run runs ended)
+      (All-nil (λ (next : PlacedRun C). run.1.end < next.0))),
+  apart-last runs last apart some (All-tail (λ (run : PlacedRun C). run.1.end < last.0) run runs ended),
+)
+
+pub apart-push : {C : Type 0} (runs : List (PlacedRun C)) (last : PlacedRun C) → AreApart runs → last.0 < last.1.end → EndBefore runs last.0 → AreApart (runs ++ last ∷ [])
+apart-push runs last apart some before = apart-last runs last apart some (ends-before runs last.0 apart before)

@@ -33,10 +33,10 @@ pub record AreNew (known hashes new : List Hash) : Type 0 where
   pub among : (hash : Hash)
       → is_among new hash ≡ (is_among hashes hash && not (is_among known hash))
 
--- `distinct` has each hash of `hashes`, once
-pub record AreEachOnce (hashes distinct : List Hash) : Type 0 where
-  pub each_once : IsDistinct hash_eq distinct
-  pub among : (hash : Hash) → is_among distinct hash ≡ is_among hashes hash
+-- `rest` has exactly the hashes of `all` that `removed` lacks
+abbrev pub AreWithout : List Hash → List Hash → List Hash → Type 0
+AreWithout all removed rest =
+    (hash : Hash) → is_among rest hash ≡ (is_among all hash && not (is_among removed hash))
 
 -- the hashes that were seen are exactly those of a list
 abbrev pub Knows : {A : Type 0} → SeenHashes A → List Hash → Type 0

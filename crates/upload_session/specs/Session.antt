@@ -1,12 +1,12 @@
 -- Chunks by their positions, and the runs of a session that stand for them.
-use Rattle.std.specs.Prelude.{◌≡◌, ℕ, ◌+◌, ◌-◌, ◌<◌, ◌≤◌, Bool, false, not, List, [], ◌∷◌, ◌++◌, ◌&&◌, length, filter, map, All, IfSome, nat_eq, nat_lt, slice_get}
+use Rattle.std.specs.Prelude.{◌≡◌, ℕ, ◌+◌, ◌-◌, ◌<◌, ◌≤◌, Bool, false, not, List, [], ◌∷◌, ◌++◌, ◌&&◌, length, filter, map, replicate, sum_by, All, Option, None, Some, IfSome, option_to_list, nat_eq, nat_lt, slice_get}
 use Rattle.std.specs.List.{list_any}
 use Rattle.xet_merkle.specs.Groups.{Node}
-use Rattle.xet_merkle.specs.Roots.{total_size}
+use Rattle.xet_merkle.specs.Roots.{total_size, salted_root, IsRoot, IsFileHash}
 use Rattle.xet_merkle.specs.declared.chunk_range.ChunkRange as chunk_range
 use Rattle.upload_session.specs.declared.kept_hashes.KeptHashes as kept_hashes
 use Rattle.upload_session.specs.declared.runs.Run.{Run}
-use Rattle.upload_session.specs.Hashes.{Hash, hashes_of}
+use Rattle.upload_session.specs.Hashes.{Hash, hashes_of, AreBoth}
 
 -- a chunk at a position
 abbrev pub Placed : Type 0
@@ -59,9 +59,36 @@ AreFrom bound placed = All (λ p. bound ≤ p.0) placed
 abbrev pub PlacedRun : Type 0 → Type 0
 PlacedRun C = ℕ × Run C
 
+-- whether one of some runs has one of some adjacent positions
+abbrev pub meets : {C : Type 0} → ℕ → ℕ → PlacedRun C → Bool
+meets first count run = nat_lt first run.1.end && nat_lt run.0 (first + count)
+
+abbrev pub meet : {C : Type 0} → List (PlacedRun C) → ℕ → ℕ → Bool
+meet runs first count = list_any (meets first count) runs
+
+-- each run has a position, and a free position lies between two runs
+abbrev pub AreApart : {C : Type 0} → List (PlacedRun C) → Type 0
+AreApart [] = Unit {0}
+AreApart (run ∷ runs) = (run.0 < run.1.end) × All (λ next. run.1.end < next.0) runs × AreApart runs
+
+-- the positions of some runs are exactly those below a number: it is 0 and there is no run, or one run has them
+abbrev pub Cover : {C : Type 0} → ℕ → List (PlacedRun C) → Type 0
+Cover total [] = total ≡ 0
+Cover total (run ∷ []) = (run.0 ≡ 0) × (run.1.end ≡ total)
+Cover total (run ∷ next ∷ runs) = ⊥
+
 -- whether a run ends after a position, so that it contains the position or begins after it
 abbrev pub ends_after : {C : Type 0} → ℕ → PlacedRun C → Bool
 ends_after position run = nat_lt position run.1.end
+
+-- the first position of a run, or another position if there is no run; and the same for the position after its last one
+abbrev pub first_of : {C : Type 0} → Option (PlacedRun C) → ℕ → ℕ
+first_of None other = other
+first_of (Some run) other = run.0
+
+abbrev pub end_of : {C : Type 0} → Option (PlacedRun C) → ℕ → ℕ
+end_of None other = other
+end_of (Some run) other = run.1.end
 
 -- the last of some runs, if there is one, begins and ends before a position
 abbrev pub EndBefore : {C : Type 0} → List (PlacedRun C) → ℕ → Type 0
@@ -87,41 +114,93 @@ module _ {C A : Type 0} (kind : chunk_range.Ghosts C A) where
       (chunks : List Node) × (others : List Placed) × (placed ≡ placed_from run.0 chunks ++ others)
       × IsRunOf chunks run × AreFrom (run.1.end + 1) others × StandFor runs others
 
+  -- chunks are those of a run's range, or none if there is no run
+  abbrev pub AreOf : Option (PlacedRun C) → List Node → Type 0
+  AreOf None chunks = chunks ≡ []
+  AreOf (Some run) chunks = kind.stands run.1.range chunks
+
+  -- the sum of the sizes of all runs
+  abbrev pub size_of_runs : List (PlacedRun C) → ℕ
+  size_of_runs runs = sum_by (λ run. kind.total run.1.range) runs
+
+  -- runs after chunks are placed at free positions from the first one on. The run that ends right before the chunks and
+  -- the one that begins right after them, if there are any, become one run with the chunks. The others stay.
+  pub record AreJoined (old : List (PlacedRun C)) (first : ℕ) (chunks : List Node) (new : List (PlacedRun C)) : Type 0 where
+    pub front : List (PlacedRun C)
+    pub previous : Option (PlacedRun C)
+    pub next : Option (PlacedRun C)
+    pub back : List (PlacedRun C)
+    pub run : PlacedRun C
+    pub were : old ≡ front ++ option_to_list previous ++ option_to_list next ++ back
+    pub are : new ≡ front ++ run ∷ back
+    pub front_ends : All (λ other. other.1.end < first) front
+    pub previous_ends : IfSome previous (λ other. other.1.end ≡ first)
+    pub next_begins : IfSome next (λ other. other.0 ≡ first + length chunks)
+    pub back_begins : All (λ other. first + length chunks < other.0) back
+    pub begins : run.0 ≡ first_of previous first
+    pub ends : run.1.end ≡ end_of next (first + length chunks)
+    pub stands : (before after : List Node) → AreOf previous before → AreOf next after →
+        kind.stands run.1.range (before ++ chunks ++ after)
+    pub no_start : kind.start run.1.range ≡ false
+    pub no_end : kind.end run.1.range ≡ false
+    pub size : kind.total run.1.range
+        ≡ size_of_runs (option_to_list previous) + total_size chunks + size_of_runs (option_to_list next)
+
 -- a session in contracts: its runs, what it keeps of hashes, and the sum of all sizes
 pub record Parts (C H : Type 0) : Type 0 where
   pub runs : List (PlacedRun C)
   pub kept : H
   pub size : ℕ
 
--- a session after a run is added to its end
-abbrev pub with_last : {C H A : Type 0} → chunk_range.Ghosts C A → Parts C H → PlacedRun C → Parts C H
-with_last kind session run = record {
-  runs = session.runs ++ run ∷ [];
-  kept = session.kept;
-  size = session.size + kind.total run.1.range;
-}
-
--- a session stands for chunks by their positions, and knows their hashes
-module _ {C H A : Type 0} (kind : chunk_range.Ghosts C A) (hashes : kept_hashes.Ghosts H A) where
-  abbrev pub SessionStands : Parts C H → List Placed → Type 0
-  SessionStands session placed =
-      StandFor kind session.runs placed × hashes.knows session.kept (hashes_of (chunks_of placed))
-      × (session.size ≡ total_size (chunks_of placed))
+module _ {C A : Type 0} (kind : chunk_range.Ghosts C A) where
+  -- a session after a run is added to its end
+  abbrev pub with_last : {H : Type 0} → Parts C H → PlacedRun C → Parts C H
+  with_last session run = record {
+    runs = session.runs ++ run ∷ [];
+    kept = session.kept;
+    size = session.size + kind.total run.1.range;
+  }
 
   -- a fact holds of the chunks that a session stands for
-  abbrev pub HoldsOfPlaced : Parts C H → (List Placed → Type 0) → Type 0
-  HoldsOfPlaced session fact = (placed : List Placed) → SessionStands session placed → fact placed
+  abbrev pub HoldsOfPlaced : {H : Type 0} → Parts C H → (List Placed → Type 0) → Type 0
+  HoldsOfPlaced session fact = (placed : List Placed) → StandFor kind session.runs placed → fact placed
 
-  -- what a session stood for, another stands for
-  abbrev pub KeepsPlaced : Parts C H → Parts C H → Type 0
-  KeepsPlaced old new = HoldsOfPlaced old (SessionStands new)
+  -- what a session stood for, and more chunks at adjacent positions, another stands for
+  abbrev pub PlacesChunks : {H : Type 0} → Parts C H → ℕ → List Node → Parts C H → Type 0
+  PlacesChunks old first chunks new = HoldsOfPlaced old (λ placed. StandFor kind new.runs (place placed first chunks))
 
-  -- and for more chunks at adjacent positions
-  abbrev pub PlacesChunks : Parts C H → ℕ → List Node → Parts C H → Type 0
-  PlacesChunks old first chunks new = HoldsOfPlaced old (λ placed. SessionStands new (place placed first chunks))
+  -- runs that are none or one have this root: that of no chunks, or of the chunks that the range stands for
+  abbrev pub HaveRoot : List (PlacedRun C) → List ℕ → Type 0
+  HaveRoot [] root = IsRoot [] root
+  HaveRoot (run ∷ runs) root = (chunks : List Node) → kind.stands run.1.range chunks → IsRoot chunks root
 
--- a number counts the hashes of chunks that are reported as new, where those of the chunks placed are known
-abbrev pub CountsNew : {H A : Type 0} → kept_hashes.Ghosts H A → List Placed → List Node → ℕ → Type 0
-CountsNew hashes placed chunks count =
-    (new : List Hash) × hashes.tells (hashes_of (chunks_of placed)) (hashes_of chunks) new
-    × (count ≡ length new)
+  -- and this file hash under 32 zero bytes
+  abbrev pub HaveFileHash : List (PlacedRun C) → List ℕ → Type 0
+  HaveFileHash [] file = IsFileHash [] (replicate 32 0) file
+  HaveFileHash (run ∷ runs) file =
+      (chunks : List Node) → kind.stands run.1.range chunks
+      → (root : List ℕ) × IsRoot chunks root × (file ≡ salted_root (replicate 32 0) root)
+
+module _ {H A : Type 0} (hashes : kept_hashes.Ghosts H A) where
+  -- a session without chunks, which knows no hashes
+  abbrev pub HasNothing : {C : Type 0} → Parts C H → Type 0
+  HasNothing session = (session.runs ≡ []) × (session.size ≡ 0) × hashes.knows session.kept []
+
+  -- what was known is known
+  abbrev pub KeepsKnown : H → H → Type 0
+  KeepsKnown old new = (known : List Hash) → hashes.knows old known → hashes.knows new known
+
+  -- and so are the hashes of chunks
+  abbrev pub LearnsHashes : H → List Node → H → Type 0
+  LearnsHashes old chunks new =
+      (known all : List Hash) → hashes.knows old known → AreBoth known (hashes_of chunks) all → hashes.knows new all
+
+  -- a number counts the hashes of chunks that are reported as new
+  abbrev pub CountsNew : H → List Node → ℕ → Type 0
+  CountsNew old chunks count =
+      (known : List Hash) → hashes.knows old known
+      → (new : List Hash) × hashes.tells known (hashes_of chunks) new × (count ≡ length new)
+
+  -- a session after a failed call: the same runs, the same size and the same known hashes
+  abbrev pub IsUnchanged : {C : Type 0} → Parts C H → Parts C H → Type 0
+  IsUnchanged old new = (new.runs ≡ old.runs) × (new.size ≡ old.size) × KeepsKnown old.kept new.kept

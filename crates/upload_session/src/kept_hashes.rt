@@ -3,7 +3,7 @@
 ghost use Rattle.std.specs.Prelude.{◌≡◌, not, List, [], ◌&&◌, ◌||◌, is_some, length, IfOk, OnOk, OnErr};
 ghost use Rattle.std.specs.List.{IsDistinct};
 ghost use Rattle.xet_hash.specs.FiniteMap.{value_at};
-ghost use Rattle.upload_session.specs.Hashes.{Hash, hash_eq, hashes_of, is_among, AreBoth, AreEachOnce, AreNew, Knows};
+ghost use Rattle.upload_session.specs.Hashes.{Hash, hash_eq, hashes_of, is_among, AreBoth, AreNew, AreWithout, Knows};
 
 use std::alloc::{AllocError, Allocator, Global};
 use xet_hash::data_hash::MerkleHash;
@@ -33,11 +33,13 @@ pub trait KeptHashes<A: Allocator>: Drop {
         ensures refused { OnErr result ((known : List Hash) →
             knows self.old known → knows self.new known) };
 
-    /// Forgets the hashes that [`KeptHashes::keep`] reported as new. It then knows what it knew before that call. It
-    /// allocates nothing.
+    /// Forgets some hashes. If they are those that the last [`KeptHashes::keep`] reported as new, it then knows what it
+    /// knew before that call. It allocates nothing.
     fn give_up(&mut self, new: &[MerkleHash])
-        ensures { (known hashes all : List Hash) → AreBoth known hashes all →
-            tells known hashes new.now → knows self.old all → knows self.new known };
+        ensures kept { (known hashes all : List Hash) → AreBoth known hashes all →
+            tells known hashes new.now → knows self.old all → knows self.new known }
+        ensures others { (all rest : List Hash) → AreWithout all new.now rest →
+            knows self.old all → knows self.new rest };
 }
 
 /// Keeps all hashes, each once, in a map for deduplication.
@@ -58,7 +60,7 @@ impl<A: Allocator + Clone> SeenHashes<A> {
 
     /// Returns the number of hashes. It allocates nothing.
     pub fn len(&self) -> usize
-        ensures { (known distinct : List Hash) → Knows self.now known → AreEachOnce known distinct →
+        ensures { (distinct : List Hash) → Knows self.now distinct → IsDistinct hash_eq distinct →
             result ≡ length distinct }
     {
         self.hashes.len()
@@ -67,8 +69,8 @@ impl<A: Allocator + Clone> SeenHashes<A> {
     /// Returns all hashes, each once, in no particular order. The list allocates by `alloc`. Fails if an allocation
     /// fails.
     pub fn to_vec(&self, alloc: A) -> Result<Vec<MerkleHash, A>, AllocError>
-        ensures { IfOk result (λ hashes. (known : List Hash) → Knows self.now known →
-            AreEachOnce known hashes.items) }
+        ensures all { IfOk result (λ hashes. Knows self.now hashes.items) }
+        ensures each_once { IfOk result (λ hashes. IsDistinct hash_eq hashes.items) }
     {
         let mut hashes = Vec::with_capacity(alloc, self.hashes.len())?;
         hashes.extend(self.hashes.keys().copied())?;
@@ -145,7 +147,7 @@ pub struct NoHashes;
 impl<A: Allocator> KeptHashes<A> for NoHashes {
     ghost knows = { λ _ _. Unit {0} };
 
-    ghost tells = { λ _ _ _. Unit {0} };
+    ghost tells = { λ _ _ new. new ≡ [] };
 
     fn new(_alloc: A) -> Self {
         NoHashes

@@ -1,14 +1,14 @@
 //! Laws of the definitions that the contracts of this crate use. Each function does nothing: its contract is the law.
 
-ghost use Rattle.std.specs.Prelude.{◌≡◌, ℕ, ◌+◌, false, List, ◌∷◌, ◌++◌, length, sum_by};
+ghost use Rattle.std.specs.Prelude.{◌≡◌, ℕ, ◌+◌, false, List, ◌∷◌, ◌++◌, length};
 ghost use Rattle.xet_merkle.specs.Groups.{Node};
-ghost use Rattle.xet_merkle.specs.Levels.{levels_size};
+ghost use Rattle.xet_merkle.specs.Roots.{total_size};
 ghost use Rattle.xet_merkle.specs.Subtree.{Subtree};
 ghost use Rattle.upload_session.specs.declared.kept_hashes.SeenHashes.{SeenHashes};
-ghost use Rattle.upload_session.specs.Hashes.{Hash, Knows};
-ghost use Rattle.upload_session.specs.Session.{Parts, Placed, Put, place, overlaps, ArePlaced, KeepsPlaced};
+ghost use Rattle.upload_session.specs.Hashes.{hashes_of, AreBoth};
+ghost use Rattle.upload_session.specs.Session.{Parts, Placed, Put, chunks_of, place, overlaps, size_of_runs, ArePlaced, StandFor};
 
-use crate::kept_hashes::{KeptHashes, SeenHashes};
+use crate::kept_hashes::SeenHashes;
 use std::alloc::Allocator;
 use xet_merkle::chunk_range::ChunkRange;
 use xet_merkle::merkle_hash_subtree::MerkleHashSubtree;
@@ -30,12 +30,22 @@ pub fn puts_may_come_in_parts()
         ≡ place placed first (chunks ++ more) }
 {}
 
-/// A session can be saved and restored. If a session has the same runs as another, its size is the sum of the sizes of
-/// its ranges, and it knows the same hashes, then it stands for what the other stands for. A new session comes to this
-/// by `push_run` of each run in order, and `keep_hashes` of the known hashes.
+/// Placing chunks adds their sizes and their hashes to those of the chunks that were placed.
+pub fn placed_chunks_add_up()
+    ensures sizes { (placed : List Placed) (first : ℕ) (chunks : List Node) →
+        total_size (chunks_of (place placed first chunks)) ≡ total_size (chunks_of placed) + total_size chunks }
+    ensures hashes { (placed : List Placed) (first : ℕ) (chunks : List Node) →
+        AreBoth (hashes_of (chunks_of placed)) (hashes_of chunks) (hashes_of (chunks_of (place placed first chunks))) }
+{}
+
+/// A session can be saved and restored. If a session has the same runs as another, and its size is the sum of the sizes
+/// of its ranges, then it stands for what the other stands for, and its size is the sum of the sizes of these chunks. A
+/// new session comes to this by `push_run` of each run in order. By `keep_hashes` of the known hashes it knows them, too.
 pub fn sessions_can_be_restored<A: Allocator + Clone>()
-    ensures { (saved restored : Parts Subtree (SeenHashes A)) → restored.runs ≡ saved.runs →
-        restored.size ≡ sum_by (λ run. levels_size run.1.range.levels) restored.runs →
-        ((known : List Hash) → Knows saved.kept known → Knows restored.kept known) →
-        KeepsPlaced ⟦<MerkleHashSubtree<A> as ChunkRange>⟧ ⟦<SeenHashes<A> as KeptHashes<A>>⟧ saved restored }
+    ensures { (saved restored : Parts Subtree (SeenHashes A)) (placed : List Placed) →
+        StandFor ⟦<MerkleHashSubtree<A> as ChunkRange>⟧ saved.runs placed →
+        restored.runs ≡ saved.runs →
+        restored.size ≡ size_of_runs ⟦<MerkleHashSubtree<A> as ChunkRange>⟧ restored.runs →
+        StandFor ⟦<MerkleHashSubtree<A> as ChunkRange>⟧ restored.runs placed
+        × (restored.size ≡ total_size (chunks_of placed)) }
 {}

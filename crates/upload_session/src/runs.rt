@@ -9,7 +9,7 @@ ghost use Rattle.xet_merkle.specs.Groups.{Node};
 ghost use Rattle.xet_merkle.specs.Roots.{total_size};
 ghost use Rattle.upload_session.specs.Steps.Neighbours.{IsPrevious, IsWithNext, AreAround, IsPutBefore, Places};
 ghost use Rattle.upload_session.specs.Steps.OpenRuns.{IsOpen, AreOpen, HaveRoom, HaveRoomFor, GrowBy, size_at, sizes_of};
-ghost use Rattle.upload_session.specs.Session.{Placed, PlacedRun, ends_after, place, chunks_of, is_taken, overlaps, EndBefore, IsWhole, StandFor};
+ghost use Rattle.upload_session.specs.Session.{Placed, PlacedRun, ends_after, meet, place, AreApart, AreJoined, Cover, EndBefore, StandFor};
 
 use crate::session_fault::SessionFault;
 use std::alloc::{AllocError, Allocator};
@@ -90,8 +90,8 @@ impl<C: ChunkRange> Runs<C> {
 
     /// Returns whether a position is taken. It allocates nothing.
     pub fn taken(&self, position: u64) -> bool
-        ensures { (placed : List Placed) → StandFor C.ChunkRange self.now placed →
-            result ≡ is_taken placed position }
+        requires { AreApart self.now }
+        ensures { result ≡ meet self.now position 1 }
     {
         match self.runs.range(..=position).next_back() {
             Some((_, run)) => position < run.end,
@@ -101,9 +101,9 @@ impl<C: ChunkRange> Runs<C> {
 
     /// Returns whether one of `count` positions from `first` on is taken. `count` must not be 0. It allocates nothing.
     pub fn overlap(&self, first: u64, count: u64) -> bool
-        requires { 0 < count }
-        ensures { (placed : List Placed) → StandFor C.ChunkRange self.now placed →
-            result ≡ overlaps placed first count }
+        requires some { 0 < count }
+        requires apart { AreApart self.now }
+        ensures { result ≡ meet self.now first count }
     {
         if self.taken(first) {
             return true;
@@ -134,8 +134,8 @@ impl<C: ChunkRange> Runs<C> {
     /// Returns the run that contains a position, or else the next one: its first position, the position after its last
     /// one, and its range. Returns `None` if all runs end before. It allocates nothing.
     pub fn run_from(&self, position: u64) -> Option<(u64, u64, &C)>
-        ensures { (placed : List Placed) → StandFor C.ChunkRange self.now placed →
-            option_map {U = PlacedRun C} (λ found. (found.0, record { end = found.1; range = found.2.now })) result
+        requires { AreApart self.now }
+        ensures { option_map {U = PlacedRun C} (λ found. (found.0, record { end = found.1; range = found.2.now })) result
             ≡ find (ends_after position) self.now }
     {
         if self.taken(position) {
@@ -150,16 +150,12 @@ impl<C: ChunkRange> Runs<C> {
     /// positions aren't exactly those below `total`. It allocates nothing.
     pub fn whole_range(&self, total: u64) -> Result<Option<&C>, SessionFault>
         requires { AreOpen C.ChunkRange self.now }
-        ensures whole { OnOk result ((placed : List Placed) →
-            StandFor C.ChunkRange self.now placed → IsWhole total placed) }
-        ensures gap { OnErr result ((placed : List Placed) → StandFor C.ChunkRange self.now placed →
-            ¬ IsWhole total placed) }
+        ensures whole { OnOk result (Cover total self.now) }
+        ensures gap { OnErr result (¬ Cover total self.now) }
         ensures errors { IfErr result (λ e. e ≡ SessionFault.Gap) }
-        ensures none { (placed : List Placed) → StandFor C.ChunkRange self.now placed →
-            IfOk result (λ whole. IfNone whole (placed ≡ [])) }
-        ensures range { (placed : List Placed) → StandFor C.ChunkRange self.now placed →
-            IfOk result (λ whole. IfSome whole (λ range.
-            C.stands range.now (chunks_of placed) × (0 < length (chunks_of placed)))) }
+        ensures none { IfOk result (λ whole. IfNone whole (self.now ≡ [])) }
+        ensures range { IfOk result (λ whole. IfSome whole (λ range.
+            (run : PlacedRun C) × (self.now ≡ run ∷ []) × (range.now ≡ run.1.range))) }
         ensures marks { IfOk result (λ whole. IfSome whole (λ range. IsOpen C.ChunkRange range.now)) }
     {
         let Some((first, run)) = self.runs.first_key_value() else {
@@ -206,10 +202,12 @@ impl<C: ChunkRange> Runs<C> {
         requires positions { first + length chunks.now < 2 ^ 64 }
         requires some { 0 < length chunks.now }
         requires room { HaveRoom C.ChunkRange (total_size chunks.now) self.old }
-        ensures placed { OnOk result ((placed : List Placed) →
-            StandFor C.ChunkRange self.old placed → 0 < length chunks.now →
-            overlaps placed first (length chunks.now) ≡ false →
+        requires apart { AreApart self.old }
+        requires free { meet self.old first (length chunks.now) ≡ false }
+        ensures joined { OnOk result (AreJoined C.ChunkRange self.old first chunks.now self.new) }
+        ensures placed { OnOk result ((placed : List Placed) → StandFor C.ChunkRange self.old placed →
             StandFor C.ChunkRange self.new (place placed first chunks.now)) }
+        ensures apart { OnOk result (AreApart self.new) }
         ensures sizes { OnOk result (GrowBy C.ChunkRange (total_size chunks.now) self.old self.new) }
         ensures errors { IfErr result (λ e. e ≡ CoreError.OutOfMemory) }
         ensures unchanged { OnErr result (self.new ≡ self.old) }

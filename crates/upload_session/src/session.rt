@@ -3,8 +3,9 @@
 ghost use Rattle.std.specs.Prelude.{◌≡◌, ℕ, ◌+◌, ◌^◌, ◌<◌, ◌≤◌, ◌↔◌, ◌⊎◌, List, [], false, length, replicate, find, option_map, slice_get, Ok, All, IfOk, IfErr, SomeIff, OnOk, OnErr, IsOk, IsTrue, IsErrOf};
 ghost use Rattle.xet_merkle.specs.Groups.{Node};
 ghost use Rattle.xet_merkle.specs.Roots.{total_size, IsRoot, IsFileHash};
-ghost use Rattle.upload_session.specs.Hashes.{Hash, hashes_of, AreBoth, AreEachOnce, Knows};
-ghost use Rattle.upload_session.specs.Session.{PlacedRun, ends_after, chunks_of, is_taken, overlaps, with_last, CanFollow, IsWhole, SessionStands, HoldsOfPlaced, KeepsPlaced, PlacesChunks, CountsNew};
+ghost use Rattle.std.specs.List.{IsDistinct};
+ghost use Rattle.upload_session.specs.Hashes.{Hash, hash_eq, Knows};
+ghost use Rattle.upload_session.specs.Session.{PlacedRun, ends_after, meet, chunks_of, is_taken, overlaps, size_of_runs, with_last, AreApart, AreJoined, CanFollow, CountsNew, Cover, HasNothing, HaveFileHash, HaveRoot, HoldsOfPlaced, IsUnchanged, IsWhole, KeepsKnown, LearnsHashes, PlacesChunks};
 
 use crate::kept_hashes::{KeptHashes, SeenHashes};
 use crate::runs::Runs;
@@ -33,8 +34,9 @@ pub struct SessionOf<C: ChunkRange, H = SeenHashes<<C as ChunkRange>::Alloc>> {
 }
 
 impl<C: ChunkRange, H> Model for SessionOf<C, H> {
-    ghost use Rattle.upload_session.specs.Session.{Parts};
-    ghost use Rattle.upload_session.specs.Steps.OpenRuns.{AreOpenUpTo};
+    ghost use Rattle.std.specs.Prelude.{◌≡◌};
+    ghost use Rattle.upload_session.specs.Session.{Parts, size_of_runs, AreApart};
+    ghost use Rattle.upload_session.specs.Steps.OpenRuns.{AreOpen};
 
     ghost Value = { Parts C H };
 
@@ -44,14 +46,15 @@ impl<C: ChunkRange, H> Model for SessionOf<C, H> {
       size = stored.size;
     } };
 
-    ghost invariant = { λ stored. AreOpenUpTo C.ChunkRange stored.size stored.runs };
+    ghost invariant = { λ stored. AreOpen C.ChunkRange stored.runs × AreApart stored.runs
+        × (stored.size ≡ size_of_runs C.ChunkRange stored.runs) };
 }
 
 impl<C: ChunkRange<Alloc = Global>, H: KeptHashes<Global>> SessionOf<C, H> {
     /// Makes a session without chunks. It uses the global allocator, and allocates nothing yet. Use
     /// [`SessionOf::new_in`] for other allocators.
     pub fn new(alloc: Global) -> Self
-        ensures { SessionStands C.ChunkRange H.KeptHashes result [] }
+        ensures { HasNothing H.KeptHashes result }
     {
         Self::from_parts(Runs::new(alloc, alloc), H::new(alloc))
     }
@@ -61,8 +64,7 @@ impl<C: ChunkRange, H: KeptHashes<C::Alloc>> SessionOf<C, H> {
     /// Makes a session without chunks that uses `alloc`. Fails if `alloc` can't be cloned. It allocates nothing itself.
     /// [`SessionOf::new`] does the same with the global allocator, and can't fail.
     pub fn new_in(alloc: C::Alloc) -> Result<Self, AllocError>
-        ensures empty { IfOk result (λ session.
-            SessionStands C.ChunkRange H.KeptHashes session []) }
+        ensures empty { IfOk result (λ session. HasNothing H.KeptHashes session) }
         ensures succeeds { ((a : C.Alloc) → C.Alloc.is_infallible a) → IsOk result }
     {
         let kept = H::new(alloc.clone()?);
@@ -73,7 +75,7 @@ impl<C: ChunkRange, H: KeptHashes<C::Alloc>> SessionOf<C, H> {
     fn from_parts(runs: Runs<C>, kept: H) -> Self
         requires none { runs ≡ [] }
         requires knows { H.knows kept [] }
-        ensures { SessionStands C.ChunkRange H.KeptHashes result [] }
+        ensures { HasNothing H.KeptHashes result }
     {
         SessionOf {
             runs,
@@ -84,14 +86,20 @@ impl<C: ChunkRange, H: KeptHashes<C::Alloc>> SessionOf<C, H> {
 
     /// Returns whether a position is taken. It allocates nothing.
     pub fn taken(&self, position: u64) -> bool
-        ensures { HoldsOfPlaced C.ChunkRange H.KeptHashes self.now (λ placed. result ≡ is_taken placed position) }
+        ensures runs { result ≡ meet self.now.runs position 1 }
+        ensures placed { HoldsOfPlaced C.ChunkRange self.now (λ placed. result ≡ is_taken placed position) }
     {
         self.runs.taken(position)
     }
 
     /// Returns the number of runs of adjacent taken positions. It allocates nothing.
+    ///
+    /// Whatever calls a session has had, a free position lies between two of its runs, and its size is that of all
+    /// ranges together.
     pub fn num_runs(&self) -> usize
-        ensures { result ≡ length self.now.runs }
+        ensures count { result ≡ length self.now.runs }
+        ensures apart { AreApart self.now.runs }
+        ensures size { self.now.size ≡ size_of_runs C.ChunkRange self.now.runs }
     {
         self.runs.len()
     }
@@ -109,9 +117,8 @@ impl<C: ChunkRange, H: KeptHashes<C::Alloc>> SessionOf<C, H> {
     /// one, and its range. Returns `None` if all runs end before. Calls from position 0 and then from each run's end
     /// walk all runs. It allocates nothing.
     pub fn run_from(&self, position: u64) -> Option<(u64, u64, &C)>
-        ensures { HoldsOfPlaced C.ChunkRange H.KeptHashes self.now (λ _.
-            option_map {U = PlacedRun C} (λ found. (found.0, record { end = found.1; range = found.2.now })) result
-            ≡ find (ends_after position) self.now.runs) }
+        ensures { option_map {U = PlacedRun C} (λ found. (found.0, record { end = found.1; range = found.2.now })) result
+            ≡ find (ends_after position) self.now.runs }
     {
         self.runs.run_from(position)
     }
@@ -125,27 +132,32 @@ impl<C: ChunkRange, H: KeptHashes<C::Alloc>> SessionOf<C, H> {
     /// - [`SessionFault::Positions`] if `first` plus the number of chunks is more than `u64::MAX`;
     /// - [`SessionFault::Sizes`] if the sizes of all chunks add up to more than `u64::MAX` bytes.
     ///
-    /// Otherwise fails with [`SessionFault::Memory`] if an allocation fails. After a failure the session stands for the
-    /// same chunks, and its ranges are unchanged.
+    /// Otherwise fails with [`SessionFault::Memory`] if an allocation fails. After a failure the session has the same
+    /// ranges, and knows the same hashes.
+    #[tactic(auto, using(crate::proofs::Positions::meet_overlaps))]
     pub fn put(&mut self, first: u64, chunks: &[Node]) -> Result<u64, SessionFault>
-        ensures placed { OnOk result (PlacesChunks C.ChunkRange H.KeptHashes self.old first chunks.now self.new) }
-        ensures new { IfOk result (λ count. HoldsOfPlaced C.ChunkRange H.KeptHashes self.old (λ placed.
-            0 < length chunks.now → CountsNew H.KeptHashes placed chunks.now count)) }
         ensures nothing { length chunks.now ≡ 0 → (result ≡ Ok 0) × (self.new ≡ self.old) }
-        ensures overlap { HoldsOfPlaced C.ChunkRange H.KeptHashes self.old (λ placed.
-            IsErrOf result SessionFault.Overlap ↔ IsTrue (overlaps placed first (length chunks.now))) }
-        ensures positions { HoldsOfPlaced C.ChunkRange H.KeptHashes self.old (λ placed.
-            IsErrOf result SessionFault.Positions
-            ↔ (¬ IsTrue (overlaps placed first (length chunks.now)) × (2 ^ 64 ≤ first + length chunks.now))) }
-        ensures sizes { HoldsOfPlaced C.ChunkRange H.KeptHashes self.old (λ placed.
-            IsErrOf result SessionFault.Sizes
-            ↔ (¬ IsTrue (overlaps placed first (length chunks.now)) × (first + length chunks.now < 2 ^ 64)
-            × (2 ^ 64 ≤ total_size (chunks_of placed) + total_size chunks.now))) }
+        ensures joined { OnOk result (0 < length chunks.now →
+            AreJoined C.ChunkRange self.old.runs first chunks.now self.new.runs) }
+        ensures placed { OnOk result (PlacesChunks C.ChunkRange self.old first chunks.now self.new) }
+        ensures size { OnOk result (self.new.size ≡ self.old.size + total_size chunks.now) }
+        ensures learned { OnOk result (0 < length chunks.now →
+            LearnsHashes H.KeptHashes self.old.kept chunks.now self.new.kept) }
+        ensures new { IfOk result (λ count. 0 < length chunks.now →
+            CountsNew H.KeptHashes self.old.kept chunks.now count) }
+        ensures overlap { 0 < length chunks.now → (IsErrOf result SessionFault.Overlap
+            ↔ IsTrue (meet self.old.runs first (length chunks.now))) }
+        ensures positions { 0 < length chunks.now → (IsErrOf result SessionFault.Positions
+            ↔ (¬ IsTrue (meet self.old.runs first (length chunks.now)) × (2 ^ 64 ≤ first + length chunks.now))) }
+        ensures sizes { 0 < length chunks.now → (IsErrOf result SessionFault.Sizes
+            ↔ (¬ IsTrue (meet self.old.runs first (length chunks.now)) × (first + length chunks.now < 2 ^ 64)
+            × (2 ^ 64 ≤ self.old.size + total_size chunks.now))) }
         ensures errors { IfErr result (λ e.
             (e ≡ SessionFault.Overlap) ⊎ ((e ≡ SessionFault.Positions)
             ⊎ ((e ≡ SessionFault.Sizes) ⊎ (e ≡ SessionFault.Memory)))) }
-        ensures refused { OnErr result (KeepsPlaced C.ChunkRange H.KeptHashes self.old self.new) }
-        ensures unchanged { OnErr result (self.new.runs ≡ self.old.runs) }
+        ensures unchanged { OnErr result (IsUnchanged H.KeptHashes self.old self.new) }
+        ensures meets { HoldsOfPlaced C.ChunkRange self.old (λ placed. 0 < length chunks.now →
+            meet self.old.runs first (length chunks.now) ≡ overlaps placed first (length chunks.now)) }
     {
         let (count, size) = (chunks.len() as u64, self.size);
         if count == 0 {
@@ -166,15 +178,15 @@ impl<C: ChunkRange, H: KeptHashes<C::Alloc>> SessionOf<C, H> {
     /// Fails only if an allocation fails. Then the session is as a failed [`SessionOf::put`] leaves it.
     pub fn place(&mut self, first: u64, chunks: &[Node], size: u64) -> Result<u64, AllocError>
         requires some { 0 < length chunks.now }
-        requires free { HoldsOfPlaced C.ChunkRange H.KeptHashes self.old (λ placed.
-            overlaps placed first (length chunks.now) ≡ false) }
+        requires free { meet self.old.runs first (length chunks.now) ≡ false }
         requires positions { first + length chunks.now < 2 ^ 64 }
         requires sizes { size ≡ self.old.size + total_size chunks.now }
-        ensures placed { OnOk result (PlacesChunks C.ChunkRange H.KeptHashes self.old first chunks.now self.new) }
-        ensures new { IfOk result (λ count.
-            HoldsOfPlaced C.ChunkRange H.KeptHashes self.old (λ placed. CountsNew H.KeptHashes placed chunks.now count)) }
-        ensures refused { OnErr result (KeepsPlaced C.ChunkRange H.KeptHashes self.old self.new) }
-        ensures unchanged { OnErr result (self.new.runs ≡ self.old.runs) }
+        ensures joined { OnOk result (AreJoined C.ChunkRange self.old.runs first chunks.now self.new.runs) }
+        ensures placed { OnOk result (PlacesChunks C.ChunkRange self.old first chunks.now self.new) }
+        ensures size { OnOk result (self.new.size ≡ size) }
+        ensures learned { OnOk result (LearnsHashes H.KeptHashes self.old.kept chunks.now self.new.kept) }
+        ensures new { IfOk result (CountsNew H.KeptHashes self.old.kept chunks.now) }
+        ensures unchanged { OnErr result (IsUnchanged H.KeptHashes self.old self.new) }
     {
         let new = self.kept.keep(self.runs.allocator().clone()?, chunks)?;
         match self.runs.place(first, chunks) {
@@ -238,10 +250,8 @@ impl<C: ChunkRange, H: KeptHashes<C::Alloc>> SessionOf<C, H> {
     ///
     /// Fails if an allocation fails. The session then knows the same hashes as before.
     pub fn keep_hashes(&mut self, chunks: &[Node]) -> Result<(), AllocError>
-        ensures kept { OnOk result ((known all : List Hash) → H.knows self.old.kept known →
-            AreBoth known (hashes_of chunks.now) all → H.knows self.new.kept all) }
-        ensures refused { OnErr result ((known : List Hash) →
-            H.knows self.old.kept known → H.knows self.new.kept known) }
+        ensures learned { OnOk result (LearnsHashes H.KeptHashes self.old.kept chunks.now self.new.kept) }
+        ensures unchanged { OnErr result (KeepsKnown H.KeptHashes self.old.kept self.new.kept) }
         ensures runs { self.new.runs ≡ self.old.runs }
         ensures size { self.new.size ≡ self.old.size }
     {
@@ -255,25 +265,35 @@ impl<C: ChunkRange, H: KeptHashes<C::Alloc>> SessionOf<C, H> {
     /// Fails with [`SessionFault::Gap`] if the taken positions aren't exactly those from 0 to `total` - 1, before it
     /// allocates. Fails with [`SessionFault::Memory`] if an allocation fails.
     pub fn hashes(&self, total: u64) -> Result<(MerkleHash, MerkleHash), SessionFault>
-        ensures root { IfOk result (λ hashes. HoldsOfPlaced C.ChunkRange H.KeptHashes self.now (λ placed.
+        ensures root { IfOk result (λ hashes. HaveRoot C.ChunkRange self.now.runs hashes.0) }
+        ensures file { IfOk result (λ hashes. HaveFileHash C.ChunkRange self.now.runs hashes.1) }
+        ensures placed_root { IfOk result (λ hashes. HoldsOfPlaced C.ChunkRange self.now (λ placed.
             IsRoot (chunks_of placed) hashes.0)) }
-        ensures file { IfOk result (λ hashes. HoldsOfPlaced C.ChunkRange H.KeptHashes self.now (λ placed.
+        ensures placed_file { IfOk result (λ hashes. HoldsOfPlaced C.ChunkRange self.now (λ placed.
             IsFileHash (chunks_of placed) (replicate 32 0) hashes.1)) }
-        ensures whole { ¬ IsErrOf result SessionFault.Gap → HoldsOfPlaced C.ChunkRange H.KeptHashes self.now (IsWhole total) }
-        ensures gap { IsErrOf result SessionFault.Gap → HoldsOfPlaced C.ChunkRange H.KeptHashes self.now (λ placed. ¬ IsWhole total placed) }
+        ensures cover { ¬ IsErrOf result SessionFault.Gap → Cover total self.now.runs }
+        ensures gap { IsErrOf result SessionFault.Gap → ¬ Cover total self.now.runs }
         ensures errors { IfErr result (λ e. (e ≡ SessionFault.Gap) ⊎ (e ≡ SessionFault.Memory)) }
+        ensures whole { HoldsOfPlaced C.ChunkRange self.now (λ placed.
+            IsWhole total placed ↔ Cover total self.now.runs) }
     {
         let whole = self.runs.whole_range(total)?;
-        Ok(hashes_of_open(self.runs.allocator(), whole).map_err(out_of_memory)?)
+        match hashes_of_open(self.runs.allocator(), whole) {
+            Ok(hashes) => Ok(hashes),
+            Err(error) => Err(out_of_memory(error).into()),
+        }
     }
 
     /// Returns the root of all chunks in the order of their positions. Fails like [`SessionOf::hashes`].
     pub fn root(&self, total: u64) -> Result<MerkleHash, SessionFault>
-        ensures root { IfOk result (λ root. HoldsOfPlaced C.ChunkRange H.KeptHashes self.now (λ placed.
+        ensures root { IfOk result (HaveRoot C.ChunkRange self.now.runs) }
+        ensures placed { IfOk result (λ root. HoldsOfPlaced C.ChunkRange self.now (λ placed.
             IsRoot (chunks_of placed) root)) }
-        ensures whole { ¬ IsErrOf result SessionFault.Gap → HoldsOfPlaced C.ChunkRange H.KeptHashes self.now (IsWhole total) }
-        ensures gap { IsErrOf result SessionFault.Gap → HoldsOfPlaced C.ChunkRange H.KeptHashes self.now (λ placed. ¬ IsWhole total placed) }
+        ensures cover { ¬ IsErrOf result SessionFault.Gap → Cover total self.now.runs }
+        ensures gap { IsErrOf result SessionFault.Gap → ¬ Cover total self.now.runs }
         ensures errors { IfErr result (λ e. (e ≡ SessionFault.Gap) ⊎ (e ≡ SessionFault.Memory)) }
+        ensures whole { HoldsOfPlaced C.ChunkRange self.now (λ placed.
+            IsWhole total placed ↔ Cover total self.now.runs) }
     {
         Ok(self.hashes(total)?.0)
     }
@@ -281,11 +301,14 @@ impl<C: ChunkRange, H: KeptHashes<C::Alloc>> SessionOf<C, H> {
     /// Returns the file hash, without a salt, of all chunks in the order of their positions. It is the one under 32
     /// zero bytes. Fails like [`SessionOf::hashes`].
     pub fn finish(&self, total: u64) -> Result<MerkleHash, SessionFault>
-        ensures file { IfOk result (λ file. HoldsOfPlaced C.ChunkRange H.KeptHashes self.now (λ placed.
+        ensures file { IfOk result (HaveFileHash C.ChunkRange self.now.runs) }
+        ensures placed { IfOk result (λ file. HoldsOfPlaced C.ChunkRange self.now (λ placed.
             IsFileHash (chunks_of placed) (replicate 32 0) file)) }
-        ensures whole { ¬ IsErrOf result SessionFault.Gap → HoldsOfPlaced C.ChunkRange H.KeptHashes self.now (IsWhole total) }
-        ensures gap { IsErrOf result SessionFault.Gap → HoldsOfPlaced C.ChunkRange H.KeptHashes self.now (λ placed. ¬ IsWhole total placed) }
+        ensures cover { ¬ IsErrOf result SessionFault.Gap → Cover total self.now.runs }
+        ensures gap { IsErrOf result SessionFault.Gap → ¬ Cover total self.now.runs }
         ensures errors { IfErr result (λ e. (e ≡ SessionFault.Gap) ⊎ (e ≡ SessionFault.Memory)) }
+        ensures whole { HoldsOfPlaced C.ChunkRange self.now (λ placed.
+            IsWhole total placed ↔ Cover total self.now.runs) }
     {
         Ok(self.hashes(total)?.1)
     }
@@ -295,7 +318,7 @@ impl<A: Allocator + Clone> Session<A> {
     /// Returns the number of known hashes: those that puts had and those that [`SessionOf::keep_hashes`] kept, each
     /// counted once. It allocates nothing.
     pub fn num_known_hashes(&self) -> usize
-        ensures { (known distinct : List Hash) → Knows self.now.kept known → AreEachOnce known distinct →
+        ensures { (distinct : List Hash) → Knows self.now.kept distinct → IsDistinct hash_eq distinct →
             result ≡ length distinct }
     {
         self.kept.len()
@@ -303,8 +326,8 @@ impl<A: Allocator + Clone> Session<A> {
 
     /// Returns all known hashes, each once, in no particular order. Fails if an allocation fails.
     pub fn known_hashes(&self) -> Result<Vec<MerkleHash, A>, AllocError>
-        ensures { IfOk result (λ hashes. (known : List Hash) → Knows self.now.kept known →
-            AreEachOnce known hashes.items) }
+        ensures all { IfOk result (λ hashes. Knows self.now.kept hashes.items) }
+        ensures each_once { IfOk result (λ hashes. IsDistinct hash_eq hashes.items) }
     {
         self.kept.to_vec(self.runs.allocator().clone()?)
     }

@@ -1,5 +1,6 @@
 -- What a hashing writer has taken, and its inner writer.
-use Rattle.std.specs.Prelude.{◌≡◌, ℕ, List, [], ◌++◌, take, Result, Ok, Err}
+use Rattle.std.specs.Prelude.{◌≡◌, ℕ, List, [], ◌++◌, take, Option, Result, Ok, Err}
+use Rattle.std.specs.Io.KnownBytes.{Appends}
 use Rattle.std.specs.Borrow.{Bor, MutBor}
 use Rattle.std.specs.Fn.{Once}
 use Rattle.xet_hash.specs.Hash.{data_key}
@@ -14,11 +15,13 @@ inner_writer w = w.writer
 unfoldable pub HoldsWritten : {W : Type 0} → HashedWrite W → List ℕ → Type 0
 HoldsWritten w m = Holds data_key w.hasher m
 
--- `new` has taken a beginning of `slice`, and no more: if `old` has taken m, then `new` has taken m followed by it
-pub record HoldsBeginning {W : Type 0} (old new : HashedWrite W) (slice : List ℕ) : Type 0 where
+-- `new` has taken a beginning of `slice`, and no more: it was appended to what the inner writer has, if that is known,
+-- and if `old` has taken m, then `new` has taken m followed by it
+pub record HoldsBeginning {W : Type 0} (contents : W → Option (List ℕ)) (old new : HashedWrite W) (slice : List ℕ) : Type 0 where
   pub taken : List ℕ
   pub rest : List ℕ
   pub parts : slice ≡ taken ++ rest
+  pub appends : Appends (contents (inner_writer old)) (contents (inner_writer new)) taken
   pub message : (m : List ℕ) → HoldsWritten old m → HoldsWritten new (m ++ taken)
 
 -- the bytes of `slice` that a write has taken, by its result: the first k for `Ok(k)`, at most all; none for an error

@@ -268,6 +268,8 @@ pub struct DataHashHexParseError;
 impl fmt::Display for DataHashHexParseError {
     ghost output = { λ _. Some (codes "Invalid hex input for DataHash") };
 
+    ghost styled_output = { λ _ _. Some (codes "Invalid hex input for DataHash") };
+
     fn fmt<W: fmt::Write>(&self, f: &mut fmt::Formatter<W>) -> fmt::Result {
         f.write_str("Invalid hex input for DataHash")
     }

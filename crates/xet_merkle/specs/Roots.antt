@@ -41,9 +41,13 @@ pub data IsRootBy (make : List Node → Node) : List Node → List ℕ → Type 
 abbrev pub IsRoot : List Node → List ℕ → Type 0
 IsRoot nodes hash = IsRootBy parent nodes hash
 
+-- the keyed hash of a root's bytes under a salt of 32 bytes
+abbrev pub salted_root : List ℕ → List ℕ → List ℕ
+salted_root salt root = hash_of (keyed_hash salt (bytes_of root))
+
 -- the file hash of a list of nodes under a salt of 32 bytes: the default hash of no nodes, or else the keyed hash of
 -- the root's bytes under the salt
 abbrev pub IsFileHash : List Node → List ℕ → List ℕ → Type 0
 IsFileHash [] salt hash = hash ≡ default_hash
 IsFileHash (node ∷ more) salt hash =
-    (root : List ℕ) × IsRoot (node ∷ more) root × (hash ≡ hash_of (keyed_hash salt (bytes_of root)))
+    (root : List ℕ) × IsRoot (node ∷ more) root × (hash ≡ salted_root salt root)

@@ -3,9 +3,9 @@
 //!
 //! The root of a list is the root of the parents of its groups.
 
-ghost use Rattle.std.specs.Prelude.{◌≡◌, ◌⊎◌, ◌+◌, ◌^◌, ◌<◌, ◌≤◌, ◌↔◌, List, length, replicate, IsOk, IfOk, IfErr, IsErrOf, IsTrue};
+ghost use Rattle.std.specs.Prelude.{◌≡◌, ◌⊎◌, ◌+◌, ◌^◌, ◌<◌, ◌≤◌, ◌↔◌, List, length, replicate, IsOk, IfOk, IfErr, IsErrOf, IsFalse, IsTrue};
 ghost use Rattle.xet_merkle.specs.Groups.{Node};
-ghost use Rattle.xet_merkle.specs.Roots.{total_size, parent_by, parent, IsRoot, IsFileHash};
+ghost use Rattle.xet_merkle.specs.Roots.{total_size, parent_by, parent, salted_root, IsRoot, IsFileHash};
 ghost use Rattle.xet_merkle.specs.Steps.Scan.{AreParents};
 ghost use Rattle.xet_merkle.specs.Steps.Room.{most_made};
 
@@ -115,8 +115,10 @@ pub fn file_hash_with_salt<A: Allocator>(
 /// The caller passes whether the list is empty, since the root doesn't show it: a list of one chunk has the chunk's own
 /// hash as its root, and that may be the default hash too.
 pub fn file_hash_of_root(root: MerkleHash, is_empty: bool, salt: &[u8; 32]) -> MerkleHash
-    ensures { (chunks : List Node) → IsRoot chunks root → (IsTrue is_empty ↔ (length chunks ≡ 0)) →
+    ensures chunks { (chunks : List Node) → IsRoot chunks root → (IsTrue is_empty ↔ (length chunks ≡ 0)) →
         IsFileHash chunks salt.now result }
+    ensures none { IsTrue is_empty → result ≡ root }
+    ensures some { IsFalse is_empty → result ≡ salted_root salt.now root }
 {
     if is_empty {
         return root;

@@ -2,7 +2,7 @@
 
 ghost use Rattle.std.specs.Prelude.{◌≡◌, ℕ, ◌+◌, ◌^◌, ◌<◌, ◌≤◌, ◌⊎◌, ◌↔◌, Bool, false, List, [], ◌++◌, length, replicate, IfOk, IfErr, OnOk, OnErr, IfSome, IfNone, IsSome, IsErrOf, IsTrue};
 ghost use Rattle.xet_merkle.specs.Groups.{Node};
-ghost use Rattle.xet_merkle.specs.Roots.{total_size, IsRoot, IsFileHash};
+ghost use Rattle.xet_merkle.specs.Roots.{total_size, salted_root, IsRoot, IsFileHash};
 ghost use Rattle.xet_merkle.specs.Ranges.{Refusals};
 
 use crate::aggregated_hashes::file_hash_of_root;
@@ -114,7 +114,9 @@ pub trait ChunkRange: Drop {
 }
 
 /// Returns the root and the file hash, without a salt, of the chunks of a range. The range must be open at both ends
-/// and have at least one chunk. If there is no range, it returns the hashes of no chunks.
+/// and have at least one chunk. If there is no range, it returns the hashes of no chunks. Since a range doesn't show
+/// whether it has chunks, a range without chunks gets the default hash as its root, and the keyed hash of that root in
+/// place of the file hash.
 ///
 /// Fails with [`CoreError::InvalidArguments`] if an end of the range is already marked. Fails with
 /// [`CoreError::OutOfMemory`] if an allocation fails.
@@ -123,8 +125,11 @@ pub fn hashes_of_open<C: ChunkRange>(
     range: Option<&C>,
 ) -> Result<(MerkleHash, MerkleHash), CoreError>
     ensures none { IfNone range.entry (IfOk result (λ hashes. IsRoot [] hashes.0 × IsFileHash [] (replicate 32 0) hashes.1)) }
-    ensures some { IfSome range.entry (λ range. (chunks : List Node) → C.stands range.now chunks → 0 < length chunks →
-        IfOk result (λ hashes. IsRoot chunks hashes.0 × IsFileHash chunks (replicate 32 0) hashes.1)) }
+    ensures root { IfSome range.entry (λ range. (chunks : List Node) → C.stands range.now chunks →
+        IfOk result (λ hashes. IsRoot chunks hashes.0)) }
+    ensures file { IfSome range.entry (λ range. (chunks : List Node) → C.stands range.now chunks → 0 < length chunks →
+        IfOk result (λ hashes. IsFileHash chunks (replicate 32 0) hashes.1)) }
+    ensures salted { IfSome range.entry (λ _. IfOk result (λ hashes. hashes.1 ≡ salted_root (replicate 32 0) hashes.0)) }
     ensures arguments { IsErrOf result CoreError.InvalidArguments
         ↔ ¬ (IfSome range.entry (λ range. (C.start range.now ≡ false) × (C.end range.now ≡ false))) }
     ensures errors { IfErr result (λ e. (e ≡ CoreError.InvalidArguments) ⊎ (e ≡ CoreError.OutOfMemory)) }

@@ -1,6 +1,6 @@
 //! Chunks in order, collected range by range.
 
-ghost use Rattle.std.specs.Prelude.{◌≡◌, ◌+◌, ◌^◌, ◌<◌, ◌≤◌, false, List, length, [], ◌∷◌, ◌++◌, IfOk, IfErr, OnOk};
+ghost use Rattle.std.specs.Prelude.{◌≡◌, ◌+◌, ◌^◌, ◌<◌, ◌≤◌, false, List, length, [], ◌∷◌, ◌++◌, IfOk, IfErr, OnErr, OnOk};
 ghost use Rattle.line_io.specs.Faults.{IfFaulty};
 ghost use Rattle.xet_merkle.specs.Groups.{Node};
 ghost use Rattle.xet_merkle.specs.Roots.{total_size};
@@ -55,6 +55,7 @@ impl<C: ChunkRange> Chunks<C> {
             (total_size chunks + chunk.1 < 2 ^ 64) × StandForChunks self.new (chunks ++ chunk ∷ [])) }
         ensures fault { IfErr result (λ refusal. (chunks : List Node) → StandForChunks self.old chunks →
             IfFaulty refusal (λ fault. (fault ≡ PairFault.Sizes) × (2 ^ 64 ≤ total_size chunks + chunk.1))) }
+        ensures kept { OnErr result ((chunks : List Node) → StandForChunks self.old chunks → StandForChunks self.new chunks) }
     {
         let Some(total) = self.total.checked_add(chunk.1) else {
             return Err(Refusal::Faulty(PairFault::Sizes));
@@ -82,6 +83,7 @@ impl<C: ChunkRange> Chunks<C> {
         ensures same { OnOk result ((chunks : List Node) → StandForChunks self.old chunks → StandForChunks self.new chunks) }
         ensures total { self.new.total ≡ self.old.total }
         ensures none { OnOk result (self.new.last.items ≡ []) }
+        ensures kept { OnErr result ((chunks : List Node) → StandForChunks self.old chunks → StandForChunks self.new chunks) }
     {
         let alloc = self.last.allocator().clone()?;
         let range = C::from_chunks(alloc, false, &self.last, false).map_err(out_of_memory)?;

@@ -42,7 +42,8 @@ const VERSION: &str = "xetrange 1.0.0 (hashes of xet-core-structures 1.5.2)\n";
 /// Does what the arguments request. Returns the exit status: 0, the number of a fault, or 64 after a wrong argument.
 ///
 /// With the one argument `make`, `join` or `root` it does what the call of that name does. With `--help` or `--version`
-/// it writes a text to `w`. If the status isn't 0, it writes the reason to `errors` as one line.
+/// it writes a text to `w`. Unless the argument is one of the first three, it reads nothing of `r`. If the status isn't
+/// 0, it writes the reason to `errors` as one line.
 pub fn program<R: Read, W: Write, E: Write>(
     alloc: impl Allocator,
     json: Global,
@@ -67,6 +68,8 @@ pub fn program<R: Read, W: Write, E: Write>(
         × (error_kind error ≢ ErrorKind.OutOfMemory → result ≡ WRONG_ARGUMENT)) }
     ensures status { result ≢ 0 → result ≢ WRONG_ARGUMENT → (fault : RangeFault) × (result ≡ status_of fault) }
     ensures unwritten { result ≢ 0 → result ≢ 5 → Keeps (W.contents w.old) (W.contents w.new) }
+    ensures unread { ¬ HasWords args (codes "make" ∷ []) → ¬ HasWords args (codes "join" ∷ []) →
+        ¬ HasWords args (codes "root" ∷ []) → Keeps (R.remaining r.old) (R.remaining r.new) }
     ensures silent { result ≡ 0 → Keeps (E.contents errors.old) (E.contents errors.new) }
 {
     let Some(result) = perform(alloc, json, args, r, w) else {
@@ -107,6 +110,8 @@ fn perform<R: Read, W: Write>(
     ensures unreadable { IfErr args (λ error.
         (error_kind error ≡ ErrorKind.OutOfMemory → result ≡ Some (Err RangeFault.Memory))
         × (error_kind error ≢ ErrorKind.OutOfMemory → IsNone result)) }
+    ensures unread { ¬ HasWords args (codes "make" ∷ []) → ¬ HasWords args (codes "join" ∷ []) →
+        ¬ HasWords args (codes "root" ∷ []) → Keeps (R.remaining r.old) (R.remaining r.new) }
     ensures none { IfNone result (Keeps (W.contents w.old) (W.contents w.new)) }
     ensures unwritten { IfSome result (λ done. IfErr done (λ fault. fault ≢ RangeFault.Write →
         Keeps (W.contents w.old) (W.contents w.new))) }

@@ -3,13 +3,13 @@ use Rattle.std.proofs.Common.{arith, ◌≡◌, ◌+◌, ◌^◌, ◌<◌, ◌�
 use Rattle.std.proofs.lemmas.Bool.{or_from, or_parts}
 use Rattle.xet_merkle.specs.Groups.{Node}
 use Rattle.xet_merkle.specs.Roots.{total_size}
-use Rattle.upload_session.specs.Session.{Placed, Parts, SessionStands, chunks_of, is_taken, overlaps, place, placed_from}
+use Rattle.upload_session.specs.Session.{Placed, Parts, StandFor, chunks_of, is_taken, meet, overlaps, place, placed_from}
 use Rattle.upload_session.specs.declared.kept_hashes.NoHashes.{NoHashes}
 use Rattle.upload_session.proofs.Placing.{any-placed, place-size}
-use Rattle.upload_session.proofs.Positions.{overlaps-runs, taken-overlaps}
+use Rattle.upload_session.proofs.Positions.{meet_overlaps, taken-overlaps}
 use Rattle.upload_session.proofs.Exchanging.{in_parts}
 use Rattle.xet_merkle.specs.declared.chunk_range.ChunkRange as chunk_range
-use Rattle.xetroot_text.specs.Steps.PlacedPairs.{Gathered, no_hashes, StandAmong, StandForPlaced, StandForPairs}
+use Rattle.xetroot_text.specs.Steps.PlacedPairs.{Gathered, StandAmong, StandForPlaced, StandForPairs, Stands}
 
 -- adjacent positions don't take one after them
 pub taken-after : (first : ℕ) (chunks : List Node) (position : ℕ) → first + length chunks ≤ position → is_taken (placed_from first chunks) position ≡ false
@@ -66,8 +66,8 @@ module _ {C A : Type 0} (kind : chunk_range.Ghosts C A) where
   abbrev StandIn : Parts C NoHashes → List Node → ℕ → ℕ → ℕ → List Placed → Type 0
   StandIn = StandForPlaced kind
 
-  abbrev Stands : Parts C NoHashes → List Placed → Type 0
-  Stands = SessionStands kind no_hashes
+  abbrev Ended : Parts C NoHashes → List Placed → Type 0
+  Ended = Stands kind
 
   module _ (session : Parts C NoHashes) (range : List Node) (first next total : ℕ) (pairs : List Placed) (h : StandIn session range first next total pairs) where
     -- only what is ended can have the next position
@@ -88,22 +88,28 @@ module _ {C A : Type 0} (kind : chunk_range.Ghosts C A) where
     }
 
     -- an open range with a pair is placed: no position is taken, and the sizes are the sum of all
-    pub StandForPlaced-free : 0 < length range → (placed : List Placed) → Stands session placed → overlaps placed first (length range) ≡ false
-    StandForPlaced-free some placed stand =
-        let count = length range in
-        overlaps-runs first count some kind session.runs placed stand.0 ∙ sym (overlaps-runs first count some kind session.runs h.before h.ended.0)
-        ∙ (free-among h.before first range pairs h.among some).0
+    pub StandForPlaced-free : 0 < length range → meet session.runs first (length range) ≡ false
+    StandForPlaced-free some =
+        meet_overlaps kind session.runs h.before first (length range) h.ended.0 some ∙ (free-among h.before first range pairs h.among some).0
 
     pub StandForPlaced-total : 0 < length range → total ≡ session.size + total_size range
     StandForPlaced-total some =
         let size = ap (λ l. total_size (chunks_of l)) (free-among h.before first range pairs h.among some).1 ∙ place-size h.before first range in
-        omega (arith, size, h.total_is, h.ended.2)
+        omega (arith, size, h.total_is, h.ended.1)
+
+    -- once it is placed, the session stands for all pairs
+    pub StandForPlaced-ended : 0 < length range → (new : Parts C NoHashes)
+        → (((placed : List Placed) → StandFor kind session.runs placed → StandFor kind new.runs (place placed first range)))
+        → new.size ≡ total → Ended new pairs
+    StandForPlaced-ended some new places size =
+        let is = (free-among h.before first range pairs h.among some).1 in
+        (subst (λ l. StandFor kind new.runs l) (sym is) (places h.before h.ended.0), size ∙ h.total_is)
 
   -- ranges that begin
-  pub StandForPlaced-none : (session : Parts C NoHashes) (range : List Node) → Stands session [] → range ≡ [] → StandIn session range 0 0 0 []
-  StandForPlaced-none session range stand none = subst (λ l. StandIn session l 0 0 0 []) (sym none) (record {
+  pub StandForPlaced-none : (session : Parts C NoHashes) (range : List Node) → session.runs ≡ [] → session.size ≡ 0 → range ≡ [] → StandIn session range 0 0 0 []
+  StandForPlaced-none session range no_runs size none = subst (λ l. StandIn session l 0 0 0 []) (sym none) (record {
     before = [];
-    ended = stand;
+    ended = (subst (λ runs. StandFor kind runs []) (sym no_runs) refl, size);
     among = refl;
     adjacent = refl;
     low = omega arith;
@@ -127,6 +133,6 @@ module _ {C A : Type 0} (kind : chunk_range.Ghosts C A) where
 
   -- where no range is open the session stands for all pairs
   pub stands-all : (session : Parts C NoHashes) (range : List Node) (first next total : ℕ) (pairs : List Placed) → StandIn session range first next total pairs
-      → range ≡ [] → Stands session pairs
+      → range ≡ [] → Ended session pairs
   stands-all session range first next total pairs hold none =
-      let is = subst (λ l. StandAmong hold.before first l pairs) none hold.among in subst (Stands session) (sym is) hold.ended
+      let is = subst (λ l. StandAmong hold.before first l pairs) none hold.among in subst (Ended session) (sym is) hold.ended

@@ -1,6 +1,6 @@
 //! The pairs of the lines, put into a session by their positions, range by range.
 
-ghost use Rattle.std.specs.Prelude.{◌≡◌, ◌+◌, ◌-◌, ◌^◌, ◌<◌, ◌≤◌, ℕ, List, length, [], ◌∷◌, replicate, IfOk, IfErr, OnOk, IsTrue};
+ghost use Rattle.std.specs.Prelude.{◌≡◌, ◌+◌, ◌-◌, ◌^◌, ◌<◌, ◌≤◌, ℕ, List, length, [], ◌∷◌, replicate, IfOk, IfErr, OnErr, OnOk, IsTrue};
 ghost use Rattle.line_io.specs.Faults.{IfFaulty};
 ghost use Rattle.xet_merkle.specs.Roots.{IsRoot, IsFileHash};
 ghost use Rattle.upload_session.specs.Session.{Placed, IsWhole, chunks_of, is_taken, place};
@@ -100,6 +100,10 @@ impl<C: ChunkRange> PlacedPairs<C> {
         ensures fault { IfErr result (λ refusal. (pairs : List Placed) (next : ℕ) →
             StandForPairs C.ChunkRange self.old pairs next →
             IfFaulty refusal (IsPairFault pairs next pair)) }
+        ensures kept_pairs { OnErr result ((pairs : List Placed) (next : ℕ) →
+            StandForPairs C.ChunkRange self.old pairs next →
+            StandForPairs C.ChunkRange self.new pairs next) }
+        ensures kept_count { OnErr result (self.new.count ≡ self.old.count) }
     {
         let Some(next) = self.next.checked_add(1) else {
             return Err(Refusal::Faulty(LineFault::Bad));
@@ -124,6 +128,9 @@ impl<C: ChunkRange> PlacedPairs<C> {
         ensures same { OnOk result ((pairs : List Placed) (next : ℕ) →
             StandForPairs C.ChunkRange self.old pairs next →
             StandForPairs C.ChunkRange self.new pairs position) }
+        ensures kept_pairs { OnErr result ((pairs : List Placed) (next : ℕ) →
+            StandForPairs C.ChunkRange self.old pairs next →
+            StandForPairs C.ChunkRange self.new pairs next) }
         ensures counted { self.new.count ≡ self.old.count }
     {
         if position == self.next {
@@ -143,6 +150,9 @@ impl<C: ChunkRange> PlacedPairs<C> {
         ensures kept { (self.new.next ≡ self.old.next) × (self.new.count ≡ self.old.count)
             × (self.new.total ≡ self.old.total) }
         ensures room { OnOk result (length self.new.range < MAX_RANGE_LEN) }
+        ensures kept_pairs { OnErr result ((pairs : List Placed) (next : ℕ) →
+            StandForPairs C.ChunkRange self.old pairs next →
+            StandForPairs C.ChunkRange self.new pairs next) }
     {
         if self.range.len() < MAX_RANGE_LEN {
             return Ok(());
@@ -158,6 +168,9 @@ impl<C: ChunkRange> PlacedPairs<C> {
         ensures kept { (self.new.next ≡ self.old.next) × (self.new.count ≡ self.old.count)
             × (self.new.total ≡ self.old.total) }
         ensures none { OnOk result (self.new.range ≡ []) }
+        ensures kept_pairs { OnErr result ((pairs : List Placed) (next : ℕ) →
+            StandForPairs C.ChunkRange self.old pairs next →
+            StandForPairs C.ChunkRange self.new pairs next) }
     {
         if self.range.is_empty() {
             return Ok(());

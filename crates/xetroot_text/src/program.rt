@@ -40,8 +40,8 @@ const VERSION: &str = "xetroot 1.0.0 (hashes of xet-core-structures 1.5.2)\n";
 
 /// Does what the arguments request. Returns the exit status: 0, the number of a fault, or 64 after a wrong argument.
 ///
-/// Without arguments it does what [`run`] does. With `--help` or `--version` it writes a text to `w`. If the status
-/// isn't 0, it writes the reason to `errors` as one line.
+/// Without arguments it does what [`run`] does. With `--help` or `--version` it writes a text to `w`, and with any
+/// arguments it reads nothing of `r`. If the status isn't 0, it writes the reason to `errors` as one line.
 pub fn program<R: Read, W: Write, E: Write>(
     alloc: impl Allocator,
     args: io::Result<Args>,
@@ -62,6 +62,7 @@ pub fn program<R: Read, W: Write, E: Write>(
     ensures fault { result ≢ 0 → result ≢ WRONG_ARGUMENT → IfSome (R.remaining r.old) (λ text.
         (fault : Fault) × (result ≡ status_of fault) × IsFaultOf text fault) }
     ensures unwritten { result ≢ 0 → result ≢ 5 → Keeps (W.contents w.old) (W.contents w.new) }
+    ensures unread { ¬ HasWords args [] → Keeps (R.remaining r.old) (R.remaining r.new) }
     ensures silent { result ≡ 0 → Keeps (E.contents errors.old) (E.contents errors.new) }
 {
     let Some(result) = perform(alloc, args, r, w) else {
@@ -98,6 +99,7 @@ fn perform<R: Read, W: Write>(
         IfSome (R.remaining r.old) (λ text. IsFaultOf text fault))) }
     ensures unwritten { IfSome result (λ done. IfErr done (λ fault. fault ≢ Fault.Write →
         Keeps (W.contents w.old) (W.contents w.new))) }
+    ensures unread { ¬ HasWords args [] → Keeps (R.remaining r.old) (R.remaining r.new) }
     ensures none { IfNone result (Keeps (W.contents w.old) (W.contents w.new)) }
 {
     match Request::read(args) {

@@ -3,8 +3,8 @@ use Rattle.std.specs.Prelude.{Some, Result, Err, IsErrOf}
 use Rattle.std.proofs.Common.{arith, ◌≡◌, ℕ, ◌⊎◌, ◌↔◌, List, refl, sym, ap, ◌∙◌, inl, inr}
 use Rattle.upload_session.specs.declared.session_fault.SessionFault.{SessionFault}
 use Rattle.upload_session.specs.declared.session_fault.SessionFault.TheVariants.{Overlap, Positions, Sizes, Memory, Gap}
-use Rattle.upload_session.specs.Session.{Placed, IsWhole}
-use Rattle.yurewha_c.specs.Sessions.{IsWholeStatus, Stands}
+use Rattle.upload_session.specs.Session.{Cover, IsWhole}
+use Rattle.yurewha_c.specs.Sessions.{HoldsOfPlaced, IsWholeStatus}
 use Rattle.yurewha_c.specs.Statuses.{session_status}
 use Rattle.yurewha_c.specs.declared.kept_session.KeptSession.{KeptSession}
 
@@ -41,23 +41,26 @@ module _ {A : Type 0} (answer : Result A SessionFault) (fault : SessionFault) (s
   )
 
   -- all chunks are asked for, and the session refuses
-  pub refused_status : (kept : KeptSession) (total : ℕ) → (fault ≡ Gap) ⊎ (fault ≡ Memory) →
-      (IsErrOf answer Gap → (placed : List Placed) → Stands kept placed → IsWhole total placed → ⊥) →
-      ((IsErrOf answer Gap → ⊥) → (placed : List Placed) → Stands kept placed → IsWhole total placed) → IsWholeStatus (Some kept) total status
-  refused_status kept total either gap whole =
+  pub refused_status : (kept : KeptSession) (total : ℕ) → (fault ≡ Gap) ⊎ (fault ≡ Memory)
+      → (IsErrOf answer Gap → Cover total kept.session.runs → ⊥) → ((IsErrOf answer Gap → ⊥) → Cover total kept.session.runs)
+      → HoldsOfPlaced kept (λ placed. IsWhole total placed ↔ Cover total kept.session.runs) → IsWholeStatus (Some kept) total status
+  refused_status kept total either gap cover whole =
       let known : (status ≡ 37) ⊎ (status ≡ 36) = elim either [ inl e ↦ inl (has ∙ ap session_status e) | inr e ↦ inr (has ∙ ap session_status e) ] in
       record {
-        on_gap = λ placed h. gap_tells (IsWhole total placed) (λ e. gap e placed h) (λ no. whole no placed h);
-        whole = λ e. absurd (elim known [ inl k ↦ omega (arith, k, e) | inr k ↦ omega (arith, k, e) ]);
+        on_gap = gap_tells (Cover total kept.session.runs) gap cover;
+        on_done = λ e. absurd (elim known [ inl k ↦ omega (arith, k, e) | inr k ↦ omega (arith, k, e) ]);
         on_empty = (λ e. absurd (elim known [ inl k ↦ omega (arith, k, e) | inr k ↦ omega (arith, k, e) ]), λ e. cc);
         statuses = elim known [ inl k ↦ inr (inr (inl k)) | inr k ↦ inr (inr (inr k)) ];
+        whole = whole;
       }
 
 -- all chunks are asked for, and the session has them
-pub done_status : (kept : KeptSession) (total : ℕ) → ((placed : List Placed) → Stands kept placed → IsWhole total placed) → IsWholeStatus (Some kept) total 0
-done_status kept total whole = record {
-  on_gap = λ placed h. (λ e. absurd (omega (arith, e)), λ no. absurd (no (whole placed h)));
-  whole = λ _. whole;
+pub done_status : (kept : KeptSession) (total : ℕ) → Cover total kept.session.runs
+    → HoldsOfPlaced kept (λ placed. IsWhole total placed ↔ Cover total kept.session.runs) → IsWholeStatus (Some kept) total 0
+done_status kept total covers whole = record {
+  on_gap = (λ e. absurd (omega (arith, e)), λ no. absurd (no covers));
+  on_done = λ _. covers;
   on_empty = (λ e. absurd (omega (arith, e)), λ e. cc);
   statuses = inl refl;
+  whole = whole;
 }

@@ -4,15 +4,21 @@ use Rattle.std.specs.declared.alloc.Global.{Global}
 use Rattle.xet_merkle.specs.Levels.{levels_size}
 use Rattle.xet_merkle.specs.Subtree.{Subtree}
 use Rattle.upload_session.specs.Hashes.{AreNew, Knows}
-use Rattle.upload_session.specs.Session.{Placed, PlacedRun, ends_after, with_last, CanFollow, IsWhole, SessionStands}
+use Rattle.upload_session.specs.Session.{Placed, PlacedRun, ends_after, with_last, CanFollow, Cover, IsWhole, StandFor}
+use Rattle.upload_session.specs.declared.kept_hashes.KeptHashes as kept_hashes
+use Rattle.upload_session.specs.declared.kept_hashes.SeenHashes.{SeenHashes}
 use Rattle.upload_session.specs.Subtrees.{subtrees}
 use Rattle.yurewha_c.specs.Handles.{BothHold}
 use Rattle.yurewha_c.specs.Statuses.{done, arguments, sizes, memory, empty_handle, session_memory, session_gap}
 use Rattle.yurewha_c.specs.declared.kept_session.KeptSession.{KeptSession}
 
--- a session stands for chunks by their positions, and knows all of their hashes
+-- what a session keeps of hashes: all
+abbrev pub seen_hashes : kept_hashes.Ghosts (SeenHashes Global) Global
+seen_hashes = record { knows = Knows; tells = AreNew }
+
+-- a session stands for chunks by their positions
 abbrev pub Stands : KeptSession → List Placed → Type 0
-Stands kept placed = SessionStands {A = Global} subtrees (record { knows = Knows; tells = AreNew }) kept.session placed
+Stands kept placed = StandFor {A = Global} subtrees kept.session.runs placed
 
 -- a fact holds of the chunks that a session stands for
 abbrev pub HoldsOfPlaced : KeptSession → (List Placed → Type 0) → Type 0
@@ -22,12 +28,13 @@ HoldsOfPlaced kept fact = (placed : List Placed) → Stands kept placed → fact
 abbrev pub run_from : KeptSession → ℕ → Option (PlacedRun Subtree)
 run_from kept position = find (ends_after position) kept.session.runs
 
--- the status of a call on all chunks of a session, which must have exactly the positions below a total
+-- the status of a call on all chunks of a session, whose runs must have exactly the positions below a total
 pub record IsWholeStatus (session : Option KeptSession) (total status : ℕ) : Type 0 where
-  pub on_gap : IfSome session (λ kept. HoldsOfPlaced kept (λ placed. (status ≡ session_gap) ↔ ¬ IsWhole total placed))
-  pub whole : status ≡ done → IsSomeAnd session (λ kept. HoldsOfPlaced kept (IsWhole total))
+  pub on_gap : IfSome session (λ kept. (status ≡ session_gap) ↔ ¬ Cover total kept.session.runs)
+  pub on_done : status ≡ done → IsSomeAnd session (λ kept. Cover total kept.session.runs)
   pub on_empty : (status ≡ empty_handle) ↔ (session ≡ None)
   pub statuses : (status ≡ done) ⊎ ((status ≡ empty_handle) ⊎ ((status ≡ session_gap) ⊎ (status ≡ session_memory)))
+  pub whole : IfSome session (λ kept. HoldsOfPlaced kept (λ placed. IsWhole total placed ↔ Cover total kept.session.runs))
 
 -- a run by its first position, the position after its last one, and its range
 abbrev pub run_of : ℕ → ℕ → Subtree → PlacedRun Subtree

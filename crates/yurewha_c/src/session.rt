@@ -2,11 +2,11 @@
 
 ghost use Rattle.std.specs.Prelude.{◌≡◌, ◌≢◌, ◌⊎◌, ◌↔◌, ◌+◌, ◌^◌, ◌<◌, ◌≤◌, None, IfErr, IfOk, IfSome, IsErrOf, IsSomeAnd, IsTrue, List, [], OnErr, OnOk, Ok, replicate, length};
 ghost use Rattle.xet_merkle.specs.Roots.{IsRoot, IsFileHash, total_size};
-ghost use Rattle.upload_session.specs.Hashes.{Hash as HashWords, hashes_of, AreNew};
-ghost use Rattle.upload_session.specs.Session.{place, chunks_of, is_taken, overlaps, IsWhole};
+ghost use Rattle.upload_session.specs.Session.{place, chunks_of, is_taken, meet, overlaps, AreJoined, CountsNew, HasNothing, HaveFileHash, HaveRoot, IsUnchanged, LearnsHashes};
+ghost use Rattle.upload_session.specs.Subtrees.{subtrees};
 ghost use Rattle.yurewha_c.specs.Chunks.{nodes_of};
 ghost use Rattle.yurewha_c.specs.Handles.{BothHold, IsCopyStatus, Reads};
-ghost use Rattle.yurewha_c.specs.Sessions.{HoldsOfPlaced, IsWholeStatus, Stands};
+ghost use Rattle.yurewha_c.specs.Sessions.{seen_hashes, HoldsOfPlaced, IsWholeStatus, Stands};
 
 use crate::chunks::{Chunk, nodes_of};
 use crate::hash::Hash;
@@ -26,7 +26,7 @@ use upload_session::session_fault::SessionFault;
 /// - `MEMORY`: an allocation failed. The handle is unchanged.
 #[unsafe(no_mangle)]
 pub extern "C" fn yurewha_session_new(alloc: Global, session: &mut SessionHandle) -> u32
-    ensures made { result ≡ DONE → IsSomeAnd session.new.value (λ made. Stands made []) }
+    ensures made { result ≡ DONE → IsSomeAnd session.new.value (λ made. HasNothing seen_hashes made.session) }
     ensures statuses { (result ≡ DONE) ⊎ (result ≡ MEMORY) }
     ensures unchanged { result ≢ DONE → session.new.value ≡ session.old.value }
 {
@@ -44,25 +44,28 @@ fn put_chunks(
     first: u64,
     chunks: &[Chunk],
 ) -> Result<u64, SessionFault>
+    ensures nothing { length chunks.now ≡ 0 → (result ≡ Ok 0) × (kept.new ≡ kept.old) }
+    ensures joined { OnOk result (0 < length chunks.now →
+        AreJoined {A = Global} subtrees kept.old.session.runs first (nodes_of chunks.now) kept.new.session.runs) }
     ensures placed { OnOk result (HoldsOfPlaced kept.old (λ placed.
         Stands kept.new (place placed first (nodes_of chunks.now)))) }
-    ensures new { IfOk result (λ count. HoldsOfPlaced kept.old (λ placed. 0 < length chunks.now →
-        (new : List HashWords) × AreNew (hashes_of (chunks_of placed)) (hashes_of (nodes_of chunks.now)) new
-        × (count ≡ length new))) }
-    ensures nothing { length chunks.now ≡ 0 → (result ≡ Ok 0) × (kept.new ≡ kept.old) }
-    ensures overlap { HoldsOfPlaced kept.old (λ placed. ¬ IsErrOf result SessionFault.Memory →
-        (IsErrOf result SessionFault.Overlap ↔ IsTrue (overlaps placed first (length chunks.now)))) }
-    ensures positions { HoldsOfPlaced kept.old (λ placed. ¬ IsErrOf result SessionFault.Memory →
-        (IsErrOf result SessionFault.Positions ↔ (¬ IsTrue (overlaps placed first (length chunks.now))
-        × (2 ^ 64 ≤ first + length chunks.now)))) }
-    ensures sizes { HoldsOfPlaced kept.old (λ placed. ¬ IsErrOf result SessionFault.Memory →
-        (IsErrOf result SessionFault.Sizes ↔ (¬ IsTrue (overlaps placed first (length chunks.now))
+    ensures size { OnOk result (kept.new.session.size ≡ kept.old.session.size + total_size (nodes_of chunks.now)) }
+    ensures learned { OnOk result (0 < length chunks.now →
+        LearnsHashes seen_hashes kept.old.session.kept (nodes_of chunks.now) kept.new.session.kept) }
+    ensures new { IfOk result (λ count. 0 < length chunks.now →
+        CountsNew seen_hashes kept.old.session.kept (nodes_of chunks.now) count) }
+    ensures overlap { 0 < length chunks.now → ¬ IsErrOf result SessionFault.Memory →
+        (IsErrOf result SessionFault.Overlap ↔ IsTrue (meet kept.old.session.runs first (length chunks.now))) }
+    ensures positions { 0 < length chunks.now → ¬ IsErrOf result SessionFault.Memory →
+        (IsErrOf result SessionFault.Positions ↔ (¬ IsTrue (meet kept.old.session.runs first (length chunks.now))
+        × (2 ^ 64 ≤ first + length chunks.now))) }
+    ensures sizes { 0 < length chunks.now → ¬ IsErrOf result SessionFault.Memory →
+        (IsErrOf result SessionFault.Sizes ↔ (¬ IsTrue (meet kept.old.session.runs first (length chunks.now))
         × (first + length chunks.now < 2 ^ 64)
-        × (2 ^ 64 ≤ total_size (chunks_of placed) + total_size (nodes_of chunks.now))))) }
+        × (2 ^ 64 ≤ kept.old.session.size + total_size (nodes_of chunks.now)))) }
     ensures errors { IfErr result (λ e. (e ≡ SessionFault.Overlap) ⊎ ((e ≡ SessionFault.Positions)
         ⊎ ((e ≡ SessionFault.Sizes) ⊎ (e ≡ SessionFault.Memory)))) }
-    ensures refused { OnErr result (HoldsOfPlaced kept.old (Stands kept.new)) }
-    ensures unchanged { OnErr result (kept.new.session.runs ≡ kept.old.session.runs) }
+    ensures unchanged { OnErr result (IsUnchanged seen_hashes kept.old.session kept.new.session) }
 {
     if chunks.is_empty() {
         return kept.session.put(first, &[]);
@@ -90,28 +93,34 @@ pub extern "C" fn yurewha_session_put(
     chunks: &[Chunk],
     new_hashes: &mut u64,
 ) -> u32
-    ensures placed { result ≡ DONE → BothHold session.old.value session.new.value (λ before after.
-        HoldsOfPlaced before (λ placed. Stands after (place placed first (nodes_of chunks.now)))) }
-    ensures new { result ≡ DONE → IsSomeAnd session.old.value (λ before. HoldsOfPlaced before (λ placed.
-        0 < length chunks.now → (new : List HashWords)
-        × AreNew (hashes_of (chunks_of placed)) (hashes_of (nodes_of chunks.now)) new × (new_hashes.new ≡ length new))) }
     ensures nothing { length chunks.now ≡ 0 → session.old.value ≢ None →
         (result ≡ DONE) × (new_hashes.new ≡ 0) × (session.new.value ≡ session.old.value) }
+    ensures joined { result ≡ DONE → BothHold session.old.value session.new.value (λ before after. 0 < length chunks.now →
+        AreJoined {A = Global} subtrees before.session.runs first (nodes_of chunks.now) after.session.runs) }
+    ensures placed { result ≡ DONE → BothHold session.old.value session.new.value (λ before after.
+        HoldsOfPlaced before (λ placed. Stands after (place placed first (nodes_of chunks.now)))) }
+    ensures size { result ≡ DONE → BothHold session.old.value session.new.value (λ before after.
+        after.session.size ≡ before.session.size + total_size (nodes_of chunks.now)) }
+    ensures learned { result ≡ DONE → BothHold session.old.value session.new.value (λ before after. 0 < length chunks.now →
+        LearnsHashes seen_hashes before.session.kept (nodes_of chunks.now) after.session.kept) }
+    ensures new { result ≡ DONE → IsSomeAnd session.old.value (λ before. 0 < length chunks.now →
+        CountsNew seen_hashes before.session.kept (nodes_of chunks.now) new_hashes.new) }
     ensures empty { (result ≡ EMPTY_HANDLE) ↔ (session.old.value ≡ None) }
-    ensures overlap { result ≢ SESSION_MEMORY → IfSome session.old.value (λ before. HoldsOfPlaced before (λ placed.
-        (result ≡ SESSION_OVERLAP) ↔ IsTrue (overlaps placed first (length chunks.now)))) }
-    ensures positions { result ≢ SESSION_MEMORY → IfSome session.old.value (λ before. HoldsOfPlaced before (λ placed.
-        (result ≡ SESSION_POSITIONS) ↔ (¬ IsTrue (overlaps placed first (length chunks.now))
-        × (2 ^ 64 ≤ first + length chunks.now)))) }
-    ensures sizes { result ≢ SESSION_MEMORY → IfSome session.old.value (λ before. HoldsOfPlaced before (λ placed.
-        (result ≡ SESSION_SIZES) ↔ (¬ IsTrue (overlaps placed first (length chunks.now))
+    ensures overlap { result ≢ SESSION_MEMORY → 0 < length chunks.now → IfSome session.old.value (λ before.
+        (result ≡ SESSION_OVERLAP) ↔ IsTrue (meet before.session.runs first (length chunks.now))) }
+    ensures positions { result ≢ SESSION_MEMORY → 0 < length chunks.now → IfSome session.old.value (λ before.
+        (result ≡ SESSION_POSITIONS) ↔ (¬ IsTrue (meet before.session.runs first (length chunks.now))
+        × (2 ^ 64 ≤ first + length chunks.now))) }
+    ensures sizes { result ≢ SESSION_MEMORY → 0 < length chunks.now → IfSome session.old.value (λ before.
+        (result ≡ SESSION_SIZES) ↔ (¬ IsTrue (meet before.session.runs first (length chunks.now))
         × (first + length chunks.now < 2 ^ 64)
-        × (2 ^ 64 ≤ total_size (chunks_of placed) + total_size (nodes_of chunks.now))))) }
+        × (2 ^ 64 ≤ before.session.size + total_size (nodes_of chunks.now)))) }
+    ensures meets { IfSome session.old.value (λ before. HoldsOfPlaced before (λ placed. 0 < length chunks.now →
+        meet before.session.runs first (length chunks.now) ≡ overlaps placed first (length chunks.now))) }
     ensures statuses { (result ≡ DONE) ⊎ ((result ≡ EMPTY_HANDLE) ⊎ ((result ≡ SESSION_OVERLAP)
         ⊎ ((result ≡ SESSION_POSITIONS) ⊎ ((result ≡ SESSION_SIZES) ⊎ (result ≡ SESSION_MEMORY))))) }
     ensures refused { result ≢ DONE → result ≢ EMPTY_HANDLE →
-        BothHold session.old.value session.new.value (λ before after.
-        (after.session.runs ≡ before.session.runs) × HoldsOfPlaced before (Stands after)) }
+        BothHold session.old.value session.new.value (λ before after. IsUnchanged seen_hashes before.session after.session) }
     ensures still_empty { result ≡ EMPTY_HANDLE → session.new.value ≡ None }
     ensures unchanged { result ≢ DONE → new_hashes.new ≡ new_hashes.old }
 {
@@ -141,7 +150,8 @@ pub extern "C" fn yurewha_session_taken(
     taken: &mut bool,
 ) -> u32
     ensures { Reads session.old.value session.new.value result (taken.new ≡ taken.old)
-        (λ kept. HoldsOfPlaced kept (λ placed. taken.new ≡ is_taken placed position)) }
+        (λ kept. (taken.new ≡ meet kept.session.runs position 1)
+        × HoldsOfPlaced kept (λ placed. taken.new ≡ is_taken placed position)) }
 {
     let Some(kept) = session.take(alloc) else {
         return EMPTY_HANDLE;
@@ -166,7 +176,9 @@ pub extern "C" fn yurewha_session_root(
     total: u64,
     root: &mut Hash,
 ) -> u32
-    ensures root { result ≡ DONE → IsSomeAnd session.old.value (λ kept. HoldsOfPlaced kept (λ placed.
+    ensures root { result ≡ DONE → IsSomeAnd session.old.value (λ kept.
+        HaveRoot {A = Global} subtrees kept.session.runs root.new.words) }
+    ensures placed { result ≡ DONE → IsSomeAnd session.old.value (λ kept. HoldsOfPlaced kept (λ placed.
         IsRoot (chunks_of placed) root.new.words)) }
     ensures status { IsWholeStatus session.old.value total result }
     ensures kept { session.new.value ≡ session.old.value }
@@ -197,7 +209,9 @@ pub extern "C" fn yurewha_session_finish(
     total: u64,
     hash: &mut Hash,
 ) -> u32
-    ensures file { result ≡ DONE → IsSomeAnd session.old.value (λ kept. HoldsOfPlaced kept (λ placed.
+    ensures file { result ≡ DONE → IsSomeAnd session.old.value (λ kept.
+        HaveFileHash {A = Global} subtrees kept.session.runs hash.new.words) }
+    ensures placed { result ≡ DONE → IsSomeAnd session.old.value (λ kept. HoldsOfPlaced kept (λ placed.
         IsFileHash (chunks_of placed) (replicate 32 0) hash.new.words)) }
     ensures status { IsWholeStatus session.old.value total result }
     ensures kept { session.new.value ≡ session.old.value }

@@ -2,7 +2,9 @@
 
 ghost use Rattle.std.specs.Prelude.{◌≡◌, ◌≢◌, ◌⊎◌, ◌↔◌, None, Some, IfErr, IfOk, IfSome, IsSomeAnd, length, slice_get};
 ghost use Rattle.yurewha_c.specs.Handles.{BothHold, Reads};
-ghost use Rattle.yurewha_c.specs.Sessions.{HoldsOfPlaced, run_from, run_of};
+ghost use Rattle.upload_session.specs.Session.{size_of_runs, AreApart};
+ghost use Rattle.upload_session.specs.Subtrees.{subtrees};
+ghost use Rattle.yurewha_c.specs.Sessions.{run_from, run_of};
 
 use crate::kept_session::KeptSession;
 use crate::session_handle::SessionHandle;
@@ -14,6 +16,9 @@ use xet_merkle::merkle_hash_subtree::MerkleHashSubtree;
 
 /// Writes the number of runs of adjacent taken positions. It allocates nothing. The session is unchanged.
 ///
+/// Whatever calls a session has had, a free position lies between two of its runs, and its size is that of all
+/// subtrees together.
+///
 /// - `DONE`: it is written.
 /// - `EMPTY_HANDLE`: the handle is empty. Nothing is written.
 #[unsafe(no_mangle)]
@@ -22,8 +27,11 @@ pub extern "C" fn yurewha_session_num_runs(
     session: &mut SessionHandle,
     count: &mut usize,
 ) -> u32
-    ensures { Reads session.old.value session.new.value result (count.new ≡ count.old)
+    ensures count { Reads session.old.value session.new.value result (count.new ≡ count.old)
         (λ kept. count.new ≡ length kept.session.runs) }
+    ensures apart { IfSome session.old.value (λ kept. AreApart kept.session.runs) }
+    ensures size { IfSome session.old.value (λ kept.
+        kept.session.size ≡ size_of_runs {A = Global} subtrees kept.session.runs) }
 {
     let Some(kept) = session.take(alloc) else {
         return EMPTY_HANDLE;
@@ -95,12 +103,9 @@ pub extern "C" fn yurewha_session_run(
 // Returns the first run that ends after a position: its first position, the position after its last one, and a copy of
 // its range. Fails with the status.
 fn copied_run_from(kept: &KeptSession, position: u64) -> Result<(u64, u64, MerkleHashSubtree), u32>
-    ensures copied { IfOk result (λ copied. HoldsOfPlaced kept.now (λ _.
-        run_from kept.now position ≡ Some (run_of copied.0 copied.1 copied.2))) }
-    ensures refused { IfErr result (λ status. HoldsOfPlaced kept.now (λ _.
-        ((status ≡ ARGUMENTS) × (run_from kept.now position ≡ None))
-        ⊎ ((status ≡ MEMORY) × (run_from kept.now position ≢ None)))) }
-    ensures statuses { IfErr result (λ status. (status ≡ ARGUMENTS) ⊎ (status ≡ MEMORY)) }
+    ensures copied { IfOk result (λ copied. run_from kept.now position ≡ Some (run_of copied.0 copied.1 copied.2)) }
+    ensures refused { IfErr result (λ status. ((status ≡ ARGUMENTS) × (run_from kept.now position ≡ None))
+        ⊎ ((status ≡ MEMORY) × (run_from kept.now position ≢ None))) }
 {
     let Some((first, end, range)) = kept.session.run_from(position) else {
         return Err(ARGUMENTS);
@@ -130,10 +135,9 @@ pub extern "C" fn yurewha_session_run_from(
     end: &mut u64,
     range: &mut SubtreeHandle,
 ) -> u32
-    ensures run { result ≡ DONE → BothHold session.old.value range.new.value (λ kept range. HoldsOfPlaced kept (λ _.
-        run_from kept position ≡ Some (run_of first.new end.new range))) }
-    ensures arguments { IfSome session.old.value (λ kept. HoldsOfPlaced kept (λ _.
-        (result ≡ ARGUMENTS) ↔ (run_from kept position ≡ None))) }
+    ensures run { result ≡ DONE → BothHold session.old.value range.new.value (λ kept range.
+        run_from kept position ≡ Some (run_of first.new end.new range)) }
+    ensures arguments { IfSome session.old.value (λ kept. (result ≡ ARGUMENTS) ↔ (run_from kept position ≡ None)) }
     ensures empty { (result ≡ EMPTY_HANDLE) ↔ (session.old.value ≡ None) }
     ensures statuses { (result ≡ DONE) ⊎ ((result ≡ EMPTY_HANDLE) ⊎ ((result ≡ ARGUMENTS) ⊎ (result ≡ MEMORY))) }
     ensures kept { session.new.value ≡ session.old.value }

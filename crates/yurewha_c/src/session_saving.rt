@@ -1,7 +1,8 @@
 //! What saves a session and restores it: its runs, which `session_runs` reads, and its known hashes.
 
 ghost use Rattle.std.specs.Prelude.{◌≡◌, ◌≢◌, ◌⊎◌, ◌↔◌, None, Some, IfOk, IfSome, IsSomeAnd, List, OnErr, OnOk, length};
-ghost use Rattle.upload_session.specs.Hashes.{Hash as HashWords, hashes_of, AreBoth, AreEachOnce, Knows};
+ghost use Rattle.std.specs.List.{IsDistinct};
+ghost use Rattle.upload_session.specs.Hashes.{Hash as HashWords, hash_eq, hashes_of, AreBoth, Knows};
 ghost use Rattle.yurewha_c.specs.Handles.{BothHold, Reads};
 ghost use Rattle.yurewha_c.specs.Pieces.{words_of};
 ghost use Rattle.yurewha_c.specs.Sessions.{IsPushStatus, pushed, run_of};
@@ -142,7 +143,7 @@ pub extern "C" fn yurewha_session_num_known_hashes(
     count: &mut usize,
 ) -> u32
     ensures { Reads session.old.value session.new.value result (count.new ≡ count.old) (λ kept.
-        (known distinct : List HashWords) → Knows kept.session.kept known → AreEachOnce known distinct →
+        (distinct : List HashWords) → Knows kept.session.kept distinct → IsDistinct hash_eq distinct →
         count.new ≡ length distinct) }
 {
     let Some(kept) = session.take(alloc) else {
@@ -165,10 +166,10 @@ fn write_known(known: &[MerkleHash], hashes: &mut [Hash])
 
 // Writes the hashes that a session knows. Returns the status.
 fn write_hashes(kept: &KeptSession, hashes: &mut [Hash]) -> u32
-    ensures hashes { result ≡ DONE → (known : List HashWords) → Knows kept.now.session.kept known →
-        AreEachOnce known (words_of hashes.new) }
-    ensures arguments { (known distinct : List HashWords) → Knows kept.now.session.kept known →
-        AreEachOnce known distinct → ((result ≡ ARGUMENTS) ↔ (length hashes.old ≢ length distinct)) }
+    ensures all { result ≡ DONE → Knows kept.now.session.kept (words_of hashes.new) }
+    ensures each_once { result ≡ DONE → IsDistinct hash_eq (words_of hashes.new) }
+    ensures arguments { (distinct : List HashWords) → Knows kept.now.session.kept distinct →
+        IsDistinct hash_eq distinct → ((result ≡ ARGUMENTS) ↔ (length hashes.old ≢ length distinct)) }
     ensures statuses { (result ≡ DONE) ⊎ ((result ≡ ARGUMENTS) ⊎ (result ≡ MEMORY)) }
     ensures unchanged { result ≢ DONE → hashes.new ≡ hashes.old }
 {
@@ -196,10 +197,10 @@ pub extern "C" fn yurewha_session_known_hashes(
     session: &mut SessionHandle,
     hashes: &mut [Hash],
 ) -> u32
-    ensures hashes { result ≡ DONE → IsSomeAnd session.old.value (λ kept. (known : List HashWords) →
-        Knows kept.session.kept known → AreEachOnce known (words_of hashes.new)) }
-    ensures arguments { IfSome session.old.value (λ kept. (known distinct : List HashWords) →
-        Knows kept.session.kept known → AreEachOnce known distinct →
+    ensures all { result ≡ DONE → IsSomeAnd session.old.value (λ kept. Knows kept.session.kept (words_of hashes.new)) }
+    ensures each_once { result ≡ DONE → IsDistinct hash_eq (words_of hashes.new) }
+    ensures arguments { IfSome session.old.value (λ kept. (distinct : List HashWords) →
+        Knows kept.session.kept distinct → IsDistinct hash_eq distinct →
         ((result ≡ ARGUMENTS) ↔ (length hashes.old ≢ length distinct))) }
     ensures empty { (result ≡ EMPTY_HANDLE) ↔ (session.old.value ≡ None) }
     ensures statuses { (result ≡ DONE) ⊎ ((result ≡ EMPTY_HANDLE) ⊎ ((result ≡ ARGUMENTS) ⊎ (result ≡ MEMORY))) }

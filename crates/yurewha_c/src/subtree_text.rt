@@ -67,7 +67,7 @@ pub extern "C" fn yurewha_subtree_to_json(
 /// Reads a subtree from JSON text. The handle owns it.
 ///
 /// - `DONE`: it is read. What the handle owned before is freed.
-/// - `TEXT`: the text isn't JSON.
+/// - `TEXT`: the text isn't UTF-8, or isn't JSON.
 /// - `RULE` + rule: the value breaks this rule, from 1 to 13 of `MerkleHashSubtree::from_json` of `xet_merkle`, and
 ///   none with a lower number.
 /// - `MEMORY`: an allocation failed; this may be returned instead of `TEXT` or a rule.
@@ -83,7 +83,8 @@ pub extern "C" fn yurewha_subtree_from_json(
         (json : Data) × IsUtf8 text.now × (read text.now ≡ Some json) × Reads json made) }
     ensures text { result ≡ TEXT → IsUtf8 text.now → read text.now ≡ None }
     ensures statuses { (result ≡ DONE) ⊎ ((result ≡ TEXT) ⊎ ((result ≡ MEMORY)
-        ⊎ ((rule : ℕ) × (result ≡ RULE + rule) × (json : Data) × (read text.now ≡ Some json) × BreaksRule json rule))) }
+        ⊎ ((rule : ℕ) × (result ≡ RULE + rule)
+        × (json : Data) × IsUtf8 text.now × (read text.now ≡ Some json) × BreaksRule json rule))) }
     ensures unchanged { result ≢ DONE → subtree.new.value ≡ subtree.old.value }
 {
     let value = match Value::from_slice(alloc, text) {

@@ -6,9 +6,10 @@ use Rattle.std.specs.BTreeMap.{is_at}
 use Rattle.std.specs.BTreeMap.Range.{entries_between}
 use Rattle.std.specs.Map.{lookup}
 use Rattle.xet_merkle.specs.Groups.{Node}
+use Rattle.xet_merkle.specs.Roots.{total_size}
 use Rattle.xet_merkle.specs.declared.chunk_range.ChunkRange as chunk_range
 use Rattle.upload_session.specs.declared.runs.Run.{Run}
-use Rattle.upload_session.specs.Session.{Placed, PlacedRun, place, overlaps, StandFor}
+use Rattle.upload_session.specs.Session.{Placed, PlacedRun, meet, place, AreApart, AreJoined, StandFor}
 
 -- the last of the runs that begin at or before a position ends right before it
 abbrev pub EndsAt : {C : Type 0} → List (PlacedRun C) → ℕ → ℕ → Type 0
@@ -55,12 +56,18 @@ module _ {C A : Type 0} (kind : chunk_range.Ghosts C A) where
       (range : C) × (new ≡ others ++ (begin, record { end = next.end; range = range }) ∷ back)
       × ((a b : List Node) → kind.stands front a → kind.stands next.range b → kind.stands range (a ++ b))
       × (kind.start range ≡ kind.start front) × (kind.end range ≡ kind.end next.range)
+      × (kind.total range ≡ kind.total front + kind.total next.range)
 
-  -- a range that is open at both ends is placed from a position up to another one; the new runs also stand for its
-  -- chunks
+  -- chunks are joined with runs, which stay apart, and now stand for these chunks too
+  abbrev pub TakeIn : List (PlacedRun C) → ℕ → List Node → List (PlacedRun C) → Type 0
+  TakeIn old first chunks new =
+      AreJoined kind old first chunks new × AreApart new
+      × ((placed : List Placed) → StandFor kind old placed → StandFor kind new (place placed first chunks))
+
+  -- a range that is open at both ends is placed from a position up to another one, and runs take its chunks in
   abbrev pub Places : List (PlacedRun C) → ℕ → ℕ → C → List (PlacedRun C) → Type 0
   Places old first after made new =
-      (placed : List Placed) (chunks : List Node) → StandFor kind old placed → 0 < length chunks
-      → after ≡ first + length chunks → overlaps placed first (length chunks) ≡ false
-      → kind.stands made chunks → kind.start made ≡ false → kind.end made ≡ false
-      → StandFor kind new (place placed first chunks)
+      (chunks : List Node) → 0 < length chunks → after ≡ first + length chunks
+      → AreApart old → meet old first (length chunks) ≡ false
+      → kind.stands made chunks → kind.start made ≡ false → kind.end made ≡ false → kind.total made ≡ total_size chunks
+      → TakeIn old first chunks new

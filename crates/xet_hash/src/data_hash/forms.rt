@@ -139,6 +139,8 @@ pub struct DataHashBytesParseError;
 impl fmt::Display for DataHashBytesParseError {
     ghost output = { λ _. Some (codes "Invalid bytes input for DataHash") };
 
+    ghost styled_output = { λ _ _. Some (codes "Invalid bytes input for DataHash") };
+
     fn fmt<W: fmt::Write>(&self, f: &mut fmt::Formatter<W>) -> fmt::Result {
         f.write_str("Invalid bytes input for DataHash")
     }
@@ -165,6 +167,8 @@ impl From<DataHashBytesParseError> for HashTextError {
 
 impl fmt::Display for HashTextError {
     ghost output = { λ e. Some (hash_text_error_text e) };
+
+    ghost styled_output = { λ e _. Some (hash_text_error_text e) };
 
     fn fmt<W: fmt::Write>(&self, f: &mut fmt::Formatter<W>) -> fmt::Result {
         match self {

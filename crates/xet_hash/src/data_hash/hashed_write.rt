@@ -1,6 +1,6 @@
 //! A writer that hashes what is written.
 
-ghost use Rattle.std.specs.Prelude.{◌≡◌, ◌+◌, ◌^◌, ◌<◌, ◌≤◌, ℕ, List, [], ◌++◌, length, IfOk, OnOk, OnErr, IsErrAnd};
+ghost use Rattle.std.specs.Prelude.{◌≡◌, ◌+◌, ◌^◌, ◌<◌, ◌≤◌, ℕ, List, [], ◌++◌, length, IfOk, OnOk, OnErr, IsErrAnd, IsOk};
 ghost use Rattle.std.specs.Io.{WritesAtMost};
 ghost use Rattle.std.specs.Io.KnownBytes.{Appends, Keeps, WriteAppends};
 ghost use Rattle.std.specs.IoError.{error_kind};
@@ -113,14 +113,16 @@ impl<W: Write> Write for HashedWrite<W> {
         self.write_by(slice, |writer, slice| writer.write(slice))
     }
 
-    /// Passes all of `slice` to the inner writer, in as many calls of `write` as needed.
+    /// Passes all of `slice` to the inner writer, in as many calls of `write` as needed. If `slice` is empty, that is
+    /// none.
     ///
     /// Fails if a call takes nothing, or fails for a reason other than [`ErrorKind::Interrupted`]. Then a beginning of
     /// `slice` was taken, and is hashed.
     fn write_all(&mut self, slice: &[u8]) -> io::Result<()>
         ensures bytes { OnOk result (Appends (W.contents (inner_writer self.old)) (W.contents (inner_writer self.new)) slice.now) }
         ensures message { (m : List ℕ) → HoldsWritten self.old m → OnOk result (HoldsWritten self.new (m ++ slice.now)) }
-        ensures begun { OnErr result (HoldsBeginning self.old self.new slice.now) }
+        ensures begun { OnErr result (HoldsBeginning W.contents self.old self.new slice.now) }
+        ensures nothing { length slice.now ≡ 0 → IsOk result }
     {
         let mut rest = slice;
         'rest: while !rest.is_empty() {

@@ -3,8 +3,7 @@ use Rattle.std.specs.Prelude.{◌≡◌, ℕ, ◌+◌, ◌-◌, ◌^◌, ◌<◌
 use Rattle.xet_merkle.specs.Groups.{Node}
 use Rattle.xet_merkle.specs.Roots.{total_size}
 use Rattle.xet_merkle.specs.declared.chunk_range.ChunkRange as chunk_range
-use Rattle.upload_session.specs.Session.{Placed, Parts, SessionStands, chunks_of, is_taken, overlaps, place}
-use Rattle.upload_session.specs.declared.kept_hashes.KeptHashes as kept_hashes
+use Rattle.upload_session.specs.Session.{Placed, Parts, StandFor, chunks_of, is_taken, overlaps, place}
 use Rattle.upload_session.specs.declared.kept_hashes.NoHashes.{NoHashes}
 use Rattle.xetroot_text.specs.declared.fault.LineFault.{LineFault}
 use Rattle.xetroot_text.specs.declared.fault.LineFault.TheVariants.{Bad, Overlap, Sizes}
@@ -27,16 +26,16 @@ StandAmong before first (pair ∷ more) pairs =
     (overlaps before first (length (pair ∷ more)) ≡ false)
     × (pairs ≡ place before first (pair ∷ more))
 
--- what `NoHashes` knows of hashes, and what it reports: nothing
-abbrev pub no_hashes : {A : Type 0} → kept_hashes.Ghosts NoHashes A
-no_hashes = record { knows = λ _ _. Unit {0}; tells = λ _ _ _. Unit {0} }
-
 module _ {C A : Type 0} (kind : chunk_range.Ghosts C A) where
+  -- a session stands for pairs by position, and its size is theirs
+  abbrev pub Stands : Parts C NoHashes → List Placed → Type 0
+  Stands session pairs = StandFor kind session.runs pairs × (session.size ≡ total_size (chunks_of pairs))
+
   -- a session and the pairs of an open range are together some pairs by position, and the next pair has a position
   pub record StandForPlaced (session : Parts C NoHashes) (range : List Node)
       (first next total : ℕ) (pairs : List Placed) : Type 0 where
     pub before : List Placed
-    pub ended : SessionStands kind no_hashes session before
+    pub ended : Stands session before
     pub among : StandAmong before first range pairs
     pub adjacent : first + length range ≡ next
     pub low : next < 2 ^ 64

@@ -28,13 +28,13 @@ module _ (kept lent : KeptSession) (position status : ℕ) (same : lent ≡ kept
   ]
 
 pub returns-then-status-eq-DONE-clause-arguments : goal.returns-then-status-eq-DONE-clause-arguments
-returns-then-status-eq-DONE-clause-arguments c = rw (← c.in-Some.ensures.value) (λ placed h.
-    found _ _ c.args.position _ c.deref.ensures _ (c.in-Ok.ensures.copied placed (rw c.deref.ensures h)) c.hold-status.ensures.statuses)
+returns-then-status-eq-DONE-clause-arguments c = rw (← c.in-Some.ensures.value)
+    (found _ _ c.args.position _ c.deref.ensures _ c.in-Ok.ensures.copied c.hold-status.ensures.statuses)
 
 pub returns-else-status-eq-DONE-clause-arguments : goal.returns-else-status-eq-DONE-clause-arguments
-returns-else-status-eq-DONE-clause-arguments c = rw (← c.in-Some.ensures.value) (λ placed h.
-    found _ _ c.args.position _ c.deref.ensures _ (c.in-Ok.ensures.copied placed (rw c.deref.ensures h)) c.hold-status.ensures.statuses)
+returns-else-status-eq-DONE-clause-arguments c = rw (← c.in-Some.ensures.value)
+    (found _ _ c.args.position _ c.deref.ensures _ c.in-Ok.ensures.copied c.hold-status.ensures.statuses)
 
 pub returns-in-Err-clause-arguments : goal.returns-in-Err-clause-arguments
-returns-in-Err-clause-arguments c = rw (← c.in-Some.ensures.value) (λ placed h.
-    refused _ _ c.args.position _ c.deref.ensures (c.in-Err.ensures.refused placed (rw c.deref.ensures h)))
+returns-in-Err-clause-arguments c = rw (← c.in-Some.ensures.value)
+    (refused _ _ c.args.position _ c.deref.ensures c.in-Err.ensures.refused)

@@ -7,8 +7,7 @@ use Rattle.upload_session.specs.Steps.Neighbours.{IsPrevious, AreAround}
 use Rattle.upload_session.proofs.AroundEntries.{previous-some, previous-none, previous-found, next-found, around-previous, around-first, ends-near, ends-found}
 use Rattle.upload_session.proofs.Merging.{placed-before, placed-first}
 use Rattle.upload_session.proofs.Neighbours.{around, with_run}
-use Rattle.upload_session.proofs.OpenRuns.{one-within, two-within}
-use Rattle.upload_session.proofs.Positions.{overlaps-runs}
+use Rattle.upload_session.proofs.OpenRuns.{one-within, size-at, two-within}
 use Rattle.upload_session.proofs.runs.Runs.place_before_next.Goals as goal
 
 some-of : {X : Type 0} (found : Option X) → IsSome found → (x : X) × (found ≡ Some x)
@@ -16,14 +15,15 @@ some-of (Some x) h = (x, refl)
 some-of None h = absurd (true≢false (sym h))
 
 pub returns-in_ok-put_before_next-in-Some-clause-placed : goal.returns-in_ok-put_before_next-in-Some-clause-placed
-returns-in_ok-put_before_next-in-Some-clause-placed g c = λ placed chunks stand some after_is free meant opens closes.
+returns-in_ok-put_before_next-in-Some-clause-placed g c = λ chunks some after_is runs_apart free meant opens closes size.
     let kind = g.C.ChunkRange in
     let runs = c.args.self.now in
     let first = c.args.first in
     let count = length chunks in
     let after = first + count in
     let ahead : first < after = omega (arith, some) in
-    let at = around kind first count runs placed stand (sym (overlaps-runs first count some kind runs placed stand) ∙ free) in
+    let opened = c.requires.room.1.0 in
+    let at = around first count runs runs_apart free in
     let begin = c.in-Some.begin in
     let ends = subst (IsPrevious runs first) c.in-Some.is c.requires.previous in
     let (last, previous) = previous-some first after ahead runs at begin ends in
@@ -35,20 +35,24 @@ returns-in_ok-put_before_next-in-Some-clause-placed g c = λ placed chunks stand
     ∙ ap (λ run. at.front ++ (begin, last) ∷ with_run run at.back) next_is
     ∙ ap (λ n. at.front ++ (begin, last) ∷ (n, next) ∷ at.back) (sym after_is) in
     let apart = subst (λ n. AreAround begin n at.front at.back) (sym after_is) (around-previous first after ahead runs at begin last previous) in
-    placed-before kind first chunks some runs at placed stand c.put_before_next.new.self begin last next c.in_ok-front-in-Some.front previous next_is
+    placed-before kind first chunks some runs at runs_apart opened c.put_before_next.new.self begin last next c.in_ok-front-in-Some.front previous next_is
     (λ a stands. c.in_ok-front-in-Some.ensures.stands last (previous-found first after ahead runs at (begin, last) previous) a chunks stands meant)
     c.in_ok-front-in-Some.ensures.start
+    (c.in_ok-front-in-Some.ensures.total
+    ∙ ap (λ n. n + kind.total c.args.made) (size-at kind begin runs (Some last) (previous-found first after ahead runs at (begin, last) previous))
+    ∙ ap (λ n. kind.total last.range + n) size)
     (c.in_ok-put_before_next-in-Some.ensures.put at.front last next at.back split apart)
 
 pub returns-in_ok-begin_before_next-in-None-clause-placed : goal.returns-in_ok-begin_before_next-in-None-clause-placed
-returns-in_ok-begin_before_next-in-None-clause-placed g c = λ placed chunks stand some after_is free meant opens closes.
+returns-in_ok-begin_before_next-in-None-clause-placed g c = λ chunks some after_is runs_apart free meant opens closes size.
     let kind = g.C.ChunkRange in
     let runs = c.args.self.now in
     let first = c.args.first in
     let count = length chunks in
     let after = first + count in
     let ahead : first < after = omega (arith, some) in
-    let at = around kind first count runs placed stand (sym (overlaps-runs first count some kind runs placed stand) ∙ free) in
+    let opened = c.requires.room.1.0 in
+    let at = around first count runs runs_apart free in
     let previous = previous-none first after ahead runs at (subst (IsPrevious runs first) c.in-None.is c.requires.previous) in
     let found = some-of (lookup (is_at (nat_cmp c.args.after)) runs) c.requires.next in
     let next = found.0 in
@@ -58,7 +62,7 @@ returns-in_ok-begin_before_next-in-None-clause-placed g c = λ placed chunks sta
     ∙ ap (λ run. at.front ++ with_run run at.back) next_is
     ∙ ap (λ n. at.front ++ (n, next) ∷ at.back) (sym after_is) in
     let apart = subst (λ n. AreAround first n at.front at.back) (sym after_is) (around-first first after ahead runs at) in
-    placed-first kind first chunks some runs at placed stand c.begin_before_next.new.self next c.args.made previous next_is meant opens
+    placed-first kind first chunks some runs at runs_apart opened c.begin_before_next.new.self next c.args.made previous next_is meant opens size
     (c.in_ok-begin_before_next-in-None.ensures.put at.front next at.back split apart)
 
 pub with_previous-requires-clause-room : goal.with_previous-requires-clause-room

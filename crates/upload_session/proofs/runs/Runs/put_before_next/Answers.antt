@@ -71,6 +71,7 @@ returns-clause-put g c = λ others last next back is around.
                   λ a b front_stands next_stands. w.in_ok-prepend.ensures.stands a b front_stands (subst (λ (run : Run g.row.C.Denot). g.C.ChunkRange.stands run.range b) (sym same) next_stands),
                   w.in_ok-prepend.ensures.start,
                   w.in_ok-prepend.ensures.end ∙ ap (λ (run : Run g.row.C.Denot). g.C.ChunkRange.end run.range) same,
+                  w.in_ok-prepend.ensures.total ∙ ap (λ (run : Run g.row.C.Denot). g.C.ChunkRange.total c.args.front + g.C.ChunkRange.total run.range) same,
                 )
             | in-Some-remove+in_default-get_mut v ↦ absurd (true≢false (sym (ap is_some (v.in_default-get_mut.ensures.value ∙ here))))
             | in_default-remove v ↦ absurd (true≢false (ap is_some (sym value ∙ v.in_default-remove.is)))

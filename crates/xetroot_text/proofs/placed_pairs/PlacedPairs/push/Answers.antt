@@ -12,7 +12,7 @@ returns-then-taken-clause-fault g c = λ pairs next held.
     let low : c.self.inside.next + 1 < 2 ^ 64 = grind (arith, common_steps) in
     let taken = taken-held g.C.ChunkRange _ _ _ _ _ pairs hold in (
       omega (arith, low, at),
-      taken ∙ ap (is_taken hold.before) (sym at) ∙ sym (c.taken.ensures hold.before hold.ended) ∙ c.if-taken.true,
+      taken ∙ ap (is_taken hold.before) (sym at) ∙ sym (c.taken.ensures.placed hold.before hold.ended.0) ∙ c.if-taken.true,
     )
 
 pub returns-in_default-checked_add-clause-fault : goal.returns-in_default-checked_add-clause-fault
@@ -21,7 +21,7 @@ returns-in_default-checked_add-clause-fault g c = λ pairs next held.
     let low : c.self.inside.next + 1 < 2 ^ 64 = grind (arith, common_steps) in
     let taken = taken-held g.C.ChunkRange _ _ _ _ _ pairs hold in (
       omega (arith, low, at),
-      (λ t. false≢true (sym c.if-taken.false ∙ c.taken.ensures hold.before hold.ended ∙ ap (is_taken hold.before) at ∙ sym taken ∙ t)),
+      (λ t. false≢true (sym c.if-taken.false ∙ c.taken.ensures.placed hold.before hold.ended.0 ∙ ap (is_taken hold.before) at ∙ sym taken ∙ t)),
       let total = hold.total_is in grind (arith, common_steps, total),
     )
 
@@ -31,7 +31,7 @@ returns-clause-free g c = λ pairs next held.
     let low : c.self.inside.next + 1 < 2 ^ 64 = grind (arith, common_steps) in
     let taken = taken-held g.C.ChunkRange _ _ _ _ _ pairs hold in (
       omega (arith, low, at),
-      λ is. false≢true (sym c.if-taken.false ∙ c.taken.ensures hold.before hold.ended ∙ ap (is_taken hold.before) at ∙ sym taken ∙ is),
+      λ is. false≢true (sym c.if-taken.false ∙ c.taken.ensures.placed hold.before hold.ended.0 ∙ ap (is_taken hold.before) at ∙ sym taken ∙ is),
     )
 
 pub returns-clause-pushed : goal.returns-clause-pushed
@@ -60,7 +60,7 @@ invariant_of-self-2 g c =
     let room = subst (λ s. StandForPairs g.C.ChunkRange s pairs next) (sym new)
     (c.in_ok-make_room.ensures.same pairs next held) in
     let taken = taken-held g.C.ChunkRange _ _ _ _ _ pairs hold in
-    let free = taken ∙ sym (c.taken.ensures hold.before hold.ended) ∙ c.if-taken.false in
+    let free = taken ∙ sym (c.taken.ensures.placed hold.before hold.ended.0) ∙ c.if-taken.false in
     let after : c.in-Some.next ≡ inside.next + 1 = grind (arith, common_steps) in
     let total : c.in-Some-checked_add.total ≡ inside.total + c.args.pair.1 = grind (arith, common_steps) in
     let (made, is) = StandForPairs-push g.C.ChunkRange

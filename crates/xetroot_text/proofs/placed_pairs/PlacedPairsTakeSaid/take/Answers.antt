@@ -1,5 +1,5 @@
-use Rattle.std.proofs.Common.{arith, Result, Ok, Err, OnOk, ◌+◌, ◌∷◌, [], ◌∙◌, subst}
-use Rattle.std.proofs.lemmas.Result.{on_ok_weaker, IfErr-weaker}
+use Rattle.std.proofs.Common.{arith, Result, Ok, Err, OnErr, OnOk, ◌+◌, ◌∷◌, [], ◌∙◌, subst}
+use Rattle.std.proofs.lemmas.Result.{on_err_weaker, on_ok_weaker, IfErr-weaker}
 use Rattle.upload_session.specs.Session.{place}
 use Rattle.line_io.specs.Lines.{content}
 use Rattle.pair_text.specs.LineSays.{Says}
@@ -50,3 +50,22 @@ returns-in-Pair-clause-taken g c =
     both : {A E : Type 0} (P Q : Type 0) (r : Result A E) → OnOk r P → OnOk r Q → OnOk r (P × Q)
     both P Q (Ok x) p q = (p, q)
     both P Q (Err e) p q = tt
+
+-- what holds anyway holds after an error, and so do two facts that do
+at_error : {A E P : Type 0} (r : Result A E) → P → OnErr r P
+at_error (Ok x) p = tt
+at_error (Err e) p = p
+
+both_at_error : {A E : Type 0} (P Q : Type 0) (r : Result A E) → OnErr r P → OnErr r Q → OnErr r (P × Q)
+both_at_error P Q (Ok x) p q = tt
+both_at_error P Q (Err e) p q = (p, q)
+
+pub returns-in_err-go_to-in-Position-clause-kept : goal.returns-in_err-go_to-in-Position-clause-kept
+returns-in_err-go_to-in-Position-clause-kept g c =
+    at_error c.from_residual.result (λ before (pairs, next, held, count, good).
+    (pairs, next, c.in_err-go_to-in-Position.ensures.kept_pairs pairs next held, c.go_to.ensures.counted ∙ count, good))
+
+pub returns-in-Pair-clause-kept : goal.returns-in-Pair-clause-kept
+returns-in-Pair-clause-kept g c =
+    on_err_weaker c.push.result (λ (kept, same) before (pairs, next, held, count, good). (pairs, next, kept pairs next held, same ∙ count, good))
+    (both_at_error _ _ c.push.result c.push.ensures.kept_pairs c.push.ensures.kept_count)
