@@ -536,8 +536,12 @@ void yurewha_session_free(yurewha_session *session);
 /* To restore a session, push its runs to a new one by rising position, and keep the hashes.
  *
  * Adds a run after all runs of a session. Its positions are those from `first` to `end` - 1. The session gets a copy of
- * `range`, the subtree of the run's chunks. `range` is unchanged. The call can't check that `range` is of `end` - `first`
- * chunks. The session doesn't know the hashes of these chunks before they are kept or put.
+ * `range`, the subtree of the run's chunks. `range` is unchanged. The session doesn't know the hashes of these chunks before
+ * they are kept or put.
+ *
+ * The call can't check that `range` is of `end` - `first` chunks. If it isn't, all calls go by the positions of the runs as
+ * ever, and the root and the file hash are those of the chunks of the subtrees. Hashes that no chunk has may be kept, too:
+ * they change only which hashes are new.
  *   DONE          the run is added
  *   EMPTY_HANDLE  if and only if a handle is empty
  *   ARGUMENTS     `end` isn't greater than `first`, `range` is marked at an end, or a position from `first` - 1 on is taken

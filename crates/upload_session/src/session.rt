@@ -201,9 +201,11 @@ impl<C: ChunkRange, H: KeptHashes<C::Alloc>> SessionOf<C, H> {
         }
     }
 
-    /// Adds a run after all runs, as saved from another session. The caller vouches that `range` stands for
-    /// `end - first` chunks, since a range doesn't know their number. The session doesn't learn the hashes of the
-    /// chunks, so pass them to [`SessionOf::keep_hashes`] before other calls.
+    /// Adds a run after all runs, as saved from another session. The session doesn't learn the hashes of its chunks, so
+    /// pass them to [`SessionOf::keep_hashes`].
+    ///
+    /// A range doesn't know how many chunks it has. If `range` doesn't stand for `end - first` chunks, all calls go by
+    /// the positions of the runs as ever, and the root and the file hash are those of the chunks of the ranges.
     ///
     /// Fails with the first of these that applies:
     ///
@@ -246,7 +248,8 @@ impl<C: ChunkRange, H: KeptHashes<C::Alloc>> SessionOf<C, H> {
         first < end && !range.at_start() && !range.at_end() && self.runs.end_before(first)
     }
 
-    /// Keeps the hashes of some chunks, as if an earlier put had had them. The sizes aren't used.
+    /// Keeps the hashes of some chunks, as if an earlier put had had them. They may be hashes that no chunk of the session
+    /// has. The sizes aren't used.
     ///
     /// Fails if an allocation fails. The session then knows the same hashes as before.
     pub fn keep_hashes(&mut self, chunks: &[Node]) -> Result<(), AllocError>

@@ -41,8 +41,9 @@ fn push_copy(
 }
 
 /// Adds a run after all runs of a session, as saved from another session. The session gets a copy of the subtree of
-/// `range`. The caller vouches that the subtree stands for `end - first` chunks. `range` is unchanged. The session
-/// doesn't learn the hashes of the chunks, so pass them to `yurewha_session_keep_hashes` before other calls.
+/// `range`. `range` is unchanged. The session doesn't learn the hashes of the chunks, so pass them to
+/// `yurewha_session_keep_hashes`. If the subtree doesn't stand for `end - first` chunks, all calls go by the positions
+/// of the runs as ever, and the root and the file hash are those of the chunks of the subtrees.
 ///
 /// - `DONE`: it is added.
 /// - `EMPTY_HANDLE`: a handle is empty.
