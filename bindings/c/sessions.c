@@ -2,7 +2,7 @@
 #include "harness.h"
 #include "values.h"
 
-enum step { END, PUT, TAKEN, RUNS, RUN, ROOT, FINISH };
+enum step { END, PUT, PUSH, KEEP, TAKEN, RUNS, RUN, ROOT, FINISH };
 
 static yurewha_hash told_of(yurewha_session *session)
 {
@@ -20,7 +20,7 @@ struct call {
     uint64_t argument;  /* a position, the number of a run, or a total */
     const char *said;   /* chunks by digits, or the hash */
     yurewha_status status;
-    uint64_t number;    /* new hashes, whether a position is taken, runs, or the first position of a run */
+    uint64_t number;    /* new hashes, the end of a pushed run, whether a position is taken, runs, or the first position of a run */
 };
 
 #define NONE "0000000000000000000000000000000000000000000000000000000000000000"
@@ -35,6 +35,23 @@ static void put(yurewha_session *session, const struct call *it)
     const yurewha_hash after = told_of(session);
     EXPECT(number == (it->status == YUREWHA_DONE ? it->number : NEVER));
     EXPECT(same_hash(&before, &after) == (it->status != YUREWHA_DONE || it->said[0] == '\0'));
+    free(chunks);
+}
+
+/* A run is pushed whose subtree is of these chunks, however many positions it has. */
+static void push(yurewha_session *session, const struct call *it)
+{
+    yurewha_chunk *chunks = digits_of(it->said);
+    yurewha_subtree range = range_of(chunks, 0, strlen(it->said), false, false);
+    EXPECT_STATUS(it->status, yurewha_session_push_run(session, it->argument, it->number, &range));
+    yurewha_subtree_free(&range);
+    free(chunks);
+}
+
+static void keep(yurewha_session *session, const struct call *it)
+{
+    yurewha_chunk *chunks = digits_of(it->said);
+    EXPECT_STATUS(it->status, yurewha_session_keep_hashes(session, &chunks->hash, 1));
     free(chunks);
 }
 
@@ -159,6 +176,12 @@ static void make_call(yurewha_session *session, const struct call *it)
     case PUT:
         put(session, it);
         break;
+    case PUSH:
+        push(session, it);
+        break;
+    case KEEP:
+        keep(session, it);
+        break;
     case TAKEN:
         EXPECT_STATUS(it->status, yurewha_session_taken(session, it->argument, &taken));
         EXPECT(taken == (it->number != 0));
@@ -241,6 +264,45 @@ static void calls(void)
         {END, 0, NULL, YUREWHA_DONE, 0},
         {PUT, 0, "XX", YUREWHA_SESSION_SIZES, 0},
         {PUT, 0, "1111", YUREWHA_DONE, 1},
+        /* A hash is kept that no chunk has. */
+        {END, 0, NULL, YUREWHA_DONE, 0},
+        {KEEP, 0, "9", YUREWHA_DONE, 0},
+        {TAKEN, 0, NULL, YUREWHA_DONE, 0},
+        {FINISH, 0, NONE, YUREWHA_DONE, 0},
+        {PUT, 0, "1", YUREWHA_DONE, 1},
+        {PUT, 0, "2", YUREWHA_SESSION_OVERLAP, 0},
+        {RUNS, 0, NULL, YUREWHA_DONE, 1},
+        {RUN, 0, "1", YUREWHA_DONE, 0},
+        {FINISH, 1, "8e16257caa3fe079d484d872a8975264b2ff683b0d6db9028cc7c0f968a45661", YUREWHA_DONE, 0},
+        {FINISH, 2, NULL, YUREWHA_SESSION_GAP, 0},
+        {PUT, 1, "9", YUREWHA_DONE, 0},
+        {FINISH, 2, "1225864990a632f1f27a99ebcc714ab9639545cc6cf778c0c9372195d194d688", YUREWHA_DONE, 0},
+        /* A run has more positions than its subtree has chunks, of which there is none. */
+        {END, 0, NULL, YUREWHA_DONE, 0},
+        {PUSH, 100, "", YUREWHA_DONE, 105},
+        {PUT, 0, "1", YUREWHA_DONE, 1},
+        {TAKEN, 0, NULL, YUREWHA_DONE, 1},
+        {TAKEN, 104, NULL, YUREWHA_DONE, 1},
+        {TAKEN, 105, NULL, YUREWHA_DONE, 0},
+        {PUT, 102, "2", YUREWHA_SESSION_OVERLAP, 0},
+        {RUNS, 0, NULL, YUREWHA_DONE, 2},
+        {FINISH, 1, NULL, YUREWHA_SESSION_GAP, 0},
+        {ROOT, 105, NULL, YUREWHA_SESSION_GAP, 0},
+        {END, 0, NULL, YUREWHA_DONE, 0},
+        {PUSH, 0, "", YUREWHA_DONE, 5},
+        {ROOT, 5, NONE, YUREWHA_DONE, 0},
+        {FINISH, 5, "638a6bc391964a85939d48f008e8bdbae6a7975e7ca2d87a3ce2492f4e4d8a4c", YUREWHA_DONE, 0},
+        /* There are some. */
+        {END, 0, NULL, YUREWHA_DONE, 0},
+        {PUSH, 0, "12", YUREWHA_DONE, 5},
+        {TAKEN, 4, NULL, YUREWHA_DONE, 1},
+        {FINISH, 2, NULL, YUREWHA_SESSION_GAP, 0},
+        {ROOT, 5, "1781874dd958989a7f9f227409a704632c65d8aa7121d409d1cca234f7342f7f", YUREWHA_DONE, 0},
+        {FINISH, 5, "968db6222856ba08edbc73c521d36908f018534c2eee29640ddce3db3608898e", YUREWHA_DONE, 0},
+        {PUT, 4, "3", YUREWHA_SESSION_OVERLAP, 0},
+        {PUT, 5, "3", YUREWHA_DONE, 1},
+        {RUNS, 0, NULL, YUREWHA_DONE, 1},
+        {FINISH, 6, "54e55dccc6653c612bdb5576c5d3cb34bb31bc4e100248abccf4c908b3ef7715", YUREWHA_DONE, 0},
     };
     yurewha_session session = {0};
     for (size_t i = 0; i < LENGTH(rows); i++) {
