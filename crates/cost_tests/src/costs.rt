@@ -6,6 +6,8 @@
 //! - Room that is used up is doubled. Nodes that are added one by one take room for less than four times as many, in as
 //!   many requests as there are doublings.
 //! - A range of one chunk takes two requests, for a level and for a node, and room for fewer than three nodes.
+//! - A map of hashes has 32 bytes for each, and 16 for its place in a table. Its room is doubled too, so hashes that are
+//!   added take fewer than five nodes.
 
 use rand_core::{Rng, SeedableRng};
 use rand_xoshiro::Xoshiro256PlusPlus;
@@ -14,10 +16,11 @@ use std::alloc::{AllocError, Global};
 use std::collections::BTreeMap;
 use std::test::Fail;
 use test_support::texts::three_fields;
-use upload_session::kept_hashes::NoHashes;
-use upload_session::session::SessionOf;
+use upload_session::kept_hashes::{KeptHashes, NoHashes, SeenHashes};
+use upload_session::session::{Session, SessionOf};
 use upload_session::session_fault::SessionFault;
 use xet_hash::data_hash::MerkleHash;
+use xet_hash::passthrough_hashmap::PassThroughHashMap;
 use xet_merkle::CoreError;
 use xet_merkle::aggregated_hashes::Node;
 use xet_merkle::chunk_range::ChunkRange;
@@ -45,8 +48,18 @@ const FEW: u64 = 60;
 // - A put of a chunk makes its range, an empty range, a place in the map of runs, and a copy of the shorter neighbour.
 // - In random order the neighbours are long. A node is copied four times, with twice the room, each time the range that
 //   holds it doubles its nodes. For 7200 nodes that is 13 times.
+// - Chunks that are all natural cuts make no stable point, since three in a row are too near to each other. So nothing
+//   is collapsed, as without cuts.
+// - A session that keeps hashes also lists the new ones of a put, in room for four, and adds them to its map.
+// - A pushed run takes fewer than four nodes in the map of runs, beside its range.
+// - Hashes that are kept at once are listed in room that is doubled, fewer than four nodes, and added to the map.
+// - A copy of a session takes as much for each run as pushing it, and fewer than two nodes for each hash. The list of
+//   its hashes takes a request, and less than a node for each.
+// - A map that is made for some numbers has room for fewer than twice as many in its table.
 const CHANGES: &str = "append|2|7
 prepend|3|8
+append of cuts alone|2|7
+prepend of cuts alone|3|8
 append after cuts|2|7
 prepend before cuts|3|8
 merge|0|4
@@ -57,18 +70,55 @@ put falling|6|13
 put even, then odd|6|13
 put even, then odd falling|6|13
 put blocks before cuts|6|13
-put drawn|6|117";
+put drawn|6|117
+put falling, hashes kept|7|22
+push runs|3|7
+keep hashes one by one|1|9
+keep hashes at once|0|9
+copy runs and hashes|3|9
+list hashes|0|1
+room in a map|0|2";
 
-// Returns `count` chunks. With cuts, each fourth of the 28 in the middle is a natural cut. There are no other natural
-// cuts.
-fn chunks(memory: Global, count: u64, has_cuts: bool) -> Result<Vec<Node>, AllocError> {
+// Which chunks of a list are natural cuts.
+#[derive(Clone, Copy)]
+enum Cuts {
+    None,
+    // Each fourth of the 28 in the middle.
+    Few,
+    All,
+}
+
+// Returns `count` chunks with natural cuts.
+fn chunks(memory: Global, count: u64, cuts: Cuts) -> Result<Vec<Node>, AllocError> {
     let middle = count / 2..(count / 2).saturating_add(28);
     let mut chunks = Vec::new(memory);
     for number in 0..count {
-        let is_cut = has_cuts && middle.contains(&number) && number % 4 == 3;
+        let is_cut = match cuts {
+            Cuts::None => false,
+            Cuts::Few => middle.contains(&number) && number % 4 == 3,
+            Cuts::All => true,
+        };
         chunks.push((MerkleHash::from([number, 0, 0, u64::from(!is_cut)]), 1))?;
     }
     Ok(chunks)
+}
+
+// Returns the cuts among the chunks that a range or a session has before a change.
+fn cuts_before(change: &str) -> Cuts {
+    if change.ends_with("cuts") {
+        Cuts::Few
+    } else {
+        Cuts::None
+    }
+}
+
+// Returns the cuts among the chunks that a change adds one by one.
+fn cuts_added(change: &str) -> Cuts {
+    if change.ends_with("cuts alone") {
+        Cuts::All
+    } else {
+        Cuts::None
+    }
 }
 
 // Puts chunks one by one after a range, or before it.
@@ -92,11 +142,11 @@ fn extend<'a>(
 // Adds `count` chunks to a range of some chunks, or of none. Returns what that asks for.
 fn change_range(memory: Global, change: &str, count: u64) -> Result<Granted, Fail> {
     let alloc = counting(memory);
-    let has_cuts = change.ends_with("cuts");
-    let chunks = chunks(memory, count, has_cuts)?;
+    let cuts = cuts_before(change);
+    let chunks = chunks(memory, count, cuts)?;
     let is_after = !change.contains("before") && !change.starts_with("prepend");
     let is_merge = change.starts_with("merge");
-    let begun = if is_merge || has_cuts {
+    let begun = if is_merge || matches!(cuts, Cuts::Few) {
         chunks.as_slice()
     } else {
         &[]
@@ -105,8 +155,8 @@ fn change_range(memory: Global, change: &str, count: u64) -> Result<Granted, Fai
     let other = MerkleHashSubtree::from_chunks(&alloc, false, &chunks, false)?;
     alloc.grant(u32::MAX);
     if !is_merge {
-        let plain = self::chunks(memory, count, false)?;
-        extend(&alloc, &mut range, &plain, is_after)?;
+        let added = self::chunks(memory, count, cuts_added(change))?;
+        extend(&alloc, &mut range, &added, is_after)?;
     } else if is_after {
         range.join(&other)?;
     } else {
@@ -151,13 +201,17 @@ fn puts(memory: Global, change: &str, count: u64) -> Result<BTreeMap<u64, (u64, 
 
 // Puts chunks one by one or in blocks. Returns what that asks for. With cuts, a run that has them comes after these
 // chunks.
-fn change_session(memory: Global, change: &str, count: u64) -> Result<Granted, Fail> {
-    let alloc = counting(memory);
-    let mut session: SessionOf<Subtree<'_>, NoHashes> = SessionOf::new_in(&alloc)?;
+fn change_session<'a, H: KeptHashes<&'a Counting>>(
+    alloc: &'a Counting,
+    memory: Global,
+    change: &str,
+    count: u64,
+) -> Result<Granted, Fail> {
+    let mut session: SessionOf<Subtree<'a>, H> = SessionOf::new_in(alloc)?;
     if change.ends_with("cuts") {
-        session.put(count, &chunks(memory, count, true)?)?;
+        session.put(count, &chunks(memory, count, Cuts::Few)?)?;
     }
-    let chunks = chunks(memory, count, false)?;
+    let chunks = chunks(memory, count, Cuts::None)?;
     alloc.grant(u32::MAX);
     for (first, len) in puts(memory, change, count)?.values() {
         let end = first.saturating_add(*len) as usize;
@@ -170,12 +224,79 @@ fn change_session(memory: Global, change: &str, count: u64) -> Result<Granted, F
     Ok(asked)
 }
 
+// Adds runs of one chunk each to a session. A free position is left after each.
+fn push_runs<'a>(
+    alloc: &'a Counting,
+    session: &mut Session<&'a Counting>,
+    chunks: &[Node],
+) -> Result<(), CoreError> {
+    let mut first = 0u64;
+    for chunk in chunks {
+        let range = MerkleHashSubtree::from_chunks(alloc, false, &[*chunk], false)?;
+        session.push_run(first, first.saturating_add(1), range)?;
+        first = first.saturating_add(2);
+    }
+    Ok(())
+}
+
+// Restores a part of a session, of `count` chunks. Returns what that asks for.
+fn restore(memory: Global, change: &str, count: u64) -> Result<Granted, Fail> {
+    let alloc = counting(memory);
+    let chunks = chunks(memory, count, Cuts::None)?;
+    let mut session: Session<&Counting> = SessionOf::new_in(&alloc)?;
+    alloc.grant(u32::MAX);
+    if change == "push runs" {
+        push_runs(&alloc, &mut session, &chunks)?;
+    } else if change == "keep hashes at once" {
+        session.keep_hashes(&chunks)?;
+    } else {
+        for chunk in &chunks {
+            session.keep_hashes(&[*chunk])?;
+        }
+    }
+    Ok(alloc.granted())
+}
+
+// Copies a session of `count` runs that knows as many hashes, or lists these. Returns what that asks for.
+fn save(memory: Global, change: &str, count: u64) -> Result<Granted, Fail> {
+    let alloc = counting(memory);
+    let chunks = chunks(memory, count, Cuts::None)?;
+    let mut session: Session<&Counting> = SessionOf::new_in(&alloc)?;
+    push_runs(&alloc, &mut session, &chunks)?;
+    session.keep_hashes(&chunks)?;
+    alloc.grant(u32::MAX);
+    if change == "copy runs and hashes" {
+        session.try_clone()?;
+    } else {
+        session.known_hashes()?;
+    }
+    Ok(alloc.granted())
+}
+
+// Makes a map with room for `count` numbers. Returns what that asks for.
+fn make_room(memory: Global, count: u64) -> Result<Granted, Fail> {
+    let alloc = counting(memory);
+    let map: PassThroughHashMap<u64, u64, &Counting> = PassThroughHashMap::with_capacity(
+        &alloc,
+        count as usize,
+    )?;
+    if !map.is_empty() {
+        return Err("a map that isn't empty")?;
+    }
+    Ok(alloc.granted())
+}
+
 // Returns what a change by `count` chunks asks for.
 fn asked(memory: Global, change: &str, count: u64) -> Result<Granted, Fail> {
-    if change.starts_with("put") {
-        change_session(memory, change, count)
-    } else {
-        change_range(memory, change, count)
+    if change.ends_with("hashes kept") {
+        return change_session::<SeenHashes<&Counting>>(&counting(memory), memory, change, count);
+    }
+    match change.split(' ').next() {
+        Some("put") => change_session::<NoHashes>(&counting(memory), memory, change, count),
+        Some("push" | "keep") => restore(memory, change, count),
+        Some("copy" | "list") => save(memory, change, count),
+        Some("room") => make_room(memory, count),
+        _ => change_range(memory, change, count),
     }
 }
 
@@ -224,6 +345,11 @@ fn twice_as_many_puts_ask_for_little_more_than_twice_the_bytes(
 // More than a thousand runs.
 const RUNS: u64 = 1_500;
 
+// Returns whether a run of a session begins at a position.
+fn begins_at(session: &SessionOf<Subtree<'_>, NoHashes>, position: u64) -> bool {
+    matches!(session.run_from(position), Some((first, _, _)) if first == position)
+}
+
 #[test]
 fn sessions_of_many_runs_tell_what_is_taken_without_memory(rt: HostRuntime) -> Result<(), Fail> {
     let alloc = counting(rt.alloc());
@@ -236,6 +362,7 @@ fn sessions_of_many_runs_tell_what_is_taken_without_memory(rt: HostRuntime) -> R
     for number in 0..RUNS {
         let position = number.saturating_mul(2);
         assert!(rt; session.taken(position) && !session.taken(position.saturating_add(1)));
+        assert!(rt; begins_at(&session, position));
         assert!(rt; session.put(position, &chunk) == Err(SessionFault::Overlap));
     }
     assert!(rt; session.num_runs() as u64 == RUNS && session.range(1_001).is_some());
