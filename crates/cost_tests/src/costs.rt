@@ -82,10 +82,10 @@ room in a map|0|2";
 // Which chunks of a list are natural cuts.
 #[derive(Clone, Copy)]
 enum Cuts {
-    None,
-    // Each fourth of the 28 in the middle.
-    Few,
-    All,
+    Nowhere,
+    // Each fourth of the 28 chunks in the middle.
+    InTheMiddle,
+    Everywhere,
 }
 
 // Returns `count` chunks with natural cuts.
@@ -94,9 +94,9 @@ fn chunks(memory: Global, count: u64, cuts: Cuts) -> Result<Vec<Node>, AllocErro
     let mut chunks = Vec::new(memory);
     for number in 0..count {
         let is_cut = match cuts {
-            Cuts::None => false,
-            Cuts::Few => middle.contains(&number) && number % 4 == 3,
-            Cuts::All => true,
+            Cuts::Nowhere => false,
+            Cuts::InTheMiddle => middle.contains(&number) && number % 4 == 3,
+            Cuts::Everywhere => true,
         };
         chunks.push((MerkleHash::from([number, 0, 0, u64::from(!is_cut)]), 1))?;
     }
@@ -106,18 +106,18 @@ fn chunks(memory: Global, count: u64, cuts: Cuts) -> Result<Vec<Node>, AllocErro
 // Returns the cuts among the chunks that a range or a session has before a change.
 fn cuts_before(change: &str) -> Cuts {
     if change.ends_with("cuts") {
-        Cuts::Few
+        Cuts::InTheMiddle
     } else {
-        Cuts::None
+        Cuts::Nowhere
     }
 }
 
 // Returns the cuts among the chunks that a change adds one by one.
 fn cuts_added(change: &str) -> Cuts {
     if change.ends_with("cuts alone") {
-        Cuts::All
+        Cuts::Everywhere
     } else {
-        Cuts::None
+        Cuts::Nowhere
     }
 }
 
@@ -140,23 +140,27 @@ fn extend<'a>(
 }
 
 // Adds `count` chunks to a range of some chunks, or of none. Returns what that asks for.
-fn change_range(memory: Global, change: &str, count: u64) -> Result<Granted, Fail> {
-    let alloc = counting(memory);
+fn change_range(
+    alloc: &Counting,
+    memory: Global,
+    change: &str,
+    count: u64,
+) -> Result<Granted, Fail> {
     let cuts = cuts_before(change);
     let chunks = chunks(memory, count, cuts)?;
     let is_after = !change.contains("before") && !change.starts_with("prepend");
     let is_merge = change.starts_with("merge");
-    let begun = if is_merge || matches!(cuts, Cuts::Few) {
+    let begun = if is_merge || matches!(cuts, Cuts::InTheMiddle) {
         chunks.as_slice()
     } else {
         &[]
     };
-    let mut range = MerkleHashSubtree::from_chunks(&alloc, false, begun, false)?;
-    let other = MerkleHashSubtree::from_chunks(&alloc, false, &chunks, false)?;
+    let mut range = MerkleHashSubtree::from_chunks(alloc, false, begun, false)?;
+    let other = MerkleHashSubtree::from_chunks(alloc, false, &chunks, false)?;
     alloc.grant(u32::MAX);
     if !is_merge {
         let added = self::chunks(memory, count, cuts_added(change))?;
-        extend(&alloc, &mut range, &added, is_after)?;
+        extend(alloc, &mut range, &added, is_after)?;
     } else if is_after {
         range.join(&other)?;
     } else {
@@ -209,9 +213,9 @@ fn change_session<'a, H: KeptHashes<&'a Counting>>(
 ) -> Result<Granted, Fail> {
     let mut session: SessionOf<Subtree<'a>, H> = SessionOf::new_in(alloc)?;
     if change.ends_with("cuts") {
-        session.put(count, &chunks(memory, count, Cuts::Few)?)?;
+        session.put(count, &chunks(memory, count, Cuts::InTheMiddle)?)?;
     }
-    let chunks = chunks(memory, count, Cuts::None)?;
+    let chunks = chunks(memory, count, Cuts::Nowhere)?;
     alloc.grant(u32::MAX);
     for (first, len) in puts(memory, change, count)?.values() {
         let end = first.saturating_add(*len) as usize;
@@ -240,13 +244,12 @@ fn push_runs<'a>(
 }
 
 // Restores a part of a session, of `count` chunks. Returns what that asks for.
-fn restore(memory: Global, change: &str, count: u64) -> Result<Granted, Fail> {
-    let alloc = counting(memory);
-    let chunks = chunks(memory, count, Cuts::None)?;
-    let mut session: Session<&Counting> = SessionOf::new_in(&alloc)?;
+fn restore(alloc: &Counting, memory: Global, change: &str, count: u64) -> Result<Granted, Fail> {
+    let chunks = chunks(memory, count, Cuts::Nowhere)?;
+    let mut session: Session<&Counting> = SessionOf::new_in(alloc)?;
     alloc.grant(u32::MAX);
     if change == "push runs" {
-        push_runs(&alloc, &mut session, &chunks)?;
+        push_runs(alloc, &mut session, &chunks)?;
     } else if change == "keep hashes at once" {
         session.keep_hashes(&chunks)?;
     } else {
@@ -258,11 +261,10 @@ fn restore(memory: Global, change: &str, count: u64) -> Result<Granted, Fail> {
 }
 
 // Copies a session of `count` runs that knows as many hashes, or lists these. Returns what that asks for.
-fn save(memory: Global, change: &str, count: u64) -> Result<Granted, Fail> {
-    let alloc = counting(memory);
-    let chunks = chunks(memory, count, Cuts::None)?;
-    let mut session: Session<&Counting> = SessionOf::new_in(&alloc)?;
-    push_runs(&alloc, &mut session, &chunks)?;
+fn save(alloc: &Counting, memory: Global, change: &str, count: u64) -> Result<Granted, Fail> {
+    let chunks = chunks(memory, count, Cuts::Nowhere)?;
+    let mut session: Session<&Counting> = SessionOf::new_in(alloc)?;
+    push_runs(alloc, &mut session, &chunks)?;
     session.keep_hashes(&chunks)?;
     alloc.grant(u32::MAX);
     if change == "copy runs and hashes" {
@@ -274,10 +276,9 @@ fn save(memory: Global, change: &str, count: u64) -> Result<Granted, Fail> {
 }
 
 // Makes a map with room for `count` numbers. Returns what that asks for.
-fn make_room(memory: Global, count: u64) -> Result<Granted, Fail> {
-    let alloc = counting(memory);
+fn make_room(alloc: &Counting, count: u64) -> Result<Granted, Fail> {
     let map: PassThroughHashMap<u64, u64, &Counting> = PassThroughHashMap::with_capacity(
-        &alloc,
+        alloc,
         count as usize,
     )?;
     if !map.is_empty() {
@@ -288,15 +289,16 @@ fn make_room(memory: Global, count: u64) -> Result<Granted, Fail> {
 
 // Returns what a change by `count` chunks asks for.
 fn asked(memory: Global, change: &str, count: u64) -> Result<Granted, Fail> {
+    let alloc = counting(memory);
     if change.ends_with("hashes kept") {
-        return change_session::<SeenHashes<&Counting>>(&counting(memory), memory, change, count);
+        return change_session::<SeenHashes<&Counting>>(&alloc, memory, change, count);
     }
     match change.split(' ').next() {
-        Some("put") => change_session::<NoHashes>(&counting(memory), memory, change, count),
-        Some("push" | "keep") => restore(memory, change, count),
-        Some("copy" | "list") => save(memory, change, count),
-        Some("room") => make_room(memory, count),
-        _ => change_range(memory, change, count),
+        Some("put") => change_session::<NoHashes>(&alloc, memory, change, count),
+        Some("push" | "keep") => restore(&alloc, memory, change, count),
+        Some("copy" | "list") => save(&alloc, memory, change, count),
+        Some("room") => make_room(&alloc, count),
+        _ => change_range(&alloc, memory, change, count),
     }
 }
 
