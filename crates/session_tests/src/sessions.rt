@@ -1,5 +1,5 @@
-//! Sessions that test what no contract says: worked examples with the results of other implementations, and printed
-//! texts.
+//! Sessions that test what no contract says: worked examples with the results of other implementations, many runs and
+//! positions, and printed texts.
 
 use std::alloc::{AllocError, Global};
 use std::fmt::Display;
@@ -9,7 +9,7 @@ use test_support::texts::{four_fields, two_fields};
 use upload_session::kept_hashes::{KeptHashes, NoHashes, SeenHashes};
 use upload_session::session::{Session, SessionOf};
 use upload_session::session_fault::SessionFault;
-use xet_hash::data_hash::DataHash;
+use xet_hash::data_hash::{DataHash, MerkleHash};
 use xet_merkle::CoreError;
 use xet_merkle::aggregated_hashes::{Node, file_hash};
 use xet_merkle::chunk_range::ChunkRange;
@@ -206,11 +206,13 @@ fn a_session_lends_the_ranges_of_its_runs(rt: HostRuntime) -> Result<(), Fail> {
     Ok(())
 }
 
-// Adds the two runs of a session to another one.
+// Adds the runs of a session to another one.
 fn push_runs(restored: &mut Session, session: &Session) -> Result<(), CoreError> {
-    for position in [0, 3] {
+    let mut position = 0;
+    for _ in 0..session.num_runs() {
         if let Some((first, end, range)) = session.run_from(position) {
             restored.push_run(first, end, range.try_clone()?)?;
+            position = end;
         }
     }
     Ok(())
@@ -233,6 +235,24 @@ fn restored(alloc: Global, session: &Session) -> Result<Session, CoreError> {
     Ok(restored)
 }
 
+// More positions than 2^20.
+const POSITIONS: u64 = 1_048_577;
+
+// Returns whether a session answers for so many positions. It takes the caller's word for the number of chunks of a
+// pushed run, so one chunk is enough.
+fn answers_for_many_positions(alloc: Global) -> Result<bool, Fail> {
+    let chunk = node(1, 100);
+    let range = MerkleHashSubtree::from_chunks(alloc, false, &[chunk], false)?;
+    let mut session: Session = SessionOf::new(alloc);
+    session.push_run(0, POSITIONS, range)?;
+    let file = file_hash(alloc, &[chunk])?;
+    Ok(
+        session.hashes(POSITIONS) == Ok((chunk.0, file))
+            && session.root(POSITIONS) == Ok(chunk.0)
+            && session.finish(POSITIONS) == Ok(file),
+    )
+}
+
 #[test]
 fn a_saved_session_is_restored(rt: HostRuntime) -> Result<(), Fail> {
     let mut session = of_two_runs(rt.alloc())?;
@@ -242,6 +262,67 @@ fn a_saved_session_is_restored(rt: HostRuntime) -> Result<(), Fail> {
     assert!(rt; answers(rt.alloc(), &mut session, rest, true)?);
     assert!(rt; answers(rt.alloc(), &mut restored, rest, true)?);
     assert!(rt; restored.finish(8) == session.finish(8) && restored.finish(8).is_ok());
+    assert!(rt; answers_for_many_positions(rt.alloc())?);
+    Ok(())
+}
+
+// How many runs of one chunk a session has. A free position is left after each.
+const RUNS: u64 = 50_001;
+
+// Returns the chunk of a number. Each has another hash.
+fn numbered(number: u64) -> Node {
+    (MerkleHash::from([number, 0, 0, number]), number)
+}
+
+// Returns a session of so many runs.
+fn of_many_runs(alloc: Global) -> Result<Session, SessionFault> {
+    let mut session: Session = SessionOf::new(alloc);
+    for number in 0..RUNS {
+        session.put(number.saturating_mul(2), &[numbered(number)])?;
+    }
+    Ok(session)
+}
+
+// Returns whether the run of a number is that of its chunk alone.
+fn has_run(session: &Session, number: u64, range: &MerkleHashSubtree) -> bool {
+    let position = number.saturating_mul(2);
+    let end = position.saturating_add(1);
+    let is_there = match session.run_from(position) {
+        Some((first, after, found)) => first == position && after == end && *found == *range,
+        None => false,
+    };
+    is_there && session.taken(position) && !session.taken(end)
+}
+
+// Returns whether a session has exactly these runs and hashes.
+fn has_many_runs(alloc: Global, session: &Session) -> Result<bool, CoreError> {
+    let mut is_right = session.num_runs() as u64 == RUNS
+        && session.num_known_hashes() as u64 == RUNS;
+    for number in 0..RUNS {
+        let range = MerkleHashSubtree::from_chunks(alloc, false, &[numbered(number)], false)?;
+        is_right = is_right && has_run(session, number, &range);
+    }
+    Ok(is_right)
+}
+
+// Returns whether a session has exactly these runs and hashes, and then takes more chunks.
+fn goes_on(alloc: Global, session: &mut Session) -> Result<bool, CoreError> {
+    Ok(
+        has_many_runs(alloc, session)?
+            && session.put(1, &[numbered(RUNS - 1)]) == Ok(0)
+            && session.put(3, &[numbered(RUNS)]) == Ok(1)
+            && session.num_runs() as u64 == RUNS - 2,
+    )
+}
+
+#[test]
+fn a_session_of_many_runs_is_saved_restored_and_copied(rt: HostRuntime) -> Result<(), Fail> {
+    let mut session = of_many_runs(rt.alloc())?;
+    let mut restored = restored(rt.alloc(), &session)?;
+    let mut copy = session.try_clone()?;
+    assert!(rt; goes_on(rt.alloc(), &mut session)?);
+    assert!(rt; goes_on(rt.alloc(), &mut restored)?);
+    assert!(rt; goes_on(rt.alloc(), &mut copy)?);
     Ok(())
 }
 
