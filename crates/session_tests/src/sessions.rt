@@ -16,10 +16,11 @@ use xet_merkle::chunk_range::ChunkRange;
 use xet_merkle::merkle_hash_subtree::MerkleHashSubtree;
 use xet_merkle::plain_range::PlainRange;
 
-// Sessions, each a row of calls separated by `;`. A call has its word, the first position or the total, the seed of the
-// hash and the size of each chunk, and what it should return. The last three rows test that a chunk can leave no room
-// for another's size; that a put of no chunks changes nothing at any position; and that positions are reported before
-// sizes, and a taken position before both.
+// Sessions, each a row of calls separated by `;`. A call has its word, a position or the total, the seed of the hash and
+// the size of each chunk, and what it should return. A pushed run has its first and its last position. After the first
+// rows, three test that a chunk can leave no room for another's size; that a put of no chunks changes nothing at any
+// position; and that positions are reported before sizes, and a taken position before both. The last rows begin with a
+// hash that no chunk has, and with runs of more positions than their ranges have chunks: none, or two.
 const SESSIONS: &str =
     "put 2 3:300 1;put 0 1:100,2:200 2;finish 3 - 54e55dccc6653c612bdb5576c5d3cb34bb31bc4e100248abccf4c908b3ef7715;root 3 - 71ec1275fca074724e2dd666921b3277c7cee603e4d025bcab2d4050015be2bc
 put 0 1:100,1:100 1;put 2 1:100,1:100 0;finish 4 - 2cdba690d0e09563596e0cda626d43eb4c96ef1e994fe72d9b2f5a83cfcd36dd
@@ -30,7 +31,11 @@ put 2 1:100,2:200 2;put 0 1:100,2:200 0;finish 4 - 284ea045e5a579e99c21ec597c20d
 finish 0 - 0000000000000000000000000000000000000000000000000000000000000000;finish 1 - Gap
 put 0 1:18446744073709551615 1;put 5 2:1 Sizes;put 0 - 0;finish 1 - 8e16257caa3fe079d484d872a8975264b2ff683b0d6db9028cc7c0f968a45661
 put 0 1:100 1;put 0 - 0;put 18446744073709551615 - 0
-put 18446744073709551614 1:18446744073709551615 1;put 18446744073709551615 2:1 Positions;put 18446744073709551613 2:1,2:1,2:1 Overlap";
+put 18446744073709551614 1:18446744073709551615 1;put 18446744073709551615 2:1 Positions;put 18446744073709551613 2:1,2:1,2:1 Overlap
+keep 0 9:900 kept;taken 0 - false;finish 0 - 0000000000000000000000000000000000000000000000000000000000000000;put 0 1:100 1;put 0 2:200 Overlap;finish 1 - 8e16257caa3fe079d484d872a8975264b2ff683b0d6db9028cc7c0f968a45661;finish 2 - Gap;put 1 9:900 0;finish 2 - 1225864990a632f1f27a99ebcc714ab9639545cc6cf778c0c9372195d194d688
+push 100-104 - pushed;put 0 1:100 1;taken 0 - true;taken 104 - true;taken 105 - false;put 102 2:200 Overlap;taken 102 - true;finish 1 - Gap;root 105 - Gap
+push 0-4 - pushed;root 5 - 0000000000000000000000000000000000000000000000000000000000000000;finish 5 - 638a6bc391964a85939d48f008e8bdbae6a7975e7ca2d87a3ce2492f4e4d8a4c
+push 0-4 1:100,2:200 pushed;finish 2 - Gap;root 5 - 1781874dd958989a7f9f227409a704632c65d8aa7121d409d1cca234f7342f7f;finish 5 - 968db6222856ba08edbc73c521d36908f018534c2eee29640ddce3db3608898e;put 4 3:300 Overlap;put 5 3:300 1;finish 6 - 54e55dccc6653c612bdb5576c5d3cb34bb31bc4e100248abccf4c908b3ef7715";
 
 // Returns a chunk whose hash comes from a seed.
 fn node(seed: u64, size: u64) -> Node {
@@ -60,28 +65,49 @@ fn text_of<T: Display + Drop>(
     }
 }
 
-// Makes a call, and returns its result as text.
-fn answer<C: ChunkRange, H: KeptHashes<C::Alloc>>(
+// Pushes a run with its first and its last position. Its range is of these chunks, however many positions there are.
+fn push<C: ChunkRange<Alloc = Global>, H: KeptHashes<Global>>(
     alloc: Global,
     session: &mut SessionOf<C, H>,
-    (word, number, chunks): (&str, u64, &str),
+    positions: &str,
+    chunks: &[Node],
 ) -> Result<String, Fail> {
+    let (first, last) = two_fields(positions, '-')?;
+    let end = last.parse::<u64>()?.saturating_add(1);
+    let range = C::from_chunks(alloc, false, chunks, false)?;
+    session.push_run(first.parse()?, end, range)?;
+    Ok(format!(in alloc; "pushed")?)
+}
+
+// Makes a call, and returns its result as text.
+fn answer<C: ChunkRange<Alloc = Global>, H: KeptHashes<Global>>(
+    alloc: Global,
+    session: &mut SessionOf<C, H>,
+    (word, number, chunks): (&str, &str, &str),
+) -> Result<String, Fail> {
+    let chunks = nodes(alloc, chunks)?;
     match word {
-        "put" => text_of(alloc, session.put(number, &nodes(alloc, chunks)?)),
-        "finish" => text_of(alloc, session.finish(number)),
-        _ => text_of(alloc, session.root(number)),
+        "put" => text_of(alloc, session.put(number.parse()?, &chunks)),
+        "push" => push(alloc, session, number, &chunks),
+        "keep" => {
+            session.keep_hashes(&chunks)?;
+            Ok(format!(in alloc; "kept")?)
+        }
+        "taken" => text_of(alloc, Ok(session.taken(number.parse()?))),
+        "finish" => text_of(alloc, session.finish(number.parse()?)),
+        _ => text_of(alloc, session.root(number.parse()?)),
     }
 }
 
 // Returns whether a call returns what it should. `counts` says whether the number of new hashes is compared.
-fn is_answered<C: ChunkRange, H: KeptHashes<C::Alloc>>(
+fn is_answered<C: ChunkRange<Alloc = Global>, H: KeptHashes<Global>>(
     alloc: Global,
     session: &mut SessionOf<C, H>,
     call: &str,
     counts: bool,
 ) -> Result<bool, Fail> {
     let (word, number, chunks, expected) = four_fields(call, ' ')?;
-    let answer = answer(alloc, session, (word, number.parse()?, chunks))?;
+    let answer = answer(alloc, session, (word, number, chunks))?;
     let is_any = !counts && word == "put" && is_number(&answer) && is_number(expected);
     Ok(is_any || answer.as_str() == expected)
 }
@@ -91,7 +117,7 @@ fn is_number(text: &str) -> bool {
 }
 
 // Returns whether the calls of a row return what they should.
-fn answers<C: ChunkRange, H: KeptHashes<C::Alloc>>(
+fn answers<C: ChunkRange<Alloc = Global>, H: KeptHashes<Global>>(
     alloc: Global,
     session: &mut SessionOf<C, H>,
     row: &str,
