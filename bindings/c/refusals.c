@@ -40,6 +40,7 @@ struct world {
     yurewha_subtree empty;
     yurewha_subtree huge;
     yurewha_session session;
+    yurewha_session other; /* owns a session of one run */
     yurewha_session none;
     char *text; /* room for the JSON text */
     size_t text_room;
@@ -101,10 +102,13 @@ static void put(struct world *w, uint64_t first, size_t from, size_t count)
     EXPECT_STATUS(YUREWHA_DONE, yurewha_session_put(&w->session, first, w->chunks + from, count, &fresh));
 }
 
-/* A session of two runs, or of one without a gap; and in some worlds of many. */
-static void make_session(struct world *w, bool is_filled)
+/* A session of two runs, or of one without a gap; and in some worlds of many. Beside it stands another one. */
+static void make_sessions(struct world *w, bool is_filled)
 {
     const size_t length = w->count / 2;
+    uint64_t fresh = 0;
+    EXPECT_STATUS(YUREWHA_DONE, yurewha_session_new(&w->other));
+    EXPECT_STATUS(YUREWHA_DONE, yurewha_session_put(&w->other, 7, w->chunks, 30, &fresh));
     EXPECT_STATUS(YUREWHA_DONE, yurewha_session_new(&w->session));
     put(w, 0, 0, 20);
     put(w, 40, 40, 10);
@@ -165,7 +169,7 @@ static void make(struct world *w, const struct shape *shape, bool is_filled)
     free(huge);
     make_texts(w);
     make_hashes(w);
-    make_session(w, is_filled);
+    make_sessions(w, is_filled);
 }
 
 static void unmake(struct world *w)
@@ -176,6 +180,7 @@ static void unmake(struct world *w)
     yurewha_subtree_free(&w->empty);
     yurewha_subtree_free(&w->huge);
     yurewha_session_free(&w->session);
+    yurewha_session_free(&w->other);
     yurewha_session_free(&w->none);
     free(w->chunks);
     free(w->json);
@@ -196,6 +201,7 @@ static yurewha_hash told_of(struct world *w)
     tell_subtree(&message, &w->empty);
     tell_subtree(&message, &w->huge);
     tell_session(&message, &w->session);
+    tell_session(&message, &w->other);
     tell_session(&message, &w->none);
     EXPECT_STATUS(YUREWHA_DONE, yurewha_hasher_update(&message, (const uint8_t *)&w->room, sizeof w->room));
     EXPECT_STATUS(YUREWHA_DONE, yurewha_hasher_update(&message, (const uint8_t *)w->text, w->text_room));
@@ -364,6 +370,8 @@ static yurewha_status no_run_from(struct world *w)
     return yurewha_session_run_from(&w->session, UINT64_MAX, &w->room.number, &w->room.end, &w->owned);
 }
 static yurewha_status copy_session(struct world *w) { return yurewha_session_copy(&w->session, &w->none); }
+static yurewha_status copy_session_over(struct world *w) { return yurewha_session_copy(&w->session, &w->other); }
+static yurewha_status copy_no_session(struct world *w) { return yurewha_session_copy(&w->none, &w->other); }
 
 /* Runs pushed after all others, and refused ones. */
 static yurewha_status push_run(struct world *w)
@@ -410,30 +418,37 @@ static yurewha_status finish(struct world *w) { return yurewha_session_finish(&w
 static yurewha_status free_subtree(struct world *w) { return yurewha_subtree_free(&w->owned), YUREWHA_DONE; }
 static yurewha_status free_session(struct world *w) { return yurewha_session_free(&w->session), YUREWHA_DONE; }
 
-static void takes_no_memory(struct world *w)
+/* Calls that take no memory, made where each request is refused. */
+static void hash_without_memory(struct world *w)
 {
+    const uint8_t *bytes = (const uint8_t *)w->json;
+    const size_t offsets[] = {0, 5, 5, w->json_length};
     yurewha_hasher hasher;
-    yurewha_bytes bytes;
-    bool truths[2];
-    row("calls that take no memory");
-    refuse(1, true);
-    yurewha_data_hash((const uint8_t *)w->json, w->json_length, &w->room.hash);
-    yurewha_internal_node_hash((const uint8_t *)w->json, w->json_length, &w->room.hash);
+    yurewha_bytes key;
+    yurewha_data_hash(bytes, w->json_length, &w->room.hash);
+    EXPECT_STATUS(YUREWHA_DONE, yurewha_data_hashes(bytes, w->json_length, offsets, 4, w->known, 3));
+    yurewha_internal_node_hash(bytes, w->json_length, &w->room.hash);
     yurewha_hmac(&w->chunks[0].hash, &w->chunks[1].hash, &w->room.hash);
     yurewha_random_from_seed(7, &w->room.hash);
-    yurewha_hash_to_bytes(&w->chunks[0].hash, &bytes);
-    yurewha_hash_from_bytes(&bytes, &w->room.hash);
+    yurewha_hash_to_bytes(&w->chunks[0].hash, &key);
+    yurewha_hash_from_bytes(&key, &w->room.hash);
     EXPECT(yurewha_compare(&w->chunks[0].hash, &w->room.hash) == 0);
     EXPECT_STATUS(YUREWHA_DONE, yurewha_remainder(&w->room.hash, 7, &w->room.number));
     EXPECT_STATUS(YUREWHA_DONE, yurewha_hex(&w->room.hash, w->text, 64, &w->room.count));
     EXPECT_STATUS(YUREWHA_DONE, yurewha_from_hex(w->text, 64, &w->room.hash));
     yurewha_hasher_begin_data(&hasher);
     yurewha_hasher_begin_internal(&hasher);
-    yurewha_hasher_begin_keyed(&hasher, &bytes);
-    EXPECT_STATUS(YUREWHA_DONE, yurewha_hasher_update(&hasher, (const uint8_t *)w->json, w->json_length));
+    yurewha_hasher_begin_keyed(&hasher, &key);
+    EXPECT_STATUS(YUREWHA_DONE, yurewha_hasher_update(&hasher, bytes, w->json_length));
     yurewha_hasher_finalize(&hasher, &w->room.hash);
     EXPECT_STATUS(YUREWHA_DONE, yurewha_xorb_hash(w->chunks, 1, &w->room.hash));
     EXPECT_STATUS(YUREWHA_DONE, yurewha_file_hash(NULL, 0, &w->room.hash));
+    EXPECT_STATUS(YUREWHA_DONE, yurewha_version(w->text, w->text_room, &w->room.count));
+}
+
+static void read_without_memory(struct world *w)
+{
+    bool truths[2];
     EXPECT_STATUS(YUREWHA_DONE, yurewha_subtree_equal(&w->ranges[0], &w->ranges[1], &truths[0]));
     EXPECT_STATUS(YUREWHA_DONE, yurewha_subtree_marks(&w->ranges[0], &truths[0], &truths[1]));
     EXPECT_STATUS(YUREWHA_DONE, yurewha_subtree_total_size(&w->ranges[0], &w->room.number));
@@ -445,6 +460,14 @@ static void takes_no_memory(struct world *w)
     EXPECT_STATUS(YUREWHA_DONE, yurewha_session_taken(&w->session, 3, &truths[0]));
     EXPECT_STATUS(YUREWHA_DONE, yurewha_session_num_runs(&w->session, &w->room.count));
     EXPECT_STATUS(YUREWHA_DONE, yurewha_session_num_known_hashes(&w->session, &w->room.count));
+}
+
+static void takes_no_memory(struct world *w)
+{
+    row("calls that take no memory");
+    refuse(1, true);
+    hash_without_memory(w);
+    read_without_memory(w);
     EXPECT(requests() == 0);
     refuse(0, false);
 }
@@ -505,6 +528,8 @@ static const struct scenario {
     {"run from a position", run_from, YUREWHA_DONE, YUREWHA_MEMORY, false},
     {"run from past the last", no_run_from, YUREWHA_ARGUMENTS, YUREWHA_ARGUMENTS, false},
     {"copy of a session", copy_session, YUREWHA_DONE, YUREWHA_MEMORY, false},
+    {"copy of a session into a full handle", copy_session_over, YUREWHA_DONE, YUREWHA_MEMORY, false},
+    {"copy of no session", copy_no_session, YUREWHA_EMPTY_HANDLE, YUREWHA_EMPTY_HANDLE, false},
     {"push of a run", push_run, YUREWHA_DONE, YUREWHA_MEMORY, false},
     {"push at taken positions", push_taken, YUREWHA_ARGUMENTS, YUREWHA_MEMORY, false},
     {"push of a marked range", push_marked, YUREWHA_ARGUMENTS, YUREWHA_MEMORY, false},
