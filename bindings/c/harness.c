@@ -4,9 +4,13 @@
 #include <inttypes.h>
 #include <stdarg.h>
 
+/* How many of the failures of a row are told. */
+enum { TOLD = 10 };
+
 static struct {
     size_t checks;
     size_t failures;
+    size_t failures_of_row;
     char row[200];
 } state;
 
@@ -16,21 +20,24 @@ void row(const char *format, ...)
     va_start(rest, format);
     vsnprintf(state.row, sizeof state.row, format, rest);
     va_end(rest);
+    state.failures_of_row = 0;
 }
 
 void expect(bool holds, const char *what, const char *file, int line)
 {
     state.checks++;
-    if (!holds) {
-        state.failures++;
+    if (holds)
+        return;
+    state.failures++;
+    state.failures_of_row++;
+    if (state.failures_of_row <= TOLD)
         printf("%s:%d: [%s] fails: %s\n", file, line, state.row, what);
-    }
 }
 
 void expect_status(yurewha_status wanted, yurewha_status found, const char *what, const char *file, int line)
 {
     expect(wanted == found, what, file, line);
-    if (wanted != found)
+    if (wanted != found && state.failures_of_row <= TOLD)
         printf("    status %" PRIu32 ", and not %" PRIu32 "\n", found, wanted);
 }
 

@@ -15,7 +15,7 @@
 /* Says which row of a table the checks that follow are about. */
 void row(const char *format, ...);
 
-/* Count a check, and tell it where it doesn't hold. */
+/* Count a check, and tell it where it doesn't hold, up to ten of a row. */
 void expect(bool holds, const char *what, const char *file, int line);
 void expect_status(yurewha_status wanted, yurewha_status found, const char *what, const char *file, int line);
 

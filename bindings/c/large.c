@@ -1,6 +1,7 @@
 /*
  * Large lists, with memory to spare: no call is out of memory, each gives what another way to the same value gives, and none
- * leaves a block behind. Each row of `checks` is made with each list. Lists of more chunks than `largest` are left out.
+ * leaves a block behind. Each row of `checks` is made with each list, and each row of `longer` with a list of its own. Lists of
+ * more chunks than `largest` are left out.
  */
 #include "harness.h"
 #include "values.h"
@@ -249,6 +250,13 @@ static void walk(yurewha_session *session, size_t runs)
     yurewha_subtree_free(&range);
 }
 
+/* Every second position from `from` on. */
+static void put_every_second(yurewha_session *session, struct list *it, size_t from)
+{
+    for (size_t i = from; i < it->count; i += 2)
+        put(session, it, i, i + 1);
+}
+
 /* Every second position, so that there are many runs, and then those between them. */
 static void runs(struct list *it)
 {
@@ -257,8 +265,7 @@ static void runs(struct list *it)
     size_t runs = 0;
     uint64_t first = 0;
     EXPECT_STATUS(YUREWHA_DONE, yurewha_session_new(&session));
-    for (size_t i = 0; i < it->count; i += 2)
-        put(&session, it, i, i + 1);
+    put_every_second(&session, it, 0);
     EXPECT_STATUS(YUREWHA_DONE, yurewha_session_num_runs(&session, &runs));
     EXPECT(runs == (it->count + 1) / 2);
     EXPECT_STATUS(YUREWHA_DONE, yurewha_session_run(&session, runs - 1, &first, &range));
@@ -266,11 +273,66 @@ static void runs(struct list *it)
     EXPECT(first == 2 * (runs - 1) && same_subtree(&range, &wanted));
     EXPECT_STATUS(YUREWHA_ARGUMENTS, yurewha_session_run(&session, runs, &first, &range));
     walk(&session, runs);
-    for (size_t i = 1; i < it->count; i += 2)
-        put(&session, it, i, i + 1);
+    put_every_second(&session, it, 1);
     check_whole(&session, it);
     yurewha_subtree_free(&range);
     yurewha_subtree_free(&wanted);
+}
+
+/* Makes a session of the runs and the hashes of another one. */
+static void restore(yurewha_session *saved, yurewha_session *restored)
+{
+    size_t count = 0;
+    uint64_t first = 0, end = 0;
+    yurewha_subtree range = {0};
+    yurewha_hash *hashes = known_hashes(saved, &count);
+    EXPECT_STATUS(YUREWHA_DONE, yurewha_session_new(restored));
+    while (yurewha_session_run_from(saved, end, &first, &end, &range) == YUREWHA_DONE)
+        EXPECT_STATUS(YUREWHA_DONE, yurewha_session_push_run(restored, first, end, &range));
+    EXPECT_STATUS(YUREWHA_DONE, yurewha_session_keep_hashes(restored, hashes, count));
+    yurewha_subtree_free(&range);
+    free(hashes);
+}
+
+/* The two sessions have the same runs, and so many of them, and know the same hashes. */
+static void expect_same(yurewha_session *one, yurewha_session *other, size_t runs)
+{
+    struct {
+        uint64_t first, end;
+        yurewha_subtree range;
+        size_t count;
+    } a = {0, 0, {0}, 0}, b = {0, 0, {0}, 0};
+    for (size_t i = 0; i < runs; i++) {
+        EXPECT_STATUS(YUREWHA_DONE, yurewha_session_run_from(one, a.end, &a.first, &a.end, &a.range));
+        EXPECT_STATUS(YUREWHA_DONE, yurewha_session_run_from(other, b.end, &b.first, &b.end, &b.range));
+        EXPECT(a.first == b.first && a.end == b.end && same_subtree(&a.range, &b.range));
+    }
+    EXPECT_STATUS(YUREWHA_ARGUMENTS, yurewha_session_run_from(one, a.end, &a.first, &a.end, &a.range));
+    EXPECT_STATUS(YUREWHA_ARGUMENTS, yurewha_session_run_from(other, b.end, &b.first, &b.end, &b.range));
+    yurewha_hash *known = known_hashes(one, &a.count), *same = known_hashes(other, &b.count);
+    EXPECT(a.count == b.count && memcmp(known, same, a.count * sizeof *known) == 0);
+    yurewha_subtree_free(&a.range);
+    yurewha_subtree_free(&b.range);
+    free(known);
+    free(same);
+}
+
+/* A session of many runs is saved, restored and copied. The copy then takes the chunks between the runs. */
+static void saved(struct list *it)
+{
+    const size_t runs = (it->count + 1) / 2;
+    yurewha_session session = {0}, restored = {0}, copy = {0};
+    EXPECT_STATUS(YUREWHA_DONE, yurewha_session_new(&session));
+    put_every_second(&session, it, 0);
+    restore(&session, &restored);
+    expect_same(&session, &restored, runs);
+    EXPECT_STATUS(YUREWHA_DONE, yurewha_session_copy(&restored, &copy));
+    expect_same(&session, &copy, runs);
+    put_every_second(&copy, it, 1);
+    expect_same(&session, &restored, runs);
+    check_whole(&copy, it);
+    yurewha_session_free(&session);
+    yurewha_session_free(&restored);
 }
 
 /* All chunks a second time, where the list's length is the first position, and where positions end. */
@@ -308,35 +370,53 @@ static void hash_texts(struct list *it)
     free(text);
 }
 
-static const struct {
+static const struct check {
     const char *name;
-    void (*check)(struct list *);
+    void (*make)(struct list *);
 } checks[] = {
     {"roots", roots},           {"points", points},
     {"model", of_the_model},    {"parts", parts},
     {"ranges", ranges},         {"json", json},
     {"texts by length", texts_by_length}, {"flat lists", flat_lists},
     {"one put", one_put},       {"puts in order", puts_in_order},
-    {"runs", runs},             {"far positions", far_positions},
-    {"hash texts", hash_texts},
+    {"runs", runs},             {"saved", saved},
+    {"far positions", far_positions}, {"hash texts", hash_texts},
 };
+
+/* Lists that are too long for all checks: subtrees of 200,000 nodes are merged, and a session of more than 2^20 chunks ends. */
+static const struct {
+    const char *pattern;
+    size_t count;
+    struct check check;
+} longer[] = {
+    {".", 200001, {"parts", parts}},
+    {NULL, ((size_t)1 << 20) + 1, {"one put", one_put}},
+};
+
+/* Makes some checks of a list. */
+static void check_list(const char *pattern, size_t count, const struct check *first, size_t check_count)
+{
+    const char *name = pattern != NULL ? pattern : "no pattern";
+    struct list list = {.pattern = pattern, .count = count};
+    if (count > largest())
+        return;
+    row("%zu chunks of %s", count, name);
+    const long before = live_blocks();
+    make(&list);
+    for (size_t i = 0; list.open.at != NULL && i < check_count; i++) {
+        const long live = live_blocks();
+        row("%s of %zu chunks of %s", first[i].name, count, name);
+        first[i].make(&list);
+        EXPECT(live_blocks() == live);
+    }
+    unmake(&list);
+    EXPECT(live_blocks() == before);
+}
 
 void test_large(void)
 {
-    for (size_t i = 0; i < LENGTH(counts) * LENGTH(patterns); i++) {
-        struct list list = {.pattern = patterns[i % LENGTH(patterns)], .count = counts[i / LENGTH(patterns)]};
-        if (list.count > largest())
-            continue;
-        row("%zu chunks of %s", list.count, list.pattern != NULL ? list.pattern : "no pattern");
-        const long before = live_blocks();
-        make(&list);
-        for (size_t j = 0; list.open.at != NULL && j < LENGTH(checks); j++) {
-            const long live = live_blocks();
-            row("%s of %zu chunks of %s", checks[j].name, list.count, list.pattern != NULL ? list.pattern : "no pattern");
-            checks[j].check(&list);
-            EXPECT(live_blocks() == live);
-        }
-        unmake(&list);
-        EXPECT(live_blocks() == before);
-    }
+    for (size_t i = 0; i < LENGTH(counts) * LENGTH(patterns); i++)
+        check_list(patterns[i % LENGTH(patterns)], counts[i / LENGTH(patterns)], checks, LENGTH(checks));
+    for (size_t i = 0; i < LENGTH(longer); i++)
+        check_list(longer[i].pattern, longer[i].count, &longer[i].check, 1);
 }
