@@ -23,6 +23,12 @@ void row(const char *format, ...)
     state.failures_of_row = 0;
 }
 
+bool is_wanted(void)
+{
+    const char *set = getenv("YUREWHA_ROW");
+    return set == NULL || strcmp(set, state.row) == 0;
+}
+
 void expect(bool holds, const char *what, const char *file, int line)
 {
     state.checks++;
@@ -185,15 +191,16 @@ int main(int count, char **names)
         const char *name;
         void (*run)(void);
     } tests[] = {
-        {"layout", test_layout},         {"hashes", test_hashes},
-        {"hasher", test_hasher},         {"long_message", test_long_message},
-        {"short_messages", test_short_messages}, {"roots", test_roots},
-        {"subtrees", test_subtrees},     {"merging", test_merging},
-        {"texts", test_texts},           {"flat_lists", test_flat_lists},
-        {"sessions", test_sessions},     {"handles", test_handles},
-        {"rooms", test_rooms},           {"empty_slices", test_empty_slices},
-        {"refusals", test_refusals},     {"large", test_large},
-        {"threads", test_threads},       {"vectors", test_vectors},
+        {"layout", test_layout},       {"hashes", test_hashes},
+        {"hasher", test_hasher},       {"long_message", test_long_message},
+        {"short_messages", test_short_messages},
+        {"roots", test_roots},         {"subtrees", test_subtrees},
+        {"merging", test_merging},     {"texts", test_texts},
+        {"flat_lists", test_flat_lists}, {"sessions", test_sessions},
+        {"handles", test_handles},     {"rooms", test_rooms},
+        {"empty_slices", test_empty_slices}, {"refusals", test_refusals},
+        {"costs", test_costs},         {"large", test_large},
+        {"threads", test_threads},     {"vectors", test_vectors},
     };
     for (size_t i = 0; i < LENGTH(tests); i++) {
         bool wanted = count < 2;

@@ -12,8 +12,10 @@
 #define EXPECT_STATUS(wanted, call) expect_status((wanted), (call), #call, __FILE__, __LINE__)
 #define LENGTH(array) (sizeof(array) / sizeof *(array))
 
-/* Says which row of a table the checks that follow are about. */
+/* Says which row of a table the checks that follow are about, and whether it is made: where YUREWHA_ROW is set, some tests make
+ * the row of that name alone, so that its instructions can be counted. */
 void row(const char *format, ...);
+bool is_wanted(void);
 
 /* Count a check, and tell it where it doesn't hold, up to ten of a row. */
 void expect(bool holds, const char *what, const char *file, int line);
@@ -46,9 +48,11 @@ yurewha_hash *known_hashes(yurewha_session *session, size_t *count);
 void tell_subtree(yurewha_hasher *message, yurewha_subtree *subtree);
 void tell_session(yurewha_hasher *message, yurewha_session *session);
 
-/* malloc and realloc, of which a request can be refused; see refusing.c. */
+/* malloc and realloc, of which a request can be refused, and how many requests and bytes were asked for since then; see
+ * refusing.c. A block that grows counts with all of its bytes each time. */
 void refuse(size_t number, bool all_from_there);
 size_t requests(void);
+size_t granted(void);
 bool was_refused(void);
 long live_blocks(void);
 bool sees_requests(void);
@@ -69,6 +73,7 @@ void test_handles(void);
 void test_rooms(void);
 void test_empty_slices(void);
 void test_refusals(void);
+void test_costs(void);
 void test_large(void);
 void test_threads(void);
 void test_vectors(void);

@@ -1,5 +1,5 @@
 /*
- * An allocator before malloc, which refuses requests. The linker puts it there, by
+ * An allocator before malloc, which refuses requests and counts. The linker puts it there, by
  *
  *     -Wl,--wrap=malloc,--wrap=realloc,--wrap=free
  *
@@ -9,6 +9,7 @@
 
 static _Thread_local struct {
     size_t requests; /* since the last call of `refuse` */
+    size_t granted;  /* bytes of those that weren't refused */
     size_t number;   /* of the request that is refused, or 0 */
     bool all;        /* whether those after it are refused, too */
     bool refused;
@@ -25,12 +26,14 @@ void __wrap_free(void *old);
 void refuse(size_t number, bool all_from_there)
 {
     state.requests = 0;
+    state.granted = 0;
     state.number = number;
     state.all = all_from_there;
     state.refused = false;
 }
 
 size_t requests(void) { return state.requests; }
+size_t granted(void) { return state.granted; }
 bool was_refused(void) { return state.refused; }
 long live_blocks(void) { return state.live; }
 
@@ -46,6 +49,7 @@ static bool is_refused(void)
 void *__wrap_malloc(size_t size)
 {
     void *found = is_refused() ? NULL : __real_malloc(size);
+    state.granted += found != NULL ? size : 0;
     state.live += found != NULL;
     return found;
 }
@@ -53,6 +57,7 @@ void *__wrap_malloc(size_t size)
 void *__wrap_realloc(void *old, size_t size)
 {
     void *found = is_refused() ? NULL : __real_realloc(old, size);
+    state.granted += found != NULL ? size : 0;
     state.live += old == NULL && found != NULL;
     return found;
 }
