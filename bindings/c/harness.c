@@ -192,8 +192,7 @@ int main(int count, char **names)
         void (*run)(void);
     } tests[] = {
         {"layout", test_layout},       {"hashes", test_hashes},
-        {"hasher", test_hasher},       {"long_message", test_long_message},
-        {"short_messages", test_short_messages},
+        {"hasher", test_hasher},       {"lanes", test_lanes},
         {"roots", test_roots},         {"subtrees", test_subtrees},
         {"merging", test_merging},     {"texts", test_texts},
         {"flat_lists", test_flat_lists}, {"sessions", test_sessions},

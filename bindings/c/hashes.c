@@ -262,27 +262,6 @@ static void full_hasher(void)
     }
 }
 
-/* 64 KiB as messages of one length. bindings/c/test counts the instructions of yurewha_data_hash. */
-static void messages_of_64_kib(size_t length)
-{
-    enum { ALL = 64 * 1024 };
-    uint8_t *bytes = message_of(ALL);
-    row("64 KiB by messages of %zu bytes", length);
-    for (size_t at = 0; at < ALL; at += length) {
-        yurewha_hasher hasher;
-        yurewha_hash hash, wanted;
-        yurewha_data_hash(bytes + at, length, &hash);
-        yurewha_hasher_begin_data(&hasher);
-        EXPECT_STATUS(YUREWHA_DONE, yurewha_hasher_update(&hasher, bytes + at, length));
-        yurewha_hasher_finalize(&hasher, &wanted);
-        EXPECT(same_hash(&hash, &wanted));
-    }
-    free(bytes);
-}
-
-void test_long_message(void) { messages_of_64_kib(64 * 1024); }
-void test_short_messages(void) { messages_of_64_kib(1024); }
-
 void test_hashes(void)
 {
     data();
