@@ -164,8 +164,14 @@ h1 100;--;h2 200;--;h3 300;--;--|three pairs
 --;h1 100;--;h2 200;--;h3 300;--;|three pairs
 --;h1 100;--;h2 200;--;h3 300;--;--|three pairs";
 
+// More lines than 2^20.
+const MOST_LINES: usize = 1_048_577;
+
 #[test]
 fn separators_change_nothing(rt: HostRuntime) -> Result<(), Fail> {
+    let many = "--\n".repeat(rt.alloc(), MOST_LINES)?;
+    let output = output_of(rt.alloc(), Kind::Subtree, many.as_bytes())?;
+    assert!(rt; output.as_slice() == NO_PAIR.as_bytes());
     are_answered(rt.alloc(), SEPARATED)
 }
 

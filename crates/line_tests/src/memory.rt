@@ -35,7 +35,7 @@ fn are_enough(alloc: Global, call: Call, mut input: &[u8], granted: u32) -> bool
 }
 
 // Returns the lines of `count` pairs. Only the first is a natural cut, so they have one level.
-fn pairs(alloc: Global, count: u64) -> Result<String, Fail> {
+pub(crate) fn pairs(alloc: Global, count: u64) -> Result<String, Fail> {
     let mut lines = String::new(alloc);
     for i in 0..count {
         let hash = DataHash::from([i, 0, 0, u64::from(i != 0)]);

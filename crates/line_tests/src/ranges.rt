@@ -1,6 +1,7 @@
 //! What `make`, `join` and `root` write, and how they print faults.
 
 use super::lines::{LINES, MANY_PAIRS, push_lines};
+use super::memory;
 use std::alloc::{Allocator, Global};
 use std::io::{Read, Write};
 use std::test::Fail;
@@ -232,6 +233,14 @@ fn sizes_of_all_ranges_fit(rt: HostRuntime) -> Result<(), Fail> {
     are_no_ranges(rt.alloc(), TOO_LARGE)
 }
 
+// The bytes of a MiB. The line of a range of 14,000 nodes has more.
+const MIB: usize = 1_048_576;
+
+// The answer to the 14,000 pairs of `memory::pairs`, whose range keeps them all.
+const UNCUT_PAIRS: &str = "xorb b7c577217defafe9a091da1ca0618bcafa17faafea3c39f1a6f5f076a9f9fddb
+file f1f794b847d3014f6ea20c12ce6e700afcc851e6aaaeb8b5858e6d919b33378d
+";
+
 #[test]
 fn the_range_of_many_pairs_has_their_root(rt: HostRuntime) -> Result<(), Fail> {
     let mut pairs = String::new(rt.alloc());
@@ -239,6 +248,11 @@ fn the_range_of_many_pairs_has_their_root(rt: HostRuntime) -> Result<(), Fail> {
     let made = output_of(rt.alloc(), Command::Make, pairs.as_bytes())?;
     let root = output_of(rt.alloc(), Command::Root, made.as_bytes())?;
     assert!(rt; root.as_str() == MANY_PAIRS);
+    let uncut = memory::pairs(rt.alloc(), 14_000)?;
+    let made = output_of(rt.alloc(), Command::Make, uncut.as_bytes())?;
+    assert!(rt; made.len() > MIB);
+    let root = output_of(rt.alloc(), Command::Root, made.as_bytes())?;
+    assert!(rt; root.as_str() == UNCUT_PAIRS);
     Ok(())
 }
 
