@@ -309,46 +309,35 @@ fn of_many_runs(alloc: Global) -> Result<Session, SessionFault> {
     Ok(session)
 }
 
-// Returns whether the run of a number is that of its chunk alone.
-fn has_run(session: &Session, number: u64, range: &MerkleHashSubtree) -> bool {
-    let position = number.saturating_mul(2);
-    let end = position.saturating_add(1);
-    let is_there = match session.run_from(position) {
-        Some((first, after, found)) => first == position && after == end && *found == *range,
-        None => false,
-    };
-    is_there && session.taken(position) && !session.taken(end)
-}
-
-// Returns whether a session has exactly these runs and hashes.
-fn has_many_runs(alloc: Global, session: &Session) -> Result<bool, CoreError> {
-    let mut is_right = session.num_runs() as u64 == RUNS
-        && session.num_known_hashes() as u64 == RUNS;
-    for number in 0..RUNS {
-        let range = MerkleHashSubtree::from_chunks(alloc, false, &[numbered(number)], false)?;
-        is_right = is_right && has_run(session, number, &range);
+// Returns whether two sessions have the same run from a position on, or the next one after it.
+fn have_same_run(session: &Session, other: &Session, position: u64) -> bool {
+    match (session.run_from(position), other.run_from(position)) {
+        (Some((first, end, range)), Some((other_first, other_end, other_range))) => {
+            first == other_first && end == other_end && *range == *other_range
+        }
+        _ => false,
     }
-    Ok(is_right)
 }
 
-// Returns whether a session has exactly these runs and hashes, and then takes more chunks.
-fn goes_on(alloc: Global, session: &mut Session) -> Result<bool, CoreError> {
-    Ok(
-        has_many_runs(alloc, session)?
-            && session.put(1, &[numbered(RUNS - 1)]) == Ok(0)
-            && session.put(3, &[numbered(RUNS)]) == Ok(1)
-            && session.num_runs() as u64 == RUNS - 2,
-    )
+// Returns whether a session has the same runs and as many hashes as that of so many runs, and then takes more chunks.
+fn goes_on(session: &Session, mut other: Session) -> bool {
+    let mut is_same = other.num_runs() as u64 == RUNS && other.num_known_hashes() as u64 == RUNS;
+    for number in 0..RUNS {
+        is_same = is_same && have_same_run(session, &other, number.saturating_mul(2));
+    }
+    is_same
+        && other.taken(RUNS * 2 - 2)
+        && !other.taken(RUNS * 2 - 1)
+        && other.put(1, &[numbered(RUNS - 1)]) == Ok(0)
+        && other.put(3, &[numbered(RUNS)]) == Ok(1)
+        && other.num_runs() as u64 == RUNS - 2
 }
 
 #[test]
 fn a_session_of_many_runs_is_saved_restored_and_copied(rt: HostRuntime) -> Result<(), Fail> {
-    let mut session = of_many_runs(rt.alloc())?;
-    let mut restored = restored(rt.alloc(), &session)?;
-    let mut copy = session.try_clone()?;
-    assert!(rt; goes_on(rt.alloc(), &mut session)?);
-    assert!(rt; goes_on(rt.alloc(), &mut restored)?);
-    assert!(rt; goes_on(rt.alloc(), &mut copy)?);
+    let session = of_many_runs(rt.alloc())?;
+    assert!(rt; goes_on(&session, restored(rt.alloc(), &session)?));
+    assert!(rt; goes_on(&session, session.try_clone()?));
     Ok(())
 }
 
