@@ -252,7 +252,8 @@ class Session(Guarded):
         """Adds a run after all runs of this session: the positions from `first` to `end` - 1, and the subtree of its chunks.
 
         So a session can be restored from what `run_from` and `known_hashes` returned. The call can't check that there are as
-        many chunks as positions. The session doesn't know their hashes before these are kept or put.
+        many chunks as positions. If there aren't, the root and the file hash are those of the chunks of the subtrees, and all
+        else goes by the positions. The session doesn't know the hashes of the chunks before these are kept or put.
 
         Raises `InvalidArguments` if there is no position, the subtree is marked at an end, or a position from `first` - 1 on is
         taken. Otherwise raises `SizeOverflow` if the sizes of all chunks add up to more than 2^64 - 1. After an error nothing

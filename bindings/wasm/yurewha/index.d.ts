@@ -308,7 +308,8 @@ export interface Session extends Freed {
     /**
      * Adds a run after all runs of this session: the positions from `first` to `end` - 1, and a copy of the subtree of its chunks. So
      * a session can be restored from what `runFrom` and `knownHashes` returned. The call can't check that there are as many chunks
-     * as positions. The session doesn't know their hashes before these are kept or put.
+     * as positions. If there aren't, the root and the file hash are those of the chunks of the subtrees, and all else goes by the
+     * positions. The session doesn't know the hashes of the chunks before these are kept or put.
      * @throws InvalidArguments there is no position, the subtree is marked at an end, or a position from `first` - 1 on is taken
      * @throws SizeOverflow otherwise, the sizes of all chunks add up to more than 2^64 - 1
      */

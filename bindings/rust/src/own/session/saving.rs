@@ -13,8 +13,9 @@ impl Session {
     /// Adds a run after all runs of this session: its positions, and the subtree of its chunks. So a session can be
     /// restored from what [`run_from`](Self::run_from) and [`known_hashes`](Self::known_hashes) returned.
     ///
-    /// The call can't check that there are as many chunks as positions. The session doesn't know the hashes of these
-    /// chunks before they are [kept](Self::keep_hashes) or put.
+    /// The call can't check that there are as many chunks as positions. If there aren't, the root and the file hash are
+    /// those of the chunks of the subtrees, and all else goes by the positions. The session doesn't know the hashes of
+    /// these chunks before they are [kept](Self::keep_hashes) or put.
     ///
     /// ```
     /// use yurewha::merklehash::MerkleHash;
