@@ -6,30 +6,32 @@ import argparse
 import concurrent.futures
 import json
 import sys
-from typing import Iterable
+from typing import Callable, Iterable
 
-from . import hashes, json_texts, merges, roots, schemas, sessions, subtrees, texts
+from . import hashes, json_texts, merges, roots, schemas, sessions, subtrees, texts, upstream
 from .files import FOLDER, File, differences
 
-FILES = {"hashes": hashes.file, "texts": texts.file, "roots": roots.file, "subtrees": subtrees.file, "merges": merges.file,
-         "subtree_json": json_texts.file, "sessions": sessions.file}
+Maker = Callable[[], File]
+# What makes each file, the longest ones first. The answers of upstream.json aren't the model's: they are kept, and compared.
+FILES: dict[str, Maker] = {
+    "upstream": upstream.kept_file, "subtrees": subtrees.file, "roots": roots.file, "merges": merges.file, "hashes": hashes.file,
+    "subtree_json": json_texts.file, "sessions": sessions.file, "texts": texts.file}
+BY_MODEL = {**FILES, "upstream": upstream.model_file}
 
 
-def made(name: str) -> tuple[str, str]:
+def made(maker: Maker) -> tuple[str, str]:
     """The name and the text of a file of vectors."""
-    file: File = FILES[name]()
-    return f"{name}.json", file.text()
+    file = maker()
+    return f"{file.name}.json", file.text()
 
 
-def all_texts(names: Iterable[str], jobs: int) -> dict[str, str]:
-    """The texts of files of vectors and of their schemas, by path; the longest files first."""
-    names = list(names)
-    found = {f"schemas/{name}_schema.json": schemas.text(name) for name in names}
-    order = sorted(names, key=["subtrees", "roots", "merges", "hashes", "subtree_json", "sessions", "texts"].index)
+def all_texts(makers: dict[str, Maker], jobs: int) -> dict[str, str]:
+    """The texts of files of vectors and of their schemas, by path."""
+    found = {f"schemas/{name}_schema.json": schemas.text(name) for name in makers}
     if jobs == 1:
-        return {**dict(map(made, order)), **found}
+        return {**dict(map(made, makers.values())), **found}
     with concurrent.futures.ProcessPoolExecutor(jobs) as pool:
-        return {**dict(pool.map(made, order)), **found}
+        return {**dict(pool.map(made, makers.values())), **found}
 
 
 def faults_of(name: str) -> Iterable[str]:
@@ -71,6 +73,6 @@ def check(arguments: list[str]) -> int:
     except ImportError:
         print("vectors/check: install jsonschema (Debian: python3-jsonschema)", file=sys.stderr)
         return 1
-    faults += differences(all_texts(FILES, jobs))
+    faults += differences(all_texts(BY_MODEL, jobs))
     print("\n".join(faults) or f"{len(FILES)} files are what the model says, and keep their schemas")
     return 1 if faults else 0

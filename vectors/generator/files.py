@@ -3,6 +3,7 @@
 from __future__ import annotations
 
 import dataclasses
+import itertools
 import json
 import pathlib
 from typing import Any, Iterable
@@ -85,6 +86,8 @@ def differences(texts: dict[str, str]) -> Iterable[str]:
         if not path.exists():
             yield f"{name}: isn't there"
         elif path.read_bytes() != text.encode():
-            yield f"{name}: DIFFERENT"
+            lines = itertools.zip_longest(path.read_text().split("\n"), text.split("\n"))
+            first = next(number for number, (old, new) in enumerate(lines, 1) if old != new)
+            yield f"{name}: DIFFERENT from line {first} on"
     stored = {str(path.relative_to(FOLDER)) for path in FOLDER.rglob("*.json")}
     yield from (f"{name}: nothing makes it" for name in sorted(stored - set(texts)))

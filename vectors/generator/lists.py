@@ -39,6 +39,13 @@ def seeds(numbers: Sequence[int]) -> Told:
     return Told({"seeds": [str(k) for k in numbers]}, tuple(nodes))
 
 
+def of_rule(said: dict[str, Any]) -> Told:
+    """The list that an object tells by its rule, `pattern` or `drawn`."""
+    if "pattern" in said:
+        return pattern(said["pattern"])
+    return drawn(int(said["drawn"]["firstSeed"]), said["drawn"]["count"])
+
+
 def given(nodes: Sequence[m.Node]) -> Told:
     """The nodes themselves."""
     return Told({"nodes": [{"hash": m.to_hex(h), "size": str(size)} for h, size in nodes]}, tuple(nodes))

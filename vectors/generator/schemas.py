@@ -151,8 +151,13 @@ def sessions() -> list[Schema]:
     return [group("Session", test({"calls": array({"oneOf": calls})}))]
 
 
+def upstream() -> list[Schema]:
+    """The groups of upstream.json."""
+    return [it for it in roots() + subtrees() if it["properties"]["type"] in (one_of("Root"), one_of("Subtree"))]
+
+
 SCHEMAS = {"hashes": hashes, "texts": texts, "roots": roots, "subtrees": subtrees, "merges": merges,
-           "subtree_json": subtree_json, "sessions": sessions}
+           "subtree_json": subtree_json, "sessions": sessions, "upstream": upstream}
 
 
 def schema(name: str) -> Schema:

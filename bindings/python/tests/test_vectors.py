@@ -8,7 +8,7 @@ import pytest
 y = pytest.importorskip("yurewha", reason="there is no libyurewha: run bindings/build, or set YUREWHA_LIB_DIR")
 
 FOLDER = Path(__file__).resolve().parents[3] / "vectors"
-FILES = ("hashes", "texts", "roots", "subtrees", "merges", "subtree_json", "sessions")
+FILES = ("hashes", "texts", "roots", "subtrees", "merges", "subtree_json", "sessions", "upstream")
 ERRORS = {"SizeOverflow": y.SizeOverflow, "InvalidArguments": y.InvalidArguments, "NotJson": y.InvalidText,
           "Overlap": y.SessionOverlap, "Positions": y.SessionPositions, "Sizes": y.SessionSizes, "Gap": y.SessionGap}
 

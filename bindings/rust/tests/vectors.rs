@@ -407,3 +407,8 @@ fn texts_of_subtrees() {
 fn sessions() {
     check_file("sessions.json");
 }
+
+#[test]
+fn lists_of_the_upstream() {
+    check_file("upstream.json");
+}

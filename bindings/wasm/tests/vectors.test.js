@@ -6,7 +6,7 @@ import { test } from "node:test";
 import * as errors from "../yurewha/index.js";
 import { ROOT, chunksOf, loadAll } from "./support.js";
 
-const FILES = ["hashes", "texts", "roots", "subtrees", "merges", "subtree_json", "sessions"];
+const FILES = ["hashes", "texts", "roots", "subtrees", "merges", "subtree_json", "sessions", "upstream"];
 const ERRORS = {
     SizeOverflow: errors.SizeOverflow,
     InvalidArguments: errors.InvalidArguments,
