@@ -10,3 +10,5 @@ mod error;
 mod merge_tree;
 #[cfg(test)]
 mod merkle_hash_subtree;
+#[cfg(test)]
+mod upstream;
