@@ -1,5 +1,8 @@
-//! Compares keyed BLAKE3 with known hashes.
+//! Compares keyed BLAKE3 with known hashes, and with a recursive function.
 
+mod recursion;
+
+use recursion::{hash_words, words};
 use std::test::Fail;
 use xet_hash::blake3::{Hasher, keyed_hash};
 
@@ -25,7 +28,9 @@ fn two_pieces_are_hashed_as_their_whole(rt: HostRuntime) {
             assert!(rt; hasher.has_room(piece.len()));
             hasher.update(piece);
         }
-        assert!(rt; hasher.finalize() == keyed_hash(&key, &message), "{place}");
+        let hash = hasher.finalize();
+        assert!(rt; hash == keyed_hash(&key, &message), "{place}");
+        assert!(rt; words(&hash) == hash_words(&key, &message), "{place}");
     }
 }
 
@@ -77,22 +82,40 @@ const HASHES: &str = "0 73492b19995d71cdb1e9d74decc09809eb732f1b00bc95c27cb15f9d
 131073 9536698737c96a47a16810f8ebf13eb2c2cb527f5ef8c309ec9c852d29dc0bc6
 ";
 
-// Returns the hash of a message that is fed in pieces of a length. The last one may be shorter.
-fn hash_in_pieces(key: &[u8; 32], message: &[u8], length: usize) -> [u8; 32] {
+// Returns the hash of a message that is fed in pieces of two lengths in turn. The last one may be shorter.
+fn hash_in_pieces(key: &[u8; 32], message: &[u8], (first, second): (usize, usize)) -> [u8; 32] {
     let mut hasher = Hasher::new_keyed(key);
-    for piece in message.chunks(length.max(1)) {
-        if hasher.has_room(piece.len()) {
-            hasher.update(piece);
+    for both in message.chunks(first.saturating_add(second).max(1)) {
+        let (front, back) = both.split_at(first.min(both.len()));
+        for piece in [front, back] {
+            if hasher.has_room(piece.len()) {
+                hasher.update(piece);
+            }
         }
     }
     hasher.finalize()
 }
 
-// Returns whether a message has a hash, whole and fed in pieces.
+// The lengths of the pieces that a message is fed in.
+const LENGTHS: [(usize, usize); 11] = [
+    (1, 1),
+    (1, 1024),
+    (7, 7),
+    (64, 64),
+    (1000, 1000),
+    (1024, 1024),
+    (1025, 1025),
+    (4097, 4097),
+    (16384, 16384),
+    (65536, 65536),
+    (usize::MAX, 0),
+];
+
+// Returns whether a message has a hash: whole, by recursion, and fed in pieces.
 fn has_hash(key: &[u8; 32], message: &[u8], hash: &[u8; 32]) -> bool {
-    let mut has_hash = keyed_hash(key, message) == *hash;
-    for length in [7, 64, 1000, 1024, 1025, 4097, 16384, 65536, usize::MAX] {
-        has_hash = has_hash && hash_in_pieces(key, message, length) == *hash;
+    let mut has_hash = keyed_hash(key, message) == *hash && hash_words(key, message) == words(hash);
+    for lengths in LENGTHS {
+        has_hash = has_hash && hash_in_pieces(key, message, lengths) == *hash;
     }
     has_hash
 }

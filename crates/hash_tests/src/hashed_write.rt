@@ -203,11 +203,17 @@ fn calls_are_handed_on_and_what_is_taken_is_hashed(rt: HostRuntime) -> Result<()
 
 // The hash was computed without this code.
 #[test]
-fn drawn_bytes_are_hashed(rt: HostRuntime) -> Result<(), Fail> {
+fn drawn_bytes_are_hashed_and_handed_on(rt: HostRuntime) -> Result<(), Fail> {
     let mut message = [0u8; 300];
     Xoshiro256PlusPlus::seed_from_u64(13).fill_bytes(&mut message);
     let hash = "bbd96a1fac984cb7e9dba7f6755195d59d9bb115e45cff0f96c3cd211560b0fc";
     assert!(rt; compute_data_hash(&message) == DataHash::from_hex(hash)?);
+    let mut writer = HashedWrite::new(Vec::new(rt.alloc()));
+    for piece in message.chunks(10) {
+        writer.write_all(piece)?;
+    }
+    assert!(rt; writer.hash() == compute_data_hash(&message));
+    assert!(rt; writer.into_inner().as_slice() == message.as_slice());
     Ok(())
 }
 
@@ -243,14 +249,28 @@ impl Write for Narrow {
     }
 }
 
+// Returns whether a writer with some room takes a message as far as it can, and what it takes is hashed.
+fn is_taken(alloc: Global, message: &[u8], room: usize) -> bool {
+    let mut writer = HashedWrite::new(Narrow::new(alloc, room));
+    let answer = writer.write_all(message).map_err(|error| error.kind());
+    let (front, rest) = message.split_at(room.min(message.len()));
+    let expected = if rest.is_empty() {
+        Ok(())
+    } else {
+        Err(ErrorKind::StorageFull)
+    };
+    let is_hashed = writer.hash() == compute_data_hash(front);
+    let Narrow { taken, .. } = writer.into_inner();
+    answer == expected && is_hashed && taken.as_slice() == front
+}
+
 #[test]
-fn a_writer_that_fails_midway_has_what_is_hashed(rt: HostRuntime) {
-    for text in ["abc", "abcd"] {
-        let mut writer = HashedWrite::new(Narrow::new(rt.alloc(), text.len()));
-        let answer = writer.write_all(b"abcdef").map_err(|error| error.kind());
-        assert!(rt; answer == Err(ErrorKind::StorageFull));
-        assert!(rt; writer.hash() == compute_data_hash(text.as_bytes()));
-        let Narrow { taken, .. } = writer.into_inner();
-        assert!(rt; taken.as_slice() == text.as_bytes());
+fn what_a_narrow_writer_takes_is_hashed(rt: HostRuntime) {
+    for (message, room) in [
+        (b"abcdef".as_slice(), 3),
+        (b"abcdef", 4),
+        (&[7; 1025], 1025),
+    ] {
+        assert!(rt; is_taken(rt.alloc(), message, room), "{room}");
     }
 }

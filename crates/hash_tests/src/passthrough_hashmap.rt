@@ -63,20 +63,24 @@ fn hashes() -> [DataHash; 3] {
 }
 
 // Returns whether look-ups of a key find nothing.
-fn lacks(map: &PassThroughHashMap<DataHash, u32>, key: &DataHash) -> bool {
+fn lacks<K: U64HashExtractable + Hash + Copy>(map: &PassThroughHashMap<K, u32>, key: &K) -> bool {
     map.get(key).is_none() && !map.contains_key(key)
 }
 
 // Returns whether look-ups of a key find a value.
-fn finds(map: &PassThroughHashMap<DataHash, u32>, key: &DataHash, value: &u32) -> bool {
+fn finds<K: U64HashExtractable + Hash + Copy>(
+    map: &PassThroughHashMap<K, u32>,
+    key: &K,
+    value: &u32,
+) -> bool {
     map.get(key) == Some(value)
-        && map.get_key_value(key) == Some((key, value))
+        && matches!(map.get_key_value(key), Some((found, of_key)) if found == key && of_key == value)
         && map.contains_key(key)
         && map.as_map().get(key) == Some(value)
 }
 
 // Returns whether each iteration over a map gives two entries, with the values 10 and 20.
-fn walks(map: &PassThroughHashMap<DataHash, u32>) -> bool {
+fn walks<K: U64HashExtractable + Hash + Copy>(map: &PassThroughHashMap<K, u32>) -> bool {
     let mut sum = 0u32;
     for (key, value) in map {
         if map.get(key) == Some(value) {
@@ -91,7 +95,10 @@ fn walks(map: &PassThroughHashMap<DataHash, u32>) -> bool {
 }
 
 // Returns whether a map has two keys, with the values 10 and 20, and not a third one.
-fn reads(map: &PassThroughHashMap<DataHash, u32>, keys: &[DataHash; 3]) -> bool {
+fn reads<K: U64HashExtractable + Hash + Copy>(
+    map: &PassThroughHashMap<K, u32>,
+    keys: &[K; 3],
+) -> bool {
     let [first, second, lacking] = keys;
     map.len() == 2
         && !map.is_empty()
@@ -103,9 +110,12 @@ fn reads(map: &PassThroughHashMap<DataHash, u32>, keys: &[DataHash; 3]) -> bool 
 
 // Returns whether a map and a standard map keep their entries when each is converted to the other. They have two keys,
 // with the values 10 and 20.
-fn converts(map: PassThroughHashMap<DataHash, u32>, keys: &[DataHash; 3]) -> bool {
+fn converts<K: U64HashExtractable + Hash + Copy>(
+    map: PassThroughHashMap<K, u32>,
+    keys: &[K; 3],
+) -> bool {
     let [first, second, _] = keys;
-    let mut inner: HashMap<DataHash, u32> = map.into();
+    let mut inner: HashMap<K, u32> = map.into();
     let had_both = inner.len() == 2 && inner.remove(first) == Some(10);
     let map = PassThroughHashMap::from(inner);
     let has_one = map.len() == 1;
@@ -118,11 +128,10 @@ fn converts(map: PassThroughHashMap<DataHash, u32>, keys: &[DataHash; 3]) -> boo
 }
 
 // Returns a map of two keys, with the values 10 and 20.
-fn two_entries(
+fn two_entries<K: U64HashExtractable + Hash + Copy>(
     alloc: Global,
-    first: DataHash,
-    second: DataHash,
-) -> Result<PassThroughHashMap<DataHash, u32>, AllocError> {
+    [first, second, _]: [K; 3],
+) -> Result<PassThroughHashMap<K, u32>, AllocError> {
     let mut map = PassThroughHashMap::new(alloc);
     map.insert(first, 10)?;
     map.insert(second, 20)?;
@@ -130,30 +139,52 @@ fn two_entries(
 }
 
 // Returns whether a map of two keys finds both, and keeps its entries when it is converted.
-fn is_kept(alloc: Global, keys: [DataHash; 3]) -> Result<bool, AllocError> {
-    let [first, second, _] = keys;
-    let map = two_entries(alloc, first, second)?;
-    Ok(reads(&map, &keys) && converts(map, &keys))
+fn is_kept<K: U64HashExtractable + Hash + Copy>(
+    map: PassThroughHashMap<K, u32>,
+    keys: [K; 3],
+) -> bool {
+    reads(&map, &keys) && converts(map, &keys)
 }
 
 #[test]
 fn finds_hashes(rt: HostRuntime) -> Result<(), Fail> {
-    assert!(rt; is_kept(rt.alloc(), hashes())?);
+    let [first, second, _] = hashes();
+    let map = two_entries(rt.alloc(), hashes())?;
+    let copy = map.try_clone()?;
+    let of_pairs = PassThroughHashMap::from_pairs(rt.alloc(), [(first, 10), (second, 20)])?;
+    assert!(rt; is_kept(map, hashes()));
+    assert!(rt; is_kept(copy, hashes()));
+    assert!(rt; is_kept(of_pairs, hashes()));
+    Ok(())
+}
+
+#[test]
+fn finds_numbers(rt: HostRuntime) -> Result<(), Fail> {
+    let [first, second, _] = NUMBERS;
+    let map = two_entries(rt.alloc(), NUMBERS)?;
+    let copy = map.try_clone()?;
+    let of_pairs = PassThroughHashMap::from_pairs(rt.alloc(), [(first, 10), (second, 20)])?;
+    assert!(rt; is_kept(map, NUMBERS));
+    assert!(rt; is_kept(copy, NUMBERS));
+    assert!(rt; is_kept(of_pairs, NUMBERS));
     Ok(())
 }
 
 // A map whose values are texts.
-type Texts = PassThroughHashMap<u64, &'static str>;
+type Texts<K> = PassThroughHashMap<K, &'static str>;
 
 // Inserts two values at a key, one after another.
-fn inserts(map: &mut Texts, key: u64) -> Result<bool, AllocError> {
+fn inserts<K: U64HashExtractable + Hash + Copy>(
+    map: &mut Texts<K>,
+    key: K,
+) -> Result<bool, AllocError> {
     let before = map.insert(key, "value1")?;
     let replaced = map.insert(key, "value2")?;
     Ok(before.is_none() && replaced == Some("value1") && map.get(&key) == Some(&"value2"))
 }
 
 // Writes to a value that exists, and looks for one that doesn't.
-fn writes(map: &mut Texts, key: &u64, lacking: &u64) -> bool {
+fn writes<K: U64HashExtractable + Hash + Copy>(map: &mut Texts<K>, key: &K, lacking: &K) -> bool {
     if let Some(value) = map.get_mut(key) {
         *value = "value3";
     }
@@ -161,7 +192,10 @@ fn writes(map: &mut Texts, key: &u64, lacking: &u64) -> bool {
 }
 
 // Adds a value at the entry of a new key, and then changes it.
-fn enters(map: &mut Texts, key: u64) -> Result<bool, AllocError> {
+fn enters<K: U64HashExtractable + Hash + Copy>(
+    map: &mut Texts<K>,
+    key: K,
+) -> Result<bool, AllocError> {
     let is_filled = *map.entry(key).or_insert("value4")? == "value4";
     map.entry(key)
         .and_modify(|value| *value = "value5")
@@ -170,7 +204,7 @@ fn enters(map: &mut Texts, key: u64) -> Result<bool, AllocError> {
 }
 
 // Removes a key that isn't in the map, and the two that are.
-fn removes(map: &mut Texts, keys: &[u64; 3]) -> bool {
+fn removes<K: U64HashExtractable + Hash + Copy>(map: &mut Texts<K>, keys: &[K; 3]) -> bool {
     let [first, second, lacking] = keys;
     map.remove(lacking).is_none()
         && map.len() == 2
@@ -181,30 +215,40 @@ fn removes(map: &mut Texts, keys: &[u64; 3]) -> bool {
 }
 
 // Inserts a value through the inner map, and removes all.
-fn clears(map: &mut Texts, key: u64) -> Result<bool, AllocError> {
+fn clears<K: U64HashExtractable + Hash + Copy>(
+    map: &mut Texts<K>,
+    key: K,
+) -> Result<bool, AllocError> {
     map.as_map_mut().insert(key, "value7")?;
     let has_value = map.get(&key) == Some(&"value7");
     map.clear();
     Ok(has_value && map.len() == 0)
 }
 
-// Makes the changes to a map, one after another.
-fn changes(alloc: Global, keys: [u64; 3]) -> Result<bool, AllocError> {
+// Makes the changes to an empty map, one after another.
+fn changes<K: U64HashExtractable + Hash + Copy>(
+    mut map: Texts<K>,
+    keys: &[K; 3],
+) -> Result<bool, AllocError> {
     let [first, second, _] = keys;
-    let mut map = PassThroughHashMap::with_capacity(alloc, 100)?;
     Ok(
         map.is_empty()
-            && inserts(&mut map, first)?
-            && writes(&mut map, &first, &second)
-            && enters(&mut map, second)?
-            && removes(&mut map, &keys)
-            && clears(&mut map, first)?,
+            && inserts(&mut map, *first)?
+            && writes(&mut map, first, second)
+            && enters(&mut map, *second)?
+            && removes(&mut map, keys)
+            && clears(&mut map, *first)?,
     )
 }
 
 #[test]
-fn changes_at_numbers(rt: HostRuntime) -> Result<(), Fail> {
-    assert!(rt; changes(rt.alloc(), NUMBERS)?);
+fn changes_at_hashes_and_numbers(rt: HostRuntime) -> Result<(), Fail> {
+    assert!(rt; changes(PassThroughHashMap::new(rt.alloc()), &hashes())?);
+    assert!(rt; changes(PassThroughHashMap::new(rt.alloc()), &NUMBERS)?);
+    let with_room = PassThroughHashMap::with_capacity(rt.alloc(), 100)?;
+    assert!(rt; changes(with_room, &hashes())?);
+    let with_room = PassThroughHashMap::with_capacity(rt.alloc(), 100)?;
+    assert!(rt; changes(with_room, &NUMBERS)?);
     Ok(())
 }
 
@@ -215,6 +259,15 @@ fn a_map_of_pairs_has_each_of_them(rt: HostRuntime) -> Result<(), Fail> {
     assert!(rt; map.get(&12345) == Some(&"first"));
     assert!(rt; map.get(&67890) == Some(&"second"));
     assert!(rt; map.get(&1).is_none());
+    Ok(())
+}
+
+#[test]
+fn the_last_value_of_equal_keys_stays(rt: HostRuntime) -> Result<(), Fail> {
+    let map = PassThroughHashMap::from_array(rt.alloc(), [(1u64, 10), (2, 20), (1, 30)])?;
+    assert!(rt; map.len() == 2);
+    assert!(rt; map.get(&1) == Some(&30));
+    assert!(rt; map.get(&2) == Some(&20));
     Ok(())
 }
 

@@ -109,6 +109,7 @@ pub(crate) const EVEN: Manner = Manner {
     odd_kind: None,
 };
 
+// Each call is interrupted as often as it can be borne before it transfers one byte.
 const SLOW: Manner = Manner {
     most: 1,
     interruptions: 16,

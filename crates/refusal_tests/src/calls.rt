@@ -3,6 +3,7 @@
 //! it is out of memory, and everything that it borrowed must equal a copy made before. The crate `global_refusals`
 //! tests what calls of `serde_json::Value` allocate by the global allocator.
 
+mod examples;
 mod hashes;
 mod large;
 mod lines;
@@ -11,6 +12,7 @@ mod no_memory;
 mod ranges;
 mod sessions;
 
+use examples::EXAMPLES;
 use lines::OF_LINES;
 use rand_core::SeedableRng;
 use rand_xoshiro::Xoshiro256PlusPlus;
@@ -19,8 +21,7 @@ use refusing_allocator::RefusingAllocator;
 use sessions::OF_SESSIONS;
 use std::alloc::Global;
 use std::test::Fail;
-use test_support::texts::two_fields;
-use test_support::{MARKS, drawn_list, drawn_nodes, told_nodes};
+use test_support::{MARKS, drawn_list, drawn_nodes};
 use xet_merkle::CoreError;
 use xet_merkle::aggregated_hashes::Node;
 use xet_merkle::merkle_hash_subtree::MerkleHashSubtree;
@@ -108,11 +109,13 @@ pub enum Call {
     Base64,
     ToVec,
     FromBase64,
+    FromBase64Characters,
     MapWithCapacity,
     MapFromPairs,
     MapFromArray,
     MapTryClone,
     MapInsert,
+    MapReplace,
     OrInsert,
     OrInsertWith,
     OrInsertWithKey,
@@ -126,6 +129,7 @@ pub enum Call {
     FileHash,
     FileHashWithSalt,
     FromChunks,
+    FromChunksPlain,
     TryClone,
     MergeInto,
     MergeIntoCounted,
@@ -133,13 +137,20 @@ pub enum Call {
     Merge,
     JoinSubtree,
     JoinPlain,
+    PrependSubtree,
+    PrependPlain,
     RootOfPlain,
+    HashesOfSubtree,
+    HashesOfPlain,
     RunSubtrees,
     RunPlain,
     FromJson,
+    FromFlat,
     // Merges the chunks from a place on into those before it.
     MergeAt(usize),
-    // Each has its row: that of a JSON text that is no subtree, that of a session, or that of a call that answers lines.
+    // Each has its row: that of an example, that of a JSON text that is no subtree, that of a session, or that of a
+    // call that answers lines.
+    Example(&'static str),
     FromBrokenJson(&'static str),
     SessionOfSubtrees(&'static str),
     SessionOfPlainRanges(&'static str),
@@ -147,7 +158,7 @@ pub enum Call {
 }
 
 // The calls that work on a list of chunks, each with the seed of the list. `MergeAt` has lists of its own.
-const OF_CHUNKS: [(Call, u64); 15] = [
+const OF_CHUNKS: [(Call, u64); 21] = [
     (Call::XorbHash, 3),
     (Call::FileHash, 5),
     (Call::FileHashWithSalt, 6),
@@ -163,14 +174,22 @@ const OF_CHUNKS: [(Call, u64); 15] = [
     (Call::RunSubtrees, 16),
     (Call::RunPlain, 15),
     (Call::FromJson, 12),
+    (Call::FromChunksPlain, 22),
+    (Call::PrependSubtree, 23),
+    (Call::PrependPlain, 24),
+    (Call::HashesOfSubtree, 25),
+    (Call::HashesOfPlain, 26),
+    (Call::FromFlat, 27),
 ];
 
 // The calls that have values of their own.
-const OF_OWN_VALUES: [Call; 10] = [
+const OF_OWN_VALUES: [Call; 12] = [
     Call::Hex,
     Call::Base64,
     Call::ToVec,
     Call::FromBase64,
+    Call::FromBase64Characters,
+    Call::MapReplace,
     Call::MapWithCapacity,
     Call::MapFromPairs,
     Call::MapFromArray,
@@ -198,13 +217,14 @@ fn attempt(
     granted: u32,
     chunks: &Chunks<'_>,
 ) -> Result<Outcome, Fail> {
+    let memory = chunks.alloc;
     match call {
-        Call::Hex | Call::Base64 | Call::ToVec | Call::FromBase64 => {
-            hashes::attempt(call, alloc, granted)
-        }
+        Call::Hex | Call::Base64 | Call::ToVec | Call::FromBase64 | Call::FromBase64Characters =>
+            hashes::attempt(call, alloc, granted),
         Call::MapWithCapacity | Call::MapFromPairs | Call::MapFromArray | Call::MapTryClone => {
             maps::make(call, alloc, granted)
         }
+        Call::MapReplace => Ok(maps::replace(alloc, granted)),
         Call::MapInsert
         | Call::OrInsert
         | Call::OrInsertWith
@@ -213,35 +233,20 @@ fn attempt(
         | Call::InsertEntry
         | Call::VacantInsert
         | Call::VacantInsertEntry => Ok(maps::fill(call, alloc, granted, 100)),
-        Call::SessionTryClone | Call::KnownHashes => {
-            sessions::copy(call, alloc, granted, chunks.alloc)
-        }
+        Call::SessionTryClone | Call::KnownHashes => sessions::copy(call, alloc, granted, memory),
         Call::XorbHash | Call::FileHash | Call::FileHashWithSalt => {
             hashes::of_chunks(call, alloc, granted, chunks)
         }
-        Call::FromChunks => ranges::from_chunks(alloc, granted, chunks),
-        Call::TryClone => ranges::try_clone(alloc, granted, chunks),
-        Call::MergeInto | Call::MergeIntoCounted | Call::MergeIntoBy => {
-            ranges::merge_into(call, alloc, granted, &chunks.split(chunks.nodes.len() / 2))
-        }
-        Call::MergeAt(place) => {
-            ranges::merge_into(Call::MergeInto, alloc, granted, &chunks.split(place))
-        }
-        Call::Merge => ranges::merge(alloc, granted, chunks),
-        Call::JoinSubtree => ranges::join::<MerkleHashSubtree<&Refusing>>(alloc, granted, chunks),
-        Call::JoinPlain => ranges::join::<PlainRange<&Refusing>>(alloc, granted, chunks),
-        Call::RootOfPlain => ranges::root::<PlainRange<&Refusing>>(alloc, granted, chunks),
-        Call::RunSubtrees => ranges::run::<MerkleHashSubtree<&Refusing>>(alloc, granted, chunks),
-        Call::RunPlain => ranges::run::<PlainRange<&Refusing>>(alloc, granted, chunks),
-        Call::FromJson => ranges::from_json(alloc, granted, chunks),
-        Call::FromBrokenJson(row) => ranges::from_broken_json(alloc, granted, chunks.alloc, row),
+        Call::Example(row) => examples::attempt(alloc, granted, memory, row),
+        Call::FromBrokenJson(row) => ranges::from_broken_json(alloc, granted, memory, row),
         Call::SessionOfSubtrees(row) => {
-            sessions::attempt::<MerkleHashSubtree<&Refusing>>(alloc, granted, chunks.alloc, row)
+            sessions::attempt::<MerkleHashSubtree<&Refusing>>(alloc, granted, memory, row)
         }
         Call::SessionOfPlainRanges(row) => {
-            sessions::attempt::<PlainRange<&Refusing>>(alloc, granted, chunks.alloc, row)
+            sessions::attempt::<PlainRange<&Refusing>>(alloc, granted, memory, row)
         }
-        Call::OfLines(row) => lines::attempt(alloc, granted, chunks.alloc, row),
+        Call::OfLines(row) => lines::attempt(alloc, granted, memory, row),
+        _ => ranges::attempt(call, alloc, granted, chunks),
     }
 }
 
@@ -300,25 +305,13 @@ fn calls_on_values_of_their_own_are_refused_with_each_request(rt: HostRuntime) -
     Ok(())
 }
 
-// Merges of all levels. Each row has a list with the marks of its ends, and how many chunks the range in front has.
-const MERGES: &str = "(...|...|...|...|...|...|) 20
-(...|...|...|...|...|...|) 4
-[...|...|...|...|...|...|...|) 4
-[...|...|...|...|...|...|...|] 28";
-
 #[test]
-fn merges_of_worked_examples_are_refused_with_each_request(rt: HostRuntime) -> Result<(), Fail> {
-    for row in MERGES.lines() {
-        let (text, place) = two_fields(row, ' ')?;
-        let nodes = told_nodes(rt.alloc(), text)?;
-        let chunks = Chunks {
-            alloc: rt.alloc(),
-            at_start: text.starts_with('['),
-            nodes: nodes.as_slice(),
-            at_end: text.ends_with(']'),
-        };
-        let call = Call::MergeAt(place.parse()?);
-        assert!(rt; is_refused_with_each_request(call, &chunks)?, "{row}");
+fn worked_examples_are_refused_with_each_request(rt: HostRuntime) -> Result<(), Fail> {
+    for row in EXAMPLES.lines() {
+        assert!(rt;
+            is_refused_with_each_request(Call::Example(row), &Chunks::none(rt.alloc()))?,
+            "{row}"
+        );
     }
     Ok(())
 }

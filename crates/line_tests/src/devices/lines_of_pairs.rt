@@ -1,7 +1,8 @@
 //! Devices under lines of pairs. Neither the answer nor the line number of a fault depends on how the bytes come.
 
 use super::{
-    ALL_SLOW, Call, DONE, End, Manner, Outcome, Place, Run, bears, fails, manners_with, outcome_of,
+    ALL_EVEN, ALL_SLOW, Call, DONE, End, Manner, Outcome, Place, Run, SLOW, bears, fails,
+    manners_with, odd, outcome_of,
 };
 use std::alloc::Global;
 use std::io::ErrorKind;
@@ -70,6 +71,32 @@ fn is_answered(run: Run<'_>, place: Place, expected: &str) -> bool {
     even.end == DONE && even.written.as_slice() == expected.as_bytes()
 }
 
+// Returns whether a run writes an answer if both devices transfer one byte a call, and also if one of them or both are
+// slow.
+fn is_answered_bytewise(run: Run<'_>, expected: &str) -> bool {
+    let mut one_byte = manners_with(Place::Read, bytewise(0, 0, LASTING));
+    one_byte.write = one_byte.read;
+    for manners in [
+        one_byte,
+        manners_with(Place::Read, SLOW),
+        manners_with(Place::Write, SLOW),
+        ALL_SLOW,
+    ] {
+        let found = outcome_of(run, manners);
+        if found.end != DONE || found.written.as_slice() != expected.as_bytes() {
+            return false;
+        }
+    }
+    true
+}
+
+// Returns whether a run fails at the first write that takes nothing, or at one in the middle.
+fn fails_where_nothing_is_taken(run: Run<'_>) -> bool {
+    let even = outcome_of(run, ALL_EVEN);
+    fails(run, &even, Place::Write, odd(1, 1, None))
+        && fails(run, &even, Place::Write, odd(3, 1, None))
+}
+
 #[test]
 fn three_pairs_are_answered_though_any_call_of_a_device_is_interrupted(
     rt: HostRuntime,
@@ -85,6 +112,8 @@ fn three_pairs_are_answered_though_any_call_of_a_device_is_interrupted(
         for place in [Place::Read, Place::Write, Place::Flush] {
             assert!(rt; is_answered(run, place, &expected), "{call:?} {place:?}");
         }
+        assert!(rt; is_answered_bytewise(run, &expected), "{call:?}");
+        assert!(rt; fails_where_nothing_is_taken(run), "{call:?}");
     }
     Ok(())
 }

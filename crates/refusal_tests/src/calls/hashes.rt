@@ -11,30 +11,63 @@ const BYTES: [u8; 32] = [
     153, 80, 99, 159, 80, 65, 138, 236, 231, 149, 78,
 ];
 
-const HEX: &str = "d6834b04843aaf16f29903e2428a99be635099f9ea5056cc4e95e7ec8a41509f";
+// Each row has the hex text and the base64 text of a hash. The first is the hash of the bytes above.
+const TEXTS: &str =
+    "d6834b04843aaf16f29903e2428a99be635099f9ea5056cc4e95e7ec8a41509f Fq86hARLg9a-mYpC4gOZ8sxWUOr5mVBjn1BBiuznlU4
+0000000000000000000000000000000000000000000000000000000000000000 AAAAAAAAAAAAAAAAAAAAAAAAAAAAAAAAAAAAAAAAAAA
+ffffffffffffffffffffffffffffffffffffffffffffffffffffffffffffffff __________________________________________8";
 
-const BASE64: &str = "Fq86hARLg9a-mYpC4gOZ8sxWUOr5mVBjn1BBiuznlU4";
-
-// Returns whether a hash has the form that a call returns.
-fn has_form(call: Call, alloc: &Refusing, hash: &DataHash) -> Result<bool, CoreError> {
-    match call {
-        Call::Hex => Ok(hash.hex(alloc)?.as_str() == HEX),
-        Call::Base64 => Ok(hash.base64(alloc)?.as_str() == BASE64),
-        Call::ToVec => Ok(hash.to_vec(alloc)?.as_slice() == BYTES.as_slice()),
-        _ => match DataHash::from_base64(alloc, BASE64) {
-            Ok(read) => Ok(read == *hash),
-            Err(HashTextError::OutOfMemory) => Err(CoreError::OutOfMemory),
-            Err(_) => Ok(false),
-        },
+// Returns whether reading a base64 text gives a hash.
+fn is_read(answer: Result<DataHash, HashTextError>, hash: &DataHash) -> Result<bool, CoreError> {
+    match answer {
+        Ok(read) => Ok(read == *hash),
+        Err(HashTextError::OutOfMemory) => Err(CoreError::OutOfMemory),
+        Err(_) => Ok(false),
     }
 }
 
-/// Tries a form of a hash.
+// Returns whether a hash has the form of a row that a call returns or reads.
+fn has_form(
+    call: Call,
+    alloc: &Refusing,
+    hash: &DataHash,
+    (hex, base64): (&str, &str),
+) -> Result<bool, CoreError> {
+    match call {
+        Call::Hex => Ok(hash.hex(alloc)?.as_str() == hex),
+        Call::Base64 => Ok(hash.base64(alloc)?.as_str() == base64),
+        Call::ToVec => Ok(hash.to_vec(alloc)?.as_slice() == hash.as_bytes().as_slice()),
+        Call::FromBase64Characters => {
+            is_read(
+                DataHash::from_base64_characters(alloc, base64.as_bytes()),
+                hash,
+            )
+        }
+        _ => is_read(DataHash::from_base64(alloc, base64), hash),
+    }
+}
+
+// Returns whether each hash has the form that a call returns or reads.
+fn have_forms(call: Call, alloc: &Refusing, hashes: &[DataHash; 3]) -> Result<bool, CoreError> {
+    let mut have_forms = true;
+    for (hash, row) in hashes.iter().zip(TEXTS.lines()) {
+        let texts = row.split_once(' ').unwrap_or_default();
+        have_forms = have_forms && has_form(call, alloc, hash, texts)?;
+    }
+    Ok(have_forms)
+}
+
+/// Tries a form of three hashes, one after another.
 pub fn attempt(call: Call, alloc: &Refusing, granted: u32) -> Result<Outcome, Fail> {
-    let hash = DataHash::from_slice(&BYTES)?;
+    let hashes = [
+        DataHash::from_slice(&BYTES)?,
+        DataHash::default(),
+        DataHash::marker(),
+    ];
+    let before = hashes;
     alloc.grant(granted);
-    let answer = has_form(call, alloc, &hash);
-    Ok(outcome_of(alloc, answer, hash.as_bytes() == BYTES))
+    let answer = have_forms(call, alloc, &hashes);
+    Ok(outcome_of(alloc, answer, hashes == before))
 }
 
 const SALT: [u8; 32] = [7; 32];

@@ -2,7 +2,8 @@
 
 use super::{Outcome, Refusing, outcome_of};
 use std::alloc::Global;
-use std::fmt::Write;
+use std::fmt::Write as _;
+use std::io::Write;
 use std::test::Fail;
 use test_support::texts::{ABC, THREE_PAIRS, lines_of_row, two_fields};
 use test_support::{EACH_FOURTH, with_cuts};
@@ -16,9 +17,11 @@ use xetroot_text::run::{run, run_with};
 
 /// Calls that answer lines. Each has its lines if these are pairs and chunks. The commands of `xetrange` use those of
 /// 28 nodes.
-pub const OF_LINES: &str = "run|h1 100;h2 200;--;h3 300;
+pub const OF_LINES: &str = "run|h1 100;h2 200;h3 300;
+run|h1 100;h2 200;--;h3 300;
 run|@2;h3 300;@0;h1 100;@1;h2 200;
 run|+abc
+run over plain ranges|h1 100;h2 200;h3 300;
 run over plain ranges|h1 100;h2 200;--;h3 300;
 run over plain ranges|@2;h3 300;@0;h1 100;@1;h2 200;
 run over plain ranges|+abc
@@ -92,12 +95,12 @@ fn input_and_answer(memory: Global, call: &str, lines: &str) -> Result<(String, 
 }
 
 /// Makes a call, and returns its status, or 0 if it succeeds.
-pub fn status_of(
+pub fn status_of<W: Write>(
     alloc: &Refusing,
     memory: Global,
     call: &str,
     mut input: &[u8],
-    output: &mut Vec<u8>,
+    output: &mut W,
 ) -> u8 {
     let r = &mut input;
     let result = match call {
@@ -112,16 +115,20 @@ pub fn status_of(
     result.err().unwrap_or(0)
 }
 
-/// Tries a call that answers lines.
+/// Tries a call that answers lines. It writes into an array, which takes no memory.
 pub fn attempt(alloc: &Refusing, granted: u32, memory: Global, row: &str) -> Result<Outcome, Fail> {
     let (call, lines) = two_fields(row, '|')?;
     let (input, expected) = input_and_answer(memory, call, lines)?;
-    let mut output = Vec::new(memory);
+    let mut array = [0; 4096];
+    let mut room = array.as_mut_slice();
     alloc.grant(granted);
-    let answer = match status_of(alloc, memory, call, input.as_bytes(), &mut output) {
-        0 => Ok(output.as_slice() == expected.as_bytes()),
+    let status = status_of(alloc, memory, call, input.as_bytes(), &mut room);
+    let unused = room.len();
+    let (written, _) = array.split_at(array.len().saturating_sub(unused));
+    let answer = match status {
+        0 => Ok(written == expected.as_bytes()),
         3 => Err(CoreError::OutOfMemory),
         _ => Ok(false),
     };
-    Ok(outcome_of(alloc, answer, output.is_empty()))
+    Ok(outcome_of(alloc, answer, written.is_empty()))
 }

@@ -3,6 +3,7 @@
 use super::{Call, Outcome, Refusing, outcome_of};
 use std::alloc::AllocError;
 use std::test::Fail;
+use xet_hash::data_hash::DataHash;
 use xet_hash::passthrough_hashmap::{Entry, PassThroughHashMap};
 use xet_merkle::CoreError;
 
@@ -98,4 +99,22 @@ pub fn fill(call: Call, alloc: &Refusing, granted: u32, count: u64) -> Outcome {
         }
     }
     outcome_of(alloc, Ok(has_numbers(&map, count)), true)
+}
+
+// A map from hashes to texts.
+type Texts<'a> = PassThroughHashMap<DataHash, &'static str, &'a Refusing>;
+
+// Puts two values at a key, one after another. Returns whether the first is replaced.
+fn replaces(map: &mut Texts<'_>, key: DataHash) -> Result<bool, CoreError> {
+    let is_new = map.insert(key, "value1")?.is_none();
+    let replaced = map.insert(key, "value2")?;
+    Ok(is_new && replaced == Some("value1") && map.get(&key) == Some(&"value2"))
+}
+
+/// Tries to put two values at a key of an empty map. Only the first can be refused.
+pub fn replace(alloc: &Refusing, granted: u32) -> Outcome {
+    let mut map = PassThroughHashMap::new(alloc);
+    alloc.grant(granted);
+    let answer = replaces(&mut map, DataHash::random_from_seed(1));
+    outcome_of(alloc, answer, map.is_empty())
 }

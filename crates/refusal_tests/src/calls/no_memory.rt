@@ -65,16 +65,28 @@ fn show_what_they_are<'a>(
         && shows(closed, true, 28, Some(root))
 }
 
+// Returns whether a range that is marked at its start is refused after another one, which is left as it is.
+fn is_refused<'a>(
+    range: &mut MerkleHashSubtree<&'a Refusing>,
+    marked: &MerkleHashSubtree<&'a Refusing>,
+    before: &MerkleHashSubtree<&'a Refusing>,
+) -> bool {
+    range.merge_into(marked) == Err(CoreError::InvalidArguments) && range == before
+}
+
 #[test]
 fn looking_at_ranges_takes_no_memory(rt: HostRuntime) -> Result<(), Fail> {
     let nodes = with_cuts::<28>(&EACH_FOURTH);
     let root = xorb_hash(rt.alloc(), &nodes)?;
     let alloc = refusing(rt.alloc());
+    let mut range = MerkleHashSubtree::from_chunks(&alloc, false, &nodes[..24], false)?;
+    let marked = MerkleHashSubtree::from_chunks(&alloc, true, &[], false)?;
     let open = MerkleHashSubtree::from_chunks(&alloc, false, &nodes[..24], false)?;
     let closed = MerkleHashSubtree::from_chunks(&alloc, true, &nodes, true)?;
     let plain = PlainRange::from_chunks(&alloc, true, &nodes, false)?;
     alloc.grant(0);
     assert!(rt; show_what_they_are(&open, &closed, root));
+    assert!(rt; is_refused(&mut range, &marked, &open));
     assert!(rt; plain.root() == Ok(None));
     assert!(rt; plain.at_start() && !plain.at_end() && plain.chunks() == nodes.as_slice());
     assert!(rt; find_stable_start(open.left(0)).is_none());

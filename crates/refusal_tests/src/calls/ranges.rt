@@ -2,16 +2,45 @@
 
 use super::{Call, Chunks, Outcome, Refusing, outcome_of};
 use serde_json::Value;
-use std::alloc::Global;
+use std::alloc::{AllocError, Global};
 use std::test::Fail;
 use test_support::texts::{two_fields, with_hashes};
 use xet_merkle::CoreError;
-use xet_merkle::aggregated_hashes::xorb_hash;
-use xet_merkle::chunk_range::ChunkRange;
+use xet_merkle::aggregated_hashes::{Node, file_hash, xorb_hash};
+use xet_merkle::chunk_range::{ChunkRange, hashes_of_open};
 use xet_merkle::merge_tree::MergeTree;
 use xet_merkle::merkle_hash_subtree::MerkleHashSubtree;
 use xet_merkle::parent_maker::{ParentHashes, ParentMaker};
 use xet_merkle::plain_range::PlainRange;
+
+/// A kind of range whose values can be compared.
+pub trait Kind: ChunkRange {
+    /// Returns whether two ranges are equal.
+    fn equals(&self, other: &Self) -> bool;
+}
+
+impl Kind for MerkleHashSubtree<&Refusing> {
+    fn equals(&self, other: &Self) -> bool {
+        self == other
+    }
+}
+
+impl Kind for PlainRange<&Refusing> {
+    fn equals(&self, other: &Self) -> bool {
+        self.at_start() == other.at_start()
+            && self.chunks() == other.chunks()
+            && self.at_end() == other.at_end()
+            && self.total_size() == other.total_size()
+    }
+}
+
+// Returns the range of some chunks.
+fn range<'a, R: Kind<Alloc = &'a Refusing>>(
+    alloc: &'a Refusing,
+    chunks: &Chunks<'_>,
+) -> Result<R, CoreError> {
+    R::from_chunks(alloc, chunks.at_start, chunks.nodes, chunks.at_end)
+}
 
 // Returns the subtree of some chunks.
 fn subtree<'a>(
@@ -21,34 +50,38 @@ fn subtree<'a>(
     MerkleHashSubtree::from_chunks(alloc, chunks.at_start, chunks.nodes, chunks.at_end)
 }
 
-// Returns how a call ended that should return a subtree.
-fn subtree_outcome<'a>(
+// Returns how a call ended that should return a range.
+fn range_outcome<'a, R: Kind<Alloc = &'a Refusing>>(
     alloc: &Refusing,
-    answer: Result<MerkleHashSubtree<&'a Refusing>, CoreError>,
-    expected: &MerkleHashSubtree<&'a Refusing>,
+    answer: Result<R, CoreError>,
+    expected: &R,
     is_same: bool,
 ) -> Outcome {
     match answer {
-        Ok(subtree) => outcome_of(alloc, Ok(subtree == *expected), is_same),
+        Ok(range) => outcome_of(alloc, Ok(range.equals(expected)), is_same),
         Err(error) => outcome_of(alloc, Err(error), is_same),
     }
 }
 
-/// Tries to make the subtree of some chunks.
-pub fn from_chunks(alloc: &Refusing, granted: u32, chunks: &Chunks<'_>) -> Result<Outcome, Fail> {
-    let expected = subtree(alloc, chunks)?;
+// Tries to make the range of some chunks.
+fn from_chunks<'a, R: Kind<Alloc = &'a Refusing>>(
+    alloc: &'a Refusing,
+    granted: u32,
+    chunks: &Chunks<'_>,
+) -> Result<Outcome, Fail> {
+    let expected: R = range(alloc, chunks)?;
     alloc.grant(granted);
-    let answer = subtree(alloc, chunks);
-    Ok(subtree_outcome(alloc, answer, &expected, true))
+    let answer = range(alloc, chunks);
+    Ok(range_outcome(alloc, answer, &expected, true))
 }
 
-/// Tries to copy the subtree of some chunks.
-pub fn try_clone(alloc: &Refusing, granted: u32, chunks: &Chunks<'_>) -> Result<Outcome, Fail> {
+// Tries to copy the subtree of some chunks.
+fn try_clone(alloc: &Refusing, granted: u32, chunks: &Chunks<'_>) -> Result<Outcome, Fail> {
     let subtree = subtree(alloc, chunks)?;
     let before = subtree.try_clone()?;
     alloc.grant(granted);
     let answer = subtree.try_clone();
-    Ok(subtree_outcome(alloc, answer, &before, subtree == before))
+    Ok(range_outcome(alloc, answer, &before, subtree == before))
 }
 
 // Returns whether a call merges a range into the one before it, and returns the number of parents if it counts them.
@@ -90,8 +123,8 @@ fn merged<'a>(
     Ok((front, count))
 }
 
-/// Tries to merge the second of two lists of chunks into the first.
-pub fn merge_into(
+// Tries to merge the second of two lists of chunks into the first.
+fn merge_into(
     call: Call,
     alloc: &Refusing,
     granted: u32,
@@ -121,42 +154,13 @@ fn thirds<'a>(
     ])
 }
 
-/// Tries to merge the subtrees of three parts of some chunks.
-pub fn merge(alloc: &Refusing, granted: u32, chunks: &Chunks<'_>) -> Result<Outcome, Fail> {
+// Tries to merge the subtrees of three parts of some chunks.
+fn merge(alloc: &Refusing, granted: u32, chunks: &Chunks<'_>) -> Result<Outcome, Fail> {
     let expected = subtree(alloc, chunks)?;
     let (ranges, before) = (thirds(alloc, chunks)?, thirds(alloc, chunks)?);
     alloc.grant(granted);
     let answer = MerkleHashSubtree::merge(alloc, &ranges);
-    Ok(subtree_outcome(alloc, answer, &expected, ranges == before))
-}
-
-/// A kind of range whose values can be compared.
-pub trait Kind: ChunkRange {
-    /// Returns whether two ranges are equal.
-    fn equals(&self, other: &Self) -> bool;
-}
-
-impl Kind for MerkleHashSubtree<&Refusing> {
-    fn equals(&self, other: &Self) -> bool {
-        self == other
-    }
-}
-
-impl Kind for PlainRange<&Refusing> {
-    fn equals(&self, other: &Self) -> bool {
-        self.at_start() == other.at_start()
-            && self.chunks() == other.chunks()
-            && self.at_end() == other.at_end()
-            && self.total_size() == other.total_size()
-    }
-}
-
-// Returns the range of some chunks.
-fn range<'a, R: Kind<Alloc = &'a Refusing>>(
-    alloc: &'a Refusing,
-    chunks: &Chunks<'_>,
-) -> Result<R, CoreError> {
-    R::from_chunks(alloc, chunks.at_start, chunks.nodes, chunks.at_end)
+    Ok(range_outcome(alloc, answer, &expected, ranges == before))
 }
 
 // Returns the ranges of two parts of some chunks.
@@ -168,8 +172,8 @@ fn parts<'a, R: Kind<Alloc = &'a Refusing>>(
     Ok((range(alloc, &first)?, range(alloc, &second)?))
 }
 
-/// Tries to merge two parts of some chunks by [`ChunkRange::join`].
-pub fn join<'a, R: Kind<Alloc = &'a Refusing>>(
+// Tries to merge two parts of some chunks by [`ChunkRange::join`].
+fn join<'a, R: Kind<Alloc = &'a Refusing>>(
     alloc: &'a Refusing,
     granted: u32,
     chunks: &Chunks<'_>,
@@ -186,8 +190,48 @@ pub fn join<'a, R: Kind<Alloc = &'a Refusing>>(
     }
 }
 
-/// Tries to get the root of some chunks.
-pub fn root<'a, R: Kind<Alloc = &'a Refusing>>(
+// Tries to merge two parts of some chunks by [`ChunkRange::prepend`].
+fn prepend<'a, R: Kind<Alloc = &'a Refusing>>(
+    alloc: &'a Refusing,
+    granted: u32,
+    chunks: &Chunks<'_>,
+) -> Result<Outcome, Fail> {
+    let expected: R = range(alloc, chunks)?;
+    let (_, before): (R, R) = parts(alloc, chunks)?;
+    let (front, mut back): (R, R) = parts(alloc, chunks)?;
+    alloc.grant(granted);
+    let answer = back.prepend(front);
+    let is_same = back.equals(&before);
+    match answer {
+        Ok(()) => Ok(outcome_of(alloc, Ok(back.equals(&expected)), is_same)),
+        Err(error) => Ok(outcome_of(alloc, Err(error), is_same)),
+    }
+}
+
+// Tries to get the root and the file hash of some chunks, whose ends are open.
+fn hashes<'a, R: Kind<Alloc = &'a Refusing>>(
+    alloc: &'a Refusing,
+    granted: u32,
+    chunks: &Chunks<'_>,
+) -> Result<Outcome, Fail> {
+    let [open, _] = chunks.split(chunks.nodes.len());
+    let open = Chunks {
+        at_start: false,
+        ..open
+    };
+    let expected = (
+        xorb_hash(chunks.alloc, open.nodes)?,
+        file_hash(chunks.alloc, open.nodes)?,
+    );
+    let (range, before): (R, R) = (range(alloc, &open)?, range(alloc, &open)?);
+    alloc.grant(granted);
+    let answer = hashes_of_open(&alloc, Some(&range));
+    let is_same = range.equals(&before);
+    Ok(outcome_of(alloc, answer.map(|hashes| hashes == expected), is_same))
+}
+
+// Tries to get the root of some chunks.
+fn root<'a, R: Kind<Alloc = &'a Refusing>>(
     alloc: &'a Refusing,
     granted: u32,
     chunks: &Chunks<'_>,
@@ -211,8 +255,8 @@ fn leaf<'a, R: Kind<Alloc = &'a Refusing>>(
     Ok(Box::new(chunks.alloc, MergeTree::Leaf(range(alloc, chunks)?))?)
 }
 
-/// Tries to merge three parts of some chunks. The last two are merged first.
-pub fn run<'a, R: Kind<Alloc = &'a Refusing>>(
+// Tries to merge three parts of some chunks. The last two are merged first.
+fn run<'a, R: Kind<Alloc = &'a Refusing>>(
     alloc: &'a Refusing,
     granted: u32,
     chunks: &Chunks<'_>,
@@ -223,23 +267,84 @@ pub fn run<'a, R: Kind<Alloc = &'a Refusing>>(
     let tree: MergeTree<R> = MergeTree::Join(leaf(alloc, &first)?, Box::new(chunks.alloc, merged)?);
     let expected: R = range(alloc, chunks)?;
     alloc.grant(granted);
-    match tree.run() {
-        Ok(merged) => Ok(outcome_of(alloc, Ok(merged.equals(&expected)), true)),
-        Err(error) => Ok(outcome_of(alloc, Err(error), true)),
-    }
+    Ok(range_outcome(alloc, tree.run(), &expected, true))
 }
 
-/// Tries to read the JSON value of the subtree of some chunks.
-pub fn from_json(alloc: &Refusing, granted: u32, chunks: &Chunks<'_>) -> Result<Outcome, Fail> {
+// How many left and right nodes each level of a subtree has, and all of its nodes.
+type FlatLists<'a> = (Vec<(usize, usize), &'a Refusing>, Vec<Node, &'a Refusing>);
+
+// Returns the flat lists of a subtree.
+fn flat_lists<'a>(
+    alloc: &'a Refusing,
+    subtree: &MerkleHashSubtree<&'a Refusing>,
+) -> Result<FlatLists<'a>, AllocError> {
+    let (mut counts, mut nodes) = (Vec::new(alloc), Vec::new(alloc));
+    for level in 0..subtree.num_levels() {
+        let (left, right) = (subtree.left(level), subtree.right(level));
+        counts.push((left.len(), right.len()))?;
+        nodes.extend_from_slice(left)?;
+    }
+    for level in (0..subtree.num_levels()).rev() {
+        nodes.extend_from_slice(subtree.right(level))?;
+    }
+    Ok((counts, nodes))
+}
+
+// Tries to make the subtree of some chunks from its flat lists.
+fn from_flat(alloc: &Refusing, granted: u32, chunks: &Chunks<'_>) -> Result<Outcome, Fail> {
+    let expected = subtree(alloc, chunks)?;
+    let (counts, nodes) = flat_lists(alloc, &expected)?;
+    alloc.grant(granted);
+    let answer = MerkleHashSubtree::from_flat(alloc, chunks.at_start, counts, nodes, chunks.at_end);
+    Ok(range_outcome(alloc, answer, &expected, true))
+}
+
+// Tries to read the JSON value of the subtree of some chunks.
+fn from_json(alloc: &Refusing, granted: u32, chunks: &Chunks<'_>) -> Result<Outcome, Fail> {
     let expected = subtree(alloc, chunks)?;
     let value = expected.to_json(chunks.alloc)?;
     let before = expected.to_json(chunks.alloc)?;
     alloc.grant(granted);
     let answer = MerkleHashSubtree::from_json(alloc, &value);
-    Ok(subtree_outcome(alloc, answer, &expected, value == before))
+    Ok(range_outcome(alloc, answer, &expected, value == before))
 }
 
-/// JSON texts of no subtree, each after the rule that it breaks. Reading them takes memory.
+// The kinds of range that take memory from the allocator of these tests.
+type Subtree<'a> = MerkleHashSubtree<&'a Refusing>;
+
+type Plain<'a> = PlainRange<&'a Refusing>;
+
+/// Tries a call on the range of some chunks.
+pub fn attempt(
+    call: Call,
+    alloc: &Refusing,
+    granted: u32,
+    chunks: &Chunks<'_>,
+) -> Result<Outcome, Fail> {
+    match call {
+        Call::FromChunks => from_chunks::<Subtree<'_>>(alloc, granted, chunks),
+        Call::FromChunksPlain => from_chunks::<Plain<'_>>(alloc, granted, chunks),
+        Call::TryClone => try_clone(alloc, granted, chunks),
+        Call::MergeAt(place) => merge_into(call, alloc, granted, &chunks.split(place)),
+        Call::Merge => merge(alloc, granted, chunks),
+        Call::JoinSubtree => join::<Subtree<'_>>(alloc, granted, chunks),
+        Call::JoinPlain => join::<Plain<'_>>(alloc, granted, chunks),
+        Call::PrependSubtree => prepend::<Subtree<'_>>(alloc, granted, chunks),
+        Call::PrependPlain => prepend::<Plain<'_>>(alloc, granted, chunks),
+        Call::RootOfPlain => root::<Plain<'_>>(alloc, granted, chunks),
+        Call::HashesOfSubtree => hashes::<Subtree<'_>>(alloc, granted, chunks),
+        Call::HashesOfPlain => hashes::<Plain<'_>>(alloc, granted, chunks),
+        Call::RunSubtrees => run::<Subtree<'_>>(alloc, granted, chunks),
+        Call::RunPlain => run::<Plain<'_>>(alloc, granted, chunks),
+        Call::FromJson => from_json(alloc, granted, chunks),
+        Call::FromFlat => from_flat(alloc, granted, chunks),
+        _ => merge_into(call, alloc, granted, &chunks.split(chunks.nodes.len() / 2)),
+    }
+}
+
+/// JSON texts of no subtree, each after the rule that it breaks. Reading them takes memory. The last two are wrong
+/// forms of the subtree of 24 nodes, each fourth of which is a natural cut: there is a stable point among the left
+/// nodes of one, and the right nodes of the other aren't natural cuts.
 pub const BROKEN_JSON: &str =
     r#"3|{"at_end":false,"at_start":false,"levels":[[1,0]],"nodes":[{"hash":"h1","size":-1}]}
 4|{"at_end":false,"at_start":false,"levels":[[1]],"nodes":[{"hash":"h1","size":1}]}
@@ -251,7 +356,9 @@ pub const BROKEN_JSON: &str =
 10|{"at_end":true,"at_start":true,"levels":[[2,0]],"nodes":[{"hash":"h1","size":1},{"hash":"h2","size":1}]}
 11|{"at_end":false,"at_start":false,"levels":[[0,0],[0,0]],"nodes":[]}
 12|{"at_end":false,"at_start":false,"levels":[[1,0],[1,0]],"nodes":[{"hash":"h1","size":1},{"hash":"h2","size":1}]}
-13|{"at_end":false,"at_start":true,"levels":[[0,1],[1,0]],"nodes":[{"hash":"h1","size":1},{"hash":"h2","size":1}]}"#;
+13|{"at_end":false,"at_start":true,"levels":[[0,1],[1,0]],"nodes":[{"hash":"h1","size":1},{"hash":"h2","size":1}]}
+12|{"at_end":false,"at_start":false,"levels":[[16,0],[2,0]],"nodes":[{"hash":"0000000000000000000000000000000000000000000000000000000000000001","size":1},{"hash":"0000000000000001000000000000000000000000000000000000000000000001","size":1},{"hash":"0000000000000002000000000000000000000000000000000000000000000001","size":1},{"hash":"0000000000000003000000000000000000000000000000000000000000000000","size":1},{"hash":"0000000000000004000000000000000000000000000000000000000000000001","size":1},{"hash":"0000000000000005000000000000000000000000000000000000000000000001","size":1},{"hash":"0000000000000006000000000000000000000000000000000000000000000001","size":1},{"hash":"0000000000000007000000000000000000000000000000000000000000000000","size":1},{"hash":"0000000000000010000000000000000000000000000000000000000000000001","size":1},{"hash":"0000000000000011000000000000000000000000000000000000000000000001","size":1},{"hash":"0000000000000012000000000000000000000000000000000000000000000001","size":1},{"hash":"0000000000000013000000000000000000000000000000000000000000000000","size":1},{"hash":"0000000000000014000000000000000000000000000000000000000000000001","size":1},{"hash":"0000000000000015000000000000000000000000000000000000000000000001","size":1},{"hash":"0000000000000016000000000000000000000000000000000000000000000001","size":1},{"hash":"0000000000000017000000000000000000000000000000000000000000000000","size":1},{"hash":"c766feb0be4b62597c1be56c1aa297274545e8e94fcc313313ccfb684e123649","size":4},{"hash":"ce79d67ad718dac0b301672e7f29024f181900ce3c6becb11e085604932e7ac0","size":4}]}
+13|{"at_end":false,"at_start":false,"levels":[[8,4],[3,0]],"nodes":[{"hash":"0000000000000000000000000000000000000000000000000000000000000001","size":1},{"hash":"0000000000000001000000000000000000000000000000000000000000000001","size":1},{"hash":"0000000000000002000000000000000000000000000000000000000000000001","size":1},{"hash":"0000000000000003000000000000000000000000000000000000000000000000","size":1},{"hash":"0000000000000004000000000000000000000000000000000000000000000001","size":1},{"hash":"0000000000000005000000000000000000000000000000000000000000000001","size":1},{"hash":"0000000000000006000000000000000000000000000000000000000000000001","size":1},{"hash":"0000000000000007000000000000000000000000000000000000000000000000","size":1},{"hash":"c766feb0be4b62597c1be56c1aa297274545e8e94fcc313313ccfb684e123649","size":4},{"hash":"ce79d67ad718dac0b301672e7f29024f181900ce3c6becb11e085604932e7ac0","size":4},{"hash":"9be3facbaae4494a9a611ede3da9f8841fa048519e0124dd2694e5605c29b2a8","size":4},{"hash":"0000000000000014000000000000000000000000000000000000000000000001","size":1},{"hash":"0000000000000015000000000000000000000000000000000000000000000001","size":1},{"hash":"0000000000000016000000000000000000000000000000000000000000000001","size":1},{"hash":"0000000000000017000000000000000000000000000000000000000000000001","size":1}]}"#;
 
 // Returns the JSON value of a text in which h1 and h2 stand for hashes.
 fn json_value(memory: Global, text: &str) -> Result<Value, Fail> {

@@ -133,16 +133,16 @@ fn takes<'a, R: Kind<Alloc = &'a Refusing>>(
     }
 }
 
-// Returns whether a session returns the root of all chunks, or else their file hash.
+// Returns whether a call gives the root of all chunks, both hashes, or else the file hash.
 fn ends<'a, R: Kind<Alloc = &'a Refusing>>(
     session: &SessionOf<R>,
-    is_root: bool,
+    call: &str,
     end: &End,
 ) -> Result<bool, CoreError> {
-    if is_root {
-        is_right(session.root(end.total), end.root)
-    } else {
-        is_right(session.finish(end.total), end.file)
+    match call {
+        "root" => is_right(session.root(end.total), end.root),
+        "root and file hash" => is_right(session.hashes(end.total), (end.root, end.file)),
+        _ => is_right(session.finish(end.total), end.file),
     }
 }
 
@@ -179,7 +179,7 @@ fn tried<'a, R: Kind<Alloc = &'a Refusing>>(
     alloc.grant(granted);
     let answer = match &put {
         Some(put) => takes(alloc, session, call, put),
-        None => ends(session, call == "root", end),
+        None => ends(session, call, end),
     };
     let outcome = outcome_of(alloc, answer, are_same(session, &other));
     alloc.grant(u32::MAX);
@@ -193,7 +193,7 @@ fn goes_on<'a, R: Kind<Alloc = &'a Refusing>>(
     puts: &str,
     end: &End,
 ) -> Result<bool, Fail> {
-    Ok(are_put(memory, session, puts)? && ends(session, true, end)? && ends(session, false, end)?)
+    Ok(are_put(memory, session, puts)? && ends(session, "root", end)? && ends(session, "", end)?)
 }
 
 /// Tries a call of a session. After a refusal it goes on from the session as it was.
