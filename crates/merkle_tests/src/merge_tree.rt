@@ -92,6 +92,22 @@ fn merges_and_depth(alloc: Global, bracketing: &str) -> Result<(u32, u32), CoreE
     Ok((counted.merges, counted.depth))
 }
 
+// The text of the closed subtree of the 28 nodes.
+const CLOSED: &str =
+    r#"{"at_end":true,"at_start":true,"levels":[[0,0],[0,0],[0,0],[1,0]],"nodes":[{"hash":"b1026a806e25e14a5a9d00c9400b8b5b92e81027e1c574046edb37f500fcdeae","size":28}]}"#;
+
+#[test]
+fn bracketings_give_one_subtree_and_one_text(rt: HostRuntime) -> Result<(), Fail> {
+    let nodes = with_cuts::<28>(&EACH_FOURTH);
+    let whole = MerkleHashSubtree::from_chunks(rt.alloc(), true, &nodes, true)?;
+    for (bracketing, _) in BRACKETINGS {
+        let merged: MerkleHashSubtree = run(rt.alloc(), bracketing)?;
+        let text = merged.to_json(rt.alloc())?.to_string(rt.alloc())?;
+        assert!(rt; merged == whole && text.as_str() == CLOSED, "{bracketing}");
+    }
+    Ok(())
+}
+
 #[test]
 fn ranges_of_each_kind_have_the_root(rt: HostRuntime) -> Result<(), Fail> {
     let expected = Some(xorb_hash(rt.alloc(), &with_cuts::<28>(&EACH_FOURTH))?);

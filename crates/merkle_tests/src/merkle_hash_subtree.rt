@@ -2,7 +2,9 @@
 
 mod boundaries;
 mod counted;
+mod drawn;
 mod forged;
+mod groups;
 mod json;
 mod json_rules;
 mod levels;
@@ -14,10 +16,12 @@ mod texts;
 use std::alloc::Global;
 use std::test::Fail;
 use test_support::texts::{three_fields, two_fields};
-use test_support::{EACH_FOURTH, MARKS, has_told_counts, told_nodes, told_ranges, with_cuts};
+use test_support::{
+    EACH_FOURTH, MARKS, has_told_counts, reference_chunk, told_nodes, told_ranges, with_cuts,
+};
 use xet_hash::data_hash::MerkleHash;
 use xet_merkle::CoreError;
-use xet_merkle::aggregated_hashes::{Node, xorb_hash};
+use xet_merkle::aggregated_hashes::{Node, file_hash, file_hash_with_salt, xorb_hash};
 use xet_merkle::chunk_range::ChunkRange;
 use xet_merkle::merkle_hash_subtree::{MerkleHashSubtree, find_stable_end, find_stable_start};
 use xet_merkle::plain_range::PlainRange;
@@ -30,6 +34,7 @@ const STABLE_POINTS: &str = "...|...|...|...|...| 8 16
 |.......|.......| - -
 |.|.| - -
 ..|..|...|........|.|..| 6 6
+|||||||||| - -
  - -
 ";
 
@@ -55,12 +60,13 @@ const KEPT: &str = "(...|...|...|...|...|) 8,4 2,0
 [...|...|...|...|...|...|...|) 0,4 6,0
 (...|...|...|...|) 16,0
 (|..|..|) 7,0
+(||||||||||) 10,0
 [|..|..|) 0,3 1,0
 (|..|..|] 4,0 1,0
 [] 0,0
 ";
 
-// Returns whether the subtree of a row's list has its counts, its marks and its size.
+// Returns whether the subtree of a row's list has its counts, its marks and its size, and equals a copy.
 fn keeps_its_nodes(alloc: Global, row: &str) -> Result<bool, Fail> {
     let (text, counts) = two_fields(row, ' ')?;
     let ranges = told_ranges(alloc, text)?;
@@ -68,7 +74,8 @@ fn keeps_its_nodes(alloc: Global, row: &str) -> Result<bool, Fail> {
     let found = (subtree.at_start(), subtree.at_end(), subtree.total_size());
     let size = text.len().saturating_sub(2) as u64;
     let is_right = found == (text.starts_with('['), text.ends_with(']'), size);
-    Ok(is_right && has_told_counts(alloc, subtree, counts)?)
+    let is_copied = subtree.try_clone()? == *subtree;
+    Ok(is_right && is_copied && has_told_counts(alloc, subtree, counts)?)
 }
 
 #[test]
@@ -116,11 +123,17 @@ fn closed_ranges_have_the_root_of_their_list(rt: HostRuntime) -> Result<(), Fail
 }
 
 #[test]
-fn sizes_stay_below_two_to_the_64(rt: HostRuntime) {
-    let hash = MerkleHash::default();
+fn sizes_stay_below_two_to_the_64(rt: HostRuntime) -> Result<(), Fail> {
+    let (first, second) = (reference_chunk("1")?.0, reference_chunk("2")?.0);
     for (size, refusal) in [(0, None), (1, Some(CoreError::SizeOverflow))] {
-        let chunks = [(hash, u64::MAX), (hash, size)];
-        let answer = MerkleHashSubtree::from_chunks(rt.alloc(), false, &chunks, true);
-        assert!(rt; answer.err() == refusal, "{size}");
+        let chunks = [(first, u64::MAX), (second, size)];
+        let refusals = [
+            MerkleHashSubtree::from_chunks(rt.alloc(), false, &chunks, true).err(),
+            xorb_hash(rt.alloc(), &chunks).err(),
+            file_hash(rt.alloc(), &chunks).err(),
+            file_hash_with_salt(rt.alloc(), &chunks, &[1; 32]).err(),
+        ];
+        assert!(rt; refusals == [refusal; 4], "{size}");
     }
+    Ok(())
 }

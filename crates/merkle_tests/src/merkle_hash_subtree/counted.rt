@@ -5,7 +5,9 @@ ghost use Rattle.std.specs.Prelude.{◌≡◌, [], ◌∷◌, length};
 use std::alloc::Global;
 use std::test::Fail;
 use test_support::texts::{four_fields, two_fields};
-use test_support::{EACH_FOURTH, has_told_counts, reference_list, with_cuts};
+use test_support::{
+    EACH_FOURTH, has_counts, has_told_counts, reference_list, told_ranges, with_cuts,
+};
 use xet_hash::data_hash::{DataHash, MerkleHash};
 use xet_merkle::aggregated_hashes::Node;
 use xet_merkle::merkle_hash_subtree::{MerkleHashSubtree, ParentMaker};
@@ -48,6 +50,39 @@ fn short_ranges_hash_each_level(rt: HostRuntime) -> Result<(), Fail> {
     Ok(())
 }
 
+// Each row has ranges, and how many parents are hashed if the last one is merged into the one before it, then both into
+// the one before these, and so on.
+const FROM_THE_BACK: &str = "(...|...|...|...|...|/...|) 1
+(...|/...|...|...|...|...|) 1
+[...|/...|...|...|...|...|/...|) 1,3
+[...|...|...|...|...|...|...|/] 4
+[...|/...|...|...|...|...|/...|/] 0,2,6
+";
+
+// Returns whether the ranges of a row merge to the subtree of the whole list, and hash as many parents as it says.
+fn merge_from_the_back(alloc: Global, row: &str) -> Result<bool, Fail> {
+    let (text, counts) = two_fields(row, ' ')?;
+    let mut ranges = told_ranges(alloc, text)?;
+    let mut merged = ranges.pop().ok_or("no range")?;
+    for count in counts.split(',') {
+        let mut front = ranges.pop().ok_or("no range")?;
+        if front.merge_into_counted(&merged)? != count.parse()? {
+            return Ok(false);
+        }
+        merged = front;
+    }
+    let whole = told_ranges(alloc, text.replace(alloc, "/", "")?.as_str())?;
+    Ok(ranges.is_empty() && whole.first() == Some(&merged))
+}
+
+#[test]
+fn merged_ranges_are_the_whole_list(rt: HostRuntime) -> Result<(), Fail> {
+    for row in FROM_THE_BACK.lines() {
+        assert!(rt; merge_from_the_back(rt.alloc(), row)?, "{row}");
+    }
+    Ok(())
+}
+
 // Gives a group a hash that depends only on its length.
 #[derive(Drop)]
 struct LengthHashes {
@@ -78,5 +113,6 @@ fn parents_have_the_hashes_of_their_maker(rt: HostRuntime) -> Result<(), Fail> {
     let maker = merged.merge_into_by(&back, LengthHashes { made: 0 })?;
     let root = MerkleHash::from([2, 0, 0, 1]);
     assert!(rt; (maker.made(), merged.final_hash()) == (3, Some(root)));
+    assert!(rt; has_counts(&merged, &[(0, 0), (0, 0), (1, 0)]));
     Ok(())
 }

@@ -4,6 +4,7 @@ use std::alloc::Global;
 use std::test::Fail;
 use test_support::{has_counts, read_json};
 use xet_hash::data_hash::DataHash;
+use xet_merkle::CoreError;
 use xet_merkle::merkle_hash_subtree::MerkleHashSubtree;
 
 // Reads a subtree from a text.
@@ -50,6 +51,14 @@ fn a_subtree_of_no_list_is_closed_within_the_bound(rt: HostRuntime) -> Result<()
     // Twice the count is at most the nine nodes plus twice the three levels.
     assert!(rt; (count, closed.final_hash()) == (2, Some(root)));
     assert!(rt; has_counts(&closed, &[(0, 0), (0, 0), (1, 0)]));
+    // What it keeps is read again, so it keeps the rules.
+    let text = closed.to_json(rt.alloc())?.to_string(rt.alloc())?;
+    assert!(rt; read(rt.alloc(), &text)? == closed);
+    // It is marked at its end, so nothing follows it.
+    let mut forged = read(rt.alloc(), FORGED)?;
+    let none = MerkleHashSubtree::from_chunks(rt.alloc(), false, &[], false)?;
+    assert!(rt; forged.merge_into(&none) == Err(CoreError::InvalidArguments));
+    assert!(rt; forged == read(rt.alloc(), FORGED)?);
     Ok(())
 }
 

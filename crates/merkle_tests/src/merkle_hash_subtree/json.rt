@@ -24,7 +24,7 @@ fn the_least_broken_rule_is_told(rt: HostRuntime) -> Result<(), Fail> {
         let (rule, text) = two_fields(row, ' ')?;
         assert!(rt; breaks_rule(rt.alloc(), rule, text)?, "{row}");
     }
-    assert!(rt; BROKEN.lines().count() == 25);
+    assert!(rt; BROKEN.lines().count() == 27);
     Ok(())
 }
 
@@ -50,6 +50,8 @@ const BROKEN: &str =
 11 {"at_start":true,"at_end":true,"levels":[[0,0],[0,0]],"nodes":[]}
 12 {"at_start":false,"at_end":false,"levels":[[1,0],[1,0]],"nodes":[{"hash":"0000000000000000000000000000000000000000000000000000000000000000","size":0},{"hash":"0000000000000000000000000000000000000000000000000000000000000000","size":0}]}
 13 {"at_start":true,"at_end":false,"levels":[[0,1],[1,0]],"nodes":[{"hash":"CFC5D07F6F03C29BBF424132963FE08D19A37D5757AAF520BF08119F05CD56D6","size":100,"more":[]},{"hash":"CFC5D07F6F03C29BBF424132963FE08D19A37D5757AAF520BF08119F05CD56D6","size":100,"more":[]}]}
+12 {"at_end":false,"at_start":false,"levels":[[16,0],[2,0]],"nodes":[{"hash":"0000000000000000000000000000000000000000000000000000000000000001","size":1},{"hash":"0000000000000001000000000000000000000000000000000000000000000001","size":1},{"hash":"0000000000000002000000000000000000000000000000000000000000000001","size":1},{"hash":"0000000000000003000000000000000000000000000000000000000000000000","size":1},{"hash":"0000000000000004000000000000000000000000000000000000000000000001","size":1},{"hash":"0000000000000005000000000000000000000000000000000000000000000001","size":1},{"hash":"0000000000000006000000000000000000000000000000000000000000000001","size":1},{"hash":"0000000000000007000000000000000000000000000000000000000000000000","size":1},{"hash":"0000000000000010000000000000000000000000000000000000000000000001","size":1},{"hash":"0000000000000011000000000000000000000000000000000000000000000001","size":1},{"hash":"0000000000000012000000000000000000000000000000000000000000000001","size":1},{"hash":"0000000000000013000000000000000000000000000000000000000000000000","size":1},{"hash":"0000000000000014000000000000000000000000000000000000000000000001","size":1},{"hash":"0000000000000015000000000000000000000000000000000000000000000001","size":1},{"hash":"0000000000000016000000000000000000000000000000000000000000000001","size":1},{"hash":"0000000000000017000000000000000000000000000000000000000000000000","size":1},{"hash":"c766feb0be4b62597c1be56c1aa297274545e8e94fcc313313ccfb684e123649","size":4},{"hash":"ce79d67ad718dac0b301672e7f29024f181900ce3c6becb11e085604932e7ac0","size":4}]}
+13 {"at_end":false,"at_start":false,"levels":[[8,4],[3,0]],"nodes":[{"hash":"0000000000000000000000000000000000000000000000000000000000000001","size":1},{"hash":"0000000000000001000000000000000000000000000000000000000000000001","size":1},{"hash":"0000000000000002000000000000000000000000000000000000000000000001","size":1},{"hash":"0000000000000003000000000000000000000000000000000000000000000000","size":1},{"hash":"0000000000000004000000000000000000000000000000000000000000000001","size":1},{"hash":"0000000000000005000000000000000000000000000000000000000000000001","size":1},{"hash":"0000000000000006000000000000000000000000000000000000000000000001","size":1},{"hash":"0000000000000007000000000000000000000000000000000000000000000000","size":1},{"hash":"c766feb0be4b62597c1be56c1aa297274545e8e94fcc313313ccfb684e123649","size":4},{"hash":"ce79d67ad718dac0b301672e7f29024f181900ce3c6becb11e085604932e7ac0","size":4},{"hash":"9be3facbaae4494a9a611ede3da9f8841fa048519e0124dd2694e5605c29b2a8","size":4},{"hash":"0000000000000014000000000000000000000000000000000000000000000001","size":1},{"hash":"0000000000000015000000000000000000000000000000000000000000000001","size":1},{"hash":"0000000000000016000000000000000000000000000000000000000000000001","size":1},{"hash":"0000000000000017000000000000000000000000000000000000000000000001","size":1}]}
 1 []
 1 null
 2 {}
@@ -59,6 +61,10 @@ const BROKEN: &str =
 
 const EMPTY_SIDES: &str =
     r#"{"at_start":true,"at_end":true,"levels":[[0,0],[0,0],[1,0]],"nodes":[{"hash":"CFC5D07F6F03C29BBF424132963FE08D19A37D5757AAF520BF08119F05CD56D6","size":100,"more":[]}],"x":1}"#;
+
+// The same subtree as `ONE`, with further members.
+const FURTHER: &str =
+    r#"{"x":1,"at_end":false,"at_start":true,"levels":[[1,0]],"nodes":[{"hash":"cfc5d07f6f03c29bbf424132963fe08d19a37d5757aaf520bf08119f05cd56d6","size":100,"x":1}]}"#;
 
 // If a member occurs twice, the last one counts.
 const START_TWICE: &str =
@@ -70,7 +76,28 @@ fn empty_sides_and_further_members_are_read(rt: HostRuntime) -> Result<(), Fail>
     let found = (subtree.num_levels(), subtree.final_hash());
     assert!(rt; found == (3, Some(DataHash::random_from_seed(1))));
     assert!(rt; read_json(rt.alloc(), START_TWICE)??.is_empty());
+    let further = read_json(rt.alloc(), FURTHER)??;
+    assert!(rt; further == read_json(rt.alloc(), ONE)??);
     Ok(())
+}
+
+// Returns whether no proper front of a text is JSON.
+fn is_whole(alloc: Global, text: &str) -> bool {
+    let bytes = text.as_bytes();
+    for end in 0..bytes.len() {
+        let front = bytes.get(..end).unwrap_or_default();
+        if Value::from_slice(alloc, front).is_ok() {
+            return false;
+        }
+    }
+    Value::from_slice(alloc, bytes).is_ok()
+}
+
+#[test]
+fn fronts_of_texts_are_no_json(rt: HostRuntime) {
+    for text in [NO_PAIRS, ONE] {
+        assert!(rt; is_whole(rt.alloc(), text), "{text}");
+    }
 }
 
 // Each row has the rule that a text breaks without a member, and the member.

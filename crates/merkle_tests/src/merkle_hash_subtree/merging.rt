@@ -1,13 +1,21 @@
-//! Merges the subtrees of adjacent ranges, as the roots of reference lists that are split at each place show.
+//! Merges the subtrees of adjacent ranges: the roots of reference lists and of random lists that are split, and ranges
+//! that can't be merged.
 
+use rand_core::{Rng, SeedableRng};
+use rand_xoshiro::Xoshiro256PlusPlus;
 use std::alloc::Global;
 use std::test::Fail;
-use test_support::texts::two_fields;
-use test_support::{EACH_FOURTH, ranges, reference_list, with_cuts};
+use test_support::texts::{three_fields, two_fields};
+use test_support::trees::merge;
+use test_support::{
+    EACH_FOURTH, drawn_lengths, drawn_list, ranges, reference_chunk, reference_list, told_ranges,
+    with_cuts,
+};
 use xet_hash::data_hash::{DataHash, MerkleHash};
 use xet_merkle::CoreError;
 use xet_merkle::aggregated_hashes::{Node, xorb_hash};
-use xet_merkle::merkle_hash_subtree::MerkleHashSubtree;
+use xet_merkle::merge_tree::MergeTree;
+use xet_merkle::merkle_hash_subtree::{MerkleHashSubtree, find_stable_end, find_stable_start};
 
 #[test]
 fn ranges_are_merged_to_the_root_of_the_whole(rt: HostRuntime) -> Result<(), Fail> {
@@ -22,9 +30,13 @@ fn ranges_are_merged_to_the_root_of_the_whole(rt: HostRuntime) -> Result<(), Fai
 }
 
 #[test]
-fn no_ranges_are_the_closed_empty_list(rt: HostRuntime) -> Result<(), Fail> {
+fn no_ranges_are_the_closed_empty_list_and_one_is_copied(rt: HostRuntime) -> Result<(), Fail> {
     let merged = MerkleHashSubtree::merge(rt.alloc(), &[])?;
     assert!(rt; merged.final_hash() == Some(MerkleHash::default()));
+    let chunk = reference_chunk("1")?;
+    let range = [MerkleHashSubtree::from_chunks(rt.alloc(), true, &[chunk], true)?];
+    let merged = MerkleHashSubtree::merge(rt.alloc(), &range)?;
+    assert!(rt; merged.final_hash() == Some(chunk.0) && range == [merged]);
     Ok(())
 }
 
@@ -36,33 +48,150 @@ const REFERENCES: &str = "1,2,3 71ec1275fca074724e2dd666921b3277c7cee603e4d025bc
 0,0,1,1,2,2,3,3,4,4,5,5,6,6,7,7 636c65db520ec16e8166f9ec7a0cf9f74b26369077ac60160ec0221c86bc9f77
 ";
 
-// Returns the root of a list whose first nodes are merged with the others.
+// Returns the root of a closed list that is merged from ranges. They have the given lengths, and the last one has the
+// nodes that are left.
 fn merged_root(
     alloc: Global,
     nodes: &[Node],
-    first: usize,
+    lengths: &[usize],
 ) -> Result<Option<MerkleHash>, CoreError> {
-    let ranges = ranges(alloc, nodes, &[first], (true, true))?;
+    let ranges = ranges(alloc, nodes, lengths, (true, true))?;
     Ok(MerkleHashSubtree::merge(alloc, &ranges)?.final_hash())
 }
 
-// Returns whether the list of a row merges to its root at each split.
-fn merges_to_root(alloc: Global, row: &str) -> Result<bool, Fail> {
-    let (numbers, root) = two_fields(row, ' ')?;
-    let root = Some(DataHash::from_hex(root)?);
-    let nodes = reference_list(alloc, numbers)?;
-    for first in 0..=nodes.len() {
-        if merged_root(alloc, &nodes, first)? != root {
+/// Returns whether a list merges to its root at some splits into two ranges. The first range has from `least` to `most`
+/// nodes.
+pub fn merges_at_splits(
+    alloc: Global,
+    nodes: &[Node],
+    (least, most): (usize, usize),
+) -> Result<bool, CoreError> {
+    let root = Some(xorb_hash(alloc, nodes)?);
+    for first in least..=most {
+        if merged_root(alloc, nodes, &[first])? != root {
             return Ok(false);
         }
     }
     Ok(true)
 }
 
+// Returns whether a list merges to its root at each split into three ranges.
+fn merges_at_each_two_splits(alloc: Global, nodes: &[Node]) -> Result<bool, CoreError> {
+    let root = Some(xorb_hash(alloc, nodes)?);
+    for first in 0..=nodes.len() {
+        for second in 0..=nodes.len().saturating_sub(first) {
+            if merged_root(alloc, nodes, &[first, second])? != root {
+                return Ok(false);
+            }
+        }
+    }
+    Ok(true)
+}
+
+// Returns whether the list of a row has its root, and merges to it at each split.
+fn merges_to_root(alloc: Global, row: &str) -> Result<bool, Fail> {
+    let (numbers, root) = two_fields(row, ' ')?;
+    let nodes = reference_list(alloc, numbers)?;
+    let has_root = xorb_hash(alloc, &nodes)? == DataHash::from_hex(root)?;
+    Ok(has_root && merges_at_splits(alloc, &nodes, (0, nodes.len()))?)
+}
+
 #[test]
 fn reference_lists_merge_to_their_root_at_each_split(rt: HostRuntime) -> Result<(), Fail> {
     for row in REFERENCES.lines() {
         assert!(rt; merges_to_root(rt.alloc(), row)?, "{row}");
+    }
+    Ok(())
+}
+
+#[test]
+fn short_drawn_lists_merge_to_their_root_at_each_split(rt: HostRuntime) -> Result<(), Fail> {
+    let mut generator = Xoshiro256PlusPlus::seed_from_u64(6);
+    for number in 0..30 {
+        let nodes = drawn_list(&mut generator, rt.alloc(), 16)?;
+        assert!(rt; merges_at_splits(rt.alloc(), &nodes, (0, 16))?, "{number}");
+    }
+    for length in [8, 12, 16, 20, 24] {
+        let nodes = drawn_list(&mut generator, rt.alloc(), length)?;
+        assert!(rt; merges_at_each_two_splits(rt.alloc(), &nodes)?, "{length}");
+    }
+    Ok(())
+}
+
+#[test]
+fn drawn_lists_merge_to_their_root_from_drawn_ranges(rt: HostRuntime) -> Result<(), Fail> {
+    let mut generator = Xoshiro256PlusPlus::seed_from_u64(7);
+    for length in 20..=200 {
+        let nodes = drawn_list(&mut generator, rt.alloc(), length)?;
+        let lengths = drawn_lengths(&mut generator, rt.alloc(), length)?;
+        let found = merged_root(rt.alloc(), &nodes, &lengths)?;
+        assert!(rt; found == Some(xorb_hash(rt.alloc(), &nodes)?), "{length}");
+    }
+    Ok(())
+}
+
+// How many of the 100 lists have a stable point was computed without this code.
+#[test]
+fn drawn_lists_merge_to_their_root_at_stable_points(rt: HostRuntime) -> Result<(), Fail> {
+    let mut generator = Xoshiro256PlusPlus::seed_from_u64(8);
+    let mut count = 0usize;
+    for number in 0..100 {
+        let length = generator.next_u64() % 470 + 30;
+        let nodes = drawn_list(&mut generator, rt.alloc(), length)?;
+        if let (Some(first), Some(last)) = (find_stable_start(&nodes), find_stable_end(&nodes)) {
+            assert!(rt;
+                merges_at_splits(rt.alloc(), &nodes, (first, first))?
+                    && merges_at_splits(rt.alloc(), &nodes, (last, last))?,
+                "{number}"
+            );
+            count = count.saturating_add(1);
+        }
+    }
+    assert!(rt; count == 98);
+    Ok(())
+}
+
+// Each row has two adjacent ranges, and whether the marks or the sizes forbid to merge them.
+const REFUSED: &str = "[.] (.) marks
+[] () marks
+[.] (] marks
+(.) [) marks
+() [) marks
+(+) [.] marks
+(+) (.) sizes
+[.) (+] sizes
+";
+
+// Returns the range of a text.
+fn one_range(alloc: Global, text: &str) -> Result<MerkleHashSubtree, Fail> {
+    Ok(told_ranges(alloc, text)?.pop().ok_or("no range")?)
+}
+
+/// Returns whether each call that merges refuses two ranges for the same reason. The first range has to stay as it is.
+pub fn refuse(alloc: Global, front: &str, back: &str, refusal: CoreError) -> Result<bool, Fail> {
+    let (front, back) = (one_range(alloc, front)?, one_range(alloc, back)?);
+    let mut merged = front.try_clone()?;
+    let answer = merged.merge_into(&back).err();
+    let counted = merged.merge_into_counted(&back).err();
+    let is_unchanged = merged == front;
+    let pair = [front, back];
+    let of_both = MerkleHashSubtree::merge(alloc, &pair).err();
+    let [front, back] = pair;
+    let tree = merge(alloc, MergeTree::Leaf(front), MergeTree::Leaf(back))?;
+    let refusals = [answer, counted, of_both, tree.run().err()];
+    Ok(is_unchanged && refusals == [Some(refusal); 4])
+}
+
+#[test]
+fn marks_and_sizes_forbid_merges(rt: HostRuntime) -> Result<(), Fail> {
+    for row in REFUSED.lines() {
+        let (front, back, reason) = three_fields(row, ' ')?;
+        let refusal = if reason == "marks" {
+            CoreError::InvalidArguments
+        } else {
+            CoreError::SizeOverflow
+        };
+        assert!(rt; refuse(rt.alloc(), front, back, refusal)?, "{row}");
     }
     Ok(())
 }

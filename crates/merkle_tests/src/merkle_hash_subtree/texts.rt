@@ -4,7 +4,7 @@
 use std::alloc::Global;
 use std::test::Fail;
 use test_support::texts::three_fields;
-use test_support::{merge_into_previous, told_ranges};
+use test_support::{merge_into_previous, read_json, told_ranges};
 use xet_merkle::merkle_hash_subtree::MerkleHashSubtree;
 
 // Merges ranges at places, one after another.
@@ -17,13 +17,14 @@ fn merge_at(ranges: &mut Vec<MerkleHashSubtree>, places: &str) -> Result<(), Fai
     Ok(())
 }
 
-// Returns whether the subtree that a row's ranges are merged to has its text.
+// Returns whether the subtree that a row's ranges are merged to has its text, and is read from it.
 fn has_text(alloc: Global, row: &str) -> Result<bool, Fail> {
     let (ranges, places, expected) = three_fields(row, ' ')?;
     let mut ranges = told_ranges(alloc, ranges)?;
     merge_at(&mut ranges, places)?;
     let merged = ranges.first().ok_or("no range")?;
-    Ok(merged.to_json(alloc)?.to_string(alloc)?.as_str() == expected)
+    let is_read = read_json(alloc, expected)?? == *merged;
+    Ok(is_read && merged.to_json(alloc)?.to_string(alloc)?.as_str() == expected)
 }
 
 #[test]
