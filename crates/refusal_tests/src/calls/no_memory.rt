@@ -71,7 +71,7 @@ fn is_refused<'a>(
     marked: &MerkleHashSubtree<&'a Refusing>,
     before: &MerkleHashSubtree<&'a Refusing>,
 ) -> bool {
-    range.merge_into(marked) == Err(CoreError::InvalidArguments) && range == before
+    range.merge_into(marked) == Err(CoreError::InvalidArguments) && &*range == before
 }
 
 #[test]
