@@ -2,17 +2,19 @@
 
 use crate::read::{bytes, hash, number, quoted};
 use crate::told::told;
-use anyhow::{Context, Result};
+use anyhow::{Context, Result, bail};
 use serde_json::Value;
 use std::alloc::{AllocError, Global};
 use std::fmt::Write;
-use xet_hash::data_hash::{DataHash, compute_data_hash, compute_internal_node_hash};
+use xet_hash::data_hash::{DataHash, compute_internal_node_hash};
 
 /// Makes a call on hashes. Returns `None` if there is none of this name.
 pub fn answer(alloc: Global, name: &str, arguments: &str) -> Result<Option<String>> {
+    if let Some(divisor) = arguments.strip_prefix("% ") {
+        return Ok(Some(remainder(alloc, name, divisor)?));
+    }
     let text = match name {
         "random_from_seed" => hex(alloc, &DataHash::random_from_seed(number(arguments)?))?,
-        "compute_data_hash" => hex(alloc, &compute_data_hash(&bytes(alloc, arguments)?))?,
         "compute_internal_node_hash" => internal_node_hash(alloc, arguments)?,
         "hex" => hash(arguments)?.hex(alloc)?,
         "base64" => hash(arguments)?.base64(alloc)?,
@@ -25,11 +27,10 @@ pub fn answer(alloc: Global, name: &str, arguments: &str) -> Result<Option<Strin
             DataHash::from_hex(quoted(alloc, arguments)?.as_str()),
         )?,
         "from_base64" => from_base64(alloc, arguments)?,
-        "to_json" => hash(arguments)?.to_json(alloc)?.to_string(alloc)?,
-        "from_json" => from_json(alloc, arguments)?,
+        "DataHash::to_json" => hash(arguments)?.to_json(alloc)?.to_string(alloc)?,
+        "DataHash::from_json" => from_json(alloc, arguments)?,
         "compare" => compared(alloc, arguments)?,
         "hmac" => hmac(alloc, arguments)?,
-        "remainder" => remainder(alloc, arguments)?,
         _ => return Ok(None),
     };
     Ok(Some(text))
@@ -85,11 +86,11 @@ fn hmac(alloc: Global, arguments: &str) -> Result<String> {
     Ok(hex(alloc, &hash(message)?.hmac(hash(key)?))?)
 }
 
-fn remainder(alloc: Global, arguments: &str) -> Result<String> {
-    let (left, divisor) = arguments.split_once(" % ").context("no divisor")?;
+// Returns what a hash leaves on division. 0 is no divisor.
+fn remainder(alloc: Global, name: &str, divisor: &str) -> Result<String> {
     let divisor = number(divisor)?;
     if divisor == 0 {
-        return Ok(String::from_str(alloc, "excluded")?);
+        bail!("no divisor");
     }
-    Ok((hash(left)? % divisor).to_string(alloc)?)
+    Ok((hash(name)? % divisor).to_string(alloc)?)
 }

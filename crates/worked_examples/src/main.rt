@@ -2,10 +2,18 @@
 //! the calls returned.
 #![tactic(auto)]
 
+mod groups;
 mod hashes;
 mod lines;
+mod maps;
+mod merges;
+mod messages;
+mod programs;
+mod ranges;
 mod read;
 mod roots;
+mod sessions;
+mod subtrees;
 mod told;
 
 use anyhow::Result;

@@ -1,0 +1,76 @@
+//! Upload sessions.
+
+use crate::read::{list, number};
+use crate::told::told;
+use anyhow::{Context, Result, bail};
+use std::alloc::Global;
+use upload_session::session::SessionOf;
+use xet_merkle::chunk_range::ChunkRange;
+use xet_merkle::merkle_hash_subtree::MerkleHashSubtree;
+use xet_merkle::plain_range::PlainRange;
+
+/// Makes the calls of a session, which have commas between them. Returns `None` if the name is another one.
+pub fn answer(alloc: Global, name: &str, arguments: &str) -> Result<Option<String>> {
+    let text = match name {
+        "session:" => answers::<MerkleHashSubtree>(alloc, arguments)?,
+        "plain_session:" => answers::<PlainRange>(alloc, arguments)?,
+        _ => return Ok(None),
+    };
+    Ok(Some(text))
+}
+
+// Returns what the calls of a new session return.
+fn answers<C: ChunkRange<Alloc = Global>>(alloc: Global, calls: &str) -> Result<String> {
+    let mut session: SessionOf<C> = SessionOf::new(alloc);
+    let mut text = String::new(alloc);
+    for call in calls.split(", ") {
+        if !text.is_empty() {
+            text.push_str(", ")?;
+        }
+        text.push_str(called(alloc, &mut session, call)?.as_str())?;
+    }
+    Ok(text)
+}
+
+// Makes a call of a session, and returns what it returned.
+fn called<C: ChunkRange<Alloc = Global>>(
+    alloc: Global,
+    session: &mut SessionOf<C>,
+    call: &str,
+) -> Result<String> {
+    let (name, argument) = call.split_once(' ').context("no argument")?;
+    let text = match name {
+        "put" => put(alloc, session, argument)?,
+        "finish" => told(alloc, session.finish(number(argument)?))?,
+        "root" => told(alloc, session.root(number(argument)?))?,
+        "taken" => session.taken(number(argument)?).to_string(alloc)?,
+        "range" => range(alloc, session, argument)?,
+        _ => bail!("no such call"),
+    };
+    Ok(text)
+}
+
+// Puts chunks at the positions from a first one on.
+fn put<C: ChunkRange<Alloc = Global>>(
+    alloc: Global,
+    session: &mut SessionOf<C>,
+    argument: &str,
+) -> Result<String> {
+    let (first, chunks) = argument.split_once(' ').context("no chunks")?;
+    Ok(told(alloc, session.put(number(first)?, &list(alloc, chunks)?))?)
+}
+
+// Returns the first position of a run and the size of its range.
+fn range<C: ChunkRange<Alloc = Global>>(
+    alloc: Global,
+    session: &SessionOf<C>,
+    argument: &str,
+) -> Result<String> {
+    match session.range(argument.parse()?) {
+        Some((first, range)) => {
+            let size = range.total_size();
+            Ok(format!(in alloc; "{size} bytes from {first} on")?)
+        }
+        None => Ok(String::from_str(alloc, "none")?),
+    }
+}
