@@ -41,13 +41,6 @@ type Subtree<'a> = MerkleHashSubtree<&'a Refusing>;
 
 type Plain<'a> = PlainRange<&'a Refusing>;
 
-// The answer of an example: the subtree of some chunks, and the numbers of nodes of its levels as a text.
-#[derive(Clone, Copy)]
-struct Answer<'a> {
-    chunks: Chunks<'a>,
-    counts: &'a str,
-}
-
 // Returns the JSON text of the subtree of some chunks, which another allocator makes.
 fn json_of(chunks: &Chunks<'_>) -> Result<String, Fail> {
     let (alloc, nodes) = (chunks.alloc, chunks.nodes);
@@ -65,9 +58,10 @@ fn has_told_counts(memory: Global, subtree: &Subtree<'_>, text: &str) -> Result<
     Ok(has_counts(subtree, &counts))
 }
 
-// Returns whether a subtree is that of an answer. It has a root if both ends are marked.
-fn is_answer(subtree: &Subtree<'_>, answer: &Answer<'_>) -> Result<bool, Fail> {
-    let (chunks, memory) = (&answer.chunks, answer.chunks.alloc);
+// Returns whether a subtree is that of some chunks, and has the numbers of nodes of a text in its levels. It has a root
+// if both ends are marked.
+fn is_subtree(subtree: &Subtree<'_>, chunks: &Chunks<'_>, counts: &str) -> Result<bool, Fail> {
+    let memory = chunks.alloc;
     let root = if chunks.at_start && chunks.at_end {
         Some(xorb_hash(memory, chunks.nodes)?)
     } else {
@@ -75,19 +69,20 @@ fn is_answer(subtree: &Subtree<'_>, answer: &Answer<'_>) -> Result<bool, Fail> {
     };
     let text = subtree.to_json(memory)?.to_string(memory)?;
     let is_made = subtree.final_hash() == root && text == json_of(chunks)?;
-    Ok(is_made && has_told_counts(memory, subtree, answer.counts)?)
+    Ok(is_made && has_told_counts(memory, subtree, counts)?)
 }
 
-// Returns how a call ended that should return the subtree of an answer.
+// Returns how a call ended that should return the subtree of some chunks, with these numbers of nodes.
 fn outcome_of_subtree(
     alloc: &Refusing,
     found: Result<Subtree<'_>, CoreError>,
-    answer: &Answer<'_>,
+    chunks: &Chunks<'_>,
+    counts: &str,
     is_same: bool,
 ) -> Result<Outcome, Fail> {
     match found {
         Ok(subtree) => {
-            let is_right = is_answer(&subtree, answer)?;
+            let is_right = is_subtree(&subtree, chunks, counts)?;
             Ok(outcome_of(alloc, Ok(is_right), is_same))
         }
         Err(error) => Ok(outcome_of(alloc, Err(error), is_same)),
@@ -102,23 +97,33 @@ fn range<'a, R: ChunkRange<Alloc = &'a Refusing>>(
     R::from_chunks(alloc, chunks.at_start, chunks.nodes, chunks.at_end)
 }
 
-// Tries to make the subtree of an answer, which has a JSON text or a dash.
-fn make(alloc: &Refusing, granted: u32, answer: &Answer<'_>, json: &str) -> Result<Outcome, Fail> {
-    let is_text = json == "-" || json_of(&answer.chunks)?.as_str() == json;
+// Tries to make the subtree of some chunks, which has a JSON text or a dash.
+fn make(
+    alloc: &Refusing,
+    granted: u32,
+    chunks: &Chunks<'_>,
+    counts: &str,
+    json: &str,
+) -> Result<Outcome, Fail> {
+    let is_text = json == "-" || json_of(chunks)?.as_str() == json;
     alloc.grant(granted);
-    let outcome = outcome_of_subtree(alloc, range(alloc, &answer.chunks), answer, true)?;
+    let outcome = outcome_of_subtree(alloc, range(alloc, chunks), chunks, counts, true)?;
     Ok(outcome.if_so(is_text))
 }
 
-// Tries to read the subtree of an answer from its JSON value.
-fn read(alloc: &Refusing, granted: u32, answer: &Answer<'_>) -> Result<Outcome, Fail> {
-    let chunks = &answer.chunks;
+// Tries to read the subtree of some chunks from its JSON value.
+fn read(
+    alloc: &Refusing,
+    granted: u32,
+    chunks: &Chunks<'_>,
+    counts: &str,
+) -> Result<Outcome, Fail> {
     let (memory, nodes) = (chunks.alloc, chunks.nodes);
     let subtree = MerkleHashSubtree::from_chunks(memory, chunks.at_start, nodes, chunks.at_end)?;
     let (value, before) = (subtree.to_json(memory)?, subtree.to_json(memory)?);
     alloc.grant(granted);
     let found = MerkleHashSubtree::from_json(alloc, &value);
-    outcome_of_subtree(alloc, found, answer, value == before)
+    outcome_of_subtree(alloc, found, chunks, counts, value == before)
 }
 
 // Returns the subtrees of the chunks before a place and from it on. That of the latter is merged if there are more
@@ -135,17 +140,23 @@ fn parts<'a>(
     Ok((range(alloc, &first)?, back))
 }
 
-// Tries to merge the subtree of an answer at a place, which takes a number of parents.
-fn merge(alloc: &Refusing, granted: u32, answer: &Answer<'_>, how: &str) -> Result<Outcome, Fail> {
+// Tries to merge the subtree of some chunks at a place, which takes a number of parents.
+fn merge(
+    alloc: &Refusing,
+    granted: u32,
+    chunks: &Chunks<'_>,
+    counts: &str,
+    how: &str,
+) -> Result<Outcome, Fail> {
     let (place, count) = two_fields(how, ':')?;
     let (place, count) = (place.parse()?, count.parse()?);
-    let (front_before, back_before) = parts(alloc, &answer.chunks, place)?;
-    let (mut front, back) = parts(alloc, &answer.chunks, place)?;
+    let (front_before, back_before) = parts(alloc, chunks, place)?;
+    let (mut front, back) = parts(alloc, chunks, place)?;
     alloc.grant(granted);
     match front.merge_into_counted(&back) {
         Ok(made) => {
             let is_right = back == back_before && made == count;
-            Ok(outcome_of_subtree(alloc, Ok(front), answer, true)?.if_so(is_right))
+            Ok(outcome_of_subtree(alloc, Ok(front), chunks, counts, true)?.if_so(is_right))
         }
         Err(error) => {
             let is_same = front == front_before && back == back_before;
@@ -208,14 +219,13 @@ pub fn attempt(alloc: &Refusing, granted: u32, memory: Global, row: &str) -> Res
         nodes: &nodes,
         at_end: list.ends_with(']'),
     };
-    let answer = Answer { chunks, counts };
     match call {
-        "make" => make(alloc, granted, &answer, how),
-        "read" => read(alloc, granted, &answer),
-        "merge" => merge(alloc, granted, &answer, how),
+        "make" => make(alloc, granted, &chunks, counts, how),
+        "read" => read(alloc, granted, &chunks, counts),
+        "merge" => merge(alloc, granted, &chunks, counts, how),
         "run" => {
             let found: Result<Subtree<'_>, CoreError> = run(alloc, granted, &chunks, how)?;
-            outcome_of_subtree(alloc, found, &answer, true)
+            outcome_of_subtree(alloc, found, &chunks, counts, true)
         }
         _ => Ok(outcome_of_plain(alloc, run(alloc, granted, &chunks, how)?, &nodes)),
     }

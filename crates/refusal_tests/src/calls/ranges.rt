@@ -225,9 +225,12 @@ fn hashes<'a, R: Kind<Alloc = &'a Refusing>>(
     );
     let (range, before): (R, R) = (range(alloc, &open)?, range(alloc, &open)?);
     alloc.grant(granted);
-    let answer = hashes_of_open(&alloc, Some(&range));
+    let answer = match hashes_of_open(&alloc, Some(&range)) {
+        Ok(hashes) => Ok(hashes == expected),
+        Err(error) => Err(error),
+    };
     let is_same = range.equals(&before);
-    Ok(outcome_of(alloc, answer.map(|hashes| hashes == expected), is_same))
+    Ok(outcome_of(alloc, answer, is_same))
 }
 
 // Tries to get the root of some chunks.
