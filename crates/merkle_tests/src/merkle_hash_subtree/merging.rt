@@ -6,7 +6,7 @@ use rand_xoshiro::Xoshiro256PlusPlus;
 use std::alloc::Global;
 use std::test::Fail;
 use test_support::texts::{three_fields, two_fields};
-use test_support::trees::merge;
+use test_support::trees::tree;
 use test_support::{
     EACH_FOURTH, drawn_lengths, drawn_list, ranges, reference_chunk, reference_list, told_ranges,
     with_cuts,
@@ -14,7 +14,6 @@ use test_support::{
 use xet_hash::data_hash::{DataHash, MerkleHash};
 use xet_merkle::CoreError;
 use xet_merkle::aggregated_hashes::{Node, xorb_hash};
-use xet_merkle::merge_tree::MergeTree;
 use xet_merkle::merkle_hash_subtree::{MerkleHashSubtree, find_stable_end, find_stable_start};
 
 #[test]
@@ -174,10 +173,13 @@ pub fn refuse(alloc: Global, front: &str, back: &str, refusal: CoreError) -> Res
     let answer = merged.merge_into(&back).err();
     let counted = merged.merge_into_counted(&back).err();
     let is_unchanged = merged == front;
-    let pair = [front, back];
+    let mut pair = Vec::new(alloc);
+    pair.push(front)?;
+    pair.push(back)?;
     let of_both = MerkleHashSubtree::merge(alloc, &pair).err();
-    let [front, back] = pair;
-    let tree = merge(alloc, MergeTree::Leaf(front), MergeTree::Leaf(back))?;
+    let Some(tree) = tree(alloc, "..+", pair)? else {
+        return Ok(false);
+    };
     let refusals = [answer, counted, of_both, tree.run().err()];
     Ok(is_unchanged && refusals == [Some(refusal); 4])
 }
