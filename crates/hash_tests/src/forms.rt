@@ -141,9 +141,11 @@ fn reads_a_json_string(rt: HostRuntime) -> Result<(), Fail> {
 fn errors_speak(rt: HostRuntime) -> Result<(), Fail> {
     let bytes = HashTextError::Bytes(DataHashBytesParseError);
     let memory = HashTextError::OutOfMemory;
-    let printed = format!(in rt.alloc(); "{DataHashHexParseError}; {bytes}; {memory}")?;
+    let printed = format!(in rt.alloc();
+        "{DataHashHexParseError}; {DataHashBytesParseError}; {bytes}; {memory}"
+    )?;
     let expected =
-        "Invalid hex input for DataHash; Invalid bytes input for DataHash; out of memory";
+        "Invalid hex input for DataHash; Invalid bytes input for DataHash; Invalid bytes input for DataHash; out of memory";
     assert!(rt; printed.as_str() == expected);
     Ok(())
 }

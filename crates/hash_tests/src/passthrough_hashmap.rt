@@ -242,6 +242,17 @@ fn changes<K: U64HashExtractable + Hash + Copy>(
 }
 
 #[test]
+fn keys_of_another_type_are_found(rt: HostRuntime) -> Result<(), Fail> {
+    let [first, _, lacking] = NAMES;
+    let same = ChunkName { ..first };
+    assert!(rt; first == same && first.u64_hash_value() == same.u64_hash_value());
+    assert!(rt; first != lacking && first.u64_hash_value() == lacking.u64_hash_value());
+    assert!(rt; is_kept(two_entries(rt.alloc(), NAMES)?, NAMES));
+    assert!(rt; changes(PassThroughHashMap::new(rt.alloc()), &NAMES)?);
+    Ok(())
+}
+
+#[test]
 fn changes_at_hashes_and_numbers(rt: HostRuntime) -> Result<(), Fail> {
     assert!(rt; changes(PassThroughHashMap::new(rt.alloc()), &hashes())?);
     assert!(rt; changes(PassThroughHashMap::new(rt.alloc()), &NUMBERS)?);

@@ -229,6 +229,11 @@ fn a_session_lends_the_ranges_of_its_runs(rt: HostRuntime) -> Result<(), Fail> {
     assert!(rt; has_two_runs(&session));
     assert!(rt; lends(rt.alloc(), &session, 0, 0, "1:100,2:200,3:300")?);
     assert!(rt; lends(rt.alloc(), &session, 1, 7, "4:400")?);
+    let mut joined: Session = SessionOf::new(rt.alloc());
+    assert!(rt; joined.put(2, &[node(3, 300)]) == Ok(1));
+    assert!(rt; joined.put(0, &[node(1, 100), node(2, 200)]) == Ok(2));
+    assert!(rt; lends(rt.alloc(), &joined, 0, 0, "1:100,2:200,3:300")?);
+    assert!(rt; joined.range(1).is_none());
     Ok(())
 }
 

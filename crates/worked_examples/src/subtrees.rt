@@ -1,6 +1,6 @@
 //! Calls on subtrees: making and copying them, and their JSON form.
 
-use crate::ranges::{SaidRange, range, subtree, told_subtree};
+use crate::ranges::{SaidRange, merged, range, subtree, told_subtree};
 use crate::told::found;
 use anyhow::{Context, Result};
 use serde_json::Value;
@@ -20,7 +20,7 @@ pub fn answer(alloc: Global, name: &str, arguments: &str) -> Result<Option<Strin
         "total_size" => of(alloc, arguments)?.total_size().to_string(alloc)?,
         "left" => side(alloc, arguments, false)?,
         "right" => side(alloc, arguments, true)?,
-        "to_json" => json(alloc, &of(alloc, arguments)?)?,
+        "to_json" => json(alloc, &merged(alloc, arguments)?)?,
         "from_json" => from_json(alloc, arguments)?,
         _ => return Ok(None),
     };

@@ -106,8 +106,11 @@ fn make(
     json: &str,
 ) -> Result<Outcome, Fail> {
     let is_text = json == "-" || json_of(chunks)?.as_str() == json;
+    let before = chunks.nodes.to_vec(chunks.alloc)?;
     alloc.grant(granted);
-    let outcome = outcome_of_subtree(alloc, range(alloc, chunks), chunks, counts, true)?;
+    let made = range(alloc, chunks);
+    let is_same = chunks.nodes == before.as_slice();
+    let outcome = outcome_of_subtree(alloc, made, chunks, counts, is_same)?;
     Ok(outcome.if_so(is_text))
 }
 

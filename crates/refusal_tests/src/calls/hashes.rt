@@ -88,7 +88,9 @@ pub fn of_chunks(
     chunks: &Chunks<'_>,
 ) -> Result<Outcome, Fail> {
     let expected = hash(call, alloc, chunks.nodes)?;
+    let before = chunks.nodes.to_vec(chunks.alloc)?;
     alloc.grant(granted);
     let answer = hash(call, alloc, chunks.nodes);
-    Ok(outcome_of(alloc, answer.map(|hash| hash == expected), true))
+    let is_same = chunks.nodes == before.as_slice();
+    Ok(outcome_of(alloc, answer.map(|hash| hash == expected), is_same))
 }

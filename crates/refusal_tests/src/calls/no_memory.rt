@@ -31,10 +31,19 @@ fn hashes_of_at_most_one_pair_take_no_memory(rt: HostRuntime) -> Result<(), Fail
     let root = DataHash::from_hex(root)?;
     let file = "8e16257caa3fe079d484d872a8975264b2ff683b0d6db9028cc7c0f968a45661";
     let file = DataHash::from_hex(file)?;
+    let zero = [(DataHash::default(), 0)];
+    let of_zero = "638a6bc391964a85939d48f008e8bdbae6a7975e7ca2d87a3ce2492f4e4d8a4c";
+    let of_zero = DataHash::from_hex(of_zero)?;
+    let salt = "f4aa7219b7bc6145df344b930c1cf63680037e13236f4b3b8f439aba1520d443";
+    let salt = *DataHash::from_hex(salt)?.as_bytes();
+    let salted = "3e44e4a200e05a69afc979eb2e0507817e4f0ddff128a97e563c0e05fed3bd25";
+    let salted = DataHash::from_hex(salted)?;
     let alloc = refusing(rt.alloc());
     alloc.grant(0);
     assert!(rt; hashes(&alloc, &[]) == Ok([DataHash::default(); 3]));
     assert!(rt; hashes(&alloc, &[(root, u64::MAX)]) == Ok([root, file, file]));
+    assert!(rt; file_hash(&alloc, &zero) == Ok(of_zero));
+    assert!(rt; file_hash_with_salt(&alloc, &zero, &salt) == Ok(salted));
     assert!(rt; !alloc.has_refused());
     Ok(())
 }
@@ -74,6 +83,11 @@ fn is_refused<'a>(
     range.merge_into(marked) == Err(CoreError::InvalidArguments) && &*range == before
 }
 
+// Returns whether a list has only this stable point.
+fn has_stable_point(nodes: &[Node], place: Option<usize>) -> bool {
+    find_stable_start(nodes) == place && find_stable_end(nodes) == place
+}
+
 #[test]
 fn looking_at_ranges_takes_no_memory(rt: HostRuntime) -> Result<(), Fail> {
     let nodes = with_cuts::<28>(&EACH_FOURTH);
@@ -91,6 +105,13 @@ fn looking_at_ranges_takes_no_memory(rt: HostRuntime) -> Result<(), Fail> {
     assert!(rt; plain.at_start() && !plain.at_end() && plain.chunks() == nodes.as_slice());
     assert!(rt; find_stable_start(open.left(0)).is_none());
     assert!(rt; find_stable_end(&nodes) == Some(24));
+    assert!(rt;
+        find_stable_start(&nodes[..20]) == Some(8) && find_stable_end(&nodes[..20]) == Some(16)
+    );
+    assert!(rt; has_stable_point(&with_cuts::<7>(&[0, 3, 6]), Some(4)));
+    assert!(rt; has_stable_point(&with_cuts::<15>(&[0, 7, 14]), Some(8)));
+    assert!(rt; has_stable_point(&with_cuts::<17>(&[0, 8, 16]), None));
+    assert!(rt; has_stable_point(&with_cuts::<5>(&[0, 2, 4]), None));
     assert!(rt; !alloc.has_refused());
     Ok(())
 }

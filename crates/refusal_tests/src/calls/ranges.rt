@@ -70,9 +70,11 @@ fn from_chunks<'a, R: Kind<Alloc = &'a Refusing>>(
     chunks: &Chunks<'_>,
 ) -> Result<Outcome, Fail> {
     let expected: R = range(alloc, chunks)?;
+    let before = chunks.nodes.to_vec(chunks.alloc)?;
     alloc.grant(granted);
     let answer = range(alloc, chunks);
-    Ok(range_outcome(alloc, answer, &expected, true))
+    let is_same = chunks.nodes == before.as_slice();
+    Ok(range_outcome(alloc, answer, &expected, is_same))
 }
 
 // Tries to copy the subtree of some chunks.

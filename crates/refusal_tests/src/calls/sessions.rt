@@ -41,7 +41,7 @@ fn is_right<T: PartialEq + Drop>(
 }
 
 /// A put: its first position, its chunks, and how many hashes are new.
-#[derive(Drop)]
+#[derive(Drop, PartialEq)]
 struct Put {
     first: u64,
     chunks: Vec<Node>,
@@ -172,12 +172,12 @@ fn tried<'a, R: Kind<Alloc = &'a Refusing>>(
     (alloc, granted, memory): (&'a Refusing, u32, Global),
     session: &mut SessionOf<R>,
     (call, before): (&str, &str),
-    put: Option<Put>,
+    put: &Option<Put>,
     end: &End,
 ) -> Result<Outcome, Fail> {
     let other: SessionOf<R> = begun(alloc, memory, before)?;
     alloc.grant(granted);
-    let answer = match &put {
+    let answer = match put {
         Some(put) => takes(alloc, session, call, put),
         None => ends(session, call, end),
     };
@@ -209,13 +209,14 @@ pub fn attempt<'a, R: Kind<Alloc = &'a Refusing>>(
     let put = first_put(memory, after_refusal)?;
     let mut session: SessionOf<R> = begun(alloc, memory, before)?;
     let granted = (alloc, granted, memory);
-    let outcome = tried(granted, &mut session, (call, before), put, &end)?;
+    let outcome = tried(granted, &mut session, (call, before), &put, &end)?;
+    let is_same = put == first_put(memory, after_refusal)?;
     let remaining = if matches!(outcome, Outcome::Refused) {
         after_refusal
     } else {
         others
     };
-    Ok(outcome.if_so(goes_on(memory, &mut session, remaining, &end)?))
+    Ok(outcome.if_so(is_same && goes_on(memory, &mut session, remaining, &end)?))
 }
 
 // Returns whether a session of two runs, or the list of the three hashes that it knows, is copied.
