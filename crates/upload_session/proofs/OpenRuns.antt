@@ -13,7 +13,7 @@ use Rattle.std.proofs.lemmas.List.Elements.{All-nil, All-cons, All-head, All-tai
 use Rattle.std.proofs.lemmas.Map.Entries.{sum_by-insert_entry, sum_by-remove_entry, sum_by-set_value}
 use Rattle.std.proofs.lemmas.Map.Views.{All-map-remove_entry, All-values-insert_entry, All-values-set_value, IfSome-lookup_from_All}
 use Rattle.std.proofs.lemmas.Option.{same_Some}
-use Rattle.xet_merkle.specs.declared.chunk_range.ChunkRange as chunk_range
+use Rattle.chunk_ranges.specs.declared.chunk_range.ChunkRange as chunk_range
 use Rattle.upload_session.specs.declared.runs.Run.{Run}
 use Rattle.upload_session.specs.Session.{PlacedRun}
 use Rattle.upload_session.specs.Steps.OpenRuns.{IsOpen, AreOpen, AreOpenUpTo, sizes_of, size_at}

@@ -2,8 +2,8 @@
 use Rattle.std.specs.Prelude.{◌≡◌, ◌^◌, ◌<◌, ◌⊎◌, ℕ, Result, Ok, Err, IfErr, OnErr}
 use Rattle.std.proofs.Common.{arith, ap, inl, inr}
 use Rattle.xet_merkle.specs.Ranges.{Refusals}
-use Rattle.xet_merkle.specs.declared.error.CoreError.{CoreError}
-use Rattle.xet_merkle.specs.declared.error.CoreError.TheVariants.{InvalidArguments, SizeOverflow, OutOfMemory}
+use Rattle.xet_roots.specs.declared.error.CoreError.{CoreError}
+use Rattle.xet_roots.specs.declared.error.CoreError.TheVariants.{InvalidArguments, SizeOverflow, OutOfMemory}
 
 -- what holds anyway
 pub at_error : {T E P : Type 0} (result : Result T E) → P → OnErr result P

@@ -5,8 +5,8 @@ use Rattle.std.proofs.lemmas.List.Sums.{sum_by-append, sum_by-cons}
 use Rattle.xet_merkle.specs.Groups.{Node}
 use Rattle.xet_merkle.specs.Roots.{parent_hash, total_size}
 use Rattle.xet_merkle.specs.Subtree.{Subtree}
-use Rattle.xet_merkle.proofs.Canonical.Collapsing.{levels_size-canonical}
-use Rattle.xet_merkle.specs.declared.chunk_range.ChunkRange as chunk_range
+use Rattle.subtree_levels.proofs.Canonical.Collapsing.{levels_size-canonical}
+use Rattle.chunk_ranges.specs.declared.chunk_range.ChunkRange as chunk_range
 use Rattle.upload_session.specs.Session.{Placed, PlacedRun, placed_from, chunks_of, size_of_runs, StandFor}
 use Rattle.upload_session.specs.Subtrees.{subtrees}
 use Rattle.upload_session.proofs.Placing.{chunks-placed}

@@ -1,7 +1,7 @@
 -- Subtrees as a kind of range.
 use Rattle.xet_merkle.specs.Levels.{levels_size}
 use Rattle.xet_merkle.specs.Subtree.{Subtree, IsCanonical}
-use Rattle.xet_merkle.specs.declared.chunk_range.ChunkRange as chunk_range
+use Rattle.chunk_ranges.specs.declared.chunk_range.ChunkRange as chunk_range
 
 -- what subtrees stand for, their marks and their sizes
 abbrev pub subtrees : {A : Type 0} → chunk_range.Ghosts Subtree A

@@ -1,3 +1,2 @@
-pub mod LevelRules
-pub mod Reading
 pub mod OneMeaning
+pub mod Reading

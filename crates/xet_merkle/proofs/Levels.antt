@@ -1,4 +1,1 @@
 pub mod Flat
-pub mod Reading
-pub mod Sides
-pub mod InPlace

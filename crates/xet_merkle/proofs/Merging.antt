@@ -1,11 +1,2 @@
-pub mod Sides
-pub mod LevelMerge
-pub mod Kept
-pub mod LevelByLevel
+pub mod Levels
 pub mod Ranges
-pub mod Bounds
-pub mod Adjacent
-pub mod Bracketing
-pub mod Appending
-pub mod Prepending
-pub mod InPlace

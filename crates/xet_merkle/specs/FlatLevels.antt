@@ -1,8 +1,8 @@
 -- The nodes of all levels in one list: the left nodes of all levels, lowest level first, then the right nodes of all
 -- levels, highest level first; and for each level the numbers of nodes on both sides.
 use Rattle.std.specs.Prelude.{◌≡◌, ℕ, ◌-◌, List, [], ◌∷◌, ◌++◌, length, map, take, drop}
-use Rattle.xet_merkle.specs.Groups.{Node}
-use Rattle.xet_merkle.specs.Levels.{Level}
+use Rattle.xet_roots.specs.Groups.{Node}
+use Rattle.subtree_levels.specs.Levels.{Level}
 
 -- the left nodes of all levels, lowest level first
 abbrev pub left_nodes : List Level → List Node

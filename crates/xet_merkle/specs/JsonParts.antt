@@ -7,7 +7,7 @@ use Rattle.serde_json.specs.Data.{Data, Members, boolean, array}
 use Rattle.serde_json.specs.Find.{get, as_str, as_number, as_u64, as_object}
 use Rattle.serde_json.specs.View.{items_of}
 use Rattle.xet_hash.specs.Hash.{IsHash, IsHexText, hex_text}
-use Rattle.xet_merkle.specs.Groups.{Node}
+use Rattle.xet_roots.specs.Groups.{Node}
 
 -- the whole number in a value, if it is from 0 to 2 ^ 64 - 1
 abbrev pub whole : Data → Option ℕ

@@ -1,12 +1,12 @@
 -- The subtree that a JSON value describes, and the lowest of the rules 1 to 13 that it breaks.
 use Rattle.std.specs.Prelude.{◌≡◌, ℕ, ◌+◌, ◌^◌, ◌<◌, ◌≤◌, Bool, List, length, sum_by}
 use Rattle.serde_json.specs.Data.{Data}
-use Rattle.xet_merkle.specs.Groups.{Node}
-use Rattle.xet_merkle.specs.Roots.{total_size}
-use Rattle.xet_merkle.specs.Subtree.{Subtree}
+use Rattle.xet_roots.specs.Groups.{Node}
+use Rattle.xet_roots.specs.Roots.{total_size}
+use Rattle.subtree_levels.specs.Subtree.{Subtree}
 use Rattle.xet_merkle.specs.FlatLevels.{levels_of, IsFlat}
 use Rattle.xet_merkle.specs.JsonParts.{ReadsParts, BreaksPartRule}
-use Rattle.xet_merkle.specs.LevelRules.{BreaksLevelRule}
+use Rattle.subtree_levels.specs.LevelRules.{BreaksLevelRule}
 
 -- the sum of all counts
 abbrev pub count_sum : List (ℕ × ℕ) → ℕ

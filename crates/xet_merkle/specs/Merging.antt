@@ -2,12 +2,12 @@
 -- `xet-core-structures`.
 use Rattle.std.specs.Prelude.{◌≡◌, ℕ, ◌+◌, Bool, true, false, List, [], ◌∷◌, ◌++◌, Result}
 use Rattle.std.specs.List.{AllZip}
-use Rattle.xet_merkle.specs.Groups.{Node}
-use Rattle.xet_merkle.specs.declared.error.CoreError.{CoreError}
-use Rattle.xet_merkle.specs.Ranges.{NoMarkBetween, Refusals, total_of}
-use Rattle.xet_merkle.specs.Levels.{levels_size}
-use Rattle.xet_merkle.specs.Canonical.{IsCanonicalBy}
-use Rattle.xet_merkle.specs.Subtree.{Subtree, IsCanonical}
+use Rattle.xet_roots.specs.Groups.{Node}
+use Rattle.xet_roots.specs.declared.error.CoreError.{CoreError}
+use Rattle.chunk_ranges.specs.Ranges.{NoMarkBetween, Refusals, total_of}
+use Rattle.subtree_levels.specs.Levels.{levels_size}
+use Rattle.subtree_levels.specs.Canonical.{IsCanonicalBy}
+use Rattle.subtree_levels.specs.Subtree.{Subtree, IsCanonical}
 
 -- a subtree spans two others: no mark is between these, and it has their outer marks and the sum of their sizes
 pub record Spans (front back merged : Subtree) : Type 0 where

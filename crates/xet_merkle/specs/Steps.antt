@@ -1,11 +1,1 @@
-pub mod Scan
-pub mod StableScan
-pub mod Room
-pub mod LevelMerging
-pub mod Building
-pub mod RangeMerging
 pub mod SubtreeMerging
-pub mod Adjacent
-pub mod Bracketing
-pub mod LevelSides
-pub mod SubtreeEquality

@@ -4,8 +4,8 @@ use Rattle.std.specs.Prelude.{ℕ, Bool, [], ◌∷◌, map, codes}
 use Rattle.serde_json.specs.Data.{Data, boolean, number, string, array, object, unsigned, no_members, member}
 use Rattle.serde_json.specs.View.{items_of}
 use Rattle.xet_hash.specs.Hash.{hex_text}
-use Rattle.xet_merkle.specs.Groups.{Node}
-use Rattle.xet_merkle.specs.Subtree.{Subtree}
+use Rattle.xet_roots.specs.Groups.{Node}
+use Rattle.subtree_levels.specs.Subtree.{Subtree}
 use Rattle.xet_merkle.specs.FlatLevels.{flat_nodes, count_of}
 
 -- a whole number

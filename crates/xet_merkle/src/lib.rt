@@ -2,15 +2,13 @@
 //! ports the module `merklehash` of the crate `xet-core-structures` 1.5.2.
 #![tactic(auto)]
 
-mod adjacent;
-pub mod aggregated_hashes;
-pub mod chunk_range;
-pub mod error;
-mod groups;
 pub mod laws;
-pub mod merge_tree;
 pub mod merkle_hash_subtree;
-pub mod parent_maker;
-pub mod plain_range;
 
-pub use error::CoreError;
+pub use chunk_ranges::chunk_range as chunk_range;
+pub use chunk_ranges::merge_tree as merge_tree;
+pub use chunk_ranges::plain_range as plain_range;
+pub use xet_roots::CoreError;
+pub use xet_roots::aggregated_hashes as aggregated_hashes;
+pub use xet_roots::error as error;
+pub use xet_roots::parent_maker as parent_maker;

@@ -138,21 +138,12 @@
 //! (`IsWellFormed` of `specs/WellFormed.antt`) replaces its `verify_invariants`. There is no `debug_chunks`. Only this
 //! port has `at_start`, `at_end`, `total_size` and equality.
 
-mod collapse;
-mod in_sight;
 mod json_parts;
-mod left_nodes;
-mod level_rules;
-mod levels;
-mod merge_levels;
-mod sides;
-mod split;
-mod stable_points;
 mod subtree;
 
-pub use crate::chunk_range::ChunkRange;
-pub use crate::merge_tree::MergeTree;
-pub use crate::parent_maker::ParentMaker;
-pub use crate::plain_range::PlainRange;
-pub use stable_points::{find_stable_end, find_stable_start};
+pub use chunk_ranges::chunk_range::ChunkRange;
+pub use chunk_ranges::merge_tree::MergeTree;
+pub use chunk_ranges::plain_range::PlainRange;
+pub use stable_points::search::{find_stable_end, find_stable_start};
 pub use subtree::MerkleHashSubtree;
+pub use xet_roots::parent_maker::ParentMaker;

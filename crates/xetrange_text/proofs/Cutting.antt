@@ -21,7 +21,7 @@ use Rattle.xet_merkle.specs.Canonical.{IsCanonicalBy}
 use Rattle.xet_merkle.specs.Subtree.{Subtree, IsCanonical}
 use Rattle.xet_merkle.specs.JsonRules.{Reads}
 use Rattle.xet_merkle.specs.Merging.{AreCanonical, ranges_size}
-use Rattle.xet_merkle.proofs.Canonical.Collapsing.{levels_size-canonical}
+use Rattle.subtree_levels.proofs.Canonical.Collapsing.{levels_size-canonical}
 use Rattle.xetrange_text.specs.Ranges.{SaysRange, IsRangeLine}
 use Rattle.xetrange_text.specs.Answers.{IsRootOf}
 use Rattle.xetrange_text.specs.Cutting.{InputOf}

@@ -8,9 +8,9 @@ use Rattle.xet_hash.specs.Blake3.{keyed_hash}
 use Rattle.xet_hash.specs.Hash.{bytes_of, default_hash, hash_of}
 use Rattle.xet_merkle.specs.Groups.{Node}
 use Rattle.xet_merkle.specs.Roots.{total_size, parent, IsRoot, IsFileHash}
-use Rattle.xet_merkle.proofs.Lists.Places.{Meets, meets}
-use Rattle.xet_merkle.proofs.Lists.Places.Meets.{same as at_one, earlier as before_it, later as after_it}
-use Rattle.xet_merkle.proofs.Roots.OneRoot.{root_exists, IsRootBy-unique}
+use Rattle.xet_roots.proofs.Lists.Places.{Meets, meets}
+use Rattle.xet_roots.proofs.Lists.Places.Meets.{same as at_one, earlier as before_it, later as after_it}
+use Rattle.xet_roots.proofs.Roots.OneRoot.{root_exists, IsRootBy-unique}
 use Rattle.upload_session.specs.Session.{Placed, Put, ArePlaced, IsWhole, chunks_of, is_taken, place, placed_from}
 use Rattle.upload_session.proofs.Placing.{place-size}
 use Rattle.upload_session.proofs.Positions.{taken-overlaps}

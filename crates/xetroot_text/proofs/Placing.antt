@@ -8,7 +8,7 @@ use Rattle.upload_session.specs.declared.kept_hashes.NoHashes.{NoHashes}
 use Rattle.upload_session.proofs.Placing.{any-placed, place-size}
 use Rattle.upload_session.proofs.Positions.{meet_overlaps, taken-overlaps}
 use Rattle.upload_session.proofs.Exchanging.{in_parts}
-use Rattle.xet_merkle.specs.declared.chunk_range.ChunkRange as chunk_range
+use Rattle.chunk_ranges.specs.declared.chunk_range.ChunkRange as chunk_range
 use Rattle.xetroot_text.specs.Steps.PlacedPairs.{Gathered, StandAmong, StandForPlaced, StandForPairs, Stands}
 
 -- adjacent positions don't take one after them

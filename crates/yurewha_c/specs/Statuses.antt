@@ -1,7 +1,7 @@
 -- The statuses that exports return, and those of errors.
 use Rattle.std.specs.Prelude.{ℕ, ◌+◌}
-use Rattle.xet_merkle.specs.declared.error.CoreError.{CoreError}
-use Rattle.xet_merkle.specs.declared.error.CoreError.TheVariants.{InvalidArguments, SizeOverflow, OutOfMemory, InvalidJson}
+use Rattle.xet_roots.specs.declared.error.CoreError.{CoreError}
+use Rattle.xet_roots.specs.declared.error.CoreError.TheVariants.{InvalidArguments, SizeOverflow, OutOfMemory, InvalidJson}
 use Rattle.upload_session.specs.declared.session_fault.SessionFault.{SessionFault}
 use Rattle.upload_session.specs.declared.session_fault.SessionFault.TheVariants.{Overlap, Positions, Sizes, Memory, Gap}
 

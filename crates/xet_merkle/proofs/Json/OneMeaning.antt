@@ -9,20 +9,20 @@ use Rattle.serde_json.specs.Data.{Data, null, boolean, number, string, array, ob
 use Rattle.serde_json.specs.Find.{get, as_object}
 use Rattle.serde_json.specs.View.{items_of}
 use Rattle.xet_hash.specs.Hash.{IsHash, IsHexText, hex_text}
-use Rattle.xet_merkle.specs.Groups.{Node}
-use Rattle.xet_merkle.specs.Levels.{Level, node_count, levels_size}
-use Rattle.xet_merkle.specs.Subtree.{Subtree}
-use Rattle.xet_merkle.specs.WellFormed.{IsWellFormed}
+use Rattle.xet_roots.specs.Groups.{Node}
+use Rattle.subtree_levels.specs.Levels.{Level, node_count, levels_size}
+use Rattle.subtree_levels.specs.Subtree.{Subtree}
+use Rattle.subtree_levels.specs.WellFormed.{IsWellFormed}
 use Rattle.xet_merkle.specs.FlatLevels.{count_of, flat_nodes, levels_of, IsFlat}
 use Rattle.xet_merkle.specs.SubtreeJson.{node_json, counts_json, number_json, subtree_json}
 use Rattle.xet_merkle.specs.JsonParts.{ReadsNode, ReadsCounts, HasMembers, ReadsParts, BreaksPartRule, whole}
 use Rattle.xet_merkle.specs.JsonParts.BreaksPartRule.{no_object, no_members, no_nodes, no_levels}
-use Rattle.xet_merkle.specs.LevelRules.{BreaksLevelRule}
+use Rattle.subtree_levels.specs.LevelRules.{BreaksLevelRule}
 use Rattle.xet_merkle.specs.JsonRules.{Reads, count_sum, BreaksValueRule, BreaksRule}
 use Rattle.xet_merkle.specs.JsonRules.BreaksValueRule.{no_level, wrong_counts, sizes_pass, of_levels}
 use Rattle.xet_merkle.specs.JsonRules.BreaksRule.{of_parts, of_value}
 use Rattle.xet_merkle.proofs.Levels.Flat.{levels_of-flat, levels_of-IsFlat, node_count-flat, levels_size-flat}
-use Rattle.xet_merkle.proofs.Json.LevelRules.{levels_kept}
+use Rattle.subtree_levels.proofs.Rules.LevelRules.{levels_kept}
 use Rattle.xet_merkle.proofs.Json.Reading.{items_of-injective}
 
 -- the words of each node are those of a hash

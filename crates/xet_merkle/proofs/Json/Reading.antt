@@ -1,5 +1,5 @@
 -- Reading JSON values: the types of members, arrays of two, and values read in order.
-use Rattle.std.proofs.Common.{◌≡◌, ℕ, zero, suc, ◌+◌, ◌<◌, Bool, List, [], ◌∷◌, ◌++◌, length, get_or, take, map, Option, Some, None, option_and_then, is_some, Result, Ok, Err, IfErr, IsErrAnd, true, false, refl, sym, ap, subst, ◌∙◌, arith}
+use Rattle.std.proofs.Common.{◌≡◌, ℕ, zero, suc, ◌+◌, ◌<◌, Bool, List, [], ◌∷◌, ◌++◌, length, get_or, take, map, Option, Some, None, option_and_then, is_some, true, false, refl, sym, ap, subst, ◌∙◌, arith}
 use Rattle.std.specs.List.{AllZip}
 use Rattle.std.proofs.lemmas.List.{map-append, take_more}
 use Rattle.serde_json.specs.Data.{Data, null, boolean, number, string, array, object, Items}
@@ -95,9 +95,3 @@ breaks_rule_2 (number n) e none = cc
 breaks_rule_2 (string s) e none = cc
 breaks_rule_2 (array items) e none = cc
 breaks_rule_2 (object entries) e none = no_members refl none
-
--- ---- an error that is passed on
-
-pub passed_on : {T E : Type 0} (P : E → Type 0) (result : Result T E) (e : E) → IsErrAnd result (λ (other : E). other ≡ e) → P e → IfErr result P
-passed_on P (Ok value) e h p = tt
-passed_on P (Err other) e h p = subst P (sym h) p

@@ -1,10 +1,11 @@
 -- The flat lists of levels: reading the counts and nodes of some levels gives these levels back.
 use Rattle.std.proofs.Common.{◌≡◌, ℕ, zero, suc, ◌+◌, ◌-◌, List, [], ◌∷◌, ◌++◌, length, map, take, drop, refl, sym, ap, ◌∙◌, arith, append_assoc, append-nil, length-append, length-take}
 use Rattle.std.proofs.lemmas.List.{take-append-drop, length-drop, drop_all, take_at, drop_at}
-use Rattle.std.proofs.lemmas.List.Sums.{sum_by-append, sum_by-cons}
-use Rattle.xet_merkle.specs.Groups.{Node}
-use Rattle.xet_merkle.specs.Roots.{total_size}
-use Rattle.xet_merkle.specs.Levels.{Level, node_count, levels_size}
+use Rattle.std.proofs.lemmas.List.Sums.{sum_by-cons}
+use Rattle.xet_roots.specs.Groups.{Node}
+use Rattle.xet_roots.specs.Roots.{total_size}
+use Rattle.subtree_levels.specs.Levels.{Level, node_count, levels_size}
+use Rattle.xet_roots.proofs.Roots.Making.{total_size-append}
 use Rattle.xet_merkle.specs.JsonRules.{count_sum}
 use Rattle.xet_merkle.specs.FlatLevels.{left_nodes, right_nodes, flat_nodes, count_of, levels_of, IsFlat}
 
@@ -103,9 +104,6 @@ node_count-flat (level ∷ levels) =
     let len = ap length (flat-more level levels) in
     let rest = node_count-flat levels in
     omega (arith, length-append level.left (inner ++ level.right), length-append inner level.right)
-
-pub total_size-append : (front back : List Node) → total_size (front ++ back) ≡ total_size front + total_size back
-total_size-append front back = sum_by-append (λ (node : Node). node.1) front back
 
 pub levels_size-flat : (levels : List Level) → total_size (flat_nodes levels) ≡ levels_size levels
 levels_size-flat [] = refl

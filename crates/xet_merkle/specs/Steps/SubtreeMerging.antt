@@ -1,11 +1,11 @@
 -- Subtrees of ranges, merged one after another.
 use Rattle.std.specs.Prelude.{◌≡◌, List, Option}
-use Rattle.xet_merkle.specs.Levels.{levels_size}
-use Rattle.xet_merkle.specs.Subtree.{Subtree, IsCanonical}
-use Rattle.xet_merkle.specs.declared.error.CoreError.{CoreError}
-use Rattle.xet_merkle.specs.declared.adjacent.Passed.{Passed}
-use Rattle.xet_merkle.specs.Steps.Adjacent.{IsPassed, refusal}
-use Rattle.xet_merkle.specs.Steps.RangeMerging.{JoinsTo}
+use Rattle.subtree_levels.specs.Levels.{levels_size}
+use Rattle.subtree_levels.specs.Subtree.{Subtree, IsCanonical}
+use Rattle.xet_roots.specs.declared.error.CoreError.{CoreError}
+use Rattle.chunk_ranges.specs.declared.adjacent.Passed.{Passed}
+use Rattle.chunk_ranges.specs.Steps.Adjacent.{IsPassed, refusal}
+use Rattle.chunk_ranges.specs.Steps.RangeMerging.{JoinsTo}
 
 -- merging some ranges gives others
 abbrev pub MergesTo : List Subtree → List Subtree → Type 0

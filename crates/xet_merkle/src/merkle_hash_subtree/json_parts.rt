@@ -5,12 +5,12 @@ ghost use Rattle.serde_json.specs.Find.{get, as_bool, as_array};
 ghost use Rattle.serde_json.specs.View.{view, items_view};
 ghost use Rattle.std.specs.Prelude.{◌≡◌, ◌⊎◌, ℕ, Bool, List, map, option_map, option_and_then, IfOk, IfErr, IfSome, IfNone};
 ghost use Rattle.std.specs.List.{AllZip};
-ghost use Rattle.xet_merkle.specs.Groups.{Node};
-ghost use Rattle.xet_merkle.specs.declared.error.CoreError.TheVariants.{OutOfMemory, InvalidJson};
+ghost use Rattle.xet_roots.specs.Groups.{Node};
+ghost use Rattle.xet_roots.specs.declared.error.CoreError.TheVariants.{OutOfMemory, InvalidJson};
 ghost use Rattle.xet_merkle.specs.JsonParts.{whole, ReadsNode, ReadsCounts, HasMembers, ReadsParts, BreaksPartRule};
 
-use crate::error::CoreError;
-use crate::groups::Node;
+use xet_roots::error::CoreError;
+use xet_roots::groups::Node;
 use serde_json::Value;
 use std::alloc::Allocator;
 use xet_hash::data_hash::DataHash;

@@ -1,22 +1,22 @@
 //! The canonical subtree of a list of chunks.
 
 ghost use Rattle.std.specs.Prelude.{◌≡◌, ◌^◌, ◌<◌, ◌≤◌, ◌↔◌, ◌⊎◌, ◌+◌, List, [], drop, length, IfOk, IfErr, IsErrOf, IfSome, IsSome, IsTrue};
-ghost use Rattle.xet_merkle.specs.Groups.{Node};
-ghost use Rattle.xet_merkle.specs.Roots.{total_size, IsRoot};
-ghost use Rattle.xet_merkle.specs.Levels.{top_hash, hash_of_first, left_at, right_at, node_count, levels_size};
-ghost use Rattle.xet_merkle.specs.Subtree.{Subtree, IsCanonical, same_subtree};
-ghost use Rattle.xet_merkle.specs.Steps.SubtreeEquality.{same_subtree-per, same_subtree-equiv};
-ghost use Rattle.xet_merkle.specs.WellFormed.{IsWellFormed};
-ghost use Rattle.xet_merkle.specs.Steps.Building.{IsStored};
+ghost use Rattle.xet_roots.specs.Groups.{Node};
+ghost use Rattle.xet_roots.specs.Roots.{total_size, IsRoot};
+ghost use Rattle.subtree_levels.specs.Levels.{top_hash, hash_of_first, left_at, right_at, node_count, levels_size};
+ghost use Rattle.subtree_levels.specs.Subtree.{Subtree, IsCanonical, same_subtree};
+ghost use Rattle.subtree_levels.specs.Steps.SubtreeEquality.{same_subtree-per, same_subtree-equiv};
+ghost use Rattle.subtree_levels.specs.WellFormed.{IsWellFormed};
+ghost use Rattle.subtree_levels.specs.Steps.Building.{IsStored};
 
 mod as_range;
 mod json;
 mod merging;
 
-use super::collapse::collapse_chunks;
-use super::levels::{LevelNodes, copy_levels, count_nodes, left_at, right_at, top};
-use crate::error::CoreError;
-use crate::groups::{Node, total_size};
+use subtree_levels::collapse::collapse_chunks;
+use subtree_levels::levels::{LevelNodes, copy_levels, count_nodes, left_at, right_at, top};
+use xet_roots::error::CoreError;
+use xet_roots::groups::{Node, total_size};
 use std::alloc::{AllocError, Allocator, Global};
 use std::marker::Model;
 use xet_hash::data_hash::MerkleHash;

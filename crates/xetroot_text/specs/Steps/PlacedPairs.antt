@@ -2,7 +2,7 @@
 use Rattle.std.specs.Prelude.{◌≡◌, ℕ, ◌+◌, ◌-◌, ◌^◌, ◌<◌, ◌≤◌, false, IsTrue, List, [], ◌∷◌, length}
 use Rattle.xet_merkle.specs.Groups.{Node}
 use Rattle.xet_merkle.specs.Roots.{total_size}
-use Rattle.xet_merkle.specs.declared.chunk_range.ChunkRange as chunk_range
+use Rattle.chunk_ranges.specs.declared.chunk_range.ChunkRange as chunk_range
 use Rattle.upload_session.specs.Session.{Placed, Parts, StandFor, chunks_of, is_taken, overlaps, place}
 use Rattle.upload_session.specs.declared.kept_hashes.NoHashes.{NoHashes}
 use Rattle.xetroot_text.specs.declared.fault.LineFault.{LineFault}

@@ -2,7 +2,7 @@ use Rattle.std.proofs.Common.{◌≡◌, List, [], ◌∷◌, Bool, false, ◌||
 use Rattle.serde_json.specs.Data.{Data, array}
 use Rattle.serde_json.specs.View.{items_of}
 use Rattle.serde_json.specs.Written.{compact_text, has_float}
-use Rattle.xet_merkle.specs.Subtree.{Subtree}
+use Rattle.subtree_levels.specs.Subtree.{Subtree}
 use Rattle.xet_merkle.specs.SubtreeJson.{subtree_json, counts_json, node_json}
 use Rattle.xet_merkle.specs.FlatLevels.{flat_nodes, count_of}
 use Rattle.xet_merkle.proofs.Merging.Ranges.{same_canonical}

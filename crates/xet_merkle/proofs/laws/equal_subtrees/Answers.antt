@@ -1,4 +1,4 @@
-use Rattle.xet_merkle.specs.Steps.SubtreeEquality.{same_subtree-decides}
+use Rattle.subtree_levels.specs.Steps.SubtreeEquality.{same_subtree-decides}
 use Rattle.xet_merkle.proofs.laws.equal_subtrees.Goals as goal
 
 pub returns : goal.returns

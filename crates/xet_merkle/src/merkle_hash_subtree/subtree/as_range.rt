@@ -1,15 +1,15 @@
 //! The subtree as a range of chunks.
 
 ghost use Rattle.std.specs.Prelude.{◌≡◌};
-ghost use Rattle.xet_merkle.specs.Levels.{levels_size};
-ghost use Rattle.xet_merkle.specs.Subtree.{IsCanonical};
+ghost use Rattle.subtree_levels.specs.Levels.{levels_size};
+ghost use Rattle.subtree_levels.specs.Subtree.{IsCanonical};
 
 use super::MerkleHashSubtree;
-use crate::chunk_range::ChunkRange;
-use crate::error::CoreError;
-use crate::groups::Node;
-use crate::merkle_hash_subtree::levels::Operand;
-use crate::parent_maker::ParentHashes;
+use chunk_ranges::chunk_range::ChunkRange;
+use xet_roots::error::CoreError;
+use xet_roots::groups::Node;
+use subtree_levels::levels::Operand;
+use xet_roots::parent_maker::ParentHashes;
 use std::alloc::Allocator;
 use xet_hash::data_hash::MerkleHash;
 

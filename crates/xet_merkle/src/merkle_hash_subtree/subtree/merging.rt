@@ -1,23 +1,23 @@
 //! Merges the subtrees of adjacent ranges, without their chunks.
 
 ghost use Rattle.std.specs.Prelude.{◌≡◌, ◌+◌, ◌-◌, ◌*◌, ◌^◌, ◌<◌, ◌≤◌, ◌⊎◌, ◌↔◌, List, [], ◌∷◌, length, flat_map, IfOk, IfErr, SomeIff, IsErrOf, IsTrue};
-ghost use Rattle.xet_merkle.specs.Groups.{Node};
-ghost use Rattle.xet_merkle.specs.Roots.{parent_by, parent};
-ghost use Rattle.xet_merkle.specs.Levels.{levels_size, node_count};
-ghost use Rattle.xet_merkle.specs.Subtree.{Subtree, IsCanonical};
+ghost use Rattle.xet_roots.specs.Groups.{Node};
+ghost use Rattle.xet_roots.specs.Roots.{parent_by, parent};
+ghost use Rattle.subtree_levels.specs.Levels.{levels_size, node_count};
+ghost use Rattle.subtree_levels.specs.Subtree.{Subtree, IsCanonical};
 ghost use Rattle.xet_merkle.specs.Merging.{IsMerged, IsMergedBy, MergeRefusals, NoMarkBetweenSubtrees, start_mark, end_mark, ranges_size, AreCanonical};
-ghost use Rattle.xet_merkle.specs.Ranges.{Refusals};
-ghost use Rattle.xet_merkle.specs.Steps.LevelMerging.{front_of, back_of};
-ghost use Rattle.xet_merkle.specs.Steps.Building.{AreMergeable};
+ghost use Rattle.chunk_ranges.specs.Ranges.{Refusals};
+ghost use Rattle.subtree_levels.specs.Steps.LevelMerging.{front_of, back_of};
+ghost use Rattle.subtree_levels.specs.Steps.Building.{AreMergeable};
 ghost use Rattle.xet_merkle.specs.Steps.SubtreeMerging.{MergesTo, RefusalOf};
 
 use super::MerkleHashSubtree;
-use crate::adjacent::Passed;
-use crate::error::CoreError;
-use crate::merkle_hash_subtree::levels::Operand;
-use crate::merkle_hash_subtree::merge_levels::merge_levels;
-use crate::merkle_hash_subtree::split::Marks;
-use crate::parent_maker::{ParentHashes, ParentMaker};
+use chunk_ranges::adjacent::Passed;
+use xet_roots::error::CoreError;
+use subtree_levels::levels::Operand;
+use subtree_levels::merge_levels::merge_levels;
+use subtree_levels::split::Marks;
+use xet_roots::parent_maker::{ParentHashes, ParentMaker};
 use std::alloc::Allocator;
 
 // Returns why adjacent ranges can't be merged, if there is a reason other than memory.

@@ -1,6 +1,7 @@
 use Rattle.std.proofs.Common.{inl, inr, refl, sym, ◌∙◌}
 use Rattle.xet_merkle.specs.JsonParts.{no_nodes, no_levels}
-use Rattle.xet_merkle.proofs.Json.Reading.{breaks_rule_1, breaks_rule_2, passed_on}
+use Rattle.xet_roots.proofs.Results.{passed_on}
+use Rattle.xet_merkle.proofs.Json.Reading.{breaks_rule_1, breaks_rule_2}
 use Rattle.xet_merkle.proofs.merkle_hash_subtree.json_parts.read_parts.Goals as goal
 
 pub returns-then-not-is_object-clause-errors : goal.returns-then-not-is_object-clause-errors

@@ -1,5 +1,5 @@
 use Rattle.std.proofs.Common.{sym, ◌∙◌}
-use Rattle.xet_merkle.proofs.Canonical.FinalHash.{hash_of_none, hash_of_some}
+use Rattle.subtree_levels.proofs.Canonical.FinalHash.{hash_of_none, hash_of_some}
 use Rattle.xet_merkle.proofs.merkle_hash_subtree.subtree.first_hash.Goals as goal
 
 pub returns-in-empty : goal.returns-in-empty

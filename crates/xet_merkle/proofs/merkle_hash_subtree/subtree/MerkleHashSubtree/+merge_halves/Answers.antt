@@ -1,10 +1,10 @@
 use Rattle.std.proofs.Common.{◌≡◌, ◌+◌, ◌/◌, ◌<◌, ◌≤◌, ◌^◌, List, [], ◌∷◌, ◌++◌, length, ap, subst, sym, arith, length-append, rules}
-use Rattle.xet_merkle.specs.Levels.{levels_size}
-use Rattle.xet_merkle.specs.Subtree.{Subtree}
+use Rattle.subtree_levels.specs.Levels.{levels_size}
+use Rattle.subtree_levels.specs.Subtree.{Subtree}
 use Rattle.xet_merkle.specs.Merging.{NoMarkBetweenSubtrees, ranges_size}
 use Rattle.xet_merkle.specs.Steps.SubtreeMerging.{MergesTo}
-use Rattle.xet_merkle.proofs.Json.Reading.{passed_on}
-use Rattle.xet_merkle.proofs.Merging.Adjacent.{for_memory}
+use Rattle.xet_roots.proofs.Results.{passed_on}
+use Rattle.chunk_ranges.proofs.Ranges.Adjacent.{for_memory}
 use Rattle.xet_merkle.proofs.Merging.Ranges.{parts_unmarked, parts_size, size_of_one, MergesTo-both, MergesTo-merged}
 use Rattle.xet_merkle.proofs.merkle_hash_subtree.subtree.MerkleHashSubtree.+merge_halves.Goals as goal
 

@@ -1,10 +1,10 @@
 use Rattle.std.proofs.Common.{◌≡◌, true, sym, ap, subst, ◌∙◌, rules}
 use Rattle.std.proofs.lemmas.Bool.{false≢true}
-use Rattle.xet_merkle.specs.Roots.{IsRoot}
-use Rattle.xet_merkle.specs.Levels.{Level, hash_of_first, top_of}
-use Rattle.xet_merkle.specs.Subtree.{Subtree}
-use Rattle.xet_merkle.proofs.Levels.Reading.{top_nodes-left}
-use Rattle.xet_merkle.proofs.Canonical.FinalHash.{top_is_root}
+use Rattle.xet_roots.specs.Roots.{IsRoot}
+use Rattle.subtree_levels.specs.Levels.{Level, hash_of_first, top_of}
+use Rattle.subtree_levels.specs.Subtree.{Subtree}
+use Rattle.subtree_levels.proofs.OfLevels.Reading.{top_nodes-left}
+use Rattle.subtree_levels.proofs.Canonical.FinalHash.{top_is_root}
 use Rattle.xet_merkle.proofs.merkle_hash_subtree.subtree.MerkleHashSubtree.final_hash.Goals as goal
 use Rattle.xet_merkle.proofs.merkle_hash_subtree.subtree.MerkleHashSubtree.final_hash.Goals.{then-self, else-self}
 

@@ -1,9 +1,9 @@
 use Rattle.std.proofs.Common.{sym, ap, ◌∙◌}
-use Rattle.xet_merkle.specs.Levels.{levels_size}
-use Rattle.xet_merkle.specs.Subtree.{Subtree}
-use Rattle.xet_merkle.specs.Roots.{parent_hash}
-use Rattle.xet_merkle.proofs.Canonical.Collapsing.{levels_size-canonical}
-use Rattle.xet_merkle.proofs.Merging.Kept.{canonical_well_formed}
+use Rattle.subtree_levels.specs.Levels.{levels_size}
+use Rattle.subtree_levels.specs.Subtree.{Subtree}
+use Rattle.xet_roots.specs.Roots.{parent_hash}
+use Rattle.subtree_levels.proofs.Canonical.Collapsing.{levels_size-canonical}
+use Rattle.subtree_levels.proofs.Merging.Kept.{canonical_well_formed}
 use Rattle.xet_merkle.proofs.merkle_hash_subtree.subtree.MerkleHashSubtree.from_chunks.Goals as goal
 
 pub from_levels-requires-clause-well_formed : goal.from_levels-requires-clause-well_formed

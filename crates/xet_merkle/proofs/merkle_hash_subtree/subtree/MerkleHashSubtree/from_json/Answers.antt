@@ -2,7 +2,7 @@ use Rattle.std.proofs.Common.{Bool, inl, inr, sym, subst}
 use Rattle.serde_json.specs.View.{view}
 use Rattle.xet_merkle.specs.JsonParts.{ReadsParts}
 use Rattle.xet_merkle.specs.JsonRules.BreaksRule.{of_parts, of_value}
-use Rattle.xet_merkle.proofs.Json.Reading.{passed_on}
+use Rattle.xet_roots.proofs.Results.{passed_on}
 use Rattle.xet_merkle.proofs.Json.OneMeaning.{Reads-parts}
 use Rattle.xet_merkle.proofs.merkle_hash_subtree.subtree.MerkleHashSubtree.from_json.Goals as goal
 

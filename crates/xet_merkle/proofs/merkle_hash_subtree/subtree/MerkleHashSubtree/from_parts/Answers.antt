@@ -1,11 +1,11 @@
 use Rattle.std.proofs.Common.{inr, ℕ, ◌≡◌, ◌<◌, ◌^◌, List, [], length, refl, sym, ap, subst, ◌∙◌, arith}
 use Rattle.std.proofs.lemmas.List.{length-map}
-use Rattle.xet_merkle.specs.Groups.{Node}
-use Rattle.xet_merkle.specs.Roots.{total_size}
-use Rattle.xet_merkle.specs.Levels.{Level, levels_size}
-use Rattle.xet_merkle.specs.Subtree.{Subtree}
+use Rattle.xet_roots.specs.Groups.{Node}
+use Rattle.xet_roots.specs.Roots.{total_size}
+use Rattle.subtree_levels.specs.Levels.{Level, levels_size}
+use Rattle.subtree_levels.specs.Subtree.{Subtree}
 use Rattle.xet_merkle.specs.FlatLevels.{IsFlat, count_of, levels_of}
-use Rattle.xet_merkle.specs.LevelRules.{BreaksLevelRule}
+use Rattle.subtree_levels.specs.LevelRules.{BreaksLevelRule}
 use Rattle.xet_merkle.specs.JsonRules.{count_sum}
 use Rattle.xet_merkle.specs.JsonRules.BreaksValueRule.{of_levels}
 use Rattle.xet_merkle.proofs.Levels.Flat.{IsFlat-from_sum, levels_size-flat}

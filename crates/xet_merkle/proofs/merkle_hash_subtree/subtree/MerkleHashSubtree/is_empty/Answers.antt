@@ -1,7 +1,7 @@
 use Rattle.std.proofs.Common.{arith}
 use Rattle.std.proofs.lemmas.Bool.Decides.{nat_tests}
-use Rattle.xet_merkle.specs.Roots.{parent}
-use Rattle.xet_merkle.proofs.Canonical.Bounds.{nodes_of_none}
+use Rattle.xet_roots.specs.Roots.{parent}
+use Rattle.subtree_levels.proofs.Canonical.Bounds.{nodes_of_none}
 use Rattle.xet_merkle.proofs.merkle_hash_subtree.subtree.MerkleHashSubtree.is_empty.Goals as goal
 
 pub returns-clause-nodes : goal.returns-clause-nodes

@@ -1,8 +1,9 @@
 use Rattle.std.proofs.Common.{◌≡◌, ◌∷◌, [], List, length, drop, subst, sym, ap, ◌∙◌, arith, rules}
 use Rattle.std.proofs.lemmas.List.{drop_more, drop_all}
-use Rattle.xet_merkle.specs.Subtree.{Subtree}
+use Rattle.subtree_levels.specs.Subtree.{Subtree}
 use Rattle.xet_merkle.specs.Steps.SubtreeMerging.{MergesTo}
-use Rattle.xet_merkle.proofs.Merging.Adjacent.{refused_subtrees, allowed_subtrees, accepted, memory_alone}
+use Rattle.chunk_ranges.proofs.Ranges.Adjacent.{accepted, memory_alone}
+use Rattle.xet_merkle.proofs.Merging.Ranges.{refused_subtrees, allowed_subtrees}
 use Rattle.xet_merkle.proofs.Merging.Ranges.{MergesTo-all, MergesTo-one, MergesTo-start, MergesTo-end, MergesTo-size}
 use Rattle.xet_merkle.proofs.merkle_hash_subtree.subtree.MerkleHashSubtree.merge.Goals as goal
 

@@ -1,4 +1,4 @@
-use Rattle.xet_merkle.proofs.Merging.LevelByLevel.{merged_plainly}
+use Rattle.xet_merkle.proofs.Merging.Levels.{merged_plainly}
 use Rattle.xet_merkle.proofs.merkle_hash_subtree.subtree.MerkleHashSubtree.merge_into.Goals as goal
 
 pub returns-clause-merged : goal.returns-clause-merged

@@ -1,9 +1,10 @@
 use Rattle.std.proofs.Common.{◌<◌, ◌^◌, List, [], length, sym, ap, subst, arith, rules}
-use Rattle.xet_merkle.specs.Levels.{Level}
-use Rattle.xet_merkle.specs.Subtree.{Subtree}
-use Rattle.xet_merkle.specs.Steps.LevelMerging.{sight_of, HaveSidesOf}
-use Rattle.xet_merkle.specs.Steps.Building.{CanMerge}
-use Rattle.xet_merkle.proofs.Merging.InPlace.{kept_sides, kept_can_merge, both_stored, both_merged_by, both_bound}
+use Rattle.subtree_levels.specs.Levels.{Level}
+use Rattle.subtree_levels.specs.Subtree.{Subtree}
+use Rattle.subtree_levels.specs.Steps.LevelMerging.{sight_of, HaveSidesOf}
+use Rattle.subtree_levels.specs.Steps.Building.{CanMerge}
+use Rattle.subtree_levels.proofs.Merging.InPlace.{kept_sides, kept_can_merge, both_stored, both_bound}
+use Rattle.xet_merkle.proofs.Merging.Levels.{both_merged_by}
 use Rattle.xet_merkle.proofs.merkle_hash_subtree.subtree.MerkleHashSubtree.merge_with.Goals as goal
 
 pub merge_levels-requires-clause-sides : goal.merge_levels-requires-clause-sides

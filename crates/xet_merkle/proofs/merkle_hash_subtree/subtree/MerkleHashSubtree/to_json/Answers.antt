@@ -1,8 +1,8 @@
 use Rattle.std.proofs.Common.{ℕ, ◌<◌, ◌^◌, List, map, sym, ap, subst, ◌∙◌}
 use Rattle.serde_json.specs.Data.{Data, array}
 use Rattle.serde_json.specs.View.{view, items_of}
-use Rattle.xet_merkle.specs.Levels.{Level, levels_size}
-use Rattle.xet_merkle.specs.Subtree.{Subtree}
+use Rattle.subtree_levels.specs.Levels.{Level, levels_size}
+use Rattle.subtree_levels.specs.Subtree.{Subtree}
 use Rattle.xet_merkle.specs.FlatLevels.{count_of, flat_nodes}
 use Rattle.xet_merkle.specs.SubtreeJson.{node_json, counts_json, subtree_object}
 use Rattle.xet_merkle.specs.JsonRules.{Reads}

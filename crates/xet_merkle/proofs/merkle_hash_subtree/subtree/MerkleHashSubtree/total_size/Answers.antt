@@ -1,8 +1,8 @@
 use Rattle.std.proofs.Common.{ap, ◌∙◌}
-use Rattle.xet_merkle.specs.Levels.{levels_size}
-use Rattle.xet_merkle.specs.Subtree.{Subtree}
-use Rattle.xet_merkle.specs.Roots.{parent_hash}
-use Rattle.xet_merkle.proofs.Canonical.Collapsing.{levels_size-canonical}
+use Rattle.subtree_levels.specs.Levels.{levels_size}
+use Rattle.subtree_levels.specs.Subtree.{Subtree}
+use Rattle.xet_roots.specs.Roots.{parent_hash}
+use Rattle.subtree_levels.proofs.Canonical.Collapsing.{levels_size-canonical}
 use Rattle.xet_merkle.proofs.merkle_hash_subtree.subtree.MerkleHashSubtree.total_size.Goals as goal
 
 pub returns-clause-nodes : goal.returns-clause-nodes

@@ -1,8 +1,8 @@
 use Rattle.std.proofs.Common.{◌≡◌, ℕ, ◌+◌, ◌-◌, List, ◌∷◌, ◌++◌, length, get_or, drop, take, [], sym, ap, ◌∙◌, arith, append_assoc, length-take, rules}
 use Rattle.std.proofs.lemmas.List.{drop_more, length-drop}
 use Rattle.std.proofs.lemmas.List.Sums.{sum_by-cons}
-use Rattle.xet_merkle.specs.Groups.{Node}
-use Rattle.xet_merkle.specs.Levels.{Level}
+use Rattle.xet_roots.specs.Groups.{Node}
+use Rattle.subtree_levels.specs.Levels.{Level}
 use Rattle.xet_merkle.specs.FlatLevels.{levels_of}
 use Rattle.xet_merkle.specs.JsonRules.{count_sum}
 use Rattle.xet_merkle.proofs.Levels.Flat.{levels_of-more}

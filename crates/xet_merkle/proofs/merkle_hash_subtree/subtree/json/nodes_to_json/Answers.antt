@@ -3,8 +3,8 @@ use Rattle.std.proofs.lemmas.List.{take_more, take_all, map-append}
 use Rattle.serde_json.specs.Data.{Data, array}
 use Rattle.serde_json.specs.View.{items_of}
 use Rattle.serde_json.proofs.Views.{view-Array}
-use Rattle.xet_merkle.specs.Groups.{Node}
-use Rattle.xet_merkle.specs.Levels.{Level}
+use Rattle.xet_roots.specs.Groups.{Node}
+use Rattle.subtree_levels.specs.Levels.{Level}
 use Rattle.xet_merkle.specs.FlatLevels.{left_nodes, right_nodes, flat_nodes}
 use Rattle.xet_merkle.specs.SubtreeJson.{node_json}
 use Rattle.xet_merkle.proofs.Levels.Flat.{left_nodes-push}

@@ -2,7 +2,7 @@ use Rattle.std.proofs.Common.{◌≡◌, ◌++◌, List, map, take, length}
 use Rattle.std.specs.List.{AllByRecursion}
 use Rattle.serde_json.specs.View.{view}
 use Rattle.xet_hash.specs.Hash.{IsHash}
-use Rattle.xet_merkle.specs.Levels.{Level}
+use Rattle.subtree_levels.specs.Levels.{Level}
 use Rattle.xet_merkle.specs.FlatLevels.{left_nodes, right_nodes}
 use Rattle.xet_merkle.specs.SubtreeJson.{node_json}
 use Rattle.xet_merkle.proofs.merkle_hash_subtree.subtree.json.nodes_to_json.Given as goal

@@ -1,4 +1,4 @@
-use Rattle.xet_merkle.proofs.Merging.LevelByLevel.{merged_plainly}
+use Rattle.xet_merkle.proofs.Merging.Levels.{merged_plainly}
 use Rattle.xet_merkle.proofs.merkle_hash_subtree.subtree.as_range.MerkleHashSubtreeChunkRange.prepend.Goals as goal
 
 pub returns-clause-stands : goal.returns-clause-stands

@@ -1,0 +1,3 @@
+pub mod Adjacent
+pub mod Bracketing
+pub mod RangeMerging

@@ -1,0 +1,9 @@
+pub mod Appending
+pub mod Boundaries
+pub mod CutPlaces
+pub mod Ends
+pub mod Loops
+pub mod Prepending
+pub mod Scan
+pub mod Search
+pub mod Triples

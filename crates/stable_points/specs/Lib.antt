@@ -1,0 +1,3 @@
+pub mod StablePoints
+pub mod Steps
+pub use Rattle.xet_roots.specs.Groups

@@ -1,0 +1,4 @@
+pub mod Canonical
+pub mod Merging
+pub mod OfLevels
+pub mod Rules

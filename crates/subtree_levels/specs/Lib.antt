@@ -1,0 +1,9 @@
+pub mod Canonical
+pub mod LevelRules
+pub mod Levels
+pub mod Steps
+pub mod Subtree
+pub mod WellFormed
+pub use Rattle.stable_points.specs.StablePoints
+pub use Rattle.xet_roots.specs.Groups
+pub use Rattle.xet_roots.specs.Roots

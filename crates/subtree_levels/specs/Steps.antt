@@ -1,0 +1,4 @@
+pub mod Building
+pub mod LevelMerging
+pub mod LevelSides
+pub mod SubtreeEquality

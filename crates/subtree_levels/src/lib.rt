@@ -1,0 +1,12 @@
+//! The levels of a canonical subtree: what it keeps of each, the rules that they keep, and merging level by level.
+#![tactic(auto)]
+
+pub mod collapse;
+pub mod in_sight;
+pub mod laws;
+pub mod left_nodes;
+pub mod level_rules;
+pub mod levels;
+pub mod merge_levels;
+pub mod sides;
+pub mod split;

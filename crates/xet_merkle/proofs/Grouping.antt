@@ -1,2 +1,0 @@
-pub mod OneCutting
-pub mod FirstGroup

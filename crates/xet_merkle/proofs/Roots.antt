@@ -1,2 +1,0 @@
-pub mod OneRoot
-pub mod Making

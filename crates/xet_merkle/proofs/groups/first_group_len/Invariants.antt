@@ -1,5 +1,0 @@
-use Rattle.xet_merkle.proofs.Grouping.FirstGroup.{NoCutBelow}
-use Rattle.xet_merkle.proofs.groups.first_group_len.Given as goal
-
-abbrev pub invariant-scan : goal.invariant-scan
-invariant-scan l = NoCutBelow l.nodes l.i

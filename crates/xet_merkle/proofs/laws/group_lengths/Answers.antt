@@ -1,5 +1,0 @@
-use Rattle.xet_merkle.proofs.Grouping.OneCutting.{group_length}
-use Rattle.xet_merkle.proofs.laws.group_lengths.Goals as goal
-
-pub returns : goal.returns
-returns c = λ nodes before group after cutting. group_length before group after cutting.are_groups

@@ -1,8 +1,0 @@
-use Rattle.xet_merkle.proofs.StablePoints.Boundaries.{boundary_inside, boundary_after_cut}
-use Rattle.xet_merkle.proofs.laws.stable_boundaries.Goals as goal
-
-pub returns-clause-inside : goal.returns-clause-inside
-returns-clause-inside c = boundary_inside
-
-pub returns-clause-after_cut : goal.returns-clause-after_cut
-returns-clause-after_cut c = boundary_after_cut

@@ -1,6 +1,0 @@
-use Rattle.std.proofs.Common.{◌-◌, length, arith}
-use Rattle.xet_merkle.proofs.Levels.Reading.{below_top-take}
-use Rattle.xet_merkle.proofs.merkle_hash_subtree.levels.below_top.Goals as goal
-
-pub returns-in-len1-up : goal.returns-in-len1-up
-returns-in-len1-up g c = let some = c.in-len1-up.len_at_least in below_top-take c.args.levels.now (length c.args.levels.now - 1) (omega arith)

@@ -1,6 +1,0 @@
-use Rattle.std.proofs.Common.{take}
-use Rattle.xet_merkle.specs.StablePoints.{NoCut}
-use Rattle.xet_merkle.proofs.merkle_hash_subtree.sides.begins_stable.Given as goal
-
-abbrev pub invariant-nodes : goal.invariant-nodes
-invariant-nodes l = NoCut (take l.i l.nodes)

@@ -1,7 +1,0 @@
-use Rattle.xet_merkle.proofs.Json.LevelRules.{left_side_found}
-use Rattle.xet_merkle.proofs.merkle_hash_subtree.sides.is_left_side.Goals as goal
-
-pub returns-then-ends_stable : goal.returns-then-ends_stable
-returns-then-ends_stable c =
-    let ends = c.ends_stable.ensures.0 c.if-ends_stable.true in
-    left_side_found c.args.nodes.now c.find_stable_start.result c.find_stable_start.ensures.first c.find_stable_start.ensures.none ends c.is_none.result c.is_none.ensures

@@ -1,0 +1,2 @@
+pub mod FirstGroup
+pub mod OneCutting

@@ -1,0 +1,4 @@
+pub mod Grouping
+pub mod Lists
+pub mod Results
+pub mod Roots

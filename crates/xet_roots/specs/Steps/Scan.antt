@@ -1,0 +1,13 @@
+-- What reading a list of nodes from the first one on finds: the first group, and the parents of all groups. Only private
+-- contracts and proofs use it. What a reader has to believe is in Groups and Roots.
+use Rattle.std.specs.Prelude.{◌≡◌, ◌⊎◌, List, [], map}
+use Rattle.xet_roots.specs.Groups.{Node, IsGroup, IsFull, Groups}
+
+-- the first group of a list, and what follows it
+pub record IsFirstGroup (group rest : List Node) : Type 0 where
+  pub is_group : IsGroup group
+  pub full : (rest ≡ []) ⊎ IsFull group
+
+-- some nodes are the parents of the groups of a list
+abbrev pub AreParents : (List Node → Node) → List Node → List Node → Type 0
+AreParents make nodes parents = (groups : List (List Node)) × Groups nodes groups × (parents ≡ map make groups)

@@ -1,0 +1,139 @@
+//! The root and the file hash of a list of chunks. This ports the module `aggregated_hashes` of the crate
+//! `xet-core-structures`.
+//!
+//! The root of a list is the root of the parents of its groups.
+
+ghost use Rattle.std.specs.Prelude.{◌≡◌, ◌⊎◌, ◌+◌, ◌^◌, ◌<◌, ◌≤◌, ◌↔◌, List, length, replicate, IsOk, IfOk, IfErr, IsErrOf, IsFalse, IsTrue};
+ghost use Rattle.xet_roots.specs.Groups.{Node};
+ghost use Rattle.xet_roots.specs.Roots.{total_size, parent_by, parent, salted_root, IsRoot, IsFileHash};
+ghost use Rattle.xet_roots.specs.Steps.Scan.{AreParents};
+ghost use Rattle.xet_roots.specs.Steps.Room.{most_made};
+
+use crate::error::CoreError;
+pub use crate::groups::{AGGREGATED_HASHES_MEAN_TREE_BRANCHING_FACTOR, Node};
+use crate::groups::{MIN_GROUP_LEN, first_group_len, group_size, parent, total_size};
+use crate::parent_maker::{ParentHashes, ParentMaker};
+use std::alloc::{AllocError, Allocator};
+use xet_hash::data_hash::{HMACKey, MerkleHash};
+
+// Returns the parents of the groups of some nodes, in a new list. The hashes come from a maker.
+pub fn parents<A: Allocator, P: ParentMaker>(
+    alloc: A,
+    nodes: &[Node],
+    maker: &mut P,
+) -> Result<Vec<Node, A>, AllocError>
+    requires fits { total_size nodes.now < 2 ^ 64 }
+    requires room { P.count maker.old ≤ most_made }
+    ensures parents { IfOk result (λ made. AreParents (parent_by P.hash_of) nodes.now made.items) }
+    ensures count { IfOk result (λ made. P.count maker.new ≡ P.count maker.old + length made.items) }
+    ensures few { IfOk result (λ made. length made.items < 2 ^ 64) }
+{
+    // Each group but the last has at least three nodes.
+    let mut made = Vec::with_capacity(alloc, nodes.len().div_ceil(MIN_GROUP_LEN))?;
+    let mut rest = nodes;
+    'groups: while !rest.is_empty() {
+        let (group, after) = rest.split_at(first_group_len(rest));
+        made.push((maker.make(group), group_size(group)))?;
+        rest = after;
+    }
+    Ok(made)
+}
+
+// Replaces nodes by the parents of their groups, in place.
+fn shrink<A: Allocator>(nodes: &mut Vec<Node, A>)
+    requires { total_size nodes.old.items < 2 ^ 64 }
+    ensures { AreParents parent nodes.old.items nodes.new.items }
+{
+    let mut made = 0;
+    let mut read = 0;
+    'groups: while read < nodes.len() {
+        let rest = &nodes[read..];
+        let len = first_group_len(rest);
+        let parent = parent(&rest[..len]);
+        nodes[made] = parent;
+        made += 1;
+        read += len;
+    }
+    nodes.truncate(made);
+}
+
+// Returns the root of a list that has a node. It works in the memory of the list.
+fn root<A: Allocator>(mut nodes: Vec<Node, A>) -> MerkleHash
+    requires some { 0 < length nodes.items }
+    requires fits { total_size nodes.items < 2 ^ 64 }
+    ensures { IsRoot nodes.items result }
+{
+    'levels: while nodes.len() > 1 {
+        shrink(&mut nodes);
+    }
+    nodes[0].0
+}
+
+/// Returns the root of a list of chunks. With no chunks it is the default hash. With one it is the chunk's own hash.
+/// With more it is the root of the parents of the list's groups.
+///
+/// Fails with [`CoreError::SizeOverflow`] if the sizes add up to more than `u64::MAX`, before it allocates. Fails with
+/// [`CoreError::OutOfMemory`] if an allocation fails. With at most one chunk it allocates nothing and never fails.
+pub fn xorb_hash<A: Allocator>(alloc: A, chunks: &[Node]) -> Result<MerkleHash, CoreError>
+    ensures root { IfOk result (IsRoot chunks.now) }
+    ensures overflow { IsErrOf result CoreError.SizeOverflow ↔ (2 ^ 64 ≤ total_size chunks.now) }
+    ensures errors { IfErr result (λ e. (e ≡ CoreError.SizeOverflow) ⊎ (e ≡ CoreError.OutOfMemory)) }
+    ensures short { length chunks.now ≤ 1 → IsOk result }
+{
+    if total_size(chunks).is_none() {
+        return Err(CoreError::SizeOverflow);
+    }
+    match chunks {
+        [] => Ok(MerkleHash::default()),
+        [(hash, _)] => Ok(*hash),
+        _ => Ok(root(parents(alloc, chunks, &mut ParentHashes::new())?)),
+    }
+}
+
+/// Returns the file hash of a list of chunks under a salt. With no chunks it is the default hash, whatever the salt.
+/// Otherwise it is the [`hmac`](xet_hash::data_hash::DataHash::hmac) of the root under the 32 bytes of the salt.
+///
+/// Fails like [`xorb_hash`], in the same order.
+pub fn file_hash_with_salt<A: Allocator>(
+    alloc: A,
+    chunks: &[Node],
+    salt: &[u8; 32],
+) -> Result<MerkleHash, CoreError>
+    ensures file { IfOk result (IsFileHash chunks.now salt.now) }
+    ensures overflow { IsErrOf result CoreError.SizeOverflow ↔ (2 ^ 64 ≤ total_size chunks.now) }
+    ensures errors { IfErr result (λ e. (e ≡ CoreError.SizeOverflow) ⊎ (e ≡ CoreError.OutOfMemory)) }
+    ensures short { length chunks.now ≤ 1 → IsOk result }
+{
+    let root = xorb_hash(alloc, chunks)?;
+    Ok(file_hash_of_root(root, chunks.is_empty(), salt))
+}
+
+/// Returns the file hash of a list of chunks under a salt, given their root. The chunks are not needed. With no chunks
+/// it is the root, which is the default hash, whatever the salt. Otherwise it is the
+/// [`hmac`](xet_hash::data_hash::DataHash::hmac) of the root under the 32 bytes of the salt.
+///
+/// The caller passes whether the list is empty, since the root doesn't show it: a list of one chunk has the chunk's own
+/// hash as its root, and that may be the default hash too.
+pub fn file_hash_of_root(root: MerkleHash, is_empty: bool, salt: &[u8; 32]) -> MerkleHash
+    ensures chunks { (chunks : List Node) → IsRoot chunks root → (IsTrue is_empty ↔ (length chunks ≡ 0)) →
+        IsFileHash chunks salt.now result }
+    ensures none { IsTrue is_empty → result ≡ root }
+    ensures some { IsFalse is_empty → result ≡ salted_root salt.now root }
+{
+    if is_empty {
+        return root;
+    }
+    root.hmac(HMACKey::from(salt))
+}
+
+/// Returns the file hash of a list of chunks without a salt. It is the file hash under 32 zero bytes.
+///
+/// Fails like [`xorb_hash`], in the same order.
+pub fn file_hash<A: Allocator>(alloc: A, chunks: &[Node]) -> Result<MerkleHash, CoreError>
+    ensures file { IfOk result (IsFileHash chunks.now (replicate 32 0)) }
+    ensures overflow { IsErrOf result CoreError.SizeOverflow ↔ (2 ^ 64 ≤ total_size chunks.now) }
+    ensures errors { IfErr result (λ e. (e ≡ CoreError.SizeOverflow) ⊎ (e ≡ CoreError.OutOfMemory)) }
+    ensures short { length chunks.now ≤ 1 → IsOk result }
+{
+    file_hash_with_salt(alloc, chunks, &[0; 32])
+}

@@ -1,0 +1,41 @@
+//! The error of this crate.
+
+ghost use Rattle.std.specs.Prelude.{◌≡◌};
+ghost use Rattle.xet_roots.specs.declared.error.CoreError.TheVariants.{OutOfMemory};
+
+use std::alloc::{AllocError, AllocFailed};
+use thiserror::Error;
+
+/// Why a call failed. After a failure every object that the call borrowed is unchanged.
+#[derive(Clone, Copy, Debug, PartialEq, Eq, Error)]
+pub enum CoreError {
+    /// A range other than the last is marked at its end, or a range other than the first at its start.
+    #[error("invalid arguments")]
+    InvalidArguments,
+    /// The sizes of all nodes add up to more than `u64::MAX` bytes.
+    #[error("size overflow")]
+    SizeOverflow,
+    /// An allocation failed.
+    #[error("out of memory")]
+    OutOfMemory,
+    /// A JSON value, or flat lists, describe no subtree. The number is the lowest rule, from 1 to 13, that they break.
+    /// [`from_json`](crate::merkle_hash_subtree::MerkleHashSubtree::from_json) lists the rules.
+    #[error("invalid JSON: rule {0}")]
+    InvalidJson(u8),
+}
+
+impl From<AllocError> for CoreError {
+    ghost from_gives = { λ _ e. e ≡ OutOfMemory };
+
+    fn from(_e: AllocError) -> CoreError {
+        CoreError::OutOfMemory
+    }
+}
+
+impl<T: Drop> From<AllocFailed<T>> for CoreError {
+    ghost from_gives = { λ _ e. e ≡ OutOfMemory };
+
+    fn from(_e: AllocFailed<T>) -> CoreError {
+        CoreError::OutOfMemory
+    }
+}

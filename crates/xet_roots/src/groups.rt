@@ -1,0 +1,143 @@
+//! Groups of nodes and their parents. This ports part of the module `aggregated_hashes` of the crate
+//! `xet-core-structures`.
+//!
+//! A list of nodes is cut into groups, and each group becomes a parent. The hash of the parent is the hash of the
+//! group's text. Its size is the sum of the sizes in the group.
+
+ghost use Rattle.std.specs.Prelude.{◌≡◌, ◌+◌, ◌^◌, ◌<◌, ◌≤◌, List, ◌++◌, length, take, drop, IsSome, SomeIff};
+ghost use Rattle.xet_roots.specs.Groups.{Node, is_cut};
+ghost use Rattle.xet_roots.specs.Roots.{total_size, node_line, group_text, parent_hash, parent};
+ghost use Rattle.xet_roots.specs.Steps.Scan.{IsFirstGroup};
+
+use xet_hash::data_hash::{MerkleHash, compute_internal_node_hash};
+
+/// One in this many hashes is a natural cut. A group has 5.5 nodes on average, since no group ends before its third
+/// node unless the list does, and none has more than nine.
+pub const AGGREGATED_HASHES_MEAN_TREE_BRANCHING_FACTOR: u64 = 4;
+
+// The fewest nodes of a group that another group follows.
+pub const MIN_GROUP_LEN: usize = 3;
+
+// The most nodes of a group.
+pub const MAX_GROUP_LEN: usize = 9;
+
+// The first index in a group at which a natural cut ends the group.
+const FIRST_CUT_INDEX: usize = MIN_GROUP_LEN - 1;
+
+// The most bytes of a node's line: 64 digits, 3 characters, 20 digits and a newline.
+const MAX_LINE_LEN: usize = 88;
+
+// The most bytes of a group's text.
+const MAX_TEXT_LEN: usize = MAX_GROUP_LEN * MAX_LINE_LEN;
+
+/// A node of the tree over a list of chunks: its hash, and its size in bytes.
+pub type Node = (MerkleHash, u64);
+
+// Returns whether a node is a natural cut.
+#[tactic(auto, unfolding(crate::specs::Groups::is_cut))]
+pub fn is_natural_cut(node: &Node) -> bool
+    ensures { result ≡ is_cut node.now }
+{
+    node.0 % AGGREGATED_HASHES_MEAN_TREE_BRANCHING_FACTOR == 0
+}
+
+// Returns the number of nodes in the first group of some nodes.
+pub fn first_group_len(nodes: &[Node]) -> usize
+    requires { 0 < length nodes.now }
+    ensures bound { result ≤ length nodes.now }
+    ensures first { IsFirstGroup (take result nodes.now) (drop result nodes.now) }
+{
+    let longest = nodes.len().min(MAX_GROUP_LEN);
+    'scan: for i in FIRST_CUT_INDEX..longest {
+        if is_natural_cut(&nodes[i]) {
+            return i + 1;
+        }
+    }
+    longest
+}
+
+// Writes bytes into a text so that they end at `end`. Returns where they start.
+#[inline]
+fn write_bytes(text: &mut [u8], bytes: &[u8], end: usize) -> usize
+    requires fits { length bytes.now ≤ end }
+    requires within { end ≤ length text.old }
+    ensures start { result + length bytes.now ≡ end }
+    ensures written { drop result text.new ≡ bytes.now ++ drop end text.old }
+{
+    let start = end - bytes.len();
+    text[start..end].copy_from_slice(bytes);
+    start
+}
+
+// Writes a node's line into a text so that it ends at `end`. Returns where it starts.
+#[tactic(auto, unfolding(crate::specs::Roots::node_line))]
+fn write_line(text: &mut [u8], node: &Node, end: usize) -> usize
+    requires fits { MAX_LINE_LEN ≤ end }
+    requires within { end ≤ length text.old }
+    ensures start { end ≤ result + MAX_LINE_LEN }
+    ensures within { result ≤ end }
+    ensures written { drop result text.new ≡ node_line node.now ++ drop end text.old }
+{
+    let (hash, size) = *node;
+    let at = write_bytes(text, b"\n", end);
+    let at = itoa::write_digits(size, text, at);
+    let at = write_bytes(text, b" : ", at);
+    write_bytes(text, &hash.hex_digits(), at)
+}
+
+// Writes the text of a group, one line per node, so that it ends at the end of `text`. Returns where it starts. It
+// writes backwards because the last digit of a number is computed first.
+fn write_text(text: &mut [u8], group: &[Node]) -> usize
+    requires few { length group.now ≤ MAX_GROUP_LEN }
+    requires room { length text.old ≡ MAX_TEXT_LEN }
+    ensures within { result ≤ MAX_TEXT_LEN }
+    ensures written { drop result text.new ≡ group_text group.now }
+{
+    let mut start = text.len();
+    let mut rest = group;
+    'lines: while let [before @ .., node] = rest {
+        start = write_line(text, node, start);
+        rest = before;
+    }
+    start
+}
+
+// Returns the sum of the sizes of some nodes, or `None` if it is more than `u64::MAX`. The sum of one size never is.
+pub fn total_size(nodes: &[Node]) -> Option<u64>
+    ensures short { length nodes.now ≤ 1 → IsSome result }
+    ensures total { SomeIff result (total_size nodes.now < 2 ^ 64) (total_size nodes.now) }
+{
+    let mut total = 0u64;
+    for (_, size) in nodes {
+        total = total.checked_add(*size)?;
+    }
+    Some(total)
+}
+
+// Returns the hash of a group's parent.
+#[tactic(auto, unfolding(crate::specs::Roots::parent_hash))]
+pub fn parent_hash(group: &[Node]) -> MerkleHash
+    requires { length group.now ≤ MAX_GROUP_LEN }
+    ensures { result ≡ parent_hash group.now }
+{
+    let mut text = [0; MAX_TEXT_LEN];
+    let start = write_text(&mut text, group);
+    compute_internal_node_hash(&text[start..])
+}
+
+// Returns the sum of the sizes in a group.
+pub fn group_size(group: &[Node]) -> u64
+    requires { total_size group.now < 2 ^ 64 }
+    ensures { result ≡ total_size group.now }
+{
+    group.iter().map(|node| node.1).sum()
+}
+
+// Returns the parent of a group.
+pub fn parent(group: &[Node]) -> Node
+    requires few { length group.now ≤ MAX_GROUP_LEN }
+    requires fits { total_size group.now < 2 ^ 64 }
+    ensures { result ≡ parent group.now }
+{
+    (parent_hash(group), group_size(group))
+}

@@ -1,0 +1,73 @@
+//! Makes the hashes of parents while ranges are merged, and counts them.
+
+ghost use Rattle.std.specs.Prelude.{◌≡◌, ℕ, ◌+◌, ◌^◌, ◌<◌, ◌≤◌, List, length};
+ghost use Rattle.xet_roots.specs.Groups.{Node};
+ghost use Rattle.xet_roots.specs.Roots.{total_size, parent_hash};
+
+use crate::groups::{Node, parent_hash};
+use std::marker::Model;
+use xet_hash::data_hash::MerkleHash;
+
+/// Makes the hash of each parent of a merge, and counts the hashes that it made. A merge gets the hash of a parent only
+/// from its maker, so the count misses none.
+///
+/// A maker gives each group one hash, whatever it made before. [`ParentHashes`] gives the hashes of the Xet format.
+/// Another maker gives the parents of a different tree.
+pub trait ParentMaker: Drop {
+    // The hash that the maker gives a group.
+    ghost hash_of: { List Node → List ℕ };
+
+    // The number of hashes that it made.
+    ghost count: { Self → ℕ };
+
+    /// Returns the hash of the parent of a group. The group has 1 to 9 nodes, whose sizes add up to at most `u64::MAX`.
+    /// The call allocates nothing. The maker must have made fewer than 2^100 hashes before.
+    fn make(&mut self, group: &[Node]) -> MerkleHash
+        requires some { 0 < length group.now }
+        requires few { length group.now ≤ 9 }
+        requires fits { total_size group.now < 2 ^ 64 }
+        requires room { count self.old < 2 ^ 100 }
+        ensures hash { result ≡ hash_of group.now }
+        ensures count { count self.new ≡ count self.old + 1 };
+
+    /// Returns the number of hashes that it made.
+    fn made(&self) -> u128
+        ensures { result ≡ count self.now };
+}
+
+/// The maker of the hashes of the Xet format. The hash of a group's parent is the internal node hash of the group's
+/// text. The text has one line per node, with the node's hash and size.
+#[derive(Debug, Drop)]
+pub struct ParentHashes {
+    made: u128,
+}
+
+impl Model for ParentHashes {
+    ghost Value = { ℕ };
+
+    ghost view = { λ hashes. hashes.made };
+}
+
+impl ParentHashes {
+    /// Makes a maker that has made no hash yet.
+    pub fn new() -> Self
+        ensures { result ≡ 0 }
+    {
+        ParentHashes { made: 0 }
+    }
+}
+
+impl ParentMaker for ParentHashes {
+    ghost hash_of = { parent_hash };
+
+    ghost count = { λ hashes. hashes };
+
+    fn make(&mut self, group: &[Node]) -> MerkleHash {
+        self.made += 1;
+        parent_hash(group)
+    }
+
+    fn made(&self) -> u128 {
+        self.made
+    }
+}
