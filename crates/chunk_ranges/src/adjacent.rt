@@ -6,7 +6,7 @@ ghost use Rattle.chunk_ranges.specs.Steps.Adjacent.{IsPassed, Follows, refusal};
 use crate::chunk_range::ChunkRange;
 use xet_roots::error::CoreError;
 
-// What is known of the ranges that were passed.
+/// What is known of the ranges that were passed.
 #[derive(Clone, Copy)]
 pub struct Passed {
     // The end mark of the last range, if there is one.
@@ -18,7 +18,7 @@ pub struct Passed {
 }
 
 impl Passed {
-    // Starts with no ranges.
+    /// Starts with no ranges.
     pub fn new() -> Self
         ensures { result ≡ record { last_end = None; no_mark_between = true; total = Some 0 } }
     {
@@ -29,7 +29,7 @@ impl Passed {
         }
     }
 
-    // Passes one more range.
+    /// Passes one more range.
     pub fn pass<R: ChunkRange>(self, range: &R) -> Self
         ensures { (ranges : List R) → IsPassed R.start R.end R.total self ranges →
             IsPassed R.start R.end R.total result (ranges ++ range.now ∷ []) }
@@ -41,7 +41,7 @@ impl Passed {
         }
     }
 
-    // Returns why the ranges can't be merged, if there is a reason other than memory.
+    /// Returns why the ranges can't be merged, if there is a reason other than memory.
     pub fn refusal(self) -> Option<CoreError>
         ensures { result ≡ refusal self.no_mark_between self.total }
     {

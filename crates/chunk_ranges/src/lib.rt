@@ -5,4 +5,5 @@
 pub mod adjacent;
 pub mod chunk_range;
 pub mod merge_tree;
+mod open_range;
 pub mod plain_range;

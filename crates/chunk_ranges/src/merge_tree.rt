@@ -1,6 +1,6 @@
 //! Adjacent ranges, and which of them are merged first.
 
-ghost use Rattle.std.specs.Prelude.{◌≡◌, ℕ, ◌+◌, ◌-◌, ◌^◌, ◌<◌, ◌≤◌, ◌⊎◌, ◌↔◌, List, [], ◌∷◌, ◌++◌, true, Some, None, flat_map, map, IfOk, IfErr, IfSome, SomeIff, IsNone, IsTrue, IsErrOf, false};
+ghost use Rattle.std.specs.Prelude.{◌≡◌, ◌+◌, ◌-◌, ◌^◌, ◌<◌, List, [], ◌∷◌, ◌++◌, Some, None, flat_map, map, IfOk, IfErr, IfSome};
 ghost use Rattle.std.specs.List.{AllZip};
 ghost use Rattle.xet_roots.specs.Groups.{Node};
 ghost use Rattle.chunk_ranges.specs.MergeTree.{leaves, first_leaf, last_leaf};
@@ -11,9 +11,9 @@ ghost use Rattle.chunk_ranges.specs.Steps.RangeMerging.{JoinsTo};
 
 use crate::adjacent::Passed;
 use crate::chunk_range::ChunkRange;
-use xet_roots::error::CoreError;
 use std::alloc::Global;
 use std::mem;
+use xet_roots::error::CoreError;
 
 /// Adjacent ranges under a bracketing.
 #[derive(Drop)]

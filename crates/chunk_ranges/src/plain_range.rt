@@ -1,16 +1,16 @@
 //! A range that keeps all of its chunks.
 
-ghost use Rattle.std.specs.Prelude.{◌≡◌, ◌^◌, ◌<◌};
+ghost use Rattle.std.specs.Prelude.{◌≡◌, ◌<◌};
 ghost use Rattle.xet_roots.specs.Roots.{total_size};
 ghost use Rattle.chunk_ranges.specs.PlainRange.{Plain, IsSizeOf};
 
-use xet_roots::aggregated_hashes::xorb_hash;
 use crate::chunk_range::ChunkRange;
-use xet_roots::error::CoreError;
-use xet_roots::groups::{Node, total_size};
 use std::alloc::{Allocator, Global};
 use std::marker::Model;
 use xet_hash::data_hash::MerkleHash;
+use xet_roots::aggregated_hashes::xorb_hash;
+use xet_roots::error::CoreError;
+use xet_roots::groups::{Node, total_size};
 
 /// A range of chunks that keeps each chunk. It is the simplest way to merge ranges, for tests and for short lists.
 #[derive(Debug, Drop)]

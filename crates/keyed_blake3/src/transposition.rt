@@ -1,7 +1,7 @@
 // Square tables of words, turned: rows become columns. The type of a table chooses the steps, since each number of lanes has
 // its own.
 
-ghost use Rattle.std.specs.Prelude.{◌≡◌, ◌<◌, length, map};
+ghost use Rattle.std.specs.Prelude.{◌≡◌, length, map};
 ghost use Rattle.std.specs.List.{All, range_with_len};
 ghost use Rattle.keyed_blake3.specs.Steps.Lanes.{lane};
 

@@ -1,7 +1,7 @@
 //! A map for deduplication, built on the standard library's `HashMap`. Its keys are already hashes. This ports the
 //! module `passthrough_hashmap` of the crate `xet-core-structures` 1.5.2.
 
-ghost use Rattle.std.specs.Prelude.{◌≡◌, ◌↔◌, true, List, [], Some, None, length, is_some, option_map, option_copied, IfNone, IfOk, IfErr, OnOk, OnErr, IsTrue};
+ghost use Rattle.std.specs.Prelude.{◌≡◌, ◌↔◌, List, [], Some, None, length, is_some, option_map, option_copied, IfNone, IfOk, OnOk, OnErr, IsTrue};
 ghost use Rattle.std.specs.Borrow.{sem};
 ghost use Rattle.std.specs.Option.{option_copied_mut};
 ghost use Rattle.std.specs.Iterator.{Drains, IsFinite};

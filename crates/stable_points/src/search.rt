@@ -26,7 +26,7 @@ struct CutScan {
     since_cut: usize,
 }
 
-// Returns whether two natural cuts with this many nodes between them are 3 to 7 nodes apart.
+/// Returns whether two natural cuts with this many nodes between them are 3 to 7 nodes apart.
 pub fn is_stable_gap(between: usize) -> bool
     ensures { result ≡ is_stable_gap between }
 {
@@ -123,8 +123,8 @@ fn late_start(nodes: &[Node]) -> usize
     0
 }
 
-// Returns whether no stable point is added if two lists of nodes are appended to others. It looks at only the last few
-// of the others, and at none of them if no natural cut is appended.
+/// Returns whether no stable point is added if two lists of nodes are appended to others. It looks at only the last few
+/// of the others, and at none of them if no natural cut is appended.
 pub fn adds_no_stable(nodes: &[Node], first: &[Node], second: &[Node]) -> bool
     ensures { IsTrue result → AddsNoStable nodes.now (first.now ++ second.now) }
 {
@@ -138,8 +138,8 @@ pub fn adds_no_stable(nodes: &[Node], first: &[Node], second: &[Node]) -> bool
     scan.pass_all(first) && scan.pass_all(second)
 }
 
-// Returns whether no stable point is added if two lists of nodes are put before others. It looks at only the first few
-// of the others.
+/// Returns whether no stable point is added if two lists of nodes are put before others. It looks at only the first few
+/// of the others.
 pub fn adds_no_stable_before(first: &[Node], second: &[Node], nodes: &[Node]) -> bool
     ensures { IsTrue result → AddsNoStableBefore (first.now ++ second.now) nodes.now }
 {
@@ -151,7 +151,7 @@ pub fn adds_no_stable_before(first: &[Node], second: &[Node], nodes: &[Node]) ->
     scan.pass_all(first) && (scan.pass_all(second) && scan.pass_all(near))
 }
 
-// Returns whether nodes end with a natural cut that is 3 to 7 nodes after the natural cut before it.
+/// Returns whether nodes end with a natural cut that is 3 to 7 nodes after the natural cut before it.
 pub fn ends_stable(nodes: &[Node]) -> bool
     ensures { IsTrue result ↔ EndsStable nodes.now }
 {
@@ -182,7 +182,7 @@ pub fn find_stable_start(nodes: &[Node]) -> Option<usize>
     None
 }
 
-// Returns the last stable point of some nodes that come after a natural cut, or after nothing.
+/// Returns the last stable point of some nodes that come after a natural cut, or after nothing.
 pub fn last_stable(nodes: &[Node], after_cut: bool) -> Option<usize>
     ensures bound { IfSome result (λ p. p ≤ length nodes.now) }
     ensures last { IfSome result (λ p. (front : List Node) → IsFront after_cut front →

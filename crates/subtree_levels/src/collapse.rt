@@ -10,13 +10,13 @@ ghost use Rattle.xet_roots.specs.Steps.Room.{most_made};
 
 use crate::levels::{LevelNodes, pushed};
 use crate::split::{Marks, Split, find_split};
+use std::alloc::{AllocError, Allocator};
 use xet_roots::aggregated_hashes::parents;
 use xet_roots::groups::Node;
 use xet_roots::parent_maker::{ParentHashes, ParentMaker};
-use std::alloc::{AllocError, Allocator};
 
 // Adds a level at the top: the split's left and right nodes. Returns the levels, and the parents of the split's middle.
-pub fn collapse_middle<A: Allocator + Clone, P: ParentMaker>(
+pub(crate) fn collapse_middle<A: Allocator + Clone, P: ParentMaker>(
     alloc: A,
     levels: Vec<LevelNodes<A>, A>,
     split: Split,
@@ -36,7 +36,7 @@ pub fn collapse_middle<A: Allocator + Clone, P: ParentMaker>(
 }
 
 // Adds the levels of the canonical subtree of some nodes on top.
-pub fn collapse<A: Allocator + Clone, P: ParentMaker>(
+pub(crate) fn collapse<A: Allocator + Clone, P: ParentMaker>(
     alloc: A,
     levels: Vec<LevelNodes<A>, A>,
     nodes: Vec<Node, A>,
@@ -57,7 +57,7 @@ pub fn collapse<A: Allocator + Clone, P: ParentMaker>(
 }
 
 // Adds the levels of the canonical subtree of some nodes on top. It copies only the nodes that stay.
-pub fn collapse_slice<A: Allocator + Clone, P: ParentMaker>(
+pub(crate) fn collapse_slice<A: Allocator + Clone, P: ParentMaker>(
     alloc: A,
     levels: Vec<LevelNodes<A>, A>,
     nodes: &[Node],
@@ -78,7 +78,7 @@ pub fn collapse_slice<A: Allocator + Clone, P: ParentMaker>(
     }
 }
 
-// Returns the levels of the canonical subtree of some chunks.
+/// Returns the levels of the canonical subtree of some chunks.
 pub fn collapse_chunks<A: Allocator + Clone>(
     alloc: A,
     chunks: &[Node],

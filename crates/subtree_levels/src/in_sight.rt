@@ -10,15 +10,17 @@ ghost use Rattle.xet_roots.specs.Steps.Room.{most_made};
 use crate::collapse::{collapse, collapse_slice};
 use crate::levels::{LevelNodes, Operand, inner, left_at, levels_from, right_at};
 use crate::split::{Marks, Split};
-use stable_points::search::{adds_no_stable, adds_no_stable_before, find_stable_start, last_stable};
-use xet_roots::groups::Node;
-use xet_roots::parent_maker::ParentMaker;
+use stable_points::search::{
+    adds_no_stable, adds_no_stable_before, find_stable_start, last_stable,
+};
 use std::alloc::{AllocError, Allocator};
 use std::marker::Model;
+use xet_roots::groups::Node;
+use xet_roots::parent_maker::ParentMaker;
 
 // What is in sight at one level of a merge.
 #[derive(Drop)]
-pub struct InSight<'a, A: Allocator> {
+pub(crate) struct InSight<'a, A: Allocator> {
     // The levels of the front operand from that level up; `back` has those of the other.
     front: &'a [LevelNodes<A>],
     // The parents that were made one level below.
@@ -69,7 +71,7 @@ fn low_end_before(nodes: &[Node], at_start: bool) -> usize
 
 impl<'a, A: Allocator> InSight<'a, A> {
     // Starts from the levels of both operands. `kept` says which of them `levels` belongs to.
-    pub fn new(
+    pub(crate) fn new(
         kept: Operand,
         levels: &'a [LevelNodes<A>],
         other: &'a [LevelNodes<A>],
@@ -95,14 +97,14 @@ impl<'a, A: Allocator> InSight<'a, A> {
     }
 
     // Returns the carried nodes.
-    pub fn into_carry(self) -> Vec<Node, A>
+    pub(crate) fn into_carry(self) -> Vec<Node, A>
         ensures { result.items ≡ self.entry.carry }
     {
         self.carry
     }
 
     // Goes one level up, given the parents that were made.
-    pub fn above(self, parents: Vec<Node, A>) -> Self
+    pub(crate) fn above(self, parents: Vec<Node, A>) -> Self
         ensures { result ≡ sight_up 1 self.entry parents.items }
     {
         InSight {
@@ -114,7 +116,7 @@ impl<'a, A: Allocator> InSight<'a, A> {
     }
 
     // Returns whether an operand has levels above.
-    pub fn is_collapsed(&self, operand: Operand) -> bool
+    pub(crate) fn is_collapsed(&self, operand: Operand) -> bool
         ensures { IsTrue result ↔ (1 < length (levels_of operand self.now)) }
     {
         match operand {
@@ -125,7 +127,7 @@ impl<'a, A: Allocator> InSight<'a, A> {
 
     // Splits the nodes in sight into what is collapsed and what stays on either side. An operand that has levels above
     // keeps its outer side.
-    pub fn split<'s>(&'s self, nodes: &'s [Node]) -> Split<'s>
+    pub(crate) fn split<'s>(&'s self, nodes: &'s [Node]) -> Split<'s>
         requires above { (1 < length self.now.front) ⊎ (1 < length self.now.back) }
         requires nodes { nodes.now ≡ seen self.now }
         ensures { IsSightSplit self.now result.left.now result.middle.now result.right.now }
@@ -176,7 +178,7 @@ impl<'a, A: Allocator> InSight<'a, A> {
     // Returns whether the nodes in sight only extend an operand's level, so that nothing is collapsed from here on.
     // That is so if the outer end of the other operand isn't marked, that operand has no levels above, and no stable
     // point is added.
-    pub fn only_extends(&self, operand: Operand) -> bool
+    pub(crate) fn only_extends(&self, operand: Operand) -> bool
         ensures { IsTrue result → OnlyExtends operand self.now }
     {
         match operand {
@@ -195,7 +197,7 @@ impl<'a, A: Allocator> InSight<'a, A> {
 
 impl<'a, A: Allocator + Clone> InSight<'a, A> {
     // Returns the nodes in sight.
-    pub fn nodes(&self) -> Result<Vec<Node, A>, AllocError>
+    pub(crate) fn nodes(&self) -> Result<Vec<Node, A>, AllocError>
         ensures { IfOk result (λ nodes. nodes.items ≡ seen self.now) }
     {
         let (first, last) = (inner(self.front), left_at(self.back, 0));
@@ -209,7 +211,7 @@ impl<'a, A: Allocator + Clone> InSight<'a, A> {
 
     // Adds the levels of the canonical subtree of the nodes in sight on top. If all of them are the front operand's, it
     // copies only those that stay.
-    pub fn collapse<P: ParentMaker>(
+    pub(crate) fn collapse<P: ParentMaker>(
         &self,
         levels: Vec<LevelNodes<A>, A>,
         maker: &mut P,

@@ -2,15 +2,15 @@
 
 ghost use Rattle.std.specs.Prelude.{◌≡◌, ◌+◌, ◌-◌, ◌≤◌, ◌++◌, length, drop, IfOk, OnOk, OnErr};
 
-use xet_roots::groups::Node;
 use std::alloc::{AllocError, Allocator};
 use std::marker::Model;
 use xet_hash::data_hash::MerkleHash;
+use xet_roots::groups::Node;
 
 // The left nodes of a level. More nodes can be added before or after them. On average each node is then copied a
 // constant number of times.
 #[derive(Debug, Drop)]
-pub struct LeftNodes<A: Allocator> {
+pub(crate) struct LeftNodes<A: Allocator> {
     // First nodes without meaning, as room for nodes that will be put before the left nodes. Then the left nodes.
     nodes: Vec<Node, A>,
     // How many of the nodes are room.
@@ -62,20 +62,20 @@ fn put_before<A: Allocator>(nodes: &mut Vec<Node, A>, end: usize, more: &[Node])
 
 impl<A: Allocator> LeftNodes<A> {
     // Makes left nodes without room.
-    pub fn new(nodes: Vec<Node, A>) -> Self
+    pub(crate) fn new(nodes: Vec<Node, A>) -> Self
         ensures { result ≡ nodes.items }
     {
         LeftNodes { nodes, room: 0 }
     }
 
-    pub fn as_slice(&self) -> &[Node]
+    pub(crate) fn as_slice(&self) -> &[Node]
         ensures { result.now ≡ self.now }
     {
         &self.nodes[self.room..]
     }
 
     // Puts nodes after them.
-    pub fn extend(&mut self, more: &[Node]) -> Result<(), AllocError>
+    pub(crate) fn extend(&mut self, more: &[Node]) -> Result<(), AllocError>
         ensures extended { OnOk result (self.new ≡ self.old ++ more.now) }
         ensures unchanged { OnErr result (self.new ≡ self.old) }
     {
@@ -85,7 +85,7 @@ impl<A: Allocator> LeftNodes<A> {
 
 impl<A: Allocator + Clone> LeftNodes<A> {
     // Puts nodes before them. If there isn't enough room, it makes room for them and for as many nodes as there are.
-    pub fn prepend(&mut self, more: &[Node]) -> Result<(), AllocError>
+    pub(crate) fn prepend(&mut self, more: &[Node]) -> Result<(), AllocError>
         ensures prepended { OnOk result (self.new ≡ more.now ++ self.old) }
         ensures unchanged { OnErr result (self.new ≡ self.old) }
     {

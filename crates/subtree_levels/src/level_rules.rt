@@ -1,10 +1,9 @@
 //! The rules that the marks and the levels of a subtree keep.
 
-ghost use Rattle.std.specs.Prelude.{◌≡◌, ◌↔◌, ◌∷◌, ◌<◌, ◌≤◌, false, List, [], length, IfSome, IfNone, IsTrue};
+ghost use Rattle.std.specs.Prelude.{◌≡◌, ◌↔◌, ◌<◌, false, [], length, IfSome, IfNone, IsTrue};
 ghost use Rattle.std.specs.List.{AllByRecursion as Each};
-ghost use Rattle.subtree_levels.specs.Levels.{Level, top_nodes, below_top, top_of};
-ghost use Rattle.subtree_levels.specs.Subtree.{Subtree};
-ghost use Rattle.subtree_levels.specs.WellFormed.{IsLeftSide, IsRightSide, Rule8, Rule9, Rule10, Rule11, Rule12, Rule13, IsWellFormed};
+ghost use Rattle.subtree_levels.specs.Levels.{top_nodes, below_top, top_of};
+ghost use Rattle.subtree_levels.specs.WellFormed.{Rule8, Rule9, Rule10, Rule11, Rule12, Rule13, IsWellFormed};
 ghost use Rattle.subtree_levels.specs.LevelRules.{BreaksLevelRule};
 ghost use Rattle.subtree_levels.specs.Steps.LevelSides.{HasSide};
 
@@ -100,7 +99,7 @@ fn keep_rule_13<A: Allocator>(levels: &[LevelNodes<A>], at_end: bool) -> bool
     at_end || each_has_side(below_top(levels), Side::Right)
 }
 
-// Returns the lowest rule from 8 to 13 that marks and levels break.
+/// Returns the lowest rule from 8 to 13 that marks and levels break.
 pub fn broken_rule<A: Allocator>(
     levels: &[LevelNodes<A>],
     at_start: bool,

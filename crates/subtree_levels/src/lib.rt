@@ -2,11 +2,12 @@
 #![tactic(auto)]
 
 pub mod collapse;
-pub mod in_sight;
+mod in_place;
+mod in_sight;
 pub mod laws;
-pub mod left_nodes;
+mod left_nodes;
 pub mod level_rules;
 pub mod levels;
 pub mod merge_levels;
-pub mod sides;
+mod sides;
 pub mod split;

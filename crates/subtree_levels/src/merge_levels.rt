@@ -11,13 +11,14 @@ ghost use Rattle.subtree_levels.specs.Steps.LevelMerging.{sight_up, IsSightMerge
 ghost use Rattle.subtree_levels.specs.Steps.Building.{CanMerge, MergesLevel, MergesLower};
 
 use crate::collapse::collapse_middle;
+use crate::in_place::{extend, replace_sides, replace_top};
 use crate::in_sight::InSight;
-use crate::levels::{LevelNodes, Operand, extend, levels_from, replace_sides, replace_top};
+use crate::levels::{LevelNodes, Operand, levels_from};
 use crate::split::Marks;
+use std::alloc::{AllocError, Allocator};
 use xet_roots::aggregated_hashes::parents;
 use xet_roots::groups::Node;
 use xet_roots::parent_maker::ParentMaker;
-use std::alloc::{AllocError, Allocator};
 
 // What was made below an operand's top, or below the level from which on nothing is collapsed.
 struct Lower<A: Allocator> {
@@ -100,7 +101,7 @@ fn merge_top<A: Allocator + Clone, P: ParentMaker>(
     Ok(sight.collapse(levels, maker)?)
 }
 
-// Merges the levels of one operand with those of the other, in place. They are unchanged if an allocation fails.
+/// Merges the levels of one operand with those of the other, in place. They are unchanged if an allocation fails.
 pub fn merge_levels<A: Allocator + Clone, P: ParentMaker>(
     levels: &mut Vec<LevelNodes<A>, A>,
     other: &[LevelNodes<A>],

@@ -1,21 +1,21 @@
 //! What may stay on either side of a level below the top.
 
-ghost use Rattle.std.specs.Prelude.{◌≡◌, ◌↔◌, false, List, IsTrue};
-ghost use Rattle.stable_points.specs.StablePoints.{EndsStable, BeginsStable};
+ghost use Rattle.std.specs.Prelude.{◌↔◌, false, IsTrue};
+ghost use Rattle.stable_points.specs.StablePoints.{BeginsStable};
 ghost use Rattle.subtree_levels.specs.WellFormed.{IsLeftSide, IsRightSide};
 
 use stable_points::search::{ends_stable, find_stable_start, is_stable_gap, last_stable};
 use xet_roots::groups::{Node, is_natural_cut};
 
 // Returns whether nodes may stay on the left if the start isn't marked.
-pub fn is_left_side(nodes: &[Node]) -> bool
+pub(crate) fn is_left_side(nodes: &[Node]) -> bool
     ensures { IsTrue result ↔ IsLeftSide nodes.now }
 {
     ends_stable(nodes) && find_stable_start(nodes).is_none()
 }
 
 // Returns whether nodes may stay on the right if the end isn't marked.
-pub fn is_right_side(nodes: &[Node]) -> bool
+pub(crate) fn is_right_side(nodes: &[Node]) -> bool
     ensures { IsTrue result ↔ IsRightSide nodes.now }
 {
     begins_stable(nodes) && last_stable(nodes, true).is_none()

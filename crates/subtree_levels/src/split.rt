@@ -9,7 +9,7 @@ use crate::levels::Operand;
 use stable_points::search::{find_stable_end, find_stable_start};
 use xet_roots::groups::Node;
 
-// Whether a list is marked at its start, and at its end.
+/// Whether a list is marked at its start, and at its end.
 #[derive(Clone, Copy)]
 pub struct Marks {
     pub at_start: bool,
@@ -18,15 +18,15 @@ pub struct Marks {
 
 // The nodes of a level: those that are collapsed, between those that stay on either side.
 #[derive(Clone, Copy)]
-pub struct Split<'a> {
-    pub left: &'a [Node],
-    pub middle: &'a [Node],
-    pub right: &'a [Node],
+pub(crate) struct Split<'a> {
+    pub(crate) left: &'a [Node],
+    pub(crate) middle: &'a [Node],
+    pub(crate) right: &'a [Node],
 }
 
 impl<'a> Split<'a> {
     // Returns the nodes that stay on an operand's inner side, which faces the other operand.
-    pub fn inner(self, operand: Operand) -> &'a [Node]
+    pub(crate) fn inner(self, operand: Operand) -> &'a [Node]
         ensures { result.now ≡ inner_side operand self.entry.left.now self.entry.right.now }
     {
         match operand {
@@ -63,7 +63,7 @@ fn high_end(nodes: &[Node], at_end: bool) -> Option<usize>
 }
 
 // Returns the split of a level's nodes under marks, if there is one.
-pub fn find_split(nodes: &[Node], marks: Marks) -> Option<Split>
+pub(crate) fn find_split(nodes: &[Node], marks: Marks) -> Option<Split>
     ensures split { IfSome result (λ s. IsSplit marks.at_start marks.at_end nodes.now s.left.now s.middle.now s.right.now) }
     ensures none { IfNone result ((left middle right : List Node) → ¬ (IsSplit marks.at_start marks.at_end nodes.now left middle right)) }
 {

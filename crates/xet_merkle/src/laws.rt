@@ -11,7 +11,8 @@ ghost use Rattle.xet_merkle.specs.Merging.{IsMerged};
 
 pub use stable_points::laws::{stable_boundaries, stable_points_are_triples};
 pub use subtree_levels::laws::{
-    canonical_subtree_bounds, closed_subtree_has_root, lower_end_below_upper_end, one_canonical_subtree, one_split,
+    canonical_subtree_bounds, closed_subtree_has_root, lower_end_below_upper_end,
+    one_canonical_subtree, one_split,
 };
 use xet_hash::laws::hex_text_tells_hashes_apart;
 pub use xet_roots::laws::{group_lengths, one_cutting, one_root};

@@ -5,10 +5,9 @@
 pub mod laws;
 pub mod merkle_hash_subtree;
 
-pub use chunk_ranges::chunk_range as chunk_range;
-pub use chunk_ranges::merge_tree as merge_tree;
-pub use chunk_ranges::plain_range as plain_range;
-pub use xet_roots::CoreError;
-pub use xet_roots::aggregated_hashes as aggregated_hashes;
-pub use xet_roots::error as error;
-pub use xet_roots::parent_maker as parent_maker;
+pub use chunk_ranges::{
+    chunk_range as chunk_range, merge_tree as merge_tree, plain_range as plain_range,
+};
+pub use xet_roots::{
+    CoreError, aggregated_hashes as aggregated_hashes, error as error, parent_maker as parent_maker,
+};

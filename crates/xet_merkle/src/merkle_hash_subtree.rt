@@ -40,7 +40,8 @@
 //! The nodes before the list only decide which of the two cases applies, and the nodes after b play no part. The same
 //! holds for a list that begins right after a, since b then has index 2 to 6 in its first group. By the same argument
 //! the group after b ends at c. The law is [`stable_boundaries`](crate::laws::stable_boundaries).
-//! `proofs/StablePoints/Boundaries.antt` shows that all groups of the nodes before such a place are full.
+//! `proofs/StablePoints/Boundaries.antt` of `stable_points` shows that all groups of the nodes before such a place are
+//! full.
 //!
 //! # What a subtree keeps
 //!
@@ -91,9 +92,9 @@
 //! that `other` isn't marked at its end and has no level above, and that the carry and its nodes add no stable point.
 //! Then these nodes are appended to those that `self` has in sight, and nothing is collapsed at this level or above. To
 //! check for new stable points, the last 14 nodes of `self` are enough, since the third natural cut of a stable point
-//! is at most 14 nodes after the first. `specs/Steps/LevelMerging.antt` states all this as a relation.
-//! `proofs/Merging/LevelMerge.antt` proves that merging the canonical subtrees of two lists gives that of both lists,
-//! one after the other.
+//! is at most 14 nodes after the first. In `subtree_levels`, `specs/Steps/LevelMerging.antt` states all this as a
+//! relation, and `proofs/Merging/LevelMerge.antt` proves that merging the canonical subtrees of two lists gives that of
+//! both lists, one after the other.
 //!
 //! # An example
 //!
@@ -135,7 +136,7 @@
 //!
 //! The calls have the names of the Rust crate. `left` and `right` are its private `left_at` and `right_at`. Its
 //! `Clone`, `Serialize` and `Deserialize` are `try_clone`, `to_json` and `from_json` here. The invariant of the type
-//! (`IsWellFormed` of `specs/WellFormed.antt`) replaces its `verify_invariants`. There is no `debug_chunks`. Only this
+//! (`IsWellFormed` of `subtree_levels`) replaces its `verify_invariants`. There is no `debug_chunks`. Only this
 //! port has `at_start`, `at_end`, `total_size` and equality.
 
 mod json_parts;

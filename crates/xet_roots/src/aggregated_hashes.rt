@@ -16,7 +16,7 @@ use crate::parent_maker::{ParentHashes, ParentMaker};
 use std::alloc::{AllocError, Allocator};
 use xet_hash::data_hash::{HMACKey, MerkleHash};
 
-// Returns the parents of the groups of some nodes, in a new list. The hashes come from a maker.
+/// Returns the parents of the groups of some nodes, in a new list. The hashes come from a maker.
 pub fn parents<A: Allocator, P: ParentMaker>(
     alloc: A,
     nodes: &[Node],

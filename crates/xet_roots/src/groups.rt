@@ -4,7 +4,7 @@
 //! A list of nodes is cut into groups, and each group becomes a parent. The hash of the parent is the hash of the
 //! group's text. Its size is the sum of the sizes in the group.
 
-ghost use Rattle.std.specs.Prelude.{◌≡◌, ◌+◌, ◌^◌, ◌<◌, ◌≤◌, List, ◌++◌, length, take, drop, IsSome, SomeIff};
+ghost use Rattle.std.specs.Prelude.{◌≡◌, ◌+◌, ◌^◌, ◌<◌, ◌≤◌, ◌++◌, length, take, drop, IsSome, SomeIff};
 ghost use Rattle.xet_roots.specs.Groups.{Node, is_cut};
 ghost use Rattle.xet_roots.specs.Roots.{total_size, node_line, group_text, parent_hash, parent};
 ghost use Rattle.xet_roots.specs.Steps.Scan.{IsFirstGroup};
@@ -15,10 +15,10 @@ use xet_hash::data_hash::{MerkleHash, compute_internal_node_hash};
 /// node unless the list does, and none has more than nine.
 pub const AGGREGATED_HASHES_MEAN_TREE_BRANCHING_FACTOR: u64 = 4;
 
-// The fewest nodes of a group that another group follows.
+/// The fewest nodes of a group that another group follows.
 pub const MIN_GROUP_LEN: usize = 3;
 
-// The most nodes of a group.
+/// The most nodes of a group.
 pub const MAX_GROUP_LEN: usize = 9;
 
 // The first index in a group at which a natural cut ends the group.
@@ -33,7 +33,7 @@ const MAX_TEXT_LEN: usize = MAX_GROUP_LEN * MAX_LINE_LEN;
 /// A node of the tree over a list of chunks: its hash, and its size in bytes.
 pub type Node = (MerkleHash, u64);
 
-// Returns whether a node is a natural cut.
+/// Returns whether a node is a natural cut.
 #[tactic(auto, unfolding(crate::specs::Groups::is_cut))]
 pub fn is_natural_cut(node: &Node) -> bool
     ensures { result ≡ is_cut node.now }
@@ -42,7 +42,7 @@ pub fn is_natural_cut(node: &Node) -> bool
 }
 
 // Returns the number of nodes in the first group of some nodes.
-pub fn first_group_len(nodes: &[Node]) -> usize
+pub(crate) fn first_group_len(nodes: &[Node]) -> usize
     requires { 0 < length nodes.now }
     ensures bound { result ≤ length nodes.now }
     ensures first { IsFirstGroup (take result nodes.now) (drop result nodes.now) }
@@ -102,7 +102,7 @@ fn write_text(text: &mut [u8], group: &[Node]) -> usize
     start
 }
 
-// Returns the sum of the sizes of some nodes, or `None` if it is more than `u64::MAX`. The sum of one size never is.
+/// Returns the sum of the sizes of some nodes, or `None` if it is more than `u64::MAX`. The sum of one size never is.
 pub fn total_size(nodes: &[Node]) -> Option<u64>
     ensures short { length nodes.now ≤ 1 → IsSome result }
     ensures total { SomeIff result (total_size nodes.now < 2 ^ 64) (total_size nodes.now) }
@@ -116,7 +116,7 @@ pub fn total_size(nodes: &[Node]) -> Option<u64>
 
 // Returns the hash of a group's parent.
 #[tactic(auto, unfolding(crate::specs::Roots::parent_hash))]
-pub fn parent_hash(group: &[Node]) -> MerkleHash
+pub(crate) fn parent_hash(group: &[Node]) -> MerkleHash
     requires { length group.now ≤ MAX_GROUP_LEN }
     ensures { result ≡ parent_hash group.now }
 {
@@ -126,7 +126,7 @@ pub fn parent_hash(group: &[Node]) -> MerkleHash
 }
 
 // Returns the sum of the sizes in a group.
-pub fn group_size(group: &[Node]) -> u64
+pub(crate) fn group_size(group: &[Node]) -> u64
     requires { total_size group.now < 2 ^ 64 }
     ensures { result ≡ total_size group.now }
 {
@@ -134,7 +134,7 @@ pub fn group_size(group: &[Node]) -> u64
 }
 
 // Returns the parent of a group.
-pub fn parent(group: &[Node]) -> Node
+pub(crate) fn parent(group: &[Node]) -> Node
     requires few { length group.now ≤ MAX_GROUP_LEN }
     requires fits { total_size group.now < 2 ^ 64 }
     ensures { result ≡ parent group.now }

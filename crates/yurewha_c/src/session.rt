@@ -1,6 +1,6 @@
 //! Sessions: chunks by their positions, which come in any order.
 
-ghost use Rattle.std.specs.Prelude.{◌≡◌, ◌≢◌, ◌⊎◌, ◌↔◌, ◌+◌, ◌^◌, ◌<◌, ◌≤◌, None, IfErr, IfOk, IfSome, IsErrOf, IsSomeAnd, IsTrue, List, [], OnErr, OnOk, Ok, replicate, length};
+ghost use Rattle.std.specs.Prelude.{◌≡◌, ◌≢◌, ◌⊎◌, ◌↔◌, ◌+◌, ◌^◌, ◌<◌, ◌≤◌, None, IfErr, IfOk, IfSome, IsErrOf, IsSomeAnd, IsTrue, [], OnErr, OnOk, Ok, replicate, length};
 ghost use Rattle.xet_merkle.specs.Roots.{IsRoot, IsFileHash, total_size};
 ghost use Rattle.upload_session.specs.Session.{place, chunks_of, is_taken, meet, overlaps, AreJoined, CountsNew, HasNothing, HaveFileHash, HaveRoot, IsUnchanged, LearnsHashes};
 ghost use Rattle.upload_session.specs.Subtrees.{subtrees};

@@ -1,6 +1,6 @@
 //! Subtrees as flat lists, for binary formats.
 
-ghost use Rattle.std.specs.Prelude.{◌≡◌, ◌≢◌, ◌⊎◌, ◌↔◌, ℕ, ◌+◌, ◌<◌, ◌≤◌, None, IsSomeAnd, IfOk, List, ◌++◌, drop, length, map, take};
+ghost use Rattle.std.specs.Prelude.{◌≡◌, ◌≢◌, ◌⊎◌, ◌↔◌, ℕ, ◌+◌, ◌<◌, ◌≤◌, None, IsSomeAnd, IfOk, ◌++◌, drop, length, map, take};
 ghost use Rattle.xet_merkle.specs.FlatLevels.{IsFlat, count_of, left_nodes, right_nodes};
 ghost use Rattle.xet_merkle.specs.Levels.{node_count};
 ghost use Rattle.xet_merkle.specs.JsonRules.{BreaksValueRule};

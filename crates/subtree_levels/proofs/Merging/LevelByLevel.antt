@@ -1,9 +1,9 @@
 -- Merging level by level: the levels already made, what is left of the operands, and the whole that both give.
 use Rattle.std.proofs.lemmas.List.{length-map}
 use Rattle.subtree_levels.proofs.Merging.Bounds.{between_few, merge_count, step_room}
-use Rattle.std.proofs.Common.{◌≡◌, ℕ, ◌+◌, ◌<◌, ◌≤◌, ◌^◌, Bool, true, false, List, [], ◌∷◌, ◌++◌, length, map, drop, refl, sym, ap, subst, ◌∙◌, arith, append_assoc}
+use Rattle.std.proofs.Common.{◌≡◌, ℕ, ◌+◌, ◌<◌, ◌≤◌, ◌^◌, Bool, true, false, List, [], ◌∷◌, ◌++◌, length, map, drop, sym, ap, subst, ◌∙◌, arith, append_assoc}
 use Rattle.xet_roots.specs.Groups.{Node}
-use Rattle.xet_roots.specs.Roots.{total_size, parent_by, parent}
+use Rattle.xet_roots.specs.Roots.{total_size, parent_by}
 use Rattle.xet_roots.specs.Steps.Scan.{AreParents}
 use Rattle.subtree_levels.specs.Levels.{Level, top_nodes, node_count, levels_size}
 use Rattle.subtree_levels.specs.Subtree.{Subtree}
@@ -18,7 +18,6 @@ use Rattle.xet_roots.proofs.Roots.Making.{total_size-are_parents, AreParents-few
 use Rattle.xet_roots.proofs.Roots.Making.{total_size-append}
 use Rattle.subtree_levels.proofs.OfLevels.Sides.{well_formed_sides, well_formed_from_sides}
 use Rattle.subtree_levels.proofs.OfLevels.Reading.{operand-length, above-up}
-use Rattle.subtree_levels.proofs.Merging.LevelMerge.{level_merge}
 use Rattle.subtree_levels.proofs.Merging.Kept.{level_merge_sides, level_merge_top, level_merge_one, level_merge_size}
 
 -- ---- lengths and sizes

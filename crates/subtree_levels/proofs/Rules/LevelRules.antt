@@ -1,20 +1,15 @@
 -- The rules of levels, as the code checks them, are those of well-formed levels.
-use Rattle.std.proofs.Common.{◌≡◌, ℕ, zero, suc, ◌+◌, ◌<◌, ◌≤◌, ◌↔◌, Bool, true, false, Option, Some, None, IfSome, IfNone, is_some, not, List, [], ◌∷◌, ◌++◌, length, take, drop, get_or, refl, sym, ap, subst, ◌∙◌, arith, append-nil, length-take}
+use Rattle.std.proofs.Common.{◌≡◌, ℕ, zero, suc, ◌+◌, ◌<◌, ◌↔◌, Bool, true, false, Option, Some, None, IfSome, IfNone, is_some, not, List, [], ◌∷◌, ◌++◌, length, take, drop, get_or, refl, sym, ap, subst, arith}
 use Rattle.std.proofs.lemmas.Bool.{false≢true}
-use Rattle.std.proofs.lemmas.List.{take-append-drop, drop_more}
+use Rattle.std.proofs.lemmas.List.{take-append-drop}
 use Rattle.std.specs.List.{AllByRecursion as Each}
-use Rattle.xet_roots.specs.Groups.{Node, Cut, EndsWithCut}
-use Rattle.stable_points.specs.StablePoints.{NoCut, EndsStable, BeginsStable, NoStable, IsFirstStable, IsLastStable}
-use Rattle.stable_points.specs.Steps.StableScan.{is_stable_gap}
+use Rattle.xet_roots.specs.Groups.{Node}
+use Rattle.stable_points.specs.StablePoints.{EndsStable, BeginsStable, NoStable, IsFirstStable, IsLastStable}
 use Rattle.stable_points.specs.Steps.StableScan.{IsFront}
 use Rattle.subtree_levels.specs.Levels.{Level}
 use Rattle.subtree_levels.specs.WellFormed.{IsLeftSide, IsRightSide, Rule8, Rule9, Rule10, Rule11, Rule12, IsWellFormed}
 use Rattle.subtree_levels.specs.LevelRules.{KeepsBelow, BreaksLevelRule}
 use Rattle.subtree_levels.specs.LevelRules.BreaksLevelRule.{at_8, at_9, at_10, at_11, at_12, at_13}
-use Rattle.stable_points.proofs.StablePoints.CutPlaces.{not_among, back_of}
-use Rattle.stable_points.proofs.StablePoints.Scan.{EndsStable-head, head_of_stable, HeadIs, IsScanned, gap_parts, gap_from}
-use Rattle.stable_points.proofs.StablePoints.Search.{FirstCut, same_first_cut}
-use Rattle.stable_points.proofs.StablePoints.Ends.{EndsStable-cut}
 
 -- ---- the two sides
 

@@ -1,5 +1,5 @@
 // The order of hashes, and what a hash table reads of one.
-ghost use Rattle.std.specs.Prelude.{◌≡◌, Some, refl, slice_index};
+ghost use Rattle.std.specs.Prelude.{Some, refl, slice_index};
 ghost use Rattle.std.specs.Cmp.Lexicographic.{nat_list_cmp_total, texts_po, texts_ties};
 ghost use Rattle.std.specs.Cmp.Rules.{hashing};
 ghost use Rattle.std.proofs.Common.{rules};

@@ -9,11 +9,11 @@ ghost use Rattle.xet_roots.specs.Groups.{Node};
 ghost use Rattle.xet_roots.specs.declared.error.CoreError.TheVariants.{OutOfMemory, InvalidJson};
 ghost use Rattle.xet_merkle.specs.JsonParts.{whole, ReadsNode, ReadsCounts, HasMembers, ReadsParts, BreaksPartRule};
 
-use xet_roots::error::CoreError;
-use xet_roots::groups::Node;
 use serde_json::Value;
 use std::alloc::Allocator;
 use xet_hash::data_hash::DataHash;
+use xet_roots::error::CoreError;
+use xet_roots::groups::Node;
 
 // The marks, the counts of each level and the nodes in a value.
 #[derive(Drop)]

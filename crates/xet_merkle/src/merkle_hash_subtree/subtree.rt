@@ -1,6 +1,6 @@
 //! The canonical subtree of a list of chunks.
 
-ghost use Rattle.std.specs.Prelude.{◌≡◌, ◌^◌, ◌<◌, ◌≤◌, ◌↔◌, ◌⊎◌, ◌+◌, List, [], drop, length, IfOk, IfErr, IsErrOf, IfSome, IsSome, IsTrue};
+ghost use Rattle.std.specs.Prelude.{◌≡◌, ◌^◌, ◌<◌, ◌≤◌, ◌↔◌, ◌⊎◌, ◌+◌, List, [], length, IfOk, IfErr, IsErrOf, IfSome, IsSome, IsTrue};
 ghost use Rattle.xet_roots.specs.Groups.{Node};
 ghost use Rattle.xet_roots.specs.Roots.{total_size, IsRoot};
 ghost use Rattle.subtree_levels.specs.Levels.{top_hash, hash_of_first, left_at, right_at, node_count, levels_size};
@@ -13,13 +13,13 @@ mod as_range;
 mod json;
 mod merging;
 
-use subtree_levels::collapse::collapse_chunks;
-use subtree_levels::levels::{LevelNodes, copy_levels, count_nodes, left_at, right_at, top};
-use xet_roots::error::CoreError;
-use xet_roots::groups::{Node, total_size};
 use std::alloc::{AllocError, Allocator, Global};
 use std::marker::Model;
+use subtree_levels::collapse::collapse_chunks;
+use subtree_levels::levels::{LevelNodes, copy_levels, count_nodes, left_at, right_at, top};
 use xet_hash::data_hash::MerkleHash;
+use xet_roots::error::CoreError;
+use xet_roots::groups::{Node, total_size};
 
 /// What is known of the tree over a list of chunks without the chunks before and after it. On each level it keeps the
 /// nodes on either side whose groups may still change. The start of the list is marked if no chunk comes before it, and

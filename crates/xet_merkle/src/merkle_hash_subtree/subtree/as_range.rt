@@ -1,17 +1,15 @@
 //! The subtree as a range of chunks.
-
-ghost use Rattle.std.specs.Prelude.{◌≡◌};
 ghost use Rattle.subtree_levels.specs.Levels.{levels_size};
 ghost use Rattle.subtree_levels.specs.Subtree.{IsCanonical};
 
 use super::MerkleHashSubtree;
 use chunk_ranges::chunk_range::ChunkRange;
+use std::alloc::Allocator;
+use subtree_levels::levels::Operand;
+use xet_hash::data_hash::MerkleHash;
 use xet_roots::error::CoreError;
 use xet_roots::groups::Node;
-use subtree_levels::levels::Operand;
 use xet_roots::parent_maker::ParentHashes;
-use std::alloc::Allocator;
-use xet_hash::data_hash::MerkleHash;
 
 impl<A: Allocator + Clone> ChunkRange for MerkleHashSubtree<A> {
     type Alloc = A;

@@ -15,14 +15,14 @@ ghost use Rattle.xet_roots.specs.declared.error.CoreError.TheVariants.{InvalidJs
 ghost use Rattle.xet_merkle.specs.SubtreeJson.{node_json, counts_json, subtree_object, subtree_json};
 
 use super::MerkleHashSubtree;
-use xet_roots::error::CoreError;
-use xet_roots::groups::{Node, total_size};
 use crate::merkle_hash_subtree::json_parts::{Parts, read_parts};
-use subtree_levels::level_rules::broken_rule;
-use subtree_levels::levels::LevelNodes;
 use serde_json::{Value, json};
 use std::alloc::{AllocError, Allocator, Global};
+use subtree_levels::level_rules::broken_rule;
+use subtree_levels::levels::LevelNodes;
 use xet_hash::laws::{hex_text_is_lowercase_digits, hex_text_tells_hashes_apart};
+use xet_roots::error::CoreError;
+use xet_roots::groups::{Node, total_size};
 
 // Returns the numbers of left and right nodes of a level.
 fn count_to_json<A: Allocator>(alloc: Global, level: &LevelNodes<A>) -> Result<Value, AllocError>

@@ -1,6 +1,6 @@
 //! Merges the subtrees of adjacent ranges, without their chunks.
 
-ghost use Rattle.std.specs.Prelude.{◌≡◌, ◌+◌, ◌-◌, ◌*◌, ◌^◌, ◌<◌, ◌≤◌, ◌⊎◌, ◌↔◌, List, [], ◌∷◌, length, flat_map, IfOk, IfErr, SomeIff, IsErrOf, IsTrue};
+ghost use Rattle.std.specs.Prelude.{◌≡◌, ◌+◌, ◌-◌, ◌*◌, ◌^◌, ◌<◌, ◌≤◌, List, [], ◌∷◌, length, flat_map, IfOk, IfErr};
 ghost use Rattle.xet_roots.specs.Groups.{Node};
 ghost use Rattle.xet_roots.specs.Roots.{parent_by, parent};
 ghost use Rattle.subtree_levels.specs.Levels.{levels_size, node_count};
@@ -13,12 +13,12 @@ ghost use Rattle.xet_merkle.specs.Steps.SubtreeMerging.{MergesTo, RefusalOf};
 
 use super::MerkleHashSubtree;
 use chunk_ranges::adjacent::Passed;
-use xet_roots::error::CoreError;
+use std::alloc::Allocator;
 use subtree_levels::levels::Operand;
 use subtree_levels::merge_levels::merge_levels;
 use subtree_levels::split::Marks;
+use xet_roots::error::CoreError;
 use xet_roots::parent_maker::{ParentHashes, ParentMaker};
-use std::alloc::Allocator;
 
 // Returns why adjacent ranges can't be merged, if there is a reason other than memory.
 fn refusal<A: Allocator + Clone>(ranges: &[MerkleHashSubtree<A>]) -> Option<CoreError>

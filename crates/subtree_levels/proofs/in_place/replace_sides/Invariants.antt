@@ -1,6 +1,6 @@
 use Rattle.std.proofs.Common.{◌≡◌, ◌≤◌, length, map}
 use Rattle.subtree_levels.proofs.OfLevels.InPlace.{put}
-use Rattle.subtree_levels.proofs.levels.replace_sides.Given as goal
+use Rattle.subtree_levels.proofs.in_place.replace_sides.Given as goal
 
 abbrev pub invariant-sides : goal.invariant-sides
 invariant-sides g l = record {

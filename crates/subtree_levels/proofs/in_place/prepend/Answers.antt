@@ -3,7 +3,7 @@ use Rattle.xet_roots.specs.Groups.{Node}
 use Rattle.subtree_levels.specs.Levels.{Level}
 use Rattle.subtree_levels.specs.Steps.LevelMerging.{with_left}
 use Rattle.subtree_levels.proofs.OfLevels.InPlace.{with_left-at}
-use Rattle.subtree_levels.proofs.levels.prepend.Goals as goal
+use Rattle.subtree_levels.proofs.in_place.prepend.Goals as goal
 
 pub returns-clause-extended : goal.returns-clause-extended
 returns-clause-extended g c =

@@ -3,8 +3,8 @@ use Rattle.std.specs.Prelude.{Option, IfSome, IfNone}
 use Rattle.std.proofs.lemmas.List.{append-nil}
 use Rattle.xet_roots.specs.Groups.{Node}
 use Rattle.xet_roots.specs.Roots.{IsRoot}
-use Rattle.chunk_ranges.proofs.chunk_range.root_of_open.Goals as goal
-use Rattle.chunk_ranges.proofs.chunk_range.root_of_open.Goals.{in-Some+in_ok-join, in_default}
+use Rattle.chunk_ranges.proofs.open_range.root_of_open.Goals as goal
+use Rattle.chunk_ranges.proofs.open_range.root_of_open.Goals.{in-Some+in_ok-join, in_default}
 
 pub returns-clause-none : goal.returns-clause-none
 returns-clause-none g c =

@@ -2,7 +2,7 @@ use Rattle.std.proofs.Common.{◌≡◌, ◌+◌, ◌<◌, ◌++◌, length, set
 use Rattle.subtree_levels.specs.Levels.{Level}
 use Rattle.subtree_levels.specs.Steps.LevelMerging.{with_inner}
 use Rattle.subtree_levels.proofs.OfLevels.InPlace.{with_inner-top, with_inner-below}
-use Rattle.subtree_levels.proofs.levels.extend_inner.Goals as goal
+use Rattle.subtree_levels.proofs.in_place.extend_inner.Goals as goal
 
 pub returns-in_ok-extend-clause-extended : goal.returns-in_ok-extend-clause-extended
 returns-in_ok-extend-clause-extended g c =
