@@ -1,4 +1,4 @@
-// The chaining value of a chunk, block by block (BLAKE3 specification, 2.4).
+//! The chaining value of a chunk, block by block (BLAKE3 specification, 2.4).
 
 ghost use Rattle.std.specs.Prelude.{◌≡◌, ◌+◌, ◌*◌, ◌≤◌, drop, length};
 ghost use Rattle.std.specs.Int.{from_le_bytes, w32};
@@ -20,7 +20,7 @@ pub(crate) const CHUNK_END: u32 = 2;
 
 pub(crate) const KEYED_HASH: u32 = 16;
 
-// The little-endian word at place `at` of some bytes.
+// Returns the little-endian word at place `at` of some bytes.
 #[inline(always)]
 pub(crate) fn word_at(bytes: &[u8], at: usize) -> u32
     requires { at + 4 ≤ length bytes.now }
@@ -29,7 +29,7 @@ pub(crate) fn word_at(bytes: &[u8], at: usize) -> u32
     u32::from_le_bytes([bytes[at], bytes[at + 1], bytes[at + 2], bytes[at + 3]])
 }
 
-// The first `N` words of some bytes.
+// Returns the first `N` words of some bytes.
 #[inline(always)]
 pub(crate) fn words<const N: usize>(bytes: &[u8]) -> [u32; N]
     requires { 4 * N ≤ length bytes.now }
@@ -42,7 +42,7 @@ pub(crate) fn words<const N: usize>(bytes: &[u8]) -> [u32; N]
     words
 }
 
-// The compression of a block of 64 bytes.
+// Returns the compression of a block of 64 bytes.
 pub(crate) fn compress_block(
     h: &[u32; 8],
     block: &[u8],
@@ -56,7 +56,7 @@ pub(crate) fn compress_block(
     compress(h, &words(block), counter, block_len, flags)
 }
 
-// CHUNK_START at a chunk's first block.
+// Returns CHUNK_START for a chunk's first block, and else 0.
 #[inline(always)]
 pub(crate) fn start_flag(place: u64) -> u32
     ensures { result ≡ start_flag place }
@@ -64,7 +64,7 @@ pub(crate) fn start_flag(place: u64) -> u32
     if place == 0 { CHUNK_START } else { 0 }
 }
 
-// The chaining value of a chunk from that before its last block: block number `place`, of which `rest` are the
+// Returns the chaining value of a chunk from that before its last block: block number `place`, of which `rest` are the
 // bytes (2.4).
 pub(crate) fn last_value(
     h: &[u32; 8],
@@ -87,7 +87,7 @@ pub(crate) fn last_value(
     compress_block(h, &block, counter, rest.len() as u32, flags)
 }
 
-// The chaining value of a chunk of at most 1024 bytes (2.4).
+// Returns the chaining value of a chunk of at most 1024 bytes (2.4).
 pub(crate) fn chunk_value(key: &[u32; 8], chunk: &[u8], counter: u64, flags: u32) -> [u32; 8]
     requires chunk { length chunk.now ≤ 1024 }
     requires flags { flags ≤ 8 }

@@ -1,4 +1,4 @@
-// The chaining values of whole chunks, side by side (BLAKE3 specification, 2.4): lane j belongs to chunk j.
+//! The chaining values of whole chunks, side by side (BLAKE3 specification, 2.4): lane j belongs to chunk j.
 
 ghost use Rattle.std.specs.Prelude.{◌≡◌, ℕ, ◌+◌, ◌*◌, ◌^◌, ◌<◌, ◌≤◌, [], drop, get_or, length};
 ghost use Rattle.keyed_blake3.specs.Blake3.{block, chunk_value, compress, words_at};
@@ -14,7 +14,7 @@ const ROW_LEN: usize = 4 * LANES;
 
 const ROWS_PER_BLOCK: usize = 16 / LANES;
 
-// The first `LANES` words of some bytes.
+// Returns the first `LANES` words of some bytes.
 #[inline(always)]
 fn row(bytes: &[u8]) -> Lanes
     requires { 4 * LANES ≤ length bytes.now }
@@ -23,7 +23,7 @@ fn row(bytes: &[u8]) -> Lanes
     Lanes::from_le_bytes(Simd::<u8, ROW_LEN>::from_slice(bytes))
 }
 
-// `LANES` words of each chunk from place `at` on, and of the last chunk again in the rows that are left over.
+// Returns `LANES` words of each chunk from place `at` on, and of the last chunk again in the rows that are left over.
 #[inline(always)]
 fn row_of_each(chunks: &[u8], at: usize) -> [Lanes; LANES]
     requires chunks { 1024 ≤ length chunks.now }
@@ -52,7 +52,7 @@ fn put_columns(words: &mut [Lanes; 16], at: usize, columns: &[Lanes; LANES])
     }
 }
 
-// The words of block number `n` of each chunk.
+// Returns the words of block number `n` of each chunk.
 #[inline(always)]
 fn block_of_each(chunks: &[u8], n: usize) -> [Lanes; 16]
     requires chunks { 1024 ≤ length chunks.now }
@@ -68,8 +68,8 @@ fn block_of_each(chunks: &[u8], n: usize) -> [Lanes; 16]
     words
 }
 
-// The chaining values `h` with block number `n` of each chunk taken in. It holds the whole compression of a block, so
-// that the message words stay in its own frame.
+// Returns the chaining values `h` with block number `n` of each chunk taken in. It holds the whole compression of a
+// block, so that the message words stay in its own frame.
 fn after_block(h: &[Lanes; 8], chunks: &[u8], n: usize, first: u64, flags: u32) -> [Lanes; 8]
     requires full { AreFull h.now }
     requires chunks { 1024 ≤ length chunks.now }
@@ -83,7 +83,7 @@ fn after_block(h: &[Lanes; 8], chunks: &[u8], n: usize, first: u64, flags: u32) 
     compress_each::<0>(h, &block_of_each(chunks, n), counters(first), flags)
 }
 
-// The key's words, the same for each lane.
+// Returns the key's words, the same for each lane.
 pub(crate) fn key_of_each(key: &[u32; 8]) -> [Lanes; 8]
     ensures full { AreFull result }
     ensures lanes { (j : ℕ) → j < LANES → lane j result ≡ key.now }
@@ -100,7 +100,7 @@ pub(crate) fn key_of_each(key: &[u32; 8]) -> [Lanes; 8]
     ]
 }
 
-// The chaining values of one to `LANES` chunks, of which the first has number `first`.
+// Returns the chaining values of one to `LANES` chunks, of which the first has number `first`.
 pub(crate) fn chunk_values(key: &[u32; 8], chunks: &[u8], first: u64) -> [Lanes; 8]
     requires counter { first + LANES ≤ 2 ^ 64 }
     requires chunks { 1024 ≤ length chunks.now }

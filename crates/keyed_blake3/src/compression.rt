@@ -1,4 +1,4 @@
-// The compression function (BLAKE3 specification, 2.2), on vectors of four words.
+//! The compression function (BLAKE3 specification, 2.2), on vectors of four words.
 
 ghost use Rattle.std.specs.Prelude.{◌≡◌, ◌<◌, ◌≤◌, map};
 ghost use Rattle.std.specs.Int.{rotate_right, w32};
@@ -17,7 +17,7 @@ use std::simd::prelude::*;
 // The initialization vector's first four words (table 1).
 const INITIALIZATION_VECTOR: [u32; 4] = [0x6A09E667, 0xBB67AE85, 0x3C6EF372, 0xA54FF53A];
 
-// Each lane rotated to the right.
+// Rotates each lane to the right.
 #[inline(always)]
 fn rotated<const N: usize>(x: Simd<u32, N>, n: u32) -> Simd<u32, N>
     requires low { 1 ≤ n }
@@ -27,7 +27,7 @@ fn rotated<const N: usize>(x: Simd<u32, N>, n: u32) -> Simd<u32, N>
     (x >> Simd::splat(n)) | (x << Simd::splat(32 - n))
 }
 
-// Half of G on each column: a message word for each, and two rotations.
+// Does half of G on each column: a message word for each, and two rotations.
 #[inline(always)]
 fn half_columns(v: Rows, x: u32x4, r: u32, s: u32) -> Rows
     requires r_low { 1 ≤ r }
@@ -43,8 +43,8 @@ fn half_columns(v: Rows, x: u32x4, r: u32, s: u32) -> Rows
     Rows { a, b, c, d }
 }
 
-// One round: G on the columns, then on the diagonals, which are turned to stand as columns. Row b stays
-// in place: a half step makes it last and the next one needs it first, so a turn of it would be waited for.
+// Does one round: G on the columns, then on the diagonals, which are turned to stand as columns. Row b stays in place:
+// a half step makes it last and the next one needs it first, so a turn of it would be waited for.
 #[inline(always)]
 fn round(v: Rows, m: Quads) -> Rows
     ensures { state_of result ≡ round (state_of v) (words_of m) }
@@ -67,7 +67,7 @@ fn round(v: Rows, m: Quads) -> Rows
     }
 }
 
-// The message words of the next round.
+// Returns the message words of the next round.
 #[inline(always)]
 fn permuted(m: Quads) -> Quads
     ensures { words_of result ≡ permuted (words_of m) }
@@ -82,7 +82,7 @@ fn permuted(m: Quads) -> Quads
     }
 }
 
-// The quads of a message block.
+// Returns the quads of a message block.
 #[inline(always)]
 fn quads_of(m: &[u32; 16]) -> Quads
     ensures { words_of result ≡ m.now }
@@ -99,7 +99,7 @@ fn quads_of(m: &[u32; 16]) -> Quads
     }
 }
 
-// The state at first.
+// Returns the state before the first round.
 #[inline(always)]
 fn first_state(h: &[u32; 8], counter: u64, block_len: u32, flags: u32) -> Rows
     ensures { state_of result ≡ first_state h.now counter block_len flags }
@@ -114,7 +114,7 @@ fn first_state(h: &[u32; 8], counter: u64, block_len: u32, flags: u32) -> Rows
     }
 }
 
-// The first eight words of the output.
+// Returns the first eight words of the output.
 #[inline(always)]
 fn folded(v: Rows) -> [u32; 8]
     ensures { result ≡ folded (state_of v) }
@@ -124,8 +124,8 @@ fn folded(v: Rows) -> [u32; 8]
     [x[0], x[1], x[2], x[3], y[0], y[1], y[2], y[3]]
 }
 
-// The compression of a message block, from the chaining value `h`. The rounds are written out: a loop
-// over them is slower.
+// Returns the compression of a message block, from the chaining value `h`. The rounds are written out: a loop over them
+// is slower.
 pub(crate) fn compress(
     h: &[u32; 8],
     m: &[u32; 16],

@@ -1,4 +1,4 @@
-// The chaining values of subtrees of one size, side by side (BLAKE3 specification, 2.5): lane j belongs to subtree j.
+//! The chaining values of subtrees of one size, side by side (BLAKE3 specification, 2.5): lane j belongs to subtree j.
 
 ghost use Rattle.std.specs.Prelude.{◌≡◌, ℕ, ◌+◌, ◌*◌, ◌/◌, ◌^◌, ◌<◌, ◌≤◌, ◌++◌, List, drop, length, take};
 ghost use Rattle.keyed_blake3.specs.Blake3.{parent_value};
@@ -13,7 +13,7 @@ use std::simd::prelude::*;
 // The domain flag (table 3) of a parent.
 pub(crate) const PARENT: u32 = 4;
 
-// The messages of parents: the values of two neighbours each.
+// Returns the messages of parents: the values of two neighbours each.
 #[inline(always)]
 fn pair_of_each(left: &[Lanes; 8], right: &[Lanes; 8]) -> [Lanes; 16]
     requires left { AreFull left.now }
@@ -34,7 +34,7 @@ fn pair_of_each(left: &[Lanes; 8], right: &[Lanes; 8]) -> [Lanes; 16]
     ]
 }
 
-// The values of the parents of `2 * LANES` subtrees, of which `left` has the first half.
+// Returns the values of the parents of `2 * LANES` subtrees, of which `left` has the first half.
 fn parent_values(key: &[u32; 8], left: &[Lanes; 8], right: &[Lanes; 8]) -> [Lanes; 8]
     requires left { AreFull left.now }
     requires right { AreFull right.now }
@@ -52,8 +52,8 @@ fn parent_values(key: &[u32; 8], left: &[Lanes; 8], right: &[Lanes; 8]) -> [Lane
     )
 }
 
-// The values of up to `LANES` subtrees of one size, of which the first begins with chunk number `first`. If there are fewer
-// than `LANES`, each is a chunk.
+// Returns the values of up to `LANES` subtrees of one size, of which the first begins with chunk number `first`. If
+// there are fewer than `LANES`, each is a chunk.
 pub(crate) fn subtree_values(key: &[u32; 8], chunks: &[u8], first: u64) -> [Lanes; 8]
     requires counter { first + length chunks.now / 1024 + LANES ≤ 2 ^ 64 }
     requires chunks { 1024 ≤ length chunks.now }

@@ -1,5 +1,5 @@
-// Square tables of words, turned: rows become columns. The type of a table chooses the steps, since each number of lanes has
-// its own.
+//! Square tables of words, turned: rows become columns. The type of a table chooses the steps, since each number of lanes
+//! has its own.
 
 ghost use Rattle.std.specs.Prelude.{◌≡◌, length, map};
 ghost use Rattle.std.specs.List.{All, range_with_len};
@@ -8,7 +8,7 @@ ghost use Rattle.keyed_blake3.specs.Steps.Lanes.{lane};
 use std::simd::prelude::*;
 
 pub(crate) trait Transposed {
-    // Lane j of what it gives is row j.
+    // Returns the table turned: lane j of the result is row j of the table.
     fn transposed(&self) -> Self;
 }
 

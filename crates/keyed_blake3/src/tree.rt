@@ -1,4 +1,4 @@
-// The tree of chaining values above the chunks, as it grows (BLAKE3 specification, 2.5 and 5.1.2).
+//! The tree of chaining values above the chunks, as it grows (BLAKE3 specification, 2.5 and 5.1.2).
 
 ghost use Rattle.std.specs.Prelude.{◌≡◌, ◌==◌, ℕ, ◌+◌, ◌*◌, ◌/◌, ◌%◌, ◌^◌, ◌≤◌, ◌<◌, if◌then◌else◌, IsFalse, IsTrue, List, drop, length, take};
 ghost use Rattle.std.specs.Int.{to_le_bytes, w32};
@@ -23,7 +23,7 @@ const CHUNKS_SIDE_BY_SIDE: usize = 3;
 // The domain flag (table 3) of the root.
 pub(crate) const ROOT: u32 = 8;
 
-// ROOT where no chaining value waits.
+// Returns ROOT if no chaining value waits, and else 0.
 #[inline(always)]
 pub(crate) fn root_flag(waiting: usize) -> u32
     ensures { result ≡ (if waiting == 0 then root_flag else 0) }
@@ -31,7 +31,7 @@ pub(crate) fn root_flag(waiting: usize) -> u32
     if waiting == 0 { ROOT } else { 0 }
 }
 
-// The chaining value of two subtrees' parent (2.5).
+// Returns the chaining value of two subtrees' parent (2.5).
 pub(crate) fn parent_value(
     key: &[u32; 8],
     left: &[u32; 8],
@@ -48,7 +48,7 @@ pub(crate) fn parent_value(
     compress(key, &message, 0, BLOCK_LEN as u32, flags)
 }
 
-// The bytes of eight words, little-endian.
+// Returns the bytes of eight words, little-endian.
 pub(crate) fn output(value: &[u32; 8]) -> [u8; 32]
     ensures { result ≡ flat_map (to_le_bytes w32) value.now }
 {
@@ -59,8 +59,8 @@ pub(crate) fn output(value: &[u32; 8]) -> [u8; 32]
     bytes
 }
 
-// Whether a value is joined with the last of the `used` values that wait: `rest`, the number of subtrees of its size before
-// it, is odd, and more than `kept` values wait.
+// Returns whether a value is joined with the last of the `used` values that wait: `rest`, the number of subtrees of its
+// size before it, is odd, and more than `kept` values wait.
 fn is_joined(rest: u64, used: usize, kept: usize) -> bool
     ensures joined { IsTrue result → (rest % 2 ≡ 1) × (kept < used) }
     ensures put { IsFalse result → rest % 2 ≡ 1 → used ≤ kept }
@@ -97,8 +97,8 @@ fn add_subtree_value(
     cv_stack[used] = value;
 }
 
-// The number of chunks in each of `LANES` subtrees side by side, the first of which begins with chunk number `first`: the
-// largest power of two that divides `first` and for which `chunks` chunks suffice.
+// Returns the number of chunks in each of `LANES` subtrees side by side, the first of which begins with chunk number
+// `first`: the largest power of two that divides `first` and for which `chunks` chunks suffice.
 fn subtree_len(first: u64, chunks: usize) -> usize
     requires { chunks < 2 ^ 54 }
     ensures { (k : ℕ) × (result ≡ 2 ^ k) × (first % result ≡ 0) × (0 < k → LANES * result ≤ chunks) }
@@ -251,7 +251,7 @@ impl Tree {
         chunks.len() / BLOCK_LEN
     }
 
-    // The value `value` of what follows the first `used` values that wait, joined with them: the root's.
+    // Returns the value `value` of what follows the first `used` values that wait, joined with them: the root's.
     pub(crate) fn joined(&self, used: usize, value: [u32; 8]) -> [u32; 8]
         requires { used ≤ 54 }
         ensures { (x : ℕ → List ℕ) → value ≡ x (if used == 0 then root_flag else 0)

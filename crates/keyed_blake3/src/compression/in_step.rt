@@ -1,4 +1,4 @@
-// The round of `LANES` compressions side by side. Each step works on a whole row, so that the four columns go in step.
+//! The round of `LANES` compressions side by side. Each step works on a whole row, so that the four columns go in step.
 
 ghost use Rattle.std.specs.Prelude.{◌≡◌, ◌<◌, ◌≤◌, ℕ, ◌∷◌, [], bit_xor, map, slice_index};
 ghost use Rattle.std.specs.Int.{rotate_right, w32};
@@ -46,7 +46,7 @@ pub(crate) fn xor(x: Row, y: Row) -> Row
     }
 }
 
-// Each word rotated to the right.
+// Rotates each word to the right.
 #[inline(always)]
 fn rotated_row(x: Row, n: u32) -> Row
     requires low { 1 ≤ n }
@@ -85,7 +85,7 @@ pub(crate) fn word_row(x: ByteRow) -> Row
     }
 }
 
-// Each word of `x` xored with one of `y`, and rotated to the right.
+// Xors each word of `x` with one of `y`, and rotates it to the right.
 #[inline(always)]
 fn rotated_xor_row(x: ByteRow, y: Row, n: u32) -> ByteRow
     requires low { 1 ≤ n }
@@ -101,7 +101,7 @@ fn rotated_xor_row(x: ByteRow, y: Row, n: u32) -> ByteRow
     }
 }
 
-// Half of G on each column: a message word for each, and two rotations.
+// Does half of G on each column: a message word for each, and two rotations.
 #[inline(always)]
 fn half_columns(v: LaneRows, x: Row, r: u32, s: u32) -> LaneRows
     requires r_low { 1 ≤ r }
@@ -117,7 +117,7 @@ fn half_columns(v: LaneRows, x: Row, r: u32, s: u32) -> LaneRows
     LaneRows { a, b, c, d }
 }
 
-// One round of each state: G on the columns, then on the diagonals, which are turned to stand as columns.
+// Does one round of each state: G on the columns, then on the diagonals, which are turned to stand as columns.
 #[inline(always)]
 pub(crate) fn round(v: LaneRows, m: &[Lanes; 16]) -> LaneRows
     ensures { (j : ℕ) → j < LANES → state_at j result ≡ round (state_at j v) (lane j m.now) }

@@ -1,5 +1,5 @@
-// Words of `LANES` blocks as bytes, and their rotations by whole bytes. The type of a vector chooses the steps, since each
-// number of lanes has its own.
+//! Words of `LANES` blocks as bytes, and their rotations by whole bytes. The type of a vector chooses the steps, since
+//! each number of lanes has its own.
 
 ghost use Rattle.std.specs.Prelude.{◌≡◌, ◌<◌, ◌≤◌, bit_xor, map};
 ghost use Rattle.std.specs.Int.{rotate_right, w32};
@@ -17,10 +17,10 @@ const ROW_LEN: usize = 4 * LANES;
 pub(crate) type LaneBytes = Simd<u8, ROW_LEN>;
 
 trait ByteRotations {
-    // Each word rotated to the right by 16.
+    // Rotates each word to the right by 16.
     fn rotated_by_16(self) -> Self;
 
-    // Each word rotated to the right by 8.
+    // Rotates each word to the right by 8.
     fn rotated_by_8(self) -> Self;
 }
 
@@ -84,7 +84,7 @@ fn xor_bytes(x: LaneBytes, y: LaneBytes) -> LaneBytes
     x ^ y
 }
 
-// Each word rotated to the right.
+// Rotates each word to the right.
 #[inline(always)]
 fn rotated_bytes(x: LaneBytes, n: u32) -> LaneBytes
     requires low { 1 ≤ n }
@@ -98,7 +98,7 @@ fn rotated_bytes(x: LaneBytes, n: u32) -> LaneBytes
     }
 }
 
-// Each word of `x` xored with one of `y`, and rotated to the right.
+// Xors each word of `x` with one of `y`, and rotates it to the right.
 #[inline(always)]
 pub(crate) fn rotated_xor(x: LaneBytes, y: Lanes, n: u32) -> LaneBytes
     requires low { 1 ≤ n }

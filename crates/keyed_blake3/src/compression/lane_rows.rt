@@ -1,4 +1,4 @@
-// The states of `LANES` compressions, as rows of vectors.
+//! The states of `LANES` compressions, as rows of vectors.
 
 ghost use Rattle.std.specs.Prelude.{◌≡◌, length};
 ghost use Rattle.keyed_blake3.specs.declared.compression.lanes.TheConstants.{LANES};

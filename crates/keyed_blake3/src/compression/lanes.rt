@@ -1,5 +1,5 @@
-// The compression function (BLAKE3 specification, 2.2) on `LANES` blocks side by side: lane j of each vector belongs to
-// block j.
+//! The compression function (BLAKE3 specification, 2.2) on `LANES` blocks side by side: lane j of each vector belongs to
+//! block j.
 
 ghost use Rattle.std.specs.Prelude.{◌≡◌, ℕ, ◌+◌, ◌/◌, ◌%◌, ◌^◌, ◌<◌, ◌≤◌, length, slice_index};
 ghost use Rattle.keyed_blake3.specs.Blake3.{compress, first_state, folded, permuted};
@@ -18,7 +18,7 @@ pub(crate) const LANES: usize = 4;
 // One word of each block.
 pub(crate) type Lanes = Simd<u32, LANES>;
 
-// The message words of the next round.
+// Returns the message words of the next round.
 #[inline(always)]
 fn permuted(m: &[Lanes; 16]) -> [Lanes; 16]
     ensures { (j : ℕ) → lane j result ≡ permuted (lane j m.now) }
@@ -29,7 +29,7 @@ fn permuted(m: &[Lanes; 16]) -> [Lanes; 16]
     ]
 }
 
-// The halves of numbers that follow on `first`, one for each lane.
+// Returns the halves of numbers that follow on `first`, one for each lane.
 #[inline(always)]
 pub(crate) fn counters(first: u64) -> (Lanes, Lanes)
     requires { first + LANES ≤ 2 ^ 64 }
@@ -47,7 +47,7 @@ pub(crate) fn counters(first: u64) -> (Lanes, Lanes)
     (Simd::from_array(low), Simd::from_array(high))
 }
 
-// The states at first.
+// Returns the states before the first round.
 #[inline(always)]
 fn first_state(h: &[Lanes; 8], counters: (Lanes, Lanes), block_len: u32, flags: u32) -> LaneRows
     requires counters { (length counters.0 ≡ LANES) × (length counters.1 ≡ LANES) }
@@ -70,7 +70,7 @@ fn first_state(h: &[Lanes; 8], counters: (Lanes, Lanes), block_len: u32, flags: 
     }
 }
 
-// The first eight words of each output.
+// Returns the first eight words of each output.
 #[inline(always)]
 fn folded(v: LaneRows) -> [Lanes; 8]
     ensures full { AreFull result }
@@ -81,8 +81,9 @@ fn folded(v: LaneRows) -> [Lanes; 8]
     [x.w0, x.w1, x.w2, x.w3, y.w0, y.w1, y.w2, y.w3]
 }
 
-// The compression of blocks of 64 bytes, from the chaining values `h`. `counters` has the halves of each one's counter.
-// Each caller has a copy of its own, by its number `CALLER`: LLVM inlines a function of this size at its only call alone.
+// Returns the compression of blocks of 64 bytes, from the chaining values `h`. `counters` has the halves of each one's
+// counter. Each caller has a copy of its own, by its number `CALLER`: LLVM inlines a function of this size at its only
+// call alone.
 #[inline(always)]
 pub(crate) fn compress_each<const CALLER: usize>(
     h: &[Lanes; 8],
@@ -114,7 +115,7 @@ pub(crate) fn compress_each<const CALLER: usize>(
     folded(v)
 }
 
-// Lane j of the chaining values.
+// Returns lane j of the chaining values.
 pub(crate) fn lane(h: &[Lanes; 8], j: usize) -> [u32; 8]
     requires lane { j < LANES }
     requires full { AreFull h.now }

@@ -1,4 +1,4 @@
-// The state of a compression and a message block, as vectors of four words.
+//! The state of a compression and a message block, as vectors of four words.
 
 ghost use Rattle.std.specs.Prelude.{◌≡◌, length};
 
