@@ -1,13 +1,13 @@
 //! The chaining values of subtrees of one size, side by side (BLAKE3 specification, 2.5): lane j belongs to subtree j.
 
-ghost use Rattle.std.specs.Prelude.{◌≡◌, ℕ, ◌+◌, ◌*◌, ◌/◌, ◌^◌, ◌<◌, ◌≤◌, ◌++◌, List, drop, length, take};
+ghost use Rattle.std.specs.Prelude.{◌≡◌, ℕ, ◌+◌, ◌*◌, ◌/◌, ◌^◌, ◌<◌, ◌≤◌, ◌++◌, List, drop, length, slice_index, take};
 ghost use Rattle.keyed_blake3.specs.Blake3.{parent_value};
 ghost use Rattle.keyed_blake3.specs.Steps.Lanes.{AreFull, beside, lane};
 ghost use Rattle.keyed_blake3.specs.Steps.Tree.{subtree_at};
 
 use crate::chunk::{CHUNK_LEN, KEYED_HASH};
 use crate::chunks::{chunk_values, key_of_each};
-use crate::compression::lanes::{LANES, Lanes, compress_each};
+use crate::compression::lanes::{LANES, Lanes, compress_each, each};
 use std::simd::prelude::*;
 
 // The domain flag (table 3) of a parent.
@@ -43,13 +43,95 @@ fn parent_values(key: &[u32; 8], left: &[Lanes; 8], right: &[Lanes; 8]) -> [Lane
     ensures lanes { (j : ℕ) → j < LANES → lane j result ≡ parent_value key.now
         (lane (2 * j) (beside left.now right.now)) (lane (2 * j + 1) (beside left.now right.now)) 0 }
 {
+    let flags = each(KEYED_HASH + PARENT);
     let zero = Simd::splat(0u32);
     compress_each::<1>(
         &key_of_each(key),
         &pair_of_each(left, right),
         (zero, zero),
-        KEYED_HASH + PARENT,
+        flags,
     )
+}
+
+// Returns the values of the parents of which lane j of `left` and lane j of `right` have the two subtrees.
+fn values_above(key: &[u32; 8], left: &[Lanes; 8], right: &[Lanes; 8]) -> [Lanes; 8]
+    requires left { AreFull left.now }
+    requires right { AreFull right.now }
+    ensures full { AreFull result }
+    ensures lanes { (j : ℕ) → j < LANES
+        → lane j result ≡ parent_value key.now (lane j left.now) (lane j right.now) 0 }
+{
+    let flags = each(KEYED_HASH + PARENT);
+    let zero = Simd::splat(0u32);
+    let message = [
+        left[0], left[1], left[2], left[3], left[4], left[5], left[6], left[7], right[0], right[1],
+        right[2], right[3], right[4], right[5], right[6], right[7],
+    ];
+    compress_each::<2>(&key_of_each(key), &message, (zero, zero), flags)
+}
+
+// Returns the places of chunks that follow each other, 0 to `last`. Lanes that are left over take the last one again.
+fn neighbours(last: usize) -> [usize; LANES]
+    ensures { (j : ℕ) → j < LANES → (slice_index result j ≤ last) × (j ≤ last → slice_index result j ≡ j) }
+{
+    let mut places = [0; LANES];
+    'places: for j in 0..LANES {
+        places[j] = j.min(last);
+    }
+    places
+}
+
+// Returns the places of the first chunks of subtrees that follow each other, of `len` chunks each.
+fn starts(len: usize) -> [usize; LANES]
+    requires { len < 2 ^ 54 }
+    ensures { (j : ℕ) → j < LANES → slice_index result j ≡ len * j }
+{
+    let mut places = [0; LANES];
+    let mut place = 0;
+    'places: for j in 0..LANES {
+        places[j] = place;
+        place += len;
+    }
+    places
+}
+
+// Returns the places that are `by` chunks further on.
+fn moved(places: &[usize; LANES], by: usize) -> [usize; LANES]
+    requires { (j : ℕ) → j < LANES → slice_index places.now j + by < 2 ^ 64 }
+    ensures { (j : ℕ) → j < LANES → slice_index result j ≡ slice_index places.now j + by }
+{
+    let mut next = [0; LANES];
+    'places: for j in 0..LANES {
+        next[j] = places[j] + by;
+    }
+    next
+}
+
+// Returns the values of subtrees of `size` chunks, of which that of lane j begins at place j. The first of `chunks` has
+// number `first`. Each lane reads the chunks of its own subtree one after another, since a processor reads ahead where it
+// sees a stream, and it sees none in chunks that share pages.
+fn values_apart(
+    key: &[u32; 8],
+    chunks: &[u8],
+    places: &[usize; LANES],
+    size: usize,
+    first: u64,
+) -> [Lanes; 8]
+    requires some { 0 < size }
+    requires counter { first + length chunks.now / 1024 < 2 ^ 64 }
+    requires places { (j : ℕ) → j < LANES → 1024 * (slice_index places.now j + size) ≤ length chunks.now }
+    ensures full { AreFull result }
+    ensures lanes { (k j : ℕ) (m : List ℕ) → size ≡ 2 ^ k → j < LANES
+        → chunks.now ≡ take (length chunks.now) (drop (1024 * first) m)
+        → lane j result ≡ subtree_at key.now k (first + slice_index places.now j) m }
+{
+    if size == 1 {
+        return chunk_values(key, chunks, places, first);
+    }
+    let half = size / 2;
+    let left = values_apart(key, chunks, places, half, first);
+    let right = values_apart(key, chunks, &moved(places, half), half, first);
+    values_above(key, &left, &right)
 }
 
 // Returns the values of up to `LANES` subtrees of one size, of which the first begins with chunk number `first`. If
@@ -63,10 +145,41 @@ pub(crate) fn subtree_values(key: &[u32; 8], chunks: &[u8], first: u64) -> [Lane
         → lane j result ≡ subtree_at key.now k (first + 2 ^ k * j) m }
 {
     if chunks.len() <= CHUNK_LEN * LANES {
-        return chunk_values(key, chunks, first);
+        let places = neighbours(chunks.len() / CHUNK_LEN - 1);
+        return chunk_values(key, chunks, &places, first);
     }
-    let half = chunks.len() / 2;
-    let left = subtree_values(key, &chunks[..half], first);
-    let right = subtree_values(key, &chunks[half..], first + (half / CHUNK_LEN) as u64);
-    parent_values(key, &left, &right)
+    let len = chunks.len() / (CHUNK_LEN * LANES);
+    values_apart(key, chunks, &starts(len), len, first)
+}
+
+// Joins neighbouring subtrees of one size side by side, level by level, while more than two are left and each has its
+// sibling among them. `values` has their values, `count` is how many they are, and `number` is that of the first. Returns
+// the number of the first subtree that is left, and how many are.
+pub(crate) fn join_in_pairs(
+    key: &[u32; 8],
+    number: u64,
+    count: usize,
+    values: &mut [Lanes; 8],
+) -> (u64, usize)
+    requires some { 1 < count }
+    requires count { count ≤ LANES }
+    requires full { AreFull values.old }
+    requires number { number + count < 2 ^ 54 }
+    ensures some { 1 < result.1 }
+    ensures count { result.1 ≤ count }
+    ensures number { result.0 + result.1 ≤ number + count }
+    ensures full { AreFull values.new }
+    ensures lanes { (k c : ℕ) (m : List ℕ) → c ≡ 2 ^ k * number → 1024 * (c + 2 ^ k * count) ≤ length m
+        → ((j : ℕ) → j < count → lane j values.old ≡ subtree_at key.now k (c + 2 ^ k * j) m)
+        → (level : ℕ) × (c ≡ 2 ^ level * result.0) × (2 ^ k * count ≡ 2 ^ level * result.1)
+        × ((j : ℕ) → j < result.1 → lane j values.new ≡ subtree_at key.now level (c + 2 ^ level * j) m) }
+{
+    let mut number = number;
+    let mut count = count;
+    'levels: while count > 2 && count % 2 == 0 && number % 2 == 0 {
+        *values = parent_values(key, values, values);
+        number /= 2;
+        count /= 2;
+    }
+    (number, count)
 }

@@ -12,7 +12,7 @@ use crate::chunk::{
 };
 use crate::compression::compress;
 use crate::compression::lanes::{LANES, Lanes, lane};
-use crate::subtrees::{PARENT, subtree_values};
+use crate::subtrees::{PARENT, join_in_pairs, subtree_values};
 
 // The most chaining values that may wait: a message has at most 2^54 chunks.
 pub(crate) const MAX_DEPTH: usize = 54;
@@ -184,8 +184,8 @@ impl Tree {
             → chunks.now ≡ take (1024 * (len * count)) (drop (1024 * first) m)
             → IsEnded key self.new (first + len * count) m }
     {
-        let values = subtree_values(&self.key, chunks, first);
-        let number = first / len as u64;
+        let mut values = subtree_values(&self.key, chunks, first);
+        let (number, count) = join_in_pairs(&self.key, first / len as u64, count, &mut values);
         let last = count - 1;
         self.add_values(number, last, &values);
         let value = lane(&values, last);

@@ -132,3 +132,51 @@ batch_fits (suc k) len count whole e few fits room =
 pub batch_full : (k len whole : ℕ) → len ≡ 2 ^ k → (0 < k → LANES * len ≤ whole) → 1 < len → LANES ≤ whole
 batch_full zero len whole e room several = absurd (omega (arith, e))
 batch_full (suc k) len whole e room several = omega (arith, room (omega arith))
+
+-- ---- subtrees apart
+
+pub one_of_power : (k : ℕ) → 1 ≡ 2 ^ k → k ≡ 0
+one_of_power zero e = refl
+one_of_power (suc k) e = absurd (omega (arith, pow-succ' 2 k, e))
+
+-- a chunk of some bytes of a message
+pub chunk_at_within : (m : List ℕ) (c size j : ℕ) → 1024 * j + 1024 ≤ size → chunk_at j (take size (drop (1024 * c) m)) ≡ chunk_at (c + j) m
+chunk_at_within m c size j h =
+    let rest : List ℕ = drop (1024 * c) m in
+    let after : ℕ = size - 1024 * j in
+    let whole : 1024 * j + after ≡ size = omega arith in
+    let place : 1024 * c + 1024 * j ≡ 1024 * (c + j) = omega arith in
+    ap (take 1024) (rw whole at (drop-take (1024 * j) after rest)) ∙ take-take 1024 after (drop (1024 * j) rest) (omega arith)
+    ∙ ap (take 1024) (drop-drop (1024 * j) (1024 * c) m ∙ ap (λ (k : ℕ). drop k m) place)
+
+-- a value of a chunk is that of a subtree
+pub chunk_apart : (key : List ℕ) (first p k : ℕ) (m bytes value : List ℕ) → 1 ≡ 2 ^ k → 1024 * (p + 1) ≤ length bytes
+    → bytes ≡ take (length bytes) (drop (1024 * first) m) → value ≡ chunk_value key (first + p) (chunk_at p bytes) 0
+    → value ≡ subtree_at key k (first + p) m
+chunk_apart key first p k m bytes value one long is e =
+    let chunk : chunk_at p bytes ≡ chunk_at (first + p) m = ap (chunk_at p) is ∙ chunk_at_within m first (length bytes) p (omega (arith, long)) in
+    e ∙ ap (λ (x : List ℕ). chunk_value key (first + p) x 0) chunk ∙ sym (subtree_at-chunk key (first + p) m)
+    ∙ ap (λ (i : ℕ). subtree_at key i (first + p) m) (sym (one_of_power k one))
+
+-- the parent of the values of both halves of a subtree
+pub halves_apart : (key : List ℕ) (c k size half : ℕ) (m left right : List ℕ) → size ≡ 2 ^ k → 1 < size → half ≡ size / 2 → 1024 * (c + size) ≤ length m
+    → ((i : ℕ) → half ≡ 2 ^ i → left ≡ subtree_at key i c m) → ((i : ℕ) → half ≡ 2 ^ i → right ≡ subtree_at key i (c + half) m)
+    → parent_value key left right 0 ≡ subtree_at key k c m
+halves_apart key c zero size half m left right e several eh long l r = absurd (omega (arith, e, several))
+halves_apart key c (suc k) size half m left right e several eh long l r =
+    let part : half ≡ 2 ^ k = omega (arith, pow-succ' 2 k, e, eh) in
+    let upper : subtree_at key k (c + 2 ^ k) m ≡ right = ap (λ (n : ℕ). subtree_at key k (c + n) m) (sym part) ∙ sym (r k part) in
+    sym (subtree_at-join key k c m (omega (arith, e, long))
+    ∙ ap (λ (x : List ℕ). parent_value key x (subtree_at key k (c + 2 ^ k) m) 0) (sym (l k part))
+    ∙ ap (λ (x : List ℕ). parent_value key left x 0) upper)
+
+-- the end of a subtree in some bytes of a message
+pub end_within : (first n : ℕ) (m bytes : List ℕ) → 1024 * n ≤ length bytes → bytes ≡ take (length bytes) (drop (1024 * first) m)
+    → 0 < n → 1024 * (first + n) ≤ length m
+end_within first n m bytes long is some =
+    omega (arith, long, some, ap length is, length-take (length bytes) (drop (1024 * first) m), length-drop (1024 * first) m)
+
+-- all lanes are taken by many chunks
+pub lanes_full : (k n bytes : ℕ) → bytes ≡ 1024 * (2 ^ k * n) → 1024 * LANES < bytes → n ≤ LANES → (0 < k → n ≡ LANES) → n ≡ LANES
+lanes_full zero n bytes e long few all = absurd (omega (arith, e, one-mul n))
+lanes_full (suc k) n bytes e long few all = all (omega arith)

@@ -1,7 +1,7 @@
 //! The compression function (BLAKE3 specification, 2.2) on `LANES` blocks side by side: lane j of each vector belongs to
 //! block j.
 
-ghost use Rattle.std.specs.Prelude.{◌≡◌, ℕ, ◌+◌, ◌/◌, ◌%◌, ◌^◌, ◌<◌, ◌≤◌, length, slice_index};
+ghost use Rattle.std.specs.Prelude.{◌≡◌, ℕ, ◌+◌, ◌/◌, ◌%◌, ◌^◌, ◌<◌, ◌≤◌, length, replicate, slice_index};
 ghost use Rattle.keyed_blake3.specs.Blake3.{compress, first_state, folded, permuted};
 ghost use Rattle.keyed_blake3.specs.Steps.LaneRows.{state_at};
 ghost use Rattle.keyed_blake3.specs.Steps.Lanes.{AreFull, lane};
@@ -29,31 +29,54 @@ fn permuted(m: &[Lanes; 16]) -> [Lanes; 16]
     ]
 }
 
-// Returns the halves of numbers that follow on `first`, one for each lane.
+// Returns the halves of the counter of each lane: the number of the chunk at its place, if the first chunk has number
+// `first`.
 #[inline(always)]
-pub(crate) fn counters(first: u64) -> (Lanes, Lanes)
-    requires { first + LANES ≤ 2 ^ 64 }
+pub(crate) fn counters(first: u64, places: &[usize; LANES]) -> (Lanes, Lanes)
+    requires { (j : ℕ) → j < LANES → first + slice_index places.now j < 2 ^ 64 }
     ensures full { (length result.0 ≡ LANES) × (length result.1 ≡ LANES) }
-    ensures lanes { (j : ℕ) → j < LANES → (slice_index result.0 j ≡ (first + j) % 2 ^ 32)
-        × (slice_index result.1 j ≡ (first + j) / 2 ^ 32) }
+    ensures lanes { (j : ℕ) → j < LANES → (slice_index result.0 j ≡ (first + slice_index places.now j) % 2 ^ 32)
+        × (slice_index result.1 j ≡ (first + slice_index places.now j) / 2 ^ 32) }
 {
     let mut low = [0u32; LANES];
     let mut high = [0u32; LANES];
     'counters: for j in 0..LANES {
-        let counter = first + j as u64;
+        let counter = first + places[j] as u64;
         low[j] = (counter % (1 << 32)) as u32;
         high[j] = (counter >> 32) as u32;
     }
     (Simd::from_array(low), Simd::from_array(high))
 }
 
+// Returns a word in each lane, by a call. LLVM aligns a frame to vectors of 32 bytes only if it passes on the address of
+// one. In a frame that isn't aligned, vectors that are kept on the stack cross cache lines, which is slower at half of the
+// places of the stack, and much slower at a few.
+#[inline(never)]
+fn each_by_call(x: u32) -> Lanes
+    ensures { result ≡ replicate LANES x }
+{
+    Simd::splat(x)
+}
+
+// Returns a word in each lane.
+#[inline(always)]
+pub(crate) fn each(x: u32) -> Lanes
+    ensures { result ≡ replicate LANES x }
+{
+    if LANES > 4 {
+        return each_by_call(x);
+    }
+    Simd::splat(x)
+}
+
 // Returns the states before the first round.
 #[inline(always)]
-fn first_state(h: &[Lanes; 8], counters: (Lanes, Lanes), block_len: u32, flags: u32) -> LaneRows
+fn first_state(h: &[Lanes; 8], counters: (Lanes, Lanes), block_len: u32, flags: Lanes) -> LaneRows
     requires counters { (length counters.0 ≡ LANES) × (length counters.1 ≡ LANES) }
     requires full { AreFull h.now }
-    ensures { (j n : ℕ) → j < LANES → slice_index counters.0 j ≡ n % 2 ^ 32 → slice_index counters.1 j ≡ n / 2 ^ 32
-        → state_at j result ≡ first_state (lane j h.now) n block_len flags }
+    requires flags { length flags ≡ LANES }
+    ensures { (j n f : ℕ) → j < LANES → slice_index counters.0 j ≡ n % 2 ^ 32 → slice_index counters.1 j ≡ n / 2 ^ 32
+        → slice_index flags j ≡ f → state_at j result ≡ first_state (lane j h.now) n block_len f }
 {
     let [iv0, iv1, iv2, iv3] = INITIALIZATION_VECTOR;
     let (low, high) = counters;
@@ -66,7 +89,7 @@ fn first_state(h: &[Lanes; 8], counters: (Lanes, Lanes), block_len: u32, flags: 
             Simd::splat(iv2),
             Simd::splat(iv3),
         ),
-        d: byte_row(row(low, high, Simd::splat(block_len), Simd::splat(flags))),
+        d: byte_row(row(low, high, Simd::splat(block_len), flags)),
     }
 }
 
@@ -89,14 +112,15 @@ pub(crate) fn compress_each<const CALLER: usize>(
     h: &[Lanes; 8],
     m: &[Lanes; 16],
     counters: (Lanes, Lanes),
-    flags: u32,
+    flags: Lanes,
 ) -> [Lanes; 8]
     requires counters { (length counters.0 ≡ LANES) × (length counters.1 ≡ LANES) }
     requires full { AreFull h.now }
+    requires flags { length flags ≡ LANES }
     ensures full { AreFull result }
-    ensures lanes { (j n : ℕ) → j < LANES → slice_index counters.0 j ≡ n % 2 ^ 32
-        → slice_index counters.1 j ≡ n / 2 ^ 32
-        → lane j result ≡ compress (lane j h.now) (lane j m.now) n 64 flags }
+    ensures lanes { (j n f : ℕ) → j < LANES → slice_index counters.0 j ≡ n % 2 ^ 32
+        → slice_index counters.1 j ≡ n / 2 ^ 32 → slice_index flags j ≡ f
+        → lane j result ≡ compress (lane j h.now) (lane j m.now) n 64 f }
 {
     let v = first_state(h, counters, 64, flags);
     let v = round(v, m);

@@ -21,26 +21,26 @@ rows-preserved c =
     ∙ ap (λ (rows : List (List ℕ)). get_or rows j []) (c.transposed-columns.ensures.lanes c.row_of_each.ensures.full) in
     record {
       size = c.type_inv.words;
-      words = λ k below j h long. elim (cases_lt k (LANES * i)) [
-        | inl before ↦ ap (λ (w : List ℕ). get_or w j 0) (c.put_columns.ensures.before k before) ∙ c.rows.invariant.words k before j h long
+      words = λ k below j h. let at_j : ℕ = get_or c.args.places.now j 0 in elim (cases_lt k (LANES * i)) [
+        | inl before ↦ ap (λ (w : List ℕ). get_or w j 0) (c.put_columns.ensures.before k before) ∙ c.rows.invariant.words k before j h
         | inr past ↦
             let at : ℕ = k - LANES * i in
             let place : k ≡ LANES * i + at = omega arith in
             let within : at < LANES = omega arith in
-            let bytes_at : 4 * at + (1024 * j + (64 * c.args.n + 4 * LANES * i)) ≡ 1024 * j + (64 * c.args.n + 4 * k) = omega arith in
+            let bytes_at : 4 * at + (1024 * at_j + (64 * c.args.n + 4 * LANES * i)) ≡ 1024 * at_j + (64 * c.args.n + 4 * k) = omega arith in
             ap (λ (w : List ℕ). get_or w j 0) (ap (λ (n : ℕ). get_or c.put_columns.new.words n []) place ∙ c.put_columns.ensures.columns at within)
-            ∙ lane_at j part at ∙ ap (λ (row : List ℕ). get_or row at 0) (rows j h ∙ c.row_of_each.ensures.rows j h long)
-            ∙ get_or-map-range_with_len (λ k. from_le_bytes w32 (drop (4 * k) (drop (1024 * j + (64 * c.args.n + 4 * LANES * i)) bytes))) 0 LANES at at 0 within (omega arith)
-            ∙ ap (from_le_bytes w32) (drop-drop (4 * at) (1024 * j + (64 * c.args.n + 4 * LANES * i)) bytes ∙ ap (λ (n : ℕ). drop n bytes) (omega arith))
+            ∙ lane_at j part at ∙ ap (λ (row : List ℕ). get_or row at 0) (rows j h ∙ c.row_of_each.ensures.rows j h)
+            ∙ get_or-map-range_with_len (λ k. from_le_bytes w32 (drop (4 * k) (drop (1024 * at_j + (64 * c.args.n + 4 * LANES * i)) bytes))) 0 LANES at at 0 within (omega arith)
+            ∙ ap (from_le_bytes w32) (drop-drop (4 * at) (1024 * at_j + (64 * c.args.n + 4 * LANES * i)) bytes ∙ ap (λ (n : ℕ). drop n bytes) (omega arith))
       ];
     }
 
 pub returns : goal.returns
 unfolding words_at
-returns c = λ j h long.
+returns c = λ j h.
     let bytes = c.args.chunks.now in
     let words = c.rows.words in
-    fill_by_all (λ (k : ℕ). from_le_bytes w32 (drop (4 * k) (block (chunk_at j bytes) c.args.n))) (lane j words) 16 0
+    fill_by_all (λ (k : ℕ). from_le_bytes w32 (drop (4 * k) (block (chunk_at (get_or c.args.places.now j 0) bytes) c.args.n))) (lane j words) 16 0
     (length-map _ _ ∙ c.rows.invariant.size)
-    (λ k fits. sym (lane_at j words k) ∙ c.rows.invariant.words k (omega arith) j h long
-    ∙ word_at_place bytes j c.args.n k long c.requires.block fits)
+    (λ k fits. sym (lane_at j words k) ∙ c.rows.invariant.words k (omega arith) j h
+    ∙ word_at_place bytes (get_or c.args.places.now j 0) c.args.n k (c.requires.places j h) c.requires.block fits)

@@ -1,4 +1,4 @@
-use Rattle.std.proofs.Common.{◌≡◌, ◌+◌, ◌-◌, ◌/◌, ℕ, List, ap, arith, sym, ◌∙◌}
+use Rattle.std.proofs.Common.{◌≡◌, ◌+◌, ◌-◌, ◌/◌, ℕ, List, ap, arith, get_or, sym, ◌∙◌}
 use Rattle.keyed_blake3.specs.Blake3.{after_blocks}
 use Rattle.keyed_blake3.specs.Steps.Lanes.{chunk_at}
 use Rattle.keyed_blake3.proofs.Blake3.Absorbing.{chunk_value-last}
@@ -7,22 +7,26 @@ use Rattle.keyed_blake3.proofs.chunks.chunk_values.Goals as goal
 
 pub chain-init : goal.chain-init
 unfolding after_blocks
-chain-init c = record { full = c.key_of_each-h.ensures.full; lanes = λ j h long. c.key_of_each-h.ensures.lanes j h }
+chain-init c = record { full = c.key_of_each-h.ensures.full; lanes = λ j h. c.key_of_each-h.ensures.lanes j h }
 
 pub chain-preserved : goal.chain-preserved
 chain-preserved c = record {
-  full = c.after_block-h.ensures.full;
-  lanes = λ j h long.
-      (rw c.start_flag-flags.ensures at (c.after_block-h.ensures.lanes j h long))
-      ∙ after_blocks_more c.args.key.now (c.args.first + j) (chunk_at j c.args.chunks.now) c.chain.n _ (c.chain.invariant.lanes j h long);
+  full = c.take_block.ensures.full;
+  lanes = λ j h.
+      let at : ℕ = get_or c.args.places.now j 0 in
+      let halves = c.counters-counters.ensures.lanes j h in
+      (rw c.start_flag-flags.ensures at (c.take_block.ensures.lanes j (c.args.first + at) h halves.0 halves.1))
+      ∙ after_blocks_more c.args.key.now (c.args.first + at) (chunk_at at c.args.chunks.now) c.chain.n _ (c.chain.invariant.lanes j h);
 }
 
 pub returns-clause-lanes : goal.returns-clause-lanes
-returns-clause-lanes c = λ j h long.
-    let i : ℕ = c.args.first + j in
-    let chunk : List ℕ = chunk_at j c.args.chunks.now in
-    let size = length-chunk_at j c.args.chunks.now long in
+returns-clause-lanes c = λ j h.
+    let at : ℕ = get_or c.args.places.now j 0 in
+    let halves = c.counters-counters.ensures.lanes j h in
+    let i : ℕ = c.args.first + at in
+    let chunk : List ℕ = chunk_at at c.args.chunks.now in
+    let size = length-chunk_at at c.args.chunks.now (c.requires.places j h) in
     let all : c.chain.n ≡ 15 = omega arith in
-    let before = c.chain.invariant.lanes j h long ∙ ap (after_blocks c.args.key.now i chunk) all in
-    (rw before at (c.after_block.ensures.lanes j h long))
+    let before = c.chain.invariant.lanes j h ∙ ap (after_blocks c.args.key.now i chunk) all in
+    (rw before at (c.take_block-2.ensures.lanes j i h halves.0 halves.1))
     ∙ sym (chunk_value-last c.args.key.now i chunk 0 15 64 (ap (λ (n : ℕ). (n - 1) / 64) size) (ap (λ (n : ℕ). n - 960) size))

@@ -7,4 +7,4 @@ pub returns-clause-lanes : goal.returns-clause-lanes
 unfolding parent_value
 returns-clause-lanes c = λ j h.
     let zero_at = get_or-replicate LANES j 0 0 h in
-    rw (c.key_of_each.ensures.lanes j h, c.pair_of_each.ensures j h) at (c.compress_each.ensures.lanes j 0 h zero_at zero_at)
+    rw (c.key_of_each.ensures.lanes j h, c.pair_of_each.ensures j h) at (c.compress_each.ensures.lanes j 0 20 h zero_at zero_at (rw c.each-flags.ensures (get_or-replicate LANES j 20 0 h)))

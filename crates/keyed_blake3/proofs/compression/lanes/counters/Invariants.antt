@@ -6,6 +6,6 @@ abbrev pub invariant-counters : goal.invariant-counters
 invariant-counters l = record {
   low_size : length l.low ≡ LANES;
   high_size : length l.high ≡ LANES;
-  low : (k : ℕ) → k < l.j → get_or l.low k 0 ≡ (l.first + k) % 2 ^ 32;
-  high : (k : ℕ) → k < l.j → get_or l.high k 0 ≡ (l.first + k) / 2 ^ 32;
+  low : (k : ℕ) → k < l.j → get_or l.low k 0 ≡ (l.first + get_or l.places k 0) % 2 ^ 32;
+  high : (k : ℕ) → k < l.j → get_or l.high k 0 ≡ (l.first + get_or l.places k 0) / 2 ^ 32;
 }

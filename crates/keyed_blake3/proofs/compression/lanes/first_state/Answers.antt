@@ -6,9 +6,9 @@ use Rattle.keyed_blake3.proofs.Blake3.InStep.{first_state_by_rows}
 use Rattle.keyed_blake3.proofs.compression.lanes.first_state.Goals as goal
 
 pub returns : goal.returns
-returns c = λ j n h low high.
+returns c = λ j n f h low high flags.
     let splat : (x : ℕ) → get_or (replicate LANES x) j 0 ≡ x = λ x. get_or-replicate LANES j x 0 h in
     first_state_by_rows j c.args.h.now (row_at j c.row.result) (row_at j c.row-2.result) (row_at j c.row-3.result) (byte_row_at j c.byte_row.result)
-    n c.args.block_len c.args.flags (c.row.ensures j) (c.row-2.ensures j)
+    n c.args.block_len f (c.row.ensures j) (c.row-2.ensures j)
     (c.row-3.ensures j ∙ rw (splat 0x6A09E667, splat 0xBB67AE85, splat 0x3C6EF372, splat 0xA54FF53A) refl)
-    (c.byte_row.ensures j ∙ c.row-4.ensures j ∙ rw (low, high, splat c.args.block_len, splat c.args.flags) refl)
+    (c.byte_row.ensures j ∙ c.row-4.ensures j ∙ rw (low, high, splat c.args.block_len, flags) refl)

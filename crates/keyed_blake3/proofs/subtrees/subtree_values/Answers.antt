@@ -1,0 +1,26 @@
+use Rattle.std.proofs.Common.{◌≡◌, ℕ, ◌+◌, ◌*◌, ◌/◌, ◌^◌, ◌<◌, arith, get_or, length, subst, sym, ap, ◌∙◌}
+use Rattle.std.proofs.Math.Nat.{one-mul}
+use Rattle.keyed_blake3.specs.Steps.Lanes.{lane}
+use Rattle.keyed_blake3.specs.Steps.Tree.{subtree_at}
+use Rattle.keyed_blake3.specs.declared.compression.lanes.TheConstants.{LANES}
+use Rattle.keyed_blake3.proofs.Blake3.Subtrees.{chunk_values_at, is_chunk, lanes_full}
+use Rattle.keyed_blake3.proofs.subtrees.subtree_values.Goals as goal
+
+pub returns-then-chunks-clause-lanes : goal.returns-then-chunks-clause-lanes
+returns-then-chunks-clause-lanes c = λ k n j m size few all is h.
+    let none : k ≡ 0 = is_chunk k n (length c.args.chunks.now) size c.if-chunks.true all in
+    let chunks : length c.args.chunks.now ≡ 1024 * (2 ^ 0 * n) = size ∙ ap (λ (i : ℕ). 1024 * (2 ^ i * n)) none in
+    let within : j < LANES = omega (arith, h, few) in
+    let same : get_or c.neighbours-places.result j 0 ≡ j = (c.neighbours-places.ensures j within).1 (omega (arith, chunks, one-mul n, h)) in
+    let value = rw same at (c.chunk_values.ensures.lanes j within) in
+    subst (λ (i : ℕ). lane j c.chunk_values.result ≡ subtree_at c.args.key.now i (c.args.first + 2 ^ i * j) m) (sym none)
+    (chunk_values_at c.args.key.now c.args.first n j m c.args.chunks.now (lane j c.chunk_values.result) chunks is h value)
+
+pub returns-clause-lanes : goal.returns-clause-lanes
+returns-clause-lanes c = λ k n j m size few all is h.
+    let full : n ≡ LANES = lanes_full k n (length c.args.chunks.now) size c.if-chunks.false few all in
+    let whole : length c.args.chunks.now ≡ 1024 * (2 ^ k * LANES) = size ∙ ap (λ (i : ℕ). 1024 * (2 ^ k * i)) full in
+    let len : length c.args.chunks.now / (1024 * LANES) ≡ 2 ^ k = omega (arith, whole) in
+    let within : j < LANES = omega (arith, h, few) in
+    c.values_apart.ensures.lanes k j m len within is
+    ∙ ap (λ (x : ℕ). subtree_at c.args.key.now k (c.args.first + x) m) (c.starts.ensures j within ∙ ap (λ (x : ℕ). x * j) len)
