@@ -35,7 +35,7 @@ fn hashes_of_at_most_one_pair_take_no_memory(rt: HostRuntime) -> Result<(), Fail
     let of_zero = "638a6bc391964a85939d48f008e8bdbae6a7975e7ca2d87a3ce2492f4e4d8a4c";
     let of_zero = DataHash::from_hex(of_zero)?;
     let salt = "f4aa7219b7bc6145df344b930c1cf63680037e13236f4b3b8f439aba1520d443";
-    let salt = *DataHash::from_hex(salt)?.as_bytes();
+    let salt = DataHash::from_hex(salt)?.as_bytes();
     let salted = "3e44e4a200e05a69afc979eb2e0507817e4f0ddff128a97e563c0e05fed3bd25";
     let salted = DataHash::from_hex(salted)?;
     let alloc = refusing(rt.alloc());
