@@ -368,6 +368,15 @@ test("a session tells how many chunks and bytes it has, and where its gaps are",
     assert.deepEqual(told(), [15n, 4408n + 1177n, 3]);
 });
 
+test("the size of a session is exact for great sizes, and for many", () => {
+    const hash = new y.Hash();
+    for (const sizes of [[MAX], [MAX - 2n ** 33n, 2n ** 33n], [2n ** 32n, 2n ** 32n - 1n, 1n], Array(2 ** 21 + 5).fill(2n ** 32n - 1n)]) {
+        const session = new y.Session();
+        session.put(3, sizes.map((size) => [hash, size]));
+        assert.equal(session.totalSize, sizes.reduce((sum, size) => sum + size));
+    }
+});
+
 test("a clone of a session is apart", () => {
     const session = new y.Session();
     session.put(0, list(20));

@@ -91,10 +91,18 @@ export function makeChunks({ Hash, rawOf }) {
     return { Chunks, packedOf };
 }
 
-/** The sum of the sizes of packed chunks. */
+/** The sum of the sizes of packed chunks, which is less than 2^64. It is made of Numbers, since adding BigInts takes several times
+ * as long. A Number is exact below 2^53. */
 export function sizeOf(packed) {
     const view = new DataView(packed.buffer, packed.byteOffset, packed.byteLength);
-    let sum = 0n;
-    for (let at = HASH_LENGTH; at < packed.length; at += CHUNK_LENGTH) sum += view.getBigUint64(at, true);
-    return sum;
+    let [low, high, sum] = [0, 0, 0n];
+    for (let at = HASH_LENGTH; at < packed.length; at += CHUNK_LENGTH) {
+        low += view.getUint32(at, true);
+        high += view.getUint32(at + 4, true);
+        if (low >= 2 ** 52) {
+            sum += BigInt(low);
+            low = 0;
+        }
+    }
+    return sum + BigInt(low) + (BigInt(high) << 32n);
 }
