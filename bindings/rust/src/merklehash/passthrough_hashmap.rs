@@ -53,6 +53,31 @@ impl<Key: U64HashExtractable, Value> PassThroughHashMap<Key, Value> {
     }
 }
 
+// A map that is made of pairs which come one by one. It has room for their keys, however many pairs are announced.
+//
+// Pairs often come in the iteration order of another map, which is that of their places in it. A map that is full and
+// smaller than the other would get many of them at the same places. So the map grows when it is half full.
+struct Growing<Key: U64HashExtractable, Value>(Inner<Key, Value>);
+
+impl<Key: U64HashExtractable + Eq + Hash, Value> Growing<Key, Value> {
+    fn new() -> Self {
+        Growing(Inner::default())
+    }
+
+    fn insert(&mut self, key: Key, value: Value) {
+        let (count, room) = (self.0.len(), self.0.capacity());
+        if count >= room / 2 {
+            self.0.reserve(room - count + 1);
+        }
+        self.0.insert(key, value);
+    }
+
+    fn finish(mut self) -> PassThroughHashMap<Key, Value> {
+        self.0.shrink_to_fit();
+        PassThroughHashMap(self.0)
+    }
+}
+
 impl<Key: U64HashExtractable, Value> Default for PassThroughHashMap<Key, Value> {
     /// Returns an empty map.
     fn default() -> Self {
@@ -90,10 +115,12 @@ impl<Key: U64HashExtractable, Value> From<PassThroughHashMap<Key, Value>>
     }
 }
 
-/// If keys are equal, the last value stays.
+/// If keys are equal, the last value stays. The map takes memory for the different keys, not for all pairs.
 impl<Key: U64HashExtractable + Eq + Hash, Value> FromIterator<(Key, Value)> for PassThroughHashMap<Key, Value> {
     fn from_iter<I: IntoIterator<Item = (Key, Value)>>(pairs: I) -> Self {
-        PassThroughHashMap(pairs.into_iter().collect())
+        let mut map = Growing::new();
+        pairs.into_iter().for_each(|(key, value)| map.insert(key, value));
+        map.finish()
     }
 }
 
