@@ -40,6 +40,9 @@ test("a bundle for Node reads the module from a file", async () => {
     const { load } = await import(pathToFileURL(join(folder, "node.mjs")));
     const y = await load(new URL("bindings/wasm/yurewha/yurewha.wasm", ROOT));
     assert.ok(y.xorbHash([]).equals(new y.Hash()));
+    await assert.rejects(load(), { code: "ENOENT" });
+    writeFileSync(join(folder, "yurewha.wasm"), BYTES.wasm32);
+    assert.equal((await load()).dataHash(new Uint8Array()).hex(), y.dataHash(new Uint8Array()).hex());
 });
 
 test("an error has its name in a minified bundle too", async () => {

@@ -53,21 +53,32 @@ impl<Key: U64HashExtractable, Value> PassThroughHashMap<Key, Value> {
     }
 }
 
-// A map that is made of pairs which come one by one. It has room for their keys, however many pairs are announced.
+// A map that is made of pairs which come one by one. However many pairs are announced, its room is bounded by the
+// number of different keys.
 //
-// Pairs often come in the iteration order of another map, which is that of their places in it. A map that is full and
-// smaller than the other would get many of them at the same places. So the map grows when it is half full.
+// Pairs often come in the iteration order of another map, which is that of their places in it. A full map that is
+// smaller than the other gets many of them at the same places. So the map grows when it is half full, unless all pairs
+// that come have room.
 struct Growing<Key: U64HashExtractable, Value>(Inner<Key, Value>);
+
+// How many times the keys that are there a map makes room for, if that many pairs are announced.
+const MOST_GROWTH: usize = 8;
 
 impl<Key: U64HashExtractable + Eq + Hash, Value> Growing<Key, Value> {
     fn new() -> Self {
         Growing(Inner::default())
     }
 
-    fn insert(&mut self, key: Key, value: Value) {
+    // Inserts a pair. `more` is the `size_hint` of those that come after it.
+    fn insert(&mut self, key: Key, value: Value, more: impl FnOnce() -> (usize, Option<usize>)) {
         let (count, room) = (self.0.len(), self.0.capacity());
         if count >= room / 2 {
-            self.0.reserve(room - count + 1);
+            let (least, most) = more();
+            let left = room - count;
+            if most.map_or(true, |most| most >= left) {
+                let wanted = least.saturating_add(1);
+                self.0.reserve(wanted.clamp(left + 1, MOST_GROWTH * (count + 1)));
+            }
         }
         self.0.insert(key, value);
     }
@@ -118,8 +129,10 @@ impl<Key: U64HashExtractable, Value> From<PassThroughHashMap<Key, Value>>
 /// If keys are equal, the last value stays. The map takes memory for the different keys, not for all pairs.
 impl<Key: U64HashExtractable + Eq + Hash, Value> FromIterator<(Key, Value)> for PassThroughHashMap<Key, Value> {
     fn from_iter<I: IntoIterator<Item = (Key, Value)>>(pairs: I) -> Self {
-        let mut map = Growing::new();
-        pairs.into_iter().for_each(|(key, value)| map.insert(key, value));
+        let (mut map, mut pairs) = (Growing::new(), pairs.into_iter());
+        while let Some((key, value)) = pairs.next() {
+            map.insert(key, value, || pairs.size_hint());
+        }
         map.finish()
     }
 }

@@ -121,9 +121,17 @@ fn a_collected_map_has_room_for_its_keys_not_for_the_pairs() {
 fn the_pairs_of_another_map_are_collected_in_its_order() {
     for count in [0, 1, 3, 4, 1000, 1150, 1300, 1500, 1800] {
         let source: PassThroughHashMap<_, _> = Draws(count).nodes(count as usize).into_iter().collect();
-        let copied: PassThroughHashMap<_, _> = source.iter().map(|(hash, size)| (*hash, *size)).collect();
-        assert_eq!((copied.len(), &*copied), (count as usize, &*source));
-        assert!(copied.capacity() <= 2 * source.len() + 3);
+        let pairs = || source.iter().map(|(hash, size)| (*hash, *size));
+        let copies: [PassThroughHashMap<_, _>; 4] = [
+            pairs().collect(),
+            pairs().filter(|_| true).collect(),
+            Announcing(pairs(), 0).collect(),
+            Announcing(pairs(), 10 * count as usize).collect(),
+        ];
+        for copy in copies {
+            assert_eq!((copy.len(), &*copy), (count as usize, &*source));
+            assert!(copy.capacity() <= 2 * source.len() + 3);
+        }
     }
 }
 

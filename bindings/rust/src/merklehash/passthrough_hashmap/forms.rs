@@ -41,7 +41,7 @@ where
     fn visit_seq<A: SeqAccess<'de>>(self, mut pairs: A) -> Result<Self::Value, A::Error> {
         let mut map = Growing::new();
         while let Some((key, value)) = pairs.next_element()? {
-            map.insert(key, value);
+            map.insert(key, value, || (pairs.size_hint().unwrap_or(0), pairs.size_hint()));
         }
         Ok(map.finish())
     }
