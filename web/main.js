@@ -1,8 +1,8 @@
 // Loads the module and starts both tabs.
 
-import { load } from "./yurewha/index.js";
 import { Files } from "./files.js";
 import { Merging } from "./merging.js";
+import { loaded } from "./package.js";
 
 /** Runs something, shows the message of what it throws, and returns whether it threw nothing. */
 function report(run) {
@@ -42,11 +42,11 @@ function startTabs() {
 startTabs();
 new Files(report);
 try {
-    const yurewha = await load();
+    const yurewha = await loaded();
     report(() => new Merging(yurewha, report));
 } catch (error) {
     report(() => {
-        throw new Error(`the module can't be loaded: ${error.message}`);
+        throw error;
     });
 }
 document.documentElement.dataset.ready = "";

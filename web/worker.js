@@ -1,10 +1,9 @@
 // Hashes files, so that the page doesn't wait.
 
-import { load } from "./yurewha/index.js";
+import { loaded } from "./package.js";
 import { chunksOfLines } from "./pairs.js";
 
 const MOST_PAIRS_BYTES = 256 * 1024 * 1024;
-const loaded = load();
 
 /** The hash of a file's bytes. `passed` gets the length of each piece. */
 async function hashOf(yurewha, file, passed) {
@@ -46,7 +45,7 @@ async function readPairs(yurewha, file) {
 
 addEventListener("message", async ({ data }) => {
     try {
-        const yurewha = await loaded;
+        const yurewha = await loaded();
         const chunks = data.kind === "chunks" ? await hashChunks(yurewha, data.files) : await readPairs(yurewha, data.file);
         const [root, file] = [yurewha.xorbHash(chunks), yurewha.fileHash(chunks)].map((hash) => hash.hex());
         postMessage({ kind: "roots", count: chunks.length, root, file });

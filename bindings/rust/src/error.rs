@@ -10,7 +10,8 @@ use std::fmt;
 /// use yurewha::error::CoreError;
 ///
 /// assert_eq!(CoreError::SizeOverflow.to_string(), "size overflow");
-/// assert_eq!(CoreError::InvalidJson(6).to_string(), "invalid JSON: rule 6");
+/// let error = CoreError::InvalidJson(6);
+/// assert_eq!(error.to_string(), "invalid JSON: rule 6: the counts don't add up to the number of nodes");
 /// ```
 ///
 /// Later versions may have more variants, so a `match` needs an arm for others:
@@ -38,6 +39,9 @@ pub enum CoreError {
     InvalidText,
     /// A value doesn't describe a subtree. The number is the lowest rule, from 1 to 13, that the value breaks.
     /// [`from_json`](crate::merklehash::MerkleHashSubtree::from_json) lists the rules.
+    ///
+    /// Rule 9 is broken by about half of the subtrees that `xet-core-structures` saves after it has merged a range that
+    /// is marked at its start with the next one. Make such a subtree anew from the list of its chunks.
     InvalidJson(u8),
 }
 
@@ -51,12 +55,43 @@ impl fmt::Display for CoreError {
             CoreError::SizeOverflow => f.write_str("size overflow"),
             CoreError::OutOfMemory => f.write_str("out of memory"),
             CoreError::InvalidText => f.write_str("invalid text"),
-            CoreError::InvalidJson(rule) => write!(f, "invalid JSON: rule {rule}"),
+            CoreError::InvalidJson(rule) => write!(f, "invalid JSON: {}", BrokenRule(*rule)),
         }
     }
 }
 
 impl std::error::Error for CoreError {}
+
+// How a value breaks each of the rules 1 to 13, in the words of the header.
+const BROKEN_RULES: [&str; 13] = [
+    "the value isn't an object",
+    "the nodes or levels aren't an array, or a mark isn't a boolean",
+    "a node isn't a hash and a size",
+    "a level isn't two counts",
+    "there is no level",
+    "the counts don't add up to the number of nodes",
+    "the sizes add up to more than 2^64 - 1",
+    "there are right nodes at the top, or although the end is marked",
+    "there are left nodes below the top, although the start is marked. xet-core-structures leaves some when it merges \
+     from the start; make the subtree anew from the list of its chunks",
+    "the top has several nodes, although both ends are marked",
+    "the top of several levels has no node",
+    "left nodes don't end at a first stable point",
+    "right nodes don't begin at a last stable point",
+];
+
+/// The text of a rule that a value breaks.
+pub(crate) struct BrokenRule(pub(crate) u8);
+
+impl fmt::Display for BrokenRule {
+    fn fmt(&self, f: &mut fmt::Formatter<'_>) -> fmt::Result {
+        write!(f, "rule {}", self.0)?;
+        match BROKEN_RULES.get(usize::from(self.0).wrapping_sub(1)) {
+            Some(text) => write!(f, ": {text}"),
+            None => Ok(()),
+        }
+    }
+}
 
 impl Refusal for CoreError {
     fn of(status: ffi::yurewha_status) -> Option<Self> {

@@ -1,5 +1,5 @@
 //! The hashes by which the Hugging Face Xet store names chunks and files. Ranges of chunks that were hashed separately
-//! can be merged without their chunks.
+//! can be merged without their chunks. Nothing here cuts files into chunks.
 //!
 //! The module [`merklehash`] has the calls and paths of the module with that name in the crate `xet-core-structures`
 //! 1.5.2. It calls a library in which each function is proved to meet its contract. Code for that crate needs only
@@ -30,7 +30,13 @@
 //! - **Panics.** A call that has no `Result` in that crate has none here. If it fails, it panics with a message that
 //!   names the call and the cause. A call `try_..` returns a [`Result`](error::Result) instead.
 //! - **Subtrees that are read** are checked in each format of serde. A value that isn't the subtree of a list is an
-//!   error.
+//!   error. If that crate merges a range that is marked at its start with the next one, it keeps left nodes, which breaks
+//!   rule 9. So about half of the subtrees that it saved after such a merge are errors too. Make them anew from the list
+//!   of their chunks.
+//! - **More calls.** Rust prefers a type's own calls to those of a client's trait. So a trait of yours with one of these
+//!   names has to be called by its path, as in `Stored::to_bytes(&hash)`: of a hash `from_words`, `from_bytes`,
+//!   `to_bytes`, `try_base64` and `try_from_base64`; of a subtree `try_from_chunks`, `try_clone`, `at_start`, `at_end`,
+//!   `total_size`, `merge_into_counted`, `file_hash`, `file_hash_with_salt`, `to_json` and `from_json`.
 //! - **Threads** that read one [`MerkleHashSubtree`](merklehash::MerkleHashSubtree) or [`Session`](own::Session) at
 //!   once take turns. Give each thread a clone if that is too slow.
 //! - **Errors.** [`CoreError`](error::CoreError) has the variants that these calls return, with its own texts.

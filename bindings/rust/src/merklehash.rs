@@ -15,3 +15,6 @@ pub use data_hash::*;
 pub use merkle_hash_subtree::*;
 pub use passthrough_hasher::*;
 pub use passthrough_hashmap::*;
+
+/// The hash of a chunk, a xorb or a file.
+pub type MerkleHash = DataHash;

@@ -4,7 +4,7 @@
 //! They aren't in [`merklehash`](crate::merklehash), so that a glob of that module brings in only the names of that
 //! crate. Import them by name.
 
-use crate::merklehash::data_hash::MerkleHash;
+use crate::merklehash::MerkleHash;
 
 mod hasher;
 mod roots;

@@ -27,7 +27,7 @@ fn modules_and_the_module_above_them_have_the_same_items() {
         data_hash::compute_internal_node_hash,
         all::compute_internal_node_hash,
     ];
-    let _: fn(data_hash::MerkleHash) -> all::MerkleHash = |hash: data_hash::DataHash| hash;
+    let _: fn(data_hash::DataHash) -> all::MerkleHash = |hash: all::DataHash| hash;
     let _: fn(data_hash::HMACKey) -> all::HMACKey = |key: all::DataHash| key;
     let _: fn(all::DataHashHexParseError) -> data_hash::DataHashHexParseError = |error| error;
     let _: fn(all::DataHashBytesParseError) -> data_hash::DataHashBytesParseError = |error| error;

@@ -12,7 +12,8 @@ use std::ptr;
 use std::sync::Once;
 use yurewha::error::CoreError;
 use yurewha::merklehash::{
-    compute_data_hash, compute_internal_node_hash, file_hash, xorb_hash, DataHash, MerkleHashSubtree,
+    compute_data_hash, compute_internal_node_hash, file_hash, find_stable_end, find_stable_start, xorb_hash, DataHash,
+    MerkleHashSubtree,
 };
 use yurewha::own::{
     self, try_file_hash, try_file_hash_with_salt, try_find_stable_end, try_find_stable_start, try_xorb_hash,
@@ -268,19 +269,8 @@ fn sessions_are_refused() {
     assert_eq!(restored.known_hashes().unwrap().len(), 60);
     assert_each_refusal(SessionFault::Memory, || session.root(60));
     assert_each_refusal(SessionFault::Memory, || session.finish(60));
+    assert_each_refusal(SessionFault::Memory, || session.finish_with_salt(60, &[7; 32]));
     assert_eq!(session.finish(60), Ok(file_hash(&nodes)));
-}
-
-#[test]
-fn stable_points_are_told_or_refused() {
-    let nodes = nodes(60);
-    for find in [try_find_stable_start, try_find_stable_end] {
-        let found = find(&nodes).unwrap();
-        for before in 0..=requests(|| assert!(find(&nodes).is_ok())) {
-            let (answer, refused) = with_refusal(before, || find(&nodes));
-            assert_eq!(answer, if refused { Err(NO_MEMORY) } else { Ok(found) });
-        }
-    }
 }
 
 #[test]
@@ -377,6 +367,9 @@ fn other_calls_take_no_memory() {
         assert!(subtree.final_hash().is_some());
         assert!(subtree.total_size() == 60 && subtree.num_nodes() == 1 && subtree.num_levels() > 1);
         assert!(session.taken(0) && session.num_runs() == 1 && session.total_size() == 60);
+        assert!(session.num_chunks() == 60 && subtree.file_hash() != subtree.file_hash_with_salt(&bytes));
+        assert!(find_stable_start(&nodes) <= find_stable_end(&nodes));
+        assert!(try_find_stable_start(&nodes).is_ok() && try_find_stable_end(&nodes).is_ok());
     });
     assert_eq!(taken, 0);
 }

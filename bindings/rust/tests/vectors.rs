@@ -207,9 +207,15 @@ fn root(it: &Value) {
         return;
     }
     assert_eq!(roots, [Ok(hash(it, "root")), Ok(hash(it, "fileHash"))]);
+    let whole = MerkleHashSubtree::from_chunks(true, &chunks, true);
+    assert_eq!(whole.file_hash(), Some(hash(it, "fileHash")));
+    let mut session = Session::new();
+    session.put(0, &chunks).unwrap();
     for row in it["salted"].as_array().into_iter().flatten() {
-        let found = try_file_hash_with_salt(&chunks, &bytes(row, "saltBytes"));
-        assert_eq!(found, Ok(hash(row, "fileHash")));
+        let (salt, wanted) = (bytes(row, "saltBytes"), hash(row, "fileHash"));
+        assert_eq!(try_file_hash_with_salt(&chunks, &salt), Ok(wanted));
+        assert_eq!(whole.file_hash_with_salt(&salt), Some(wanted));
+        assert_eq!(session.finish_with_salt(chunks.len() as u64, &salt), Ok(wanted));
     }
 }
 

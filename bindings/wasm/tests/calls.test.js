@@ -3,6 +3,7 @@
 import assert from "node:assert/strict";
 import { execFileSync } from "node:child_process";
 import { readFileSync } from "node:fs";
+import { Readable } from "node:stream";
 import { test } from "node:test";
 import { fileURLToPath } from "node:url";
 import * as errors from "../yurewha/index.js";
@@ -14,6 +15,13 @@ const MAX = 2n ** 64n - 1n;
 const all = await loadAll();
 const [[, y]] = all;
 const list = (count) => chunksOf(y, { drawn: { firstSeed: "1", count } });
+const counting = (length) => Uint8Array.from({ length }, (_, k) => k % 251);
+/** The model's hashes of chunks of `counting`, each from one offset to another. */
+const hashesOfModel = (chunks) => {
+    const model = `import sys; sys.path.insert(0, "model"); import xet_model as m
+for a, b in ${JSON.stringify(chunks)}: print(m.to_hex(m.compute_data_hash(bytes(k % 251 for k in range(a, b)))))`;
+    return execFileSync("python3", ["-c", model], { cwd: fileURLToPath(ROOT), encoding: "utf8" }).trim().split("\n");
+};
 const bytesOf = (length) => Uint8Array.from({ length }, (_, k) => (7 * k + (k >> 8)) % 256);
 
 test("a number is a BigInt or a safe integer, and of 64 bits", () => {
@@ -27,6 +35,7 @@ test("a number is a BigInt or a safe integer, and of 64 bits", () => {
         "a position": (value) => session.taken(value),
         "the place of a run": (value) => session.run(value),
         "the total": (value) => session.root(value),
+        "offset 0": (value) => y.dataHashes(new Uint8Array(9), [value]),
     };
     for (const [what, call] of Object.entries(calls)) {
         for (const value of [1.5, 2 ** 53, NaN, Infinity, "1", null, undefined, true, {}, [1], Symbol("1")]) {
@@ -37,6 +46,8 @@ test("a number is a BigInt or a safe integer, and of 64 bits", () => {
     assert.equal(y.Hash.randomFromSeed(5).hex(), y.Hash.randomFromSeed(5n).hex());
     assert.throws(() => session.put("0", []), TypeError);
     assert.throws(() => session.finish(1.5), TypeError);
+    assert.throws(() => session.gaps("1"), TypeError);
+    assert.throws(() => session.finish("0", new Uint8Array(32)), TypeError);
 });
 
 test("bytes are a Uint8Array", () => {
@@ -50,6 +61,9 @@ test("bytes are a Uint8Array", () => {
         (value) => new y.Chunks(value),
         (value) => y.fileHash([[hash, 1]], value),
         (value) => y.Subtree.fromJSON(value),
+        (value) => y.Subtree.fromChunks(true, [], true).fileHash(value),
+        (value) => new y.Session().finish(0, value),
+        (value) => y.dataHashes(value, [0]),
     ];
     for (const call of calls) {
         for (const value of [null, 1, [1], {}, new ArrayBuffer(32), new DataView(new ArrayBuffer(32)), new Int8Array(32), new Uint16Array(16)]) {
@@ -100,9 +114,16 @@ test("an object of another instance is none of this one", () => {
 test("lengths that don't fit are invalid arguments", () => {
     for (const length of [0, 31, 33]) {
         const given = new Uint8Array(length);
-        for (const call of [() => new y.Hash(given), () => y.Hasher.keyed(given), () => y.fileHash([], given)]) {
+        for (const call of [
+            () => new y.Hash(given), () => y.Hasher.keyed(given), () => y.fileHash([], given),
+            () => y.Subtree.fromChunks(true, [], false).fileHash(given), () => new y.Session().finish(0, given),
+        ]) {
             assert.throws(call, errors.InvalidArguments);
         }
+    }
+    for (const offsets of [5, null, undefined, { length: 1 }]) assert.throws(() => y.dataHashes(new Uint8Array(5), offsets), TypeError);
+    for (const offsets of [[], [1, 0], [0, 6], [0, 3, 2], [6]]) {
+        assert.throws(() => y.dataHashes(new Uint8Array(5), offsets), errors.InvalidArguments);
     }
     assert.throws(() => new y.Chunks(new Uint8Array(41)), errors.InvalidArguments);
     assert.throws(() => new y.Hash().remainder(0), errors.InvalidArguments);
@@ -167,8 +188,11 @@ test("chunks are packed once, and sliced as arrays are", () => {
     for (const [start, end] of [[], [3], [3, 7], [-3], [0, -2], [7, 3], [20], [-20, 4], [2.5, 4.5]]) {
         assert.deepEqual(plain(chunks.slice(start, end)), plain(pairs).slice(start, end));
     }
-    assert.deepEqual(plain([chunks.at(9)]), plain(pairs.slice(9)));
-    for (const place of [-1, 10, 0.5, NaN]) assert.equal(chunks.at(place), undefined);
+    const at = (index) => plain(chunks.at(index) === undefined ? [] : [chunks.at(index)]);
+    for (const index of [0, 9, 10, -1, -2, -10, -11, 0.5, -0.5, 9.9, NaN, undefined, "3", Infinity, -Infinity]) {
+        assert.deepEqual(at(index), plain([pairs.at(index)].filter(Boolean)), `${index}`);
+    }
+    for (const index of [1n, Symbol("1")]) assert.throws(() => chunks.at(index), TypeError);
     for (const form of [pairs, chunks, new Set(pairs), pairs.values()]) assert.equal(y.xorbHash(form).hex(), y.xorbHash(pairs).hex());
     assert.equal(new y.Chunks().length, 0);
 });
@@ -194,10 +218,7 @@ test("long messages and lists go through every module alike", () => {
 
 test("the model gives the same hash of a message that goes to the module in two pieces", () => {
     const length = AREA / 2 + 1025;
-    const model = `import sys; sys.path.insert(0, "model"); import xet_model as m
-print(m.to_hex(m.compute_data_hash(bytes(k % 251 for k in range(${length})))))`;
-    const said = execFileSync("python3", ["-c", model], { cwd: fileURLToPath(ROOT), encoding: "utf8" }).trim();
-    assert.equal(y.dataHash(Uint8Array.from({ length }, (_, k) => k % 251)).hex(), said);
+    assert.deepEqual([y.dataHash(counting(length)).hex()], hashesOfModel([[0, length]]));
 });
 
 test("a hasher goes on after it was asked, and its copies are apart", () => {
@@ -225,6 +246,44 @@ test("a stream is hashed by its pieces, and cancelled at a piece that is none", 
     assert.equal(odd.locked, false);
     const failing = new ReadableStream({ pull: (controller) => controller.error(new Error("lost")) });
     await assert.rejects(y.hashStream(failing), new Error("lost"));
+});
+
+test("whatever gives pieces is hashed, and ended at a piece that is none", async () => {
+    const data = bytesOf(300_000);
+    const pieces = [data.subarray(0, 1), data.subarray(1, 1), data.subarray(1, 200_000), data.subarray(200_000)];
+    let ended = 0;
+    async function* given(...odd) {
+        try {
+            yield* [...pieces, ...odd];
+        } finally {
+            ended++;
+        }
+    }
+    for (const source of [given(), pieces, new Set(pieces), Readable.from(pieces), pieces.values()]) {
+        assert.ok((await y.hashStream(source)).equals(y.dataHash(data)));
+    }
+    for (const odd of ["text", 5, null, [1], new ArrayBuffer(3)]) await assert.rejects(y.hashStream(given(odd)), TypeError);
+    assert.equal(ended, 6);
+    for (const source of [null, undefined, 5, {}, "text", new Uint8Array(3)]) await assert.rejects(y.hashStream(source), TypeError);
+});
+
+test("the hashes of many chunks are those of each", () => {
+    const offsets = [1, 1, 2, 1026, 5000, 9000];
+    const wanted = hashesOfModel(offsets.slice(1).map((end, k) => [offsets[k], end]));
+    const data = bytesOf(2_000_003);
+    const lists = [
+        [0], [5], [0, 0, 0], [0, 1000], [3, 4, 4, 70_000, 600_000, 600_001, 1_999_999, 2_000_003],
+        Array.from({ length: 9001 }, (_, k) => 7 * k), [0, 2_000_003], [2_000_003, 2_000_003],
+    ];
+    for (const [name, it] of all) {
+        for (const form of [offsets, offsets.map(BigInt), offsets.values()]) {
+            assert.deepEqual(it.dataHashes(counting(9000), form).map(String), wanted, name);
+        }
+        for (const list of lists) {
+            const each = list.slice(1).map((end, k) => it.dataHash(data.subarray(list[k], end)).hex());
+            assert.deepEqual(it.dataHashes(data, list).map(String), each, name);
+        }
+    }
 });
 
 test("a subtree says what it keeps, and reads back from JSON and flat lists", () => {
@@ -288,8 +347,64 @@ test("a session's faults have their classes", () => {
     assert.throws(() => session.root(6), errors.SessionGap);
     assert.throws(() => session.finish(6), errors.SessionGap);
     assert.deepEqual([session.numRuns, session.taken(5), session.taken(4)], [1, true, false]);
-    const [first, range] = session.run(0);
-    assert.deepEqual([first, range.totalSize], [5n, 1n]);
+    const [first, end, range] = session.run(0);
+    assert.deepEqual([first, end, range.totalSize], [5n, 6n, 1n]);
+});
+
+test("a session tells how many chunks and bytes it has, and where its gaps are", () => {
+    const session = new y.Session();
+    const told = () => [session.numChunks, session.totalSize, session.numRuns];
+    assert.deepEqual([told(), session.gaps(0), session.gaps(3)], [[0n, 0n, 0], [], [[0n, 3n]]]);
+    session.put(7, list(2));
+    session.put(1, list(3));
+    assert.deepEqual(told(), [5n, 1177n + 3231n, 2]);
+    assert.deepEqual(session.runs().map(([first, end]) => [first, end]), [[1n, 4n], [7n, 9n]]);
+    const gaps = { 0: [], 1: [[0n, 1n]], 4: [[0n, 1n]], 6: [[0n, 1n], [4n, 6n]], 9: [[0n, 1n], [4n, 7n]], 12: [[0n, 1n], [4n, 7n], [9n, 12n]] };
+    for (const [total, wanted] of Object.entries(gaps)) assert.deepEqual(session.gaps(Number(total)), wanted, total);
+    assert.throws(() => session.put(8, list(1)), errors.SessionOverlap);
+    assert.throws(() => session.pushRun(0, 1, y.Subtree.fromChunks(false, list(1), false)), errors.InvalidArguments);
+    assert.deepEqual(told(), [5n, 4408n, 2]);
+    session.pushRun(20, 30, y.Subtree.fromChunks(false, list(2), false));
+    assert.deepEqual(told(), [15n, 4408n + 1177n, 3]);
+});
+
+test("the size of a session is exact for great sizes, and for many", () => {
+    const hash = new y.Hash();
+    for (const sizes of [[MAX], [MAX - 2n ** 33n, 2n ** 33n], [2n ** 32n, 2n ** 32n - 1n, 1n], Array(2 ** 21 + 5).fill(2n ** 32n - 1n)]) {
+        const session = new y.Session();
+        session.put(3, sizes.map((size) => [hash, size]));
+        assert.equal(session.totalSize, sizes.reduce((sum, size) => sum + size));
+    }
+});
+
+test("a clone of a session is apart", () => {
+    const session = new y.Session();
+    session.put(0, list(20));
+    const copy = session.clone();
+    assert.deepEqual([copy.numChunks, copy.totalSize, copy.put(20, list(21))], [20n, session.totalSize, 1]);
+    assert.deepEqual([session.numChunks, session.taken(20), copy.taken(40)], [20n, false, true]);
+    session.free();
+    assert.equal(copy.root(41).hex(), y.xorbHash([...list(20), ...list(21)]).hex());
+});
+
+test("a file hash under a salt is that of the chunks, also of none and of a default hash", () => {
+    const salt = bytesOf(32);
+    for (const chunks of [[], [[new y.Hash(), 0]], [[new y.Hash(), 5]], list(1), list(2), list(300)]) {
+        const whole = y.Subtree.fromChunks(true, chunks, true);
+        const session = new y.Session();
+        session.put(0, chunks);
+        for (const given of [undefined, new Uint8Array(32), salt]) {
+            const wanted = y.fileHash(chunks, given).hex();
+            assert.deepEqual([whole.fileHash(given).hex(), session.finish(chunks.length, given).hex()], [wanted, wanted]);
+        }
+    }
+    for (const [atStart, atEnd] of [[false, false], [true, false], [false, true]]) {
+        assert.equal(y.Subtree.fromChunks(atStart, list(3), atEnd).fileHash(salt), null);
+    }
+    const none = new y.Session();
+    none.pushRun(0, 2, y.Subtree.fromChunks(false, [], false));
+    assert.deepEqual(none.finish(2, new Uint8Array(32)), none.finish(2));
+    assert.throws(() => none.finish(3, salt), errors.SessionGap);
 });
 
 test("a session is restored by its runs and the hashes that it knows", () => {
@@ -298,7 +413,7 @@ test("a session is restored by its runs and the hashes that it knows", () => {
         const [session, restored] = [new it.Session(), new it.Session()];
         session.put(40, chunks.slice(40));
         session.put(0, chunks.slice(0, 30));
-        for (let run, end = 0n; (run = session.runFrom(end)) !== null; end = run[1]) restored.pushRun(...run);
+        session.runs().forEach((run) => restored.pushRun(...run));
         assert.deepEqual(restored.knownHashes(), []);
         restored.keepHashes(session.knownHashes());
         const known = session.knownHashes().map((hash) => hash.hex());

@@ -2,50 +2,96 @@
 
 import {
     EmptyHandle,
+    InvalidArguments,
     InvalidJson,
+    InvalidText,
+    OutOfMemory,
+    SessionError,
+    SessionGap,
     SessionOverlap,
+    SessionPositions,
+    SessionSizes,
+    SizeOverflow,
+    Trapped,
     YurewhaError,
     load,
     type Chunk,
+    type ChunkList,
     type Chunks,
+    type ChunksConstructor,
     type Flat,
+    type FlatInput,
+    type Freed,
     type Hash,
+    type HashConstructor,
     type Hasher,
+    type HasherConstructor,
+    type Run,
+    type SavedSession,
     type Session,
+    type SessionConstructor,
+    type Source,
     type Subtree,
+    type SubtreeConstructor,
     type U64,
     type Yurewha,
 } from "yurewha";
 
 const y: Yurewha = await load();
+const classes: [HashConstructor, ChunksConstructor, HasherConstructor, SubtreeConstructor, SessionConstructor] = [
+    y.Hash, y.Chunks, y.Hasher, y.Subtree, y.Session,
+];
 const data = new TextEncoder().encode("a chunk");
 const hash: Hash = y.dataHash(data);
 const other: Hash = new y.Hash(hash.bytes);
 const order: -1 | 0 | 1 = hash.compare(other);
+const texts: string[] = [hash.hex(), hash.base64(), hash.toString(), hash.toJSON(), `${hash}`];
+const read: Hash[] = [y.Hash.fromHex(texts[0]!), y.Hash.fromBase64(texts[1]!), new y.Hash(), hash.hmac(other)];
+const cut: boolean = hash.remainder(4) === 0n;
 const size: U64 = 7n;
 const pairs: Chunk[] = [[hash, size], [y.Hash.randomFromSeed(1), 200]];
+const lists: ChunkList[] = [pairs, new Set(pairs), pairs.values()];
 const chunks: Chunks = y.Chunks.from(pairs);
+const copies: Chunks[] = [new y.Chunks(chunks.bytes), y.Chunks.fromJSON(chunks.toJSON()), chunks.slice(-2)];
+const last: [Hash, bigint] | undefined = chunks.at(-1);
 const [first, ...rest]: string[] = [...chunks].map(([it, bytes]) => `${it.hex()} ${bytes}`);
 const hasher: Hasher = new y.Hasher().update(data).clone();
-const streamed: Hash = await y.hashStream(new Blob([data]).stream());
+const counts: [bigint, Hash] = [hasher.count, hasher.hash];
+const others: Hasher[] = [y.Hasher.internalNode(), y.Hasher.keyed(hash.bytes)];
+async function* given(): AsyncGenerator<Uint8Array> {
+    yield data;
+}
+const streamed: Hash[] = [
+    await y.hashStream(new Blob([data]).stream()), await y.hashStream(given()), await y.hashStream([data]), ...y.dataHashes(data, [0, 7n]),
+];
 const root: Hash = y.xorbHash(chunks);
+const inner: Hash = y.internalNodeHash(data);
 const files: Hash[] = [y.fileHash(pairs), y.fileHash(new Set(pairs), new Uint8Array(32))];
 const front: Subtree = y.Subtree.fromChunks(true, chunks.slice(0, 1), false);
 const back: Subtree = y.Subtree.fromJSON(y.Subtree.fromChunks(false, pairs.slice(1), true).toJSON());
 const whole: Subtree = y.Subtree.merge([front, back]);
 const parents: number = front.mergeInto(back);
 const flat: Flat = front.toFlat();
+const input: FlatInput = { ...flat, levels: [[1n, 0]], nodes: pairs.slice(1), atStart: false };
 const levels: [number, number][] = y.Subtree.fromFlat(flat).levels;
+const nodes: Chunks = y.Subtree.fromFlat(input).nodes;
+const told: [boolean, boolean, bigint, number, number] = [whole.atStart, whole.atEnd, whole.totalSize, whole.numNodes, whole.numLevels];
 const final: Hash | null = whole.finalHash();
+const file: Hash | null = whole.fileHash(new Uint8Array(32)) ?? whole.fileHash();
 const session: Session = new y.Session();
 const fresh: number = session.put(0, chunks);
-const [position, run] = session.runs()[0]!;
-const start: bigint = position + run.totalSize;
-const saved: [bigint, bigint, Subtree] | null = session.runFrom(0);
+const [position, end, run]: Run = session.runs()[0]!;
+const start: bigint = position + end + run.totalSize + session.numChunks + session.totalSize;
+const gaps: [bigint, bigint][] = session.gaps(5);
+const saved: Run | null = session.runFrom(0) ?? session.run(0);
 const restored: Session = new y.Session();
 if (saved !== null) restored.pushRun(...saved);
 restored.keepHashes(session.knownHashes());
-const point: number | null = y.findStableStart(chunks) ?? y.findStableEnd(chunks);
+const form: SavedSession = restored.saved;
+const again: Session = y.Session.restore(JSON.parse(JSON.stringify(form)) as SavedSession).clone();
+const taken: boolean = again.taken(1) && session.numRuns === 1;
+const point: number | null = y.findStableStart(chunks) ?? y.findStableEnd(lists[0]!);
+const freed: Freed[] = [again, back];
 
 try {
     y.Subtree.fromJSON("[]");
@@ -59,27 +105,134 @@ try {
 } catch (error) {
     if (!(error instanceof SessionOverlap)) throw error;
 }
-back[Symbol.dispose]();
+const kinds: (typeof YurewhaError)[] = [
+    InvalidArguments, SizeOverflow, OutOfMemory, InvalidText, Trapped, SessionError, SessionPositions, SessionSizes, SessionGap,
+];
+freed.forEach((it) => it[Symbol.dispose]());
 try {
     back.clone();
 } catch (error) {
     if (!(error instanceof EmptyHandle)) throw error;
 }
 
-/** What the declarations refuse; it isn't called. */
-export function refused(): void {
+/** What the declarations refuse; it isn't called. Each line after a comment is wrong for the reason that the comment says. */
+export async function refused(): Promise<void> {
     // @ts-expect-error a size is no text
     y.xorbHash([[hash, "7"]]);
+    // @ts-expect-error a chunk has a hash first
+    y.xorbHash([[7, hash]]);
+    // @ts-expect-error a chunk has a size
+    y.xorbHash([[hash]]);
+    // @ts-expect-error a list is of chunks, not one chunk
+    y.xorbHash([hash, 7]);
+    // @ts-expect-error a hash isn't a list
+    y.xorbHash(hash);
+    // @ts-expect-error a clone of a list isn't a list
+    y.xorbHash({ bytes: chunks.bytes });
+    // @ts-expect-error a list has to be given
+    y.fileHash();
+    // @ts-expect-error a salt isn't a hash
+    y.fileHash(pairs, hash);
+    // @ts-expect-error a salt isn't a text
+    whole.fileHash("salt");
+    // @ts-expect-error there may be no file hash
+    whole.fileHash().hex();
+    // @ts-expect-error there may be no root
+    whole.finalHash().hex();
     // @ts-expect-error a hash is no text
     hash.compare("00");
+    // @ts-expect-error a key is a hash, not its bytes
+    hash.hmac(hash.bytes);
+    // @ts-expect-error a divisor is a number
+    hash.remainder("4");
+    // @ts-expect-error the bytes of a hash can't be replaced
+    hash.bytes = new Uint8Array(32);
+    // @ts-expect-error hex is a call
+    const hex: string = hash.hex;
+    // @ts-expect-error a hash is made of bytes, not of its text
+    new y.Hash("00");
+    // @ts-expect-error a text isn't made of bytes
+    y.Hash.fromHex(data);
+    // @ts-expect-error a seed is a number
+    y.Hash.randomFromSeed("1");
     // @ts-expect-error the bytes are those of a Uint8Array
     y.dataHash([1, 2]);
-    // @ts-expect-error there may be no run
-    session.runFrom(0)[0];
+    // @ts-expect-error a text has no bytes yet
+    y.dataHash("abc");
+    // @ts-expect-error the offsets are many
+    y.dataHashes(data, 3);
+    // @ts-expect-error an offset is a number
+    y.dataHashes(data, ["0"]);
+    // @ts-expect-error the offsets have to be given
+    y.dataHashes(data);
+    // @ts-expect-error a stream is of bytes
+    await y.hashStream(["text"]);
+    // @ts-expect-error a hash comes later
+    y.hashStream([data]).hex();
+    // @ts-expect-error there may be no chunk
+    chunks.at(0)[0];
+    // @ts-expect-error an index is a Number
+    chunks.at(0n);
+    // @ts-expect-error a list has no length to set
+    chunks.length = 3;
+    // @ts-expect-error packed chunks are bytes
+    new y.Chunks(pairs);
+    // @ts-expect-error a size is a text here
+    y.Chunks.fromJSON([["00", 7]]);
+    // @ts-expect-error a hasher takes bytes
+    hasher.update("abc");
+    // @ts-expect-error a key is bytes
+    y.Hasher.keyed(hash);
     // @ts-expect-error a Subtree is made by its calls
     new y.Subtree();
+    // @ts-expect-error a mark is true or false
+    y.Subtree.fromChunks(1, chunks, true);
+    // @ts-expect-error a mark stands on each side
+    y.Subtree.fromChunks(true, chunks);
+    // @ts-expect-error ranges are merged as a list
+    y.Subtree.merge(front, back);
+    // @ts-expect-error a range isn't its text
+    front.mergeInto(back.toJSON());
+    // @ts-expect-error flat lists have nodes
+    y.Subtree.fromFlat({ atStart: true, levels: [[0, 0]], atEnd: true });
+    // @ts-expect-error a level is two counts
+    y.Subtree.fromFlat({ ...flat, levels: [[1]] });
+    // @ts-expect-error the number of nodes can't be set
+    front.numNodes = 3;
+    // @ts-expect-error there may be no run
+    session.runFrom(0)[0];
+    // @ts-expect-error a position comes first
+    session.put(chunks);
+    // @ts-expect-error a run has an end
+    session.pushRun(0, run);
+    // @ts-expect-error hashes are many
+    session.keepHashes(hash);
+    // @ts-expect-error a total is a number
+    session.finish("2");
+    // @ts-expect-error a salt is bytes
+    session.finish(2, "salt");
+    // @ts-expect-error a session isn't made of its form by new
+    new y.Session(form);
+    // @ts-expect-error a form has known hashes
+    y.Session.restore({ runs: [] });
+    // @ts-expect-error the package comes later
+    load().dataHash(data);
+    // @ts-expect-error the module isn't a number
+    await load(5);
+    // @ts-expect-error the rule of another error
+    new SizeOverflow("").rule;
+    // @ts-expect-error a class of the instance can't be replaced
+    y.Hash = y.Hash;
+    void hex;
 }
 
+const source: Source = new URL("https://localhost/yurewha.wasm");
 const same = final !== null && final.equals(root) && restored.root(2).equals(root) && session.root(2).equals(root) && files[0]!.equals(session.finish(2));
-const hashed = order === 0 && streamed.equals(hasher.digest()) && streamed.equals(hash);
-console.log(same && hashed && fresh === 2 && start > 0n && levels.length > 0 && parents >= 0 && point === null && `${first} ${rest[0]}`.length > 128);
+const hashed = order === 0 && streamed.length === 4 && streamed.every((it) => it.equals(hash)) && counts[1].equals(hash) && counts[0] === 7n;
+const salted = file !== null && file.equals(files[1]!) && file.equals(session.finish(2, new Uint8Array(32)));
+const listed = copies.every((it) => y.xorbHash(it).equals(root)) && last?.[1] === 200n && nodes.length === 1 && gaps.length === 1;
+const more = taken && told[3] === 1 && read.length === 4 && !cut === (hash.remainder(4n) !== 0n) && others.length === 2 && !inner.equals(hash);
+console.log(
+    same && hashed && salted && listed && more && classes.length === 5 && kinds.length === 9 && source !== null && fresh === 2 && start > 0n &&
+        levels.length > 0 && parents >= 0 && point === null && `${first} ${rest[0]}`.length > 128,
+);

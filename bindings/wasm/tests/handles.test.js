@@ -6,9 +6,10 @@ import { setTimeout } from "node:timers/promises";
 import { EmptyHandle, Trapped } from "../yurewha/index.js";
 import { BYTES, chunksOf, wrapped } from "./support.js";
 
-/** An instance that counts the blocks it has given out, and the calls of its exports. */
+/** An instance that counts the blocks it has given out, and the calls of its exports. No call may get a block that was given back. */
 async function counted() {
     const seen = { blocks: 0, calls: 0, trap: null };
+    const freed = new Set();
     const wrap = (exports) =>
         new Proxy(exports, {
             get(target, name) {
@@ -17,9 +18,17 @@ async function counted() {
                 return (...values) => {
                     seen.calls++;
                     if (seen.trap === name) throw new WebAssembly.RuntimeError("unreachable");
-                    if (name === "allocate") seen.blocks++;
-                    if (name === "release") seen.blocks--;
-                    return found(...values);
+                    assert.ok(!values.some((value) => freed.has(value)), `${name} of a block that was given back`);
+                    const result = found(...values);
+                    if (name === "allocate") {
+                        seen.blocks++;
+                        freed.delete(result);
+                    }
+                    if (name === "release") {
+                        seen.blocks--;
+                        freed.add(values[0]);
+                    }
+                    return result;
                 };
             },
         });
@@ -37,12 +46,14 @@ function callsOf(y) {
             (it) => it.atStart, (it) => it.atEnd, (it) => it.totalSize, (it) => it.numNodes, (it) => it.numLevels, (it) => it.levels,
             (it) => it.mergeInto(other), (it) => other.mergeInto(it), (it) => it.mergeInto(it), (it) => it.finalHash(), (it) => it.clone(),
             (it) => it.equals(other), (it) => other.equals(it), (it) => it.equals(it), (it) => it.toJSON(), (it) => it.toFlat(),
+            (it) => it.nodes, (it) => it.fileHash(), (it) => it.fileHash(new Uint8Array(32)),
             (it) => new y.Session().pushRun(0, 1, it), (it) => y.Subtree.merge([other, it]), (it) => y.Subtree.merge([it]), (it) => y.Subtree.merge([it, it]),
         ]],
         Session: [() => new y.Session(), [
             (it) => it.put(0, []), (it) => it.taken(0), (it) => it.numRuns, (it) => it.run(0), (it) => it.runs(), (it) => it.root(0),
             (it) => it.finish(0), (it) => it.runFrom(0), (it) => it.pushRun(0, 1, other), (it) => it.keepHashes([]),
-            (it) => it.knownHashes(),
+            (it) => it.knownHashes(), (it) => it.numChunks, (it) => it.totalSize, (it) => it.gaps(0), (it) => it.saved,
+            (it) => it.finish(0, new Uint8Array(32)), (it) => it.clone(),
         ]],
     };
 }
@@ -59,6 +70,72 @@ test("each call of a freed object throws, and freeing twice is harmless", async 
     }
 });
 
+/** Calls that run code of the caller's, each with an object that this code frees. */
+function freeingCalls(y) {
+    const hash = new y.Hash();
+    const range = () => y.Subtree.fromChunks(false, list(y, 3), false);
+    const session = () => new y.Session();
+    /** What frees an object before it gives the rest. */
+    const freeing = (object, ...given) => ({
+        *[Symbol.iterator]() {
+            object.free();
+            yield* given;
+        },
+    });
+    return {
+        keepHashes: [session, (it) => it.keepHashes(freeing(it, hash))],
+        put: [session, (it) => it.put(0, freeing(it, [hash, 1]))],
+        "a list of ranges": [range, (it) => y.Subtree.merge(freeing(it, it, range()))],
+        "a list with a range twice": [range, (it) => y.Subtree.merge(freeing(it, it, it))],
+        "a clone that was replaced": [range, (it) => Object.assign(it, { clone: () => (it.free(), range()) }) && y.Subtree.merge([it, it, ...freeing(it)])],
+        "flat lists": [range, (it) => y.Subtree.fromFlat({ ...it.toFlat(), levels: freeing(it, [3, 0]) }) && it.numNodes],
+        "a saved form": [session, (it) => y.Session.restore({ runs: [], knownHashes: freeing(it, hash.hex()) }) && it.numRuns],
+    };
+}
+
+test("an object that the caller's code frees in a call isn't used after that", async () => {
+    const { yurewha: y } = await counted();
+    for (const [name, [make, call]] of Object.entries(freeingCalls(y))) assert.throws(() => call(make()), EmptyHandle, name);
+});
+
+test("a subclass of Uint8Array can't tell another length or other elements", async () => {
+    const { yurewha: y } = await counted();
+    let asked = 0;
+    class Odd extends Uint8Array {
+        get length() {
+            return asked++ % 2 ? 1 << 22 : 0;
+        }
+        get byteLength() {
+            return 1 << 22;
+        }
+        *[Symbol.iterator]() {
+            yield 1;
+        }
+        subarray() {
+            return new Uint8Array(1 << 22);
+        }
+        slice() {
+            return new Uint8Array(3);
+        }
+    }
+    const [odd, plain] = [new Odd(80).fill(7), new Uint8Array(80).fill(7)];
+    asked = 0;
+    const [odd32, plain32] = [new Odd(32).fill(7), new Uint8Array(32).fill(7)];
+    const calls = [
+        (data) => y.dataHash(data), (data) => y.internalNodeHash(data), (data) => new y.Hasher().update(data).digest(),
+        (data) => y.xorbHash(new y.Chunks(data)), (data) => y.dataHashes(data, [0, 80])[0],
+    ];
+    for (const call of calls) assert.equal(call(odd).hex(), call(plain).hex(), `${call}`);
+    const others = [(key) => new y.Hash(key), (key) => y.Hasher.keyed(key).digest(), (key) => y.fileHash([], key), (key) => y.fileHash(list(y, 2), key)];
+    for (const call of others) assert.equal(call(odd32).hex(), call(plain32).hex(), `${call}`);
+    const range = y.Subtree.fromChunks(true, list(y, 2), true);
+    const json = new Odd(Buffer.from(range.toJSON()));
+    assert.ok(y.Subtree.fromJSON(json).equals(range));
+    const fake = Object.defineProperty(new Int8Array(32), Symbol.toStringTag, { value: "Uint8Array" });
+    assert.throws(() => new y.Hash(fake), TypeError);
+    assert.equal(asked, 0);
+});
+
 test("every block goes back", async () => {
     const { yurewha: y, seen } = await counted();
     const before = seen.blocks;
@@ -66,7 +143,13 @@ test("every block goes back", async () => {
     const [front, back] = [y.Subtree.fromChunks(true, chunks.slice(0, 50), false), y.Subtree.fromChunks(false, chunks.slice(50), true)];
     const session = new y.Session();
     session.put(0, chunks);
-    const [[, run]] = session.runs();
+    const [[, , run]] = session.runs();
+    session.clone().free();
+    y.Session.restore(session.saved).free();
+    session.run(0)[2].free();
+    session.gaps(200);
+    session.finish(100, new Uint8Array(32));
+    assert.throws(() => y.Session.restore({ runs: [...session.saved.runs, ["x", "y", front.toJSON()]], knownHashes: [] }));
     const made = [front.clone(), y.Subtree.merge([front, back]), y.Subtree.merge([run, run]), y.Subtree.fromJSON(front.toJSON()), y.Subtree.fromFlat(back.toFlat())];
     front.mergeInto(back);
     run.mergeInto(run);

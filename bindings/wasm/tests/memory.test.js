@@ -22,6 +22,7 @@ function scene(y) {
     const base64 = hash.base64();
     const restored = new y.Session();
     const middle = y.Subtree.fromChunks(false, chunks.slice(100, 200), false);
+    const { saved } = session;
     const others = Array.from({ length: COUNT }, (_, k) => y.Hash.randomFromSeed(1000 + k));
     const state = () => [
         plain(front), plain(back), session.numRuns, restored.numRuns, [0, 99, 100, 199, 200, 299, 300].map((position) => session.taken(position)), hash.hex(),
@@ -41,7 +42,11 @@ function scene(y) {
         fromJSON: () => plain(y.Subtree.fromJSON(json)),
         fromFlat: () => plain(y.Subtree.fromFlat(flat)),
         "new Session": () => new y.Session().numRuns,
-        run: () => plain(session.run(1)[1]),
+        run: () => plain(session.run(1)[2]),
+        "clone of a session": () => session.clone().numRuns,
+        gaps: () => session.gaps(300),
+        saved: () => session.saved,
+        restore: () => y.Session.restore(saved).numRuns,
         runFrom: () => plain(session.runFrom(100)[2]),
         knownHashes: () => session.knownHashes().length,
         // These change an object, so they come last.

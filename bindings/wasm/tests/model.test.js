@@ -70,7 +70,7 @@ function checksOver(y) {
                     assert.deepEqual(taken, places.flatMap((place, k) => (place >= 0n && place < 2n ** 64n ? [k === 1 || k === 2] : [])));
                 }
             }
-            assert.deepEqual(session.runs().map(([, range]) => range.toJSON()), it.ranges);
+            assert.deepEqual(session.runs().map(([, , range]) => range.toJSON()), it.ranges);
             assert.deepEqual(session.runs().map(([first]) => `${first}`), it.calls.at(-1).runs.map(([first]) => first));
             const calls = [() => session.root(BigInt(it.total)), () => session.finish(BigInt(it.total))];
             if (it.error) calls.forEach((call) => refused(call, it.error));

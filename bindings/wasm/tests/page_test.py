@@ -8,6 +8,7 @@ from __future__ import annotations
 
 import functools
 import http.server
+import shutil
 import sys
 import tempfile
 import threading
@@ -55,8 +56,8 @@ class Server(http.server.SimpleHTTPRequestHandler):
         pass
 
 
-def served() -> http.server.ThreadingHTTPServer:
-    handler = functools.partial(Server, directory=str(ROOT / "web"))
+def served(folder: Path) -> http.server.ThreadingHTTPServer:
+    handler = functools.partial(Server, directory=str(folder))
     server = http.server.ThreadingHTTPServer(("127.0.0.1", 0), handler)
     threading.Thread(target=server.serve_forever, daemon=True).start()
     return server
@@ -218,14 +219,41 @@ def whole(kind: Callable[[int, bool], Browser], url: str, width: int, dark: bool
         browser.close()
 
 
+def without_the_package(kind: Callable[[int, bool], Browser], photos: Path) -> None:
+    """Both tabs say what is missing, and what to do."""
+    browser = kind(1200, False)
+    said = "The folder yurewha isn't here; run bindings/wasm/build, which copies the package to it."
+    try:
+        with tempfile.TemporaryDirectory() as folder:
+            web = Path(folder, "web")
+            shutil.copytree(ROOT / "web", web, ignore=shutil.ignore_patterns("yurewha"))
+            browser.open(address_of(served(web)))
+            wait(browser, "'ready' in document.documentElement.dataset")
+            same([text(browser, "error"), browser.run("return document.getElementById('error').hidden")], [said, False])
+            browser.screenshot(photos / f"{kind.__name__.lower()}-without-the-package.png")
+            browser.run("document.getElementById('error').hidden = true")
+            Path(folder, "chunk").write_bytes(b"a chunk")
+            browser.click("#tab-files")
+            browser.type("#chunks-of", str(Path(folder, "chunk")))
+            wait(browser, "!document.getElementById('error').hidden")
+            same(text(browser, "error"), said)
+        print(f"{browser.version()}, without the package: passed")
+    finally:
+        browser.close()
+
+
+def address_of(server: http.server.ThreadingHTTPServer) -> str:
+    return f"http://127.0.0.1:{server.server_address[1]}/"
+
+
 def main() -> None:
     photos = Path(sys.argv[1])
     photos.mkdir(parents=True, exist_ok=True)
-    server = served()
-    url = f"http://127.0.0.1:{server.server_address[1]}/"
+    url = address_of(served(ROOT / "web"))
     for kind in (Chromium, Firefox):
         whole(kind, url, 1200, False, photos)
         whole(kind, url, 360 if kind is Chromium else 500, True, photos)
+        without_the_package(kind, photos)
 
 
 if __name__ == "__main__":

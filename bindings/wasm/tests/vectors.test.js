@@ -85,8 +85,14 @@ function checksOver(y) {
                 }
                 return;
             }
-            assert.deepEqual([y.xorbHash(chunks).hex(), y.fileHash(chunks).hex()], [it.root, it.fileHash]);
-            for (const row of it.salted ?? []) assert.equal(y.fileHash(chunks, unhex(row.saltBytes)).hex(), row.fileHash);
+            const whole = y.Subtree.fromChunks(true, chunks, true);
+            const session = new y.Session();
+            session.put(0, chunks);
+            const files = (salt) => [y.fileHash(chunks, salt), whole.fileHash(salt), session.finish(chunks.length, salt)].map(String);
+            assert.deepEqual([y.xorbHash(chunks).hex(), ...files()], [it.root, it.fileHash, it.fileHash, it.fileHash]);
+            for (const row of it.salted ?? []) assert.deepEqual(files(unhex(row.saltBytes)), Array(3).fill(row.fileHash));
+            whole.free();
+            session.free();
         },
         Parent(_, it) {
             const chunks = chunksOf(y, it.list);
@@ -149,7 +155,7 @@ function checksOver(y) {
                 if (call.call === "runs") {
                     const runs = session.runs();
                     assert.equal(session.numRuns, call.runs.length);
-                    runs.forEach(([first, range], k) => {
+                    runs.forEach(([first, , range], k) => {
                         assert.equal(first, BigInt(call.runs[k].first));
                         checkSubtree(range, call.runs[k]);
                     });

@@ -1,7 +1,14 @@
-// Checks of what a caller hands in.
+// Checks of what a caller hands in. None of them runs a caller's code.
 
 const MAX = 2n ** 64n - 1n;
 const encoder = new TextEncoder();
+
+// What an array of bytes says of itself. A subclass may say something else of its length or its elements.
+const said = Object.getOwnPropertyDescriptors(Object.getPrototypeOf(Uint8Array.prototype));
+const kindOf = said[Symbol.toStringTag].get;
+const bufferOf = said.buffer.get;
+const offsetOf = said.byteOffset.get;
+const lengthOf = said.length.get;
 
 /** A number from 0 to 2^64 - 1 as a BigInt, from a BigInt or a safe integer. */
 export function u64(value, what) {
@@ -16,14 +23,26 @@ export function truth(value, what) {
     return value;
 }
 
-/** A Uint8Array, of this realm or another. */
+/** The bytes of a Uint8Array, of this realm or another, as a plain view of them. */
 export function bytes(value, what) {
-    if (!ArrayBuffer.isView(value) || value[Symbol.toStringTag] !== "Uint8Array") throw new TypeError(`${what} is a Uint8Array`);
-    return value;
+    if (kindOf.call(value) !== "Uint8Array") throw new TypeError(`${what} is a Uint8Array`);
+    return new Uint8Array(bufferOf.call(value), offsetOf.call(value), lengthOf.call(value));
 }
 
 /** The UTF-8 bytes of a text. */
 export function text(value, what) {
     if (typeof value !== "string") throw new TypeError(`${what} is a string`);
     return encoder.encode(value);
+}
+
+/** A number from 0 to 2^64 - 1 as a BigInt, from its decimal digits. */
+export function decimal(value, what) {
+    if (typeof value !== "string" || !/^(0|[1-9][0-9]{0,19})$/.test(value)) throw new TypeError(`${what} is a text of decimal digits`);
+    return u64(BigInt(value), what);
+}
+
+/** The two members of a pair, which is an array. */
+export function pairOf(value, what) {
+    if (!Array.isArray(value) || value.length !== 2) throw new TypeError(what);
+    return [value[0], value[1]];
 }

@@ -1,30 +1,38 @@
 // Lists of chunks.
 
-import { bytes, u64 } from "./arguments.js";
+import { bytes, decimal, pairOf, u64 } from "./arguments.js";
 import { InvalidArguments } from "./errors.js";
 import { HASH_LENGTH } from "./hash.js";
+import { inspected, showing } from "./shown.js";
 
 export const CHUNK_LENGTH = 40;
 
+/** How many chunks Node's console shows unless it was told another number. */
+const MOST_SHOWN = 100;
+
 /** The class `Chunks` and `packedOf`, the bytes of a list: in 40 bytes a hash, and its size as eight bytes, the least first. */
 export function makeChunks({ Hash, rawOf }) {
-    let packedOf;
+    let isChunks, packedOf;
     class Chunks {
         #packed;
 
         static {
-            packedOf = (chunks) => Chunks.from(chunks).#packed;
+            isChunks = (chunks) => typeof chunks === "object" && chunks !== null && #packed in chunks;
+            packedOf = (chunks) => (isChunks(chunks) ? chunks.#packed : packed(chunks));
         }
 
         constructor(packed = new Uint8Array()) {
-            if (bytes(packed, "packed chunks").length % CHUNK_LENGTH !== 0) {
-                throw new InvalidArguments("packed chunks have 40 bytes each");
-            }
-            this.#packed = Uint8Array.from(packed);
+            this.#packed = bytes(packed, "packed chunks").slice();
+            if (this.#packed.length % CHUNK_LENGTH !== 0) throw new InvalidArguments("packed chunks have 40 bytes each");
+            show(this);
         }
 
         static from(chunks) {
-            return typeof chunks === "object" && chunks !== null && #packed in chunks ? chunks : new Chunks(packed(chunks));
+            return isChunks(chunks) ? chunks : new Chunks(packed(chunks));
+        }
+
+        static fromJSON(pairs) {
+            return new Chunks(packed([...pairs].map(read)));
         }
 
         get bytes() {
@@ -35,34 +43,66 @@ export function makeChunks({ Hash, rawOf }) {
             return this.#packed.length / CHUNK_LENGTH;
         }
 
-        at(place) {
-            const chunk = this.#packed.subarray(CHUNK_LENGTH * place, CHUNK_LENGTH * (place + 1));
-            if (!Number.isInteger(place) || chunk.length === 0) return undefined;
-            const size = new DataView(chunk.buffer, chunk.byteOffset).getBigUint64(HASH_LENGTH, true);
-            return [new Hash(chunk.subarray(0, HASH_LENGTH)), size];
+        at(index) {
+            const place = Math.trunc(index) || 0;
+            const start = CHUNK_LENGTH * (place < 0 ? this.length + place : place);
+            if (!(start >= 0 && start < this.#packed.length)) return undefined;
+            const size = new DataView(this.#packed.buffer).getBigUint64(start + HASH_LENGTH, true);
+            return [new Hash(this.#packed.subarray(start, start + HASH_LENGTH)), size];
         }
 
         slice(start = 0, end = this.length) {
-            const sliced = new Chunks();
-            sliced.#packed = this.#packed.slice(CHUNK_LENGTH * Math.trunc(start), CHUNK_LENGTH * Math.trunc(end));
-            return sliced;
+            return new Chunks(this.#packed.subarray(...[start, end].map((index) => CHUNK_LENGTH * Math.trunc(index))));
         }
 
         *[Symbol.iterator]() {
             for (let place = 0; place < this.length; place++) yield this.at(place);
         }
+
+        toJSON() {
+            return Array.from(this, ([hash, size]) => [hash.hex(), `${size}`]);
+        }
     }
+    const show = showing(Chunks, ["bytes"]);
+    inspected(Chunks, "Chunks", (chunks, inspect, { maxArrayLength }) => {
+        const { length } = chunks;
+        const most = Math.min(length, maxArrayLength ?? MOST_SHOWN);
+        const more = most < length ? ` and ${length - most} more` : "";
+        return `(${length}) ${inspect([...chunks.slice(0, most)])}${more}`;
+    });
 
     function packed(chunks) {
         const pairs = [...chunks];
         const block = new Uint8Array(CHUNK_LENGTH * pairs.length);
         const view = new DataView(block.buffer);
         pairs.forEach((pair, k) => {
-            if (!Array.isArray(pair) || pair.length !== 2) throw new TypeError(`chunk ${k} is a pair of a hash and a size`);
-            block.set(rawOf(pair[0], `the hash of chunk ${k}`), CHUNK_LENGTH * k);
-            view.setBigUint64(CHUNK_LENGTH * k + HASH_LENGTH, u64(pair[1], `the size of chunk ${k}`), true);
+            const [hash, size] = pairOf(pair, `chunk ${k} is a pair of a hash and a size`);
+            block.set(rawOf(hash, `the hash of chunk ${k}`), CHUNK_LENGTH * k);
+            view.setBigUint64(CHUNK_LENGTH * k + HASH_LENGTH, u64(size, `the size of chunk ${k}`), true);
         });
         return block;
     }
+
+    /** A pair of `toJSON`. */
+    function read(pair, k) {
+        const [hex, size] = pairOf(pair, `chunk ${k} is a pair of a hex text and a size`);
+        return [Hash.fromHex(hex), decimal(size, `the size of chunk ${k}`)];
+    }
     return { Chunks, packedOf };
+}
+
+/** The sum of the sizes of packed chunks, which is less than 2^64. It is made of Numbers, since adding BigInts takes several times
+ * as long. A Number is exact below 2^53. */
+export function sizeOf(packed) {
+    const view = new DataView(packed.buffer, packed.byteOffset, packed.byteLength);
+    let [low, high, sum] = [0, 0, 0n];
+    for (let at = HASH_LENGTH; at < packed.length; at += CHUNK_LENGTH) {
+        low += view.getUint32(at, true);
+        high += view.getUint32(at + 4, true);
+        if (low >= 2 ** 52) {
+            sum += BigInt(low);
+            low = 0;
+        }
+    }
+    return sum + BigInt(low) + (BigInt(high) << 32n);
 }

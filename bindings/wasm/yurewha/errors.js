@@ -17,12 +17,7 @@ const RULES = [
     "without `at_end`, right nodes below the top begin like the nodes after a last stable point",
 ];
 
-export class YurewhaError extends Error {
-    constructor(message, options) {
-        super(message, options);
-        this.name = new.target.name;
-    }
-}
+export class YurewhaError extends Error {}
 export class InvalidArguments extends YurewhaError {}
 export class SizeOverflow extends YurewhaError {}
 export class OutOfMemory extends YurewhaError {}
@@ -40,6 +35,26 @@ export class InvalidJson extends YurewhaError {
         super(`rule ${rule}: ${RULES[rule - 1]}`);
         this.rule = rule;
     }
+}
+
+// A minifier renames classes, but not members.
+const NAMED = {
+    EmptyHandle,
+    InvalidArguments,
+    InvalidJson,
+    InvalidText,
+    OutOfMemory,
+    SessionError,
+    SessionGap,
+    SessionOverlap,
+    SessionPositions,
+    SessionSizes,
+    SizeOverflow,
+    Trapped,
+    YurewhaError,
+};
+for (const [value, kind] of Object.entries(NAMED)) {
+    Object.defineProperty(kind.prototype, "name", { value, writable: true, configurable: true });
 }
 
 /** The statuses of include/yurewha.h that a call of the package can return. */

@@ -59,8 +59,13 @@ export class Handle {
 
     /** Where it is; throws EmptyHandle after it was freed. */
     get pointer() {
-        if (this.#pointer === null) throw emptyHandle();
+        this.mustBeOwned();
         return this.#pointer;
+    }
+
+    /** Throws EmptyHandle after it was freed. */
+    mustBeOwned() {
+        if (this.#pointer === null) throw emptyHandle();
     }
 
     /** Frees it; nothing happens the second time. */

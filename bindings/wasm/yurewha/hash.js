@@ -2,6 +2,7 @@
 
 import { bytes, text, u64 } from "./arguments.js";
 import { InvalidArguments, check } from "./errors.js";
+import { inspected, showing } from "./shown.js";
 
 export const HASH_LENGTH = 32;
 const HEX_LENGTH = 64;
@@ -12,8 +13,9 @@ const decoder = new TextDecoder();
 
 /** A copy of 32 bytes. */
 export function thirtyTwo(value, what) {
-    if (bytes(value, what).length !== HASH_LENGTH) throw new InvalidArguments(`${what} has 32 bytes`);
-    return Uint8Array.from(value);
+    const found = bytes(value, what);
+    if (found.length !== HASH_LENGTH) throw new InvalidArguments(`${what} has 32 bytes`);
+    return found.slice();
 }
 
 /**
@@ -36,6 +38,7 @@ export function makeHash(library) {
 
         constructor(raw = new Uint8Array(HASH_LENGTH)) {
             this.#raw = thirtyTwo(raw, "a hash");
+            show(this);
         }
 
         static fromHex(hex) {
@@ -64,7 +67,7 @@ export function makeHash(library) {
         }
 
         hmac(key) {
-            return result([this.#raw, rawOf(key, "a key")], (...pointers) => library.call("yurewha_hmac", ...pointers));
+            return hmac(this.#raw, rawOf(key, "a key"));
         }
 
         remainder(divisor) {
@@ -91,6 +94,8 @@ export function makeHash(library) {
             return this.hex();
         }
     }
+    const show = showing(Hash, ["bytes"]);
+    inspected(Hash, "Hash", (hash) => `(${hash.hex()})`);
 
     /** The hash that a call writes to the last of its pointers. */
     function result(parts, run) {
@@ -99,6 +104,11 @@ export function makeHash(library) {
             return new Hash(library.read(pointers.at(-1), HASH_LENGTH));
         });
     }
+    /** The hashes that stand side by side. */
+    const unpacked = (block) =>
+        Array.from({ length: block.length / HASH_LENGTH }, (_, k) => new Hash(block.subarray(HASH_LENGTH * k, HASH_LENGTH * (k + 1))));
+    /** The keyed hash of 32 bytes under 32 bytes. */
+    const hmac = (raw, key) => result([raw, key], (...pointers) => library.call("yurewha_hmac", ...pointers));
     const parsed = (name, given, what) =>
         result([given], (at, out) => check(library.call(name, at, BigInt(given.length), out), what));
     const written = (name, raw, length) =>
@@ -106,5 +116,5 @@ export function makeHash(library) {
             check(library.call(name, hash, room, BigInt(length), out));
             return decoder.decode(library.read(room, length));
         });
-    return { Hash, rawOf, result };
+    return { Hash, rawOf, result, unpacked, hmac };
 }

@@ -1,13 +1,16 @@
 // What hashes bytes.
 
-import { bytes } from "./arguments.js";
-import { check } from "./errors.js";
+import { bytes, u64 } from "./arguments.js";
+import { InvalidArguments, check } from "./errors.js";
 import { HASH_LENGTH, thirtyTwo } from "./hash.js";
 import { AREA } from "./library.js";
+import { inspected, showing } from "./shown.js";
 
 /** The size of `yurewha_hasher`, which holds no pointers: a copy of its bytes is a copy of the hasher. */
 const STATE_LENGTH = 2048;
+/** So many bytes and so many chunks go to the module at once, so that they fit its area. */
 const PIECE = AREA / 2;
+const MOST_CHUNKS = 4096;
 
 /** The class `Hasher`, whose state is a copy in JavaScript's memory, so that there is nothing to free. */
 function makeHasher(library, { result }) {
@@ -16,8 +19,12 @@ function makeHasher(library, { result }) {
             library.call(name, state, ...pointers);
             return library.read(state, STATE_LENGTH);
         });
-    return class Hasher {
+    class Hasher {
         #state = begun("yurewha_hasher_begin_data");
+
+        constructor() {
+            show(this);
+        }
 
         static internalNode() {
             const hasher = new Hasher();
@@ -33,6 +40,10 @@ function makeHasher(library, { result }) {
 
         get count() {
             return library.over([this.#state], (state) => BigInt.asUintN(64, library.call("yurewha_hasher_count", state)));
+        }
+
+        get hash() {
+            return this.digest();
         }
 
         update(data) {
@@ -52,7 +63,10 @@ function makeHasher(library, { result }) {
             copy.#state = this.#state;
             return copy;
         }
-    };
+    }
+    const show = showing(Hasher, ["hash"]);
+    inspected(Hasher, "Hasher", ({ count, hash }, inspect) => ` ${inspect({ count, hash })}`);
+    return Hasher;
 
     function updated(before, piece) {
         return library.over([before, piece], (state, at) => {
@@ -60,6 +74,33 @@ function makeHasher(library, { result }) {
             return library.read(state, STATE_LENGTH);
         });
     }
+}
+
+/** Takes each piece of a stream, which may not be iterable itself, and cancels it for what `take` throws. */
+async function readAll(stream, take) {
+    const reader = stream.getReader();
+    try {
+        for (;;) {
+            const { done, value } = await reader.read();
+            if (done) return;
+            take(value);
+        }
+    } catch (error) {
+        reader.cancel(error).catch(() => {});
+        throw error;
+    } finally {
+        reader.releaseLock();
+    }
+}
+
+/** Offsets in a message of some length, as Numbers, none of which is less than the one before it. */
+function checkedOffsets(offsets, length) {
+    if (offsets.length === 0) throw new InvalidArguments("there is no offset");
+    offsets.forEach((offset, k) => {
+        if (offset < (offsets[k - 1] ?? 0n)) throw new InvalidArguments(`offset ${k} is less than the one before it`);
+        if (offset > BigInt(length)) throw new InvalidArguments(`offset ${k} is greater than the number of bytes`);
+    });
+    return offsets.map(Number);
 }
 
 /** `Hasher`, and the calls that hash bytes at once or from a stream. */
@@ -70,26 +111,41 @@ export function makeHashing(library, hashes) {
         if (message.length > PIECE) return begin().update(message).digest();
         return hashes.result([message], (at, out) => library.call(name, at, BigInt(message.length), out));
     };
-    async function hashStream(stream) {
-        const reader = stream.getReader();
-        const hasher = new Hasher();
-        try {
-            for (;;) {
-                const { done, value } = await reader.read();
-                if (done) return hasher.digest();
-                hasher.update(value);
-            }
-        } catch (error) {
-            reader.cancel(error).catch(() => {});
-            throw error;
-        } finally {
-            reader.releaseLock();
+    const dataHash = whole("yurewha_data_hash", () => new Hasher());
+
+    function dataHashes(data, offsets) {
+        const listed = [...offsets].map((offset, k) => u64(offset, `offset ${k}`));
+        const message = bytes(data, "data");
+        const places = checkedOffsets(listed, message.length);
+        const found = [];
+        for (let from = 0, to; from + 1 < places.length; from = to) {
+            to = from + 1;
+            while (to + 1 < places.length && places[to + 1] - places[from] <= PIECE && to - from < MOST_CHUNKS) to++;
+            found.push(...hashesOf(message, places.slice(from, to + 1)));
         }
+        return found;
     }
-    return {
-        Hasher,
-        hashStream,
-        dataHash: whole("yurewha_data_hash", () => new Hasher()),
-        internalNodeHash: whole("yurewha_internal_node_hash", () => Hasher.internalNode()),
-    };
+
+    /** The hashes of chunks that the module takes at once, or of one longer chunk. */
+    function hashesOf(message, places) {
+        const part = message.subarray(places[0], places.at(-1));
+        if (part.length > PIECE) return [dataHash(part)];
+        const count = places.length - 1;
+        const offsets = new Uint8Array(BigUint64Array.from(places, (place) => BigInt(place - places[0])).buffer);
+        return library.over([part, offsets, HASH_LENGTH * count], (at, offsetsAt, out) => {
+            const given = [at, BigInt(part.length), offsetsAt, BigInt(places.length), out, BigInt(count)];
+            check(library.call("yurewha_data_hashes", ...given));
+            return hashes.unpacked(library.read(out, HASH_LENGTH * count));
+        });
+    }
+
+    async function hashStream(source) {
+        const hasher = new Hasher();
+        if (typeof source?.getReader === "function") await readAll(source, (piece) => hasher.update(piece));
+        else for await (const piece of source) hasher.update(piece);
+        return hasher.digest();
+    }
+
+    const internalNodeHash = whole("yurewha_internal_node_hash", () => Hasher.internalNode());
+    return { Hasher, dataHash, dataHashes, hashStream, internalNodeHash };
 }

@@ -1,8 +1,13 @@
 /**
  * Computes the hashes by which the Hugging Face Xet store names chunks and files. Also merges the subtrees of adjacent ranges
- * of chunks without the chunks.
+ * of chunks without the chunks. It doesn't cut files into chunks.
  *
  * The algorithm is proved. Its translation to WebAssembly is only tested.
+ *
+ * Objects keep their bytes in private members. What comparisons need is an own property of each, so `deepStrictEqual` of two
+ * objects compares their values. A structured clone is a plain object with these properties, and no call takes it. To hand an
+ * object to a worker, send what it can be made of again: `bytes` of a `Hash` or `Chunks`, `toJSON()` of a `Subtree`, `saved` of
+ * a `Session`.
  */
 
 declare global {
@@ -23,7 +28,7 @@ export type Chunk = readonly [hash: Hash, size: U64];
 export type ChunkList = Chunks | Iterable<Chunk>;
 
 /** Where the module comes from: its compiled form, its bytes, a response with them, or the address of a file. */
-export type Source = WebAssembly.Module | ArrayBuffer | Uint8Array | Response | URL | string;
+export type Source = (WebAssembly.Module & object) | ArrayBuffer | Uint8Array | Response | URL | string;
 
 /**
  * Loads the module, by default `yurewha.wasm` next to this file, and returns the package. Each call makes an instance with its
@@ -47,9 +52,17 @@ export interface Yurewha {
     /** Returns the hash of an inner node of the tree. `data` is its text. The hash is keyed BLAKE3 under the internal key. */
     internalNodeHash(data: Uint8Array): Hash;
 
-    /** Returns the hash of a chunk whose data comes in pieces. It is the same as that of `dataHash`. A piece that isn't a
-     * `Uint8Array` is a `TypeError`; the stream is then cancelled. */
-    hashStream(stream: ReadableStream<Uint8Array>): Promise<Hash>;
+    /**
+     * Returns the hashes of chunks whose data is in one array. The data of chunk i starts at `offsets[i]` and ends before
+     * `offsets[i + 1]`, so there is one more offset than there are chunks.
+     * @throws InvalidArguments there is no offset, an offset is less than the one before it, or greater than the number of bytes
+     */
+    dataHashes(data: Uint8Array, offsets: Iterable<U64>): Hash[];
+
+    /** Returns the hash of a chunk whose data comes in pieces, from a stream, such as that of a `Blob` or of Node, or from any other
+     * iterable. It is the same as that of `dataHash`. A piece that isn't a `Uint8Array` is a `TypeError`; the stream is then
+     * cancelled. */
+    hashStream(source: ReadableStream<Uint8Array> | AsyncIterable<Uint8Array> | Iterable<Uint8Array>): Promise<Hash>;
 
     /**
      * Returns the root of a list of chunks. With no chunks it is the default hash. With one chunk it is its own hash. With more
@@ -130,11 +143,14 @@ export interface Chunks extends Iterable<[hash: Hash, size: bigint]> {
     /** A copy of the packed form: for each chunk its hash, then its size as eight bytes, little-endian. */
     readonly bytes: Uint8Array;
 
-    /** Returns the chunk at an index, from 0 on, or undefined if there is none. */
-    at(place: number): [hash: Hash, size: bigint] | undefined;
+    /** Returns the chunk at an index, like `at` of arrays, or undefined if there is none. A negative index counts from the end. */
+    at(index: number): [hash: Hash, size: bigint] | undefined;
 
     /** Returns the chunks from `start` up to, but not including, `end`, like `slice` of arrays. */
     slice(start?: number, end?: number): Chunks;
+
+    /** Returns pairs of a hash's hex text and a size's decimal digits. Sizes are texts because they may be more than 2^53. */
+    toJSON(): [hex: string, size: string][];
 }
 
 export interface ChunksConstructor {
@@ -145,12 +161,19 @@ export interface ChunksConstructor {
 
     /** Packs a list. */
     from(chunks: ChunkList): Chunks;
+
+    /** Makes a list of the pairs that `toJSON` returns.
+     * @throws InvalidText a hex text isn't 64 hex digits */
+    fromJSON(pairs: Iterable<readonly [hex: string, size: string]>): Chunks;
 }
 
 /** A hasher for a message that comes in pieces. It holds no memory of the module, so there is nothing to free. */
 export interface Hasher {
     /** The length of the message in bytes. */
     readonly count: bigint;
+
+    /** What `digest` returns. */
+    readonly hash: Hash;
 
     /** Appends a piece to the message.
      * @throws SizeOverflow the message would have more than 2^64 - 1 bytes */
@@ -209,6 +232,9 @@ export interface Subtree extends Freed {
     /** The numbers of left and right nodes of each level, from the chunks up. */
     readonly levels: [left: number, right: number][];
 
+    /** The kept nodes, in the order of `Flat`. */
+    readonly nodes: Chunks;
+
     /**
      * Merges the range that follows into this one, and returns how many parents were hashed for it. The other range is unchanged.
      * @throws InvalidArguments this range is marked at its end, or the other at its start
@@ -218,6 +244,10 @@ export interface Subtree extends Freed {
 
     /** Returns the root of the chunks, or null if an end isn't marked. */
     finalHash(): Hash | null;
+
+    /** Returns the file hash of the chunks, without a salt or under one of 32 bytes, or null if an end isn't marked.
+     * @throws InvalidArguments the salt has another length */
+    fileHash(salt?: Uint8Array): Hash | null;
 
     clone(): Subtree;
 
@@ -290,24 +320,34 @@ export interface Session extends Freed {
     /** Returns whether a position is taken. */
     taken(position: U64): boolean;
 
+    /** The number of taken positions. */
+    readonly numChunks: bigint;
+
+    /** The sum of the sizes of all chunks, in bytes. */
+    readonly totalSize: bigint;
+
     /** The number of runs of adjacent taken positions. */
     readonly numRuns: number;
 
-    /** Returns the first position of a run, and a copy of the subtree of its chunks, open at both ends. Runs are numbered from 0,
-     * by rising position.
+    /** Returns a run: its first position, the position after its last one, and a copy of the subtree of its chunks, open at both
+     * ends. Runs are numbered from 0, by rising position. The time is proportional to the number.
      * @throws InvalidArguments there is no such run */
-    run(place: U64): [first: bigint, range: Subtree];
+    run(place: U64): Run;
 
     /** Returns all runs, by rising position. */
-    runs(): [first: bigint, range: Subtree][];
+    runs(): Run[];
 
-    /** Returns the first run that ends after a position: the run that holds it or else the next one. `first` is its first position,
-     * and `end` the position after its last one. The result is null if no run ends after the position. */
-    runFrom(position: U64): [first: bigint, end: bigint, range: Subtree] | null;
+    /** Returns the first run that ends after a position: the run that holds it or else the next one. The result is null if no run
+     * ends after the position. */
+    runFrom(position: U64): Run | null;
+
+    /** Returns the positions below `total` that aren't taken, as ranges by rising position: the first position of each, and the
+     * position after its last one. */
+    gaps(total: U64): [first: bigint, end: bigint][];
 
     /**
      * Adds a run after all runs of this session: the positions from `first` to `end` - 1, and a copy of the subtree of its chunks. So
-     * a session can be restored from what `runFrom` and `knownHashes` returned. The call can't check that there are as many chunks
+     * a session can be restored from what `runs` and `knownHashes` returned. The call can't check that there are as many chunks
      * as positions. If there aren't, the root and the file hash are those of the chunks of the subtrees, and all else goes by the
      * positions. The session doesn't know the hashes of the chunks before these are kept or put.
      * @throws InvalidArguments there is no position, the subtree is marked at an end, or a position from `first` - 1 on is taken
@@ -322,19 +362,41 @@ export interface Session extends Freed {
      * that were kept. */
     knownHashes(): Hash[];
 
+    /** The whole session, of which `restore` makes it again, also from a structured clone or from JSON. */
+    readonly saved: SavedSession;
+
     /** Returns the root of all chunks in the order of their positions. The session is unchanged.
      * @throws SessionGap the taken positions aren't exactly those from 0 to `total` - 1 */
     root(total: U64): Hash;
 
-    /** Returns the file hash, without a salt, of all chunks in the order of their positions. The session is unchanged.
+    /** Returns the file hash, without a salt or under one of 32 bytes, of all chunks in the order of their positions. The session is
+     * unchanged.
+     * @throws InvalidArguments the salt has another length
      * @throws SessionGap the taken positions aren't exactly those from 0 to `total` - 1 */
-    finish(total: U64): Hash;
+    finish(total: U64, salt?: Uint8Array): Hash;
+
+    /** Returns a session with the same chunks, which knows the same hashes. */
+    clone(): Session;
 }
 
 export interface SessionConstructor {
     /** Makes a session without chunks. */
     new (): Session;
     readonly prototype: Session;
+
+    /** Makes a session of what `saved` returned, perhaps in another instance. Errors are those of `Subtree.fromJSON`,
+     * `Hash.fromHex` and `pushRun`. */
+    restore(saved: SavedSession): Session;
+}
+
+/** A run of adjacent taken positions: the first one, the one after the last, and the subtree of the chunks. */
+export type Run = [first: bigint, end: bigint, range: Subtree];
+
+/** A session as lists of texts: its runs by rising position, with their positions in decimal digits and the JSON text of each
+ * subtree, and the hex texts of the hashes that it knows, in rising order. */
+export interface SavedSession {
+    readonly runs: readonly (readonly [first: string, end: string, json: string])[];
+    readonly knownHashes: readonly string[];
 }
 
 /** The base class of all errors of this package, except those for a wrong type or a number out of range. */

@@ -1,7 +1,6 @@
 // The package `yurewha`: index.d.ts says what each call is for.
 
-import { instanceOver } from "./instance.js";
-import { Library } from "./library.js";
+import { loader } from "./load.js";
 
 export {
     EmptyHandle,
@@ -19,23 +18,5 @@ export {
     YurewhaError,
 } from "./errors.js";
 
-/** Everything that the package has, over one instance of the module. */
-export async function load(source = new URL("./yurewha.wasm", import.meta.url)) {
-    const instance = await WebAssembly.instantiate(await compiled(await source), {});
-    return instanceOver(new Library(instance.exports));
-}
-
-/** A compiled module, of itself, its bytes, a response that has them, or the address of a file. */
-async function compiled(source) {
-    if (source instanceof WebAssembly.Module) return source;
-    if (ArrayBuffer.isView(source) || source instanceof ArrayBuffer) return WebAssembly.compile(source);
-    if (source instanceof Response) return WebAssembly.compile(await source.arrayBuffer());
-    const url = new URL(source, import.meta.url);
-    if (url.protocol === "file:") {
-        const { readFile } = await import("node:fs/promises");
-        return WebAssembly.compile(await readFile(url));
-    }
-    const response = await fetch(url);
-    if (!response.ok) throw new Error(`${url}: status ${response.status}`);
-    return WebAssembly.compile(await response.arrayBuffer());
-}
+// Only a file is read by Node, so a browser runs this entry too.
+export const load = loader(async (url) => (await import("node:fs/promises")).readFile(url));

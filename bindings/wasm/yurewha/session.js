@@ -1,43 +1,83 @@
 // Sessions: chunks by their positions, which come in any order.
 
-import { u64 } from "./arguments.js";
-import { CHUNK_LENGTH } from "./chunks.js";
+import { decimal, u64 } from "./arguments.js";
+import { CHUNK_LENGTH, sizeOf } from "./chunks.js";
 import { STATUS, check } from "./errors.js";
-import { Handles, disposable } from "./handle.js";
-import { HASH_LENGTH } from "./hash.js";
+import { Handle, Handles, disposable } from "./handle.js";
+import { HASH_LENGTH, thirtyTwo } from "./hash.js";
+import { inspected, showing } from "./shown.js";
 
 const unfit = "the run has no position, is marked at an end, or leaves no gap after the runs before it";
 
 /** The class `Session` over a library. */
-export function makeSession(library, { Hash, rawOf, result }, { packedOf }, { owned, pointerOf }) {
+export function makeSession(library, { Hash, rawOf, result, unpacked, hmac }, { packedOf }, { Subtree, owned, pointerOf, totalSizeOf }) {
     const handles = new Handles(library, "yurewha_session_free");
 
+    // A caller's iterators and getters may free the session. So each call takes the pointer after the last of them has run.
     class Session {
         #handle;
+        #numChunks = 0n;
+        #totalSize = 0n;
 
-        constructor() {
-            this.#handle = handles.make((made) => check(library.call("yurewha_session_new", made)));
+        constructor(handle) {
+            this.#handle = handle instanceof Handle ? handle : handles.make((made) => check(library.call("yurewha_session_new", made)));
             handles.watch(this, this.#handle);
+            show(this);
+        }
+
+        static restore({ runs, knownHashes }) {
+            const session = new Session();
+            try {
+                for (const [first, end, json] of runs) {
+                    session.#pushSaved(decimal(first, "a position"), decimal(end, "a position"), Subtree.fromJSON(json));
+                }
+                session.keepHashes([...knownHashes].map((hex) => Hash.fromHex(hex)));
+            } catch (error) {
+                session.free();
+                throw error;
+            }
+            return session;
+        }
+
+        clone() {
+            const { pointer } = this.#handle;
+            const copy = new Session(handles.make((made) => check(library.call("yurewha_session_copy", pointer, made))));
+            copy.#numChunks = this.#numChunks;
+            copy.#totalSize = this.#totalSize;
+            return copy;
         }
 
         put(first, chunks) {
             const position = u64(first, "a position");
             const packed = packedOf(chunks);
+            const count = BigInt(packed.length / CHUNK_LENGTH);
             const { pointer } = this.#handle;
-            return library.over([packed, 8], (at, out) => {
-                const count = BigInt(packed.length / CHUNK_LENGTH);
+            const fresh = library.over([packed, 8], (at, out) => {
                 check(library.call("yurewha_session_put", pointer, position, at, count, out));
                 return library.count(out);
             });
+            this.#numChunks += count;
+            this.#totalSize += sizeOf(packed);
+            return fresh;
         }
 
         taken(position) {
-            const { pointer } = this.#handle;
             const number = u64(position, "a position");
+            const { pointer } = this.#handle;
             return library.over([1], (out) => {
                 check(library.call("yurewha_session_taken", pointer, number, out));
                 return library.truth(out);
             });
+        }
+
+        get numChunks() {
+            this.#handle.mustBeOwned();
+            return this.#numChunks;
+        }
+
+        get totalSize() {
+            this.#handle.mustBeOwned();
+            return this.#totalSize;
         }
 
         get numRuns() {
@@ -49,19 +89,18 @@ export function makeSession(library, { Hash, rawOf, result }, { packedOf }, { ow
         }
 
         run(place) {
-            const { pointer } = this.#handle;
             const number = u64(place, "the place of a run");
-            return library.over([8], (out) => {
-                const subtree = owned((made) => {
-                    check(library.call("yurewha_session_run", pointer, number, out, made), "there is no such run");
-                });
-                return [library.u64(out), subtree];
+            const { pointer } = this.#handle;
+            const first = library.over([8], (out) => {
+                owned((made) => check(library.call("yurewha_session_run", pointer, number, out, made), "there is no such run")).free();
+                return library.u64(out);
             });
+            return this.runFrom(first);
         }
 
         runFrom(position) {
-            const { pointer } = this.#handle;
             const number = u64(position, "a position");
+            const { pointer } = this.#handle;
             return library.over([8, 8], (first, end) => {
                 let status;
                 const subtree = owned((made) => {
@@ -74,27 +113,38 @@ export function makeSession(library, { Hash, rawOf, result }, { packedOf }, { ow
             });
         }
 
-        // Each run is the first that ends after the one before it.
         runs() {
+            return [...this.#allRuns()];
+        }
+
+        gaps(total) {
+            const limit = u64(total, "the total");
+            const gaps = [];
             let position = 0n;
-            return Array.from({ length: this.numRuns }, () => {
-                const [first, end, subtree] = this.runFrom(position);
+            for (const [first, end, range] of this.#allRuns()) {
+                range.free();
+                if (first >= limit) break;
+                if (position < first) gaps.push([position, first]);
                 position = end;
-                return [first, subtree];
-            });
+            }
+            if (position < limit) gaps.push([position, limit]);
+            return gaps;
         }
 
         pushRun(first, end, range) {
+            const [from, to] = [u64(first, "a position"), u64(end, "a position")];
+            const size = totalSizeOf(range);
             const { pointer } = this.#handle;
-            const positions = [u64(first, "a position"), u64(end, "a position")];
-            check(library.call("yurewha_session_push_run", pointer, ...positions, pointerOf(range)), unfit);
+            check(library.call("yurewha_session_push_run", pointer, from, to, pointerOf(range)), unfit);
+            this.#numChunks += to - from;
+            this.#totalSize += size;
         }
 
         keepHashes(hashes) {
-            const { pointer } = this.#handle;
             const listed = [...hashes];
             const packed = new Uint8Array(HASH_LENGTH * listed.length);
             listed.forEach((hash, k) => packed.set(rawOf(hash, `hash ${k}`), HASH_LENGTH * k));
+            const { pointer } = this.#handle;
             library.over([packed], (at) => {
                 check(library.call("yurewha_session_keep_hashes", pointer, at, BigInt(listed.length)));
             });
@@ -110,26 +160,54 @@ export function makeSession(library, { Hash, rawOf, result }, { packedOf }, { ow
                 check(library.call("yurewha_session_known_hashes", pointer, at, BigInt(count)));
                 return library.read(at, HASH_LENGTH * count);
             });
-            return Array.from({ length: count }, (_, k) => new Hash(packed.subarray(HASH_LENGTH * k, HASH_LENGTH * (k + 1))));
+            return unpacked(packed);
+        }
+
+        get saved() {
+            const saved = ([first, end, range]) => {
+                const json = range.toJSON();
+                range.free();
+                return [`${first}`, `${end}`, json];
+            };
+            const knownHashes = this.knownHashes().map((hash) => hash.hex());
+            return { runs: Array.from(this.#allRuns(), saved), knownHashes: knownHashes.sort() };
         }
 
         root(total) {
             return this.#ofAll("yurewha_session_root", total);
         }
 
-        finish(total) {
-            return this.#ofAll("yurewha_session_finish", total);
-        }
-
-        #ofAll(name, total) {
-            const { pointer } = this.#handle;
-            const number = u64(total, "the total");
-            return result([], (out) => check(library.call(name, pointer, number, out)));
+        finish(total, salt) {
+            if (salt === undefined) return this.#ofAll("yurewha_session_finish", total);
+            const key = thirtyTwo(salt, "a salt");
+            const root = this.#ofAll("yurewha_session_root", total);
+            return u64(total, "the total") === 0n ? root : hmac(rawOf(root), key);
         }
 
         free() {
             this.#handle.free();
         }
+
+        #ofAll(name, total) {
+            const number = u64(total, "the total");
+            const { pointer } = this.#handle;
+            return result([], (out) => check(library.call(name, pointer, number, out)));
+        }
+
+        /** All runs by rising position: each is the first that ends after the one before it. */
+        *#allRuns() {
+            for (let run, end = 0n; (run = this.runFrom(end)) !== null; end = run[1]) yield run;
+        }
+
+        #pushSaved(first, end, range) {
+            try {
+                this.pushRun(first, end, range);
+            } finally {
+                range.free();
+            }
+        }
     }
+    const show = showing(Session, ["saved"]);
+    inspected(Session, "Session", ({ numChunks, totalSize, numRuns }, inspect) => ` ${inspect({ numChunks, totalSize, numRuns })}`);
     return disposable(Session);
 }

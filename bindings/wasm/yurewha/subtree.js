@@ -1,9 +1,11 @@
 // Subtrees: what is kept of a range of chunks.
 
-import { bytes, text, truth, u64 } from "./arguments.js";
+import { bytes, pairOf, text, truth, u64 } from "./arguments.js";
 import { CHUNK_LENGTH } from "./chunks.js";
 import { STATUS, check } from "./errors.js";
 import { HANDLE_LENGTH, Handle, Handles, disposable } from "./handle.js";
+import { thirtyTwo } from "./hash.js";
+import { inspected, showing } from "./shown.js";
 
 const LEVEL_LENGTH = 16;
 const decoder = new TextDecoder();
@@ -11,7 +13,7 @@ const flag = (value) => (value ? 1 : 0);
 const misplaced = "of adjacent ranges, only the first may be marked at its start, and only the last at its end";
 
 /** The class `Subtree` over a library. `owned` makes one that a call writes to its handle; `pointerOf` is where a handle is. */
-export function makeSubtree(library, { result }, { Chunks, packedOf }) {
+export function makeSubtree(library, { Hash, rawOf, result, hmac }, { Chunks, packedOf }) {
     const handles = new Handles(library, "yurewha_subtree_free");
     const owned = (fill) => new Subtree(handles.make(fill));
     let pointerOf;
@@ -32,6 +34,7 @@ export function makeSubtree(library, { result }, { Chunks, packedOf }) {
             if (!(handle instanceof Handle)) throw new TypeError("a Subtree is made by fromChunks, merge, fromJSON or fromFlat");
             this.#handle = handle;
             handles.watch(this, handle);
+            show(this);
         }
 
         static fromChunks(atStart, chunks, atEnd) {
@@ -50,11 +53,12 @@ export function makeSubtree(library, { result }, { Chunks, packedOf }) {
             const copies = [];
             // The handles of one call are distinct, so a range that comes again is copied.
             const distinct = (range) => {
-                pointerOf(range);
-                if (seen.has(range)) copies.push(range.clone());
-                const found = seen.has(range) ? copies.at(-1) : range;
-                seen.add(range);
-                return found;
+                if (!seen.has(range)) {
+                    seen.add(range);
+                    return range;
+                }
+                copies.push(cloned(range));
+                return copies.at(-1);
             };
             try {
                 return mergedAll([...ranges].map(distinct));
@@ -93,44 +97,47 @@ export function makeSubtree(library, { result }, { Chunks, packedOf }) {
         }
 
         get totalSize() {
-            return told("yurewha_subtree_total_size", this);
+            return totalSizeOf(this);
         }
 
         get numNodes() {
-            return Number(told("yurewha_subtree_num_nodes", this));
+            return numNodesOf(this);
         }
 
         get numLevels() {
-            return Number(told("yurewha_subtree_num_levels", this));
+            return numLevelsOf(this);
         }
 
         get levels() {
-            return this.toFlat().levels;
+            return flatOf(this).levels;
+        }
+
+        get nodes() {
+            return flatOf(this).nodes;
         }
 
         mergeInto(back) {
-            if (back === this) {
-                const copy = this.clone();
-                try {
-                    return this.mergeInto(copy);
-                } finally {
-                    copy.free();
-                }
+            if (back !== this) return merged(this, back);
+            const copy = cloned(this);
+            try {
+                return merged(this, copy);
+            } finally {
+                copy.free();
             }
-            const pointers = [pointerOf(this), pointerOf(back)];
-            return library.over([8], (parents) => {
-                check(library.call("yurewha_subtree_merge_into_counted", ...pointers, parents), misplaced);
-                return library.count(parents);
-            });
         }
 
         finalHash() {
-            if (!(this.atStart && this.atEnd)) return null;
-            return result([], (out) => check(library.call("yurewha_subtree_final_hash", pointerOf(this), out)));
+            return finalHashOf(this);
+        }
+
+        fileHash(salt) {
+            const key = salt === undefined ? rawOf(new Hash()) : thirtyTwo(salt, "a salt");
+            const root = finalHashOf(this);
+            return root === null || numNodesOf(this) === 0 ? root : hmac(rawOf(root), key);
         }
 
         clone() {
-            return owned((copy) => check(library.call("yurewha_subtree_clone", pointerOf(this), copy)));
+            return cloned(this);
         }
 
         equals(other) {
@@ -151,21 +158,17 @@ export function makeSubtree(library, { result }, { Chunks, packedOf }) {
         }
 
         toFlat() {
-            const [atStart, atEnd] = marksOf(this);
-            const [levelCount, nodeCount] = [this.numLevels, this.numNodes];
-            const parts = [LEVEL_LENGTH * levelCount, CHUNK_LENGTH * nodeCount, 8, 8];
-            return library.over(parts, (levels, nodes, ...counts) => {
-                const rooms = [levels, BigInt(levelCount), nodes, BigInt(nodeCount)];
-                check(library.call("yurewha_subtree_to_flat", pointerOf(this), ...rooms, ...counts));
-                const packed = library.read(nodes, parts[1]);
-                return { atStart, levels: unpackedLevels(library.read(levels, parts[0])), nodes: new Chunks(packed), atEnd };
-            });
+            return flatOf(this);
         }
 
         free() {
             this.#handle.free();
         }
     }
+    const show = showing(Subtree, ["atStart", "levels", "nodes", "atEnd"]);
+    inspected(Subtree, "Subtree", ({ atStart, atEnd, totalSize, numLevels, numNodes }, inspect) => {
+        return ` ${inspect({ atStart, atEnd, totalSize, numLevels, numNodes })}`;
+    });
 
     /** A number that a call writes of a subtree. */
     const told = (name, subtree) => {
@@ -175,6 +178,10 @@ export function makeSubtree(library, { result }, { Chunks, packedOf }) {
             return library.u64(out);
         });
     };
+
+    const totalSizeOf = (subtree) => told("yurewha_subtree_total_size", subtree);
+    const numNodesOf = (subtree) => Number(told("yurewha_subtree_num_nodes", subtree));
+    const numLevelsOf = (subtree) => Number(told("yurewha_subtree_num_levels", subtree));
 
     const marksOf = (subtree) => {
         const pointer = pointerOf(subtree);
@@ -194,6 +201,40 @@ export function makeSubtree(library, { result }, { Chunks, packedOf }) {
         });
     };
 
+    const cloned = (subtree) => {
+        const pointer = pointerOf(subtree);
+        return owned((copy) => check(library.call("yurewha_subtree_clone", pointer, copy)));
+    };
+
+    /** The root, or null if an end isn't marked. */
+    function finalHashOf(subtree) {
+        const pointer = pointerOf(subtree);
+        if (marksOf(subtree).includes(false)) return null;
+        return result([], (out) => check(library.call("yurewha_subtree_final_hash", pointer, out)));
+    }
+
+    function flatOf(subtree) {
+        const pointer = pointerOf(subtree);
+        const [atStart, atEnd] = marksOf(subtree);
+        const [levelCount, nodeCount] = [numLevelsOf(subtree), numNodesOf(subtree)];
+        const parts = [LEVEL_LENGTH * levelCount, CHUNK_LENGTH * nodeCount, 8, 8];
+        return library.over(parts, (levels, nodes, ...counts) => {
+            const rooms = [levels, BigInt(levelCount), nodes, BigInt(nodeCount)];
+            check(library.call("yurewha_subtree_to_flat", pointer, ...rooms, ...counts));
+            const packed = library.read(nodes, parts[1]);
+            return { atStart, levels: unpackedLevels(library.read(levels, parts[0])), nodes: new Chunks(packed), atEnd };
+        });
+    }
+
+    /** Merges the back range into the front one, another object, and returns how many parents were hashed. */
+    function merged(front, back) {
+        const pointers = [pointerOf(front), pointerOf(back)];
+        return library.over([8], (parents) => {
+            check(library.call("yurewha_subtree_merge_into_counted", ...pointers, parents), misplaced);
+            return library.count(parents);
+        });
+    }
+
     /** The merge of distinct ranges, whose handles are copied side by side. */
     function mergedAll(ranges) {
         const block = new Uint8Array(HANDLE_LENGTH * ranges.length);
@@ -203,16 +244,16 @@ export function makeSubtree(library, { result }, { Chunks, packedOf }) {
         );
     }
 
-    return { Subtree: disposable(Subtree), owned, pointerOf };
+    return { Subtree: disposable(Subtree), owned, pointerOf, totalSizeOf };
 }
 
 function packedLevels(levels) {
     const pairs = [...levels];
     const counts = new DataView(new ArrayBuffer(LEVEL_LENGTH * pairs.length));
     pairs.forEach((pair, k) => {
-        if (!Array.isArray(pair) || pair.length !== 2) throw new TypeError(`level ${k} is a pair of counts, of left and right nodes`);
-        const said = pair.map((count) => u64(count, `a count of level ${k}`));
-        said.forEach((count, side) => counts.setBigUint64(LEVEL_LENGTH * k + 8 * side, count, true));
+        pairOf(pair, `level ${k} is a pair of counts, of left and right nodes`).forEach((count, side) => {
+            counts.setBigUint64(LEVEL_LENGTH * k + 8 * side, u64(count, `a count of level ${k}`), true);
+        });
     });
     return new Uint8Array(counts.buffer);
 }

@@ -1,6 +1,6 @@
 //! The hashes of lists of chunks: of a xorb, and of a file.
 
-use super::data_hash::MerkleHash;
+use super::MerkleHash;
 use crate::own::{try_file_hash, try_file_hash_with_salt, try_xorb_hash};
 use crate::status::plain;
 

@@ -43,9 +43,6 @@ pub use hashed_write::HashedWrite;
 #[repr(transparent)]
 pub struct DataHash([u64; 4]);
 
-/// The hash of a chunk, a xorb or a file.
-pub type MerkleHash = DataHash;
-
 /// A key of [`DataHash::hmac`].
 pub type HMACKey = DataHash;
 

@@ -1,17 +1,19 @@
 //! Subtrees: what is kept of a range of chunks, to merge it with its neighbours without the chunks.
 
-use super::data_hash::MerkleHash;
+use super::MerkleHash;
 use crate::error::Result;
 use crate::ffi;
 use crate::handle::Owned;
 use crate::lent_chunks::{lend, node_of, room};
-use crate::own::{try_find_stable_end, try_find_stable_start};
 use crate::status::{answer, plain, told, told_if_there};
 use std::sync::MutexGuard;
 use std::{fmt, mem, ptr};
 
 #[cfg(feature = "serde")]
 mod forms;
+mod stable_points;
+
+pub use stable_points::{find_stable_end, find_stable_start};
 
 /// The canonical subtree of a range of chunks: what is kept to merge the range with its neighbours.
 ///
@@ -291,6 +293,35 @@ impl MerkleHashSubtree {
         told_if_there(|hash: &mut MerkleHash| unsafe { ffi::yurewha_subtree_final_hash(&mut *self.lock(), hash.out()) })
     }
 
+    /// Returns the file hash of the chunks, or `None` if an end isn't marked.
+    ///
+    /// ```
+    /// use yurewha::merklehash::{file_hash, MerkleHash, MerkleHashSubtree};
+    ///
+    /// let chunks = [1, 2, 3].map(|seed| (MerkleHash::random_from_seed(seed), 100));
+    /// let whole = MerkleHashSubtree::from_chunks(true, &chunks, true);
+    /// assert_eq!(whole.file_hash(), Some(file_hash(&chunks)));
+    /// ```
+    pub fn file_hash(&self) -> Option<MerkleHash> {
+        self.file_hash_with_salt(&[0; 32])
+    }
+
+    /// Returns the file hash of the chunks under a salt, or `None` if an end isn't marked.
+    ///
+    /// ```
+    /// use yurewha::merklehash::{file_hash_with_salt, MerkleHash, MerkleHashSubtree};
+    ///
+    /// let chunks = [1, 2, 3].map(|seed| (MerkleHash::random_from_seed(seed), 100));
+    /// let whole = MerkleHashSubtree::from_chunks(true, &chunks, true);
+    /// assert_eq!(whole.file_hash_with_salt(&[7; 32]), Some(file_hash_with_salt(&chunks, &[7; 32])));
+    /// ```
+    pub fn file_hash_with_salt(&self, salt: &[u8; 32]) -> Option<MerkleHash> {
+        let root = self.final_hash()?;
+        // Without chunks it is the default hash, which is the root. A chunk may have that hash too.
+        let has_chunks = !self.is_empty();
+        Some(if has_chunks { root.hmac(salt.into()) } else { root })
+    }
+
     /// Returns this subtree as compact JSON text. The members are in the order `at_end`, `at_start`, `levels`, `nodes`.
     ///
     /// ```
@@ -347,7 +378,8 @@ impl MerkleHashSubtree {
     /// 6. The counts of all levels add up to the number of nodes.
     /// 7. The sizes of all nodes add up to at most 2^64 - 1.
     /// 8. The top level has no right nodes. With `at_end`, no level has any.
-    /// 9. With `at_start`, no level below the top has left nodes.
+    /// 9. With `at_start`, no level below the top has left nodes. `xet-core-structures` keeps some if a range that is
+    ///    marked at its start is merged with the next one. Make such a subtree anew from the list of its chunks.
     /// 10. With both marks, the top level has at most one node.
     /// 11. If there are several levels, the top level has a node.
     /// 12. Without `at_start`, left nodes below the top end like the nodes before a first stable point.
@@ -454,41 +486,4 @@ impl fmt::Debug for MerkleHashSubtree {
             .field("at_end", &flat.at_end)
             .finish()
     }
-}
-
-/// Returns the first stable point of some nodes, as the number of nodes before it, or `None` if there is no such point.
-/// At a stable point a group ends, no matter which nodes come before and after the given ones.
-///
-/// ```
-/// use yurewha::merklehash::{find_stable_start, DataHash};
-///
-/// // Natural cuts, whose last word is a multiple of 4, at 3, 7 and 11.
-/// let nodes: Vec<_> = (0..20).map(|i| (DataHash::from([i, 0, 0, u64::from(i % 4 != 3)]), 1)).collect();
-/// assert_eq!(find_stable_start(&nodes), Some(8));
-/// assert_eq!(find_stable_start(&nodes[..10]), None);
-/// ```
-///
-/// # Panics
-///
-/// If an allocation fails; see [`try_find_stable_start`].
-#[track_caller]
-pub fn find_stable_start(nodes: &[(MerkleHash, u64)]) -> Option<usize> {
-    plain("find_stable_start", try_find_stable_start(nodes))
-}
-
-/// Returns the last stable point of some nodes, in the same form as [`find_stable_start`] returns the first.
-///
-/// ```
-/// use yurewha::merklehash::{find_stable_end, DataHash};
-///
-/// let nodes: Vec<_> = (0..20).map(|i| (DataHash::from([i, 0, 0, u64::from(i % 4 != 3)]), 1)).collect();
-/// assert_eq!(find_stable_end(&nodes), Some(16));
-/// ```
-///
-/// # Panics
-///
-/// If an allocation fails; see [`try_find_stable_end`].
-#[track_caller]
-pub fn find_stable_end(nodes: &[(MerkleHash, u64)]) -> Option<usize> {
-    plain("find_stable_end", try_find_stable_end(nodes))
 }

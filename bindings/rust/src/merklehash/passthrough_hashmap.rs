@@ -53,6 +53,42 @@ impl<Key: U64HashExtractable, Value> PassThroughHashMap<Key, Value> {
     }
 }
 
+// A map that is made of pairs which come one by one. However many pairs are announced, its room is bounded by the
+// number of different keys.
+//
+// Pairs often come in the iteration order of another map, which is that of their places in it. A full map that is
+// smaller than the other gets many of them at the same places. So the map grows when it is half full, unless all pairs
+// that come have room.
+struct Growing<Key: U64HashExtractable, Value>(Inner<Key, Value>);
+
+// How many times the keys that are there a map makes room for, if that many pairs are announced.
+const MOST_GROWTH: usize = 8;
+
+impl<Key: U64HashExtractable + Eq + Hash, Value> Growing<Key, Value> {
+    fn new() -> Self {
+        Growing(Inner::default())
+    }
+
+    // Inserts a pair. `more` is the `size_hint` of those that come after it.
+    fn insert(&mut self, key: Key, value: Value, more: impl FnOnce() -> (usize, Option<usize>)) {
+        let (count, room) = (self.0.len(), self.0.capacity());
+        if count >= room / 2 {
+            let (least, most) = more();
+            let left = room - count;
+            if most.map_or(true, |most| most >= left) {
+                let wanted = least.saturating_add(1);
+                self.0.reserve(wanted.clamp(left + 1, MOST_GROWTH * (count + 1)));
+            }
+        }
+        self.0.insert(key, value);
+    }
+
+    fn finish(mut self) -> PassThroughHashMap<Key, Value> {
+        self.0.shrink_to_fit();
+        PassThroughHashMap(self.0)
+    }
+}
+
 impl<Key: U64HashExtractable, Value> Default for PassThroughHashMap<Key, Value> {
     /// Returns an empty map.
     fn default() -> Self {
@@ -90,10 +126,14 @@ impl<Key: U64HashExtractable, Value> From<PassThroughHashMap<Key, Value>>
     }
 }
 
-/// If keys are equal, the last value stays.
+/// If keys are equal, the last value stays. The map takes memory for the different keys, not for all pairs.
 impl<Key: U64HashExtractable + Eq + Hash, Value> FromIterator<(Key, Value)> for PassThroughHashMap<Key, Value> {
     fn from_iter<I: IntoIterator<Item = (Key, Value)>>(pairs: I) -> Self {
-        PassThroughHashMap(pairs.into_iter().collect())
+        let (mut map, mut pairs) = (Growing::new(), pairs.into_iter());
+        while let Some((key, value)) = pairs.next() {
+            map.insert(key, value, || pairs.size_hint());
+        }
+        map.finish()
     }
 }
 

@@ -4,7 +4,7 @@ use super::Node;
 use crate::error::Result;
 use crate::ffi;
 use crate::lent_chunks::lend;
-use crate::merklehash::data_hash::MerkleHash;
+use crate::merklehash::MerkleHash;
 use crate::status::answer;
 use std::ptr;
 

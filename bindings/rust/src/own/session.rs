@@ -5,8 +5,8 @@ use crate::error::Result;
 use crate::ffi;
 use crate::handle::Owned;
 use crate::lent_chunks::{lend, room};
-use crate::merklehash::data_hash::MerkleHash;
 use crate::merklehash::merkle_hash_subtree::MerkleHashSubtree;
+use crate::merklehash::MerkleHash;
 use crate::status::{answer, looked_up, plain, told, Refusal};
 use std::fmt;
 use std::ops::Range;
@@ -90,6 +90,7 @@ impl Refusal for SessionFault {
 /// Threads may share a session. Threads that read it at once take turns, call by call.
 pub struct Session {
     handle: Owned<ffi::yurewha_session>,
+    num_chunks: u64,
     total_size: u64,
 }
 
@@ -122,7 +123,11 @@ impl Session {
     pub fn try_new() -> Result<Self> {
         // SAFETY: an empty handle to write to.
         let handle = answer(|made: &mut Owned<_>| unsafe { ffi::yurewha_session_new(made.get_mut()) })?;
-        Ok(Session { handle, total_size: 0 })
+        Ok(Session {
+            handle,
+            num_chunks: 0,
+            total_size: 0,
+        })
     }
 
     /// Does the same as [`clone`](Clone::clone), but returns an error if an allocation fails.
@@ -137,8 +142,11 @@ impl Session {
         // SAFETY: a handle, and another one that is empty to write to.
         let handle =
             answer(|copy: &mut Owned<_>| unsafe { ffi::yurewha_session_copy(&mut *self.lock(), copy.get_mut()) })?;
-        let total_size = self.total_size;
-        Ok(Session { handle, total_size })
+        Ok(Session {
+            handle,
+            num_chunks: self.num_chunks,
+            total_size: self.total_size,
+        })
     }
 
     // The handle, for one call.
@@ -171,9 +179,25 @@ impl Session {
         let new_hashes = answer(|new_hashes| unsafe {
             ffi::yurewha_session_put(self.handle.get_mut(), first, chunks.as_ptr(), chunks.len(), new_hashes)
         })?;
-        // The sum can't overflow: the library has checked that all sizes add up to at most `u64::MAX`.
+        // The sums can't overflow: the library has checked that positions end and sizes add up below 2^64.
+        self.num_chunks += chunks.len() as u64;
         self.total_size += chunks.iter().map(|chunk| chunk.size).sum::<u64>();
         Ok(new_hashes)
+    }
+
+    /// Returns the number of chunks, which is that of taken positions.
+    ///
+    /// ```
+    /// use yurewha::merklehash::MerkleHash;
+    /// use yurewha::own::Session;
+    ///
+    /// let mut session = Session::new();
+    /// session.put(7, &[(MerkleHash::default(), 100); 3])?;
+    /// assert_eq!(session.num_chunks(), 3);
+    /// # Ok::<(), yurewha::own::SessionFault>(())
+    /// ```
+    pub fn num_chunks(&self) -> u64 {
+        self.num_chunks
     }
 
     /// Returns the total size of the chunks that were put, in bytes.
@@ -412,6 +436,28 @@ impl Session {
     pub fn finish(&self, total: u64) -> std::result::Result<MerkleHash, SessionFault> {
         // SAFETY: a handle, and a hash to write to.
         answer(|hash: &mut MerkleHash| unsafe { ffi::yurewha_session_finish(&mut *self.lock(), total, hash.out()) })
+    }
+
+    /// Returns the file hash of all chunks by position, under a salt.
+    ///
+    /// ```
+    /// use yurewha::merklehash::{file_hash_with_salt, MerkleHash};
+    /// use yurewha::own::Session;
+    ///
+    /// let chunks = [1, 2, 3].map(|seed| (MerkleHash::random_from_seed(seed), 100));
+    /// let mut session = Session::new();
+    /// session.put(0, &chunks)?;
+    /// assert_eq!(session.finish_with_salt(3, &[7; 32]), Ok(file_hash_with_salt(&chunks, &[7; 32])));
+    /// # Ok::<(), yurewha::own::SessionFault>(())
+    /// ```
+    ///
+    /// # Errors
+    ///
+    /// Those of [`root`](Self::root)
+    pub fn finish_with_salt(&self, total: u64, salt: &[u8; 32]) -> std::result::Result<MerkleHash, SessionFault> {
+        let root = self.root(total)?;
+        // Without chunks it is the default hash, which is the root.
+        Ok(if total > 0 { root.hmac(salt.into()) } else { root })
     }
 }
 

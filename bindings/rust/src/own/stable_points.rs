@@ -1,13 +1,11 @@
-//! Stable points, with a `Result`.
+//! Stable points, with a `Result` that is never an error.
 
 use super::Node;
 use crate::error::Result;
-use crate::ffi;
-use crate::lent_chunks::lend;
-use crate::status::looked_up;
+use crate::merklehash::{find_stable_end, find_stable_start};
 
-/// Does the same as [`find_stable_start`](crate::merklehash::find_stable_start), but returns an error if an allocation
-/// fails.
+/// Does the same as [`find_stable_start`]. Neither of them fails. This call stays for programs that were written when
+/// both allocated.
 ///
 /// ```
 /// use yurewha::own::try_find_stable_start;
@@ -16,13 +14,11 @@ use crate::status::looked_up;
 /// # Ok::<(), yurewha::error::CoreError>(())
 /// ```
 pub fn try_find_stable_start(nodes: &[Node]) -> Result<Option<usize>> {
-    let nodes = lend(nodes)?;
-    // SAFETY: nodes of their number, and a number to write to.
-    looked_up(|point| unsafe { ffi::yurewha_find_stable_start(nodes.as_ptr(), nodes.len(), point) })
+    Ok(find_stable_start(nodes))
 }
 
-/// Does the same as [`find_stable_end`](crate::merklehash::find_stable_end), but returns an error if an allocation
-/// fails.
+/// Does the same as [`find_stable_end`]. Neither of them fails. This call stays for programs that were written when
+/// both allocated.
 ///
 /// ```
 /// use yurewha::own::try_find_stable_end;
@@ -31,7 +27,5 @@ pub fn try_find_stable_start(nodes: &[Node]) -> Result<Option<usize>> {
 /// # Ok::<(), yurewha::error::CoreError>(())
 /// ```
 pub fn try_find_stable_end(nodes: &[Node]) -> Result<Option<usize>> {
-    let nodes = lend(nodes)?;
-    // SAFETY: nodes of their number, and a number to write to.
-    looked_up(|point| unsafe { ffi::yurewha_find_stable_end(nodes.as_ptr(), nodes.len(), point) })
+    Ok(find_stable_end(nodes))
 }

@@ -139,6 +139,11 @@ fn members_may_stand_in_any_order_with_others_between() {
     assert_eq!(serde_json::from_str::<MerkleHashSubtree>(&spaced).unwrap(), empty);
 }
 
+// Whether the text of an error names a rule, after what was expected or with what is wrong.
+fn names_rule(error: &str, rule: u8) -> bool {
+    error.contains(&format!("(rule {rule})")) || error.starts_with(&format!("invalid subtree: rule {rule}: "))
+}
+
 // The error of reading a text.
 fn error_of(text: &str) -> serde_json::Error {
     serde_json::from_str::<MerkleHashSubtree>(text).unwrap_err()
@@ -147,7 +152,6 @@ fn error_of(text: &str) -> serde_json::Error {
 #[test]
 fn forged_json_is_refused_with_the_rule_in_the_text() {
     for (rule, text) in forged() {
-        let named = format!("invalid JSON: rule {rule}");
         let value: Value = serde_json::from_str(&text).unwrap();
         for error in [
             error_of(&text),
@@ -155,7 +159,7 @@ fn forged_json_is_refused_with_the_rule_in_the_text() {
             serde_json::from_value::<MerkleHashSubtree>(value).unwrap_err(),
         ] {
             assert!(error.is_data(), "{text}: {error}");
-            assert!(error.to_string().replace(')', " ").contains(&named), "{text}: {error}");
+            assert!(names_rule(&error.to_string(), rule), "{text}: {error}");
         }
     }
     assert!(error_of("{\"nodes\":[").is_eof());
@@ -164,14 +168,14 @@ fn forged_json_is_refused_with_the_rule_in_the_text() {
 
 // What is replaced in the text of a subtree, by what, and the error of reading it.
 const FORGED_MEMBERS: &str = r#"
-[[1,0]] => null => invalid type: null, expected a sequence as `levels` (invalid JSON: rule 2) at line 2 column 13
-"levels" => "level" => missing field `levels`, expected a sequence as `levels` (invalid JSON: rule 2) at line 4 column 14
-start":true => start":1 => invalid type: integer `1`, expected a truth value as `at_start` (invalid JSON: rule 2) at line 3 column 12
-"size":1 => "size":-1 => invalid value: integer `-1`, expected a whole number below 2^64 as `size` (invalid JSON: rule 3) at line 1 column 94
-"size" => "length" => missing field `size`, expected a whole number below 2^64 as `size` (invalid JSON: rule 3) at line 1 column 96
-[1,0] => [1] => invalid length 1, expected a pair of numbers in `levels` (invalid JSON: rule 4) at line 2 column 13
-[1,0] => [1,0,0] => invalid length 3, expected a pair of numbers in `levels` (invalid JSON: rule 4) at line 2 column 17
-[1,0] => [2,0] => invalid JSON: rule 6 at line 4 column 14
+[[1,0]] => null => invalid type: null, expected a sequence as `levels` (rule 2) at line 2 column 13
+"levels" => "level" => missing field `levels`, expected a sequence as `levels` (rule 2) at line 4 column 14
+start":true => start":1 => invalid type: integer `1`, expected a truth value as `at_start` (rule 2) at line 3 column 12
+"size":1 => "size":-1 => invalid value: integer `-1`, expected a whole number below 2^64 as `size` (rule 3) at line 1 column 94
+"size" => "length" => missing field `size`, expected a whole number below 2^64 as `size` (rule 3) at line 1 column 96
+[1,0] => [1] => invalid length 1, expected a pair of numbers in `levels` (rule 4) at line 2 column 13
+[1,0] => [1,0,0] => invalid length 3, expected a pair of numbers in `levels` (rule 4) at line 2 column 17
+[1,0] => [2,0] => invalid subtree: rule 6: the counts don't add up to the number of nodes at line 4 column 14
 "#;
 
 #[test]
@@ -197,15 +201,9 @@ fn a_number_is_no_object_of_a_member() {
     };
     assert!(serde_json::from_str::<MerkleHashSubtree>(&text("5", "1")).is_ok());
     let error = error_of(&text(number, "1"));
-    assert!(
-        error.to_string().contains("as `size` (invalid JSON: rule 3)"),
-        "{error}"
-    );
+    assert!(error.to_string().contains("as `size` (rule 3)"), "{error}");
     let error = error_of(&text("5", &number.replace('5', "1")));
-    assert!(
-        error.to_string().contains("in `levels` (invalid JSON: rule 4)"),
-        "{error}"
-    );
+    assert!(error.to_string().contains("in `levels` (rule 4)"), "{error}");
 }
 
 // Each value in a value, as a pointer of JSON.
@@ -260,11 +258,7 @@ fn a_value_with_one_forged_place_is_refused_by_the_rule_that_the_library_names()
         ) {
             (Ok(library), Ok(ours)) => assert_eq!(ours, library),
             (Err(CoreError::InvalidJson(rule)), Err(error)) => {
-                let message = error.to_string().replace(')', " ");
-                assert!(
-                    message.contains(&format!("invalid JSON: rule {rule} ")),
-                    "{text}: {error}"
-                );
+                assert!(names_rule(&error.to_string(), rule), "{text}: {error}");
                 seen[usize::from(rule)] += 1;
             }
             (library, ours) => panic!("{text}: {library:?}, {ours:?}"),
@@ -276,7 +270,7 @@ fn a_value_with_one_forged_place_is_refused_by_the_rule_that_the_library_names()
 #[test]
 fn of_several_broken_rules_of_form_the_first_that_is_met_is_named() {
     let text = r#"{"nodes":[{}],"levels":null}"#;
-    assert!(error_of(text).to_string().contains("invalid JSON: rule 3"));
+    assert!(names_rule(&error_of(text).to_string(), 3));
     assert_eq!(MerkleHashSubtree::from_json(text), Err(CoreError::InvalidJson(2)));
 }
 
@@ -311,7 +305,7 @@ fn ron_reads_what_it_wrote_and_names_what_is_wrong() {
         assert_ne!(forged, text);
         let error = ron::from_str::<MerkleHashSubtree>(&forged).unwrap_err().to_string();
         assert!(
-            rule < 5 || error.contains(&format!("invalid JSON: rule {rule}")),
+            rule < 5 || error.contains(&format!("invalid subtree: rule {rule}: ")),
             "{error}"
         );
     }
@@ -380,7 +374,8 @@ fn forged_bytes_are_refused_with_the_rule_in_the_text() {
     for (rule, text) in of_values {
         let bytes = bincode::serialize(&form_of(text)).unwrap();
         let error = bincode::deserialize::<MerkleHashSubtree>(&bytes).unwrap_err();
-        assert_eq!(error.to_string(), format!("invalid JSON: rule {rule}"), "{text}");
+        assert!(names_rule(&error.to_string(), *rule), "{text}: {error}");
+        assert!(!error.to_string().contains("JSON"), "{error}");
     }
 }
 
@@ -458,18 +453,14 @@ impl<I: Iterator> Iterator for Claiming<I> {
 }
 
 #[test]
-fn a_map_is_read_into_room_for_the_pairs_that_are_claimed() {
-    let capacity = |claimed| {
+fn a_map_takes_memory_for_the_pairs_that_are_read() {
+    for claimed in [1, 100_000, usize::MAX] {
         let pairs = Claiming([vec![7u64, 8]].into_iter(), claimed);
         let pairs = SeqDeserializer::<_, serde::de::value::Error>::new(pairs);
         let map = PassThroughHashMap::<u64, u64>::deserialize(pairs).unwrap();
         assert_eq!((map.len(), map[&7]), (1, 8));
-        map.capacity()
-    };
-    assert!(capacity(1) < 1000);
-    assert!(capacity(100_000) >= 100_000);
-    // A forged claim isn't believed.
-    assert!(capacity(usize::MAX) < 1 << 26);
+        assert!(map.capacity() < 10);
+    }
 }
 
 #[test]

@@ -141,7 +141,7 @@ fn errors_have_their_texts() {
         (CoreError::SizeOverflow, "size overflow"),
         (CoreError::OutOfMemory, "out of memory"),
         (CoreError::InvalidText, "invalid text"),
-        (CoreError::InvalidJson(13), "invalid JSON: rule 13"),
+        (CoreError::InvalidJson(14), "invalid JSON: rule 14"),
     ];
     for (error, text) in texts {
         assert_eq!(error.to_string(), text);

@@ -1,5 +1,6 @@
 //! The public interface, item by item.
 
+mod clients;
 mod data_hash;
 mod definitions;
 mod draws;

@@ -86,6 +86,55 @@ fn the_last_value_of_a_key_wins() {
     assert_eq!((map.len(), map[&1], map[&2]), (2, 'c', 'b'));
 }
 
+// Pairs whose number isn't what is announced.
+struct Announcing<I>(I, usize);
+
+impl<I: Iterator> Iterator for Announcing<I> {
+    type Item = I::Item;
+
+    fn next(&mut self) -> Option<I::Item> {
+        self.0.next()
+    }
+
+    fn size_hint(&self) -> (usize, Option<usize>) {
+        (self.1, None)
+    }
+}
+
+#[test]
+fn a_collected_map_has_room_for_its_keys_not_for_the_pairs() {
+    let many = (0..1_000_000_u64).map(|index| (index * 7919 % 1000, index));
+    let announced = Announcing((0..1000_u64).map(|index| (index, index)), usize::MAX);
+    for map in [many.collect::<PassThroughHashMap<_, _>>(), announced.collect()] {
+        assert_eq!(
+            (map.len(), map.capacity() < 4000, map.clone().capacity() < 4000),
+            (1000, true, true)
+        );
+    }
+    let few = PassThroughHashMap::from(std::array::from_fn::<_, 4096, _>(|index| (index as u64 % 3, index)));
+    assert_eq!((few.len(), few[&2], few.capacity() < 12), (3, 4094, true));
+    assert_eq!(PassThroughHashMap::<u64, u8>::from([]).capacity(), 0);
+}
+
+// Maps of several sizes, so that they are full to different degrees.
+#[test]
+fn the_pairs_of_another_map_are_collected_in_its_order() {
+    for count in [0, 1, 3, 4, 1000, 1150, 1300, 1500, 1800] {
+        let source: PassThroughHashMap<_, _> = Draws(count).nodes(count as usize).into_iter().collect();
+        let pairs = || source.iter().map(|(hash, size)| (*hash, *size));
+        let copies: [PassThroughHashMap<_, _>; 4] = [
+            pairs().collect(),
+            pairs().filter(|_| true).collect(),
+            Announcing(pairs(), 0).collect(),
+            Announcing(pairs(), 10 * count as usize).collect(),
+        ];
+        for copy in copies {
+            assert_eq!((copy.len(), &*copy), (count as usize, &*source));
+            assert!(copy.capacity() <= 2 * source.len() + 3);
+        }
+    }
+}
+
 #[test]
 fn the_map_inside_goes_in_and_out() {
     let map = PassThroughHashMap::from([(1u64, 'a'), (2, 'b')]);

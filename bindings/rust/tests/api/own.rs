@@ -17,6 +17,11 @@ fn own_items_have_their_signatures() {
     let _: [fn(&Subtree) -> bool; 2] = [Subtree::at_start, Subtree::at_end];
     let _: fn(&mut Subtree, &Subtree) -> Result<u64> = Subtree::merge_into_counted;
     let _: fn(&Subtree) -> u64 = Subtree::total_size;
+    let _: fn(&Subtree) -> Option<MerkleHash> = Subtree::file_hash;
+    let _: fn(&Subtree, &[u8; 32]) -> Option<MerkleHash> = Subtree::file_hash_with_salt;
+    let _: fn(&own::Session) -> u64 = own::Session::num_chunks;
+    type Finished = std::result::Result<MerkleHash, own::SessionFault>;
+    let _: fn(&own::Session, u64, &[u8; 32]) -> Finished = own::Session::finish_with_salt;
     let _: fn(&Subtree) -> Result<String> = Subtree::to_json;
     let _: fn(&str) -> Result<Subtree> = Subtree::from_json;
 }
@@ -74,6 +79,66 @@ mod of_the_user {
     pub fn try_find_stable_end() {}
     constants!(DATA_KEY);
     modules!(blake3 session own error errors forms lent_chunks hashed_write roots stable_points json_text serde);
+}
+
+// The alias is beside the modules, as in the Rust crate, not in one of them.
+mod through_the_glob_of_data_hash {
+    mod of_the_user {
+        pub struct MerkleHash;
+    }
+    use of_the_user::*;
+    use yurewha::merklehash::data_hash::*;
+
+    #[test]
+    fn the_users_merkle_hash_is_left_alone() {
+        let _ = MerkleHash;
+        assert_eq!(DataHash::default(), HMACKey::default());
+    }
+}
+
+// A client's trait with names of calls that the Rust crate doesn't have. After a dot these calls come first.
+mod with_a_trait_of_the_clients_own {
+    use yurewha::merklehash::{DataHash, MerkleHashSubtree};
+
+    trait Stored: Sized {
+        fn to_bytes(&self) -> Vec<u8>;
+        fn to_json(&self) -> String;
+        fn from_json(text: &str) -> Option<Self>;
+    }
+
+    macro_rules! stored {
+        ($($kind:ty)*) => { $(impl Stored for $kind {
+            fn to_bytes(&self) -> Vec<u8> {
+                b"of the client".to_vec()
+            }
+            fn to_json(&self) -> String {
+                "of the client".to_owned()
+            }
+            fn from_json(_: &str) -> Option<Self> {
+                None
+            }
+        })* };
+    }
+    stored!(DataHash MerkleHashSubtree);
+
+    #[test]
+    fn the_clients_calls_are_named_by_their_trait() {
+        let (hash, empty) = (DataHash::marker(), MerkleHashSubtree::from_chunks(true, &[], true));
+        assert_eq!(
+            (hash.to_bytes(), Stored::to_bytes(&hash)),
+            ([255; 32], b"of the client".to_vec())
+        );
+        assert_eq!(
+            (hash.to_json(), empty.to_json().is_ok()),
+            ("of the client".to_owned(), true)
+        );
+        assert_eq!(
+            (Stored::to_json(&empty), Stored::to_bytes(&empty).len()),
+            (hash.to_json(), 13)
+        );
+        assert_eq!(<MerkleHashSubtree as Stored>::from_json("{}"), None);
+        assert!(MerkleHashSubtree::from_json("{}").is_err());
+    }
 }
 
 mod through_globs {

@@ -4,7 +4,7 @@ use crate::draws::{hash, reference, Draws};
 use std::collections::HashSet;
 use std::mem::size_of;
 use yurewha::error::CoreError;
-use yurewha::merklehash::{file_hash, xorb_hash, MerkleHash, MerkleHashSubtree};
+use yurewha::merklehash::{file_hash, file_hash_with_salt, xorb_hash, MerkleHash, MerkleHashSubtree};
 use yurewha::own::{Node, Session, SessionFault};
 
 #[test]
@@ -18,6 +18,53 @@ fn the_example_is_answered() {
     assert_eq!(session.finish(3), Err(SessionFault::Gap));
     assert_eq!(session.put(3, &reference(&[3])), Err(SessionFault::Overlap));
     assert_eq!(session.finish(4), Ok(file));
+}
+
+#[test]
+fn a_session_counts_its_chunks() {
+    let mut session = Session::new();
+    session.put(7, &reference(&[1, 2])).unwrap();
+    assert!(session.put(8, &reference(&[1])).is_err());
+    session.put(0, &reference(&[1, 2, 3])).unwrap();
+    assert_eq!((session.num_chunks(), session.total_size()), (5, 900));
+    let range = MerkleHashSubtree::from_chunks(false, &reference(&[1, 2]), false);
+    session.push_run(20..22, &range).unwrap();
+    assert_eq!(session.push_run(20..22, &range), Err(CoreError::InvalidArguments));
+    for session in [session.clone(), session] {
+        assert_eq!((session.num_chunks(), session.total_size()), (7, 1200));
+    }
+}
+
+#[test]
+fn a_file_hash_under_a_salt_is_that_of_the_list() {
+    let empty = (MerkleHash::default(), 0);
+    let salts = [[0; 32], [7; 32]];
+    for chunks in [
+        vec![],
+        vec![empty],
+        vec![empty; 2],
+        reference(&[1]),
+        reference(&[1, 2, 3]),
+    ] {
+        let whole = MerkleHashSubtree::from_chunks(true, &chunks, true);
+        let mut session = Session::new();
+        session.put(0, &chunks).unwrap();
+        let count = chunks.len() as u64;
+        assert_eq!(
+            (whole.file_hash(), session.finish(count)),
+            (Some(file_hash(&chunks)), Ok(file_hash(&chunks)))
+        );
+        for salt in salts {
+            let wanted = file_hash_with_salt(&chunks, &salt);
+            assert_eq!(whole.file_hash_with_salt(&salt), Some(wanted));
+            assert_eq!(session.finish_with_salt(count, &salt), Ok(wanted));
+        }
+        assert_eq!(session.finish_with_salt(count + 1, &salts[1]), Err(SessionFault::Gap));
+        for (at_start, at_end) in [(false, true), (true, false), (false, false)] {
+            let range = MerkleHashSubtree::from_chunks(at_start, &chunks, at_end);
+            assert_eq!((range.file_hash(), range.file_hash_with_salt(&salts[1])), (None, None));
+        }
+    }
 }
 
 #[test]

@@ -55,8 +55,8 @@ impl Serialize for MerkleHashSubtree {
     }
 }
 
-/// A value that breaks a rule of [`from_json`](MerkleHashSubtree::from_json) is an error. Its text includes the text of
-/// [`CoreError::InvalidJson`](crate::error::CoreError::InvalidJson) with the rule's number.
+/// A value that breaks a rule of [`from_json`](MerkleHashSubtree::from_json) is an error, and its text has the rule's
+/// number.
 ///
 /// The rules 1 to 4 are about the form. Reading stops at the first of them that is broken, so the format can name the
 /// place. Of the rules 5 to 13, the error has the lowest that is broken. Unknown members are ignored. A member that

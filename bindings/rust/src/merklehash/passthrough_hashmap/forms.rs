@@ -1,16 +1,11 @@
 //! The map in serde's formats.
 
-use super::{PassThroughHashMap, U64HashExtractable};
+use super::{Growing, PassThroughHashMap, U64HashExtractable};
 use serde::de::{SeqAccess, Visitor};
 use serde::{Deserialize, Deserializer, Serialize, Serializer};
 use std::fmt;
 use std::hash::Hash;
 use std::marker::PhantomData;
-use std::mem::size_of;
-
-// The map reserves room for the number of pairs that a format claims. The claim may be forged, so this is the limit in
-// bytes.
-const MOST_BYTES: usize = 1 << 28;
 
 /// A sequence of pairs, in iteration order.
 impl<Key: U64HashExtractable + Serialize, Value: Serialize> Serialize for PassThroughHashMap<Key, Value> {
@@ -19,7 +14,7 @@ impl<Key: U64HashExtractable + Serialize, Value: Serialize> Serialize for PassTh
     }
 }
 
-/// If keys are equal, the last value stays.
+/// If keys are equal, the last value stays. Memory grows with the keys, whatever number of pairs a format claims.
 impl<'de, Key, Value> Deserialize<'de> for PassThroughHashMap<Key, Value>
 where
     Key: U64HashExtractable + Eq + Hash + Deserialize<'de>,
@@ -44,14 +39,10 @@ where
     }
 
     fn visit_seq<A: SeqAccess<'de>>(self, mut pairs: A) -> Result<Self::Value, A::Error> {
-        let mut map = PassThroughHashMap::new();
-        // Pairs in iteration order collide in a map that grows, so each insertion would be slow. If the room can't be
-        // reserved, the map grows anyway.
-        let most = MOST_BYTES / size_of::<(Key, Value)>().max(1);
-        let _ = map.try_reserve(pairs.size_hint().unwrap_or(0).min(most));
+        let mut map = Growing::new();
         while let Some((key, value)) = pairs.next_element()? {
-            map.insert(key, value);
+            map.insert(key, value, || (pairs.size_hint().unwrap_or(0), pairs.size_hint()));
         }
-        Ok(map)
+        Ok(map.finish())
     }
 }

@@ -2,8 +2,8 @@
 
 use super::Session;
 use crate::error::CoreError;
-use crate::merklehash::data_hash::MerkleHash;
 use crate::merklehash::merkle_hash_subtree::MerkleHashSubtree;
+use crate::merklehash::MerkleHash;
 use serde::de::{Error as _, SeqAccess, Visitor};
 use serde::ser::{Error as _, SerializeSeq, SerializeStruct};
 use serde::{Deserialize, Deserializer, Serialize, Serializer};

@@ -4,8 +4,8 @@ use super::Session;
 use crate::error::Result;
 use crate::ffi;
 use crate::lent_chunks::room;
-use crate::merklehash::data_hash::MerkleHash;
 use crate::merklehash::merkle_hash_subtree::MerkleHashSubtree;
+use crate::merklehash::MerkleHash;
 use crate::status::{done, told};
 use std::ops::Range;
 
@@ -50,7 +50,8 @@ impl Session {
         let Range { start, end } = positions;
         // SAFETY: two handles.
         done(unsafe { ffi::yurewha_session_push_run(self.handle.get_mut(), start, end, &mut *range.lock()) })?;
-        // The sum can't overflow: the library has checked that all sizes add up to at most `u64::MAX`.
+        // The sums can't overflow: the library has checked that positions end and sizes add up below 2^64.
+        self.num_chunks += end - start;
         self.total_size += range.total_size();
         Ok(())
     }

@@ -5,7 +5,7 @@
 
 use super::super::{Flat, MerkleHashSubtree};
 use super::{MEMBERS, NODE_MEMBERS, NODE_NAME};
-use crate::error::CoreError;
+use crate::error::{BrokenRule, CoreError};
 use crate::ffi::{self, yurewha_chunk, yurewha_level};
 use crate::lent_chunks::chunk_of;
 use crate::merklehash::data_hash::DataHash;
@@ -30,7 +30,7 @@ const COUNT: Form = Form("a whole number below 2^64 in `levels`", 4);
 
 impl fmt::Display for Form {
     fn fmt(&self, f: &mut fmt::Formatter<'_>) -> fmt::Result {
-        write!(f, "{} ({})", self.0, CoreError::InvalidJson(self.1))
+        write!(f, "{} (rule {})", self.0, self.1)
     }
 }
 
@@ -64,8 +64,15 @@ fn read_element<'de, A: SeqAccess<'de>, S: DeserializeSeed<'de>>(
         .ok_or_else(|| A::Error::invalid_length(index, whole))
 }
 
-// The subtree that marks and lists describe, if they break none of the rules 5 to 13.
-fn subtree_of(flat: &Flat) -> Result<MerkleHashSubtree, CoreError> {
+// The subtree that marks and lists describe, if they break none of the rules 5 to 13. The error names no format.
+fn subtree_of<E: Error>(flat: &Flat) -> Result<MerkleHashSubtree, E> {
+    checked(flat).map_err(|error| match error {
+        CoreError::InvalidJson(rule) => E::custom(format_args!("invalid subtree: {}", BrokenRule(rule))),
+        error => E::custom(error),
+    })
+}
+
+fn checked(flat: &Flat) -> Result<MerkleHashSubtree, CoreError> {
     // SAFETY: levels and nodes with their counts, and an empty handle to write to.
     MerkleHashSubtree::made(|made| unsafe {
         ffi::yurewha_subtree_from_flat(
@@ -127,7 +134,7 @@ impl<'de> Visitor<'de> for Whole {
             at_start: at_start.ok_or_else(|| missing(MEMBERS[2], AT_START))?,
             at_end: at_end.ok_or_else(|| missing(MEMBERS[3], AT_END))?,
         };
-        subtree_of(&flat).map_err(A::Error::custom)
+        subtree_of(&flat)
     }
 
     fn visit_seq<A: SeqAccess<'de>>(self, mut seq: A) -> Result<Self::Value, A::Error> {
@@ -140,7 +147,7 @@ impl<'de> Visitor<'de> for Whole {
             at_start: read_element(&mut seq, 2, Truth(AT_START), &self)?,
             at_end: read_element(&mut seq, 3, Truth(AT_END), &self)?,
         };
-        subtree_of(&flat).map_err(A::Error::custom)
+        subtree_of(&flat)
     }
 }
 

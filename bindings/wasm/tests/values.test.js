@@ -1,0 +1,151 @@
+// What comparisons, structured clones, JSON and Node's console see of an object, and how another thread gets it.
+
+import assert from "node:assert/strict";
+import { test } from "node:test";
+import { inspect } from "node:util";
+import { MessageChannel, receiveMessageOnPort } from "node:worker_threads";
+import * as errors from "../yurewha/index.js";
+import { chunksOf, loadAll } from "./support.js";
+
+const [[, y], [, other]] = await loadAll();
+const list = (count, it = y) => chunksOf(it, { drawn: { firstSeed: "1", count } });
+const sessionOf = (...puts) => {
+    const session = new y.Session();
+    puts.forEach(([first, count]) => session.put(first, list(count)));
+    return session;
+};
+
+/** Of each class, calls that make objects of different values. */
+const KINDS = {
+    Hash: [() => new y.Hash(), () => y.Hash.randomFromSeed(1), () => y.Hash.randomFromSeed(2)],
+    Chunks: [() => new y.Chunks(), () => y.Chunks.from(list(3)), () => y.Chunks.from(list(4))],
+    Hasher: [() => new y.Hasher(), () => y.Hasher.internalNode(), () => new y.Hasher().update(Uint8Array.of(1)), () => new y.Hasher().update(Uint8Array.of(2))],
+    Subtree: [
+        () => y.Subtree.fromChunks(true, [], true),
+        () => y.Subtree.fromChunks(true, [], false),
+        () => y.Subtree.fromChunks(false, list(100), false),
+        () => y.Subtree.fromChunks(false, list(101), false),
+    ],
+    Session: [() => sessionOf(), () => sessionOf([0, 3]), () => sessionOf([1, 3]), () => sessionOf([0, 3], [7, 2])],
+};
+
+for (const [kind, makers] of Object.entries(KINDS)) {
+    test(`a comparison sees the value of a ${kind}`, () => {
+        makers.forEach((make, k) => {
+            assert.deepStrictEqual(make(), make());
+            for (const another of makers.slice(k + 1)) {
+                assert.notDeepStrictEqual(make(), another());
+                assert.notDeepEqual(make(), another());
+            }
+        });
+    });
+}
+
+test("an object doesn't change through its own properties", () => {
+    const hash = y.Hash.randomFromSeed(1);
+    const range = y.Subtree.fromChunks(false, list(30), false);
+    const json = range.toJSON();
+    assert.throws(() => (hash.bytes = new Uint8Array(32)), TypeError);
+    hash.bytes.fill(0);
+    range.nodes.bytes.fill(0);
+    range.levels.length = 0;
+    assert.equal(hash.hex(), y.Hash.randomFromSeed(1).hex());
+    assert.equal(range.toJSON(), json);
+    assert.deepStrictEqual({ ...range }, range.toFlat());
+});
+
+/** What another thread gets of a message. */
+function received(message) {
+    const { port1, port2 } = new MessageChannel();
+    port1.postMessage(message);
+    const found = receiveMessageOnPort(port2).message;
+    port1.close();
+    return found;
+}
+
+test("another thread makes each object again of what it is sent", () => {
+    const hash = y.Hash.randomFromSeed(7);
+    const chunks = y.Chunks.from(list(50));
+    const range = y.Subtree.fromChunks(true, chunks, true);
+    const session = sessionOf([40, 10], [0, 30]);
+    const sent = received([hash.bytes, chunks.bytes, range.toJSON(), session.saved]);
+    assert.equal(new other.Hash(sent[0]).hex(), hash.hex());
+    assert.equal(other.xorbHash(new other.Chunks(sent[1])).hex(), y.xorbHash(chunks).hex());
+    assert.equal(other.Subtree.fromJSON(sent[2]).finalHash().hex(), range.finalHash().hex());
+    const restored = other.Session.restore(sent[3]);
+    for (const [it, made] of [[y, session], [other, restored]]) assert.equal(made.put(30, list(35, it).slice(25)), 5);
+    assert.deepEqual(restored.saved, session.saved);
+    assert.equal(restored.root(50).hex(), session.root(50).hex());
+});
+
+test("a structured clone is a plain object with the value, which no call takes", () => {
+    const hash = y.Hash.randomFromSeed(7);
+    assert.deepStrictEqual(structuredClone(hash), { bytes: hash.bytes });
+    assert.deepStrictEqual(structuredClone(y.Chunks.from(list(2))), { bytes: y.Chunks.from(list(2)).bytes });
+    assert.deepStrictEqual(structuredClone(sessionOf([3, 2])), { saved: sessionOf([3, 2]).saved });
+    const flat = structuredClone(y.Subtree.fromChunks(false, list(9), true));
+    assert.deepStrictEqual([flat.atStart, flat.atEnd, flat.levels], [false, true, [[9, 0]]]);
+    assert.throws(() => hash.equals(structuredClone(hash)), TypeError);
+    assert.throws(() => y.xorbHash(structuredClone(y.Chunks.from(list(2)))), TypeError);
+    assert.throws(() => y.Subtree.merge([flat]), TypeError);
+});
+
+test("chunks and sessions are read from their JSON", () => {
+    const great = [[y.Hash.randomFromSeed(1), 2n ** 64n - 1n], [new y.Hash(), 0]];
+    for (const chunks of [great, list(40), []]) {
+        const text = JSON.stringify(y.Chunks.from(chunks));
+        assert.deepStrictEqual(y.Chunks.fromJSON(JSON.parse(text)), y.Chunks.from(chunks));
+    }
+    assert.equal(JSON.stringify(y.Chunks.from(great.slice(1))), `[["${"0".repeat(64)}","0"]]`);
+    const session = sessionOf([2n ** 63n, 3], [4, 2]);
+    const { saved } = JSON.parse(JSON.stringify(session));
+    assert.deepStrictEqual(y.Session.restore(saved), session);
+    assert.equal(JSON.stringify(new y.Hasher()), JSON.stringify({ hash: y.dataHash(new Uint8Array()) }));
+});
+
+test("JSON that is none of chunks or a session is refused", () => {
+    const hex = "0".repeat(64);
+    for (const pairs of [null, 5, "ab", [[hex]], [[hex, 1]], [[hex, "01"]], [[hex, "-1"]], [[hex, ""]], [[hex, "1e3"]], [[1, "1"]]]) {
+        assert.throws(() => y.Chunks.fromJSON(pairs), TypeError, JSON.stringify(pairs));
+    }
+    assert.throws(() => y.Chunks.fromJSON([[hex, `${2n ** 64n}`]]), RangeError);
+    assert.throws(() => y.Chunks.fromJSON([["0", "1"]]), errors.InvalidText);
+    const { runs, knownHashes } = sessionOf([4, 2]).saved;
+    const [[first, end, json]] = runs;
+    const table = [
+        [null, TypeError],
+        [{}, TypeError],
+        [{ runs }, TypeError],
+        [{ runs: [[4, end, json]], knownHashes }, TypeError],
+        [{ runs: [[first, end, null]], knownHashes }, TypeError],
+        [{ runs, knownHashes: [1] }, TypeError],
+        [{ runs: 5, knownHashes }, TypeError],
+        [{ runs, knownHashes: 5 }, TypeError],
+        [{ runs: [[first, end, "x"]], knownHashes }, errors.InvalidText],
+        [{ runs: [[first, end, "{}"]], knownHashes }, errors.InvalidJson],
+        [{ runs, knownHashes: ["00"] }, errors.InvalidText],
+        [{ runs: [[end, first, json]], knownHashes }, errors.InvalidArguments],
+        [{ runs: [...runs, ...runs], knownHashes }, errors.InvalidArguments],
+    ];
+    for (const [saved, kind] of table) assert.throws(() => y.Session.restore(saved), kind, JSON.stringify(saved));
+});
+
+test("Node's console shows what an object is", () => {
+    const hash = y.Hash.randomFromSeed(1);
+    const plain = (it, options) => inspect(it, options).replace(/\s+/g, " ");
+    assert.equal(inspect(hash), `Hash(${hash.hex()})`);
+    assert.equal(plain({ hash }), `{ hash: Hash(${hash.hex()}) }`);
+    assert.equal(plain(y.Chunks.from([[hash, 7]])), `Chunks(1) [ [ Hash(${hash.hex()}), 7n ] ]`);
+    const many = plain(y.Chunks.from(list(250)));
+    assert.ok(many.startsWith("Chunks(250) [ [ Hash(") && many.endsWith(" ] and 150 more"), many.slice(-40));
+    assert.ok(plain(y.Chunks.from(list(5)), { maxArrayLength: 2 }).endsWith(" ] and 3 more"));
+    assert.ok(plain(y.Chunks.from(list(120)), { maxArrayLength: null }).endsWith("n ] ]"));
+    const range = y.Subtree.fromChunks(true, [[hash, 7]], false);
+    assert.equal(plain(range), "Subtree { atStart: true, atEnd: false, totalSize: 7n, numLevels: 1, numNodes: 1 }");
+    assert.equal(plain(sessionOf([4, 3])), "Session { numChunks: 3n, totalSize: 3231n, numRuns: 1 }");
+    assert.equal(plain(new y.Hasher().update(Uint8Array.of(1, 2))).slice(0, 24), "Hasher { count: 2n, hash");
+    range.free();
+    assert.equal(inspect(range), "Subtree <the object was freed>");
+    assert.equal(plain({ a: { b: { hash } } }, { depth: 1 }), "{ a: { b: [Object] } }");
+    assert.equal(plain([[[hash]]], { depth: 2 }), `[ [ [ [Hash] ] ] ]`);
+});

@@ -1,0 +1,21 @@
+// The package `yurewha` for bundlers that make code for browsers: nothing in it names a module of Node.
+
+import { loader } from "./load.js";
+
+export {
+    EmptyHandle,
+    InvalidArguments,
+    InvalidJson,
+    InvalidText,
+    OutOfMemory,
+    SessionError,
+    SessionGap,
+    SessionOverlap,
+    SessionPositions,
+    SessionSizes,
+    SizeOverflow,
+    Trapped,
+    YurewhaError,
+} from "./errors.js";
+
+export const load = loader(null);

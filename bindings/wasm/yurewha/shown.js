@@ -1,0 +1,23 @@
+// What others see of an object whose members are private: comparisons, structured clones, and Node's console.
+
+const INSPECT = Symbol.for("nodejs.util.inspect.custom");
+
+/** What makes some getters of a class own enumerable properties of an object, for comparisons and structured clones. */
+export function showing(kind, names) {
+    const getters = Object.getOwnPropertyDescriptors(kind.prototype);
+    const shown = names.map((name) => [name, { ...getters[name], enumerable: true }]);
+    return (object) => shown.forEach(([name, getter]) => Object.defineProperty(object, name, getter));
+}
+
+/** Lets Node's console show objects of a class as `tell` tells. An object that can't be asked any more is shown by its error. */
+export function inspected(kind, name, tell) {
+    const value = function (depth, options, inspect) {
+        if (depth < 0) return `[${name}]`;
+        try {
+            return `${name}${tell(this, (told) => inspect(told, { ...options, depth }), options)}`;
+        } catch (error) {
+            return `${name} <${error.message}>`;
+        }
+    };
+    Object.defineProperty(kind.prototype, INSPECT, { value, writable: true, configurable: true });
+}
