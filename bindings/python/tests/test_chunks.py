@@ -28,6 +28,10 @@ def test_forms():
             memoryview(b"abc" + PACKED)[3:], (pair for pair in PAIRS), [list(pair) for pair in PAIRS],
         ):
             assert y.Chunks(form) == chunks
+    with_bytes = [(h.bytes, size) for h, size in PAIRS]
+    for form in (with_bytes, iter(with_bytes), PAIRS[:25] + with_bytes[25:]):
+        assert y.Chunks(form) == chunks
+    assert y.xorb_hash(with_bytes) == y.xorb_hash(PAIRS)
     assert y.Chunks(PACKED).packed is PACKED and y.Chunks(chunks) is chunks
     assert y.Chunks() == y.Chunks([]) == y.Chunks(b"") and len(y.Chunks()) == 0
     assert y.xorb_hash(memoryview(b"abc" + PACKED)[3:]) == y.xorb_hash(PAIRS)

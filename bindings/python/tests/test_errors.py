@@ -178,7 +178,8 @@ REFUSED = [
         lambda: y.xorb_hash("abc"),
         lambda: y.xorb_hash([7]),
         lambda: y.xorb_hash([(Z, 1, 2)]),
-        lambda: y.xorb_hash([(bytes(32), 1)]),
+        lambda: y.xorb_hash([(bytearray(32), 1)]),
+        lambda: y.xorb_hash([(7, 1)]),
         lambda: y.xorb_hash([(Z, 1.0)]),
         lambda: y.xorb_hash([(Z, "1")]),
         lambda: y.file_hash([ONE], 32 * "0"),
@@ -279,7 +280,9 @@ def test_freed_twice():
 NAMED = [
     ("chunk 2 ", lambda: y.xorb_hash([ONE, ONE, 7])),
     ("chunk 2 isn't a pair", lambda: y.xorb_hash([ONE, ONE, (Z, 1, 2)])),
-    ("the hash of chunk 2 ", lambda: y.xorb_hash([ONE, ONE, (1, Z)])),
+    ("the hash of chunk 2 is a Hash or 32 bytes, not int", lambda: y.xorb_hash([ONE, ONE, (1, Z)])),
+    ("the hash of chunk 1 is a Hash or 32 bytes, not str", lambda: y.xorb_hash([ONE, (64 * "0", 1)])),
+    ("the hash of chunk 1 has 32 bytes, not 31", lambda: y.xorb_hash([ONE, (bytes(31), 1)])),
     ("the size of chunk 2 ", lambda: y.xorb_hash([ONE, ONE, (Z, -1)])),
     ("the size of chunk 2 ", lambda: y.Chunks([ONE, ONE, (Z, MAX + 1)])),
     ("the size of chunk 1 ", lambda: session().put(0, [ONE, (Z, 1.5), ONE])),
@@ -294,7 +297,7 @@ NAMED = [
     ("hash 1 ", lambda: y.Hashes([Z, 7])),
     ("hash 1 ", lambda: session().keep_hashes([Z, 7])),
     ("the run has no position", lambda: session(3).push_run(4, 5, open_tree())),
-    ("a run is a Subtree", lambda: session(3).push_run(5, 6, [ONE])),
+    ("the run is a Subtree", lambda: session(3).push_run(5, 6, [ONE])),
 ]
 
 
