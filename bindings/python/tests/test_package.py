@@ -10,6 +10,7 @@ import re
 import shutil
 import subprocess
 import sys
+import traceback
 from pathlib import Path
 
 import pytest
@@ -36,11 +37,22 @@ def test_each_public_call_has_an_example():
         item = getattr(y, name)
         if name == "Flat" or inspect.isfunction(item) or inspect.isclass(item):
             assert ">>>" in item.__doc__, name
-        if inspect.isclass(item) and item.__module__ not in ("yurewha._errors",) and name != "Flat":
+        if inspect.isclass(item) and not issubclass(item, Exception) and name != "Flat":
             for member, value in vars(item).items():
                 value = value.__func__ if isinstance(value, (staticmethod, classmethod)) else value
                 if not member.startswith("_") and (inspect.isfunction(value) or isinstance(value, property)):
                     assert ">>>" in value.__doc__, f"{name}.{member}"
+
+
+def test_public_names_are_those_of_the_package():
+    for name in y.__all__:
+        item = getattr(y, name)
+        assert item.__module__ == "yurewha", name
+        for member, value in vars(item).items() if inspect.isclass(item) else ():
+            function = getattr(value, "__func__", value)
+            assert not inspect.isfunction(function) or function.__module__ == "yurewha", f"{name}.{member}"
+    assert repr(y.Hash) == "<class 'yurewha.Hash'>" and "yurewha.InvalidText: " in "".join(
+        traceback.format_exception_only(y.InvalidText, y.InvalidText("a")))
 
 
 def header():
