@@ -60,7 +60,7 @@ def test_sizes_are_read_by_the_width_of_the_column(kind):
         hashes, sizes = HASHES[:count], [rng.randint(0, top) for _ in range(count)]
         sizes[:2] = [top, 0][:count]
         column = numpy.array(sizes, dtype=kind)
-        typed = array.array({"u1": "B", "i1": "b", "u2": "H", "i2": "h", "u4": "I", "i4": "i", "u8": "Q", "i8": "q"}[kind], sizes)
+        typed = array.array(dict(u1="B", i1="b", u2="H", i2="h", u4="I", i4="i", u8="Q", i8="q")[kind], sizes)
         twice = numpy.repeat(column, 2)[::2]
         for form in (column, memoryview(column), twice, typed, memoryview(typed), column[::-1][::-1]):
             assert y.Chunks.from_columns(hashes, form) == y.Chunks(zip(hashes, sizes))

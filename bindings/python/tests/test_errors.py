@@ -349,17 +349,20 @@ def deep_calls():
     tree, closed, one = (y.Subtree.from_chunks(False, chunks, False), closed_tree(), session(3, 9))
     great, text = bytearray(3 << 20), one.to_json()
     return [
-        lambda: y.Hash(bytearray(32)), Z.hex, lambda: y.Hash.from_hex(64 * "0"), Z.base64, lambda: Z.hmac(Z), lambda: Z % 3, lambda: Z < Z,
-        lambda: y.data_hash(great), lambda: y.internal_node_hash(memoryview(b"abc")[1:]), lambda: y.Hasher(great).copy().digest(),
-        lambda: y.Hasher.keyed(bytes(32)).count, lambda: y.data_hashes(great, [0, 3, 3 << 20]), lambda: y.data_hashes(bytes(20_000), [0, 20_000]),
-        lambda: y.Chunks.from_columns(chunks.hashes, chunks.sizes), lambda: y.xorb_hash(chunks), lambda: y.file_hash(chunks, bytes(32)),
-        lambda: y.find_stable_start(chunks), lambda: y.Subtree.from_chunks(False, chunks, True) == tree, lambda: closed.file_hash(bytes(32)),
-        lambda: (tree + tree).total_size, lambda: y.Subtree.merge_all([tree, tree]).levels, lambda: tree.copy().merge_counted(tree),
-        lambda: y.Subtree.from_json(tree.to_json()).levels, lambda: y.Subtree.from_flat(*tree.to_flat()).levels, lambda: tree.svg("a"),
-        lambda: repr(tree), lambda: pickle.loads(pickle.dumps(tree)).levels, lambda: session(3, 4).num_runs, lambda: one.taken(3),
-        lambda: one.runs() == one.copy().runs(), lambda: one.run(1).end, lambda: one.run_from(0)[:2], lambda: one.gaps(20),
-        lambda: session(0).finish(1, bytes(32)), lambda: one.known_hashes(), lambda: pickle.loads(pickle.dumps(one)).num_runs,
-        lambda: y.Session.from_json(text).to_json(), lambda: one.copy().keep_hashes([Z]), lambda: one.copy().push_run(20, 50, tree),
+        lambda: y.Hash(bytearray(32)), Z.hex, lambda: y.Hash.from_hex(64 * "0"), Z.base64, lambda: Z.hmac(Z), lambda: Z % 3,
+        lambda: Z < Z, lambda: y.data_hash(great), lambda: y.internal_node_hash(memoryview(b"abc")[1:]),
+        lambda: y.Hasher(great).copy().digest(), lambda: y.Hasher.keyed(bytes(32)).count,
+        lambda: y.data_hashes(great, [0, 3, 3 << 20]), lambda: y.data_hashes(bytes(20_000), [0, 20_000]),
+        lambda: y.Chunks.from_columns(chunks.hashes, chunks.sizes), lambda: y.xorb_hash(chunks),
+        lambda: y.file_hash(chunks, bytes(32)), lambda: y.find_stable_start(chunks), lambda: closed.file_hash(bytes(32)),
+        lambda: y.Subtree.from_chunks(False, chunks, True) == tree, lambda: (tree + tree).total_size,
+        lambda: y.Subtree.merge_all([tree, tree]).levels, lambda: tree.copy().merge_counted(tree),
+        lambda: y.Subtree.from_json(tree.to_json()).levels, lambda: y.Subtree.from_flat(*tree.to_flat()).levels,
+        lambda: tree.svg("a"), lambda: repr(tree), lambda: pickle.loads(pickle.dumps(tree)).levels,
+        lambda: session(3, 4).num_runs, lambda: one.taken(3), lambda: one.runs() == one.copy().runs(), lambda: one.run(1).end,
+        lambda: one.run_from(0)[:2], lambda: one.gaps(20), lambda: session(0).finish(1, bytes(32)), one.known_hashes,
+        lambda: pickle.loads(pickle.dumps(one)).num_runs, lambda: y.Session.from_json(text).to_json(),
+        lambda: one.copy().keep_hashes([Z]), lambda: one.copy().push_run(20, 50, tree),
     ]
 
 

@@ -28,8 +28,8 @@ def written(tmp_path):
     return write
 
 
-@pytest.mark.parametrize("end, count", [(0, 1), (0, 5), (1, 3), (1000, 100), (MIB, 1), (MIB + 1, 1), (2 * MIB, 1), (3 * MIB + 5, 2), (5 * MIB, 300),
-                                        (9 * MIB, 4)])
+@pytest.mark.parametrize("end, count", [
+    (0, 1), (0, 5), (1, 3), (1000, 100), (MIB, 1), (MIB + 1, 1), (2 * MIB, 1), (3 * MIB + 5, 2), (5 * MIB, 300), (9 * MIB, 4)])
 def test_the_same_hashes_as_of_the_bytes(written, end, count):
     data = rng.randbytes(end)
     offsets = [0, *sorted(rng.randrange(end + 1) for _ in range(count - 1)), end]
@@ -40,7 +40,8 @@ def test_the_same_hashes_as_of_the_bytes(written, end, count):
     assert y.hash_chunks(path, offsets[1:]) == expected[1:] and y.hash_chunks(path, offsets[:1]) == y.Hashes()
 
 
-@pytest.mark.parametrize("offsets", [[0], [0, 0], [7, 7, 7], [0, 9 * MIB], [3, 4, 8 * MIB, 8 * MIB + 1], range(0, 9 * MIB, 1 << 16), range(0, 9 * MIB, 3 * MIB)])
+@pytest.mark.parametrize("offsets", [
+    [0], [0, 0], [7, 7, 7], [0, 9 * MIB], [3, 4, 8 * MIB, 8 * MIB + 1], range(0, 9 * MIB, 1 << 16), range(0, 9 * MIB, 3 * MIB)])
 def test_progress_goes_from_the_first_offset_to_the_last(written, offsets):
     path, told = written(bytes(9 * MIB)), []
     hashes = y.hash_chunks(path, offsets, progress=lambda done, total: told.append((done, total)))

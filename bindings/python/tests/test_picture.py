@@ -94,7 +94,8 @@ def test_wrong_captions(caption, tmp_path):
 def test_wrong_lists_of_captions_and_subtrees(tmp_path):
     tree, path = y.Subtree.from_chunks(True, numbered(0, 3), True), tmp_path / "one.svg"
     path.write_text("kept")
-    for trees, captions in (([tree, tree], "ab"), ([tree], 7), ([tree], None), (7, []), ([7], []), ([tree, None], ["a", "b"]), (tree, [])):
+    for trees, captions in (([tree, tree], "ab"), ([tree], 7), ([tree], None), (7, []), ([7], []), ([tree, None], ["a", "b"]),
+                            (tree, [])):
         for call in (y.svg_of, lambda *given: y.write_svg(path, *given)):
             with pytest.raises(TypeError):
                 call(trees, captions)

@@ -107,8 +107,8 @@ def test_pickles_of_1_0_0(protocol):
 def test_a_pickle_names_the_package_alone(protocol):
     session = y.Session()
     session.put(7, block(1, 10))
-    values = [y.Hash(), block(1, 3), y.Hashes([y.Hash()]), piece(1), piece(1).to_flat(), session, session.runs(), y.SessionGap("a"),
-              y.InvalidJson(3), y.data_hash, y.Session, y.Hash.from_hex]
+    values = [y.Hash(), block(1, 3), y.Hashes([y.Hash()]), piece(1), piece(1).to_flat(), session, session.runs(),
+              y.SessionGap("a"), y.InvalidJson(3), y.data_hash, y.Session, y.Hash.from_hex]
     for value in values:
         pickled = pickle.dumps(value, protocol)
         texts = [str(argument) for code, argument, _ in pickletools.genops(pickled)]

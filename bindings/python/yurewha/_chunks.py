@@ -168,8 +168,9 @@ class Chunks(Packed[Chunk]):
     def from_columns(hashes: Union[HashesLike, HexTexts], sizes: SizesLike) -> Chunks:
         """Returns the chunks of a column of hashes and a column of sizes: lists, or columns of NumPy, pandas or Arrow.
 
-        Hashes are what `Hashes` accepts, or hex texts. Sizes are whole numbers from 0 to 2^64 - 1, in a column of signed or unsigned
-        numbers of any width. They may also be a plain buffer of eight bytes for each, like `bytes` or a buffer of Arrow.
+        Hashes are what `Hashes` accepts, or hex texts. Sizes are whole numbers from 0 to 2^64 - 1, in a column of signed or
+        unsigned numbers of any width. They may also be a plain buffer of eight bytes for each, like `bytes` or a buffer of
+        Arrow.
 
         Raises `InvalidArguments` with the index of the first size that is out of range. Also raises it if there isn't one size
         for each hash. Raises `InvalidText` with the index of the first text that isn't the hex text of a hash.

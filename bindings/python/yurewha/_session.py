@@ -7,7 +7,7 @@ from typing import Callable, Iterable, Iterator, List, Optional, Tuple, Type, Un
 
 from ._chunks import Chunks, ChunksLike
 from ._declarations import STATUSES
-from ._errors import SessionOverlap, YurewhaError, error_of
+from ._errors import InvalidArguments, SessionOverlap, YurewhaError, error_of
 from ._guard import Guarded, both_locked
 from ._hash import Hash, checked_32, checked_u64
 from ._hashes import Hashes, HashesLike
@@ -23,10 +23,12 @@ _HASH_SIZE = ctypes.sizeof(CHash)
 _Restore = Callable[[Iterable[Span], HashesLike], "Session"]
 
 
+@final
 class Run(Tuple[int, Subtree]):
     """A run of adjacent positions of a session: a pair of its first position and the subtree of its chunks.
 
-    It also has the position after its last one, `end`. The subtree is open at both ends.
+    It also has the position after its last one, `end`. The subtree is open at both ends. A run that is made by hand raises
+    `InvalidArguments` if it has no position or one past 2^64 - 1.
 
     >>> session = Session(); _ = session.put(3, [(Hash(), 1), (Hash(), 1)])
     >>> (run,) = session.runs()
@@ -38,9 +40,17 @@ class Run(Tuple[int, Subtree]):
     _end: int
 
     def __new__(cls, first: int, end: int, subtree: Subtree) -> Run:
-        self = super().__new__(cls, (first, subtree))  # type: ignore[arg-type]
-        self._end = end
+        place, after = checked_u64(first, "a position"), checked_u64(end, "a position")
+        if after <= place:
+            raise InvalidArguments("a run ends after its first position")
+        if not isinstance(subtree, Subtree):
+            raise TypeError(f"the subtree of a run is a Subtree, not {type(subtree).__name__}")
+        self = super().__new__(cls, (place, subtree))  # type: ignore[arg-type]
+        self._end = after
         return self
+
+    def __init_subclass__(cls) -> None:
+        raise TypeError("Run can't be subclassed")
 
     @property
     def first(self) -> int:
@@ -94,14 +104,18 @@ class Session(Guarded):
     0
     """
 
-    __slots__ = ("_handle",)
+    __slots__ = ("_handle", "_changes")
 
     _handle: CSession
+    # How many calls that change the session began. A call that reads several times notices by it that a signal handler made
+    # one. Then it reads a copy, which no handler changes.
+    _changes: int
 
     def __new__(cls) -> Session:
         self = object.__new__(cls)
         self._guard()
         self._handle = CSession()
+        self._changes = 0
         status = short.yurewha_session_new(self._handle)
         if status:
             raise error_of(status)
@@ -136,10 +150,11 @@ class Session(Guarded):
         packed = Chunks(chunks).packed
         count, out = len(packed) // _CHUNK_SIZE, ctypes.c_uint64()
         with self._locked():
+            self._changes += 1
             status = calls_for(count, LONG_CHUNKS).yurewha_session_put(self._handle, place, packed, count, out)
             if status == STATUSES["YUREWHA_SESSION_OVERLAP"]:
-                run = self._run_from(place)
-                raise SessionOverlap(f"position {max(place, run[0]) if run else place} is taken")
+                run = None if self.taken(place) else self._run_from(place)
+                raise SessionOverlap(f"position {run[0] if run else place} is taken")
         if status:
             raise error_of(status)
         return out.value
@@ -181,7 +196,7 @@ class Session(Guarded):
         >>> session.num_chunks
         2
         """
-        return sum(end - first for first, end, _ in self.copy()._walk())
+        return sum(end - first for first, end, _ in self._spans())
 
     @property
     def total_size(self) -> int:
@@ -191,7 +206,7 @@ class Session(Guarded):
         >>> session.total_size
         15
         """
-        return sum(subtree.total_size for _, _, subtree in self.copy()._walk())
+        return sum(subtree.total_size for _, _, subtree in self._spans())
 
     def gaps(self, total: int) -> List[range]:
         """Returns the ranges of positions below `total` that aren't taken, by rising position.
@@ -201,7 +216,7 @@ class Session(Guarded):
         [range(0, 3), range(5, 8)]
         """
         number, position, gaps = checked_u64(total, "the total"), 0, []
-        for first, end, _ in self.copy()._walk():
+        for first, end, _ in self._spans():
             gaps.append(range(position, min(first, number)))
             position = end
         gaps.append(range(position, number))
@@ -229,7 +244,7 @@ class Session(Guarded):
         >>> [first for first, subtree in session.runs()], [run.end for run in session.runs()]
         ([3, 5], [4, 6])
         """
-        return [Run(*run) for run in self.copy()._walk()]
+        return [Run(*span) for span in self._spans()]
 
     def run_from(self, position: int) -> Optional[Tuple[int, int, Subtree]]:
         """Returns the first run that ends after a position: the run that holds it or else the next one.
@@ -255,14 +270,21 @@ class Session(Guarded):
         return first.value, end.value, subtree
 
     def _walk(self) -> Iterator[Span]:
-        """Yields each run: the first that ends after the one before it.
-
-        The session is a copy, which one call made. A signal handler can't change it between two steps.
-        """
+        """Yields each run: the first that ends after the one before it."""
         run = self._run_from(0)
         while run is not None:
             yield run
             run = self._run_from(run[1])
+
+    def _spans(self) -> List[Span]:
+        """Returns all runs of one moment."""
+        with self._locked():
+            changes, spans = self._changes, []
+            for span in self._walk():
+                spans.append(span)
+                if changes != self._changes:
+                    break
+            return spans if changes == self._changes else list(self.copy()._walk())
 
     def __iter__(self) -> Iterator[Run]:
         """Iterates over the runs at the time of the call, as `runs` returns them.
@@ -354,6 +376,7 @@ class Session(Guarded):
             raise TypeError(f"{what} is a Subtree, not {type(subtree).__name__}")
         one, other = both_locked(self, subtree)
         with one, other:
+            self._changes += 1
             calls = calls_for(subtree._nodes(), LONG_NODES)
             status = calls.yurewha_session_push_run(self._handle, place, after, subtree._handle)
         if status:
@@ -369,6 +392,7 @@ class Session(Guarded):
         packed = Hashes(hashes).packed
         count = len(packed) // _HASH_SIZE
         with self._locked():
+            self._changes += 1
             status = calls_for(count, LONG_CHUNKS).yurewha_session_keep_hashes(self._handle, packed, count)
         if status:
             raise error_of(status)
@@ -382,18 +406,21 @@ class Session(Guarded):
         >>> list(session.known_hashes()) == [Hash()]
         True
         """
-        return self.copy()._known_hashes()
-
-    def _known_hashes(self) -> Hashes:
-        """Returns the known hashes. The session is a copy, as in `_walk`."""
-        count = ctypes.c_size_t()
         with self._locked():
-            short.yurewha_session_num_known_hashes(self._handle, count)
-            out = (CHash * count.value)()
-            status = calls_for(len(out), LONG_CHUNKS).yurewha_session_known_hashes(self._handle, out, len(out))
+            status, hashes = self._known_hashes()
+            if status == STATUSES["YUREWHA_ARGUMENTS"]:  # a handler changed their number between the two calls
+                status, hashes = self.copy()._known_hashes()
         if status:
             raise error_of(status)
-        return Hashes._of(bytes(out))
+        return hashes
+
+    def _known_hashes(self) -> Tuple[int, Hashes]:
+        count = ctypes.c_size_t()
+        with self._locked():
+            status = short.yurewha_session_num_known_hashes(self._handle, count)
+            out = (CHash * count.value)()
+            status = status or calls_for(len(out), LONG_CHUNKS).yurewha_session_known_hashes(self._handle, out, len(out))
+        return status, Hashes._of(bytes(out))
 
     def to_json(self) -> str:
         """Returns the session as compact JSON text: its runs and the hashes that it knows.
@@ -405,7 +432,7 @@ class Session(Guarded):
         '{"runs":[],"known_hashes":[[0,0,0,0]]}'
         """
         saved = self.copy()
-        return json_of(saved._walk(), saved._known_hashes())
+        return json_of(saved._walk(), saved.known_hashes())
 
     @staticmethod
     def from_json(text: Union[str, BytesLike]) -> Session:
@@ -431,7 +458,7 @@ class Session(Guarded):
     def __reduce__(self) -> Tuple[_Restore, Tuple[Tuple[Span, ...], Hashes]]:
         # The runs of a pickle are checked when it is read, and so are their subtrees.
         saved = self.copy()
-        return Session._restored, (tuple(saved._walk()), saved._known_hashes())
+        return Session._restored, (tuple(saved._walk()), saved.known_hashes())
 
     def __repr__(self) -> str:
         try:
