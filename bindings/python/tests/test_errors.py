@@ -347,12 +347,12 @@ def deep_calls():
     """Calls of each kind, by what they return."""
     chunks = y.Chunks(30 * [(y.Hash.random_from_seed(1), 7)])
     tree, closed, one = (y.Subtree.from_chunks(False, chunks, False), closed_tree(), session(3, 9))
-    great, text = bytearray(3 << 20), one.to_json()
+    great, text = bytearray((1 << 20) + 17), one.to_json()
     return [
         lambda: y.Hash(bytearray(32)), Z.hex, lambda: y.Hash.from_hex(64 * "0"), Z.base64, lambda: Z.hmac(Z), lambda: Z % 3,
         lambda: Z < Z, lambda: y.data_hash(great), lambda: y.internal_node_hash(memoryview(b"abc")[1:]),
         lambda: y.Hasher(great).copy().digest(), lambda: y.Hasher.keyed(bytes(32)).count,
-        lambda: y.data_hashes(great, [0, 3, 3 << 20]), lambda: y.data_hashes(bytes(20_000), [0, 20_000]),
+        lambda: y.data_hashes(great, [0, 3, 1 << 20]), lambda: y.data_hashes(bytes(20_000), [0, 20_000]),
         lambda: y.Chunks.from_columns(chunks.hashes, chunks.sizes), lambda: y.xorb_hash(chunks),
         lambda: y.file_hash(chunks, bytes(32)), lambda: y.find_stable_start(chunks), lambda: closed.file_hash(bytes(32)),
         lambda: y.Subtree.from_chunks(False, chunks, True) == tree, lambda: (tree + tree).total_size,
@@ -374,7 +374,7 @@ def test_a_stack_that_ends_anywhere(number):
     expected, ended, ignored = call(), 0, []
     hook, sys.unraisablehook = sys.unraisablehook, lambda told: ignored.append(f"{told.err_msg}: {told.exc_value!r}")
     try:
-        for depth in range(sys.getrecursionlimit() - 120, sys.getrecursionlimit()):
+        for depth in range(sys.getrecursionlimit() - 60, sys.getrecursionlimit()):
             for each in (call, lambda: y.data_hash(block)):
                 try:
                     answer = at_depth(depth, each)

@@ -62,7 +62,7 @@ def test_pickles(protocol):
     assert read.runs() == session.runs() and set(read.known_hashes()) == set(session.known_hashes())
 
 
-#: Pickles of version 1.0.0, by protocol, which name private modules: of what `test_pickles_of_1_0_0` names.
+#: Pickles by protocol, made when they named private modules, of what `test_pickles_that_name_private_modules` lists.
 OLD = {
     2: (
         "gAJdcQAoY3l1cmV3aGEuX2hhc2gKSGFzaApxAWNfY29kZWNzCmVuY29kZQpxAlgwAAAAwpvDggNvf8OQw4XDj8KNw6A/wpYyQULCvyDDtcKqV1d9wqMZ"
@@ -94,7 +94,7 @@ OLD = {
 
 
 @pytest.mark.parametrize("protocol", OLD)
-def test_pickles_of_1_0_0(protocol):
+def test_pickles_that_name_private_modules(protocol):
     one = (y.Hash.random_from_seed(1), 100)
     hash_, chunks, hashes, tree, flat, session, error, call = pickle.loads(base64.b64decode(OLD[protocol]))
     assert hash_ == one[0] and chunks == y.Chunks([one]) and hashes == y.Hashes([one[0]]) and call is y.data_hash

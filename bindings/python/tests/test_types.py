@@ -143,7 +143,7 @@ WRONG = [
     "session.keep_hashes([7])",
     "session.known_hashes().packed + 1",
 ]
-#: About the calls that were added since 1.0.0, and others that nothing above is about.
+#: About sessions, columns and files, and others that nothing above is about.
 WRONG_TOO = [
     "session.finish(7, salt=y.Hash())",
     'session.finish(7, "pepper")',

@@ -38,8 +38,8 @@ def version() -> str:
 def level_of(path: str) -> str:
     """The level that the library at a path is made for: the name of its folder, if that is one of glibc's for levels.
 
-    >>> level_of("/lib/glibc-hwcaps/x86-64-v3/libyurewha.so.1")
-    'x86-64-v3'
+    >>> level_of("/lib/glibc-hwcaps/level/libyurewha.so.1")
+    'level'
     """
     folder = Path(path).parent
     return folder.name if folder.parent.name == "glibc-hwcaps" else platform.machine()
