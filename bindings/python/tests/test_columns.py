@@ -249,6 +249,10 @@ def test_columns_of_arrow_that_are_none(column, text):
     assert len(column.lent) == (1 if isinstance(column, Stream) else 2)
 
 
+def test_a_column_of_bytes_of_arrow_is_a_block_of_hashes():
+    assert y.Hashes(Array("C", (RAW, 32, 1888, None))) == y.Hashes(HASHES[1:])
+
+
 def test_wrong_sizes_of_arrow():
     for column, text in ((Array("w:8", (RAW_SIZES, 0, 60, None)), "whole numbers"), (Array("g", (RAW, 0, 60, None)), "not 'g'"),
                          (Array("l", (struct.pack("<q", -1) + RAW_SIZES, 0, 60, None)), "size 0 is a whole number")):

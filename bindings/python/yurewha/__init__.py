@@ -11,9 +11,7 @@ True
 
 from __future__ import annotations
 
-from types import FunctionType
-from typing import get_type_hints
-
+from . import _names
 from ._chunks import Chunks
 from ._errors import (
     DivisionByZero,
@@ -85,18 +83,4 @@ __all__ = [
     "xorb_hash",
 ]
 
-
-def _name_this_package() -> None:
-    """Makes each public name one of this package, also in pickles. So where its code stands can change."""
-    for name in __all__:
-        item = globals()[name]
-        if isinstance(item, type):
-            item.__annotations__ = get_type_hints(item)  # the names in them aren't all names of this module
-            for member in vars(item).values():
-                function = member.__func__ if isinstance(member, (staticmethod, classmethod)) else member
-                if isinstance(function, FunctionType):
-                    function.__module__ = __name__
-        item.__module__ = __name__
-
-
-_name_this_package()
+_names.publish(__name__, [globals()[name] for name in __all__])

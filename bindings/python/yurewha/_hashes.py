@@ -58,7 +58,7 @@ class Hashes(Packed[Hash]):
             raise TypeError("hashes are a list of them, or a block of bytes; Hashes.from_hex reads texts")
         given = block_or_items(hashes, _EXPECTED)
         if not isinstance(given, memoryview):
-            return cls._of(b"".join(raw_of(hash_, f"hash {place}") for place, hash_ in enumerate(given)))
+            return cls._of(b"".join(_raw_items(given)))
         with given:
             return cls._of(checked_block(given, _SIZE, _FORMS, _EXPECTED))
 
@@ -120,6 +120,11 @@ class Hashes(Packed[Hash]):
 
     def __add__(self, other: HashesLike) -> Hashes:
         return Hashes._of(self._packed + Hashes(other)._packed)
+
+
+def _raw_items(hashes: Iterable[object]) -> Iterator[bytes]:
+    for place, hash_ in enumerate(hashes):
+        yield hash_._raw if type(hash_) is Hash else raw_of(hash_, f"hash {place}")
 
 
 def _words_reversed(packed: bytes) -> bytes:

@@ -135,6 +135,8 @@ class Flat(NamedTuple):
 class Subtree(Guarded):
     """What is kept of a range of chunks. It is enough to merge the range with its neighbours, without the chunks.
 
+    It has JSON and can be pickled. Unpickling a stranger's file runs its code, whatever this package checks.
+
     >>> one, two = (Hash.random_from_seed(1), 100), (Hash.random_from_seed(2), 200)
     >>> left = Subtree.from_chunks(True, [one, two, one], False)    # the beginning of a file
     >>> right = Subtree.from_chunks(False, [two], True)             # its end
