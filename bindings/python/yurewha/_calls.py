@@ -18,7 +18,8 @@ def named(call: Callable[..., _Result]) -> Callable[..., _Result]:
         try:
             return call(*arguments)
         except ctypes.ArgumentError as error:
-            if "RecursionError" in str(error):
+            # It has the text of the error before it, or `???` if there was no stack left to make that.
+            if "RecursionError" in str(error) or str(error).endswith("???"):
                 raise RecursionError("maximum recursion depth exceeded in a call by ctypes") from None
             raise
 
