@@ -1,6 +1,7 @@
 """Threads with objects of their own, and with shared ones."""
 
 import contextlib
+import itertools
 import pickle
 import random
 import signal
@@ -289,14 +290,14 @@ def test_a_handler_that_ends_a_long_update(monkeypatch):
 @contextlib.contextmanager
 def put_by_signals(session):
     """A handler puts a chunk every half millisecond, after a gap. After ten seconds it raises, once."""
-    began, first = time.monotonic(), [1 << 40]
+    began, places = time.monotonic(), itertools.count(1 << 40, 2)
 
     def handler(number, frame):
         if time.monotonic() > began + 10:
             signal.setitimer(signal.ITIMER_REAL, 0)
             raise TimeoutError("the call doesn't end")
-        first[0] += 2
-        session.put(first[0], [(y.Hash.random_from_seed(first[0]), 1)])
+        place = next(places)
+        session.put(place, [(y.Hash.random_from_seed(place), 1)])
 
     with handled(signal.SIGALRM, handler):
         signal.setitimer(signal.ITIMER_REAL, 0.0005, 0.0005)
