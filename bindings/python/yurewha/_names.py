@@ -3,10 +3,10 @@
 from __future__ import annotations
 
 from types import FunctionType
-from typing import Any, Iterable, get_type_hints
+from typing import Iterable, Union, get_type_hints
 
 
-def publish(package: str, items: Iterable[Any]) -> None:
+def publish(package: str, items: Iterable[Union[type, FunctionType]]) -> None:
     """Makes classes, with their methods, and functions those of a package: in pickles, in texts of errors and in `help`.
 
     >>> class Example: pass
