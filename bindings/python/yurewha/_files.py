@@ -21,8 +21,8 @@ def hash_chunks(path: _Path, offsets: OffsetsLike, *, progress: Optional[Callabl
     less than the one before it, or if one is past the end of the file. Also raises it if the file becomes shorter. Opening and
     reading the file raise `OSError`.
 
-    The file is read a MiB at a time. After each, `progress(done, total)` gets the number of bytes that are hashed, and of all
-    bytes to hash. Ctrl-C ends the call there, and so does an error that `progress` raises.
+    The file is read in pieces of at most a MiB. After each, `progress(done, total)` gets the number of bytes that are hashed, and
+    of all bytes to hash. Ctrl-C ends the call there, and so does an error that `progress` raises.
 
     >>> import tempfile, os.path
     >>> with tempfile.TemporaryDirectory() as folder:
