@@ -1,6 +1,7 @@
 """Bytes of other objects: which ones cross where they are, which are copied, and that each is given back."""
 
 import array
+import ctypes
 import mmap
 import random
 import sys
@@ -98,6 +99,51 @@ def test_bytes_that_do_not_lie_one_after_the_other():
     view = memoryview(DATA)[::-3]
     for promised in (False, True):
         assert y.data_hash(view, nobody_writes=promised) == y.data_hash(DATA[::-3])
+
+
+class Struct(ctypes.Structure):
+    _fields_ = [("text", ctypes.c_char_p), ("O", ctypes.c_int)]
+
+
+def arrays_of_addresses():
+    yield (ctypes.py_object * 4)(1, 2, 3, 4)
+    yield (ctypes.c_char_p * 4)(b"a", b"b", b"c", b"d")
+    yield (ctypes.c_wchar_p * 4)("a", "b", "c", "d")
+    yield (ctypes.c_void_p * 4)(1, 2, 3, 4)
+    yield (ctypes.POINTER(ctypes.c_int) * 4)()
+    yield (ctypes.CFUNCTYPE(None) * 4)()
+    yield (Struct * 2)()
+    numpy = pytest.importorskip("numpy")
+    yield numpy.array([b"a", "b", None, 7], dtype=object)
+    yield numpy.zeros(1000, dtype=object)
+    yield numpy.zeros((2, 2), dtype=object)
+    yield numpy.zeros(2, dtype=[("x", "u8"), ("y", "O")])
+    yield numpy.zeros(2, dtype=[("x", [("y", "O"), ("z", "u8")])])
+
+
+def test_addresses_of_objects_are_not_bytes():
+    salted = (y.file_hash, y.Session().finish, y.Subtree.from_chunks(True, [], True).file_hash)
+    calls = (
+        y.Hash, y.Hash.from_bytes, y.data_hash, y.internal_node_hash, y.Hasher, y.Hasher.internal_node, y.Hasher.keyed,
+        y.Hasher().update, lambda data: y.data_hash(data, nobody_writes=True), lambda data: y.data_hashes(data, [0]),
+        lambda data: y.Hasher.keyed(bytes(32), data), lambda data: salted[0]([], salt=data), lambda data: salted[1](0, data),
+        salted[2], y.Subtree.from_json, y.Session.from_json)
+    for given in arrays_of_addresses():
+        for form in (given, memoryview(given)):
+            for call in calls:
+                with pytest.raises(TypeError, match="are the addresses of objects, not the objects"):
+                    call(form)
+            for call in (y.Chunks, y.Hashes, y.xorb_hash, lambda sizes: y.Chunks.from_columns([], sizes)):
+                with pytest.raises((TypeError, y.InvalidArguments)):
+                    call(form)
+
+
+def test_other_arrays_are_bytes():
+    """Names of fields may have any letter, and complex numbers have a `Z` in their format."""
+    numpy = pytest.importorskip("numpy")
+    for array_ in (numpy.zeros(2, dtype=[("O", "u8"), ("P&X", "u8")]), numpy.arange(4, dtype="c16"), numpy.arange(4, dtype="c8"),
+                   numpy.array(["a", "b"]), numpy.array([True, False]), numpy.arange(4, dtype="f2")):
+        assert y.data_hash(array_) == y.data_hash(array_.tobytes())
 
 
 def test_each_buffer_is_given_back():

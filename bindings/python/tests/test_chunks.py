@@ -5,6 +5,7 @@ import mmap
 import random
 import struct
 import time
+from xml.etree import ElementTree
 
 import pytest
 
@@ -28,6 +29,10 @@ def test_forms():
             memoryview(b"abc" + PACKED)[3:], (pair for pair in PAIRS), [list(pair) for pair in PAIRS],
         ):
             assert y.Chunks(form) == chunks
+    with_bytes = [(h.bytes, size) for h, size in PAIRS]
+    for form in (with_bytes, iter(with_bytes), PAIRS[:25] + with_bytes[25:]):
+        assert y.Chunks(form) == chunks
+    assert y.xorb_hash(with_bytes) == y.xorb_hash(PAIRS)
     assert y.Chunks(PACKED).packed is PACKED and y.Chunks(chunks) is chunks
     assert y.Chunks() == y.Chunks([]) == y.Chunks(b"") and len(y.Chunks()) == 0
     assert y.xorb_hash(memoryview(b"abc" + PACKED)[3:]) == y.xorb_hash(PAIRS)
@@ -134,6 +139,20 @@ def test_other_fields_are_refused_by_name(fields):
     for rows in (numpy.zeros(4, dtype=fields), numpy.zeros(4, dtype=numpy.dtype(fields, align=True))):
         with pytest.raises(y.InvalidArguments, match="`hash` .* of 32 bytes and `size`, an unsigned word"):
             y.Chunks(rows)
+
+
+def test_the_table_of_a_notebook():
+    for count, shown in ((0, []), (1, [0]), (10, range(10)), (11, [*range(5), None, *range(6, 11)]),
+                         (50, [*range(5), None, *range(45, 50)])):
+        table = ElementTree.fromstring(y.Chunks(PAIRS[:count])._repr_html_())
+        size = sum(size for _, size in PAIRS[:count])
+        assert table.find("caption").text == f"{count} chunk{'' if count == 1 else 's'}, {size:,} bytes"
+        head, *rows = ([cell for cell in row] for row in table.iter("tr"))
+        assert ["".join(cell.itertext()) for cell in head] == ["", "hash", "size"] and len(rows) == len(shown)
+        for place, row in zip(shown, rows):
+            expected = ["..", "", ""] if place is None else [str(place), PAIRS[place][0].hex(), f"{PAIRS[place][1]:,}"]
+            assert ["".join(cell.itertext()) for cell in row] == expected
+    assert "1,000,000 chunks, 1 byte<" in y.Chunks([(y.Hash(), 1), *999_999 * [(y.Hash(), 0)]])._repr_html_()
 
 
 def test_blocks_of_c_structs():

@@ -6,6 +6,9 @@ import ctypes
 import pickle
 import random
 import struct
+import sys
+import timeit
+import types
 
 import pytest
 
@@ -41,14 +44,53 @@ def test_columns_of_numpy():
     for hashes in (words, plain, words.copy(), numpy.asfortranarray(words), plain.T.copy().T, plain[:, :],
                    numpy.frombuffer(RAW, dtype="V32"), numpy.frombuffer(RAW, dtype="S32"), words.reshape(-1),
                    numpy.asarray(CHUNKS)["words"], numpy.array([h.bytes for h in HASHES], dtype=object)):
-        for column in (sizes, sizes.astype("i8"), sizes.view("u1"), numpy.asarray(CHUNKS)["size"], sizes.astype(object)):
+        for column in (sizes, sizes.astype("i8"), numpy.asarray(CHUNKS)["size"], sizes.astype(object)):
             assert y.Chunks.from_columns(hashes, column) == CHUNKS
     assert y.Chunks.from_columns(words[::-2], sizes[::-2]) == CHUNKS[::-2]
-    for kind in ("u2", "i2", "u4", "i4"):
-        small = numpy.arange(60, dtype=kind)
-        assert list(y.Chunks.from_columns(words, small).sizes) == list(range(60))
+    assert y.data_hashes(bytes(60), numpy.arange(61, dtype="u1")) == y.data_hashes(bytes(60), range(61))
     assert numpy.array_equal(numpy.asarray(y.Hashes(HASHES)), words) and numpy.array_equal(numpy.asarray(CHUNKS.sizes), sizes)
     assert not numpy.asarray(y.Hashes(HASHES)).flags.writeable
+
+
+@pytest.mark.parametrize("kind", ["u1", "i1", "u2", "i2", "u4", "i4", "u8", "i8"])
+def test_sizes_are_read_by_the_width_of_the_column(kind):
+    numpy = pytest.importorskip("numpy")
+    top = int(numpy.iinfo(kind).max)
+    for count in (0, 1, 8, 60):
+        hashes, sizes = HASHES[:count], [rng.randint(0, top) for _ in range(count)]
+        sizes[:2] = [top, 0][:count]
+        column = numpy.array(sizes, dtype=kind)
+        typed = array.array(dict(u1="B", i1="b", u2="H", i2="h", u4="I", i4="i", u8="Q", i8="q")[kind], sizes)
+        twice = numpy.repeat(column, 2)[::2]
+        for form in (column, memoryview(column), twice, typed, memoryview(typed), column[::-1][::-1]):
+            assert y.Chunks.from_columns(hashes, form) == y.Chunks(zip(hashes, sizes))
+        with pytest.raises(y.InvalidArguments, match=f"there are {count + 1} hashes and {count} sizes"):
+            y.Chunks.from_columns([*hashes, y.Hash()], column)
+    if kind[0] == "i":
+        for negative in (-1, -1 - top):
+            with pytest.raises(y.InvalidArguments, match="size 2 is a whole number from 0"):
+                y.Chunks.from_columns(HASHES[:4], numpy.array([0, top, negative, -1], dtype=kind))
+
+
+def test_signed_sizes_are_read_as_fast_as_unsigned_ones():
+    sizes = array.array("Q", range(1_000_000))
+    hashes = bytes(32 * len(sizes))
+    taken = {}
+    for column in (sizes, array.array("q", sizes)):
+        taken[column.typecode] = min(timeit.repeat(lambda: y.Chunks.from_columns(hashes, column), number=1, repeat=5))
+    assert taken["q"] < 1.5 * taken["Q"] + 0.02
+
+
+def test_hex_texts_in_a_column():
+    texts = [h.hex() for h in HASHES]
+    for hashes in (texts, tuple(texts), iter(texts), (text.upper() for text in texts)):
+        assert y.Chunks.from_columns(hashes, SIZES) == CHUNKS
+    numpy = pytest.importorskip("numpy")
+    for hashes in (numpy.array(texts), numpy.array(texts, dtype=object)):
+        assert y.Chunks.from_columns(hashes, SIZES) == CHUNKS
+    pandas = pytest.importorskip("pandas")
+    for kind in ("object", "string"):
+        assert y.Chunks.from_columns(pandas.Series(texts, dtype=kind), SIZES) == CHUNKS
 
 
 def test_columns_of_pandas():
@@ -166,12 +208,12 @@ class Stream(Lender):
         return self.capsule(b"arrow_array_stream", 5, self.lend_stream)
 
 
-NUMBERS = {"s": "h", "S": "H", "i": "i", "I": "I", "l": "q", "L": "Q"}
+NUMBERS = {"c": "b", "C": "B", "s": "h", "S": "H", "i": "i", "I": "I", "l": "q", "L": "Q"}
 
 
 @pytest.mark.parametrize("kind", NUMBERS)
 def test_columns_by_arrows_c_data_interface(kind):
-    small = [size % 30_000 for size in SIZES]
+    small = [size % 120 for size in SIZES]
     sizes = struct.pack(f"=60{NUMBERS[kind]}", *small)
     expected = y.Chunks(zip(HASHES, small))
     for offset, count in ((0, 60), (7, 20), (59, 1), (60, 0)):
@@ -196,7 +238,6 @@ def test_columns_by_arrows_c_data_interface(kind):
     (Array("w:16", (RAW, 0, 120, None)), "32 bytes for each"),
     (Array("L", (RAW, 0, 3, None)), "32 bytes for each"),
     (Array("l", (RAW, 0, 240, None)), "not 'q'"),
-    (Array("C", (RAW, 0, 1920, None)), "not 'C'"),
     (Array("w:0", (RAW, 0, 0, None)), "not 'w:0'"),
     (Array("z", (RAW, 0, 1, None)), "not 'z'"),
     (Array("+s", (RAW, 0, 1, None)), "not '\\+s'"),
@@ -206,6 +247,10 @@ def test_columns_of_arrow_that_are_none(column, text):
     with pytest.raises(y.InvalidArguments, match=text):
         y.Hashes(column)
     assert len(column.lent) == (1 if isinstance(column, Stream) else 2)
+
+
+def test_a_column_of_bytes_of_arrow_is_a_block_of_hashes():
+    assert y.Hashes(Array("C", (RAW, 32, 1888, None))) == y.Hashes(HASHES[1:])
 
 
 def test_wrong_sizes_of_arrow():
@@ -254,14 +299,23 @@ WRONG_COLUMNS = [
     (TypeError, "size 1 is a whole number, not NoneType", 2 * [y.Hash()], [1, None]),
     (y.InvalidArguments, "whole numbers, .* not 'd'", 2 * [y.Hash()], array.array("d", [1, 2])),
     (y.InvalidArguments, "whole numbers, .* not 'B'", 2 * [y.Hash()], bytes(15)),
-    (TypeError, "hash 1 is a Hash or 32 bytes, not str", [y.Hash(), 64 * "0"], [1, 2]),
-    (TypeError, "hash 1 is a Hash or 32 bytes, not NoneType", [y.Hash(), None], [1, 2]),
+    (y.InvalidText, "^text 1: the hex text of a hash is 64 hex digits", [64 * "0", 63 * "0"], [1, 2]),
+    (y.InvalidText, "^text 1: the hex text of a hash is 64 hex digits", [64 * "0", 64 * "g"], [1, 2]),
+    (y.InvalidText, "^text 0: hex has a lone surrogate", [63 * "0" + "\ud800", 64 * "0"], [1, 2]),
+    (TypeError, "^text 1: hex is a str, not NoneType", [64 * "0", None], [1, 2]),
+    (TypeError, "^text 1: hex is a str, not Hash", [64 * "0", y.Hash()], [1, 2]),
+    (TypeError, "^hash 1 is a Hash or 32 bytes, not str", [y.Hash(), 64 * "0"], [1, 2]),
+    (TypeError, "^hash 1 is a Hash or 32 bytes, not NoneType", [y.Hash(), None], [1, 2]),
     (y.InvalidArguments, "hash 1 has 32 bytes, not 31", [y.Hash(), bytes(31)], [1, 2]),
     (y.InvalidArguments, "there are 32 bytes for each", bytes(63), [1, 2]),
     (y.InvalidArguments, "four unsigned words .* not 'q'", array.array("q", range(8)), [1, 2]),
     (y.InvalidArguments, "four unsigned words .* not 'I'", array.array("I", range(16)), [1, 2]),
     (y.InvalidArguments, "there are 32 bytes for each", memoryview(bytes(64)).cast("B", (32, 2)), [1, 2]),
     (TypeError, "Hashes.from_hex reads texts", 64 * "0", [1]),
+    (y.InvalidArguments, "whole numbers, .* not 'B'", 2 * [y.Hash()], bytearray(2)),
+    (y.InvalidArguments, "whole numbers, .* not 'b'", 2 * [y.Hash()], memoryview(bytes(2)).cast("b")),
+    (y.InvalidArguments, "whole numbers, .* not '<f'", 2 * [y.Hash()], (ctypes.c_float * 2)()),
+    (y.InvalidArguments, "whole numbers, .* not 'B'", 2 * [y.Hash()], memoryview(bytes(16)).cast("B", (2, 8))),
     (TypeError, "", 7, [1]),
     (TypeError, "", [y.Hash()], 7),
     (TypeError, "", [y.Hash()], None),
@@ -373,3 +427,61 @@ def test_wrong_data_for_many_chunks():
     for data in ("text", None, 7, [1, 2]):
         with pytest.raises(TypeError):
             y.data_hashes(data, [0, 1])
+
+
+class PyArrow(types.ModuleType):
+    """The calls of pyarrow that the package uses. They return what they got. Debian has no pyarrow."""
+
+    class Column(tuple):
+        def __arrow_c_array__(self, requested_schema=None):
+            return "a schema", (*self, requested_schema)
+
+    class Array:
+        from_buffers = staticmethod(lambda *given: PyArrow.Column(given))
+
+    class StructArray:
+        from_arrays = staticmethod(lambda arrays, names: PyArrow.Column((arrays, names)))
+
+    class Type(str):
+        def __arrow_c_schema__(self):
+            return f"a schema of {self}"
+
+    binary = staticmethod(lambda width: PyArrow.Type(f"w:{width}"))
+    uint64 = staticmethod(lambda: PyArrow.Type("L"))
+    struct = staticmethod(lambda fields: PyArrow.Type(f"{fields}"))
+    py_buffer = staticmethod(lambda data: data)
+
+
+def test_columns_for_readers_of_arrow_by_pyarrow(monkeypatch):
+    monkeypatch.setitem(sys.modules, "pyarrow", PyArrow("pyarrow"))
+    hashes = y.Hashes(HASHES)
+    for requested in (None, "another schema"):
+        assert hashes.__arrow_c_array__(requested) == ("a schema", ("w:32", 60, [None, RAW], requested))
+        columns = [("w:32", 60, [None, RAW]), ("L", 60, [None, RAW_SIZES])]
+        assert CHUNKS.__arrow_c_array__(requested_schema=requested) == ("a schema", (columns, ["hash", "size"], requested))
+    assert hashes.__arrow_c_array__()[1][2][1] is hashes.packed
+    assert hashes.__arrow_c_schema__() == "a schema of w:32"
+    assert CHUNKS.__arrow_c_schema__() == "a schema of [('hash', 'w:32'), ('size', 'L')]"
+
+
+def test_columns_for_readers_of_arrow_without_pyarrow(monkeypatch):
+    monkeypatch.setitem(sys.modules, "pyarrow", None)
+    for block in (CHUNKS, CHUNKS.hashes):
+        for call in (block.__arrow_c_array__, block.__arrow_c_schema__):
+            with pytest.raises(ImportError, match="^pyarrow, which passes columns to readers of Arrow, can't be imported"):
+                call()
+    # Nothing else needs it.
+    assert y.Chunks(CHUNKS) is CHUNKS and y.Hashes(CHUNKS.hashes) == y.Hashes(RAW)
+    for call in (lambda: y.Hashes(CHUNKS), lambda: y.Chunks(CHUNKS.hashes), lambda: y.Chunks.from_columns(HASHES, CHUNKS)):
+        with pytest.raises(TypeError):
+            call()
+
+
+def test_columns_by_pyarrow_itself():
+    pyarrow = pytest.importorskip("pyarrow")
+    column = pyarrow.array(CHUNKS.hashes)
+    assert column.type == pyarrow.binary(32) and column.to_pylist() == [h.bytes for h in HASHES]
+    rows = pyarrow.array(CHUNKS)
+    assert rows.field("hash") == column and rows.field("size").to_pylist() == SIZES
+    assert y.Chunks.from_columns(rows.field("hash"), rows.field("size")) == CHUNKS
+    assert pyarrow.table(CHUNKS).column_names == ["hash", "size"]

@@ -178,7 +178,8 @@ REFUSED = [
         lambda: y.xorb_hash("abc"),
         lambda: y.xorb_hash([7]),
         lambda: y.xorb_hash([(Z, 1, 2)]),
-        lambda: y.xorb_hash([(bytes(32), 1)]),
+        lambda: y.xorb_hash([(bytearray(32), 1)]),
+        lambda: y.xorb_hash([(7, 1)]),
         lambda: y.xorb_hash([(Z, 1.0)]),
         lambda: y.xorb_hash([(Z, "1")]),
         lambda: y.file_hash([ONE], 32 * "0"),
@@ -279,7 +280,9 @@ def test_freed_twice():
 NAMED = [
     ("chunk 2 ", lambda: y.xorb_hash([ONE, ONE, 7])),
     ("chunk 2 isn't a pair", lambda: y.xorb_hash([ONE, ONE, (Z, 1, 2)])),
-    ("the hash of chunk 2 ", lambda: y.xorb_hash([ONE, ONE, (1, Z)])),
+    ("the hash of chunk 2 is a Hash or 32 bytes, not int", lambda: y.xorb_hash([ONE, ONE, (1, Z)])),
+    ("the hash of chunk 1 is a Hash or 32 bytes, not str", lambda: y.xorb_hash([ONE, (64 * "0", 1)])),
+    ("the hash of chunk 1 has 32 bytes, not 31", lambda: y.xorb_hash([ONE, (bytes(31), 1)])),
     ("the size of chunk 2 ", lambda: y.xorb_hash([ONE, ONE, (Z, -1)])),
     ("the size of chunk 2 ", lambda: y.Chunks([ONE, ONE, (Z, MAX + 1)])),
     ("the size of chunk 1 ", lambda: session().put(0, [ONE, (Z, 1.5), ONE])),
@@ -294,7 +297,7 @@ NAMED = [
     ("hash 1 ", lambda: y.Hashes([Z, 7])),
     ("hash 1 ", lambda: session().keep_hashes([Z, 7])),
     ("the run has no position", lambda: session(3).push_run(4, 5, open_tree())),
-    ("a run is a Subtree", lambda: session(3).push_run(5, 6, [ONE])),
+    ("the run is a Subtree", lambda: session(3).push_run(5, 6, [ONE])),
 ]
 
 
@@ -303,6 +306,85 @@ def test_an_error_in_a_list_names_its_place(number):
     text, call = NAMED[number]
     with pytest.raises((TypeError, y.YurewhaError), match="^" + text):
         call()
+
+
+class Changing:
+    """A number that is another one each time."""
+
+    def __init__(self, *numbers):
+        self.numbers = list(numbers)
+
+    def __index__(self):
+        return self.numbers.pop(0) if len(self.numbers) > 1 else self.numbers[0]
+
+
+def test_numbers_that_change():
+    """A call takes a number that it was given, or refuses one, by a named error."""
+    for bad in (-1, MAX + 1, -MAX):
+        assert y.Chunks([(Z, Changing(bad, 7))]) == y.Chunks([(Z, 7)])
+        assert list(y.Chunks.from_columns([Z], [Changing(bad, 7)]).sizes) == [7]
+        for call in (lambda: y.Chunks([(Z, Changing(bad, bad))]), lambda: y.xorb_hash([ONE, (Z, Changing(bad))])):
+            with pytest.raises(y.InvalidArguments, match="^the size of chunk"):
+                call()
+        with pytest.raises(y.InvalidArguments, match="^size 1 is"):
+            y.Chunks.from_columns([Z, Z], [1, Changing(bad)])
+        for call in (lambda: session(1).taken(Changing(bad, 1)), lambda: session(1).gaps(Changing(bad, 1)),
+                     lambda: session(1).put(Changing(bad, 0), [ONE]), lambda: Z % Changing(bad, 1)):
+            with pytest.raises(y.InvalidArguments):
+                call()
+    chunks = y.Chunks([ONE, ONE])
+    for place in (Changing(2, 0), Changing(-3, 0)):
+        with pytest.raises(IndexError, match=f"^there is no item {place.numbers[0]} in"):
+            chunks[place]
+    assert y.data_hashes(b"abc", [Changing(0, 9), Changing(3, 9)]) == y.data_hashes(b"abc", [0, 3])
+
+
+def at_depth(depth, call):
+    return call() if depth == 0 else at_depth(depth - 1, call)
+
+
+def deep_calls():
+    """Calls of each kind, by what they return."""
+    chunks = y.Chunks(30 * [(y.Hash.random_from_seed(1), 7)])
+    tree, closed, one = (y.Subtree.from_chunks(False, chunks, False), closed_tree(), session(3, 9))
+    great, text = bytearray((1 << 20) + 17), one.to_json()
+    return [
+        lambda: y.Hash(bytearray(32)), Z.hex, lambda: y.Hash.from_hex(64 * "0"), Z.base64, lambda: Z.hmac(Z), lambda: Z % 3,
+        lambda: Z < Z, lambda: y.data_hash(great), lambda: y.internal_node_hash(memoryview(b"abc")[1:]),
+        lambda: y.Hasher(great).copy().digest(), lambda: y.Hasher.keyed(bytes(32)).count,
+        lambda: y.data_hashes(great, [0, 3, 1 << 20]), lambda: y.data_hashes(bytes(20_000), [0, 20_000]),
+        lambda: y.Chunks.from_columns(chunks.hashes, chunks.sizes), lambda: y.xorb_hash(chunks),
+        lambda: y.file_hash(chunks, bytes(32)), lambda: y.find_stable_start(chunks), lambda: closed.file_hash(bytes(32)),
+        lambda: y.Subtree.from_chunks(False, chunks, True) == tree, lambda: (tree + tree).total_size,
+        lambda: y.Subtree.merge_all([tree, tree]).levels, lambda: tree.copy().merge_counted(tree),
+        lambda: y.Subtree.from_json(tree.to_json()).levels, lambda: y.Subtree.from_flat(*tree.to_flat()).levels,
+        lambda: tree.svg("a"), lambda: repr(tree), lambda: pickle.loads(pickle.dumps(tree)).levels,
+        lambda: session(3, 4).num_runs, lambda: one.taken(3), lambda: one.runs() == one.copy().runs(), lambda: one.run(1).end,
+        lambda: one.run_from(0)[:2], lambda: one.gaps(20), lambda: session(0).finish(1, bytes(32)), one.known_hashes,
+        lambda: pickle.loads(pickle.dumps(one)).num_runs, lambda: y.Session.from_json(text).to_json(),
+        lambda: one.copy().keep_hashes([Z]), lambda: one.copy().push_run(20, 50, tree),
+    ]
+
+
+@pytest.mark.parametrize("number", range(len(deep_calls())))
+def test_a_stack_that_ends_anywhere(number):
+    """A call returns what it should, or raises Python's own error. No buffer is kept, and nothing changes."""
+    block = bytearray(b"abc")
+    call = deep_calls()[number]
+    expected, ended, ignored = call(), 0, []
+    hook, sys.unraisablehook = sys.unraisablehook, lambda told: ignored.append(f"{told.err_msg}: {told.exc_value!r}")
+    try:
+        for depth in range(sys.getrecursionlimit() - 60, sys.getrecursionlimit()):
+            for each in (call, lambda: y.data_hash(block)):
+                try:
+                    answer = at_depth(depth, each)
+                    assert each is not call or answer == expected
+                except RecursionError:
+                    ended += 1
+    finally:
+        sys.unraisablehook = hook
+    block.append(0)
+    assert ended and not ignored and call() == expected
 
 
 def test_what_the_exceptions_are():

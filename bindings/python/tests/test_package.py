@@ -1,6 +1,5 @@
 """The package itself: doctests, declarations, types, and how the library is found."""
 
-import ast
 import ctypes
 import doctest
 import importlib
@@ -11,6 +10,7 @@ import re
 import shutil
 import subprocess
 import sys
+import traceback
 from pathlib import Path
 
 import pytest
@@ -37,11 +37,22 @@ def test_each_public_call_has_an_example():
         item = getattr(y, name)
         if name == "Flat" or inspect.isfunction(item) or inspect.isclass(item):
             assert ">>>" in item.__doc__, name
-        if inspect.isclass(item) and item.__module__ not in ("yurewha._errors",) and name != "Flat":
+        if inspect.isclass(item) and not issubclass(item, Exception) and name != "Flat":
             for member, value in vars(item).items():
                 value = value.__func__ if isinstance(value, (staticmethod, classmethod)) else value
                 if not member.startswith("_") and (inspect.isfunction(value) or isinstance(value, property)):
                     assert ">>>" in value.__doc__, f"{name}.{member}"
+
+
+def test_public_names_are_those_of_the_package():
+    for name in y.__all__:
+        item = getattr(y, name)
+        assert item.__module__ == "yurewha", name
+        for member, value in vars(item).items() if inspect.isclass(item) else ():
+            function = getattr(value, "__func__", value)
+            assert not inspect.isfunction(function) or function.__module__ == "yurewha", f"{name}.{member}"
+    assert repr(y.Hash) == "<class 'yurewha.Hash'>" and "yurewha.InvalidText: " in "".join(
+        traceback.format_exception_only(y.InvalidText, y.InvalidText("a")))
 
 
 def header():
@@ -145,13 +156,35 @@ def test_where_the_library_is_found(tmp_path):
     assert found(place, tmp_path) == str(out / best / _library.NAME)
 
 
+def installed(folder):
+    """The lines that `python -m yurewha` prints, with the libraries in a folder."""
+    variables = {**os.environ, "PYTHONPATH": str(PACKAGE.parent), "YUREWHA_LIB_DIR": str(folder)}
+    told = subprocess.run([sys.executable, "-m", "yurewha"], env=variables, cwd="/", capture_output=True, text=True, check=True)
+    return told.stdout.splitlines()
+
+
 def test_what_is_installed():
-    told = subprocess.run(
-        [sys.executable, "-m", "yurewha"], env={**os.environ, "PYTHONPATH": str(PACKAGE.parent), "YUREWHA_LIB_DIR": LIBRARY},
-        cwd="/", capture_output=True, text=True, check=True).stdout
-    assert told == (
-        f"yurewha {y.__version__}\nlibrary: {_library.PATH}, version {y.__version__}\nprocessor: {_processor.level()}\n")
-    assert _processor.level() in ("x86-64-v2", "x86-64-v3", os.uname().machine)
+    told = installed(LIBRARY)
+    folder = Path(_library.PATH).parent.name
+    level = folder if folder.startswith("x86-64-") else os.uname().machine
+    assert told[:4] == [
+        f"yurewha {y.__version__}", f"library: {_library.PATH}, version {y.__version__}", f"level: {level}",
+        f"processor: {_processor.level()}"]
+    assert _processor.level() in ("x86-64-v2", "x86-64-v3", os.uname().machine) and len(told) == 4 + (level != _processor.level())
+
+
+@pytest.mark.skipif(not _processor.levels(), reason="there are no faster libraries for this processor")
+def test_a_faster_library_is_missing(tmp_path):
+    highest = _processor.level()
+    for levels, missing in ([], True), (["x86-64-v9"], True), ([highest], False):
+        folder = tmp_path / f"lib{len(levels)}{missing}"
+        for place in (folder, *(folder / "glibc-hwcaps" / level for level in levels)):
+            place.mkdir(parents=True, exist_ok=True)
+            shutil.copy(Path(_library.PATH).resolve(), place / _library.NAME)
+        told = installed(folder)
+        expected = [f"The library for {highest} is missing. It would be faster on this processor."]
+        assert told[4:] == (expected if missing else []), levels
+        assert told[2] == (f"level: {os.uname().machine}" if missing else f"level: {highest}")
 
 
 @pytest.mark.skipif(not Path("/proc/self/maps").exists(), reason="it needs /proc")
@@ -213,164 +246,6 @@ def test_emulated_processors(processor, levels):
     assert (hashed, found) == ("a8803506f7aff014", levels)
     places = [*(Path(LIBRARY, "glibc-hwcaps", level) for level in levels), Path(LIBRARY)]
     assert path == next(str(it / _library.NAME) for it in places if (it / _library.NAME).exists())
-
-
-TYPED = """
-import array
-import mmap
-from typing import List, Optional, Tuple
-import yurewha as y
-one: Tuple[y.Hash, int] = (y.Hash.random_from_seed(1), 100)
-root: y.Hash = y.xorb_hash([one, one])
-packed: y.Chunks = y.Chunks([one])
-root = y.file_hash(packed.packed, salt=bytes(32))
-tree: y.Subtree = y.Subtree.from_chunks(True, [one], False)
-tree += y.Subtree.from_chunks(False, packed, True)
-final: Optional[y.Hash] = tree.final_hash()
-session = y.Session()
-new: int = session.put(0, packed)
-runs: List[Tuple[int, y.Subtree]] = session.runs()
-run: Optional[Tuple[int, int, y.Subtree]] = session.run_from(0)
-if run is not None:
-    session.push_run(*run)
-session.keep_hashes(session.known_hashes())
-session.keep_hashes([y.Hash(), bytes(32)])
-first: Tuple[y.Hash, int] = packed[0]
-some: y.Chunks = packed[1:]
-data: bytes = root.bytes + y.Hasher(b"a").digest()
-text: str = root.hex() + y.Hasher(b"a").hexdigest()
-tree = y.Subtree.from_json(tree.to_json().encode())
-tree = y.Subtree.from_flat(True, [[1, 0]], [one], False)
-tree = y.Subtree.from_flat(*tree.to_flat())
-root = y.xorb_hash(pair for pair in [one])
-for view in (memoryview(b""), memoryview(bytearray())):
-    root = y.data_hash(view)
-    root = y.xorb_hash(view)
-root = y.data_hash(bytearray())
-root = y.data_hash(array.array("Q"))
-root = y.xorb_hash(mmap.mmap(-1, 40))
-root = y.data_hash(bytearray(), nobody_writes=True)
-hashes: y.Hashes = y.data_hashes(b"abc", [0, 3])
-hashes = y.data_hashes(b"abc", array.array("q", [0, 3])) + hashes[:1]
-root = hashes[0]
-texts: List[str] = hashes.hex()
-hashes = y.Hashes.from_hex(texts)
-packed = y.Chunks.from_columns(hashes, packed.sizes)
-packed = y.Chunks.from_columns([root, bytes(32)], [1, 2])
-for position, part in session:
-    tree = tree + part
-"""
-TYPED_NUMPY = """
-import numpy
-import yurewha as y
-words = numpy.zeros((2, 5), dtype="<u8")
-root: y.Hash = y.xorb_hash(words)
-root = y.data_hash(words)
-root = y.xorb_hash([(y.Hash(), numpy.uint64(1))])
-chunks: y.Chunks = y.Chunks.from_columns(words[:, :4], words[:, 4])
-hashes: y.Hashes = y.data_hashes(words, numpy.zeros(3, dtype="i8"))
-"""
-WRONG = [
-    'y.data_hash("text")',
-    "y.data_hash(None)",
-    "y.data_hash(7)",
-    "y.data_hash(y.Chunks())",
-    'y.data_hash(b"", True)',
-    'y.data_hashes("text", [0, 1])',
-    'y.data_hashes(b"abc", 7)',
-    'y.data_hashes(b"abc", [0, 1.5])',
-    'y.Hashes(64 * "0")',
-    "y.Hashes([1, 2])",
-    "y.Hashes.from_hex([bytes(64)])",
-    "y.Chunks.from_columns([1], [2])",
-    'y.Chunks.from_columns([y.Hash()], ["1"])',
-    "y.Chunks.from_columns(y.Chunks())",
-    "y.internal_node_hash(7.5)",
-    "y.xorb_hash(5)",
-    'y.xorb_hash("text")',
-    "y.xorb_hash([(bytes(32), 1)])",
-    "y.xorb_hash([(y.Hash(), 1.5)])",
-    "y.xorb_hash([y.Hash()])",
-    'y.file_hash([], salt="pepper")',
-    "y.find_stable_start([]) + 1",
-    "y.Hash(7)",
-    'y.Hash.from_hex(b"00")',
-    "y.Hash() < bytes(32)",
-    "y.Hash() % 1.5",
-    "y.Hash().hmac(bytes(32))",
-    "text: str = y.Hash().bytes",
-    "y.Hash.random_from_seed(1.0)",
-    'y.Hasher().update("text")',
-    "y.Hasher.keyed(32)",
-    "y.Subtree()",
-    "y.Subtree(1, 2, 3)",
-    "y.Subtree.from_json(7)",
-    'y.Subtree.from_chunks(True, [], "no")',
-    "y.Subtree.from_flat(False, [7], [], False)",
-    "y.Subtree.merge_all([None])",
-    "tree + 1",
-    "tree.merge(session)",
-    "tree.final_hash().hex()",
-    "root: y.Subtree = y.xorb_hash([])",
-    'session.put("0", [])',
-    "session.put([])",
-    "session.root()",
-    "session.run_from(0)[0]",
-    "session.push_run(0, 1, [])",
-    "session.push_run(0, tree)",
-    'session.keep_hashes("text")',
-    "session.keep_hashes([7])",
-    "session.known_hashes().packed + 1",
-]
-WRONG_FRAME = "import yurewha as y\ntree, session = y.Subtree.merge_all([]), y.Session()\n"
-
-
-def mypy(tmp_path, *arguments):
-    """The lines at which mypy finds an error, and all that it says."""
-    values = {**os.environ, "MYPYPATH": str(PACKAGE.parent)}
-    told = subprocess.run(
-        ["mypy", "--strict", "--no-error-summary", "--cache-dir", str(tmp_path / "cache"), *arguments],
-        capture_output=True, text=True, env=values, cwd=tmp_path, check=False)
-    return [int(number) for number in re.findall(r":(\d+): error", told.stdout)], told.stdout + told.stderr
-
-
-@pytest.mark.skipif(not shutil.which("mypy"), reason="there is no mypy")
-def test_types(tmp_path):
-    (tmp_path / "typed.py").write_text(TYPED)
-    (tmp_path / "wrong.py").write_text(WRONG_FRAME + "\n".join(WRONG))
-    for arguments, expected in (
-        (["--python-version", "3.9", "-p", "yurewha"], []),
-        (["typed.py"], []),
-        (["wrong.py"], list(range(3, 3 + len(WRONG)))),
-    ):
-        lines, told = mypy(tmp_path, *arguments)
-        assert sorted(set(lines)) == expected, told
-
-
-@pytest.mark.skipif(not shutil.which("mypy"), reason="there is no mypy")
-def test_types_of_numpy(tmp_path):
-    pytest.importorskip("numpy")
-    (tmp_path / "typed.py").write_text(TYPED_NUMPY)
-    lines, told = mypy(tmp_path, "typed.py")
-    assert lines == [], told
-
-
-def public_signatures():
-    """Each annotation of a call or a name that a user may see, with where it stands."""
-    for path in sorted(PACKAGE.glob("*.py")):
-        for node in ast.walk(ast.parse(path.read_text(encoding="utf-8"))):
-            if isinstance(node, ast.FunctionDef) and (not node.name.startswith("_") or node.name.endswith("__")):
-                kinds = node.args
-                arguments = [*kinds.posonlyargs, *kinds.args, *kinds.kwonlyargs, kinds.vararg, kinds.kwarg]
-                for annotation in [node.returns, *(argument.annotation for argument in arguments if argument)]:
-                    if annotation is not None:
-                        yield f"{path.name}: {node.name}", ast.unparse(annotation)
-
-
-def test_no_public_signature_takes_anything():
-    seen = list(public_signatures())
-    assert len(seen) > 200
-    assert [(place, text) for place, text in seen if re.search(r"\bAny\b", text)] == []
 
 
 def test_the_example_of_the_readme():

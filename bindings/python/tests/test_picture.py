@@ -2,6 +2,8 @@
 
 import xml.etree.ElementTree as ElementTree
 
+import pytest
+
 import yurewha as y
 
 SVG = "{http://www.w3.org/2000/svg}"
@@ -76,6 +78,31 @@ def test_several():
     assert len(nodes) == left.num_nodes + right.num_nodes + (left + right).num_nodes
     assert [word for word in words if word in ("left", "right", "both")] == ["left", "right", "both"]
     read(y.svg_of([]))
+
+
+@pytest.mark.parametrize("caption", [7, None, b"a", ["a"], 7.5])
+def test_wrong_captions(caption, tmp_path):
+    tree, path = y.Subtree.from_chunks(True, numbered(0, 3), True), tmp_path / "one.svg"
+    path.write_text("kept")
+    for call in (lambda: tree.svg(caption), lambda: tree.svg(caption=caption), lambda: tree.write_svg(path, caption),
+                 lambda: y.write_svg(path, [tree, tree], ["a", caption]), lambda: y.svg_of([tree], [caption])):
+        with pytest.raises(TypeError, match=f"^caption [01] is a str, not {type(caption).__name__}"):
+            call()
+    assert path.read_text() == "kept"
+
+
+def test_wrong_lists_of_captions_and_subtrees(tmp_path):
+    tree, path = y.Subtree.from_chunks(True, numbered(0, 3), True), tmp_path / "one.svg"
+    path.write_text("kept")
+    for trees, captions in (([tree, tree], "ab"), ([tree], 7), ([tree], None), (7, []), ([7], []), ([tree, None], ["a", "b"]),
+                            (tree, [])):
+        for call in (y.svg_of, lambda *given: y.write_svg(path, *given)):
+            with pytest.raises(TypeError):
+                call(trees, captions)
+    with pytest.raises(y.InvalidArguments, match="more captions"):
+        y.svg_of([], ["a"])
+    assert path.read_text() == "kept"
+    assert y.svg_of(iter([tree]), iter(["a"])) == y.svg_of([tree], ("a",))
 
 
 def test_great_ones_stay_small():

@@ -1,9 +1,11 @@
 """Subtrees through a pool of processes, and objects in forked ones."""
 
+import base64
 import concurrent.futures
 import multiprocessing
 import os
 import pickle
+import pickletools
 import random
 import signal
 import threading
@@ -60,8 +62,63 @@ def test_pickles(protocol):
     assert read.runs() == session.runs() and set(read.known_hashes()) == set(session.known_hashes())
 
 
+#: Pickles by protocol, made when they named private modules, of what `test_pickles_that_name_private_modules` lists.
+OLD = {
+    2: (
+        "gAJdcQAoY3l1cmV3aGEuX2hhc2gKSGFzaApxAWNfY29kZWNzCmVuY29kZQpxAlgwAAAAwpvDggNvf8OQw4XDj8KNw6A/wpYyQULCvyDDtcKqV1d9wqMZ"
+        "w5ZWw40Fwp8RCMK/cQNYBgAAAGxhdGluMXEEhnEFUnEGhXEHUnEIY3l1cmV3aGEuX2NodW5rcwpDaHVua3MKcQloAlg4AAAAwpvDggNvf8OQw4XDj8KN"
+        "w6A/wpYyQULCvyDDtcKqV1d9wqMZw5ZWw40Fwp8RCMK/ZAAAAAAAAABxCmgEhnELUnEMhXENUnEOY3l1cmV3aGEuX2hhc2hlcwpIYXNoZXMKcQ9oAlgw"
+        "AAAAwpvDggNvf8OQw4XDj8KNw6A/wpYyQULCvyDDtcKqV1d9wqMZw5ZWw40Fwp8RCMK/cRBoBIZxEVJxEoVxE1JxFGNfX2J1aWx0aW5fXwpnZXRhdHRy"
+        "CnEVY3l1cmV3aGEuX3N1YnRyZWUKU3VidHJlZQpxFlgJAAAAZnJvbV9mbGF0cReGcRhScRkoiEsBSwCGcRqFcRtoAlg4AAAAwpvDggNvf8OQw4XDj8KN"
+        "w6A/wpYyQULCvyDDtcKqV1d9wqMZw5ZWw40Fwp8RCMK/ZAAAAAAAAABxHGgEhnEdUnEeiXRxH1JxIGN5dXJld2hhLl9zdWJ0cmVlCkZsYXQKcSEoiEsB"
+        "SwCGcSKFcSNoCWgCWDgAAADCm8OCA29/w5DDhcOPwo3DoD/CljJBQsK/IMO1wqpXV33CoxnDllbDjQXCnxEIwr9kAAAAAAAAAHEkaASGcSVScSaFcSdS"
+        "cSiJdHEpgXEqaBVjeXVyZXdoYS5fc2Vzc2lvbgpTZXNzaW9uCnErWAkAAABfcmVzdG9yZWRxLIZxLVJxLksDSwVoGSiJSwJLAIZxL4VxMGgCWHAAAADC"
+        "m8OCA29/w5DDhcOPwo3DoD/CljJBQsK/IMO1wqpXV33CoxnDllbDjQXCnxEIwr9kAAAAAAAAAMKbw4IDb3/DkMOFw4/CjcOgP8KWMkFCwr8gw7XCqldX"
+        "fcKjGcOWVsONBcKfEQjCv2QAAAAAAAAAcTFoBIZxMlJxM4l0cTRScTWHcTZLCUsKaBkoiUsBSwCGcTeFcThoAlg4AAAAwpvDggNvf8OQw4XDj8KNw6A/"
+        "wpYyQULCvyDDtcKqV1d9wqMZw5ZWw40Fwp8RCMK/ZAAAAAAAAABxOWgEhnE6UnE7iXRxPFJxPYdxPoZxP2gPaAJYMAAAAMKbw4IDb3/DkMOFw4/CjcOg"
+        "P8KWMkFCwr8gw7XCqldXfcKjGcOWVsONBcKfEQjCv3FAaASGcUFScUKFcUNScUSGcUVScUZjeXVyZXdoYS5fZXJyb3JzCkludmFsaWRKc29uCnFHSwWF"
+        "cUhScUl9cUpYBAAAAHJ1bGVxS0sFc2JjeXVyZXdoYS5faGFzaApkYXRhX2hhc2gKcUxlLg=="
+    ),
+    4: (
+        "gASVzAIAAAAAAABdlCiMDXl1cmV3aGEuX2hhc2iUjARIYXNolJOUQyCbwgNvf9DFz43gP5YyQUK/IPWqV1d9oxnWVs0FnxEIv5SFlFKUjA95dXJld2hh"
+        "Ll9jaHVua3OUjAZDaHVua3OUk5RDKJvCA29/0MXPjeA/ljJBQr8g9apXV32jGdZWzQWfEQi/ZAAAAAAAAACUhZRSlIwPeXVyZXdoYS5faGFzaGVzlIwG"
+        "SGFzaGVzlJOUQyCbwgNvf9DFz43gP5YyQUK/IPWqV1d9oxnWVs0FnxEIv5SFlFKUjBB5dXJld2hhLl9zdWJ0cmVllIwRU3VidHJlZS5mcm9tX2ZsYXSU"
+        "k5QoiEsBSwCGlIWUQyibwgNvf9DFz43gP5YyQUK/IPWqV1d9oxnWVs0FnxEIv2QAAAAAAAAAlIl0lFKUaBOMBEZsYXSUk5QoiEsBSwCGlIWUaAlDKJvC"
+        "A29/0MXPjeA/ljJBQr8g9apXV32jGdZWzQWfEQi/ZAAAAAAAAACUhZRSlIl0lIGUjBB5dXJld2hhLl9zZXNzaW9ulIwRU2Vzc2lvbi5fcmVzdG9yZWSU"
+        "k5RLA0sFaBUoiUsCSwCGlIWUQ1CbwgNvf9DFz43gP5YyQUK/IPWqV1d9oxnWVs0FnxEIv2QAAAAAAAAAm8IDb3/Qxc+N4D+WMkFCvyD1qldXfaMZ1lbN"
+        "BZ8RCL9kAAAAAAAAAJSJdJRSlIeUSwlLCmgVKIlLAUsAhpSFlEMom8IDb3/Qxc+N4D+WMkFCvyD1qldXfaMZ1lbNBZ8RCL9kAAAAAAAAAJSJdJRSlIeU"
+        "hpRoD0Mgm8IDb3/Qxc+N4D+WMkFCvyD1qldXfaMZ1lbNBZ8RCL+UhZRSlIaUUpSMD3l1cmV3aGEuX2Vycm9yc5SMC0ludmFsaWRKc29ulJOUSwWFlFKU"
+        "fZSMBHJ1bGWUSwVzYmgBjAlkYXRhX2hhc2iUk5RlLg=="
+    ),
+}
+
+
+@pytest.mark.parametrize("protocol", OLD)
+def test_pickles_that_name_private_modules(protocol):
+    one = (y.Hash.random_from_seed(1), 100)
+    hash_, chunks, hashes, tree, flat, session, error, call = pickle.loads(base64.b64decode(OLD[protocol]))
+    assert hash_ == one[0] and chunks == y.Chunks([one]) and hashes == y.Hashes([one[0]]) and call is y.data_hash
+    assert tree == y.Subtree.from_chunks(True, [one], False) and flat == tree.to_flat()
+    assert [(run.first, run.end) for run in session.runs()] == [(3, 5), (9, 10)] and session.put(5, [one]) == 0
+    assert type(error) is y.InvalidJson and error.rule == 5
+
+
+@pytest.mark.parametrize("protocol", range(pickle.HIGHEST_PROTOCOL + 1))
+def test_a_pickle_names_the_package_alone(protocol):
+    session = y.Session()
+    session.put(7, block(1, 10))
+    values = [y.Hash(), block(1, 3), y.Hashes([y.Hash()]), piece(1), piece(1).to_flat(), session, session.runs(),
+              y.SessionGap("a"), y.InvalidJson(3), y.data_hash, y.Session, y.Hash.from_hex]
+    for value in values:
+        pickled = pickle.dumps(value, protocol)
+        texts = [str(argument) for code, argument, _ in pickletools.genops(pickled)]
+        assert any(text == "yurewha" or text.startswith("yurewha ") for text in texts)
+        assert not any(text.startswith("yurewha.") for text in texts), value
+        pickle.loads(pickled)
+
+
 def test_a_changed_pickle():
-    """A pickle of a subtree is checked as JSON is. (Reading pickles from strangers runs what they like all the same.)"""
+    """A pickle of a subtree is checked as JSON is. (Unpickling a stranger's file runs its code all the same.)"""
     make, (at_start, levels, nodes, at_end) = piece(1).__reduce__()
     for arguments in (
         (True, levels, nodes, at_end), (at_start, levels[:-1], nodes, at_end), (at_start, levels, nodes[40:], at_end),

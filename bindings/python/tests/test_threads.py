@@ -1,9 +1,11 @@
 """Threads with objects of their own, and with shared ones."""
 
 import contextlib
+import itertools
 import pickle
 import random
 import signal
+import sys
 import threading
 import time
 
@@ -285,7 +287,71 @@ def test_a_handler_that_ends_a_long_update(monkeypatch):
     assert hasher.hash() == y.data_hash(b"first" + bytes(LONG) + b"last")
 
 
-def test_runs_while_a_handler_joins_some(monkeypatch):
+@contextlib.contextmanager
+def put_by_signals(session):
+    """A handler puts a chunk every half millisecond, after a gap. After ten seconds it raises, once."""
+    began, places = time.monotonic(), itertools.count(1 << 40, 2)
+
+    def handler(number, frame):
+        if time.monotonic() > began + 10:
+            signal.setitimer(signal.ITIMER_REAL, 0)
+            raise TimeoutError("the call doesn't end")
+        place = next(places)
+        session.put(place, [(y.Hash.random_from_seed(place), 1)])
+
+    with handled(signal.SIGALRM, handler):
+        signal.setitimer(signal.ITIMER_REAL, 0.0005, 0.0005)
+        try:
+            yield
+        finally:
+            signal.setitimer(signal.ITIMER_REAL, 0)
+
+
+READS = {
+    "list": list,
+    "runs": y.Session.runs,
+    "pickle": lambda session: pickle.loads(pickle.dumps(session)).runs(),
+    "known hashes": lambda session: [session.known_hashes() for _ in range(500)],
+    "to_json": lambda session: y.Session.from_json(session.to_json()).runs(),
+    "gaps": lambda session: session.gaps(1 << 30),
+    "num_chunks": lambda session: [session.num_chunks],
+    "total_size": lambda session: [session.total_size],
+}
+
+
+@pytest.mark.parametrize("read", READS)
+def test_reading_a_session_ends_although_a_handler_keeps_putting(read):
+    session = y.Session()
+    for place in range(0, 6000, 2):
+        session.put(place, [(y.Hash(), 1)])
+    with put_by_signals(session):
+        assert len(READS[read](session)) > 0
+    assert session.num_runs > 3000
+
+
+def test_reading_a_subtree_ends_although_a_handler_keeps_merging():
+    """The signal comes after each look at the number of nodes. The lists and the text are of one moment."""
+    one = y.Subtree.from_chunks(False, [(y.Hash.random_from_seed(7), 1)], False)
+    tree, count = one.copy(), [0]
+
+    def trace(frame, event, argument):
+        if event == "return" and frame.f_code.co_name == "num_nodes":
+            count[0] += 1
+            if count[0] > 1000:
+                raise TimeoutError("the call doesn't end")
+            signal.raise_signal(signal.SIGUSR1)
+
+    with handled(signal.SIGUSR1, lambda number, frame: tree.merge(one)):
+        sys.setprofile(trace)
+        try:
+            flat, text = tree.to_flat(), tree.to_json()
+        finally:
+            sys.setprofile(None)
+    assert y.Subtree.from_flat(*flat).total_size == 1 and y.Subtree.from_json(text).total_size == 2
+    assert tree.total_size == 3 and count[0] == 2
+
+
+def test_what_is_read_is_of_one_moment(monkeypatch):
     """The handler puts what joins the first two of three runs, after one of them was looked at."""
     session, chunks = y.Session(), block(8, 3)
     for place in range(3):
@@ -299,7 +365,7 @@ def test_runs_while_a_handler_joins_some(monkeypatch):
                 signal.raise_signal(signal.SIGUSR1)
             yield found
 
-    with handled(signal.SIGUSR1, lambda number, frame: session.put(1, chunks[:1])):
+    with handled(signal.SIGUSR1, lambda number, frame: session.put(1, [(y.Hash.random_from_seed(1), 1)])):
         monkeypatch.setattr(y.Session, "_walk", look)
         runs = session.runs()
         monkeypatch.undo()
@@ -307,23 +373,20 @@ def test_runs_while_a_handler_joins_some(monkeypatch):
 
 
 def test_a_pickle_while_a_handler_puts(monkeypatch):
-    """The handler puts a chunk after the runs were looked at. The pickle has both, the run and the hash."""
+    """The handler puts a chunk after the runs were looked at. The pickle has neither its run nor its hash."""
     session, chunks = y.Session(), block(8, 2)
     session.put(0, chunks[:1])
-    looked = []
 
     def look(self, plain=y.Session._walk):
         yield from plain(self)
-        looked.append(True)
-        if len(looked) == 1:
-            signal.raise_signal(signal.SIGUSR1)
+        signal.raise_signal(signal.SIGUSR1)
 
     with handled(signal.SIGUSR1, lambda number, frame: session.put(5, chunks[1:])):
         monkeypatch.setattr(y.Session, "_walk", look)
         pickled = pickle.dumps(session)
         monkeypatch.undo()
     read = pickle.loads(pickled)
-    assert len(looked) == 2 and read.runs() == session.runs() and len(read.known_hashes()) == read.num_runs == 2
+    assert session.num_runs == 2 and read.num_runs == len(read.known_hashes()) == 1
 
 
 def test_no_update_by_a_handler_is_lost():

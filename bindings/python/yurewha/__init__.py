@@ -1,7 +1,7 @@
 """Yurewha computes the hashes by which the Hugging Face Xet store names chunks and files, and merges hashed ranges.
 
 A proved library computes each hash, root and merge. This package isn't proved. It passes arguments to the library and
-returns the results.
+returns the results. Nothing here cuts a file into chunks: the caller does, and gives the chunks or their offsets.
 
 >>> one, two = (Hash.random_from_seed(1), 100), (Hash.random_from_seed(2), 200)
 >>> left, right = Subtree.from_chunks(True, [one, two], False), Subtree.from_chunks(False, [one, two], True)
@@ -11,6 +11,7 @@ True
 
 from __future__ import annotations
 
+from . import _names
 from ._chunks import Chunks
 from ._errors import (
     DivisionByZero,
@@ -29,9 +30,10 @@ from ._errors import (
     SizeOverflow,
     YurewhaError,
 )
+from ._files import hash_chunks
 from ._hash import Hash, Hasher, data_hash, internal_node_hash
 from ._hashes import Hashes, data_hashes
-from ._session import Session
+from ._session import Run, Session
 from ._subtree import (
     Flat,
     Subtree,
@@ -59,6 +61,7 @@ __all__ = [
     "InvalidText",
     "OutOfMemory",
     "ReentrantCall",
+    "Run",
     "Session",
     "SessionError",
     "SessionGap",
@@ -73,8 +76,11 @@ __all__ = [
     "file_hash",
     "find_stable_end",
     "find_stable_start",
+    "hash_chunks",
     "internal_node_hash",
     "svg_of",
     "write_svg",
     "xorb_hash",
 ]
+
+_names.publish(__name__, [globals()[name] for name in __all__])

@@ -7,6 +7,7 @@ import re
 import struct
 from typing import Iterator, List, Optional, Tuple, Type, TypeVar
 
+from ._calls import named, string_at
 from ._errors import InvalidArguments
 
 _Release = ctypes.CFUNCTYPE(None, ctypes.c_void_p)
@@ -59,11 +60,12 @@ class _CStream(ctypes.Structure):
 
 _CStruct = TypeVar("_CStruct", _CSchema, _CArray, _CStream)
 
-_get_pointer = ctypes.pythonapi["PyCapsule_GetPointer"]
-_get_pointer.argtypes, _get_pointer.restype = [ctypes.py_object, ctypes.c_char_p], ctypes.c_void_p
+_pointer = ctypes.pythonapi["PyCapsule_GetPointer"]
+_pointer.argtypes, _pointer.restype = [ctypes.py_object, ctypes.c_char_p], ctypes.c_void_p
+_get_pointer = named(_pointer)
 
 #: The buffer protocol's format for each of Arrow's formats of whole numbers.
-_NUMBERS = {"s": "h", "S": "H", "i": "i", "I": "I", "l": "q", "L": "Q"}
+_NUMBERS = {"c": "b", "C": "B", "s": "h", "S": "H", "i": "i", "I": "I", "l": "q", "L": "Q"}
 
 #: The buffer protocol's format of an item, and the number of items in a row of a column.
 _Row = Tuple[str, int]
@@ -117,7 +119,7 @@ def _row_of(schema: _CSchema, column: object) -> Optional[_Row]:
     if hasattr(column, "__array__") or hasattr(column, "__iter__"):
         return None
     kind = "a dictionary" if schema.dictionary else f"'{text}'"
-    raise InvalidArguments(f"a column of Arrow has whole numbers of 16 bits or more, or bytes of one size, not {kind}")
+    raise InvalidArguments(f"a column of Arrow has whole numbers, or bytes of one size, not {kind}")
 
 
 def _values(row: _Row, array: _CArray, before: int) -> bytes:
@@ -127,14 +129,14 @@ def _values(row: _Row, array: _CArray, before: int) -> bytes:
     if array.length == 0:
         return b""
     size = row[1] * struct.calcsize(row[0])
-    return ctypes.string_at(array.buffers[1] + size * array.offset, size * array.length)
+    return string_at(array.buffers[1] + size * array.offset, size * array.length)
 
 
 def _nulls(array: _CArray) -> Iterator[int]:
     bitmap = array.buffers[0] if array.null_count and array.length else None
     if bitmap is None:
         return
-    bits = ctypes.string_at(bitmap, (array.offset + array.length + 7) // 8)
+    bits = string_at(bitmap, (array.offset + array.length + 7) // 8)
     for place in range(array.length):
         at = array.offset + place
         if not bits[at // 8] >> at % 8 & 1:
@@ -152,7 +154,7 @@ def _shaped(row: _Row, parts: List[bytes]) -> memoryview:
 def _joined(stream: _CStream, column: object) -> Optional[memoryview]:
     """Returns the parts of a column as one block. Each part is released once it is copied."""
     schema = _CSchema()
-    _check(stream, stream.get_schema(ctypes.addressof(stream), schema))
+    _check(stream, named(stream.get_schema)(ctypes.addressof(stream), schema))
     try:
         row = _row_of(schema, column)
         return None if row is None else _shaped(row, list(_parts(stream, row)))
@@ -163,7 +165,7 @@ def _joined(stream: _CStream, column: object) -> Optional[memoryview]:
 def _parts(stream: _CStream, row: _Row) -> Iterator[bytes]:
     array, before = _CArray(), 0
     while True:
-        _check(stream, stream.get_next(ctypes.addressof(stream), array))
+        _check(stream, named(stream.get_next)(ctypes.addressof(stream), array))
         if not array.release:
             return
         try:

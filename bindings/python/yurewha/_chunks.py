@@ -4,12 +4,14 @@ from __future__ import annotations
 
 import re
 import struct
-from typing import Dict, Iterable, Iterator, SupportsIndex, Tuple, Union, cast, final
+from array import array
+from typing import Dict, Iterable, Iterator, List, SupportsIndex, Tuple, Union, cast, final, overload
 
+from ._arrow_out import Capsules, capsules_of_chunks, schema_of_chunks
 from ._errors import InvalidArguments
-from ._hash import Hash, checked_u64
-from ._hashes import Hashes, HashesLike
-from ._packed import BYTE, HASH, WORD, Packed, block_or_items, checked_block
+from ._hash import Hash, HashLike, checked_u64, out_of_range, raw_of
+from ._hashes import Hashes, HashesLike, HexTexts, column_of
+from ._packed import BYTE, HASH, WORD, Packed, block_or_items, checked_block, is_column
 from ._types import BytesLike
 
 __all__ = ["Chunks"]
@@ -17,12 +19,14 @@ __all__ = ["Chunks"]
 #: A chunk: its hash, and its size in bytes.
 Chunk = Tuple[Hash, int]
 #: What a call accepts as chunks.
-ChunksLike = Union["Chunks", Iterable[Tuple[Hash, SupportsIndex]], BytesLike]
+ChunksLike = Union["Chunks", Iterable[Tuple[HashLike, SupportsIndex]], BytesLike]
 
 #: What a call accepts as sizes.
 SizesLike = Union[Iterable[SupportsIndex], BytesLike]
 
 _SIZE = 40
+#: How many chunks of each end a notebook shows.
+_SHOWN = 5
 _PAIR = struct.Struct("<32sQ")
 
 _HASH_FIELD = f"{HASH}:(?:hash|words):"
@@ -38,24 +42,24 @@ _FORMS = (
 _EXPECTED = (
     "packed chunks are bytes, unsigned words of 8 bytes, or items of 40 bytes: plain ones, or ones with the fields `hash` (or "
     "`words`) of 32 bytes and `size`, an unsigned word; each word has its least byte first")
-_EXPECTED_SIZES = "a column of sizes has whole numbers, or eight bytes for each, the least first"
+_EXPECTED_SIZES = "a column of sizes has whole numbers, or it is a buffer of eight bytes for each, the least first"
+_NUMBER = re.compile("[@=<]?[bBhHiIlLqQ]")
+_NEGATIVE = re.compile(b"[\x80-\xff]")
 
 
-def _pack(pairs: Iterable[Tuple[Hash, SupportsIndex]]) -> bytes:
+def _pack(pairs: Iterable[Tuple[HashLike, SupportsIndex]]) -> bytes:
     packed = bytearray()
     add, pack = packed.extend, _PAIR.pack
     for pair in pairs:
         try:
             hash_, size = pair
         except (TypeError, ValueError):
-            raise TypeError(f"chunk {len(packed) // _SIZE} isn't a pair of a Hash and an int") from None
-        if type(hash_) is not Hash:
-            raise TypeError(f"the hash of chunk {len(packed) // _SIZE} is a Hash, not {type(hash_).__name__}")
+            raise TypeError(f"chunk {len(packed) // _SIZE} isn't a pair of a hash and an int") from None
+        raw = hash_._raw if type(hash_) is Hash else raw_of(hash_, f"the hash of chunk {len(packed) // _SIZE}")
         try:
-            add(pack(hash_._raw, size))
+            add(pack(raw, size))
         except struct.error:
-            checked_u64(size, f"the size of chunk {len(packed) // _SIZE}")
-            raise
+            add(pack(raw, checked_u64(size, f"the size of chunk {len(packed) // _SIZE}")))
     return bytes(packed)
 
 
@@ -79,27 +83,50 @@ def _packed_sizes(sizes: SizesLike) -> bytes:
     if not isinstance(given, memoryview):
         return _pack_sizes(cast(Iterable[SupportsIndex], given))
     with given:
-        kind = (given.ndim, given.itemsize)
-        if kind == (1, 8) and re.fullmatch(WORD, given.format):
-            return given.tobytes()
-        if kind == (1, 1) and re.fullmatch(BYTE, given.format) and given.nbytes % 8 == 0:
-            return given.tobytes()
-        if given.ndim == 1 and re.fullmatch("@?[hHiIlq]", given.format):
-            return _pack_sizes(given.tolist())
+        if given.ndim == 1 and given.itemsize == 1 and not is_column(sizes):
+            if re.fullmatch(BYTE, given.format) and given.nbytes % 8 == 0:
+                return given.tobytes()
+        elif given.ndim == 1 and _NUMBER.fullmatch(given.format):
+            return _widened(given.tobytes(), given.itemsize, given.format[-1].islower())
         raise InvalidArguments(f"{_EXPECTED_SIZES}, not '{given.format}'")
 
 
+def _widened(numbers: bytes, width: int, signed: bool) -> bytes:
+    """Returns eight bytes for each whole number of a column, whose numbers have `width` bytes each."""
+    if signed:
+        negative = _NEGATIVE.search(numbers[width - 1::width])
+        if negative:
+            raise out_of_range(f"size {negative.start()}")
+    if width == 8:
+        return numbers
+    out = bytearray(len(numbers) // width * 8)
+    for place in range(width):
+        out[place::8] = numbers[place::width]
+    return bytes(out)
+
+
 def _pack_sizes(sizes: Iterable[SupportsIndex]) -> bytes:
-    return b"".join(checked_u64(size, f"size {place}").to_bytes(8, "little") for place, size in enumerate(sizes))
+    listed = list(sizes)
+    try:
+        return array("Q", cast(List[int], listed)).tobytes()
+    except (TypeError, ValueError, OverflowError):
+        return b"".join(checked_u64(size, f"size {place}").to_bytes(8, "little") for place, size in enumerate(listed))
+
+
+def _rows(chunks: Chunks, first: int) -> Iterator[str]:
+    """Yields a row of a table in HTML for each chunk. `first` is the number of the first one."""
+    for place, (hash_, size) in enumerate(chunks, first):
+        yield f"<tr><th>{place:,}</th><td><code>{hash_}</code></td><td>{size:,}</td></tr>"
 
 
 @final
 class Chunks(Packed[Chunk]):
     """A list of chunks in one block. Each has the 32 bytes of its hash, then its size in eight bytes, little-endian.
 
-    It is made from pairs of a `Hash` and a size, or from a block. A block is `bytes` or anything with the buffer protocol. It
-    may be a NumPy array of bytes, of five unsigned words of eight bytes a row, or of items of 40 bytes. Items may have the
-    fields `hash` (or `words`) of 32 bytes and `size`, in either order. Items with other fields raise `InvalidArguments`.
+    It is made from pairs of a hash and a size, or from a block. A hash is a `Hash` or 32 `bytes`. A block is `bytes` or
+    anything with the buffer protocol. It may be a NumPy array of bytes, of five unsigned words of eight bytes a row, or of
+    items of 40 bytes. Items may have the fields `hash` (or `words`) of 32 bytes and `size`, in either order. Items with other
+    fields raise `InvalidArguments`.
 
     The list is immutable. A block that others may change is copied once. So a million chunks go to the library in one call,
     without a million objects. `numpy.asarray(chunks)` is an array with the fields `words` and `size`.
@@ -119,30 +146,39 @@ class Chunks(Packed[Chunk]):
         if isinstance(chunks, Chunks):
             return chunks
         if isinstance(chunks, str):
-            raise TypeError("chunks are pairs of a Hash and an int, or a block of bytes, not a str")
+            raise TypeError("chunks are pairs of a hash and an int, or a block of bytes, not a str")
         given = block_or_items(chunks, _EXPECTED)
         if not isinstance(given, memoryview):
-            return cls._of(_pack(cast(Iterable[Tuple[Hash, SupportsIndex]], given)))
+            return cls._of(_pack(cast(Iterable[Tuple[HashLike, SupportsIndex]], given)))
         with given:
             return cls._of(_unpack(given))
 
     def __init_subclass__(cls) -> None:
         raise TypeError("Chunks can't be subclassed")
 
+    @overload
     @staticmethod
-    def from_columns(hashes: HashesLike, sizes: SizesLike) -> Chunks:
+    def from_columns(hashes: HashesLike, sizes: SizesLike) -> Chunks: ...
+
+    @overload
+    @staticmethod
+    def from_columns(hashes: HexTexts, sizes: SizesLike) -> Chunks: ...
+
+    @staticmethod
+    def from_columns(hashes: Union[HashesLike, HexTexts], sizes: SizesLike) -> Chunks:
         """Returns the chunks of a column of hashes and a column of sizes: lists, or columns of NumPy, pandas or Arrow.
 
-        Hashes are what `Hashes` accepts. Sizes are whole numbers from 0 to 2^64 - 1, in columns of signed or unsigned
-        numbers. They may also be a buffer of eight bytes for each, like Arrow's `uint64` and `int64` without nulls.
+        Hashes are what `Hashes` accepts, or hex texts. Sizes are whole numbers from 0 to 2^64 - 1, in a column of signed or
+        unsigned numbers of any width. They may also be a plain buffer of eight bytes for each, like `bytes` or a buffer of
+        Arrow.
 
         Raises `InvalidArguments` with the index of the first size that is out of range. Also raises it if there isn't one size
-        for each hash.
+        for each hash. Raises `InvalidText` with the index of the first text that isn't the hex text of a hash.
 
         >>> Chunks.from_columns([Hash(), Hash()], [1, 2]) == Chunks([(Hash(), 1), (Hash(), 2)])
         True
         """
-        column, packed_sizes = Hashes(hashes), _packed_sizes(sizes)
+        column, packed_sizes = column_of(hashes), _packed_sizes(sizes)
         if len(packed_sizes) != 8 * len(column):
             raise InvalidArguments(f"there are {len(column)} hashes and {len(packed_sizes) // 8} sizes")
         out = bytearray(_SIZE * len(column))
@@ -188,6 +224,27 @@ class Chunks(Packed[Chunk]):
             "descr": [("words", "<u8", (4,)), ("size", "<u8")],
             "data": self._packed,
         }
+
+    def __arrow_c_schema__(self) -> object:
+        """Returns Arrow's type of the chunks, a struct of `hash` and `size`. It needs pyarrow, as `__arrow_c_array__` does."""
+        return schema_of_chunks()
+
+    def __arrow_c_array__(self, requested_schema: object = None) -> Capsules:
+        """Gives readers of Arrow a column of structs of `hash`, 32 bytes, and `size`, an unsigned word.
+
+        Raises `ImportError` if pyarrow isn't installed, as it makes the capsules.
+        """
+        return capsules_of_chunks(self.hashes.packed, self.sizes, requested_schema)
+
+    def _repr_html_(self) -> str:
+        """Returns the table that a notebook shows: the number of chunks, their size, and the first and the last ones."""
+        ends = self[:_SHOWN], self[max(_SHOWN, len(self) - _SHOWN):]
+        rows = [*_rows(ends[0], 0), *_rows(ends[1], len(self) - len(ends[1]))]
+        if len(self) > 2 * _SHOWN:
+            rows.insert(_SHOWN, "<tr><td>..</td><td></td><td></td></tr>")
+        count, size = f"{len(self):,}", f"{sum(self.sizes):,}"
+        caption = f"<caption>{count} chunk{'s' * (count != '1')}, {size} byte{'s' * (size != '1')}</caption>"
+        return f"<table>{caption}<tr><th></th><th>hash</th><th>size</th></tr>{''.join(rows)}</table>"
 
     def _item(self, start: int) -> Chunk:
         raw, size = _PAIR.unpack_from(self._packed, start)

@@ -7,12 +7,13 @@ import threading
 from operator import index
 from typing import Callable, NoReturn, SupportsIndex, Tuple, Type, TypeVar, Union, final
 
+from ._calls import memmove
 from ._declarations import LENGTHS
 from ._errors import DivisionByZero, InvalidArguments, InvalidText, ReentrantCall, YurewhaError, error_of
 from ._guard import Guarded
-from ._lent import Lent, bytes_of, in_place, is_read_only
+from ._lent import Lent, bytes_of, checked_view, in_place, is_read_only, view_of_bytes
 from ._library import LONG_BYTES, CBytes, CHash, CHasher, calls_for, short
-from ._types import BytesLike, view_of
+from ._types import BytesLike
 
 __all__ = ["Hash", "Hasher", "data_hash", "internal_node_hash"]
 
@@ -44,6 +45,15 @@ def whole_number(value: SupportsIndex, what: str) -> int:
         raise TypeError(f"{what} is a whole number, not {type(value).__name__}") from None
 
 
+def out_of_range(what: str) -> InvalidArguments:
+    """Returns the error of a number that isn't from 0 to 2^64 - 1.
+
+    >>> out_of_range("a size")
+    InvalidArguments('a size is a whole number from 0 to 2^64 - 1')
+    """
+    return InvalidArguments(f"{what} is a whole number from 0 to 2^64 - 1")
+
+
 def checked_u64(value: SupportsIndex, what: str) -> int:
     """Returns a whole number from 0 to 2^64 - 1, or raises `TypeError` or `InvalidArguments`.
 
@@ -52,7 +62,7 @@ def checked_u64(value: SupportsIndex, what: str) -> int:
     """
     number = whole_number(value, what)
     if not 0 <= number <= _MAX_U64:
-        raise InvalidArguments(f"{what} is a whole number from 0 to 2^64 - 1")
+        raise out_of_range(what)
     return number
 
 
@@ -89,7 +99,7 @@ def own_bytes(value: BytesLike) -> bytes:
     """
     if type(value) is bytes:
         return value
-    with view_of(value) as view:
+    with view_of_bytes(value) as view:
         return bytes_of(view)
 
 
@@ -307,6 +317,23 @@ class Hash:
         return Hash, (self.bytes,)
 
 
+#: What a call accepts as a hash in a list: a `Hash`, or its 32 bytes.
+HashLike = Union[Hash, bytes]
+
+
+def raw_of(hash_: object, what: str) -> bytes:
+    """Returns the C struct of a hash. Raises `InvalidArguments` or `TypeError`.
+
+    >>> raw_of(bytes(32), "a hash") == raw_of(Hash(), "a hash")
+    True
+    """
+    if type(hash_) is Hash:
+        return hash_._raw
+    if type(hash_) is bytes:
+        return checked_32(hash_, what)
+    raise TypeError(f"{what} is a Hash or 32 bytes, not {type(hash_).__name__}")
+
+
 # Sets the bytes of a new hash. It takes half the time of `object.__setattr__`.
 _set_raw: Callable[[Hash, _Bytes], None] = Hash.__dict__["_raw"].__set__
 
@@ -363,8 +390,8 @@ def _handed(
     if type(data) is bytes:
         return at_once(data, len(data))
     if type(data) is memoryview:
-        return _handed_view(data, nobody_writes, at_once, by_pieces)
-    with view_of(data) as view:
+        return _handed_view(checked_view(data), nobody_writes, at_once, by_pieces)
+    with view_of_bytes(data) as view:
         return _handed_view(view, nobody_writes, at_once, by_pieces)
 
 
@@ -498,7 +525,7 @@ class Hasher(Guarded):
             for start in range(0, lent.length, PIECE):
                 stop = min(start + PIECE, lent.length)
                 _add(state, lent.piece(start, stop), stop - start)
-            ctypes.memmove(ctypes.byref(self._state), ctypes.byref(state), ctypes.sizeof(CHasher))
+            memmove(ctypes.byref(self._state), ctypes.byref(state), ctypes.sizeof(CHasher))
 
     def _hash_by_pieces(self, lent: Lent) -> Hash:
         self._add_by_pieces(lent)

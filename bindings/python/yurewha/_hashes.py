@@ -4,33 +4,32 @@ from __future__ import annotations
 
 import ctypes
 import re
-from typing import Dict, Iterable, Iterator, List, SupportsIndex, Union, cast, final
+from typing import Dict, Iterable, Iterator, List, SupportsIndex, Tuple, Union, cast, final
 
+from ._arrow_out import Capsules, capsules_of_hashes, schema_of_hashes
 from ._errors import InvalidArguments, InvalidText, error_of
-from ._hash import PIECE, Hash, Start, checked_32, checked_bool, whole_number
+from ._hash import PIECE, Hash, HashLike, Start, checked_bool, raw_of, whole_number
 from ._lent import Lent, is_read_only
 from ._library import LONG_BYTES, CHash, calls_for
-from ._packed import BYTE, HASH, WORD, Packed, block_or_items, checked_block
+from ._packed import BYTE, HASH, WORD, Packed, block_or_items, checked_block, is_column
 from ._types import BytesLike
 
 __all__ = ["Hashes", "data_hashes"]
 
 #: What a call accepts as hashes.
-HashesLike = Union["Hashes", Iterable[Union[Hash, bytes]], BytesLike]
+HashesLike = Union["Hashes", Iterable[HashLike], BytesLike]
+
+#: What a call accepts as a column of hex texts. It isn't each `Iterable`, since a `str` is one.
+HexTexts = Union[List[str], Tuple[str, ...], Iterator[str]]
+
+#: What a call accepts as offsets.
+OffsetsLike = Union[Iterable[SupportsIndex], BytesLike]
 
 _SIZE = 32
 _FORMS = ((1, re.compile(BYTE)), (8, re.compile(WORD)), (_SIZE, re.compile(HASH)))
 _EXPECTED = (
     "packed hashes are bytes, four unsigned words of 8 bytes in a row, each with its least byte first, or plain items of 32 "
     "bytes")
-
-
-def _raw(hash_: object, place: int) -> bytes:
-    if type(hash_) is Hash:
-        return hash_._raw
-    if type(hash_) is bytes:
-        return checked_32(hash_, f"hash {place}")
-    raise TypeError(f"hash {place} is a Hash or 32 bytes, not {type(hash_).__name__}")
 
 
 @final
@@ -59,7 +58,7 @@ class Hashes(Packed[Hash]):
             raise TypeError("hashes are a list of them, or a block of bytes; Hashes.from_hex reads texts")
         given = block_or_items(hashes, _EXPECTED)
         if not isinstance(given, memoryview):
-            return cls._of(b"".join(_raw(hash_, place) for place, hash_ in enumerate(given)))
+            return cls._of(b"".join(_raw_items(given)))
         with given:
             return cls._of(checked_block(given, _SIZE, _FORMS, _EXPECTED))
 
@@ -104,6 +103,14 @@ class Hashes(Packed[Hash]):
         """
         return {"version": 3, "shape": (len(self), 4), "typestr": "<u8", "data": self._packed}
 
+    def __arrow_c_schema__(self) -> object:
+        """Returns Arrow's type of the column, `fixed_size_binary(32)`. It needs pyarrow, as `__arrow_c_array__` does."""
+        return schema_of_hashes()
+
+    def __arrow_c_array__(self, requested_schema: object = None) -> Capsules:
+        """Lets readers of Arrow share the block. Raises `ImportError` if pyarrow isn't installed, as it makes the capsules."""
+        return capsules_of_hashes(self._packed, requested_schema)
+
     def _item(self, start: int) -> Hash:
         return Hash._of(self._packed[start:start + _SIZE])
 
@@ -113,6 +120,11 @@ class Hashes(Packed[Hash]):
 
     def __add__(self, other: HashesLike) -> Hashes:
         return Hashes._of(self._packed + Hashes(other)._packed)
+
+
+def _raw_items(hashes: Iterable[object]) -> Iterator[bytes]:
+    for place, hash_ in enumerate(hashes):
+        yield hash_._raw if type(hash_) is Hash else raw_of(hash_, f"hash {place}")
 
 
 def _words_reversed(packed: bytes) -> bytes:
@@ -130,8 +142,26 @@ def _read_hex(text: str, place: int) -> Hash:
         raise type(error)(f"text {place}: {error}") from None
 
 
+def column_of(hashes: Union[HashesLike, HexTexts]) -> Hashes:
+    """Returns a column of hashes or of hex texts.
+
+    >>> column_of([64 * "0"]) == column_of([Hash()]) == column_of(bytes(32))
+    True
+    """
+    if isinstance(hashes, (Hashes, str)):
+        return Hashes(hashes)
+    given = block_or_items(hashes, _EXPECTED)
+    if isinstance(given, memoryview):
+        with given:
+            return Hashes(given)
+    listed = list(given)
+    if listed and isinstance(listed[0], str):
+        return Hashes.from_hex(cast(List[str], listed))
+    return Hashes(cast(List[HashLike], listed))
+
+
 def data_hashes(
-    data: BytesLike, offsets: Union[Iterable[SupportsIndex], BytesLike], *, nobody_writes: bool = False
+    data: BytesLike, offsets: OffsetsLike, *, nobody_writes: bool = False
 ) -> Hashes:
     """Returns the hash of each chunk of some bytes, as `data_hash` does.
 
@@ -148,13 +178,14 @@ def data_hashes(
     checked_bool(nobody_writes, "nobody_writes")
     with Lent(data) as lent:
         view = lent.view
-        places = _checked_offsets(offsets, lent.length)
+        places = checked_offsets(offsets, lent.length)
         if not view.c_contiguous:
             return data_hashes(view.tobytes(), places)
         lent.hold()
         if nobody_writes or is_read_only(view):
             return Hashes._of(_hashed(lent.at(0), lent.length, places))
-        return Hashes._of(b"".join(_hashed_copy(lent, piece) for piece in _pieces(places)))
+        copies = (hashed_piece(lent.piece(piece[0], piece[-1]), piece) for piece in pieces_of(places))
+        return Hashes._of(b"".join(copies))
 
 
 def _hashed(start: Start, length: int, places: List[int]) -> bytes:
@@ -168,15 +199,19 @@ def _hashed(start: Start, length: int, places: List[int]) -> bytes:
     return bytes(out)
 
 
-def _hashed_copy(lent: Lent, places: List[int]) -> bytes:
-    copy = lent.piece(places[0], places[-1])
+def hashed_piece(copy: bytes, places: List[int]) -> bytes:
+    """Returns the hashes of the chunks between these offsets. `copy` has the bytes from the first offset on.
+
+    >>> hashed_piece(b"abc", [7, 8, 10]) == data_hashes(b"abc", [0, 1, 3]).packed
+    True
+    """
     return _hashed(copy, len(copy), [place - places[0] for place in places])
 
 
-def _pieces(places: List[int]) -> Iterator[List[int]]:
+def pieces_of(places: List[int]) -> Iterator[List[int]]:
     """Yields the offsets of chunks that are copied together: at most a MiB, or one chunk.
 
-    >>> list(_pieces([0, 1, 2 << 20, 3 << 20, (3 << 20) + 1]))
+    >>> list(pieces_of([0, 1, 2 << 20, 3 << 20, (3 << 20) + 1]))
     [[0, 1], [1, 2097152], [2097152, 3145728], [3145728, 3145729]]
     """
     piece = places[:1]
@@ -188,12 +223,18 @@ def _pieces(places: List[int]) -> Iterator[List[int]]:
     yield piece
 
 
-def _checked_offsets(offsets: Union[Iterable[SupportsIndex], BytesLike], end: int) -> List[int]:
+def checked_offsets(offsets: OffsetsLike, end: int) -> List[int]:
+    """Returns the offsets of chunks in `end` bytes. Raises the errors of `data_hashes`.
+
+    >>> checked_offsets(range(3), 2)
+    [0, 1, 2]
+    """
     expected = "offsets are whole numbers, one more than there are chunks"
     given = block_or_items(offsets, expected)
     if isinstance(given, memoryview):
         with given:
-            if not re.fullmatch("@?[hHiIlLqQ]", given.format) or given.ndim != 1:
+            kinds = "@?[bBhHiIlLqQ]" if is_column(offsets) else "@?[hHiIlLqQ]"
+            if not re.fullmatch(kinds, given.format) or given.ndim != 1:
                 raise InvalidArguments(f"{expected}, not '{given.format}'")
             places = given.tolist()
     else:

@@ -3,8 +3,10 @@
 from __future__ import annotations
 
 import ctypes
+import re
 from typing import Callable, Optional, Type, TypeVar, cast
 
+from ._calls import named, string_at
 from ._types import BytesLike, view_of
 
 
@@ -27,10 +29,11 @@ class _CBuffer(ctypes.Structure):
 
 
 _python = ctypes.PyDLL(None)
-_get_buffer = _python["PyObject_GetBuffer"]
-_get_buffer.argtypes, _get_buffer.restype = [ctypes.py_object, ctypes.POINTER(_CBuffer), ctypes.c_int], ctypes.c_int
-_release_buffer = _python["PyBuffer_Release"]
-_release_buffer.argtypes, _release_buffer.restype = [ctypes.POINTER(_CBuffer)], None
+_get = _python["PyObject_GetBuffer"]
+_get.argtypes, _get.restype = [ctypes.py_object, ctypes.POINTER(_CBuffer), ctypes.c_int], ctypes.c_int
+_release = _python["PyBuffer_Release"]
+_release.argtypes, _release.restype = [ctypes.POINTER(_CBuffer)], None
+_get_buffer, _release_buffer = named(_get), named(_release)
 
 _Result = TypeVar("_Result")
 
@@ -39,6 +42,31 @@ _OWNERS = 16
 
 #: The flag for contiguous bytes, with items of any format.
 _PLAIN = 0
+
+# In a format, the name of a field, and the letters for Python objects and other addresses. `Zd` is a complex number.
+_FIELD = re.compile(":[^:]*:")
+_ADDRESS = re.compile("[OPXz&]|Z(?![fdg])")
+
+
+def checked_view(view: memoryview) -> memoryview:
+    """Returns the same view. Raises `TypeError` if its bytes are addresses, as in a NumPy array of Python objects.
+
+    >>> checked_view(memoryview(b"ab")).nbytes
+    2
+    """
+    format_ = view.format
+    if format_ != "B" and _ADDRESS.search(_FIELD.sub("", format_)):
+        raise TypeError(f"the bytes of '{format_}' are the addresses of objects, not the objects")
+    return view
+
+
+def view_of_bytes(data: BytesLike) -> memoryview:
+    """Returns a view of bytes. Raises `TypeError` if the object has no buffer protocol, or if its bytes are addresses.
+
+    >>> view_of_bytes(b"ab").nbytes
+    2
+    """
+    return checked_view(view_of(data))
 
 
 class Lent:
@@ -60,7 +88,7 @@ class Lent:
 
     def __init__(self, data: BytesLike) -> None:
         self._buffer = _CBuffer()
-        self.view = view = view_of(data)
+        self.view = view = view_of_bytes(data)
         self.length = view.nbytes
 
     def __enter__(self) -> Lent:
@@ -71,7 +99,11 @@ class Lent:
         self.view.release()
 
     def __del__(self) -> None:
-        self._give_back()  # if a signal handler raised before the `with`
+        # If a signal handler raised before the `with`, or the stack ended.
+        try:
+            self._give_back()
+        except AttributeError:
+            pass  # it wasn't completely made
 
     def _give_back(self) -> None:
         if self._buffer.obj:
@@ -104,7 +136,7 @@ class Lent:
         ...     lent.piece(1, 3)
         b'bc'
         """
-        return ctypes.string_at(self._start + start, stop - start)
+        return string_at(self._start + start, stop - start)
 
 
 def in_place(view: memoryview, call: Callable[[ctypes.c_char_p, int], _Result]) -> _Result:

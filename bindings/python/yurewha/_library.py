@@ -14,6 +14,7 @@ from pathlib import Path
 from types import SimpleNamespace
 from typing import Any, Dict, Optional
 
+from ._calls import named
 from ._declarations import DECLARATIONS, STRUCTS
 from ._processor import level, levels
 
@@ -136,7 +137,7 @@ def _declare(library: Any, path: str) -> SimpleNamespace:
             raise ImportError(f"yurewha: {path} has no {name}") from None
         call.restype = _TYPES[answer]
         call.argtypes = [_TYPES[argument] for argument in arguments]
-        setattr(calls, name, call)
+        setattr(calls, name, named(call))
     return calls
 
 

@@ -2,6 +2,7 @@
 
 from __future__ import annotations
 
+from array import array
 from operator import index
 from typing import Any, ClassVar, Iterable, Pattern, Sequence, Tuple, Type, TypeVar, Union, cast, overload
 
@@ -16,6 +17,9 @@ _Self = TypeVar("_Self", bound="Packed[Any]")
 #: The forms that a block may have: the bytes of an item, and its format in the buffer protocol.
 Forms = Sequence[Tuple[int, Pattern[str]]]
 
+#: What columns of NumPy, pandas and Arrow have.
+_COLUMNS = ("__array__", "__arrow_c_array__", "__arrow_c_stream__")
+
 # In a format, `(4)L` is four native words, and `<Q` is a little-endian word of eight bytes. The name of a field comes after
 # its type.
 BYTE = "[@^=<]?[Bbc]"
@@ -29,7 +33,7 @@ def block_or_items(values: object, expected: str) -> Union[memoryview, Iterable[
     >>> block_or_items(b"abc", "bytes").nbytes, block_or_items([1, 2], "numbers")
     (3, [1, 2])
     """
-    if isinstance(values, (list, tuple)):
+    if isinstance(values, (list, tuple, Packed)):
         return values
     make = getattr(values, "__array__", None)
     column = block_of_array(values)
@@ -45,7 +49,19 @@ def block_or_items(values: object, expected: str) -> Union[memoryview, Iterable[
         return cast(Iterable[object], values)
     except (ValueError, BufferError) as error:
         raise InvalidArguments(f"{expected}: {error}") from None
-    return cast(Iterable[object], values) if view.format == "O" else view
+    # Arrays of objects or of texts have items.
+    return cast(Iterable[object], values) if view.format == "O" or view.format.endswith("w") else view
+
+
+def is_column(values: object) -> bool:
+    """Returns whether an object, or what a view shows, has items of a type of its own. Else single bytes are just bytes.
+
+    >>> from array import array
+    >>> is_column(array("B", b"abc")), is_column(b"abc")
+    (True, False)
+    """
+    owner = values.obj if isinstance(values, memoryview) else values
+    return isinstance(owner, array) or any(hasattr(owner, name) for name in _COLUMNS)
 
 
 def checked_block(view: memoryview, size: int, forms: Forms, expected: str) -> bytes:
@@ -119,11 +135,10 @@ class Packed(Sequence[_Item]):
                 return self._of(self._packed[size * start:size * max(start, stop)])
             places = range(start, stop, step)
             return self._of(b"".join(self._packed[size * place:size * (place + 1)] for place in places))
-        place = index(at)
-        if place < 0:
-            place += len(self)
+        number = index(at)
+        place = number + len(self) if number < 0 else number
         if not 0 <= place < len(self):
-            raise IndexError(f"there is no item {index(at)} in {self!r}")
+            raise IndexError(f"there is no item {number} in {self!r}")
         item: _Item = self._item(size * place)
         return item
 

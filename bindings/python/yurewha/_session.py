@@ -3,24 +3,87 @@
 from __future__ import annotations
 
 import ctypes
-from typing import Callable, Iterable, Iterator, List, Optional, Tuple, TypeVar, final
+from typing import Callable, Iterable, Iterator, List, Optional, Tuple, Type, Union, final
 
 from ._chunks import Chunks, ChunksLike
 from ._declarations import STATUSES
-from ._errors import SessionOverlap, YurewhaError, error_of
+from ._errors import InvalidArguments, SessionOverlap, YurewhaError, error_of
 from ._guard import Guarded, both_locked
-from ._hash import Hash, checked_u64
+from ._hash import Hash, checked_32, checked_u64
 from ._hashes import Hashes, HashesLike
 from ._library import LONG_CHUNKS, LONG_NODES, CChunk, CHash, CSession, calls_for, long, short
+from ._session_json import Span, json_of, parts_of
 from ._subtree import Subtree
+from ._types import BytesLike
 
-__all__ = ["Session"]
+__all__ = ["Run", "Session"]
 
 _CHUNK_SIZE = ctypes.sizeof(CChunk)
 _HASH_SIZE = ctypes.sizeof(CHash)
-#: A run: its first position, the position after its last one, and the subtree of its chunks.
-_Run = Tuple[int, int, Subtree]
-_T = TypeVar("_T")
+_Restore = Callable[[Iterable[Span], HashesLike], "Session"]
+
+
+@final
+class Run(Tuple[int, Subtree]):
+    """A run of adjacent positions of a session: a pair of its first position and the subtree of its chunks.
+
+    It also has the position after its last one, `end`. The subtree is open at both ends. A run that is made by hand raises
+    `InvalidArguments` if it has no position or one past 2^64 - 1.
+
+    >>> session = Session(); _ = session.put(3, [(Hash(), 1), (Hash(), 1)])
+    >>> (run,) = session.runs()
+    >>> run.first, run.end, run.subtree.total_size
+    (3, 5, 2)
+    >>> first, subtree = run
+    """
+
+    _end: int
+
+    def __new__(cls, first: int, end: int, subtree: Subtree) -> Run:
+        place, after = checked_u64(first, "a position"), checked_u64(end, "a position")
+        if after <= place:
+            raise InvalidArguments("a run ends after its first position")
+        if not isinstance(subtree, Subtree):
+            raise TypeError(f"the subtree of a run is a Subtree, not {type(subtree).__name__}")
+        self = super().__new__(cls, (place, subtree))  # type: ignore[arg-type]
+        self._end = after
+        return self
+
+    def __init_subclass__(cls) -> None:
+        raise TypeError("Run can't be subclassed")
+
+    @property
+    def first(self) -> int:
+        """The first position.
+
+        >>> Run(3, 5, Subtree.from_chunks(False, [(Hash(), 1), (Hash(), 1)], False)).first
+        3
+        """
+        return self[0]
+
+    @property
+    def end(self) -> int:
+        """The position after the last one.
+
+        >>> Run(3, 5, Subtree.from_chunks(False, [(Hash(), 1), (Hash(), 1)], False)).end
+        5
+        """
+        return self._end
+
+    @property
+    def subtree(self) -> Subtree:
+        """The subtree of its chunks.
+
+        >>> Run(3, 5, Subtree.from_chunks(False, [(Hash(), 1), (Hash(), 1)], False)).subtree.total_size
+        2
+        """
+        return self[1]
+
+    def __reduce__(self) -> Tuple[Type[Run], Span]:
+        return Run, (self.first, self.end, self.subtree)
+
+    def __repr__(self) -> str:
+        return f"Run(first={self.first}, end={self.end}, subtree={self.subtree})"
 
 
 @final
@@ -34,10 +97,10 @@ class Session(Guarded):
     >>> session.finish(4).hex()[:16]
     '284ea045e5a579e9'
 
-    A pickle has the runs and the known hashes.
+    A JSON text and a pickle have the runs and the known hashes. Unpickling a stranger's file runs its code, whatever this
+    package checks.
 
-    >>> import pickle
-    >>> pickle.loads(pickle.dumps(session)).put(4, [one, two])
+    >>> Session.from_json(session.to_json()).put(4, [one, two])
     0
     """
 
@@ -45,7 +108,7 @@ class Session(Guarded):
 
     _handle: CSession
     # How many calls that change the session began. A call that reads several times notices by it that a signal handler made
-    # one.
+    # one. Then it reads a copy, which no handler changes.
     _changes: int
 
     def __new__(cls) -> Session:
@@ -90,8 +153,8 @@ class Session(Guarded):
             self._changes += 1
             status = calls_for(count, LONG_CHUNKS).yurewha_session_put(self._handle, place, packed, count, out)
             if status == STATUSES["YUREWHA_SESSION_OVERLAP"]:
-                taken = next(filter(self.taken, range(place, min(place + count, 2**64))), place)
-                raise SessionOverlap(f"position {taken} is taken")
+                run = None if self.taken(place) else self._run_from(place)
+                raise SessionOverlap(f"position {run[0] if run else place} is taken")
         if status:
             raise error_of(status)
         return out.value
@@ -125,30 +188,63 @@ class Session(Guarded):
             raise error_of(status)
         return out.value
 
-    def run(self, at: int) -> Tuple[int, Subtree]:
-        """Returns the first position of a run, and the subtree of its chunks, open at both ends.
+    @property
+    def num_chunks(self) -> int:
+        """The number of chunks: of taken positions. The time is proportional to the number of runs.
 
-        Runs are numbered from 0, by rising position. Raises `InvalidArguments` if there is no such run.
+        >>> session = Session(); _ = session.put(3, [(Hash(), 7), (Hash(), 8)])
+        >>> session.num_chunks
+        2
+        """
+        return sum(end - first for first, end, _ in self._spans())
+
+    @property
+    def total_size(self) -> int:
+        """The total size of the chunks in bytes. The time is proportional to the number of runs.
+
+        >>> session = Session(); _ = session.put(3, [(Hash(), 7), (Hash(), 8)])
+        >>> session.total_size
+        15
+        """
+        return sum(subtree.total_size for _, _, subtree in self._spans())
+
+    def gaps(self, total: int) -> List[range]:
+        """Returns the ranges of positions below `total` that aren't taken, by rising position.
+
+        >>> session = Session(); _ = session.put(3, [(Hash(), 7), (Hash(), 8)])
+        >>> session.gaps(8)
+        [range(0, 3), range(5, 8)]
+        """
+        number, position, gaps = checked_u64(total, "the total"), 0, []
+        for first, end, _ in self._spans():
+            gaps.append(range(position, min(first, number)))
+            position = end
+        gaps.append(range(position, number))
+        return [gap for gap in gaps if gap]
+
+    def run(self, at: int) -> Run:
+        """Returns a run. Runs are numbered from 0, by rising position. Raises `InvalidArguments` if there is no such run.
 
         >>> session = Session(); _ = session.put(3, [(Hash(), 1)])
-        >>> session.run(0)[0]
-        3
+        >>> session.run(0).end
+        4
         """
         number, first, subtree = checked_u64(at, "the number of a run"), ctypes.c_uint64(), Subtree._empty()
         with self._locked():
             status = short.yurewha_session_run(self._handle, number, first, subtree._handle)
-        if status:
+            found = None if status else self._run_from(first.value)
+        if found is None:
             raise error_of(status, "there is no such run")
-        return first.value, subtree
+        return Run(*found)
 
-    def runs(self) -> List[Tuple[int, Subtree]]:
-        """Returns all runs by rising position, each as its first position and its subtree.
+    def runs(self) -> List[Run]:
+        """Returns all runs by rising position. Each is a pair of its first position and its subtree, and has its `end`.
 
         >>> session = Session(); _ = session.put(3, [(Hash(), 1)]), session.put(5, [(Hash(), 1)])
-        >>> [first for first, _ in session.runs()]
-        [3, 5]
+        >>> [first for first, subtree in session.runs()], [run.end for run in session.runs()]
+        ([3, 5], [4, 6])
         """
-        return [(first, subtree) for first, _, subtree in self._read(lambda: list(self._walk()))]
+        return [Run(*span) for span in self._spans()]
 
     def run_from(self, position: int) -> Optional[Tuple[int, int, Subtree]]:
         """Returns the first run that ends after a position: the run that holds it or else the next one.
@@ -161,37 +257,36 @@ class Session(Guarded):
         >>> first, end, session.run_from(end)
         (3, 4, None)
         """
-        place = checked_u64(position, "a position")
-        with self._locked():
-            return self._run_from(place)
+        return self._run_from(checked_u64(position, "a position"))
 
-    def _run_from(self, place: int) -> Optional[_Run]:
-        """Returns the first run that ends after a position, or None. The lock must be held."""
+    def _run_from(self, place: int) -> Optional[Span]:
         first, end, subtree = ctypes.c_uint64(), ctypes.c_uint64(), Subtree._empty()
-        status = short.yurewha_session_run_from(self._handle, place, first, end, subtree._handle)
+        with self._locked():
+            status = short.yurewha_session_run_from(self._handle, place, first, end, subtree._handle)
         if status == STATUSES["YUREWHA_ARGUMENTS"]:
             return None
         if status:
             raise error_of(status)
         return first.value, end.value, subtree
 
-    def _walk(self) -> Iterator[_Run]:
-        """Yields each run: the first that ends after the one before it. The lock must be held."""
+    def _walk(self) -> Iterator[Span]:
+        """Yields each run: the first that ends after the one before it."""
         run = self._run_from(0)
         while run is not None:
             yield run
             run = self._run_from(run[1])
 
-    def _read(self, read: Callable[[], _T]) -> _T:
-        """Returns what several calls read, with no change by a signal handler between them."""
+    def _spans(self) -> List[Span]:
+        """Returns all runs of one moment."""
         with self._locked():
-            while True:
-                changes = self._changes
-                found = read()
-                if changes == self._changes:
-                    return found
+            changes, spans = self._changes, []
+            for span in self._walk():
+                spans.append(span)
+                if changes != self._changes:
+                    break
+            return spans if changes == self._changes else list(self.copy()._walk())
 
-    def __iter__(self) -> Iterator[Tuple[int, Subtree]]:
+    def __iter__(self) -> Iterator[Run]:
         """Iterates over the runs at the time of the call, as `runs` returns them.
 
         >>> session = Session(); _ = session.put(3, [(Hash(), 1)]), session.put(5, [(Hash(), 1)])
@@ -210,13 +305,19 @@ class Session(Guarded):
         """
         return self._of_all(total, "yurewha_session_root")
 
-    def finish(self, total: int) -> Hash:
-        """Returns the file hash of all chunks by position. It raises the same errors as `root`. The session doesn't change.
+    def finish(self, total: int, salt: Optional[BytesLike] = None) -> Hash:
+        """Returns the file hash of all chunks by position. A salt has 32 bytes. The session doesn't change.
 
-        >>> Session().finish(0) == Hash()
+        Raises `InvalidArguments` if a salt doesn't have 32 bytes. Otherwise it raises the same errors as `root`.
+
+        >>> Session().finish(0) == Session().finish(0, salt=bytes(32)) == Hash()
         True
         """
-        return self._of_all(total, "yurewha_session_finish")
+        number = checked_u64(total, "the total")
+        if salt is None:
+            return self._of_all(number, "yurewha_session_finish")
+        key, root = Hash(checked_32(salt, "a salt")), self.root(number)
+        return root.hmac(key) if number else root  # the file hash of no chunks is their root, with a salt, too
 
     def _of_all(self, total: int, which: str) -> Hash:
         number, out = checked_u64(total, "the total"), CHash()
@@ -233,9 +334,10 @@ class Session(Guarded):
         >>> other.put(4, [(Hash(), 1)]), one.taken(4), other.taken(4)
         (0, False, True)
         """
-        other = Session()
+        other, count = Session(), ctypes.c_size_t()
         with self._locked():
-            status = long.yurewha_session_copy(self._handle, other._handle)
+            short.yurewha_session_num_known_hashes(self._handle, count)
+            status = calls_for(count.value, LONG_CHUNKS).yurewha_session_copy(self._handle, other._handle)
         if status:
             raise error_of(status)
         return other
@@ -266,16 +368,19 @@ class Session(Guarded):
         >>> restored.runs() == saved.runs(), restored.put(4, [(Hash(), 1)])
         (True, 0)
         """
+        self._push("the run", first, end, subtree)
+
+    def _push(self, what: str, first: int, end: int, subtree: Subtree) -> None:
         place, after = checked_u64(first, "a position"), checked_u64(end, "a position")
         if not isinstance(subtree, Subtree):
-            raise TypeError(f"a run is a Subtree, not {type(subtree).__name__}")
+            raise TypeError(f"{what} is a Subtree, not {type(subtree).__name__}")
         one, other = both_locked(self, subtree)
         with one, other:
             self._changes += 1
             calls = calls_for(subtree._nodes(), LONG_NODES)
             status = calls.yurewha_session_push_run(self._handle, place, after, subtree._handle)
         if status:
-            raise error_of(status, "the run has no position, is marked at an end, or leaves no gap after the runs before it")
+            raise error_of(status, f"{what} has no position, is marked at an end, or leaves no gap after the runs before it")
 
     def keep_hashes(self, hashes: HashesLike) -> None:
         """Keeps hashes, as if an earlier put had had them. The session then knows them. After an error nothing has changed.
@@ -301,33 +406,59 @@ class Session(Guarded):
         >>> list(session.known_hashes()) == [Hash()]
         True
         """
-        count = ctypes.c_size_t()
         with self._locked():
-            # A signal handler may change their number between the two calls. Then both are repeated.
-            while True:
-                status = short.yurewha_session_num_known_hashes(self._handle, count)
-                if status:
-                    raise error_of(status)
-                out = (CHash * count.value)()
-                calls = calls_for(len(out), LONG_CHUNKS)
-                status = calls.yurewha_session_known_hashes(self._handle, out, len(out))
-                if status != STATUSES["YUREWHA_ARGUMENTS"]:
-                    break
+            status, hashes = self._known_hashes()
+            if status == STATUSES["YUREWHA_ARGUMENTS"]:  # a handler changed their number between the two calls
+                status, hashes = self.copy()._known_hashes()
         if status:
             raise error_of(status)
-        return Hashes._of(bytes(out))
+        return hashes
+
+    def _known_hashes(self) -> Tuple[int, Hashes]:
+        count = ctypes.c_size_t()
+        with self._locked():
+            status = short.yurewha_session_num_known_hashes(self._handle, count)
+            out = (CHash * count.value)()
+            status = status or calls_for(len(out), LONG_CHUNKS).yurewha_session_known_hashes(self._handle, out, len(out))
+        return status, Hashes._of(bytes(out))
+
+    def to_json(self) -> str:
+        """Returns the session as compact JSON text: its runs and the hashes that it knows.
+
+        It has the form of the Rust crate's sessions. `runs` has objects with the positions `first` and `end`, and with
+        `chunks`, the subtree. `known_hashes` has the four words of each hash, by rising order.
+
+        >>> session = Session(); session.keep_hashes([Hash()]); session.to_json()
+        '{"runs":[],"known_hashes":[[0,0,0,0]]}'
+        """
+        saved = self.copy()
+        return json_of(saved._walk(), saved.known_hashes())
 
     @staticmethod
-    def _restored(runs: Iterable[_Run], hashes: HashesLike) -> Session:
+    def from_json(text: Union[str, BytesLike]) -> Session:
+        """Returns the session that a JSON text describes. The text is a `str` or its bytes.
+
+        Raises `InvalidText` if the text isn't JSON or doesn't have the form of `to_json`, except that there may be other
+        members. Raises `InvalidJson` if a subtree breaks a rule. Raises `InvalidArguments` or `SizeOverflow` if `push_run`
+        refuses a run. That a run has as many chunks as positions can't be checked.
+
+        >>> Session.from_json('{"runs":[],"known_hashes":[[0,0,0,0]]}').put(7, [(Hash(), 1)])
+        0
+        """
+        return Session._restored(*parts_of(text))
+
+    @staticmethod
+    def _restored(runs: Iterable[Span], hashes: HashesLike) -> Session:
         session = Session()
-        for run in runs:
-            session.push_run(*run)
+        for place, run in enumerate(runs):
+            session._push(f"run {place}", *run)
         session.keep_hashes(hashes)
         return session
 
-    def __reduce__(self) -> Tuple[Callable[[Iterable[_Run], HashesLike], Session], Tuple[Tuple[_Run, ...], Hashes]]:
+    def __reduce__(self) -> Tuple[_Restore, Tuple[Tuple[Span, ...], Hashes]]:
         # The runs of a pickle are checked when it is read, and so are their subtrees.
-        return Session._restored, self._read(lambda: (tuple(self._walk()), self.known_hashes()))
+        saved = self.copy()
+        return Session._restored, (tuple(saved._walk()), saved.known_hashes())
 
     def __repr__(self) -> str:
         try:

@@ -20,6 +20,7 @@ from typing import (
     final,
 )
 
+from ._calls import string_at
 from ._chunks import Chunks, ChunksLike
 from ._declarations import STATUSES
 from ._errors import InvalidArguments, YurewhaError, error_of
@@ -133,6 +134,8 @@ class Flat(NamedTuple):
 @final
 class Subtree(Guarded):
     """What is kept of a range of chunks. It is enough to merge the range with its neighbours, without the chunks.
+
+    It has JSON and can be pickled. Unpickling a stranger's file runs its code, whatever this package checks.
 
     >>> one, two = (Hash.random_from_seed(1), 100), (Hash.random_from_seed(2), 200)
     >>> left = Subtree.from_chunks(True, [one, two, one], False)    # the beginning of a file
@@ -330,6 +333,21 @@ class Subtree(Guarded):
             raise error_of(status)
         return Hash._of(bytes(out))
 
+    def file_hash(self, salt: Optional[BytesLike] = None) -> Optional[Hash]:
+        """Returns the file hash of the chunks, or None if an end isn't marked. A salt has 32 bytes.
+
+        Without chunks it is the default hash, with and without a salt. Raises `InvalidArguments` if a salt doesn't have 32
+        bytes.
+
+        >>> chunks = [(Hash.random_from_seed(1), 100), (Hash.random_from_seed(2), 200)]
+        >>> Subtree.from_chunks(True, chunks, True).file_hash() == file_hash(chunks)
+        True
+        """
+        key = Hash() if salt is None else Hash(checked_32(salt, "a salt"))
+        root = self.final_hash()
+        # A subtree with both marks never changes, so it is still empty or not.
+        return root if root is None or self.is_empty else root.hmac(key)
+
     # ---- Merging
 
     def merge(self, other: Subtree) -> None:
@@ -463,20 +481,19 @@ class Subtree(Guarded):
         >>> Subtree.from_chunks(True, [], True).to_json()
         '{"at_end":true,"at_start":true,"levels":[[0,0]],"nodes":[]}'
         """
-        length = ctypes.c_size_t()
+        return self.copy()._to_json()
+
+    def _to_json(self) -> str:
+        """Returns the JSON text. The subtree is a copy, which no signal handler can change between two steps."""
+        nodes, length = self.num_nodes, ctypes.c_size_t()
+        # A node has 64 hex digits, a size of at most 20 digits, and punctuation. A level has two numbers.
+        room = 128 * nodes + 64 * self.num_levels + 128
+        text = ctypes.create_string_buffer(room)
         with self._locked():
-            nodes = self.num_nodes
-            # A node has 64 hex digits, a size of at most 20 digits, and punctuation. A level has two numbers.
-            room = 128 * nodes + 64 * self.num_levels + 128
-            while True:
-                text = ctypes.create_string_buffer(room)
-                status = calls_for(nodes, LONG_NODES).yurewha_subtree_to_json(self._handle, text, room, length)
-                if status != 5:
-                    break
-                room = length.value
+            status = calls_for(nodes, LONG_NODES).yurewha_subtree_to_json(self._handle, text, room, length)
         if status:
             raise error_of(status)
-        return ctypes.string_at(text, length.value).decode("ascii")
+        return string_at(text, length.value).decode("ascii")
 
     @staticmethod
     def from_json(text: Union[str, BytesLike]) -> Subtree:
@@ -500,21 +517,19 @@ class Subtree(Guarded):
         >>> Subtree.from_chunks(False, [(Hash(), 7)], True).to_flat().levels
         ((1, 0),)
         """
+        return self.copy()._to_flat()
+
+    def _to_flat(self) -> Flat:
+        """Returns the flat lists. The subtree is a copy, as in `_to_json`."""
+        at_start, at_end = self._marks()
+        levels, nodes = (CLevel * self.num_levels)(), (CChunk * self.num_nodes)()
         level_count, node_count = ctypes.c_size_t(), ctypes.c_size_t()
         with self._locked():
-            # A signal handler may change the subtree between two steps. Then all steps are repeated.
-            while True:
-                at_start, at_end = self._marks()
-                levels, nodes = (CLevel * self.num_levels)(), (CChunk * self.num_nodes)()
-                status = calls_for(len(nodes), LONG_NODES).yurewha_subtree_to_flat(
-                    self._handle, levels, len(levels), nodes, len(nodes), level_count, node_count)
-                if status not in (0, 5):
-                    raise error_of(status)
-                if status == 0 and self._marks() == (at_start, at_end):
-                    break
-        counts = tuple((level.left, level.right) for level in levels[:level_count.value])
-        packed = ctypes.string_at(nodes, _CHUNK_SIZE * node_count.value)
-        return Flat(at_start, counts, Chunks._of(packed), at_end)
+            status = calls_for(len(nodes), LONG_NODES).yurewha_subtree_to_flat(
+                self._handle, levels, len(levels), nodes, len(nodes), level_count, node_count)
+        if status:
+            raise error_of(status)
+        return Flat(at_start, tuple((level.left, level.right) for level in levels), Chunks._of(bytes(nodes)), at_end)
 
     @staticmethod
     def from_flat(at_start: bool, levels: Iterable[Sequence[SupportsIndex]], nodes: ChunksLike, at_end: bool) -> Subtree:
@@ -616,18 +631,25 @@ def sides_of(flat: Flat) -> List[Tuple[Chunks, Chunks]]:
 def svg_of(subtrees: Sequence[Subtree], captions: Sequence[str] = ()) -> str:
     """Returns one picture of several subtrees, one below the other, each with its caption.
 
+    Raises `InvalidArguments` if there are more captions than subtrees, and `TypeError` if a caption isn't a `str`.
+
     >>> svg_of([Subtree.from_chunks(True, [(Hash(), 7)], True)], ["one chunk"]).count("one chunk")
     1
     """
-    if len(captions) > len(subtrees):
+    if isinstance(captions, str):
+        raise TypeError("captions are a list of them, not a str")
+    shown, texts = list(subtrees), list(captions)
+    if len(texts) > len(shown):
         raise InvalidArguments("there are more captions than subtrees")
+    for place, caption in enumerate(texts):
+        if not isinstance(caption, str):
+            raise TypeError(f"caption {place} is a str, not {type(caption).__name__}")
     drawn = []
-    for place, subtree in enumerate(subtrees):
+    for place, subtree in enumerate(shown):
         if not isinstance(subtree, Subtree):
             raise TypeError(f"picture {place} is of a Subtree, not of {type(subtree).__name__}")
         flat = subtree.to_flat()
-        caption = captions[place] if place < len(captions) else ""
-        drawn.append((caption, flat.at_start, flat.at_end, sides_of(flat)))
+        drawn.append((texts[place] if place < len(texts) else "", flat.at_start, flat.at_end, sides_of(flat)))
     return picture_of(drawn)
 
 

@@ -1,0 +1,158 @@
+"""Hashing the chunks of a file: what is read, progress, Ctrl-C, and what is refused."""
+
+import array
+import os
+import pathlib
+import random
+import signal
+import subprocess
+import sys
+import time
+
+import pytest
+
+import yurewha as y
+
+MIB = 1 << 20
+rng = random.Random(51)
+
+
+@pytest.fixture
+def written(tmp_path):
+    """Writes bytes to a file, and returns its path."""
+    def write(data):
+        path = tmp_path / f"data{len(data)}"
+        path.write_bytes(data)
+        return path
+
+    return write
+
+
+@pytest.mark.parametrize("end, count", [
+    (0, 1), (0, 5), (1, 3), (1000, 100), (MIB, 1), (MIB + 1, 1), (2 * MIB, 1), (3 * MIB + 5, 2), (5 * MIB, 300), (9 * MIB, 4)])
+def test_the_same_hashes_as_of_the_bytes(written, end, count):
+    data = rng.randbytes(end)
+    offsets = [0, *sorted(rng.randrange(end + 1) for _ in range(count - 1)), end]
+    path, expected = written(data), y.data_hashes(data, offsets)
+    for name in (path, str(path), os.fsencode(path)):
+        assert y.hash_chunks(name, offsets) == expected
+    assert y.hash_chunks(path, array.array("Q", offsets)) == y.hash_chunks(path, iter(offsets)) == expected
+    assert y.hash_chunks(path, offsets[1:]) == expected[1:] and y.hash_chunks(path, offsets[:1]) == y.Hashes()
+
+
+@pytest.mark.parametrize("offsets", [
+    [0], [0, 0], [7, 7, 7], [0, 9 * MIB], [3, 4, 8 * MIB, 8 * MIB + 1], range(0, 9 * MIB, 1 << 16), range(0, 9 * MIB, 3 * MIB)])
+def test_progress_goes_from_the_first_offset_to_the_last(written, offsets):
+    path, told = written(bytes(9 * MIB)), []
+    hashes = y.hash_chunks(path, offsets, progress=lambda done, total: told.append((done, total)))
+    assert hashes == y.hash_chunks(path, offsets, progress=None)
+    total = list(offsets)[-1] - list(offsets)[0]
+    done = [done for done, _ in told]
+    assert {of for _, of in told} == {total} and done[-1] == total and done == sorted(set(done))
+    assert all(after - before <= MIB for before, after in zip([0, *done], done)) and len(done) <= 2 + 2 * total // MIB
+
+
+def test_an_error_of_progress_ends_the_call(written):
+    path, told = written(bytes(9 * MIB)), []
+
+    def progress(done, total):
+        told.append(done)
+        if done >= 2 * MIB:
+            raise LookupError("enough")
+
+    with pytest.raises(LookupError, match="enough"):
+        y.hash_chunks(path, [0, 9 * MIB], progress=progress)
+    assert told == [MIB, 2 * MIB]
+
+
+ENDED = """
+import sys
+import yurewha as y
+def progress(done, total):
+    if done == 1 << 20:
+        print("begun", flush=True)
+try:
+    y.hash_chunks(sys.argv[1], [0, 1 << 42], progress=progress)
+except KeyboardInterrupt:
+    print("ended")
+"""
+
+
+def test_ctrl_c_ends_the_call(tmp_path):
+    """The file has four TiB, which take no place on the disk."""
+    path = tmp_path / "great"
+    try:
+        with open(path, "wb") as file:
+            file.truncate(1 << 42)
+    except OSError:
+        pytest.skip("the file system has no files of that size")
+    package = str(pathlib.Path(y.__file__).resolve().parents[1])
+    with subprocess.Popen([sys.executable, "-c", ENDED, str(path)], stdout=subprocess.PIPE, text=True,
+                          env={**os.environ, "PYTHONPATH": package}) as process:
+        try:
+            assert process.stdout.readline() == "begun\n"
+            began = time.monotonic()
+            process.send_signal(signal.SIGINT)
+            assert process.communicate(timeout=30)[0] == "ended\n" and time.monotonic() - began < 5
+        finally:
+            process.kill()
+
+
+@pytest.mark.parametrize("offsets, error, text", [
+    ([], y.InvalidArguments, "there is none"),
+    ([0, 3, 2], y.InvalidArguments, "offset 2 is 2, which is less than 3"),
+    ([-1, 3], y.InvalidArguments, "offset 0 is -1, which is less than 0"),
+    ([0, 11], y.InvalidArguments, "the last offset is 11, and there are 10 bytes"),
+    ([0, 2**64], y.InvalidArguments, "the last offset"),
+    ([0, 1.5], TypeError, "offset 1 is a whole number, not float"),
+    ([0, None], TypeError, "offset 1 is a whole number, not NoneType"),
+    (array.array("d", [0, 1]), y.InvalidArguments, "not 'd'"),
+    (7, TypeError, ""),
+    ("07", TypeError, ""),
+])
+def test_wrong_offsets(written, offsets, error, text):
+    told = []
+    with pytest.raises(error, match=text):
+        y.hash_chunks(written(bytes(10)), offsets, progress=lambda *given: told.append(given))
+    assert told == []
+
+
+def test_wrong_paths(tmp_path):
+    for path in (7, 1.5, None, ["data"], bytearray(b"data"), True):
+        with pytest.raises(TypeError):
+            y.hash_chunks(path, [0])
+    with pytest.raises(FileNotFoundError):
+        y.hash_chunks(tmp_path / "none", [0])
+    with pytest.raises(IsADirectoryError):
+        y.hash_chunks(tmp_path, [0])
+    with pytest.raises(ValueError, match="null"):
+        y.hash_chunks("a\0b", [0])
+
+
+def test_wrong_progress(written):
+    for progress in (7, "print", [], False, 0):
+        with pytest.raises(TypeError, match="^progress is a callable, not "):
+            y.hash_chunks(written(bytes(3)), [0, 3], progress=progress)
+    with pytest.raises(TypeError):
+        y.hash_chunks(written(bytes(3)), [0, 3], print)
+
+
+def test_a_file_that_becomes_shorter(written):
+    path = written(bytes(5 * MIB))
+
+    def progress(done, total):
+        os.truncate(path, 2 * MIB)
+
+    for offsets in ([0, 5 * MIB], range(0, 5 * MIB + 1, MIB)):
+        path.write_bytes(bytes(5 * MIB))
+        with pytest.raises(y.InvalidArguments, match="the file became shorter while it was read"):
+            y.hash_chunks(path, offsets, progress=progress)
+
+
+def test_the_file_is_closed_also_after_an_error(written):
+    path = written(bytes(3 * MIB))
+    before = len(os.listdir("/proc/self/fd")) if os.path.exists("/proc/self/fd") else 0
+    y.hash_chunks(path, [0, 3 * MIB])
+    with pytest.raises(ZeroDivisionError):
+        y.hash_chunks(path, [0, 3 * MIB], progress=lambda done, total: 1 / 0)
+    assert not before or len(os.listdir("/proc/self/fd")) == before

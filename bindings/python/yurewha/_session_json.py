@@ -1,0 +1,101 @@
+"""The JSON form of sessions. The Rust crate's sessions have the same form in JSON."""
+
+from __future__ import annotations
+
+import json
+import struct
+from typing import Dict, Iterable, List, Tuple, Union, cast
+
+from ._errors import InvalidJson, InvalidText
+from ._hash import checked_text, own_bytes
+from ._hashes import Hashes
+from ._subtree import Subtree
+from ._types import BytesLike
+
+#: The first position of a run, the position after its last one, and the subtree of its chunks.
+Span = Tuple[int, int, Subtree]
+
+_WORDS = struct.Struct("<4Q")
+_MAX_U64 = 2**64 - 1
+#: Stands for each number that isn't a whole number from 0 to 2^64 - 1. No member may be this number.
+_OTHER = 0.5
+
+
+def json_of(runs: Iterable[Span], hashes: Hashes) -> str:
+    """Returns the compact JSON text of runs and known hashes. The hashes are written by rising order.
+
+    >>> json_of([], Hashes())
+    '{"runs":[],"known_hashes":[]}'
+    """
+    words = json.dumps(sorted(_WORDS.iter_unpack(hashes.packed)), separators=(",", ":"))
+    texts = (f'{{"first":{first},"end":{end},"chunks":{subtree.to_json()}}}' for first, end, subtree in runs)
+    return f'{{"runs":[{",".join(texts)}],"known_hashes":{words}}}'
+
+
+def parts_of(text: Union[str, BytesLike]) -> Tuple[List[Span], Hashes]:
+    """Returns the runs and known hashes of a JSON text. Raises `InvalidText` if it doesn't have the form.
+
+    >>> parts_of('{"runs":[],"known_hashes":[]}')
+    ([], <yurewha.Hashes of 0>)
+    """
+    value = _value_of(text)
+    runs = [_run_of(run, f"run {place}") for place, run in enumerate(_list_of(value, "runs"))]
+    hashes = [_hash_of(words, f"known hash {place}") for place, words in enumerate(_list_of(value, "known_hashes"))]
+    return runs, Hashes(hashes)
+
+
+def _value_of(text: Union[str, BytesLike]) -> object:
+    data = checked_text(text, "JSON") if isinstance(text, str) else own_bytes(text)
+    # The library says what is JSON. It also bounds how deeply values are nested, so that Python doesn't run out of stack.
+    try:
+        Subtree.from_json(data)
+    except InvalidJson:
+        pass
+    try:
+        return cast(object, json.loads(
+            data.decode("utf-8"), parse_int=_whole, parse_float=lambda _: _OTHER, object_pairs_hook=_members))
+    except ValueError as error:
+        raise error if isinstance(error, InvalidText) else InvalidText("the text isn't JSON") from None
+
+
+def _whole(digits: str) -> Union[int, float]:
+    number = int(digits) if len(digits) <= 20 and digits[0] != "-" else -1
+    return number if 0 <= number <= _MAX_U64 else _OTHER
+
+
+def _members(pairs: List[Tuple[str, object]]) -> Dict[str, object]:
+    members = dict(pairs)
+    if len(members) < len(pairs):
+        raise InvalidText("a member occurs twice in one object")
+    return members
+
+
+def _member(value: object, name: str, what: str) -> object:
+    if not isinstance(value, dict) or name not in value:
+        raise InvalidText(f"{what} isn't an object with the member `{name}`")
+    return value[name]
+
+
+def _list_of(value: object, name: str) -> List[object]:
+    member = _member(value, name, "the JSON of a session")
+    if not isinstance(member, list):
+        raise InvalidText(f"`{name}` isn't an array")
+    return member
+
+
+def _position(run: object, name: str, what: str) -> int:
+    number = _member(run, name, what)
+    if type(number) is not int:
+        raise InvalidText(f"`{name}` of {what} isn't a whole number from 0 to 2^64 - 1")
+    return number
+
+
+def _run_of(run: object, what: str) -> Span:
+    first, end = _position(run, "first", what), _position(run, "end", what)
+    return first, end, Subtree.from_json(json.dumps(_member(run, "chunks", what)))
+
+
+def _hash_of(words: object, what: str) -> bytes:
+    if not isinstance(words, list) or len(words) != 4 or any(type(word) is not int for word in words):
+        raise InvalidText(f"{what} isn't an array of four whole numbers from 0 to 2^64 - 1")
+    return _WORDS.pack(*words)
