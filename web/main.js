@@ -1,6 +1,6 @@
 // Loads the module and starts both tabs.
 
-import { load } from "./yurewha/index.js";
+import { load } from "../bindings/wasm/yurewha/index.js";
 import { Files } from "./files.js";
 import { Merging } from "./merging.js";
 

@@ -1,6 +1,6 @@
 // Hashes files, so that the page doesn't wait.
 
-import { load } from "./yurewha/index.js";
+import { load } from "../bindings/wasm/yurewha/index.js";
 import { chunksOfLines } from "./pairs.js";
 
 const MOST_PAIRS_BYTES = 256 * 1024 * 1024;

@@ -204,6 +204,16 @@ typedef struct yurewha_session {
 YUREWHA_NODISCARD YUREWHA_NONNULL(3)
 yurewha_status yurewha_version(char *text, size_t room, size_t *length);
 
+/* Returns the level of processors that the library runs for: "x86-64", "x86-64-v2", "x86-64-v3" or "aarch64". The text ends with
+ * a 0 byte, and lasts as long as the program.
+ *
+ * On x86-64, the library holds code for each of three levels, and chooses the highest that the processor and the system have. The
+ * choice is made once, before any call of the library does anything else. The environment variable YUREWHA_LEVEL may name a lower
+ * level, for tests. If this processor has no level of that name, the library says so on standard error, and chooses as it does
+ * without the variable. All levels give the same results. */
+YUREWHA_NODISCARD
+const char *yurewha_processor_level(void);
+
 /* ---- Hashes */
 
 /* Writes the hash of a chunk. `bytes` is its data. The hash is keyed BLAKE3 under the data key. Allocates nothing. */

@@ -56,7 +56,7 @@ class Server(http.server.SimpleHTTPRequestHandler):
 
 
 def served() -> http.server.ThreadingHTTPServer:
-    handler = functools.partial(Server, directory=str(ROOT / "web"))
+    handler = functools.partial(Server, directory=str(ROOT))
     server = http.server.ThreadingHTTPServer(("127.0.0.1", 0), handler)
     threading.Thread(target=server.serve_forever, daemon=True).start()
     return server
@@ -222,7 +222,7 @@ def main() -> None:
     photos = Path(sys.argv[1])
     photos.mkdir(parents=True, exist_ok=True)
     server = served()
-    url = f"http://127.0.0.1:{server.server_address[1]}/"
+    url = f"http://127.0.0.1:{server.server_address[1]}/web/"
     for kind in (Chromium, Firefox):
         whole(kind, url, 1200, False, photos)
         whole(kind, url, 360 if kind is Chromium else 500, True, photos)
