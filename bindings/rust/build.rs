@@ -19,7 +19,8 @@ fn main() {
         exit(1);
     });
     let mut build = cc::Build::new();
-    build.flag("-std=c11");
+    // Also where the crate is built for debugging: each call goes through this C.
+    build.opt_level(2).flag("-std=c11");
     for name in ["processor_level.c", "heap.c"] {
         build.file(native(name));
     }
@@ -46,10 +47,15 @@ fn levels() -> Result<Vec<String>, String> {
     let text = fs::read_to_string(Path::new(&list)).map_err(|error| format!("{list}: {error}"))?;
     let lines = text.lines().filter(|line| !line.starts_with('#'));
     let lines = lines.map(|line| line.split_whitespace().collect::<Vec<_>>());
-    let levels: Vec<_> = lines.filter(|words| words[1] == arch).map(|words| words[0].to_string()).collect();
+    let levels: Vec<_> = lines
+        .filter(|words| words[1] == arch)
+        .map(|words| words[0].to_string())
+        .collect();
     if levels.is_empty() || kind != ["linux", "64", "little"] {
         let target = env::var("TARGET").unwrap_or_default();
-        return Err(format!("the library is for Linux on x86_64 and aarch64, not for {target}"));
+        return Err(format!(
+            "the library is for Linux on x86_64 and aarch64, not for {target}"
+        ));
     }
     Ok(levels)
 }
