@@ -2,8 +2,8 @@
  * Yurewha computes the hashes by which the Hugging Face Xet store names chunks and files. It also merges the subtrees of
  * adjacent ranges of chunks without the chunks. The header is for C11 and C++17.
  *
- * Each call is proved to satisfy the contract of its export in crates/yurewha_c. The comments state these contracts in
- * words.
+ * Each call but yurewha_processor_level is proved to satisfy the contract of its export in crates/yurewha_c. The comments
+ * state these contracts in words.
  *
  * Rules for all calls
  *
