@@ -1,9 +1,10 @@
-// The package, which isn't part of these files.
+// The package, which is beside this folder in the repository.
 
 /** The package over an instance of its module. */
 export async function loaded() {
-    const { load } = await import("./yurewha/index.js").catch((cause) => {
-        throw new Error("the folder yurewha isn't here; run bindings/wasm/build, which copies the package to it", { cause });
+    const { load } = await import("../bindings/wasm/yurewha/index.js").catch((cause) => {
+        const said = "the package isn't in ../bindings/wasm/yurewha; serve the repository's top folder, and open /web/ there";
+        throw new Error(said, { cause });
     });
     try {
         return await load();

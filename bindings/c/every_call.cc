@@ -81,6 +81,7 @@ void hashes(Checks &check)
     std::array<char, 80> text{};
     std::size_t length = 0;
     check(yurewha_version(text.data(), text.size(), &length) == YUREWHA_DONE, "version");
+    check(yurewha_processor_level()[0] != 0, "processor_level");
     check(std::string(text.data(), length) == YUREWHA_VERSION, "its text");
     check(yurewha_hex(&drawn, text.data(), text.size(), &length) == YUREWHA_DONE, "hex");
     check(std::string(text.data(), length) == "cfc5d07f6f03c29bbf424132963fe08d19a37d5757aaf520bf08119f05cd56d6", "its text");

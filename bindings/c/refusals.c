@@ -444,6 +444,7 @@ static void hash_without_memory(struct world *w)
     EXPECT_STATUS(YUREWHA_DONE, yurewha_xorb_hash(w->chunks, 1, &w->room.hash));
     EXPECT_STATUS(YUREWHA_DONE, yurewha_file_hash(NULL, 0, &w->room.hash));
     EXPECT_STATUS(YUREWHA_DONE, yurewha_version(w->text, w->text_room, &w->room.count));
+    EXPECT(yurewha_processor_level()[0] != '\0');
 }
 
 static void read_without_memory(struct world *w)

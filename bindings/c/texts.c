@@ -124,9 +124,22 @@ static void version(void)
     EXPECT(length == 5 && strcmp(text, YUREWHA_VERSION) == 0);
 }
 
+/* The level is one of those that the header names, and stays. */
+static void level(void)
+{
+    static const char *const names[] = {"x86-64", "x86-64-v2", "x86-64-v3", "aarch64"};
+    const char *found = yurewha_processor_level();
+    size_t same = 0;
+    row("processor_level");
+    for (size_t i = 0; i < LENGTH(names); i++)
+        same += strcmp(found, names[i]) == 0;
+    EXPECT(same == 1 && found == yurewha_processor_level());
+}
+
 void test_texts(void)
 {
     version();
+    level();
     rules();
     spellings();
     other_spellings();

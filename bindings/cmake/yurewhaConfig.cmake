@@ -1,11 +1,13 @@
 # For find_package(yurewha). The targets are yurewha::shared and yurewha::static; yurewha::yurewha is the shared one, or the
-# static one where BUILD_SHARED_LIBS is set to a false value.
-set(yurewha_libdir "${CMAKE_CURRENT_LIST_DIR}/../..")
-set(yurewha_includedir "${CMAKE_CURRENT_LIST_DIR}/../../../include")
-# In Debian's layout the libraries lie one folder deeper.
-if(NOT EXISTS "${yurewha_includedir}/yurewha.h")
-  set(yurewha_includedir "${CMAKE_CURRENT_LIST_DIR}/../../../../include")
-endif()
+# static one where BUILD_SHARED_LIBS is set to a false value. All may be moved together. The header is in one of the usual places,
+# seen from the library, of which Debian's is one; else where it was installed.
+get_filename_component(yurewha_libdir "${CMAKE_CURRENT_LIST_DIR}/../.." ABSOLUTE)
+set(yurewha_includedir "@includedir@")
+foreach(yurewha_folder "${yurewha_libdir}/../../include" "${yurewha_libdir}/../include")
+  if(EXISTS "${yurewha_folder}/yurewha.h")
+    set(yurewha_includedir "${yurewha_folder}")
+  endif()
+endforeach()
 
 if(NOT TARGET yurewha::shared)
   add_library(yurewha::shared SHARED IMPORTED)

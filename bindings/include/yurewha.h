@@ -2,8 +2,8 @@
  * Yurewha computes the hashes by which the Hugging Face Xet store names chunks and files. It also merges the subtrees of
  * adjacent ranges of chunks without the chunks. The header is for C11 and C++17.
  *
- * Each call is proved to satisfy the contract of its export in crates/yurewha_c. The comments state these contracts in
- * words.
+ * Each call but yurewha_processor_level is proved to satisfy the contract of its export in crates/yurewha_c. The comments
+ * state these contracts in words.
  *
  * Rules for all calls
  *
@@ -203,6 +203,16 @@ typedef struct yurewha_session {
  *   ROOM  the version is longer than `room`; nothing is written to `text`, and `length` is the needed length */
 YUREWHA_NODISCARD YUREWHA_NONNULL(3)
 yurewha_status yurewha_version(char *text, size_t room, size_t *length);
+
+/* Returns the level of processors that the library runs for: "x86-64", "x86-64-v2", "x86-64-v3" or "aarch64". The text ends with
+ * a 0 byte, and lasts as long as the program.
+ *
+ * On x86-64, the library holds code for each of three levels, and chooses the highest that the processor and the system have. The
+ * choice is made once, before any call of the library does anything else. The environment variable YUREWHA_LEVEL may name a lower
+ * level, for tests. If this processor has no level of that name, the library says so on standard error, and chooses as it does
+ * without the variable. All levels give the same results. */
+YUREWHA_NODISCARD
+const char *yurewha_processor_level(void);
 
 /* ---- Hashes */
 

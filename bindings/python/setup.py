@@ -1,75 +1,73 @@
-"""What pyproject.toml can't say: the shared libraries go into the wheel, and its name says for which processor they are.
+"""What pyproject.toml can't say: the shared library is compiled from the assembly in native/, and goes into the wheel, whose name
+says which processor and C library it is for.
 
-The libraries are those of the folder YUREWHA_LIB_DIR, else those that bindings/build made.
+With YUREWHA_LIBRARY=system there is no library in the wheel: the package then loads the system's.
 """
 
 from __future__ import annotations
 
 import os
-import platform
 import re
-import shutil
 import tempfile
 from pathlib import Path
 
-from setuptools import Distribution, setup
-from setuptools.command.build_py import build_py
+from setuptools import Extension, setup
+from setuptools.command.build_ext import build_ext
 from wheel.bdist_wheel import bdist_wheel
 
+NATIVE = Path("native")
 NAME = "libyurewha.so.1"
-FOLDER = Path(os.environ.get("YUREWHA_LIB_DIR") or f"../out/{platform.machine()}/lib")
+#: The oldest glibc that a manylinux wheel may ask for.
 GLIBC = (2, 17)
-# The processors by their numbers in ELF.
-PROCESSORS = {62: "x86_64", 183: "aarch64"}
 
 
-def libraries() -> list[Path]:
-    """The libraries, below their folder: the one for every processor, and those for higher levels."""
-    found = [Path(NAME), *sorted(path.relative_to(FOLDER) for path in FOLDER.glob(f"glibc-hwcaps/*/{NAME}"))]
-    if not (FOLDER / NAME).exists():
-        raise SystemExit(f"yurewha: there is no {FOLDER / NAME}; bindings/build makes it")
-    return found
+def sources(processor: str) -> list[str]:
+    """The files that make the library for a processor, which are listed in targets.txt."""
+    lines = [line.split() for line in (NATIVE / "targets.txt").read_text(encoding="utf-8").splitlines()]
+    levels = [words[0] for words in lines if words[0] != "#" and words[1] == processor]
+    if not levels:
+        raise SystemExit(f"yurewha: there is no library for {processor}: it is for Linux on x86_64 and aarch64")
+    return [str(NATIVE / name) for name in ("processor_level.c", "heap.c", *(f"{level}.s" for level in levels))]
 
 
-def processor_of(path: Path) -> str:
-    """The processor that a library is for, which needs no later glibc than the wheel's name says."""
-    data = path.read_bytes()
-    processor = PROCESSORS.get(int.from_bytes(data[18:20], "little")) if data[:6] == b"\x7fELF\x02\x01" else None
-    if processor is None:
-        raise SystemExit(f"yurewha: {path} isn't a library for {' or '.join(PROCESSORS.values())}")
-    for major, minor in re.findall(rb"GLIBC_(\d+)\.(\d+)", data):
-        if (int(major), int(minor)) > GLIBC:
-            raise SystemExit(f"yurewha: {path} needs glibc {int(major)}.{int(minor)}, which is later than 2.17")
-    return processor
+class BuildLibrary(build_ext):
+    """Builds a shared library that isn't a module, from C and assembly."""
 
+    def get_ext_filename(self, name: str) -> str:
+        return str(Path(*name.split(".")[:-1], NAME))
 
-class BuildWithLibraries(build_py):
-    """Puts the libraries into the package, in the folders that they have."""
-
-    def run(self) -> None:
-        super().run()
-        for path in libraries():
-            place = Path(self.build_lib) / "yurewha" / "lib" / path
-            place.parent.mkdir(parents=True, exist_ok=True)
-            shutil.copy(FOLDER / path, place)
+    def build_extension(self, extension: Extension) -> None:
+        system, _, processor = self.plat_name.partition("-")
+        extension.sources = sources(processor if system == "linux" else self.plat_name)
+        self.compiler.src_extensions.append(".s")
+        super().build_extension(extension)
 
 
 class WheelForProcessor(bdist_wheel):
-    """A wheel for any Python 3 on the processor of the libraries."""
+    """A wheel for any Python 3 on the processor of its library."""
 
     def get_tag(self) -> tuple[str, str, str]:
-        (processor,) = {processor_of(FOLDER / path) for path in libraries()}
-        return "py3", "none", f"manylinux_{GLIBC[0]}_{GLIBC[1]}_{processor}"
+        _, _, platform = super().get_tag()
+        if self.root_is_pure:
+            return "py3", "none", "any"
+        library = Path(self.bdist_dir, "yurewha", "lib", NAME).read_bytes()
+        versions = [(int(major), int(minor)) for major, minor in re.findall(rb"GLIBC_(\d+)\.(\d+)", library)]
+        if versions and max(versions) <= GLIBC:
+            platform = platform.replace("linux_", f"manylinux_{GLIBC[0]}_{GLIBC[1]}_")
+        return "py3", "none", platform
 
 
-class WithLibraries(Distribution):
-    """A distribution that differs from processor to processor."""
-
-    def has_ext_modules(self) -> bool:
-        return True
-
-
-COMMANDS = {"build_py": BuildWithLibraries, "bdist_wheel": WheelForProcessor}
+LIBRARY = Extension(
+    "yurewha.lib.libyurewha",
+    sources=["native/processor_level.c"],
+    depends=[str(path) for path in sorted(NATIVE.glob("*.[chs]"))],
+    extra_compile_args=["-std=c11", "-g0"],
+    extra_link_args=[f"-Wl,-soname,{NAME}", "-Wl,-z,defs", "-Wl,-z,text", "-Wl,-z,relro", "-Wl,-z,now"],
+)
 # Nothing stays in this folder, where a later build would take it.
 with tempfile.TemporaryDirectory() as work:
-    setup(distclass=WithLibraries, cmdclass=COMMANDS, options={"build": {"build_base": work}, "egg_info": {"egg_base": work}})
+    setup(
+        ext_modules=[] if os.environ.get("YUREWHA_LIBRARY") == "system" else [LIBRARY],
+        cmdclass={"build_ext": BuildLibrary, "bdist_wheel": WheelForProcessor},
+        options={"build": {"build_base": work}, "egg_info": {"egg_base": work}},
+    )

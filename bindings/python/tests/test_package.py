@@ -16,7 +16,7 @@ from pathlib import Path
 import pytest
 
 import yurewha as y
-from yurewha import _declarations, _library, _processor
+from yurewha import _declarations, _library
 
 PACKAGE = Path(y.__file__).resolve().parent
 REPOSITORY = Path(__file__).resolve().parents[3]
@@ -58,9 +58,9 @@ def test_public_names_are_those_of_the_package():
 def header():
     text = re.sub(r"/\*.*?\*/", " ", HEADER.read_text(encoding="utf-8"), flags=re.S)
     calls = {}
-    for answer, name, arguments in re.findall(r"^(\w+) (yurewha_\w+)\(([^)]*)\);", text, flags=re.M):
+    for answer, name, arguments in re.findall(r"^(\w+|const char \*) ?(yurewha_\w+)\(([^)]*)\);", text, flags=re.M):
         types = []
-        for argument in arguments.split(","):
+        for argument in arguments.split(",") if arguments != "void" else ():
             kind = re.sub(r"\w+$", "", argument.strip()).strip()
             types.append(re.sub(r"\s*\*", " *", kind))
         calls[name] = (answer, tuple(types))
@@ -145,15 +145,9 @@ def test_where_the_library_is_found(tmp_path):
     own.mkdir()
     shutil.copy(built, own / _library.NAME)
     assert found({**place, "YUREWHA_LIB_DIR": str(loader)}, tmp_path) == str(own / _library.NAME)
-    for folder in (own, loader, out):
-        for level in ("x86-64-v2", "x86-64-v3", "x86-64-v9"):
-            (folder / "glibc-hwcaps" / level).mkdir(parents=True)
-            shutil.copy(built, folder / "glibc-hwcaps" / level / _library.NAME)
-    best = Path("glibc-hwcaps", _processor.level()) if _processor.levels() else Path()
-    assert found(place, tmp_path) == str(own / best / _library.NAME)
-    shutil.rmtree(own)
-    assert found({**place, "YUREWHA_LIB_DIR": str(loader)}, tmp_path) == str(loader / best / _library.NAME)
-    assert found(place, tmp_path) == str(out / best / _library.NAME)
+
+
+LEVELS = {"x86_64": ("x86-64", "x86-64-v2", "x86-64-v3"), "aarch64": ("aarch64",)}
 
 
 def installed(folder):
@@ -165,26 +159,9 @@ def installed(folder):
 
 def test_what_is_installed():
     told = installed(LIBRARY)
-    folder = Path(_library.PATH).parent.name
-    level = folder if folder.startswith("x86-64-") else os.uname().machine
-    assert told[:4] == [
-        f"yurewha {y.__version__}", f"library: {_library.PATH}, version {y.__version__}", f"level: {level}",
-        f"processor: {_processor.level()}"]
-    assert _processor.level() in ("x86-64-v2", "x86-64-v3", os.uname().machine) and len(told) == 4 + (level != _processor.level())
-
-
-@pytest.mark.skipif(not _processor.levels(), reason="there are no faster libraries for this processor")
-def test_a_faster_library_is_missing(tmp_path):
-    highest = _processor.level()
-    for levels, missing in ([], True), (["x86-64-v9"], True), ([highest], False):
-        folder = tmp_path / f"lib{len(levels)}{missing}"
-        for place in (folder, *(folder / "glibc-hwcaps" / level for level in levels)):
-            place.mkdir(parents=True, exist_ok=True)
-            shutil.copy(Path(_library.PATH).resolve(), place / _library.NAME)
-        told = installed(folder)
-        expected = [f"The library for {highest} is missing. It would be faster on this processor."]
-        assert told[4:] == (expected if missing else []), levels
-        assert told[2] == (f"level: {os.uname().machine}" if missing else f"level: {highest}")
+    assert told == [
+        f"yurewha {y.__version__}", f"library: {_library.PATH}, version {y.__version__}", f"level: {_library.LEVEL}"]
+    assert _library.LEVEL in LEVELS.get(os.uname().machine, ())
 
 
 @pytest.mark.skipif(not Path("/proc/self/maps").exists(), reason="it needs /proc")
@@ -208,44 +185,35 @@ def test_a_library_without_a_call(tmp_path):
     copy = tmp_path / "elsewhere" / "yurewha"
     shutil.copytree(PACKAGE, copy, ignore=shutil.ignore_patterns("lib", "__pycache__"))
     told = found({"PYTHONPATH": str(copy.parent), "YUREWHA_LIB_DIR": str(tmp_path)}, tmp_path)
-    assert told == f"ImportError: yurewha: {tmp_path / _library.NAME} has no yurewha_data_hashes"
+    assert told == f"ImportError: yurewha: {tmp_path / _library.NAME} has no yurewha_processor_level"
 
 
 ON_X86_64 = pytest.mark.skipif(os.uname().machine != "x86_64", reason="it is about x86-64")
-FLAGS_OF_V2 = "cx16 lahf_lm pni popcnt sse4_1 sse4_2 ssse3"
-FLAGS_OF_V3 = "abm avx avx2 bmi1 bmi2 f16c fma movbe xsave"
+STATEMENT = "import yurewha, yurewha._library as l; print(yurewha.data_hash(b'abc').hex()[:16], l.LEVEL)"
+
+
+def on(level, *emulator):
+    """What the statement prints and what is said on standard error, where YUREWHA_LEVEL is set."""
+    done = subprocess.run(
+        [*emulator, sys.executable, "-c", STATEMENT], cwd="/", capture_output=True, text=True, check=True,
+        env={**os.environ, "PYTHONPATH": str(PACKAGE.parent), "YUREWHA_LIB_DIR": LIBRARY, "YUREWHA_LEVEL": level})
+    return done.stdout.split(), [line for line in done.stderr.splitlines() if line.startswith("yurewha: ")]
 
 
 @ON_X86_64
-def test_the_levels_of_a_processor(monkeypatch):
-    def levels_of(flags):
-        monkeypatch.setattr(_processor, "_flags_of_the_kernel", lambda: frozenset(flags.split()))
-        return _processor.levels()
-
-    monkeypatch.setattr(_processor, "_flags_of_glibc", lambda: None)
-    assert levels_of(f"fpu sse2 {FLAGS_OF_V2} {FLAGS_OF_V3}") == ["x86-64-v3", "x86-64-v2"]
-    for flag in FLAGS_OF_V3.split():
-        assert levels_of(f"{FLAGS_OF_V2} {FLAGS_OF_V3}".replace(flag, "")) == ["x86-64-v2"], flag
-    for flag in FLAGS_OF_V2.split():
-        assert levels_of(f"{FLAGS_OF_V2} {FLAGS_OF_V3}".replace(flag, "")) == [], flag
-    monkeypatch.setattr(_processor, "_flags_of_the_kernel", lambda: None)
-    assert _processor.flags() is None and _processor.levels() == [] and _processor.level() == "x86_64"
+def test_a_lower_level_can_be_forced():
+    assert on("x86-64") == (["a8803506f7aff014", "x86-64"], [])
+    (hashed, level), (said,) = on("x86-64-v9")
+    assert (hashed, level) == ("a8803506f7aff014", _library.LEVEL)
+    assert said == f'yurewha: YUREWHA_LEVEL is "x86-64-v9", which is no level of this processor, so {level} is used'
 
 
 @ON_X86_64
 @pytest.mark.skipif(not shutil.which("qemu-x86_64"), reason="there is no qemu-x86_64")
-@pytest.mark.parametrize("processor, levels", [
-    ("qemu64", []), ("Nehalem", ["x86-64-v2"]), ("Haswell", ["x86-64-v3", "x86-64-v2"])])
-def test_emulated_processors(processor, levels):
-    """On each the package takes the highest library that runs there."""
-    statement = "import yurewha, yurewha._library as l; print(yurewha.data_hash(b'abc').hex()[:16], l.PATH, *l.levels())"
-    done = subprocess.run(
-        ["qemu-x86_64", "-cpu", processor, sys.executable, "-c", statement], cwd="/", capture_output=True, text=True,
-        env={**os.environ, "PYTHONPATH": str(PACKAGE.parent), "YUREWHA_LIB_DIR": LIBRARY}, check=True)
-    hashed, path, *found = done.stdout.split()
-    assert (hashed, found) == ("a8803506f7aff014", levels)
-    places = [*(Path(LIBRARY, "glibc-hwcaps", level) for level in levels), Path(LIBRARY)]
-    assert path == next(str(it / _library.NAME) for it in places if (it / _library.NAME).exists())
+@pytest.mark.parametrize("processor, level", [("qemu64", "x86-64"), ("Nehalem", "x86-64-v2"), ("Haswell", "x86-64-v3")])
+def test_emulated_processors(processor, level):
+    """On each the library runs the highest level that the processor has."""
+    assert on("", "qemu-x86_64", "-cpu", processor) == (["a8803506f7aff014", level], [])
 
 
 def test_the_example_of_the_readme():

@@ -5,7 +5,7 @@ from pathlib import Path
 
 import pytest
 
-y = pytest.importorskip("yurewha", reason="there is no libyurewha: run bindings/build, or set YUREWHA_LIB_DIR")
+y = pytest.importorskip("yurewha", reason="there is no libyurewha: run make -C bindings, or set YUREWHA_LIB_DIR")
 
 FOLDER = Path(__file__).resolve().parents[3] / "vectors"
 FILES = ("hashes", "texts", "roots", "subtrees", "merges", "subtree_json", "sessions", "upstream")

@@ -1,8 +1,6 @@
-"""`python -m yurewha` prints what is installed and which processor it runs on."""
+"""`python -m yurewha` prints what is installed, and the level of processors whose code runs."""
 
 import ctypes
-import platform
-from pathlib import Path
 from typing import List
 
 from . import __version__
@@ -35,28 +33,13 @@ def version() -> str:
     return text.raw[:length.value].decode("ascii")
 
 
-def level_of(path: str) -> str:
-    """The level that the library at a path is made for: the name of its folder, if that is one of glibc's for levels.
-
-    >>> level_of("/lib/glibc-hwcaps/level/libyurewha.so.1")
-    'level'
-    """
-    folder = Path(path).parent
-    return folder.name if folder.parent.name == "glibc-hwcaps" else platform.machine()
-
-
 def report() -> List[str]:
     """The lines that `python -m yurewha` prints.
 
     >>> report()[0] == f"yurewha {__version__}"
     True
     """
-    path = loaded()
-    level = level_of(path)
-    lines = [f"yurewha {__version__}", f"library: {path}, version {version()}", f"level: {level}", f"processor: {LEVEL}"]
-    if level != LEVEL:
-        lines.append(f"The library for {LEVEL} is missing. It would be faster on this processor.")
-    return lines
+    return [f"yurewha {__version__}", f"library: {loaded()}, version {version()}", f"level: {LEVEL}"]
 
 
 if __name__ == "__main__":

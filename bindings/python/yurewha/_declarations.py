@@ -14,6 +14,7 @@ Declaration = Tuple[str, Tuple[str, ...]]
 DECLARATIONS: Dict[str, Declaration] = {
     # Hashes
     "yurewha_version": ("yurewha_status", ("char *", "size_t", "size_t *")),
+    "yurewha_processor_level": ("const char *", ()),
     "yurewha_data_hashes": (
         "yurewha_status", ("const uint8_t *", "size_t", "const size_t *", "size_t", "yurewha_hash *", "size_t")),
     "yurewha_data_hash": ("void", ("const uint8_t *", "size_t", "yurewha_hash *")),

@@ -16,12 +16,8 @@ from typing import Any, Dict, Optional
 
 from ._calls import named
 from ._declarations import DECLARATIONS, STRUCTS
-from ._processor import level, levels
 
 NAME = "libyurewha.so.1"
-
-#: The level of this processor.
-LEVEL: str = level()
 
 #: A call releases the interpreter's lock if its message has at least this many bytes, or its list this many chunks or nodes.
 #: Shorter calls take less time than passing the lock between threads.
@@ -95,16 +91,6 @@ _TYPES: Dict[str, Any] = {
 }
 
 
-def best_of(folder: Path) -> Optional[Path]:
-    """Returns the library of a folder for the highest level of this processor, or None.
-
-    >>> best_of(Path("/nowhere")) is None
-    True
-    """
-    places = [*(folder / "glibc-hwcaps" / name for name in levels()), folder]
-    return next((place / NAME for place in places if (place / NAME).exists()), None)
-
-
 def find(package: Optional[Path] = None) -> str:
     """Returns the path of the library, or its bare name if the system's loader must find it.
 
@@ -112,18 +98,18 @@ def find(package: Optional[Path] = None) -> str:
     True
     """
     package = Path(__file__).resolve().parent if package is None else package
-    own = best_of(package / "lib")
-    if own:
+    own = package / "lib" / NAME
+    if own.exists():
         return str(own)
     folder = os.environ.get("YUREWHA_LIB_DIR")
     if folder:
-        named = best_of(Path(folder).resolve())
-        if not named:
+        named = Path(folder).resolve() / NAME
+        if not named.exists():
             raise ImportError(f"yurewha: YUREWHA_LIB_DIR is {folder}, which has no {NAME}")
         return str(named)
     if package.parent.name == "python" and package.parent.parent.name == "bindings":
-        built = best_of(package.parent.parent / "out" / platform.machine() / "lib")
-        if built:
+        built = package.parent.parent / "out" / platform.machine() / "lib" / NAME
+        if built.exists():
             return str(built)
     return NAME
 
@@ -166,6 +152,9 @@ _short = ctypes.PyDLL(PATH, handle=_long._handle)
 
 long = _declare(_long, PATH)
 short = _declare(_short, PATH)
+
+#: The level of processors that the library has chosen for this one, such as "x86-64-v3".
+LEVEL: str = short.yurewha_processor_level().decode("ascii")
 
 
 def calls_for(count: int, bound: int) -> SimpleNamespace:

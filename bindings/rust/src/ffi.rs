@@ -103,6 +103,7 @@ const _: () = {
 
 extern "C" {
     pub fn yurewha_version(text: *mut c_char, room: usize, length: *mut usize) -> yurewha_status;
+    pub fn yurewha_processor_level() -> *const c_char;
     pub fn yurewha_data_hashes(
         bytes: *const u8,
         length: usize,

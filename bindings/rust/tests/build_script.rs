@@ -1,4 +1,4 @@
-//! The build script: which library it takes for a target, and what it says where there is none.
+//! The build script: which files it compiles for a target, and what it says where there are none.
 
 use std::env::consts::EXE_SUFFIX;
 use std::fs;
@@ -6,8 +6,28 @@ use std::path::{Path, PathBuf};
 use std::process::{Command, Output};
 use std::sync::OnceLock;
 
-const X86_64: u16 = 62;
-const AARCH64: u16 = 183;
+// In the place of the crate `cc`: prints what it should compile.
+const CC: &str = r#"
+    pub struct Build;
+    impl Build {
+        pub fn new() -> Self {
+            Build
+        }
+        pub fn flag(&mut self, _: &str) -> &mut Self {
+            self
+        }
+        pub fn opt_level(&mut self, _: u32) -> &mut Self {
+            self
+        }
+        pub fn file(&mut self, path: String) -> &mut Self {
+            println!("file {path}");
+            self
+        }
+        pub fn compile(&self, name: &str) {
+            println!("compile {name}");
+        }
+    }
+"#;
 
 // An empty folder for files of one test.
 fn folder(name: &str) -> PathBuf {
@@ -17,102 +37,87 @@ fn folder(name: &str) -> PathBuf {
     folder
 }
 
+fn rustc(args: &[&str], source: &Path, made: &Path) {
+    let mut rustc = Command::new("rustc");
+    rustc
+        .args(["--edition=2021"])
+        .args(args)
+        .arg("-o")
+        .arg(made)
+        .arg(source);
+    assert!(rustc.status().unwrap().success());
+}
+
 // The build script as a program.
 fn script() -> &'static Path {
     static SCRIPT: OnceLock<PathBuf> = OnceLock::new();
     SCRIPT.get_or_init(|| {
-        let program = folder("build_script").join(format!("build_script{EXE_SUFFIX}"));
-        let source = concat!(env!("CARGO_MANIFEST_DIR"), "/build.rs");
-        let mut rustc = Command::new("rustc");
-        rustc.args(["--edition=2021", "-o"]).arg(&program).arg(source);
-        assert!(rustc.status().unwrap().success());
+        let folder = folder("build_script");
+        let (source, library) = (folder.join("cc.rs"), folder.join("libcc.rlib"));
+        fs::write(&source, CC).unwrap();
+        rustc(&["--crate-type=lib", "--crate-name=cc"], &source, &library);
+        let program = folder.join(format!("build_script{EXE_SUFFIX}"));
+        let extern_cc = format!("cc={}", library.display());
+        let build = Path::new(env!("CARGO_MANIFEST_DIR")).join("build.rs");
+        rustc(&["--extern", &extern_cc], &build, &program);
         program
     })
 }
 
-// Writes a library whose first object is for a processor.
-fn write_library(dir: &Path, file: &str, machine: u16) {
-    fs::create_dir_all(dir).unwrap();
-    let mut object = [&b"\x7fELF"[..], &[2, 1, 1], &[0; 11]].concat();
-    object.extend(machine.to_le_bytes());
-    fs::write(dir.join(file), [b"!<arch>\n", &object[..]].concat()).unwrap();
-}
-
-// What the script says for a target, in a folder that has no library beside it.
+// What the script says for a target.
 fn run(target: &str, variables: &[(&str, &str)]) -> Output {
     let parts: Vec<_> = target.split('-').collect();
-    let (os, env) = match parts[..] {
-        [_, _, "linux", env] => ("linux", env),
-        [_, _, "windows", env] => ("windows", env),
-        _ => ("macos", ""),
+    let os = match parts[..] {
+        [_, _, os @ ("linux" | "windows"), _] => os,
+        _ => "macos",
     };
+    let width = if target.contains("32") { "32" } else { "64" };
+    let endian = if target.contains("_be") { "big" } else { "little" };
     let mut script = Command::new(script());
     script
+        .current_dir(env!("CARGO_MANIFEST_DIR"))
         .env_clear()
-        .env("PATH", "/nowhere")
-        .env("CARGO_MANIFEST_DIR", "/nowhere/rust")
-        .env("HOST", "x86_64-unknown-linux-gnu")
         .env("TARGET", target)
         .env("CARGO_CFG_TARGET_ARCH", parts[0].replace("_be", ""))
         .env("CARGO_CFG_TARGET_OS", os)
-        .env("CARGO_CFG_TARGET_ENV", env.replace("x32", "").replace("_ilp32", ""))
-        .env(
-            "CARGO_CFG_TARGET_POINTER_WIDTH",
-            if env.contains("32") { "32" } else { "64" },
-        )
-        .env(
-            "CARGO_CFG_TARGET_ENDIAN",
-            if parts[0].contains("_be") { "big" } else { "little" },
-        )
+        .env("CARGO_CFG_TARGET_POINTER_WIDTH", width)
+        .env("CARGO_CFG_TARGET_ENDIAN", endian)
         .envs(variables.iter().copied());
     script.output().unwrap()
 }
 
-fn printed(output: &Output) -> String {
-    String::from_utf8(output.stdout.clone()).unwrap()
-}
-
-// That the script ends with an error that has these words.
-fn assert_refused(output: &Output, words: &str) {
-    let said = String::from_utf8(output.stderr.clone()).unwrap();
-    assert!(!output.status.success() && said.contains(words), "{said}");
-    assert!(!printed(output).contains("rustc-link"), "{}", printed(output));
-}
-
-// That the script links the library of a folder.
-fn assert_links(output: &Output, dir: &Path, kind: &str) {
-    let lines = printed(output);
-    assert!(output.status.success(), "{output:?}");
-    assert!(
-        lines.contains(&format!("cargo:rustc-link-search=native={}\n", dir.display())),
-        "{lines}"
-    );
-    assert!(
-        lines.contains(&format!("cargo:rustc-link-lib={kind}=yurewha\n")),
-        "{lines}"
-    );
+// The files that the script compiles, in order, if it compiles any.
+fn compiled(output: &Output) -> Vec<String> {
+    let printed = String::from_utf8(output.stdout.clone()).unwrap();
+    let files = printed.lines().filter_map(|line| line.strip_prefix("file native/"));
+    let files: Vec<_> = files.map(str::to_owned).collect();
+    assert_eq!(printed.contains("compile yurewha\n"), !files.is_empty());
+    for file in &files {
+        assert!(printed.contains(&format!("cargo:rerun-if-changed=native/{file}\n")));
+    }
+    files
 }
 
 #[test]
-fn each_target_gets_the_library_for_its_processor_or_an_error() {
-    let processors = folder("processors");
-    let [x86_64, aarch64] = [("x86_64", X86_64), ("aarch64", AARCH64)].map(|(name, machine)| {
-        let dir = processors.join(name);
-        write_library(&dir, "libyurewha.a", machine);
-        dir
-    });
-    let named = |target: &str, dir: &Path| run(target, &[("YUREWHA_LIB_DIR", dir.to_str().unwrap())]);
-    assert_links(&named("x86_64-unknown-linux-gnu", &x86_64), &x86_64, "static");
-    assert_links(&named("aarch64-unknown-linux-gnu", &aarch64), &aarch64, "static");
-    for (target, dir) in [
-        ("aarch64-unknown-linux-gnu", &x86_64),
-        ("x86_64-unknown-linux-gnu", &aarch64),
+fn all_levels_of_the_targets_processor_are_compiled() {
+    let unproved = ["processor_level.c", "heap.c"];
+    let x86_64 = [&unproved[..], &["x86-64.s", "x86-64-v2.s", "x86-64-v3.s"]].concat();
+    let aarch64 = [&unproved[..], &["aarch64.s"]].concat();
+    for (target, files) in [
+        ("x86_64-unknown-linux-gnu", &x86_64),
+        ("x86_64-unknown-linux-musl", &x86_64),
+        ("aarch64-unknown-linux-gnu", &aarch64),
+        ("aarch64-unknown-linux-musl", &aarch64),
     ] {
-        assert_refused(&named(target, dir), &format!("isn't for {target}"));
+        let output = run(target, &[]);
+        assert!(output.status.success(), "{output:?}");
+        assert_eq!(&compiled(&output), files, "{target}");
     }
+}
+
+#[test]
+fn a_target_without_assembly_is_refused() {
     for target in [
-        "x86_64-unknown-linux-musl",
-        "aarch64-unknown-linux-musl",
         "x86_64-unknown-linux-gnux32",
         "aarch64-unknown-linux-gnu_ilp32",
         "aarch64_be-unknown-linux-gnu",
@@ -122,57 +127,16 @@ fn each_target_gets_the_library_for_its_processor_or_an_error() {
         "x86_64-apple-darwin",
         "aarch64-apple-darwin",
     ] {
-        assert_refused(&named(target, &x86_64), &format!("not for {target}"));
+        let output = run(target, &[]);
+        let said = String::from_utf8(output.stderr.clone()).unwrap();
+        let wanted = format!("yurewha: the library is for Linux on x86_64 and aarch64, not for {target}\n");
+        assert!(!output.status.success() && compiled(&output).is_empty(), "{target}");
+        assert_eq!(said, wanted);
     }
-}
-
-#[test]
-fn what_is_no_library_is_refused() {
-    let dir = folder("no_library");
-    fs::write(dir.join("libyurewha.a"), "!<arch>\n").unwrap();
-    let variables = [("YUREWHA_LIB_DIR", dir.to_str().unwrap())];
-    assert_refused(
-        &run("x86_64-unknown-linux-gnu", &variables),
-        "libyurewha.a isn't for x86_64-unknown-linux-gnu",
-    );
-    assert_refused(
-        &run("x86_64-unknown-linux-gnu", &[variables[0], ("YUREWHA_LINK", "dynamic")]),
-        "isn't the absolute path of a folder with libyurewha.so",
-    );
-    assert_refused(
-        &run("x86_64-unknown-linux-gnu", &[("YUREWHA_LINK", "both")]),
-        "`static` or `dynamic`, not `both`",
-    );
-    assert_refused(
-        &run("aarch64-unknown-linux-gnu", &[]),
-        "no libyurewha.a for aarch64-unknown-linux-gnu",
-    );
-}
-
-#[test]
-fn the_highest_level_that_the_target_has_is_linked() {
-    const V2: &str = "cmpxchg16b,fxsr,popcnt,sse,sse2,sse3,sse4.1,sse4.2,ssse3";
-    const V3: &str = "avx,avx2,bmi1,bmi2,cmpxchg16b,f16c,fma,fxsr,lzcnt,movbe,popcnt,sse,sse2,sse3,sse4.1,sse4.2,ssse3";
-    let dir = folder("levels");
-    let linked = |features: &str| {
-        let named = ("YUREWHA_LIB_DIR", dir.to_str().unwrap());
-        run(
-            "x86_64-unknown-linux-gnu",
-            &[named, ("CARGO_CFG_TARGET_FEATURE", features)],
-        )
-    };
-    let of_level = |level: &str| dir.join("glibc-hwcaps").join(level);
-    write_library(&dir, "libyurewha.a", X86_64);
-    assert_links(&linked(V3), &dir, "static");
-    write_library(&of_level("x86-64-v3"), "libyurewha.a", X86_64);
-    write_library(&of_level("x86-64-v2"), "libyurewha.a", X86_64);
-    assert_links(&linked("fxsr,sse,sse2"), &dir, "static");
-    assert_links(&linked(V2), &of_level("x86-64-v2"), "static");
-    assert_links(&linked(V3), &of_level("x86-64-v3"), "static");
 }
 
 #[test]
 fn pages_need_no_library() {
     let output = run("x86_64-unknown-linux-gnu", &[("DOCS_RS", "1")]);
-    assert!(output.status.success() && !printed(&output).contains("rustc-link"));
+    assert!(output.status.success() && compiled(&output).is_empty());
 }

@@ -222,12 +222,12 @@ def whole(kind: Callable[[int, bool], Browser], url: str, width: int, dark: bool
 def without_the_package(kind: Callable[[int, bool], Browser], photos: Path) -> None:
     """Both tabs say what is missing, and what to do."""
     browser = kind(1200, False)
-    said = "The folder yurewha isn't here; run bindings/wasm/build, which copies the package to it."
+    said = "The package isn't in ../bindings/wasm/yurewha; serve the repository's top folder, and open /web/ there."
     try:
         with tempfile.TemporaryDirectory() as folder:
             web = Path(folder, "web")
-            shutil.copytree(ROOT / "web", web, ignore=shutil.ignore_patterns("yurewha"))
-            browser.open(address_of(served(web)))
+            shutil.copytree(ROOT / "web", web)
+            browser.open(address_of(served(Path(folder))))
             wait(browser, "'ready' in document.documentElement.dataset")
             same([text(browser, "error"), browser.run("return document.getElementById('error').hidden")], [said, False])
             browser.screenshot(photos / f"{kind.__name__.lower()}-without-the-package.png")
@@ -243,13 +243,13 @@ def without_the_package(kind: Callable[[int, bool], Browser], photos: Path) -> N
 
 
 def address_of(server: http.server.ThreadingHTTPServer) -> str:
-    return f"http://127.0.0.1:{server.server_address[1]}/"
+    return f"http://127.0.0.1:{server.server_address[1]}/web/"
 
 
 def main() -> None:
     photos = Path(sys.argv[1])
     photos.mkdir(parents=True, exist_ok=True)
-    url = address_of(served(ROOT / "web"))
+    url = address_of(served(ROOT))
     for kind in (Chromium, Firefox):
         whole(kind, url, 1200, False, photos)
         whole(kind, url, 360 if kind is Chromium else 500, True, photos)

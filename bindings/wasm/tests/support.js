@@ -1,17 +1,19 @@
-// The modules that `build` made, and instances of them.
+// The modules that `dist/make` made, and instances of them.
 
-import { readFileSync } from "node:fs";
+import { existsSync, readFileSync } from "node:fs";
 import { load } from "../yurewha/index.js";
 import { instanceOver } from "../yurewha/instance.js";
 import { Library } from "../yurewha/library.js";
 
 export const ROOT = new URL("../../../", import.meta.url);
-const bytesOf = (path) => readFileSync(new URL(path, ROOT));
-export const BYTES = {
-    wasm32: bytesOf("bindings/wasm/yurewha/yurewha.wasm"),
-    "wasm32 without SIMD": bytesOf("bindings/out/wasm/yurewha_plain.wasm"),
-    wasm64: bytesOf("bindings/out/wasm/yurewha64.wasm"),
+const PATHS = {
+    wasm32: "bindings/wasm/yurewha/yurewha.wasm",
+    "wasm32 without SIMD": "bindings/out/wasm/yurewha_plain.wasm",
+    wasm64: "bindings/out/wasm/yurewha64.wasm",
 };
+const urls = Object.entries(PATHS).map(([name, path]) => [name, new URL(path, ROOT)]);
+/** The bytes of those that are there. */
+export const BYTES = Object.fromEntries(urls.filter(([, url]) => existsSync(url)).map(([name, url]) => [name, readFileSync(url)]));
 export const loadAll = () => Promise.all(Object.entries(BYTES).map(async ([name, bytes]) => [name, await load(bytes)]));
 
 /** A library whose exports pass through `wrap`, and the package over it. */

@@ -1,0 +1,96 @@
+"""Assembly of the proved library, from the LLVM module that the toolchain makes of it."""
+
+from __future__ import annotations
+
+import re
+import tempfile
+from pathlib import Path
+
+from levels import Level, version
+from proving import Fault, run, tool
+
+HEAD = """\
+/* Yurewha {version} for {level}: the proved library, as the toolchain compiles it. Made by dist/make, not by hand.
+   The sum of its sources: {sources} */
+"""
+#: A section that says, on x86-64, that indirect calls and jumps arrive at `endbr64` alone.
+BRANCH_NOTE = """\
+	.section	.note.gnu.property,"a",@note
+	.p2align	3, 0x0
+	.long	4, 16, 5
+	.asciz	"GNU"
+	.long	0xc0000002, 4, 1
+	.p2align	3, 0x0
+"""
+#: A function of the heap, which dist/heap.c has under a name that is nobody else's.
+HEAP = re.compile(r"\brattle_(alloc|realloc|dealloc)\b")
+#: What only names the compiler and its input.
+NEEDLESS = re.compile(r"(?m)^\t\.(?:file|ident)\t.*\n")
+INDIRECT_JUMP = re.compile(r"(?m)^\tjmpq\t\*")
+#: What isn't among the instructions of the proved library: lines of tables, and marks of targets of indirect jumps.
+ADDED = re.compile(r"(?m)^\t(?:\.cfi_.*|endbr64)\n|(?<=^\t)notrack (?=jmpq)")
+
+
+def with_unwind_tables(text: str) -> str:
+    """The text of a module, whose functions ask for unwind tables."""
+    text, count = re.subn(r'(?m)^(attributes #\d+ = \{)(.*"probe-stack")', r"\1 uwtable\2", text)
+    used = set(re.findall(r"(?m)^define .* #(\d+)(?= .*\{$)", text))
+    asked = set(re.findall(r"(?m)^attributes #(\d+) = \{ uwtable", text))
+    if count == 0 or used - asked or len(re.findall(r"(?m)^define .* #\d+ .*\{$", text)) != text.count("\ndefine "):
+        raise Fault("the module has functions without the attributes that the toolchain's had")
+    return text
+
+
+def compiled(level: Level, work: Path) -> str:
+    """The assembly that the toolchain's clang makes of the level's module, by the words with which it makes the object.
+
+    For x86-64 there are unwind tables, too. On aarch64 they would change instructions; there, frame pointers lead a debugger on.
+    """
+    clang, module = tool("clang"), level.folder / "module"
+    if level.processor == "x86_64":
+        run(clang, "-x", "ir", module, "-S", "-emit-llvm", "-Xclang", "-disable-llvm-passes", "-o", work / "module.ll")
+        module = work / "module.ll"
+        module.write_text(with_unwind_tables(module.read_text()))
+    words = [word for word in (level.folder / "words").read_text().split("\0")[:-1] if not word.startswith("--sysroot")]
+    try:
+        words[words.index("-c")] = "-S"
+        words[words.index("-x") + 2] = str(module)
+        words[words.index("-o") + 1] = str(work / "module.s")
+    except ValueError:
+        raise Fault(f"the toolchain calls clang in another way: {' '.join(words)}") from None
+    run(clang, *words, "-fno-addrsig", "-fno-verbose-asm")
+    return (work / "module.s").read_text()
+
+
+def assembly(level: Level, sources: str) -> str:
+    """The file of a level: what clang made, where exports have the level in their names, if the processor has several levels."""
+    with tempfile.TemporaryDirectory() as work:
+        text = NEEDLESS.sub("", compiled(level, Path(work)))
+    text = HEAP.sub(r"yurewha_heap_\1", text)
+    exports = re.findall(r"(?m)^\t\.globl\t(.*)$", text)
+    if not exports or not all(re.fullmatch(r"yurewha_\w+", name) for name in exports):
+        raise Fault(f"the module exports {', '.join(exports) or 'nothing'}")
+    for name in exports:
+        is_hidden = level.is_one_of_several
+        text = text.replace(f"\t.globl\t{name}\n", f"\t.globl\t{name}\n" + f"\t.hidden\t{name}\n" * is_hidden)
+    if level.processor == "x86_64":
+        text = BRANCH_NOTE + with_branch_targets(text, exports)
+    text = re.sub(rf"(?<![\w:])({'|'.join(exports)})(?!\w|::)", lambda found: found[1].replace("yurewha_", level.prefix, 1), text)
+    return HEAD.format(version=version(), level=level.name, sources=sources) + text
+
+
+def with_branch_targets(text: str, exports: list[str]) -> str:
+    """Assembly for x86-64 with `endbr64` at each export, for processors that let indirect calls arrive nowhere else.
+
+    The library takes no function's address, so its other indirect jumps go to tables of its own, and say so by `notrack`.
+    """
+    if re.search(r"(?m)^\tcallq\t\*", text):
+        raise Fault("the library calls functions by their addresses")
+    for name in exports:
+        text = re.sub(rf"(?m)^({name}:\n(?:\t\.cfi_startproc\n)?)", r"\1\tendbr64\n", text)
+    return INDIRECT_JUMP.sub("\tnotrack jmpq\t*", text)
+
+
+def instructions_alone(text: str) -> str:
+    """Assembly without what is beside the instructions of the proved library, so that each has the address that it has there."""
+    return ADDED.sub("", text.replace(BRANCH_NOTE, ""))

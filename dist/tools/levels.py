@@ -1,0 +1,84 @@
+"""The levels of processors for which there is a library, and the sources that it is made of."""
+
+from __future__ import annotations
+
+import hashlib
+import os
+from dataclasses import dataclass
+from pathlib import Path
+from typing import Iterator
+
+DIST = Path(__file__).resolve().parents[1]
+ROOT = DIST.parent
+#: What is made for each run, and kept for the next: modules, and a copy of the crates for each other number of lanes.
+OUT = DIST / "out"
+
+
+@dataclass(frozen=True)
+class Level:
+    """A line of targets.txt."""
+
+    name: str
+    processor: str
+    lanes: int
+    flags: tuple[str, ...]
+    #: Whether the calls of this level have its name in theirs, since the processor has several levels.
+    is_one_of_several: bool
+
+    @property
+    def assembly(self) -> Path:
+        """The file that dist/make writes."""
+        return DIST / f"{self.name}.s"
+
+    @property
+    def folder(self) -> Path:
+        """Where what the toolchain makes for the level is kept."""
+        return OUT / self.name
+
+    @property
+    def prefix(self) -> str:
+        """How the names of the exported calls begin."""
+        return f"yurewha_{self.name.replace('-', '_')}_" if self.is_one_of_several else "yurewha_"
+
+
+def levels() -> list[Level]:
+    """The levels of targets.txt, in its order."""
+    lines = [line.split() for line in (DIST / "targets.txt").read_text().splitlines() if not line.startswith("#")]
+    processors = [processor for _, processor, *_ in lines]
+    return [
+        Level(name, processor, int(lanes), tuple(flags), processors.count(processor) > 1)
+        for name, processor, lanes, *flags in lines
+    ]
+
+
+def version() -> str:
+    """The version of everything."""
+    return (ROOT / "VERSION").read_text().strip()
+
+
+def source_files() -> Iterator[Path]:
+    """The files that decide what the library is: the crates' code and definitions, and the list of what each crate uses."""
+    yield ROOT / "crates.txt"
+    for folder in (*ROOT.glob("crates/*/src"), *ROOT.glob("crates/*/specs")):
+        for place, _, names in os.walk(folder):
+            yield from (Path(place, name) for name in names)
+
+
+def sources_sum() -> str:
+    """A SHA-256 sum over the names and contents of these files."""
+    total = hashlib.sha256()
+    for path in sorted(source_files()):
+        of_file = hashlib.sha256(path.read_bytes()).hexdigest()
+        total.update(f"{of_file}  {path.relative_to(ROOT)}\n".encode())
+    return total.hexdigest()
+
+
+def made_files() -> list[Path]:
+    """The files that dist/make writes, but for sums.txt."""
+    return [*(level.assembly for level in levels()), DIST / "yurewha.wasm"]
+
+
+def sums(sources: str) -> str:
+    """What sums.txt says: the sum of the sources, and that of each file that was made of them."""
+    lines = [f"{hashlib.sha256(path.read_bytes()).hexdigest()}  {path.name}\n" for path in made_files()]
+    return f"{sources}  sources\n{''.join(lines)}"

@@ -1,0 +1,1 @@
+../bindings/include/yurewha.h
