@@ -1,5 +1,5 @@
-"""What pyproject.toml can't say: the shared library is compiled from the assembly in native/, and goes into the wheel, whose name
-says which processor and C library it is for.
+"""What pyproject.toml can't say: the shared library is compiled from C and assembly, and goes into the wheel, whose name says which
+processor and C library it is for. These files are in native/ of a source distribution, and in dist/ of the repository.
 
 With YUREWHA_LIBRARY=system there is no library in the wheel: the package then loads the system's.
 """
@@ -8,26 +8,51 @@ from __future__ import annotations
 
 import os
 import re
+import shutil
 import tempfile
 from pathlib import Path
 
 from setuptools import Extension, setup
 from setuptools.command.build_ext import build_ext
+from setuptools.command.sdist import sdist
 from wheel.bdist_wheel import bdist_wheel
 
-NATIVE = Path("native")
+PACKED = Path("native")
+#: The folders of the repository that have the files, and what a source distribution takes of them.
+FOLDERS = {Path("../../dist"): ("*.c", "*.s", "targets.txt"), Path("../include"): ("yurewha.h",)}
 NAME = "libyurewha.so.1"
 #: The oldest glibc that a manylinux wheel may ask for.
 GLIBC = (2, 17)
 
 
-def sources(processor: str) -> list[str]:
-    """The files that make the library for a processor, which are listed in targets.txt."""
-    lines = [line.split() for line in (NATIVE / "targets.txt").read_text(encoding="utf-8").splitlines()]
+def files() -> list[Path]:
+    """The files that the library is made of."""
+    folders = {PACKED: ("*",)} if PACKED.exists() else FOLDERS
+    return sorted(path for folder, patterns in folders.items() for pattern in patterns for path in folder.glob(pattern))
+
+
+def copy_files(to: Path) -> None:
+    """Copies the files that the library is made of to a folder."""
+    to.mkdir(parents=True, exist_ok=True)
+    for path in files():
+        shutil.copy(path, to)
+
+
+def sources(processor: str, folder: Path) -> list[str]:
+    """The files of a folder that make the library for a processor, which are listed in targets.txt."""
+    lines = [line.split() for line in (folder / "targets.txt").read_text(encoding="utf-8").splitlines()]
     levels = [words[0] for words in lines if words[0] != "#" and words[1] == processor]
     if not levels:
         raise SystemExit(f"yurewha: there is no library for {processor}: it is for Linux on x86_64 and aarch64")
-    return [str(NATIVE / name) for name in ("processor_level.c", "heap.c", *(f"{level}.s" for level in levels))]
+    return [str(folder / name) for name in ("processor_level.c", "heap.c", *(f"{level}.s" for level in levels))]
+
+
+class SourcesWithFiles(sdist):
+    """A source distribution that has the files in native/."""
+
+    def make_release_tree(self, base_dir: str, names: list[str]) -> None:
+        super().make_release_tree(base_dir, names)
+        copy_files(Path(base_dir, PACKED))
 
 
 class BuildLibrary(build_ext):
@@ -38,7 +63,10 @@ class BuildLibrary(build_ext):
 
     def build_extension(self, extension: Extension) -> None:
         system, _, processor = self.plat_name.partition("-")
-        extension.sources = sources(processor if system == "linux" else self.plat_name)
+        folder = Path(self.build_temp, PACKED)
+        copy_files(folder)
+        extension.sources = sources(processor if system == "linux" else self.plat_name, folder)
+        extension.include_dirs = [str(folder)]
         self.compiler.src_extensions.append(".s")
         super().build_extension(extension)
 
@@ -59,8 +87,8 @@ class WheelForProcessor(bdist_wheel):
 
 LIBRARY = Extension(
     "yurewha.lib.libyurewha",
-    sources=["native/processor_level.c"],
-    depends=[str(path) for path in sorted(NATIVE.glob("*.[chs]"))],
+    sources=["processor_level.c"],
+    depends=[str(path) for path in files()],
     extra_compile_args=["-std=c11", "-g0"],
     extra_link_args=[f"-Wl,-soname,{NAME}", "-Wl,-z,defs", "-Wl,-z,text", "-Wl,-z,relro", "-Wl,-z,now"],
 )
@@ -68,6 +96,6 @@ LIBRARY = Extension(
 with tempfile.TemporaryDirectory() as work:
     setup(
         ext_modules=[] if os.environ.get("YUREWHA_LIBRARY") == "system" else [LIBRARY],
-        cmdclass={"build_ext": BuildLibrary, "bdist_wheel": WheelForProcessor},
+        cmdclass={"build_ext": BuildLibrary, "bdist_wheel": WheelForProcessor, "sdist": SourcesWithFiles},
         options={"build": {"build_base": work}, "egg_info": {"egg_base": work}},
     )

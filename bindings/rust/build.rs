@@ -1,4 +1,5 @@
-//! Compiles the library from the C and assembly in `native/`, by the C compiler that the crate `cc` finds, and links it statically.
+//! Compiles the library from C and assembly, by the C compiler that the crate `cc` finds, and links it statically. These files are in
+//! `native/` of the packed crate, and in `dist/` of the repository.
 
 use std::env;
 use std::fs;
@@ -19,7 +20,7 @@ fn main() {
         exit(1);
     });
     let mut build = cc::Build::new();
-    // Also where the crate is built for debugging: each call goes through this C.
+    // Also if the crate is built for debugging, since each call goes through this C.
     build.opt_level(2).flag("-std=c11");
     for name in ["processor_level.c", "heap.c"] {
         build.file(native(name));
@@ -27,13 +28,20 @@ fn main() {
     for level in levels {
         build.file(native(&format!("{level}.s")));
     }
-    println!("cargo:rerun-if-changed={}", native("yurewha.h"));
-    build.compile("yurewha");
+    let include = if is_packed() { "native" } else { "../include" };
+    println!("cargo:rerun-if-changed={include}/yurewha.h");
+    build.include(include).compile("yurewha");
 }
 
-// A file of `native/`, where a change of it is seen.
+// Whether this is the packed crate.
+fn is_packed() -> bool {
+    Path::new("native").exists()
+}
+
+// The path of a file of the library. A change of it is seen.
 fn native(name: &str) -> String {
-    let path = format!("native/{name}");
+    let folder = if is_packed() { "native" } else { "../../dist" };
+    let path = format!("{folder}/{name}");
     println!("cargo:rerun-if-changed={path}");
     path
 }

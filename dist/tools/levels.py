@@ -12,6 +12,8 @@ DIST = Path(__file__).resolve().parents[1]
 ROOT = DIST.parent
 #: What is made for each run, and kept for the next: modules, and a copy of the crates for each other number of lanes.
 OUT = DIST / "out"
+#: The WebAssembly module, which is part of the JavaScript package.
+WASM = ROOT / "bindings/wasm/yurewha/yurewha.wasm"
 
 
 @dataclass(frozen=True)
@@ -75,7 +77,7 @@ def sources_sum() -> str:
 
 def made_files() -> list[Path]:
     """The files that dist/make writes, but for sums.txt."""
-    return [*(level.assembly for level in levels()), DIST / "yurewha.wasm"]
+    return [*(level.assembly for level in levels()), WASM]
 
 
 def sums(sources: str) -> str:

@@ -19,6 +19,10 @@ const CC: &str = r#"
         pub fn opt_level(&mut self, _: u32) -> &mut Self {
             self
         }
+        pub fn include(&mut self, folder: &str) -> &mut Self {
+            println!("include {folder}");
+            self
+        }
         pub fn file(&mut self, path: String) -> &mut Self {
             println!("file {path}");
             self
@@ -89,13 +93,13 @@ fn run(target: &str, variables: &[(&str, &str)]) -> Output {
 // The files that the script compiles, in order, if it compiles any.
 fn compiled(output: &Output) -> Vec<String> {
     let printed = String::from_utf8(output.stdout.clone()).unwrap();
-    let files = printed.lines().filter_map(|line| line.strip_prefix("file native/"));
-    let files: Vec<_> = files.map(str::to_owned).collect();
-    assert_eq!(printed.contains("compile yurewha\n"), !files.is_empty());
-    for file in &files {
-        assert!(printed.contains(&format!("cargo:rerun-if-changed=native/{file}\n")));
+    let paths: Vec<_> = printed.lines().filter_map(|line| line.strip_prefix("file ")).collect();
+    assert_eq!(printed.contains("compile yurewha\n"), !paths.is_empty());
+    for path in &paths {
+        assert!(printed.contains(&format!("cargo:rerun-if-changed={path}\n")));
     }
-    files
+    let names = paths.iter().map(|path| Path::new(path).file_name().unwrap());
+    names.map(|name| name.to_str().unwrap().to_owned()).collect()
 }
 
 #[test]

@@ -1,1 +1,0 @@
-../bindings/include/yurewha.h
