@@ -28,7 +28,10 @@ fn main() {
         build.file(native(&format!("{level}.s")));
     }
     println!("cargo:rerun-if-changed={}", native("yurewha.h"));
-    build.compile("yurewha");
+    if let Err(error) = build.try_compile("yurewha") {
+        eprintln!("yurewha: the C compiler can't compile the files of `native/`: {error}");
+        exit(1);
+    }
 }
 
 // A file of `native/`, where a change of it is seen.
