@@ -91,9 +91,11 @@ const char *yurewha_processor_level(void)
     CALL(level, yurewha_status, return, subtree_from_json, (const char *text, size_t length, yurewha_subtree *subtree), \
          (text, length, subtree)) \
     CALL(level, yurewha_status, return, subtree_to_flat, (yurewha_subtree *subtree, yurewha_level *levels, \
-         size_t level_room, yurewha_chunk *nodes, size_t node_room, size_t *level_count, size_t *node_count), (subtree, levels, level_room, nodes, node_room, level_count, node_count)) \
+         size_t level_room, yurewha_chunk *nodes, size_t node_room, size_t *level_count, size_t *node_count), (subtree, \
+         levels, level_room, nodes, node_room, level_count, node_count)) \
     CALL(level, yurewha_status, return, subtree_from_flat, (bool at_start, const yurewha_level *levels, size_t level_count, \
-         const yurewha_chunk *nodes, size_t node_count, bool at_end, yurewha_subtree *subtree), (at_start, levels, level_count, nodes, node_count, at_end, subtree)) \
+         const yurewha_chunk *nodes, size_t node_count, bool at_end, yurewha_subtree *subtree), (at_start, levels, \
+         level_count, nodes, node_count, at_end, subtree)) \
     CALL(level, void, , subtree_free, (yurewha_subtree *subtree), (subtree)) \
     CALL(level, yurewha_status, return, session_new, (yurewha_session *session), (session)) \
     CALL(level, yurewha_status, return, session_put, (yurewha_session *session, uint64_t first, \

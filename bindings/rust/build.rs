@@ -30,7 +30,10 @@ fn main() {
     }
     let include = if is_packed() { "native" } else { "../include" };
     println!("cargo:rerun-if-changed={include}/yurewha.h");
-    build.include(include).compile("yurewha");
+    if let Err(error) = build.include(include).try_compile("yurewha") {
+        eprintln!("yurewha: the C compiler can't compile the files of the library: {error}");
+        exit(1);
+    }
 }
 
 // Whether this is the packed crate.

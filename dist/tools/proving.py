@@ -2,6 +2,7 @@
 
 from __future__ import annotations
 
+import os
 import re
 import shutil
 import subprocess
@@ -80,11 +81,20 @@ def keeping_kit(folder: Path, to: Path) -> Path:
     return to / "bin/rt"
 
 
-def crates_for(level: Level) -> Path:
-    """A folder with the crates, whose number of lanes is the level's: the repository, or a copy with its kept proofs.
+def contents(crate: Path) -> dict[str, bytes]:
+    """The files of a crate that decide what is proved, but for the one with the number of lanes."""
+    paths = (Path(place, name) for place, _, names in os.walk(crate) for name in names)
+    found = {str(path.relative_to(crate)): path for path in paths}
+    return {
+        name: path.read_bytes() for name, path in found.items() if not name.startswith("out/") and not LANES.endswith(f"/{name}")
+    }
 
-    In a copy that an earlier run has left, only files that have changed since are replaced. So `rt` checks again what these
-    changes reach, and takes the rest from what it kept.
+
+def crates_for(level: Level) -> Path:
+    """A folder with the crates, whose number of lanes is the level's: the repository, or a copy.
+
+    A crate that has changed since an earlier run comes into the copy with the proofs that the repository has kept. So `rt` proves
+    again there what the number of lanes reaches, and takes the rest from what is kept.
     """
     number = re.compile(r"(?m)^(pub\(crate\) const LANES: usize =) (\d+);$")
     found = number.search((ROOT / LANES).read_text())
@@ -93,14 +103,14 @@ def crates_for(level: Level) -> Path:
     if int(found[2]) == level.lanes:
         return ROOT
     copy = OUT / f"lanes-{level.lanes}"
-    is_first = not copy.exists()
-    for crate in sorted((ROOT / "crates").iterdir()):
-        for it in sorted(crate.iterdir()):
-            if it.name != "out" or is_first:
-                place = copy / it.relative_to(ROOT)
-                run("rm", "-rf", place)
-                place.parent.mkdir(parents=True, exist_ok=True)
-                run("cp", "-a", it, place)
+    (copy / "crates").mkdir(parents=True, exist_ok=True)
+    names = {crate.name for crate in (*(ROOT / "crates").iterdir(), *(copy / "crates").iterdir())}
+    for name in sorted(names):
+        source, place = ROOT / "crates" / name, copy / "crates" / name
+        if contents(source) != contents(place):
+            run("rm", "-rf", place)
+            if source.exists():
+                run("cp", "-a", source, place)
     for name in ("crates.txt", "HANDLES"):
         shutil.copy(ROOT / name, copy / name)
     (copy / LANES).write_text(number.sub(rf"\1 {level.lanes};", (ROOT / LANES).read_text()))

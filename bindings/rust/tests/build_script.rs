@@ -27,8 +27,9 @@ const CC: &str = r#"
             println!("file {path}");
             self
         }
-        pub fn compile(&self, name: &str) {
+        pub fn try_compile(&self, name: &str) -> Result<(), String> {
             println!("compile {name}");
+            std::env::var("CC").map_or(Ok(()), Err)
         }
     }
 "#;
@@ -137,6 +138,15 @@ fn a_target_without_assembly_is_refused() {
         assert!(!output.status.success() && compiled(&output).is_empty(), "{target}");
         assert_eq!(said, wanted);
     }
+}
+
+#[test]
+fn what_the_compiler_refuses_is_told() {
+    let output = run("x86_64-unknown-linux-gnu", &[("CC", "an unknown instruction")]);
+    let said = String::from_utf8(output.stderr.clone()).unwrap();
+    let wanted = "yurewha: the C compiler can't compile the files of the library: an unknown instruction\n";
+    assert!(!output.status.success());
+    assert_eq!(said, wanted);
 }
 
 #[test]

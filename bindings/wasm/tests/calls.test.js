@@ -95,8 +95,8 @@ test("texts are strings, marks are true or false, and lists are of pairs", () =>
     }
 });
 
-test("an object of another instance is none of this one", () => {
-    const [, other] = all[1];
+test("an object of another instance is none of this one", async () => {
+    const [[, other]] = await loadAll();
     const [here, there] = [y, other].map((it) => it.Subtree.fromChunks(false, [[new it.Hash(), 1]], false));
     assert.throws(() => new y.Hash().compare(new other.Hash()), TypeError);
     assert.throws(() => new y.Hash().hmac(new other.Hash()), TypeError);
