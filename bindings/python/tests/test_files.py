@@ -7,7 +7,6 @@ import random
 import signal
 import subprocess
 import sys
-import time
 
 import pytest
 
@@ -66,8 +65,10 @@ def test_an_error_of_progress_ends_the_call(written):
 
 
 ENDED = """
+import signal
 import sys
 import yurewha as y
+signal.signal(signal.SIGINT, signal.default_int_handler)  # a shell's background job begins with Ctrl-C ignored
 def progress(done, total):
     if done == 1 << 20:
         print("begun", flush=True)
@@ -91,9 +92,8 @@ def test_ctrl_c_ends_the_call(tmp_path):
                           env={**os.environ, "PYTHONPATH": package}) as process:
         try:
             assert process.stdout.readline() == "begun\n"
-            began = time.monotonic()
             process.send_signal(signal.SIGINT)
-            assert process.communicate(timeout=30)[0] == "ended\n" and time.monotonic() - began < 5
+            assert process.communicate(timeout=30)[0] == "ended\n"
         finally:
             process.kill()
 
