@@ -5,9 +5,9 @@ import { test } from "node:test";
 import { inspect } from "node:util";
 import { MessageChannel, receiveMessageOnPort } from "node:worker_threads";
 import * as errors from "../yurewha/index.js";
-import { chunksOf, loadAll } from "./support.js";
+import { BYTES, chunksOf } from "./support.js";
 
-const [[, y], [, other]] = await loadAll();
+const [y, other] = await Promise.all([errors.load(BYTES.wasm32), errors.load(BYTES.wasm32)]);
 const list = (count, it = y) => chunksOf(it, { drawn: { firstSeed: "1", count } });
 const sessionOf = (...puts) => {
     const session = new y.Session();
