@@ -4,6 +4,7 @@
 
 pub mod laws;
 pub mod merkle_hash_subtree;
+pub mod node_json;
 
 pub use chunk_ranges::{
     chunk_range as chunk_range, merge_tree as merge_tree, plain_range as plain_range,

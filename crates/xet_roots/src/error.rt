@@ -9,7 +9,8 @@ use thiserror::Error;
 /// Why a call failed. After a failure every object that the call borrowed is unchanged.
 #[derive(Clone, Copy, Debug, PartialEq, Eq, Error)]
 pub enum CoreError {
-    /// A range other than the last is marked at its end, or a range other than the first at its start.
+    /// A range other than the last is marked at its end, or a range other than the first at its start. Of a range proof:
+    /// its range is empty, or goes past the end of the list.
     #[error("invalid arguments")]
     InvalidArguments,
     /// The sizes of all nodes add up to more than `u64::MAX` bytes.
@@ -18,8 +19,9 @@ pub enum CoreError {
     /// An allocation failed.
     #[error("out of memory")]
     OutOfMemory,
-    /// A JSON value, or flat lists, describe no subtree. The number is the lowest rule, from 1 to 13, that they break.
-    /// [`from_json`](crate::merkle_hash_subtree::MerkleHashSubtree::from_json) lists the rules.
+    /// A JSON value, or flat lists, describe no subtree or no range proof. The number is the lowest rule that they break:
+    /// from 1 to 13 of a subtree, from 1 to 8 of a range proof. `from_json` of `MerkleHashSubtree` and of `RangeProof`
+    /// list the rules.
     #[error("invalid JSON: rule {0}")]
     InvalidJson(u8),
 }

@@ -41,8 +41,8 @@ pub fn is_natural_cut(node: &Node) -> bool
     node.0 % AGGREGATED_HASHES_MEAN_TREE_BRANCHING_FACTOR == 0
 }
 
-// Returns the number of nodes in the first group of some nodes.
-pub(crate) fn first_group_len(nodes: &[Node]) -> usize
+/// Returns the number of nodes in the first group of some nodes, of which there is at least one.
+pub fn first_group_len(nodes: &[Node]) -> usize
     requires { 0 < length nodes.now }
     ensures bound { result ≤ length nodes.now }
     ensures first { IsFirstGroup (take result nodes.now) (drop result nodes.now) }

@@ -1,17 +1,17 @@
 //! Reads the parts of a subtree's JSON value, before its levels and nodes are checked together.
 
 ghost use Rattle.serde_json.specs.Data.{Data};
-ghost use Rattle.serde_json.specs.Find.{get, as_bool, as_array};
-ghost use Rattle.serde_json.specs.View.{view, items_view};
-ghost use Rattle.std.specs.Prelude.{◌≡◌, ◌⊎◌, ℕ, Bool, List, map, option_map, option_and_then, IfOk, IfErr, IfSome, IfNone};
+ghost use Rattle.serde_json.specs.Find.{get, as_bool};
+ghost use Rattle.serde_json.specs.View.{view};
+ghost use Rattle.std.specs.Prelude.{◌≡◌, ◌⊎◌, ℕ, Bool, List, map, option_and_then, IfOk, IfErr, IfSome, IfNone};
 ghost use Rattle.std.specs.List.{AllZip};
 ghost use Rattle.xet_roots.specs.Groups.{Node};
 ghost use Rattle.xet_roots.specs.declared.error.CoreError.TheVariants.{OutOfMemory, InvalidJson};
-ghost use Rattle.xet_merkle.specs.JsonParts.{whole, ReadsNode, ReadsCounts, HasMembers, ReadsParts, BreaksPartRule};
+ghost use Rattle.xet_merkle.specs.JsonParts.{whole, ReadsCounts, HasMembers, ReadsParts, BreaksPartRule};
 
+use crate::node_json::{array_member, read_nodes};
 use serde_json::Value;
 use std::alloc::Allocator;
-use xet_hash::data_hash::DataHash;
 use xet_roots::error::CoreError;
 use xet_roots::groups::Node;
 
@@ -41,13 +41,6 @@ fn truth_member(value: &Value, name: &str) -> Option<bool>
     value.get(name)?.as_bool()
 }
 
-// Returns the values of a member that is an array.
-fn array_member<'v>(value: &'v Value, name: &str) -> Option<&'v [Value]>
-    ensures { option_map (λ values. items_view values.now) result ≡ option_and_then as_array (get name.now (view value.now)) }
-{
-    Some(value.get(name)?.as_array()?.as_slice())
-}
-
 // Returns the members of a subtree's object, if each exists and has the right type.
 fn read_members<'v>(value: &'v Value) -> Option<Members<'v>>
     ensures some { IfSome result (λ members. HasMembers (view value.now) members.at_start members.at_end
@@ -67,16 +60,6 @@ fn read_members<'v>(value: &'v Value) -> Option<Members<'v>>
     })
 }
 
-// Returns the node in a value.
-fn read_node(value: &Value) -> Option<Node>
-    ensures some { IfSome result (λ node. ReadsNode (view value.now) node) }
-    ensures none { IfNone result ((node : Node) → ¬ (ReadsNode (view value.now) node)) }
-{
-    let hash = DataHash::from_json(value.get("hash")?).ok()?;
-    let size = value.get("size")?.as_u64()?;
-    Some((hash, size))
-}
-
 // Returns the whole number in a value, as a count of nodes.
 fn read_count(value: &Value) -> Option<usize>
     ensures { result ≡ whole (view value.now) }
@@ -94,22 +77,6 @@ fn read_counts(value: &Value) -> Option<(usize, usize)>
         return None;
     };
     Some((read_count(left)?, read_count(right)?))
-}
-
-// Returns the nodes in some values.
-fn read_nodes<A: Allocator>(alloc: A, values: &[Value]) -> Result<Vec<Node, A>, CoreError>
-    ensures read { IfOk result (λ nodes. AllZip ReadsNode (map view values.now) nodes.items) }
-    ensures refused { IfErr result (λ e. (e ≡ OutOfMemory)
-        ⊎ ((e ≡ InvalidJson 3) × ((nodes : List Node) → ¬ (AllZip ReadsNode (map view values.now) nodes)))) }
-{
-    let mut nodes = Vec::with_capacity(alloc, values.len())?;
-    'nodes: for value in values {
-        let Some(node) = read_node(value) else {
-            return Err(CoreError::InvalidJson(3));
-        };
-        nodes.push(node)?;
-    }
-    Ok(nodes)
 }
 
 // Returns the counts in some values.
@@ -146,7 +113,7 @@ pub(super) fn read_parts<A: Allocator + Clone>(
     let Some(members) = read_members(value) else {
         return Err(CoreError::InvalidJson(2));
     };
-    let nodes = read_nodes(alloc.clone()?, members.nodes)?;
+    let nodes = read_nodes(alloc.clone()?, members.nodes, 3)?;
     let counts = read_levels(alloc, members.levels)?;
     Ok(Parts {
         at_start: members.at_start,

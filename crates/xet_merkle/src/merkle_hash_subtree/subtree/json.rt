@@ -16,6 +16,7 @@ ghost use Rattle.xet_merkle.specs.SubtreeJson.{node_json, counts_json, subtree_o
 
 use super::MerkleHashSubtree;
 use crate::merkle_hash_subtree::json_parts::{Parts, read_parts};
+use crate::node_json::with_nodes;
 use serde_json::{Value, json};
 use std::alloc::{AllocError, Allocator, Global};
 use subtree_levels::level_rules::broken_rule;
@@ -43,18 +44,6 @@ fn counts_to_json<A: Allocator>(
         values.push(count_to_json(alloc, level)?)?;
     }
     Ok(Value::Array(values))
-}
-
-// Appends the values of some nodes, each with its hash as hex text and its size.
-fn with_nodes(alloc: Global, values: Vec<Value>, nodes: &[Node]) -> Result<Vec<Value>, AllocError>
-    ensures json { IfOk result (λ all. map view all.items ≡ map view values.items ++ map node_json nodes.now) }
-    ensures hashes { IfOk result (λ _. AllByRecursion (λ node. IsHash node.0) nodes.now) }
-{
-    let mut values = values;
-    'nodes: for (hash, size) in nodes {
-        values.push(json!(in alloc; {"hash": hash.to_json(alloc)?, "size": *size})?)?;
-    }
-    Ok(values)
 }
 
 // Returns the nodes of all levels: the left ones, lowest level first, then the right ones, highest level first.

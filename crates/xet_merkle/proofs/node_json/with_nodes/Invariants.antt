@@ -3,7 +3,7 @@ use Rattle.std.specs.List.{AllByRecursion}
 use Rattle.serde_json.specs.View.{view}
 use Rattle.xet_hash.specs.Hash.{IsHash}
 use Rattle.xet_merkle.specs.SubtreeJson.{node_json}
-use Rattle.xet_merkle.proofs.merkle_hash_subtree.subtree.json.with_nodes.Given as goal
+use Rattle.xet_merkle.proofs.node_json.with_nodes.Given as goal
 
 abbrev pub invariant-nodes : goal.invariant-nodes
 invariant-nodes l = record {

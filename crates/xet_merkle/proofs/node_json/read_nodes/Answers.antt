@@ -1,7 +1,7 @@
 use Rattle.std.proofs.Common.{inr, refl}
 use Rattle.xet_merkle.specs.JsonParts.{ReadsNode}
 use Rattle.xet_merkle.proofs.Json.Reading.{read_next, read_each}
-use Rattle.xet_merkle.proofs.merkle_hash_subtree.json_parts.read_nodes.Goals as goal
+use Rattle.xet_merkle.proofs.node_json.read_nodes.Goals as goal
 
 pub returns-in_default-clause-refused : goal.returns-in_default-clause-refused
 returns-in_default-clause-refused g c = inr (
