@@ -15,7 +15,7 @@ pub fn print() {
     ranges_of(&chunks, "1000 ranges of 100 chunks", 1000, 100);
     drop(chunks);
     for (name, cuts) in
-        [("drawn chunks", Cuts::Drawn), ("chunks without cuts", Cuts::Nowhere), ("cuts everywhere", Cuts::Everywhere)]
+        [("random chunks", Cuts::Drawn), ("chunks without cuts", Cuts::Nowhere), ("cuts everywhere", Cuts::Everywhere)]
     {
         one_by_one(name, &crate::chunks(2, cuts, 1_000_000));
     }

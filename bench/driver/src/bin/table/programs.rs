@@ -25,17 +25,17 @@ pub fn print() {
     let without = |count, text: &mut dyn Write| pairs(Cuts::Nowhere, 0, count, text);
     let everywhere = |count, text: &mut dyn Write| pairs(Cuts::Everywhere, 0, count, text);
     let texts: [Text; 13] = [
-        ("10^5 drawn pairs", 100_000, &drawn),
-        ("10^6 drawn pairs", 1_000_000, &drawn),
-        ("10^7 drawn pairs", 10_000_000, &drawn),
+        ("10^5 random pairs", 100_000, &drawn),
+        ("10^6 random pairs", 1_000_000, &drawn),
+        ("10^7 random pairs", 10_000_000, &drawn),
         ("10^5 pairs without cuts", 100_000, &without),
         ("10^6 pairs without cuts", 1_000_000, &without),
         ("10^5 pairs with cuts everywhere", 100_000, &everywhere),
         ("10^6 pairs with cuts everywhere", 1_000_000, &everywhere),
         ("10^5 pairs without cuts, `--` after each", 100_000, &separated),
         ("10^6 pairs without cuts, `--` after each", 1_000_000, &separated),
-        ("100 ranges of 1000 pairs in drawn order, `@`", 100_000, &shuffled),
-        ("1000 ranges of 1000 pairs in drawn order, `@`", 1_000_000, &shuffled),
+        ("100 ranges of 1000 pairs in random order, `@`", 100_000, &shuffled),
+        ("1000 ranges of 1000 pairs in random order, `@`", 1_000_000, &shuffled),
         ("400 chunks of 64 KiB, `+`", 400, &chunks),
         ("4000 chunks of 64 KiB, `+`", 4000, &chunks),
     ];
@@ -204,14 +204,14 @@ fn xetrange(folder: &Folder, name: &str, count: usize) {
     let program = named("XETROOT");
     assert_eq!(four_jobs(folder, &text).lines, run(&program, &[], Some(&text)).lines);
     let row = Row {
-        name: format!("`xetrange`, 4 processes, {name} drawn pairs"),
+        name: format!("`xetrange`, 4 processes, {name} random pairs"),
         ours: Task::told(|| four_jobs(folder, &text).processor),
         peers: vec![("`xetroot`", Task::told(|| run(&program, &[], Some(&text)).processor))],
         tenfold: Some(Task::told(|| four_jobs(folder, &tenfold).processor)),
     };
     row.print();
     let row = Row {
-        name: format!("`xetrange`, 4 processes, {name} drawn pairs, by the clock"),
+        name: format!("`xetrange`, 4 processes, {name} random pairs, by the clock"),
         ours: Task::told(|| four_jobs(folder, &text).clock),
         peers: vec![("`xetroot`", Task::told(|| run(&program, &[], Some(&text)).clock))],
         tenfold: None,

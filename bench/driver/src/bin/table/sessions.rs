@@ -19,7 +19,7 @@ pub fn print() {
     for (name, order) in [
         ("in order", (|count| (0..count).collect()) as fn(u64) -> Vec<u64>),
         ("in reverse", |count| (0..count).rev().collect()),
-        ("in drawn order", drawn_order),
+        ("in random order", drawn_order),
     ] {
         puts(name, &chunks, order);
     }
@@ -80,7 +80,7 @@ fn without_hashes() {
     let session = xet_bench::session_without_hashes;
     assert_eq!(session(all, LENGTH, &some), root(all));
     let row = Row {
-        name: "1000 puts of 1000 chunks in drawn order, no hashes kept".into(),
+        name: "1000 puts of 1000 chunks in random order, no hashes kept".into(),
         ours: Task::call(|| session(black_box(all), LENGTH, &some)),
         peers: vec![("`xorb_hash` of all", Task::call(|| root(black_box(all))))],
         tenfold: Some(Task::call(|| session(black_box(&words), LENGTH, &more))),
