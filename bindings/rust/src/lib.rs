@@ -2,7 +2,7 @@
 //! can be merged without their chunks. Nothing here cuts files into chunks.
 //!
 //! The module [`merklehash`] has the calls and paths of the module with that name in the crate `xet-core-structures`
-//! 1.5.2. It calls a library in which each function is proved to meet its contract. Code for that crate needs only
+//! 1.5.2. It calls a library in which each function is proved to meet its contract. Most code for that crate needs only
 //! another name in `Cargo.toml` and in its `use` lines. The module [`own`] has what that crate doesn't have.
 //! `README.md` says how the library is found, and what isn't proved.
 //!
@@ -42,7 +42,7 @@
 //! - **Errors.** [`CoreError`](error::CoreError) has the variants that these calls return, with its own texts.
 //! - **Targets** are Linux with glibc, on x86-64 and aarch64.
 //!
-//! The table "In the Rust crate `yurewha`" of `docs/DIFFERENCES.md`, in the repository, lists the rest.
+//! The table "In the crate `yurewha`" of `docs/DIFFERENCES.md`, in the repository, lists the rest.
 
 #![warn(missing_docs)]
 
