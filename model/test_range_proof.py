@@ -171,7 +171,8 @@ class Alterations(unittest.TestCase):
         self.assertEqual(seen, {alteration.name for alteration in ALTERATIONS})
 
     def right(self, known):
-        for number, (place, data) in itertools.product(range(len(known.chunks)), ((0, CHUNKS[0]), (7, CHUNKS[1]), (14, CHUNKS[2]))):
+        places = ((0, CHUNKS[0]), (7, CHUNKS[1]), (14, CHUNKS[2]))
+        for number, (place, data) in itertools.product(range(len(known.chunks)), places):
             self.assertIn(r.check(known, number, data), (None, place))
 
     def test_parents_are_no_chunks(self):
@@ -193,20 +194,23 @@ class Alterations(unittest.TestCase):
 
 class ChunksAndBytes(unittest.TestCase):
     def test_chunks_at(self):
-        for start, stop, wanted in ((0, 1, (0, 1)), (0, 7, (0, 1)), (0, 8, (0, 2)), (6, 8, (0, 2)), (7, 8, (1, 2)), (7, 14, (1, 2)),
-                                    (13, 15, (1, 3)), (14, 25, (2, 3)), (24, 25, (2, 3)), (24, 10**9, (2, 3)), (0, m.MAX_U64, (0, 3)),
-                                    (0, 0, None), (8, 8, None), (9, 8, None), (25, 26, None), (25, 25, None)):
+        for start, stop, wanted in (
+                (0, 1, (0, 1)), (0, 7, (0, 1)), (0, 8, (0, 2)), (6, 8, (0, 2)), (7, 8, (1, 2)), (7, 14, (1, 2)),
+                (13, 15, (1, 3)), (14, 25, (2, 3)), (24, 25, (2, 3)), (24, 10**9, (2, 3)), (0, m.MAX_U64, (0, 3)),
+                (0, 0, None), (8, 8, None), (9, 8, None), (25, 26, None), (25, 25, None)):
             self.assertEqual(r.chunks_at(NODES, start, stop), wanted, (start, stop))
         self.assertIsNone(r.chunks_at([], 0, 1))
 
     def test_empty_chunks_are_in_no_range_at_its_ends(self):
         nodes = [(seeded(i), size) for i, size in enumerate((0, 3, 0, 0, 2, 0))]
-        for start, stop, wanted in ((0, 1, (1, 2)), (0, 3, (1, 2)), (3, 4, (4, 5)), (2, 4, (1, 5)), (0, 9, (1, 5)), (5, 9, None)):
+        for start, stop, wanted in ((0, 1, (1, 2)), (0, 3, (1, 2)), (3, 4, (4, 5)), (2, 4, (1, 5)), (0, 9, (1, 5)),
+                                    (5, 9, None)):
             self.assertEqual(r.chunks_at(nodes, start, stop), wanted, (start, stop))
         self.assertIsNone(r.chunks_at(nodes[:1], 0, 1))
 
     def test_bytes_of(self):
-        self.assertEqual([r.bytes_of(NODES, *it) for it in ((0, 1), (1, 2), (1, 3), (0, 3))], [(0, 7), (7, 14), (7, 25), (0, 25)])
+        for first, end, wanted in ((0, 1, (0, 7)), (1, 2, (7, 14)), (1, 3, (7, 25)), (0, 3, (0, 25))):
+            self.assertEqual(r.bytes_of(NODES, first, end), wanted)
         for first, end in ((0, 0), (2, 1), (0, 4), (3, 3), (-1, 2)):
             self.assertIsNone(r.bytes_of(NODES, first, end))
 
@@ -257,7 +261,8 @@ class Json(unittest.TestCase):
         for level in ((nine, ()), ((), nine)):
             self.assertEqual(self.rule(json_of(NODES, ((), ()), level)), 7)
         half = [(seeded(1), 2**63)]
-        for value in (json_of(half * 2), json_of(half, (half, ())), json_of(half, ((), half)), json_of(NODES, (half, ()), ((), half))):
+        for value in (json_of(half * 2), json_of(half, (half, ())), json_of(half, ((), half)),
+                      json_of(NODES, (half, ()), ((), half))):
             self.assertEqual(self.rule(value), 8)
 
     def test_edges_are_kept(self):
