@@ -209,8 +209,8 @@ def alterations() -> list[Group]:
         rng, tests = random.Random(69), []
         proof, other = prove(told, first, end), TWENTY.nodes[0]
         for alteration in altered_proofs.ALTERATIONS:
-            found = {altered_proofs.altered(rng, alteration, proof, other) for _ in range(10)} - {None}
-            texts = sorted(map(range_proof.to_json_text, found))
+            found = [altered_proofs.altered(rng, alteration, proof, other) for _ in range(10)]
+            texts = sorted({range_proof.to_json_text(it) for it in found if it is not None})
             tests += [altered_test(alteration, range_proof.from_json_text(text), of_file(told), told) for text in texts[:draws]]
         groups.append(Group("OpenProof", f"the proof of {named(told, first, end)}, altered", tests))
     missing = {it.name for it in altered_proofs.ALTERATIONS} - {test["comment"] for group in groups for test in group.tests}

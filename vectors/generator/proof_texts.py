@@ -109,9 +109,9 @@ def rules_1_to_3() -> list[Test]:
     rows += [("no members", {}), ("without chunks", {"levels": value["levels"]}),
              ("without levels", {"chunks": value["chunks"]})]
     others: list[Any] = [{}, None, 7, "[]"]
+    no_levels: list[Any] = [[], None, 7, "{}", [[], []], {}]
     rows += [(f"{name} that are {m.compact(it)}", {**value, name: it}) for name in ("chunks", "levels") for it in others]
-    rows += [(f"a last level that is {m.compact(it)}", {**value, "levels": [*value["levels"], it]})
-             for it in ([], None, 7, "{}", [[], []], {})]
+    rows += [(f"a last level that is {m.compact(it)}", {**value, "levels": [*value["levels"], it]}) for it in no_levels]
     rows.append(("a first level that is an array", {**value, "levels": [[[], []], *value["levels"]]}))
     for side, other in (("left", "right"), ("right", "left")):
         rows.append((f"a level without {side}", {**value, "levels": [{other: []}]}))

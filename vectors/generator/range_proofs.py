@@ -87,8 +87,9 @@ def proof_row(told: Union[Told, ToldData], first: int, end: int,
     counts, nodes = range_proof.to_flat(proof)
     text, lines = range_proof.to_json_text(proof), m.group_text(nodes)
     sums = itertools.accumulate((size for _, size in proof.chunks), initial=m.total_size(told.nodes[:first]))
-    row = {"first": first, "end": end, "levels": [list(pair) for pair in counts], "places": [str(place) for place in sums],
-           "jsonHash": lists.data_hash(text.encode()), "flatHash": lists.data_hash(lines)}
+    row: dict[str, Any] = {
+        "first": first, "end": end, "levels": [list(pair) for pair in counts], "places": [str(place) for place in sums],
+        "jsonHash": lists.data_hash(text.encode()), "flatHash": lists.data_hash(lines)}
     if whole:
         row.update(json=text, flatNodes=lists.given(nodes).said["nodes"])
     return proof, row
