@@ -12,7 +12,6 @@ from .model import m, range_proof
 from .roots import GAPS, SALT
 
 Range = tuple[int, int]
-EXAMPLE_DATA = (b"a chunk", b"another", b"and a third")
 LENGTHS = ((5, 17, 64, 1, 33), (6,), (65, 0, 2, 130), (9, 1025, 40, 7, 12, 2), (20, 20, 21))
 
 HEADER = [
@@ -150,7 +149,7 @@ def all_ranges(count: int) -> list[Range]:
 def examples() -> Group:
     """Lists with proofs whose whole text and flat list is given."""
     tests = [
-        tree_of("three chunks", lists.of_data(*EXAMPLE_DATA), all_ranges(3), True, True),
+        tree_of("three chunks", opened_proofs.THREE, all_ranges(3), True, True),
         tree_of("three chunks by their hashes", lists.seeds([1, 2, 3]), [(1, 2), (0, 3)], True),
         tree_of("one chunk", lists.seeds([1]), [(0, 1)], True),
         tree_of("one chunk whose hash is the default hash", lists.given([(m.DEFAULT_HASH, 5)]), [(0, 1)], True),
@@ -203,7 +202,7 @@ def long_lists() -> Group:
 
 
 def commas(numbers: Iterable[int]) -> str:
-    """Numbers in words."""
+    """Numbers with commas between."""
     return ", ".join(map(str, numbers))
 
 
@@ -222,8 +221,8 @@ def refusals() -> Group:
     """Ranges that have no proof."""
     three, great = lists.seeds([1, 2, 3]), lists.sized(m.MAX_U64, 1)
     rows = [("no chunk", three, 0, 0), ("the end before the first", three, 2, 1), ("the end after the list", three, 0, 4),
-            ("after the list", three, 3, 3), ("far after the list", three, 7, 9), ("of no chunks", lists.seeds([]), 0, 0),
-            ("one of no chunks", lists.seeds([]), 0, 1), ("sizes that pass", great, 0, 1), ("sizes that pass", great, 0, 2),
+            ("after the list", three, 3, 3), ("far after the list", three, 7, 9), ("no chunk of an empty list", lists.seeds([]), 0, 0),
+            ("a chunk of an empty list", lists.seeds([]), 0, 1), ("sizes that pass", great, 0, 1), ("sizes that pass", great, 0, 2),
             ("sizes that pass, and no range", great, 1, 1), ("sizes that pass, and the end after the list", great, 0, 3)]
     tests = []
     for comment, told, first, end in rows:
