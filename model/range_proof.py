@@ -101,7 +101,7 @@ def chunks_at(nodes: Sequence[m.Node], start: int, stop: int) -> Optional[tuple[
 
 
 # --------------------------------------------------------------------------
-# What a proof shows, whoever made it
+# What a proof shows, whoever made it; reading it has checked the rules 5 to 8
 # --------------------------------------------------------------------------
 
 def broken_rule(proof: RangeProof) -> Optional[int]:
