@@ -18,6 +18,14 @@ class Told(NamedTuple):
     nodes: tuple[m.Node, ...]
 
 
+class ToldData(NamedTuple):
+    """A list of chunks whose data is told: the object by which a vector tells it, its nodes, and each chunk's bytes."""
+
+    said: dict[str, Any]
+    nodes: tuple[m.Node, ...]
+    chunks: tuple[bytes, ...]
+
+
 def pattern(text: str) -> Told:
     """Node i has the words i + 1, 2(i + 1), 3(i + 1) and 4(i + 1), of which the last is one more where it is no cut."""
     nodes = []
@@ -37,6 +45,31 @@ def seeds(numbers: Sequence[int]) -> Told:
     """For each number k the hash of the seed k with the size 100 k; for 0 the default hash with the size 0."""
     nodes = ((m.random_from_seed(k) if k else m.DEFAULT_HASH, 100 * k) for k in numbers)
     return Told({"seeds": [str(k) for k in numbers]}, tuple(nodes))
+
+
+def counted(count: int, cut_every: int) -> Told:
+    """Node i has the words i, 0, 0, d and the size 1; d is 0 for the last of each `cut_every` nodes, and else 1."""
+    nodes = (((i, 0, 0, 0 if cut_every and i % cut_every == cut_every - 1 else 1), 1) for i in range(count))
+    return Told({"counted": {"count": count, "cutEvery": cut_every}}, tuple(nodes))
+
+
+def of_data(*chunks: bytes) -> ToldData:
+    """The bytes of each chunk themselves."""
+    return ToldData({"chunkBytes": [data.hex() for data in chunks]}, _nodes_of(chunks), chunks)
+
+
+def numbers(first: int, count: int, lengths: Sequence[int]) -> ToldData:
+    """Chunk i is the decimal text of first + i and a space, again and again, cut off at a length; these come round again."""
+    chunks = tuple(_repeated(first + i, lengths[i % len(lengths)]) for i in range(count))
+    return ToldData({"numbers": {"first": first, "count": count, "lengths": list(lengths)}}, _nodes_of(chunks), chunks)
+
+
+def _repeated(number: int, length: int) -> bytes:
+    return (b"%d " % number * length)[:length]
+
+
+def _nodes_of(chunks: Sequence[bytes]) -> tuple[m.Node, ...]:
+    return tuple((m.compute_data_hash(data), len(data)) for data in chunks)
 
 
 def of_rule(said: dict[str, Any]) -> Told:

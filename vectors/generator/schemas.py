@@ -49,7 +49,14 @@ LEVELS = array(array(COUNT, minItems=2, maxItems=2), minItems=1)
 SUBTREE = {"levels": ref("levels"), "size": ref("number"), "finalHash": OPTIONAL_HASH, "jsonHash": ref("hash")}
 RANGE = record({"list": ref("list"), "atStart": TRUTH, "atEnd": TRUTH})
 MARKS = {"atStart": TRUTH, "atEnd": TRUTH}
-DEFINITIONS: Schema = {"hash": HASH, "number": NUMBER, "key": KEY, "list": LIST, "levels": LEVELS, "range": RANGE,
+FILE: Schema = {"oneOf": [
+    *LIST["oneOf"],
+    record({"counted": record({"count": COUNT, "cutEvery": COUNT})}),
+    record({"numbers": record({"first": COUNT, "count": COUNT, "lengths": array(COUNT, minItems=1)})}),
+    record({"chunkBytes": array(ref("bytes"))}),
+]}
+DEFINITIONS: Schema = {"hash": HASH, "number": NUMBER, "key": KEY, "bytes": HEX, "list": LIST, "file": FILE, "levels": LEVELS,
+                       "range": RANGE,
                        "places": {"anyOf": [COUNT, array(ref("places"), minItems=2, maxItems=2)]}}
 
 
@@ -125,12 +132,17 @@ def merges() -> list[Schema]:
 
 def subtree_json() -> list[Schema]:
     """The groups of subtree_json.json."""
-    rule: Schema = {"type": "integer", "minimum": 1, "maximum": 13}
-    return [group("SubtreeJson", {"oneOf": [
+    return [group("SubtreeJson", _json_texts(13))]
+
+
+def _json_texts(rules: int) -> Schema:
+    """Tests of texts that are read, that aren't JSON, or that break one of this many rules."""
+    rule: Schema = {"type": "integer", "minimum": 1, "maximum": rules}
+    return {"oneOf": [
         test({"result": one_of("valid"), "text": TEXT}, {"written": TEXT}),
         test({"result": one_of("invalid"), "text": TEXT, "error": one_of("NotJson")}),
         test({"result": one_of("invalid"), "text": TEXT, "error": one_of("InvalidJson"), "rule": rule}),
-    ]})]
+    ]}
 
 
 def sessions() -> list[Schema]:
@@ -151,13 +163,53 @@ def sessions() -> list[Schema]:
     return [group("Session", test({"calls": array({"oneOf": calls})}))]
 
 
+def range_proofs() -> list[Schema]:
+    """The groups of range_proofs.json."""
+    return [*_trees(), _opening(), *_proof_forms()]
+
+
+def _trees() -> list[Schema]:
+    pair = array(COUNT, minItems=2, maxItems=2)
+    chunks_at = record({"start": ref("number"), "stop": ref("number"), "chunks": {"anyOf": [pair, {"type": "null"}]}})
+    places = array(ref("number"), minItems=2)
+    bytes_of = record({"first": COUNT, "end": COUNT, "bytes": {"anyOf": [{**places, "maxItems": 2}, {"type": "null"}]}})
+    proof = record({"first": COUNT, "end": COUNT, "levels": array(pair), "places": places, "jsonHash": ref("hash"),
+                    "flatHash": ref("hash")}, {"json": TEXT, "flatNodes": array(NODE)})
+    answer = {"totalSize": ref("number"), "root": ref("hash"), "fileHash": ref("hash"), "chunksAt": array(chunks_at),
+              "bytesOf": array(bytes_of), "proofs": array(proof)}
+    salted = array(record({"saltBytes": ref("key"), "fileHash": ref("hash")}))
+    tree = valid_or_invalid({"list": ref("file")}, answer, {"error": one_of("SizeOverflow")}, {"salted": salted})
+    refused = test({"list": ref("file"), "first": COUNT, "end": COUNT, "error": one_of("InvalidArguments", "SizeOverflow")})
+    return [group("HashTree", tree), group("ProofRefused", refused)]
+
+
+def _opening() -> Schema:
+    place: Schema = {"anyOf": [ref("number"), {"type": "null"}]}
+    check = record({"number": COUNT, "dataBytes": ref("bytes"), "place": place})
+    read = record({"start": ref("number"), "stop": ref("number"), "dataBytes": ref("bytes"),
+                   "readBytes": {"anyOf": [ref("bytes"), {"type": "null"}]}})
+    answer = {"fileSize": ref("number"), "places": array(ref("number"), minItems=2), "checks": array(check),
+              "reads": array(read)}
+    kinds: list[Schema] = []
+    for shown in ({"fileHash": ref("hash"), "saltBytes": ref("key")}, {"root": ref("hash")}):
+        kinds += valid_or_invalid({"text": TEXT, **shown}, answer, {"error": one_of("Mismatch")})["oneOf"]
+    return group("OpenProof", {"oneOf": kinds})
+
+
+def _proof_forms() -> list[Schema]:
+    flat = {"levels": array(array(ref("number"), minItems=2, maxItems=2)), "nodes": array(NODE)}
+    rule: Schema = {"type": "integer", "minimum": 5, "maximum": 8}
+    lists_ = valid_or_invalid(flat, {"json": TEXT}, {"error": one_of("InvalidJson"), "rule": rule})
+    return [group("ProofJson", _json_texts(8)), group("FlatProof", lists_)]
+
+
 def upstream() -> list[Schema]:
     """The groups of upstream.json."""
     return [it for it in roots() + subtrees() if it["properties"]["type"] in (one_of("Root"), one_of("Subtree"))]
 
 
 SCHEMAS = {"hashes": hashes, "texts": texts, "roots": roots, "subtrees": subtrees, "merges": merges,
-           "subtree_json": subtree_json, "sessions": sessions, "upstream": upstream}
+           "subtree_json": subtree_json, "sessions": sessions, "range_proofs": range_proofs, "upstream": upstream}
 
 
 def schema(name: str) -> Schema:
