@@ -110,6 +110,20 @@ yurewha_chunk *digits_of(const char *digits)
     return chunks;
 }
 
+uint8_t *message_of(size_t length)
+{
+    uint8_t *message = block(length);
+    for (size_t i = 0; i < length; i++)
+        message[i] = (uint8_t)(i % 251);
+    return message;
+}
+
+yurewha_subtree some_subtree(void)
+{
+    const yurewha_chunk chunk = {{{7, 7, 7, 7}}, 7};
+    return range_of(&chunk, 0, 1, true, true);
+}
+
 yurewha_subtree range_of(const yurewha_chunk *chunks, size_t from, size_t to, bool at_start, bool at_end)
 {
     yurewha_subtree subtree = {0};
@@ -195,7 +209,7 @@ int main(int count, char **names)
         {"hasher", test_hasher},       {"lanes", test_lanes},
         {"roots", test_roots},         {"subtrees", test_subtrees},
         {"merging", test_merging},     {"texts", test_texts},
-        {"flat_lists", test_flat_lists}, {"sessions", test_sessions},
+        {"sessions", test_sessions},
         {"handles", test_handles},     {"rooms", test_rooms},
         {"empty_slices", test_empty_slices}, {"refusals", test_refusals},
         {"costs", test_costs},         {"large", test_large},

@@ -32,10 +32,42 @@ yurewha_hash hash_of(const char *hex);
 bool same_hash(const yurewha_hash *first, const yurewha_hash *second);
 bool is_hash(const yurewha_hash *hash, const char *hex);
 
-/* Lists of chunks in blocks of their own: as values.h says, where a pattern goes on as it began; and by digits, of which each is the hash of that seed with the
- * size 100 times the digit, 0 the default hash with the size 0, and X the hash of seed 1 with the greatest size. */
+/* Lists of chunks in blocks of their own. By a pattern, which is repeated, chunk i has the words i, 0, 0 and w, and the size 1; w
+ * is 0 where its character is '|', which makes a natural cut, else 1. Without a pattern, it has the hash of the seed i + 1 and
+ * the size 100 + 977 * i % 9901. By digits, each is the hash of that seed with the size 100 times the digit, 0 the default hash
+ * with the size 0, and X the hash of seed 1 with the greatest size. */
 yurewha_chunk *list_of(const char *pattern, size_t count);
 yurewha_chunk *digits_of(const char *digits);
+
+/* Lists that several tests take. */
+static const struct list_row {
+    const char *pattern;
+    size_t count;
+} list_rows[] = {
+    {"", 0},
+    {".", 1},
+    {"|", 1},
+    {"|..|..|", 7},
+    {"|......|......|", 15},
+    {"|.......|.......|", 17},
+    {"|.|.|", 5},
+    {"...|", 20},
+    {"...|", 24},
+    {"...|", 28},
+    {NULL, 1},
+    {NULL, 2},
+    {NULL, 3},
+    {NULL, 9},
+    {NULL, 40},
+    {NULL, 150},
+    {NULL, 400},
+};
+
+/* The message whose byte i is i % 251, in a block of its own. */
+uint8_t *message_of(size_t length);
+
+/* A subtree that no row makes: what a handle owns before a call. */
+yurewha_subtree some_subtree(void);
 
 /* The subtree of a part of a list. */
 yurewha_subtree range_of(const yurewha_chunk *chunks, size_t from, size_t to, bool at_start, bool at_end);
@@ -66,7 +98,6 @@ void test_roots(void);
 void test_subtrees(void);
 void test_merging(void);
 void test_texts(void);
-void test_flat_lists(void);
 void test_sessions(void);
 void test_handles(void);
 void test_rooms(void);

@@ -4,7 +4,6 @@
  * more chunks than `largest` are left out.
  */
 #include "harness.h"
-#include "values.h"
 
 /* Without a natural cut and of natural cuts alone, so that all nodes are kept; with stable points at rule; and drawn. */
 static const char *const patterns[] = {".", "|", "...|", NULL};
@@ -72,20 +71,6 @@ static void points(struct list *it)
     EXPECT_STATUS(wanted, yurewha_find_stable_end(it->chunks, it->count, &last));
     EXPECT(first == levels[0].left && it->count - last == (level_count == 1 ? it->count : levels[0].right));
     free(nodes);
-}
-
-static bool same_pattern(const char *first, const char *second)
-{
-    return first == NULL || second == NULL ? first == second : strcmp(first, second) == 0;
-}
-
-static void of_the_model(struct list *it)
-{
-    for (size_t i = 0; i < LENGTH(large_rows); i++) {
-        const struct large_row *said = &large_rows[i];
-        if (said->count == it->count && same_pattern(said->pattern, it->pattern))
-            EXPECT(is_hash(&it->root, said->xorb));
-    }
 }
 
 /* ---- Subtrees */
@@ -375,12 +360,12 @@ static const struct check {
     void (*make)(struct list *);
 } checks[] = {
     {"roots", roots},           {"points", points},
-    {"model", of_the_model},    {"parts", parts},
-    {"ranges", ranges},         {"json", json},
-    {"texts by length", texts_by_length}, {"flat lists", flat_lists},
-    {"one put", one_put},       {"puts in order", puts_in_order},
-    {"runs", runs},             {"saved", saved},
-    {"far positions", far_positions}, {"hash texts", hash_texts},
+    {"parts", parts},           {"ranges", ranges},
+    {"json", json},             {"texts by length", texts_by_length},
+    {"flat lists", flat_lists}, {"one put", one_put},
+    {"puts in order", puts_in_order}, {"runs", runs},
+    {"saved", saved},           {"far positions", far_positions},
+    {"hash texts", hash_texts},
 };
 
 /* Lists that are too long for all checks: subtrees of 200,000 nodes are merged, and a session of more than 2^20 chunks ends. */

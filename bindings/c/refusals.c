@@ -7,7 +7,6 @@
  * no block is left: so what a call frees or replaces is counted.
  */
 #include "harness.h"
-#include "values.h"
 
 enum { LEVELS = 16 };
 
@@ -295,10 +294,16 @@ static yurewha_status from_half_json(struct world *w)
 {
     return yurewha_subtree_from_json(w->json, w->json_length / 2, &w->owned);
 }
+/* Eight left nodes, two on top, and four right nodes without a natural cut. */
 static yurewha_status from_forged_json(struct world *w)
 {
-    const char *text = text_rows[LENGTH(text_rows) - 4].text;
-    return yurewha_subtree_from_json(text, strlen(text), &w->owned);
+    char text[2000] = "{\"at_end\":false,\"at_start\":false,\"levels\":[[8,4],[2,0]],\"nodes\":[";
+    size_t at = strlen(text);
+    for (unsigned i = 0; i < 14; i++)
+        at += (size_t)snprintf(text + at, sizeof text - at, "%s{\"hash\":\"%016x%032x%016x\",\"size\":1}", i != 0 ? "," : "", i, 0U,
+                               i == 3 || i == 7 ? 0U : 1U);
+    at += (size_t)snprintf(text + at, sizeof text - at, "]}");
+    return yurewha_subtree_from_json(text, at, &w->owned);
 }
 /* The same text with another count of nodes. */
 static yurewha_status from_miscounted_json(struct world *w)

@@ -1,49 +1,7 @@
-/* Roots, file hashes and stable points of lists. */
+/* The sizes of lists at the edge of 64 bits. vectors.c has roots, file hashes and stable points. */
 #include "harness.h"
-#include "values.h"
 
-static void references(void)
-{
-    for (size_t i = 0; i < LENGTH(reference_rows); i++) {
-        const struct reference_row *it = &reference_rows[i];
-        const size_t count = strlen(it->digits);
-        yurewha_chunk *chunks = digits_of(it->digits);
-        yurewha_hash hash;
-        row("reference list %s", it->digits);
-        EXPECT_STATUS(YUREWHA_DONE, yurewha_xorb_hash(chunks, count, &hash));
-        EXPECT(is_hash(&hash, it->xorb));
-        EXPECT_STATUS(YUREWHA_DONE, yurewha_file_hash(chunks, count, &hash));
-        EXPECT(is_hash(&hash, it->file));
-        for (size_t j = 0; j < LENGTH(it->salted); j++) {
-            const yurewha_hash salt = hash_of(it->salted[j].salt);
-            yurewha_bytes bytes;
-            yurewha_hash_to_bytes(&salt, &bytes);
-            EXPECT_STATUS(YUREWHA_DONE, yurewha_file_hash_with_salt(chunks, count, &bytes, &hash));
-            EXPECT(is_hash(&hash, it->salted[j].file));
-        }
-        free(chunks);
-    }
-}
-
-static void lists(void)
-{
-    for (size_t i = 0; i < LENGTH(root_rows); i++) {
-        const struct root_row *it = &root_rows[i];
-        const yurewha_bytes zeros = {{0}};
-        yurewha_chunk *chunks = list_of(it->pattern, it->count);
-        yurewha_hash hash;
-        row("list %zu of %zu", i, it->count);
-        EXPECT_STATUS(YUREWHA_DONE, yurewha_xorb_hash(chunks, it->count, &hash));
-        EXPECT(is_hash(&hash, it->xorb));
-        EXPECT_STATUS(YUREWHA_DONE, yurewha_file_hash(chunks, it->count, &hash));
-        EXPECT(is_hash(&hash, it->file));
-        EXPECT_STATUS(YUREWHA_DONE, yurewha_file_hash_with_salt(chunks, it->count, &zeros, &hash));
-        EXPECT(is_hash(&hash, it->file));
-        free(chunks);
-    }
-}
-
-static void sizes(void)
+void test_roots(void)
 {
     static const struct {
         const char *digits;
@@ -65,28 +23,4 @@ static void sizes(void)
             EXPECT(same_hash(&hashes[j], &before) == (rows[i].status != YUREWHA_DONE));
         free(chunks);
     }
-}
-
-static void points(void)
-{
-    for (size_t i = 0; i < LENGTH(point_rows); i++) {
-        const struct point_row *it = &point_rows[i];
-        yurewha_chunk *chunks = list_of(it->pattern, it->count);
-        size_t first = 12345, last = 12345;
-        row("list %zu of %zu", i, it->count);
-        EXPECT_STATUS(it->first < 0 ? YUREWHA_ARGUMENTS : YUREWHA_DONE,
-                      yurewha_find_stable_start(chunks, it->count, &first));
-        EXPECT_STATUS(it->last < 0 ? YUREWHA_ARGUMENTS : YUREWHA_DONE, yurewha_find_stable_end(chunks, it->count, &last));
-        EXPECT(first == (it->first < 0 ? 12345 : (size_t)it->first));
-        EXPECT(last == (it->last < 0 ? 12345 : (size_t)it->last));
-        free(chunks);
-    }
-}
-
-void test_roots(void)
-{
-    references();
-    lists();
-    sizes();
-    points();
 }

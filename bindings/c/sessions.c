@@ -1,6 +1,5 @@
 /* Sessions: chunks by position, in any order. */
 #include "harness.h"
-#include "values.h"
 
 enum step { END, PUT, PUSH, KEEP, TAKEN, RUNS, RUN, ROOT, FINISH };
 
@@ -316,12 +315,12 @@ static void calls(void)
 static void orders(void)
 {
     static const size_t blocks[] = {1, 7, 50};
-    for (size_t i = 0; i < LENGTH(root_rows) * LENGTH(blocks) * 3; i++) {
-        const struct root_row *it = &root_rows[i / (3 * LENGTH(blocks))];
+    for (size_t i = 0; i < LENGTH(list_rows) * LENGTH(blocks) * 3; i++) {
+        const struct list_row *it = &list_rows[i / (3 * LENGTH(blocks))];
         const size_t size = blocks[i / 3 % LENGTH(blocks)], count = (it->count + size - 1) / size;
         yurewha_chunk *chunks = list_of(it->pattern, it->count);
         yurewha_session session = {0};
-        yurewha_hash hash;
+        yurewha_hash root, file, hash;
         uint64_t sum = 0;
         row("%zu chunks by %zu, order %zu", it->count, size, i % 3);
         EXPECT_STATUS(YUREWHA_DONE, yurewha_session_new(&session));
@@ -336,10 +335,12 @@ static void orders(void)
             sum += fresh;
         }
         EXPECT(sum == it->count);
+        EXPECT_STATUS(YUREWHA_DONE, yurewha_xorb_hash(chunks, it->count, &root));
+        EXPECT_STATUS(YUREWHA_DONE, yurewha_file_hash(chunks, it->count, &file));
         EXPECT_STATUS(YUREWHA_DONE, yurewha_session_root(&session, it->count, &hash));
-        EXPECT(is_hash(&hash, it->xorb));
+        EXPECT(same_hash(&hash, &root));
         EXPECT_STATUS(YUREWHA_DONE, yurewha_session_finish(&session, it->count, &hash));
-        EXPECT(is_hash(&hash, it->file));
+        EXPECT(same_hash(&hash, &file));
         yurewha_session_free(&session);
         free(chunks);
     }

@@ -1,77 +1,5 @@
-/* Subtrees from chunks, what is told of them, and merging. */
+/* Equality and sizes of subtrees, and bracketings. vectors.c has the values of subtrees, and merges of two. */
 #include "harness.h"
-#include "values.h"
-
-/* Whether the text names these counts, as "8,4 2,0". */
-static bool are_levels(const char *text, const yurewha_level *levels, size_t count)
-{
-    char written[400] = "";
-    size_t at = 0;
-    for (size_t i = 0; i < count && at < sizeof written; i++)
-        at += (size_t)snprintf(written + at, sizeof written - at, "%s%zu,%zu", i != 0 ? " " : "", levels[i].left,
-                               levels[i].right);
-    return strcmp(text, written) == 0;
-}
-
-static void check_levels(yurewha_subtree *subtree, const char *wanted)
-{
-    size_t level_count = 0, node_count = 0, levels_told = 0, nodes_told = 0, sum = 0;
-    EXPECT_STATUS(YUREWHA_DONE, yurewha_subtree_num_levels(subtree, &level_count));
-    EXPECT_STATUS(YUREWHA_DONE, yurewha_subtree_num_nodes(subtree, &node_count));
-    yurewha_level *levels = block(level_count * sizeof *levels);
-    yurewha_chunk *nodes = block(node_count * sizeof *nodes);
-    EXPECT_STATUS(YUREWHA_DONE,
-                  yurewha_subtree_to_flat(subtree, levels, level_count, nodes, node_count, &levels_told, &nodes_told));
-    EXPECT(levels_told == level_count && nodes_told == node_count);
-    EXPECT(are_levels(wanted, levels, level_count));
-    for (size_t i = 0; i < level_count; i++)
-        sum += levels[i].left + levels[i].right;
-    EXPECT(sum == node_count);
-    free(levels);
-    free(nodes);
-}
-
-static void check_json(yurewha_subtree *subtree, size_t wanted, const char *digest)
-{
-    size_t length = 0;
-    yurewha_hash hash;
-    EXPECT_STATUS(YUREWHA_ROOM, yurewha_subtree_to_json(subtree, NULL, 0, &length));
-    EXPECT(length == wanted);
-    char *text = block(length);
-    EXPECT_STATUS(YUREWHA_DONE, yurewha_subtree_to_json(subtree, text, length, &length));
-    EXPECT(length == wanted);
-    yurewha_data_hash((const uint8_t *)text, length, &hash);
-    EXPECT(is_hash(&hash, digest));
-    free(text);
-}
-
-static void lists(void)
-{
-    for (size_t i = 0; i < LENGTH(subtree_rows); i++) {
-        const struct subtree_row *it = &subtree_rows[i];
-        yurewha_chunk *chunks = list_of(it->pattern, it->count);
-        yurewha_subtree subtree = range_of(chunks, 0, it->count, it->at_start, it->at_end);
-        yurewha_subtree copy = {0};
-        const yurewha_hash before = {{1, 2, 3, 4}};
-        yurewha_hash root = before;
-        bool at_start = !it->at_start, at_end = !it->at_end;
-        uint64_t size = 12345;
-        free(chunks);
-        row("list %zu under %d, %d", i, it->at_start, it->at_end);
-        check_levels(&subtree, it->levels);
-        EXPECT_STATUS(YUREWHA_DONE, yurewha_subtree_marks(&subtree, &at_start, &at_end));
-        EXPECT(at_start == it->at_start && at_end == it->at_end);
-        EXPECT_STATUS(YUREWHA_DONE, yurewha_subtree_total_size(&subtree, &size));
-        EXPECT(size == it->size);
-        EXPECT_STATUS(it->root != NULL ? YUREWHA_DONE : YUREWHA_ARGUMENTS, yurewha_subtree_final_hash(&subtree, &root));
-        EXPECT(it->root != NULL ? is_hash(&root, it->root) : same_hash(&root, &before));
-        EXPECT_STATUS(YUREWHA_DONE, yurewha_subtree_clone(&subtree, &copy));
-        EXPECT(same_subtree(&subtree, &copy));
-        yurewha_subtree_free(&subtree);
-        check_json(&copy, it->json_length, it->json);
-        yurewha_subtree_free(&copy);
-    }
-}
 
 /* Subtrees that differ in one thing. */
 static void equality(void)
@@ -128,39 +56,11 @@ static void sizes(void)
 
 void test_subtrees(void)
 {
-    lists();
     equality();
     sizes();
 }
 
 /* ---- Merging */
-
-static void two_parts(void)
-{
-    for (size_t i = 0; i < LENGTH(merge_rows); i++) {
-        const struct merge_row *it = &merge_rows[i];
-        yurewha_chunk *chunks = list_of(it->pattern, it->count);
-        row("%zu chunks cut at %zu under %d, %d", it->count, it->cut, it->at_start, it->at_end);
-        yurewha_subtree whole = range_of(chunks, 0, it->count, it->at_start, it->at_end);
-        yurewha_subtree left = range_of(chunks, 0, it->cut, it->at_start, false), again = {0}, same = {0};
-        yurewha_subtree right = range_of(chunks, it->cut, it->count, false, it->at_end);
-        uint64_t parents = 12345;
-        EXPECT_STATUS(YUREWHA_DONE, yurewha_subtree_clone(&left, &again));
-        EXPECT_STATUS(YUREWHA_DONE, yurewha_subtree_clone(&right, &same));
-        EXPECT_STATUS(YUREWHA_DONE, yurewha_subtree_merge_into(&left, &right));
-        EXPECT(same_subtree(&left, &whole));
-        EXPECT_STATUS(YUREWHA_DONE, yurewha_subtree_merge_into_counted(&again, &right, &parents));
-        EXPECT(same_subtree(&again, &whole));
-        EXPECT(parents == it->parents);
-        EXPECT(same_subtree(&right, &same));
-        yurewha_subtree_free(&whole);
-        yurewha_subtree_free(&left);
-        yurewha_subtree_free(&again);
-        yurewha_subtree_free(&same);
-        yurewha_subtree_free(&right);
-        free(chunks);
-    }
-}
 
 /* The five bracketings of four ranges: which two neighbours are merged first, second and third. */
 static void bracketings(void)
@@ -313,7 +213,6 @@ static void refused_lists(void)
 
 void test_merging(void)
 {
-    two_parts();
     bracketings();
     refused_pairs();
     refused_lists();

@@ -1,12 +1,5 @@
-/* Subtrees as JSON and as flat lists. */
+/* Spellings of JSON, and what the library says of itself. vectors.c has the rules, and JSON and flat lists both ways. */
 #include "harness.h"
-#include "values.h"
-
-static yurewha_subtree some_subtree(void)
-{
-    const yurewha_chunk chunk = {{{7, 7, 7, 7}}, 7};
-    return range_of(&chunk, 0, 1, true, true);
-}
 
 static void check_text(const char *given, size_t length, yurewha_status status)
 {
@@ -22,15 +15,6 @@ static void check_text(const char *given, size_t length, yurewha_status status)
     }
     yurewha_subtree_free(&subtree);
     yurewha_subtree_free(&before);
-}
-
-static void rules(void)
-{
-    for (size_t i = 0; i < LENGTH(text_rows); i++) {
-        const struct text_row *it = &text_rows[i];
-        row("%s", it->name);
-        check_text(it->text, strlen(it->text), it->rule != 0 ? YUREWHA_RULE + it->rule : YUREWHA_DONE);
-    }
 }
 
 #define EMPTY_TEXT "{\"at_end\":true,\"at_start\":true,\"levels\":[[0,0]],\"nodes\":[]}"
@@ -81,37 +65,6 @@ static void other_spellings(void)
     }
 }
 
-/* What each list makes is the same read back, from JSON and from flat lists. */
-static void both_ways(void)
-{
-    for (size_t i = 0; i < LENGTH(subtree_rows); i++) {
-        const struct subtree_row *it = &subtree_rows[i];
-        yurewha_chunk *chunks = list_of(it->pattern, it->count);
-        yurewha_subtree made = range_of(chunks, 0, it->count, it->at_start, it->at_end), read = {0}, put = {0};
-        size_t length = 0, level_count = 0, node_count = 0;
-        row("list %zu under %d, %d", i, it->at_start, it->at_end);
-        char *text = block(it->json_length);
-        EXPECT_STATUS(YUREWHA_DONE, yurewha_subtree_to_json(&made, text, it->json_length, &length));
-        EXPECT_STATUS(YUREWHA_DONE, yurewha_subtree_from_json(text, length, &read));
-        EXPECT(same_subtree(&made, &read));
-        EXPECT_STATUS(YUREWHA_ROOM, yurewha_subtree_to_flat(&made, NULL, 0, NULL, 0, &level_count, &node_count));
-        yurewha_level *levels = block(level_count * sizeof *levels);
-        yurewha_chunk *nodes = block(node_count * sizeof *nodes);
-        EXPECT_STATUS(YUREWHA_DONE,
-                      yurewha_subtree_to_flat(&made, levels, level_count, nodes, node_count, &level_count, &node_count));
-        EXPECT_STATUS(YUREWHA_DONE, yurewha_subtree_from_flat(it->at_start, levels, level_count, nodes, node_count,
-                                                              it->at_end, &put));
-        EXPECT(same_subtree(&made, &put));
-        free(chunks);
-        free(text);
-        free(levels);
-        free(nodes);
-        yurewha_subtree_free(&made);
-        yurewha_subtree_free(&read);
-        yurewha_subtree_free(&put);
-    }
-}
-
 /* The version, in rooms of its length and of one byte less. */
 static void version(void)
 {
@@ -140,50 +93,6 @@ void test_texts(void)
 {
     version();
     level();
-    rules();
     spellings();
     other_spellings();
-    both_ways();
-}
-
-/* ---- Flat lists */
-
-static void *copied(const void *bytes, size_t size)
-{
-    void *copy = block(size);
-    if (size != 0)
-        memcpy(copy, bytes, size);
-    return copy;
-}
-
-void test_flat_lists(void)
-{
-    for (size_t i = 0; i < LENGTH(flat_rows); i++) {
-        const struct flat_row *it = &flat_rows[i];
-        const yurewha_status status = it->rule != 0 ? YUREWHA_RULE + it->rule : YUREWHA_DONE;
-        yurewha_subtree subtree = some_subtree(), before = some_subtree();
-        yurewha_level *levels = copied(it->levels, it->level_count * sizeof *levels);
-        yurewha_chunk *nodes = copied(it->nodes, it->node_count * sizeof *nodes);
-        row("%s", it->name);
-        EXPECT_STATUS(status, yurewha_subtree_from_flat(it->at_start, levels, it->level_count, nodes, it->node_count,
-                                                        it->at_end, &subtree));
-        EXPECT(same_subtree(&subtree, &before) == (status != YUREWHA_DONE));
-        if (status == YUREWHA_DONE) {
-            size_t level_count = 0, node_count = 0;
-            bool at_start = !it->at_start, at_end = !it->at_end;
-            memset(levels, 0xa5, it->level_count * sizeof *levels);
-            memset(nodes, 0xa5, it->node_count * sizeof *nodes);
-            EXPECT_STATUS(YUREWHA_DONE, yurewha_subtree_to_flat(&subtree, levels, it->level_count, nodes, it->node_count,
-                                                                &level_count, &node_count));
-            EXPECT(level_count == it->level_count && node_count == it->node_count);
-            EXPECT(level_count == 0 || memcmp(levels, it->levels, level_count * sizeof *levels) == 0);
-            EXPECT(node_count == 0 || memcmp(nodes, it->nodes, node_count * sizeof *nodes) == 0);
-            EXPECT_STATUS(YUREWHA_DONE, yurewha_subtree_marks(&subtree, &at_start, &at_end));
-            EXPECT(at_start == it->at_start && at_end == it->at_end);
-        }
-        free(levels);
-        free(nodes);
-        yurewha_subtree_free(&subtree);
-        yurewha_subtree_free(&before);
-    }
 }

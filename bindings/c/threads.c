@@ -1,10 +1,16 @@
 /* Eight threads with objects of their own, and handles that go from one thread to another and back. */
 #include "harness.h"
-#include "values.h"
 
 #include <pthread.h>
 
 enum { THREADS = 8, TURNS = 20 };
+
+/* What the first thread finds, one call after another. */
+static struct {
+    yurewha_hash root;
+    yurewha_hash file;
+} wanted[LENGTH(list_rows)];
+static yurewha_hash wanted_message;
 
 struct work {
     pthread_t thread;
@@ -13,9 +19,10 @@ struct work {
     bool holds;
 };
 
-/* One list by ranges, as a text, by positions, and as a message: whether all say what the table does. */
-static bool is_right(const struct root_row *it, size_t size)
+/* One list by ranges, as a text, by positions, and as a message: whether all say what the first thread found. */
+static bool is_right(size_t number, size_t size)
 {
+    const struct list_row *it = &list_rows[number];
     const size_t count = (it->count + size - 1) / size;
     yurewha_chunk *chunks = list_of(it->pattern, it->count);
     yurewha_subtree whole = {0}, range = {0}, read = {0};
@@ -34,14 +41,14 @@ static bool is_right(const struct root_row *it, size_t size)
                 && yurewha_subtree_merge_into(&whole, &range) == YUREWHA_DONE
                 && yurewha_session_put(&session, last, chunks + last, other, &fresh) == YUREWHA_DONE;
     }
-    holds = holds && yurewha_subtree_final_hash(&whole, &root) == YUREWHA_DONE && is_hash(&root, it->xorb)
-            && yurewha_session_finish(&session, it->count, &file) == YUREWHA_DONE && is_hash(&file, it->file)
+    holds = holds && yurewha_subtree_final_hash(&whole, &root) == YUREWHA_DONE && same_hash(&root, &wanted[number].root)
+            && yurewha_session_finish(&session, it->count, &file) == YUREWHA_DONE && same_hash(&file, &wanted[number].file)
             && yurewha_subtree_to_json(&whole, NULL, 0, &length) == YUREWHA_ROOM;
     text = block(length);
     holds = holds && yurewha_subtree_to_json(&whole, text, length, &length) == YUREWHA_DONE
             && yurewha_subtree_from_json(text, length, &read) == YUREWHA_DONE && same_subtree(&read, &whole);
-    yurewha_data_hash((const uint8_t *)"\0\1\2", message_rows[2].length, &message);
-    holds = holds && is_hash(&message, message_rows[2].data);
+    yurewha_data_hash((const uint8_t *)"\0\1\2", 3, &message);
+    holds = holds && same_hash(&message, &wanted_message);
     free(text);
     free(chunks);
     yurewha_subtree_free(&whole);
@@ -57,9 +64,9 @@ static void *work_on(void *given)
     bool at_start = false, at_end = true;
     work->holds = true;
     for (size_t i = 0; i < TURNS; i++) {
-        const struct root_row *it = &root_rows[(work->number + i) % LENGTH(root_rows)];
-        if (it->count != 0)
-            work->holds = is_right(it, 1 + (work->number + 3 * i) % 50) && work->holds;
+        const size_t number = (work->number + i) % LENGTH(list_rows);
+        if (list_rows[number].count != 0)
+            work->holds = is_right(number, 1 + (work->number + 3 * i) % 50) && work->holds;
     }
     yurewha_subtree other = {0};
     work->holds = work->holds && yurewha_subtree_from_chunks(false, NULL, 0, true, &other) == YUREWHA_DONE
@@ -72,10 +79,20 @@ static void *work_on(void *given)
 void test_threads(void)
 {
     struct work works[THREADS];
+    yurewha_hash root_of_40;
+    yurewha_data_hash((const uint8_t *)"\0\1\2", 3, &wanted_message);
+    for (size_t i = 0; i < LENGTH(list_rows); i++) {
+        yurewha_chunk *chunks = list_of(list_rows[i].pattern, list_rows[i].count);
+        row("list %zu", i);
+        EXPECT_STATUS(YUREWHA_DONE, yurewha_xorb_hash(chunks, list_rows[i].count, &wanted[i].root));
+        EXPECT_STATUS(YUREWHA_DONE, yurewha_file_hash(chunks, list_rows[i].count, &wanted[i].file));
+        free(chunks);
+    }
     for (size_t i = 0; i < THREADS; i++) {
         yurewha_chunk *chunks = list_of(NULL, 40);
         row("thread %zu", i);
         works[i] = (struct work){.number = i, .handed = range_of(chunks, 0, 40, true, false)};
+        EXPECT_STATUS(YUREWHA_DONE, yurewha_xorb_hash(chunks, 40, &root_of_40));
         free(chunks);
         EXPECT(pthread_create(&works[i].thread, NULL, work_on, &works[i]) == 0);
     }
@@ -85,8 +102,7 @@ void test_threads(void)
         EXPECT(pthread_join(works[i].thread, NULL) == 0);
         EXPECT(works[i].holds);
         EXPECT_STATUS(YUREWHA_DONE, yurewha_subtree_final_hash(&works[i].handed, &root));
-        for (size_t j = 0; j < LENGTH(root_rows); j++)
-            EXPECT(root_rows[j].pattern != NULL || root_rows[j].count != 40 || is_hash(&root, root_rows[j].xorb));
+        EXPECT(same_hash(&root, &root_of_40));
         yurewha_subtree_free(&works[i].handed);
     }
 }

@@ -61,14 +61,6 @@ static yurewha_bytes key_of(const char *hex)
     return key;
 }
 
-static uint8_t *message_of(size_t length)
-{
-    uint8_t *message = block(length);
-    for (size_t i = 0; i < length; i++)
-        message[i] = (uint8_t)(i % 251);
-    return message;
-}
-
 static yurewha_chunk of_pattern(uint64_t i, char letter)
 {
     return (yurewha_chunk){{{i + 1, 2 * (i + 1), 3 * (i + 1), 4 * (i + 1) + (letter != '|')}}, 7 + 100 * i};
@@ -178,6 +170,37 @@ static void check_subtree(yurewha_subtree *subtree, const struct line *it, size_
     EXPECT_STATUS(is_there(final) ? YUREWHA_DONE : YUREWHA_ARGUMENTS, yurewha_subtree_final_hash(subtree, &root));
     EXPECT(!is_there(final) || is_hash(&root, final));
     check_json(subtree, field(it, first + 3));
+}
+
+static void check_marks(yurewha_subtree *subtree, bool wanted_start, bool wanted_end)
+{
+    bool at_start = !wanted_start, at_end = !wanted_end;
+    EXPECT_STATUS(YUREWHA_DONE, yurewha_subtree_marks(subtree, &at_start, &at_end));
+    EXPECT(at_start == wanted_start && at_end == wanted_end);
+}
+
+/* The subtree is the same read back, from JSON and from flat lists. */
+static void check_both_ways(yurewha_subtree *subtree, bool at_start, bool at_end)
+{
+    yurewha_subtree read = {0}, put = {0};
+    size_t length = 0, level_count = 0, node_count = 0;
+    EXPECT_STATUS(YUREWHA_ROOM, yurewha_subtree_to_json(subtree, NULL, 0, &length));
+    char *text = block(length);
+    EXPECT_STATUS(YUREWHA_DONE, yurewha_subtree_to_json(subtree, text, length, &length));
+    EXPECT_STATUS(YUREWHA_DONE, yurewha_subtree_from_json(text, length, &read));
+    EXPECT(same_subtree(subtree, &read));
+    EXPECT_STATUS(YUREWHA_ROOM, yurewha_subtree_to_flat(subtree, NULL, 0, NULL, 0, &level_count, &node_count));
+    yurewha_level *levels = block(level_count * sizeof *levels);
+    yurewha_chunk *nodes = block(node_count * sizeof *nodes);
+    EXPECT_STATUS(YUREWHA_DONE,
+                  yurewha_subtree_to_flat(subtree, levels, level_count, nodes, node_count, &level_count, &node_count));
+    EXPECT_STATUS(YUREWHA_DONE, yurewha_subtree_from_flat(at_start, levels, level_count, nodes, node_count, at_end, &put));
+    EXPECT(same_subtree(subtree, &put));
+    free(text);
+    free(levels);
+    free(nodes);
+    yurewha_subtree_free(&read);
+    yurewha_subtree_free(&put);
 }
 
 /* ---- Hashes and texts */
@@ -351,9 +374,9 @@ static void points(const struct line *it)
     yurewha_chunk *chunks = chunks_of(field(it, 0), &count);
     for (size_t i = 0; i < 2; i++) {
         const bool found = is_there(field(it, 1 + i));
-        size_t point = 0;
+        size_t point = 12345;
         EXPECT_STATUS(found ? YUREWHA_DONE : YUREWHA_ARGUMENTS, calls[i](chunks, count, &point));
-        EXPECT(!found || point == number(it, 1 + i));
+        EXPECT(point == (found ? number(it, 1 + i) : 12345));
     }
     free(chunks);
 }
@@ -362,13 +385,21 @@ static void subtree(const struct line *it)
 {
     size_t count = 0;
     yurewha_chunk *chunks = chunks_of(field(it, 0), &count);
+    const bool at_start = number(it, 1) != 0, at_end = number(it, 2) != 0;
     const yurewha_status status = (yurewha_status)number(it, 3);
-    yurewha_subtree made = {0};
-    EXPECT_STATUS(status, yurewha_subtree_from_chunks(number(it, 1) != 0, chunks, count, number(it, 2) != 0, &made));
-    if (status == YUREWHA_DONE)
-        check_subtree(&made, it, 4);
-    yurewha_subtree_free(&made);
+    yurewha_subtree made = {0}, copy = {0};
+    EXPECT_STATUS(status, yurewha_subtree_from_chunks(at_start, chunks, count, at_end, &made));
     free(chunks);
+    if (status == YUREWHA_DONE) {
+        EXPECT_STATUS(YUREWHA_DONE, yurewha_subtree_clone(&made, &copy));
+        EXPECT(same_subtree(&made, &copy));
+        yurewha_subtree_free(&made);
+        check_subtree(&copy, it, 4);
+        check_marks(&copy, at_start, at_end);
+        check_both_ways(&copy, at_start, at_end);
+    }
+    yurewha_subtree_free(&made);
+    yurewha_subtree_free(&copy);
 }
 
 /* ---- Merging */
@@ -378,18 +409,23 @@ static void merge(const struct line *it)
     size_t count = 0;
     yurewha_chunk *chunks = chunks_of(field(it, 0), &count);
     const size_t cut = number(it, 1);
-    yurewha_subtree both[2] = {range_of(chunks, 0, cut, number(it, 2) != 0, false),
-                               range_of(chunks, cut, count, false, number(it, 3) != 0)};
-    yurewha_subtree merged = {0};
+    const bool at_start = number(it, 2) != 0, at_end = number(it, 3) != 0;
+    yurewha_subtree whole = range_of(chunks, 0, count, at_start, at_end), merged = {0}, counted = {0}, same = {0};
+    yurewha_subtree both[2] = {range_of(chunks, 0, cut, at_start, false), range_of(chunks, cut, count, false, at_end)};
     uint64_t parents = 0;
+    check_subtree(&whole, it, 5);
     EXPECT_STATUS(YUREWHA_DONE, yurewha_subtree_merge(both, 2, &merged));
-    check_subtree(&merged, it, 5);
-    EXPECT_STATUS(YUREWHA_DONE, yurewha_subtree_merge_into_counted(&both[0], &both[1], &parents));
-    EXPECT(parents == number(it, 4));
-    check_subtree(&both[0], it, 5);
-    yurewha_subtree_free(&merged);
-    yurewha_subtree_free(&both[0]);
-    yurewha_subtree_free(&both[1]);
+    EXPECT(same_subtree(&merged, &whole));
+    EXPECT_STATUS(YUREWHA_DONE, yurewha_subtree_clone(&both[0], &counted));
+    EXPECT_STATUS(YUREWHA_DONE, yurewha_subtree_clone(&both[1], &same));
+    EXPECT_STATUS(YUREWHA_DONE, yurewha_subtree_merge_into(&both[0], &both[1]));
+    EXPECT(same_subtree(&both[0], &whole));
+    EXPECT_STATUS(YUREWHA_DONE, yurewha_subtree_merge_into_counted(&counted, &both[1], &parents));
+    EXPECT(same_subtree(&counted, &whole) && parents == number(it, 4));
+    EXPECT(same_subtree(&both[1], &same));
+    yurewha_subtree *const made[] = {&whole, &merged, &counted, &same, &both[0], &both[1]};
+    for (size_t i = 0; i < LENGTH(made); i++)
+        yurewha_subtree_free(made[i]);
     free(chunks);
 }
 
@@ -449,9 +485,9 @@ static void json(const struct line *it)
     size_t given = 0, wanted = 0, length = 0;
     uint8_t *text = bytes_of(field(it, 0), &given);
     uint8_t *other = bytes_of(field(it, is_there(field(it, 2)) ? 2 : 0), &wanted);
-    yurewha_subtree read = {0};
+    yurewha_subtree read = some_subtree(), before = some_subtree();
     EXPECT_STATUS(status, yurewha_subtree_from_json((const char *)text, given, &read));
-    EXPECT((read.at == NULL) == (status != YUREWHA_DONE));
+    EXPECT(same_subtree(&read, &before) == (status != YUREWHA_DONE));
     if (status == YUREWHA_DONE) {
         char *written = block(wanted);
         EXPECT_STATUS(YUREWHA_DONE, yurewha_subtree_to_json(&read, written, wanted, &length));
@@ -459,8 +495,49 @@ static void json(const struct line *it)
         free(written);
     }
     yurewha_subtree_free(&read);
+    yurewha_subtree_free(&before);
     free(text);
     free(other);
+}
+
+/* The levels of a field, as "8,4 2,0", in a block of their own. */
+static yurewha_level *levels_of(const char *said, size_t *count)
+{
+    char *at = (char *)said;
+    *count = is_there(said);
+    for (const char *space = said; (space = strchr(space, ' ')) != NULL; space++)
+        ++*count;
+    yurewha_level *levels = block(*count * sizeof *levels);
+    for (size_t i = 0; i < *count; i++) {
+        levels[i].left = strtoull(at, &at, 10);
+        levels[i].right = strtoull(at + 1, &at, 10);
+    }
+    return levels;
+}
+
+static void flat(const struct line *it)
+{
+    const bool at_start = number(it, 0) != 0, at_end = number(it, 1) != 0;
+    const yurewha_status status = (yurewha_status)number(it, 4);
+    size_t level_count = 0, node_count = 0, levels_told = 0, nodes_told = 0;
+    yurewha_level *levels = levels_of(field(it, 2), &level_count), *level_room = block(level_count * sizeof *levels);
+    yurewha_chunk *nodes = chunks_of(field(it, 3), &node_count), *node_room = block(node_count * sizeof *nodes);
+    yurewha_subtree put = some_subtree(), before = some_subtree();
+    EXPECT_STATUS(status, yurewha_subtree_from_flat(at_start, levels, level_count, nodes, node_count, at_end, &put));
+    EXPECT(same_subtree(&put, &before) == (status != YUREWHA_DONE));
+    if (status == YUREWHA_DONE) {
+        EXPECT_STATUS(YUREWHA_DONE,
+                      yurewha_subtree_to_flat(&put, level_room, level_count, node_room, node_count, &levels_told, &nodes_told));
+        EXPECT(levels_told == level_count && memcmp(level_room, levels, level_count * sizeof *levels) == 0);
+        EXPECT(nodes_told == node_count && memcmp(node_room, nodes, node_count * sizeof *nodes) == 0);
+        check_marks(&put, at_start, at_end);
+    }
+    yurewha_subtree_free(&put);
+    yurewha_subtree_free(&before);
+    free(levels);
+    free(nodes);
+    free(level_room);
+    free(node_room);
 }
 
 static void new_session(const struct line *it)
@@ -534,9 +611,9 @@ static void make(const char *kind, const struct line *it)
         {"hmac", hmac},       {"internal", internal}, {"forms", forms},   {"hex", hex},
         {"base64", base64},   {"order", order},     {"roots", roots},     {"xorb", xorb},
         {"points", points},   {"subtree", subtree}, {"merge", merge},     {"refused", refused},
-        {"ranges", take_ranges}, {"bracketing", bracketing}, {"json", json}, {"session", new_session},
-        {"put", put},         {"taken", taken},     {"runs", runs},       {"run", run},
-        {"root", root},       {"finish", finish},
+        {"ranges", take_ranges}, {"bracketing", bracketing}, {"json", json}, {"flat", flat},
+        {"session", new_session}, {"put", put},     {"taken", taken},     {"runs", runs},
+        {"run", run},         {"root", root},       {"finish", finish},
     };
     for (size_t i = 0; i < LENGTH(checks); i++) {
         if (strcmp(kind, checks[i].kind) == 0) {

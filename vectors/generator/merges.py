@@ -85,6 +85,17 @@ def every_cut() -> Group:
     return Group("Merge", "lists cut in two at each place, under each of the four marks", tests)
 
 
+def short() -> Group:
+    """Short lists cut at the ends, near the end, and about the middle."""
+    texts = ("", ".", "|", "|..|..|", "|......|......|", "|.......|.......|", "|.|.|", NUMBERED[:20], NUMBERED)
+    tests = []
+    for told in [*map(lists.pattern, texts), *(lists.drawn(1, count) for count in (1, 2, 3, 9, 40, 150))]:
+        count = len(told.nodes)
+        cuts = {0, count // 3, count // 2, max(count - 4, 0), count}
+        tests += [merge_of(told, cut, *marks) for cut in sorted(cuts) for marks in MARKS]
+    return Group("Merge", "short lists cut in two", tests)
+
+
 def longer() -> Group:
     """Longer lists cut at some places."""
     chosen = [lists.pattern(lists.by_gaps(gaps, 120)) for gaps in GAPS] + [lists.drawn(1, 100), lists.drawn(5000, 300)]
@@ -197,4 +208,4 @@ def other_bracketings() -> list[Group]:
 def file() -> File:
     """merges.json."""
     return File("merges", "merging of canonical subtrees of adjacent ranges", HEADER, NOTES,
-                [every_cut(), longer(), refusals(), of_the_rust_crate(), *other_bracketings()])
+                [every_cut(), short(), longer(), refusals(), of_the_rust_crate(), *other_bracketings()])

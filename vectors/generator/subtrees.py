@@ -59,9 +59,10 @@ def subtree_of(comment: str, told: Told, at_start: bool, at_end: bool, whole: bo
 def points() -> Group:
     """Lists with their first and last stable point."""
     texts = CHOSEN + [lists.by_gaps([gap], 40) for gap in range(1, 11)] + [lists.by_gaps(gaps, 60) for gaps in GAPS]
-    texts += [lists.by_chance(seed, 40) for seed in range(20)]
+    texts += [lists.by_chance(seed, 40) for seed in range(20)] + ["", ".", "|"]
+    chosen = [*map(lists.pattern, texts), *(lists.drawn(1, count) for count in (1, 2, 3, 9, 40, 150, 400))]
     tests = [valid("", list=told.said, first=m.find_stable_start(told.nodes), last=m.find_stable_end(told.nodes))
-             for told in map(lists.pattern, texts)]
+             for told in chosen]
     return Group("StablePoints", "lists with their first and last stable point", tests)
 
 

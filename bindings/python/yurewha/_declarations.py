@@ -1,7 +1,7 @@
 """The library's calls: the name, return type and argument types of each, as in the C header.
 
-This is the only list of the calls. It is plain data, and importing it loads no library, so a test can compare it with the
-header. `_library.py` makes the ctypes declarations from it.
+`bindings/check_exports --write` makes the tables of the header. They are plain data, and importing them loads no library.
+`_library.py` makes the ctypes declarations from them.
 """
 
 from __future__ import annotations
@@ -10,14 +10,17 @@ from typing import Dict, Tuple
 
 #: The return type, and the types of the arguments in order.
 Declaration = Tuple[str, Tuple[str, ...]]
+#: The name of a member of a struct, its type, and how many of it there are.
+Member = Tuple[str, str, int]
 
 DECLARATIONS: Dict[str, Declaration] = {
-    # Hashes
+    # The library's version
     "yurewha_version": ("yurewha_status", ("char *", "size_t", "size_t *")),
     "yurewha_processor_level": ("const char *", ()),
+    # Hashes
+    "yurewha_data_hash": ("void", ("const uint8_t *", "size_t", "yurewha_hash *")),
     "yurewha_data_hashes": (
         "yurewha_status", ("const uint8_t *", "size_t", "const size_t *", "size_t", "yurewha_hash *", "size_t")),
-    "yurewha_data_hash": ("void", ("const uint8_t *", "size_t", "yurewha_hash *")),
     "yurewha_internal_node_hash": ("void", ("const uint8_t *", "size_t", "yurewha_hash *")),
     "yurewha_hmac": ("void", ("const yurewha_hash *", "const yurewha_hash *", "yurewha_hash *")),
     "yurewha_random_from_seed": ("void", ("uint64_t", "yurewha_hash *")),
@@ -75,12 +78,12 @@ DECLARATIONS: Dict[str, Declaration] = {
     "yurewha_session_run": (
         "yurewha_status", ("yurewha_session *", "size_t", "uint64_t *", "yurewha_subtree *")),
     "yurewha_session_run_from": (
-        "yurewha_status",
-        ("yurewha_session *", "uint64_t", "uint64_t *", "uint64_t *", "yurewha_subtree *")),
+        "yurewha_status", ("yurewha_session *", "uint64_t", "uint64_t *", "uint64_t *", "yurewha_subtree *")),
     "yurewha_session_root": ("yurewha_status", ("yurewha_session *", "uint64_t", "yurewha_hash *")),
     "yurewha_session_finish": ("yurewha_status", ("yurewha_session *", "uint64_t", "yurewha_hash *")),
     "yurewha_session_copy": ("yurewha_status", ("yurewha_session *", "yurewha_session *")),
     "yurewha_session_free": ("void", ("yurewha_session *",)),
+    # Saving a session
     "yurewha_session_push_run": (
         "yurewha_status", ("yurewha_session *", "uint64_t", "uint64_t", "yurewha_subtree *")),
     "yurewha_session_keep_hashes": ("yurewha_status", ("yurewha_session *", "const yurewha_hash *", "size_t")),
@@ -109,6 +112,17 @@ STATUSES: Dict[str, int] = {
 LENGTHS: Dict[str, int] = {
     "YUREWHA_HEX_LENGTH": 64,
     "YUREWHA_BASE64_LENGTH": 43,
+}
+
+#: The members of each struct: the name, the type, and how many of it there are.
+MEMBERS: Dict[str, Tuple[Member, ...]] = {
+    "yurewha_hash": (("words", "uint64_t", 4),),
+    "yurewha_bytes": (("bytes", "uint8_t", 32),),
+    "yurewha_chunk": (("hash", "yurewha_hash", 1), ("size", "uint64_t", 1)),
+    "yurewha_level": (("left", "size_t", 1), ("right", "size_t", 1)),
+    "yurewha_hasher": (("state", "uint64_t", 256),),
+    "yurewha_subtree": (("at", "uint8_t *", 1),),
+    "yurewha_session": (("at", "uint8_t *", 1),),
 }
 
 #: The structs that calls use, and their sizes in bytes.

@@ -12,10 +12,10 @@ import platform
 import sys
 from pathlib import Path
 from types import SimpleNamespace
-from typing import Any, Dict, Optional
+from typing import Any, Dict, List, Optional, Tuple
 
 from ._calls import named
-from ._declarations import DECLARATIONS, STRUCTS
+from ._declarations import DECLARATIONS, MEMBERS, STRUCTS
 
 NAME = "libyurewha.so.1"
 
@@ -26,32 +26,49 @@ LONG_CHUNKS = 256
 LONG_NODES = 512
 
 
+#: The ctypes type for each type of a struct's members.
+_MEMBER_TYPES: Dict[str, Any] = {
+    "uint8_t": ctypes.c_uint8,
+    "uint64_t": ctypes.c_uint64,
+    "size_t": ctypes.c_size_t,
+    "uint8_t *": ctypes.c_void_p,
+}
+
+
+def _fields(struct: str) -> List[Tuple[str, Any]]:
+    types = ((name, _MEMBER_TYPES[kind], count) for name, kind, count in MEMBERS[struct])
+    return [(name, kind if count == 1 else kind * count) for name, kind, count in types]
+
+
 class CHash(ctypes.Structure):
-    _fields_ = [("words", ctypes.c_uint64 * 4)]
+    _fields_ = _fields("yurewha_hash")
+
+
+_MEMBER_TYPES["yurewha_hash"] = CHash
 
 
 class CBytes(ctypes.Structure):
-    _fields_ = [("bytes", ctypes.c_uint8 * 32)]
+    _fields_ = _fields("yurewha_bytes")
 
 
 class CChunk(ctypes.Structure):
-    _fields_ = [("hash", CHash), ("size", ctypes.c_uint64)]
+    _fields_ = _fields("yurewha_chunk")
 
 
 class CLevel(ctypes.Structure):
-    _fields_ = [("left", ctypes.c_size_t), ("right", ctypes.c_size_t)]
+    _fields_ = _fields("yurewha_level")
 
 
 class CHasher(ctypes.Structure):
-    _fields_ = [("state", ctypes.c_uint64 * 256)]
+    _fields_ = _fields("yurewha_hasher")
 
 
 class CSubtree(ctypes.Structure):
-    _fields_ = [("at", ctypes.c_void_p)]
+    _fields_ = _fields("yurewha_subtree")
 
 
 class CSession(ctypes.Structure):
-    _fields_ = [("at", ctypes.c_void_p)]
+    _fields_ = _fields("yurewha_session")
 
 
 #: The structs by their names in the header.

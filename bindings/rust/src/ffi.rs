@@ -1,5 +1,5 @@
-//! The exports of the library, as `bindings/include/yurewha.h` declares them. Names and types are those of the header,
-//! and `bindings/check_exports` compares the two files. All exports are declared, even if no enabled feature uses them.
+//! The exports of the library, as `bindings/include/yurewha.h` declares them. The constants, the structs and the functions are
+//! made of the header by `bindings/check_exports --write`. All exports are declared, even if no enabled feature uses them.
 
 #![allow(dead_code, non_camel_case_types)]
 
@@ -58,11 +58,6 @@ pub struct yurewha_hasher {
     pub state: [u64; 256],
 }
 
-impl yurewha_hasher {
-    // Room for a hasher. It must be begun before use.
-    pub const ROOM: Self = yurewha_hasher { state: [0; 256] };
-}
-
 #[repr(C)]
 pub struct yurewha_subtree {
     pub at: *mut u8,
@@ -71,6 +66,11 @@ pub struct yurewha_subtree {
 #[repr(C)]
 pub struct yurewha_session {
     pub at: *mut u8,
+}
+
+impl yurewha_hasher {
+    // Room for a hasher. It must be begun before use.
+    pub const ROOM: Self = yurewha_hasher { state: [0; 256] };
 }
 
 impl Default for yurewha_subtree {
@@ -104,6 +104,7 @@ const _: () = {
 extern "C" {
     pub fn yurewha_version(text: *mut c_char, room: usize, length: *mut usize) -> yurewha_status;
     pub fn yurewha_processor_level() -> *const c_char;
+    pub fn yurewha_data_hash(bytes: *const u8, length: usize, hash: *mut yurewha_hash);
     pub fn yurewha_data_hashes(
         bytes: *const u8,
         length: usize,
@@ -112,7 +113,6 @@ extern "C" {
         hashes: *mut yurewha_hash,
         count: usize,
     ) -> yurewha_status;
-    pub fn yurewha_data_hash(bytes: *const u8, length: usize, hash: *mut yurewha_hash);
     pub fn yurewha_internal_node_hash(bytes: *const u8, length: usize, hash: *mut yurewha_hash);
     pub fn yurewha_hmac(hash: *const yurewha_hash, key: *const yurewha_hash, result: *mut yurewha_hash);
     pub fn yurewha_random_from_seed(seed: u64, hash: *mut yurewha_hash);

@@ -1,53 +1,89 @@
-/* Compares the second reading with the values that the model answers (bindings/c/values.h), without the library. */
+/* Compares the second reading with the test vectors of vectors/, without the library: the lines of bindings/c/make_vector_lines,
+ * in the file that is named. */
 #include "json.h"
 
 #include <cstdio>
-#include <cstring>
+#include <fstream>
 
-#include "../../../bindings/c/values.h"
+#include "yurewha.h"
 
 namespace {
 
 size_t checks, failures;
 
-void expect(bool holds, const char *what, size_t row)
+std::vector<std::string> parts_of(const std::string &text, char between)
 {
-    checks++;
-    if (!holds) {
-        failures++;
-        std::printf("%s, row %zu\n", what, row);
+    std::vector<std::string> parts;
+    size_t at = 0;
+    for (size_t end; (end = text.find(between, at)) != std::string::npos; at = end + 1)
+        parts.push_back(text.substr(at, end - at));
+    parts.push_back(text.substr(at));
+    return parts;
+}
+
+/* A line: the file and number of its test, what it asks for, and its fields. */
+struct Line {
+    std::vector<std::string> parts;
+
+    const std::string &kind() const { return parts.at(1); }
+    const std::string &text(size_t i) const { return parts.at(2 + i); }
+    bool has(size_t i) const { return text(i) != "-"; }
+    uint64_t number(size_t i) const { return std::stoull(text(i)); }
+    bool truth(size_t i) const { return number(i) != 0; }
+
+    void expect(bool holds, const char *what) const
+    {
+        checks++;
+        if (!holds) {
+            failures++;
+            std::printf("%s, %s: %s\n", parts[0].c_str(), kind().c_str(), what);
+        }
     }
+};
+
+second::Hash hash(const std::string &hex) { return *second::from_hex(hex); }
+
+std::string bytes_of(const std::string &hex)
+{
+    std::string bytes;
+    for (size_t i = 0; hex != "-" && i < hex.size(); i += 2)
+        bytes += static_cast<char>(std::stoul(hex.substr(i, 2), nullptr, 16));
+    return bytes;
 }
 
-template <class Row, size_t COUNT, class Test> void each(const Row (&rows)[COUNT], Test test)
+second::Bytes32 key_of(const std::string &hex)
 {
-    for (size_t i = 0; i < COUNT; i++)
-        test(rows[i], i);
+    const std::string bytes = bytes_of(hex);
+    second::Bytes32 key;
+    for (size_t i = 0; i < key.size(); i++)
+        key[i] = static_cast<uint8_t>(bytes.at(i));
+    return key;
 }
 
-second::Nodes list_of(const char *pattern, size_t count)
+second::Node node_of_seed(uint64_t seed, uint64_t size)
 {
+    return {seed == 0 && size == 0 ? second::Hash{} : second::random_from_seed(seed), size};
+}
+
+/* The list that a field says. */
+second::Nodes list_of(const std::string &said)
+{
+    const std::string rest = said.substr(1);
     second::Nodes nodes;
-    for (size_t i = 0; i < count; i++) {
-        if (pattern)
-            nodes.push_back({{i, 0, 0, pattern[i] == '|' ? 0u : 1u}, 1});
-        else
-            nodes.push_back({second::random_from_seed(i + 1), 100 + 977 * i % 9901});
+    if (said[0] == 'p') {
+        for (uint64_t i = 1; i <= rest.size(); i++)
+            nodes.push_back({{i, 2 * i, 3 * i, 4 * i + (rest[i - 1] != '|')}, 100 * i - 93});
+    } else if (said[0] == 'd') {
+        const std::vector<std::string> parts = parts_of(rest, ',');
+        for (uint64_t i = 0; i < std::stoull(parts.at(1)); i++)
+            nodes.push_back({second::random_from_seed(std::stoull(parts.at(0)) + i), 100 + 977 * i % 9901});
+    } else if (!rest.empty()) {
+        for (const std::string &part : parts_of(rest, ','))
+            nodes.push_back(said[0] == 's' ? node_of_seed(std::stoull(part), 100 * std::stoull(part))
+                                           : second::Node{hash(part.substr(0, 64)), std::stoull(part.substr(65))});
     }
     return nodes;
 }
-
-second::Nodes digits_of(const char *digits)
-{
-    second::Nodes nodes;
-    for (; *digits != 0; digits++) {
-        const uint64_t digit = static_cast<uint64_t>(*digits - '0');
-        nodes.push_back({digit == 0 ? second::Hash{} : second::random_from_seed(digit), 100 * digit});
-    }
-    return nodes;
-}
-
-second::Hash hash(const char *hex) { return *second::from_hex(hex); }
 
 std::string counts_of(const second::Subtree &subtree)
 {
@@ -57,101 +93,138 @@ std::string counts_of(const second::Subtree &subtree)
     return text;
 }
 
-void test_hashes()
+/* Levels, size, final hash and hash of the JSON text are four fields from this one on. */
+void expect_subtree(const Line &it, size_t first, const second::Subtree &subtree)
 {
-    each(message_rows, [](const message_row &row, size_t i) {
-        std::string data;
-        second::Bytes32 key;
-        for (size_t j = 0; j < row.length; j++)
-            data += static_cast<char>(j % 251);
-        for (size_t j = 0; j < 32; j++)
-            key[j] = static_cast<uint8_t>(j);
-        expect(second::data_hash(data) == hash(row.data), "the data hash of a message", i);
-        expect(second::internal_node_hash(data) == hash(row.internal), "the internal hash of a message", i);
-        expect(second::hash_of(second::keyed_blake3(key, data)) == hash(row.keyed), "the keyed hash of a message", i);
-    });
-    each(seed_rows, [](const seed_row &row, size_t i) {
-        const second::Hash drawn = second::random_from_seed(row.seed);
-        expect(second::hex_of(drawn) == row.hex, "the hash of a seed", i);
-        expect(second::base64_of(drawn) == row.base64, "the base64 text of a hash", i);
-        expect(second::from_base64(row.base64) == drawn, "the hash of a base64 text", i);
-    });
+    const std::string text = second::json_text(subtree);
+    const std::optional<second::Hash> root = second::final_hash(subtree);
+    const second::Reading read = second::read_subtree(text);
+    it.expect(counts_of(subtree) == it.text(first), "the levels");
+    it.expect(second::total_size(subtree) == it.number(first + 1), "the size");
+    it.expect(it.has(first + 2) ? root == hash(it.text(first + 2)) : !root, "the final hash");
+    it.expect(second::data_hash(text) == hash(it.text(first + 3)), "the text");
+    it.expect(read.says_subtree() && read.subtree == subtree, "the subtree read from its text");
 }
 
-void test_lists()
+void message(const Line &it)
 {
-    each(reference_rows, [](const reference_row &row, size_t i) {
-        const second::Nodes nodes = digits_of(row.digits);
-        expect(second::root_of(nodes) == hash(row.xorb), "the root of a reference list", i);
-        expect(second::file_hash_of(nodes, {}) == hash(row.file), "the file hash of a reference list", i);
-        for (const auto &salted : row.salted)
-            expect(second::file_hash_of(nodes, hash(salted.salt)) == hash(salted.file), "the salted hash of a reference list", i);
-    });
-    each(point_rows, [](const point_row &row, size_t i) {
-        const second::Nodes nodes = list_of(row.pattern, row.count);
-        const std::optional<size_t> first = second::first_stable_point(nodes), last = second::last_stable_point(nodes);
-        expect((first ? static_cast<int>(*first) : -1) == row.first, "the first stable point of a list", i);
-        expect((last ? static_cast<int>(*last) : -1) == row.last, "the last stable point of a list", i);
-    });
-    each(root_rows, [](const root_row &row, size_t i) {
-        const second::Nodes nodes = list_of(row.pattern, row.count);
-        expect(second::root_of(nodes) == hash(row.xorb), "the root of a list", i);
-        expect(second::file_hash_of(nodes, {}) == hash(row.file), "the file hash of a list", i);
-    });
+    std::string data;
+    for (uint64_t i = 0; i < it.number(2); i++)
+        data += static_cast<char>(i % 251);
+    const second::Hash keyed = second::hash_of(second::keyed_blake3(key_of(it.text(1)), data));
+    it.expect(keyed == hash(it.text(3)) && second::bytes_of(keyed) == key_of(it.text(4)), "the keyed hash");
+    if (it.text(0) == "data")
+        it.expect(second::data_hash(data) == keyed, "the data hash");
+    if (it.text(0) == "internal")
+        it.expect(second::internal_node_hash(data) == keyed, "the internal hash");
 }
 
-void test_subtrees()
+void forms(const Line &it)
 {
-    each(subtree_rows, [](const subtree_row &row, size_t i) {
-        const second::Subtree subtree = second::canonical(list_of(row.pattern, row.count), row.at_start, row.at_end);
-        const std::string text = second::json_text(subtree);
-        expect(counts_of(subtree) == row.levels, "the levels of a subtree", i);
-        expect(second::total_size(subtree) == row.size, "the size of a subtree", i);
-        expect(text.size() == row.json_length && second::data_hash(text) == hash(row.json), "the text of a subtree", i);
-        const std::optional<second::Hash> root = second::final_hash(subtree);
-        expect(row.root ? root == hash(row.root) : !root, "the final hash of a subtree", i);
-        const second::Reading read = second::read_subtree(text);
-        expect(read.says_subtree() && read.subtree == subtree, "a subtree read from its text", i);
-    });
-    each(merge_rows, [](const merge_row &row, size_t i) {
-        const second::Nodes all = list_of(row.pattern, row.count);
-        const auto cut = all.begin() + static_cast<ptrdiff_t>(row.cut);
-        const second::Nodes front(all.begin(), cut), back(cut, all.end());
-        const uint64_t parents = second::work(all, row.at_start, row.at_end) - second::work(front, row.at_start, false)
-                                 - second::work(back, false, row.at_end);
-        expect(parents == row.parents, "the parents of a merge", i);
-    });
+    second::Hash value;
+    for (size_t i = 0; i < value.size(); i++)
+        value[i] = std::stoull(parts_of(it.text(0), ',').at(i));
+    it.expect(second::bytes_of(value) == key_of(it.text(1)), "the bytes");
+    it.expect(second::hex_of(value) == it.text(2), "the hex text");
+    it.expect(second::base64_of(value) == it.text(3), "the base64 text");
 }
 
-void test_rules()
+void expect_read(const Line &it, std::optional<second::Hash> read)
 {
-    each(text_rows, [](const text_row &row, size_t i) {
-        const second::Reading read = second::read_subtree(row.text);
-        expect(read.is_json && read.rule == row.rule, "the rule of a text", i);
-    });
-    each(flat_rows, [](const flat_row &row, size_t i) {
-        std::vector<std::pair<uint64_t, uint64_t>> counts;
-        second::Nodes nodes;
-        for (size_t j = 0; j < row.level_count; j++)
-            counts.push_back({row.levels[j].left, row.levels[j].right});
-        for (size_t j = 0; j < row.node_count; j++) {
-            second::Node node = {{}, row.nodes[j].size};
-            std::memcpy(node.hash.data(), row.nodes[j].hash.words, sizeof node.hash);
-            nodes.push_back(node);
-        }
-        second::Subtree subtree;
-        expect(second::read_flat(row.at_start, counts, nodes, row.at_end, subtree) == row.rule, "the rule of flat lists", i);
-    });
+    it.expect(it.has(1) ? read == hash(it.text(1)) : !read, "the hash that is read");
+}
+
+void roots(const Line &it)
+{
+    if (it.number(1) != YUREWHA_DONE)
+        return;
+    const second::Nodes nodes = list_of(it.text(0));
+    it.expect(second::root_of(nodes) == hash(it.text(2)), "the root");
+    it.expect(second::file_hash_of(nodes, {}) == hash(it.text(3)), "the file hash");
+    for (const std::string &row : it.has(4) ? parts_of(it.text(4), ',') : std::vector<std::string>{})
+        it.expect(second::file_hash_of(nodes, second::hash_of(key_of(row.substr(0, 64)))) == hash(row.substr(65)), "a salted hash");
+}
+
+void points(const Line &it)
+{
+    const second::Nodes nodes = list_of(it.text(0));
+    const std::optional<size_t> found[] = {second::first_stable_point(nodes), second::last_stable_point(nodes)};
+    for (size_t i = 0; i < 2; i++)
+        it.expect(it.has(1 + i) ? found[i] == it.number(1 + i) : !found[i], "a stable point");
+}
+
+void merge(const Line &it)
+{
+    const second::Nodes all = list_of(it.text(0));
+    const auto cut = all.begin() + static_cast<ptrdiff_t>(it.number(1));
+    const second::Nodes front(all.begin(), cut), back(cut, all.end());
+    const uint64_t parents = second::work(all, it.truth(2), it.truth(3)) - second::work(front, it.truth(2), false)
+                             - second::work(back, false, it.truth(3));
+    it.expect(parents == it.number(4), "the parents of a merge");
+    expect_subtree(it, 5, second::canonical(all, it.truth(2), it.truth(3)));
+}
+
+/* The rule that a status names. */
+unsigned rule_of(uint64_t status) { return status > YUREWHA_RULE ? static_cast<unsigned>(status - YUREWHA_RULE) : 0; }
+
+void json(const Line &it)
+{
+    const second::Reading read = second::read_subtree(bytes_of(it.text(0)));
+    it.expect(read.is_json == (it.number(1) != YUREWHA_TEXT) && read.rule == rule_of(it.number(1)), "the rule");
+    if (read.says_subtree())
+        it.expect(second::json_text(read.subtree) == bytes_of(it.text(it.has(2) ? 2 : 0)), "the text that is written");
+}
+
+void flat(const Line &it)
+{
+    std::vector<std::pair<uint64_t, uint64_t>> counts;
+    for (const std::string &level : it.has(2) ? parts_of(it.text(2), ' ') : std::vector<std::string>{})
+        counts.push_back({std::stoull(level), std::stoull(level.substr(level.find(',') + 1))});
+    second::Subtree subtree;
+    it.expect(second::read_flat(it.truth(0), counts, list_of(it.text(3)), it.truth(1), subtree) == rule_of(it.number(4)),
+              "the rule of flat lists");
+}
+
+/* Sessions, orders, refused merges and bracketings are tests of calls, which the second reading hasn't. */
+void check(const Line &it)
+{
+    if (it.kind() == "message")
+        message(it);
+    else if (it.kind() == "seed")
+        it.expect(second::random_from_seed(it.number(0)) == hash(it.text(1)), "the hash of a seed");
+    else if (it.kind() == "hmac")
+        it.expect(second::hmac(hash(it.text(0)), hash(it.text(1))) == hash(it.text(2)), "the hash under a hash");
+    else if (it.kind() == "internal")
+        it.expect(second::internal_node_hash(bytes_of(it.text(0))) == hash(it.text(1)), "the internal hash");
+    else if (it.kind() == "forms")
+        forms(it);
+    else if (it.kind() == "hex")
+        expect_read(it, second::from_hex(bytes_of(it.text(0))));
+    else if (it.kind() == "base64")
+        expect_read(it, second::from_base64(bytes_of(it.text(0))));
+    else if (it.kind() == "roots")
+        roots(it);
+    else if (it.kind() == "xorb")
+        it.expect(second::root_of(list_of(it.text(0))) == hash(it.text(1)), "the root");
+    else if (it.kind() == "points")
+        points(it);
+    else if (it.kind() == "subtree" && it.number(3) == YUREWHA_DONE)
+        expect_subtree(it, 4, second::canonical(list_of(it.text(0)), it.truth(1), it.truth(2)));
+    else if (it.kind() == "merge")
+        merge(it);
+    else if (it.kind() == "json")
+        json(it);
+    else if (it.kind() == "flat")
+        flat(it);
 }
 
 }  // namespace
 
-int main()
+int main(int, char **names)
 {
-    test_hashes();
-    test_lists();
-    test_subtrees();
-    test_rules();
+    std::ifstream file(names[1]);
+    for (std::string text; std::getline(file, text);)
+        check({parts_of(text, '\t')});
     std::printf("%zu checks of the second reading, %zu failed\n", checks, failures);
     return failures != 0 || checks == 0;
 }
