@@ -14,6 +14,7 @@ Declaration = Tuple[str, Tuple[str, ...]]
 DECLARATIONS: Dict[str, Declaration] = {
     # Hashes
     "yurewha_version": ("yurewha_status", ("char *", "size_t", "size_t *")),
+    "yurewha_status_text": ("yurewha_status", ("yurewha_status", "char *", "size_t", "size_t *")),
     "yurewha_processor_level": ("const char *", ()),
     "yurewha_data_hashes": (
         "yurewha_status", ("const uint8_t *", "size_t", "const size_t *", "size_t", "yurewha_hash *", "size_t")),
@@ -100,15 +101,14 @@ STATUSES: Dict[str, int] = {
     "YUREWHA_RULE": 16,
     "YUREWHA_SESSION_OVERLAP": 33,
     "YUREWHA_SESSION_POSITIONS": 34,
-    "YUREWHA_SESSION_SIZES": 35,
-    "YUREWHA_SESSION_MEMORY": 36,
     "YUREWHA_SESSION_GAP": 37,
 }
 
-#: The lengths of a hash as hex text and as base64 text, by their names in the header.
+#: The lengths of a hash as hex text and as base64 text, and the greatest length of a status's text, by their names in the header.
 LENGTHS: Dict[str, int] = {
     "YUREWHA_HEX_LENGTH": 64,
     "YUREWHA_BASE64_LENGTH": 43,
+    "YUREWHA_STATUS_TEXT_LENGTH": 96,
 }
 
 #: The structs that calls use, and their sizes in bytes.
