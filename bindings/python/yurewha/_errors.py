@@ -3,6 +3,7 @@
 from __future__ import annotations
 
 import ctypes
+from typing import Dict, Type
 
 from ._declarations import LENGTHS, STATUSES
 from ._library import short
@@ -169,7 +170,7 @@ class SessionGap(SessionError):
 
 
 #: The faults of a session alone.
-_SESSION_ERRORS = {
+_SESSION_ERRORS: Dict[int, Type[SessionError]] = {
     STATUSES["YUREWHA_SESSION_OVERLAP"]: SessionOverlap,
     STATUSES["YUREWHA_SESSION_POSITIONS"]: SessionPositions,
     STATUSES["YUREWHA_SESSION_GAP"]: SessionGap,
