@@ -14,9 +14,13 @@ pub(crate) trait Refusal: Sized {
 pub(crate) fn done<E: Refusal>(status: ffi::yurewha_status) -> std::result::Result<(), E> {
     match status {
         ffi::YUREWHA_DONE => Ok(()),
-        status => Err(E::of(status)
-            .unwrap_or_else(|| panic!("yurewha answered the status {status}: {}", StatusText::of(status)))),
+        status => Err(E::of(status).unwrap_or_else(|| unexpected(status))),
     }
+}
+
+// Panics, because the call never returns this status.
+fn unexpected<E>(status: ffi::yurewha_status) -> E {
+    panic!("yurewha answered the status {status}: {}", StatusText::of(status))
 }
 
 /// What a status means, in the library's words.
