@@ -13,7 +13,8 @@ use crate::hash::Hash;
 use crate::kept_session::KeptSession;
 use crate::session_handle::SessionHandle;
 use crate::status::{
-    DONE, EMPTY_HANDLE, MEMORY, SESSION_GAP, SESSION_OVERLAP, SESSION_POSITIONS, SIZES, status_of_fault,
+    DONE, EMPTY_HANDLE, MEMORY, SESSION_GAP, SESSION_OVERLAP, SESSION_POSITIONS, SIZES,
+    status_of_fault,
 };
 use std::alloc::Global;
 use upload_session::session::SessionOf;
