@@ -83,7 +83,7 @@ impl SubtreeHandle {
         }
     }
 
-    // Puts back what was taken out of an empty handle. It reads nothing of the handle.
+    // Puts a subtree into an empty handle, of which it reads nothing.
     pub(crate) fn put_back(&mut self, subtree: Box<MerkleHashSubtree>)
         requires { self.old.value ≡ None }
         ensures { self.new.value ≡ Some subtree.value }
