@@ -34,6 +34,8 @@ const char *yurewha_processor_level(void)
  * hands on. The compiler compares all but the order of the arguments with the header. */
 #define CALLS(CALL, level) \
     CALL(level, yurewha_status, return, version, (char *text, size_t room, size_t *length), (text, room, length)) \
+    CALL(level, yurewha_status, return, status_text, (yurewha_status status, char *text, size_t room, size_t *length), \
+         (status, text, room, length)) \
     CALL(level, void, , data_hash, (const uint8_t *bytes, size_t length, yurewha_hash *hash), (bytes, length, hash)) \
     CALL(level, yurewha_status, return, data_hashes, (const uint8_t *bytes, size_t length, const size_t *offsets, \
          size_t offset_count, yurewha_hash *hashes, size_t count), (bytes, length, offsets, offset_count, hashes, count)) \

@@ -77,9 +77,10 @@ void hashes(Checks &check)
     std::uint64_t remainder = 9;
     check(yurewha_remainder(&drawn, 4, &remainder) == YUREWHA_DONE && remainder < 4, "remainder");
 
-    check(std::string(yurewha_status_text(YUREWHA_MEMORY)) == "out of memory", "the text of a status");
-    std::array<char, 80> text{};
+    std::array<char, YUREWHA_STATUS_TEXT_LENGTH> text{};
     std::size_t length = 0;
+    check(yurewha_status_text(YUREWHA_MEMORY, text.data(), text.size(), &length) == YUREWHA_DONE, "status_text");
+    check(std::string(text.data(), length) == "out of memory", "its text");
     check(yurewha_version(text.data(), text.size(), &length) == YUREWHA_DONE, "version");
     check(yurewha_processor_level()[0] != 0, "processor_level");
     check(std::string(text.data(), length) == YUREWHA_VERSION, "its text");

@@ -280,7 +280,7 @@ static bool is_only(const void *room, size_t size, unsigned char byte)
     return true;
 }
 
-enum text { HEX, BASE64, JSON };
+enum text { HEX, BASE64, STATUS, JSON };
 
 static yurewha_status write_text(enum text which, yurewha_subtree *subtree, char *text, size_t room, size_t *length)
 {
@@ -290,6 +290,8 @@ static yurewha_status write_text(enum text which, yurewha_subtree *subtree, char
         return yurewha_hex(&hash, text, room, length);
     case BASE64:
         return yurewha_base64(&hash, text, room, length);
+    case STATUS:
+        return yurewha_status_text(YUREWHA_SESSION_GAP, text, room, length);
     default:
         return yurewha_subtree_to_json(subtree, text, room, length);
     }

@@ -1,27 +1,38 @@
 /* The sizes of the types, where their members stand, the numbers and the texts of the statuses, and the version. */
 #include "harness.h"
 
-/* Each status has a text of its own, but for the two of a failed allocation; other numbers have one and the same. */
+/* The text of a status, with a 0 byte at its end, in a room of its own. */
+struct status_text {
+    char text[YUREWHA_STATUS_TEXT_LENGTH + 1];
+};
+
+static struct status_text text_of(yurewha_status status)
+{
+    struct status_text found;
+    size_t length = 0;
+    EXPECT_STATUS(YUREWHA_DONE, yurewha_status_text(status, found.text, YUREWHA_STATUS_TEXT_LENGTH, &length));
+    found.text[length] = '\0';
+    return found;
+}
+
+static bool has_text(yurewha_status status, const char *text) { return strcmp(text_of(status).text, text) == 0; }
+
+/* Each status has a text of its own; other numbers have one and the same, also the two that the library of 1.0 had. */
 static void status_texts(void)
 {
-    const char *const unknown = yurewha_status_text(7);
     for (yurewha_status status = 0; status < 60; status++) {
         const bool is_known = status <= YUREWHA_EMPTY_HANDLE || (status > YUREWHA_RULE && status <= YUREWHA_RULE + 13)
-            || (status >= YUREWHA_SESSION_OVERLAP && status <= YUREWHA_SESSION_GAP);
-        const char *const text = yurewha_status_text(status);
-        row("text of status %u: %s", status, text);
-        EXPECT(strlen(text) > 0 && (strcmp(text, unknown) != 0) == is_known);
-        for (yurewha_status other = 0; is_known && other < status; other++) {
-            const bool is_same = status == YUREWHA_SESSION_MEMORY && other == YUREWHA_MEMORY;
-            EXPECT((strcmp(text, yurewha_status_text(other)) == 0) == is_same);
-        }
+            || status == YUREWHA_SESSION_OVERLAP || status == YUREWHA_SESSION_POSITIONS || status == YUREWHA_SESSION_GAP;
+        const struct status_text found = text_of(status);
+        row("text of status %u: %s", status, found.text);
+        EXPECT(found.text[0] != '\0' && has_text(status, "unknown status") == !is_known);
+        for (yurewha_status other = 0; is_known && other < status; other++)
+            EXPECT(!has_text(other, found.text));
     }
-    char rule[8];
-    for (yurewha_status number = 1; number <= 13; number++) {
-        const int length = snprintf(rule, sizeof rule, "rule %u", number);
-        EXPECT(strncmp(yurewha_status_text(YUREWHA_RULE + number), rule, (size_t)length) == 0);
-    }
-    EXPECT(yurewha_status_text(UINT32_MAX) == unknown);
+    row("texts of statuses");
+    EXPECT(has_text(YUREWHA_DONE, "the call succeeded") && has_text(YUREWHA_SESSION_MEMORY, "out of memory"));
+    EXPECT(has_text(YUREWHA_RULE + 13, "rule 13: right nodes don't begin at a last stable point"));
+    EXPECT(has_text(UINT32_MAX, "unknown status"));
 }
 
 void test_layout(void)
@@ -53,6 +64,9 @@ void test_layout(void)
         {"EMPTY_HANDLE", YUREWHA_EMPTY_HANDLE, 6},
         {"RULE", YUREWHA_RULE, 16},
         {"SESSION_OVERLAP", YUREWHA_SESSION_OVERLAP, 33},
+        {"SESSION_POSITIONS", YUREWHA_SESSION_POSITIONS, 34},
+        {"SESSION_SIZES, which is SIZES", YUREWHA_SESSION_SIZES, 2},
+        {"SESSION_MEMORY, which is MEMORY", YUREWHA_SESSION_MEMORY, 3},
         {"SESSION_GAP", YUREWHA_SESSION_GAP, 37},
     };
     for (size_t i = 0; i < LENGTH(rows); i++) {

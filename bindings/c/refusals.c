@@ -449,6 +449,7 @@ static void hash_without_memory(struct world *w)
     EXPECT_STATUS(YUREWHA_DONE, yurewha_xorb_hash(w->chunks, 1, &w->room.hash));
     EXPECT_STATUS(YUREWHA_DONE, yurewha_file_hash(NULL, 0, &w->room.hash));
     EXPECT_STATUS(YUREWHA_DONE, yurewha_version(w->text, w->text_room, &w->room.count));
+    EXPECT_STATUS(YUREWHA_DONE, yurewha_status_text(YUREWHA_RULE + 9, w->text, w->text_room, &w->room.count));
     EXPECT(yurewha_processor_level()[0] != '\0');
 }
 
@@ -523,12 +524,12 @@ static const struct scenario {
     {"from_flat against rule 6", from_forged_flat, YUREWHA_RULE + 6, YUREWHA_MEMORY, false},
     {"session_new", session_new, YUREWHA_DONE, YUREWHA_MEMORY, false},
     {"session_new into a full handle", session_new_over, YUREWHA_DONE, YUREWHA_MEMORY, false},
-    {"put between two runs", put_between, YUREWHA_DONE, YUREWHA_SESSION_MEMORY, false},
-    {"put apart", put_apart, YUREWHA_DONE, YUREWHA_SESSION_MEMORY, false},
-    {"put between long runs", put_between_long_runs, YUREWHA_DONE, YUREWHA_SESSION_MEMORY, false},
-    {"put past the last position", put_past_positions, YUREWHA_SESSION_POSITIONS, YUREWHA_SESSION_MEMORY, false},
-    {"put at taken positions", put_taken, YUREWHA_SESSION_OVERLAP, YUREWHA_SESSION_MEMORY, false},
-    {"put past 64 bits", put_past, YUREWHA_SESSION_SIZES, YUREWHA_SESSION_MEMORY, false},
+    {"put between two runs", put_between, YUREWHA_DONE, YUREWHA_MEMORY, false},
+    {"put apart", put_apart, YUREWHA_DONE, YUREWHA_MEMORY, false},
+    {"put between long runs", put_between_long_runs, YUREWHA_DONE, YUREWHA_MEMORY, false},
+    {"put past the last position", put_past_positions, YUREWHA_SESSION_POSITIONS, YUREWHA_MEMORY, false},
+    {"put at taken positions", put_taken, YUREWHA_SESSION_OVERLAP, YUREWHA_MEMORY, false},
+    {"put past 64 bits", put_past, YUREWHA_SIZES, YUREWHA_MEMORY, false},
     {"run", run, YUREWHA_DONE, YUREWHA_MEMORY, false},
     {"run that isn't there", no_run, YUREWHA_ARGUMENTS, YUREWHA_ARGUMENTS, false},
     {"run from a position", run_from, YUREWHA_DONE, YUREWHA_MEMORY, false},
@@ -544,9 +545,9 @@ static const struct scenario {
     {"keep_hashes", keep_hashes, YUREWHA_DONE, YUREWHA_MEMORY, false},
     {"known_hashes", known, YUREWHA_DONE, YUREWHA_MEMORY, false},
     {"known_hashes, miscounted", known_miscounted, YUREWHA_ARGUMENTS, YUREWHA_MEMORY, false},
-    {"root", root, YUREWHA_DONE, YUREWHA_SESSION_MEMORY, true},
+    {"root", root, YUREWHA_DONE, YUREWHA_MEMORY, true},
     {"root over a gap", gap, YUREWHA_SESSION_GAP, YUREWHA_SESSION_GAP, false},
-    {"finish", finish, YUREWHA_DONE, YUREWHA_SESSION_MEMORY, true},
+    {"finish", finish, YUREWHA_DONE, YUREWHA_MEMORY, true},
     {"free of a subtree", free_subtree, YUREWHA_DONE, YUREWHA_DONE, false},
     {"free of a session", free_session, YUREWHA_DONE, YUREWHA_DONE, false},
 };

@@ -23,7 +23,15 @@ static void equality(void)
         bool equal = !rows[i].equal;
         EXPECT_STATUS(YUREWHA_DONE, yurewha_subtree_equal(&first, &second, &equal));
         EXPECT(equal == rows[i].equal);
+        /* A subtree is equal to itself, and its handle still owns it. */
+        equal = false;
+        EXPECT_STATUS(YUREWHA_DONE, yurewha_subtree_equal(&first, &first, &equal));
+        EXPECT(equal);
+        EXPECT(same_subtree(&first, &second) == rows[i].equal);
         yurewha_subtree_free(&first);
+        equal = false;
+        EXPECT_STATUS(YUREWHA_EMPTY_HANDLE, yurewha_subtree_equal(&first, &first, &equal));
+        EXPECT(!equal && first.at == NULL);
         yurewha_subtree_free(&second);
         free(chunks[0]);
         free(chunks[1]);

@@ -1,9 +1,18 @@
-/* Eight threads with objects of their own, and handles that go from one thread to another and back. */
+/* Eight threads with objects of their own, handles that go from one thread to another and back, and one subtree's flat lists,
+ * which all threads read. */
 #include "harness.h"
 
 #include <pthread.h>
 
-enum { THREADS = 8, TURNS = 20 };
+enum { THREADS = 8, TURNS = 20, SHARED = 200 };
+
+/* A subtree's flat lists. */
+struct lists {
+    yurewha_level levels[16];
+    yurewha_chunk nodes[SHARED];
+    size_t level_count;
+    size_t node_count;
+};
 
 /* What the first thread finds, one call after another. */
 static struct {
@@ -15,6 +24,7 @@ static yurewha_hash wanted_message;
 struct work {
     pthread_t thread;
     size_t number;
+    const struct lists *lists; /* those of the first SHARED chunks, closed, which all threads read */
     yurewha_subtree handed; /* made by the first thread, freed by it */
     bool holds;
 };
@@ -58,6 +68,21 @@ static bool is_right(size_t number, size_t size)
     return holds;
 }
 
+/* A handle of this thread's own, made of lists that others read at the same time. */
+static bool reads_shared(const struct lists *it)
+{
+    yurewha_subtree subtree = {0};
+    yurewha_hash root, wanted;
+    yurewha_chunk *chunks = list_of(NULL, SHARED);
+    const bool holds = yurewha_subtree_from_flat(true, it->levels, it->level_count, it->nodes, it->node_count, true, &subtree)
+                           == YUREWHA_DONE
+                       && yurewha_subtree_final_hash(&subtree, &root) == YUREWHA_DONE
+                       && yurewha_xorb_hash(chunks, SHARED, &wanted) == YUREWHA_DONE && same_hash(&root, &wanted);
+    yurewha_subtree_free(&subtree);
+    free(chunks);
+    return holds;
+}
+
 static void *work_on(void *given)
 {
     struct work *work = given;
@@ -67,6 +92,7 @@ static void *work_on(void *given)
         const size_t number = (work->number + i) % LENGTH(list_rows);
         if (list_rows[number].count != 0)
             work->holds = is_right(number, 1 + (work->number + 3 * i) % 50) && work->holds;
+        work->holds = reads_shared(work->lists) && work->holds;
     }
     yurewha_subtree other = {0};
     work->holds = work->holds && yurewha_subtree_from_chunks(false, NULL, 0, true, &other) == YUREWHA_DONE
@@ -76,10 +102,22 @@ static void *work_on(void *given)
     return NULL;
 }
 
+static struct lists lists_of(yurewha_chunk *chunks)
+{
+    struct lists made;
+    yurewha_subtree subtree = range_of(chunks, 0, SHARED, true, true);
+    EXPECT_STATUS(YUREWHA_DONE, yurewha_subtree_to_flat(&subtree, made.levels, LENGTH(made.levels), made.nodes, SHARED,
+                                                        &made.level_count, &made.node_count));
+    yurewha_subtree_free(&subtree);
+    free(chunks);
+    return made;
+}
+
 void test_threads(void)
 {
     struct work works[THREADS];
     yurewha_hash root_of_40;
+    const struct lists lists = lists_of(list_of(NULL, SHARED));
     yurewha_data_hash((const uint8_t *)"\0\1\2", 3, &wanted_message);
     for (size_t i = 0; i < LENGTH(list_rows); i++) {
         yurewha_chunk *chunks = list_of(list_rows[i].pattern, list_rows[i].count);
@@ -91,7 +129,7 @@ void test_threads(void)
     for (size_t i = 0; i < THREADS; i++) {
         yurewha_chunk *chunks = list_of(NULL, 40);
         row("thread %zu", i);
-        works[i] = (struct work){.number = i, .handed = range_of(chunks, 0, 40, true, false)};
+        works[i] = (struct work){.number = i, .lists = &lists, .handed = range_of(chunks, 0, 40, true, false)};
         EXPECT_STATUS(YUREWHA_DONE, yurewha_xorb_hash(chunks, 40, &root_of_40));
         free(chunks);
         EXPECT(pthread_create(&works[i].thread, NULL, work_on, &works[i]) == 0);

@@ -13,7 +13,8 @@
  * - No pointer may be null. Each must point to a correctly aligned object of its type. An array is passed with its length
  *   in elements, and must have at least that many. An array of length 0 may be null.
  * - No object that a call writes to may overlap another argument of the call. In particular, the two handles of a call
- *   must be two objects. No call reads the old value of an out parameter, unless it is a handle.
+ *   must be two objects; only yurewha_subtree_equal may get one handle twice, and finds it equal to itself. No call reads the
+ *   old value of an out parameter, unless it is a handle.
  * - A text is an array of bytes with a length. It needs no 0 byte at its end, and the library writes none.
  *
  * Handles
@@ -26,7 +27,10 @@
  *   so freeing twice is harmless. Any other call that reads an empty handle returns YUREWHA_EMPTY_HANDLE.
  * - A handle may be moved by copying its bytes. After that, only one of the copies may be used.
  * - A handle may go to another thread. No two threads may use the same handle at once, not even in two calls that only read
- *   it. Different handles are independent.
+ *   it: while a call reads a handle, it writes to the handle, and a second call may crash. So handles are never const. Use a
+ *   lock, or give each thread a handle of its own by yurewha_subtree_clone. Different handles are independent.
+ * - Threads may share the lists that yurewha_subtree_to_flat wrote, since calls take these arrays as const. Each thread can
+ *   make a handle of its own from them, by yurewha_subtree_from_flat.
  *
  * Memory
  *
@@ -62,10 +66,14 @@ extern "C" {
 /* ---- Version */
 
 /* The version of this header, and of the library that it was packaged with. A program may use a later version of the
- * library if the first number is the same. */
-#define YUREWHA_VERSION "1.0.0"
+ * library if the first number is the same.
+ *
+ * Version 1.1 added yurewha_data_hashes, yurewha_processor_level, yurewha_session_copy, yurewha_session_keep_hashes,
+ * yurewha_session_known_hashes, yurewha_session_num_known_hashes, yurewha_session_push_run, yurewha_session_run_from,
+ * yurewha_status_text and yurewha_version. */
+#define YUREWHA_VERSION "1.1.0"
 #define YUREWHA_VERSION_MAJOR 1
-#define YUREWHA_VERSION_MINOR 0
+#define YUREWHA_VERSION_MINOR 1
 #define YUREWHA_VERSION_PATCH 0
 
 /* ---- Statuses */
@@ -84,72 +92,15 @@ typedef uint32_t yurewha_status;
  * with a lower number. The rules are listed at yurewha_subtree_from_json. */
 #define YUREWHA_RULE 16u
 
-/* The faults of a session. If several apply, the call returns the one with the lowest number, unless an allocation fails
- * before that. */
+/* Calls of a session return these, too. */
 #define YUREWHA_SESSION_OVERLAP 33u   /* a position is taken */
 #define YUREWHA_SESSION_POSITIONS 34u /* the first position plus the number of chunks passes 2^64 - 1 */
-#define YUREWHA_SESSION_SIZES 35u     /* the sizes of all chunks add up to more than 2^64 - 1 */
-#define YUREWHA_SESSION_MEMORY 36u    /* an allocation failed */
 #define YUREWHA_SESSION_GAP 37u       /* the taken positions aren't exactly those below the total */
 
-/* Returns what a status means, in English. The text ends with a 0 byte, and lasts as long as the program. */
-YUREWHA_NODISCARD
-static inline const char *yurewha_status_text(yurewha_status status)
-{
-    switch (status) {
-    case YUREWHA_DONE:
-        return "the call succeeded";
-    case YUREWHA_ARGUMENTS:
-        return "the arguments don't fit together, or the requested thing doesn't exist";
-    case YUREWHA_SIZES:
-        return "sizes or lengths add up to more than 2^64 - 1";
-    case YUREWHA_MEMORY:
-    case YUREWHA_SESSION_MEMORY:
-        return "out of memory";
-    case YUREWHA_TEXT:
-        return "a text doesn't have the expected form";
-    case YUREWHA_ROOM:
-        return "the room is too small";
-    case YUREWHA_EMPTY_HANDLE:
-        return "a handle is empty";
-    case YUREWHA_RULE + 1:
-        return "rule 1: the value isn't an object";
-    case YUREWHA_RULE + 2:
-        return "rule 2: the nodes or levels aren't an array, or a mark isn't a boolean";
-    case YUREWHA_RULE + 3:
-        return "rule 3: a node isn't a hash and a size";
-    case YUREWHA_RULE + 4:
-        return "rule 4: a level isn't two counts";
-    case YUREWHA_RULE + 5:
-        return "rule 5: there is no level";
-    case YUREWHA_RULE + 6:
-        return "rule 6: the counts don't add up to the number of nodes";
-    case YUREWHA_RULE + 7:
-        return "rule 7: the sizes add up to more than 2^64 - 1";
-    case YUREWHA_RULE + 8:
-        return "rule 8: there are right nodes at the top, or although the end is marked";
-    case YUREWHA_RULE + 9:
-        return "rule 9: there are left nodes below the top, although the start is marked";
-    case YUREWHA_RULE + 10:
-        return "rule 10: the top has several nodes, although both ends are marked";
-    case YUREWHA_RULE + 11:
-        return "rule 11: the top of several levels has no node";
-    case YUREWHA_RULE + 12:
-        return "rule 12: left nodes don't end at a first stable point";
-    case YUREWHA_RULE + 13:
-        return "rule 13: right nodes don't begin at a last stable point";
-    case YUREWHA_SESSION_OVERLAP:
-        return "a position is taken";
-    case YUREWHA_SESSION_POSITIONS:
-        return "the first position plus the number of chunks passes 2^64 - 1";
-    case YUREWHA_SESSION_SIZES:
-        return "the sizes of all chunks add up to more than 2^64 - 1";
-    case YUREWHA_SESSION_GAP:
-        return "the taken positions aren't exactly those below the total";
-    default:
-        return "no status of this library";
-    }
-}
+/* Deprecated names. The library of version 1.0 returned 35 and 36 for these; no status gets these numbers again. */
+#define YUREWHA_SESSION_SIZES YUREWHA_SIZES
+#define YUREWHA_SESSION_MEMORY YUREWHA_MEMORY
+
 
 /* ---- Values */
 
@@ -191,11 +142,12 @@ typedef struct yurewha_session {
     uint8_t *at;
 } yurewha_session;
 
-/* The lengths of a hash as hex text and as base64 text. */
+/* The lengths of a hash as hex text and as base64 text, and the greatest length of a status's text. */
 #define YUREWHA_HEX_LENGTH 64u
 #define YUREWHA_BASE64_LENGTH 43u
+#define YUREWHA_STATUS_TEXT_LENGTH 96u
 
-/* ---- The library's version */
+/* ---- The library's version, and the texts of statuses */
 
 /* Writes the version of the library to `text`, which has room for `room` bytes, and the length of the version to `length`.
  * The version of the header is YUREWHA_VERSION. Allocates nothing.
@@ -203,6 +155,14 @@ typedef struct yurewha_session {
  *   ROOM  the version is longer than `room`; nothing is written to `text`, and `length` is the needed length */
 YUREWHA_NODISCARD YUREWHA_NONNULL(3)
 yurewha_status yurewha_version(char *text, size_t room, size_t *length);
+
+/* Writes what a status means, in English, to the beginning of `text`, which has room for `room` bytes, and the length of this
+ * text to `length`. For a number that is no status the text is "unknown status". Allocates nothing.
+ *   DONE  it is written
+ *   ROOM  the text is longer than `room`, which is less than YUREWHA_STATUS_TEXT_LENGTH; nothing is written to `text`, and
+ *         `length` is the needed length */
+YUREWHA_NODISCARD YUREWHA_NONNULL(4)
+yurewha_status yurewha_status_text(yurewha_status status, char *text, size_t room, size_t *length);
 
 /* Returns the level of processors that the library runs for: "x86-64", "x86-64-v2", "x86-64-v3" or "aarch64". The text ends with
  * a 0 byte, and lasts as long as the program.
@@ -482,8 +442,8 @@ yurewha_status yurewha_session_new(yurewha_session *session);
  *   EMPTY_HANDLE       if and only if the handle is empty
  *   SESSION_OVERLAP    one of the positions is taken
  *   SESSION_POSITIONS  otherwise, `first` plus the number of chunks is more than 2^64 - 1
- *   SESSION_SIZES      otherwise, the sizes of all chunks add up to more than 2^64 - 1
- *   SESSION_MEMORY     an allocation failed; this may be returned instead of the three above */
+ *   SIZES              otherwise, the sizes of all chunks add up to more than 2^64 - 1
+ *   MEMORY             an allocation failed; this may be returned instead of the three above */
 YUREWHA_NODISCARD YUREWHA_NONNULL(1, 5)
 yurewha_status yurewha_session_put(yurewha_session *session, uint64_t first, const yurewha_chunk *chunks, size_t count,
                                    uint64_t *new_hashes);
@@ -521,10 +481,10 @@ yurewha_status yurewha_session_run_from(yurewha_session *session, uint64_t posit
                                         yurewha_subtree *range);
 
 /* Write the root, or the file hash without a salt, of all chunks in the order of their positions. The session is unchanged.
- *   DONE            the hash is written
- *   EMPTY_HANDLE    if and only if the handle is empty
- *   SESSION_GAP     if and only if the taken positions aren't exactly those from 0 to `total` - 1
- *   SESSION_MEMORY  an allocation failed */
+ *   DONE          the hash is written
+ *   EMPTY_HANDLE  if and only if the handle is empty
+ *   SESSION_GAP   if and only if the taken positions aren't exactly those from 0 to `total` - 1
+ *   MEMORY        an allocation failed */
 YUREWHA_NODISCARD YUREWHA_NONNULL(1, 3)
 yurewha_status yurewha_session_root(yurewha_session *session, uint64_t total, yurewha_hash *root);
 YUREWHA_NODISCARD YUREWHA_NONNULL(1, 3)

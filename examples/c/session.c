@@ -11,6 +11,15 @@
 
 enum { PART = 8, TOTAL = 24 };
 
+/* Prints a status and what it means. */
+static void print_status(yurewha_status status)
+{
+    char text[YUREWHA_STATUS_TEXT_LENGTH];
+    size_t length = 0;
+    if (yurewha_status_text(status, text, sizeof text, &length) == YUREWHA_DONE)
+        printf("status %" PRIu32 ", %.*s\n", status, (int)length, text);
+}
+
 /* Puts PART chunks, and prints how many of their hashes are new and how many runs there are now. */
 static yurewha_status put(yurewha_session *session, uint64_t first)
 {
@@ -24,10 +33,11 @@ static yurewha_status put(yurewha_session *session, uint64_t first)
     yurewha_status status = yurewha_session_put(session, first, chunks, PART, &fresh);
     if (status == YUREWHA_DONE)
         status = yurewha_session_num_runs(session, &runs);
+    printf("put at %" PRIu64 ": ", first);
     if (status == YUREWHA_DONE)
-        printf("put at %" PRIu64 ": %" PRIu64 " new hashes, %zu runs\n", first, fresh, runs);
+        printf("%" PRIu64 " new hashes, %zu runs\n", fresh, runs);
     else
-        printf("put at %" PRIu64 ": status %" PRIu32 "\n", first, status);
+        print_status(status);
     return status;
 }
 
@@ -40,10 +50,12 @@ static yurewha_status finish(yurewha_session *session)
     yurewha_status status = yurewha_session_finish(session, TOTAL, &hash);
     if (status == YUREWHA_DONE)
         status = yurewha_hex(&hash, text, sizeof text, &length);
-    if (status == YUREWHA_DONE)
+    if (status == YUREWHA_DONE) {
         printf("file %.*s\n", (int)length, text);
-    else
-        printf("finish: status %" PRIu32 "%s\n", status, status == YUREWHA_SESSION_GAP ? ", there is a gap" : "");
+    } else {
+        printf("finish: ");
+        print_status(status);
+    }
     return status;
 }
 

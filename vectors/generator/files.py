@@ -9,7 +9,7 @@ import pathlib
 from typing import Any, Iterable
 
 FOLDER = pathlib.Path(__file__).resolve().parents[1]
-VERSION = "1.0.0"
+VERSION = "1.1.0"
 Test = dict[str, Any]
 
 

@@ -397,9 +397,11 @@ def test_what_the_exceptions_are():
     assert of_status[1] is y.InvalidArguments and of_status[2] is y.SizeOverflow and of_status[3] is y.OutOfMemory
     assert of_status[4] is y.InvalidText and of_status[6] is y.EmptyHandle
     assert [of_status[status] for status in range(17, 30)] == 13 * [y.InvalidJson]
-    assert [of_status[status] for status in range(33, 38)] == [
-        y.SessionOverlap, y.SessionPositions, y.SessionSizes, y.OutOfMemory, y.SessionGap]
-    assert of_status[5] is of_status[16] is of_status[30] is of_status[40] is y.YurewhaError
+    assert of_status[33] is y.SessionOverlap and of_status[34] is y.SessionPositions and of_status[37] is y.SessionGap
+    assert all(of_status[status] is y.YurewhaError for status in (5, 7, 16, 30, 35, 36, 40))
+    assert str(_errors.error_of(7)) == "the library returned status 7 (unknown status), which this call doesn't have"
+    assert str(y.InvalidJson(6)) == "invalid JSON: rule 6: the counts don't add up to the number of nodes"
+    assert str(y.InvalidJson(14)) == "invalid JSON: rule 14: no such rule"
 
 
 OUT_OF_MEMORY = """

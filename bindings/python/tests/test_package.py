@@ -185,7 +185,7 @@ def test_a_library_without_a_call(tmp_path):
     copy = tmp_path / "elsewhere" / "yurewha"
     shutil.copytree(PACKAGE, copy, ignore=shutil.ignore_patterns("lib", "__pycache__"))
     told = found({"PYTHONPATH": str(copy.parent), "YUREWHA_LIB_DIR": str(tmp_path)}, tmp_path)
-    assert told == f"ImportError: yurewha: {tmp_path / _library.NAME} has no yurewha_processor_level"
+    assert told == f"ImportError: yurewha: {tmp_path / _library.NAME} has no yurewha_status_text"
 
 
 ON_X86_64 = pytest.mark.skipif(os.uname().machine != "x86_64", reason="it is about x86-64")

@@ -45,7 +45,7 @@ from ._subtree import (
     xorb_hash,
 )
 
-__version__ = "1.0.0"
+__version__ = "1.1.0"
 
 __all__ = [
     "Chunks",

@@ -14,8 +14,9 @@ Declaration = Tuple[str, Tuple[str, ...]]
 Member = Tuple[str, str, int]
 
 DECLARATIONS: Dict[str, Declaration] = {
-    # The library's version
+    # The library's version, and the texts of statuses
     "yurewha_version": ("yurewha_status", ("char *", "size_t", "size_t *")),
+    "yurewha_status_text": ("yurewha_status", ("yurewha_status", "char *", "size_t", "size_t *")),
     "yurewha_processor_level": ("const char *", ()),
     # Hashes
     "yurewha_data_hash": ("void", ("const uint8_t *", "size_t", "yurewha_hash *")),
@@ -103,15 +104,14 @@ STATUSES: Dict[str, int] = {
     "YUREWHA_RULE": 16,
     "YUREWHA_SESSION_OVERLAP": 33,
     "YUREWHA_SESSION_POSITIONS": 34,
-    "YUREWHA_SESSION_SIZES": 35,
-    "YUREWHA_SESSION_MEMORY": 36,
     "YUREWHA_SESSION_GAP": 37,
 }
 
-#: The lengths of a hash as hex text and as base64 text, by their names in the header.
+#: The lengths of a hash as hex text and as base64 text, and the greatest length of a status's text, by their names in the header.
 LENGTHS: Dict[str, int] = {
     "YUREWHA_HEX_LENGTH": 64,
     "YUREWHA_BASE64_LENGTH": 43,
+    "YUREWHA_STATUS_TEXT_LENGTH": 96,
 }
 
 #: The members of each struct: the name, the type, and how many of it there are.

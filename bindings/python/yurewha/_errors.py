@@ -2,9 +2,11 @@
 
 from __future__ import annotations
 
-from typing import Dict
+import ctypes
+from typing import Dict, Type
 
-from ._declarations import STATUSES
+from ._declarations import LENGTHS, STATUSES
+from ._library import short
 
 __all__ = [
     "EmptyHandle",
@@ -23,22 +25,19 @@ __all__ = [
     "YurewhaError",
 ]
 
-#: What each of the rules 1 to 13 requires of the JSON form of a subtree.
-RULES: Dict[int, str] = {
-    1: "the value is an object",
-    2: "`nodes` and `levels` are arrays, and `at_start` and `at_end` are booleans",
-    3: "a node is an object with `hash`, 64 hex digits, and `size`, a whole number below 2^64",
-    4: "a level is an array of two whole numbers below 2^64",
-    5: "there is at least one level",
-    6: "the counts of all levels add up to the number of nodes",
-    7: "the sizes of all nodes add up to at most 2^64 - 1",
-    8: "the top level has no right nodes; with `at_end`, no level has any",
-    9: "with `at_start`, no level below the top has left nodes",
-    10: "with both marks, the top level has at most one node",
-    11: "if there are several levels, the top level has a node",
-    12: "without `at_start`, left nodes below the top end like the nodes before a first stable point",
-    13: "without `at_end`, right nodes below the top begin like the nodes after a last stable point",
-}
+#: The rules for the JSON form of a subtree.
+_RULES = range(1, 14)
+
+
+def status_text(status: int) -> str:
+    """Returns what a status means, in the library's words.
+
+    >>> status_text(33), status_text(7)
+    ('a position is taken', 'unknown status')
+    """
+    text, length = ctypes.create_string_buffer(LENGTHS["YUREWHA_STATUS_TEXT_LENGTH"]), ctypes.c_size_t()
+    short.yurewha_status_text(status, text, len(text), length)
+    return text.raw[:length.value].decode("ascii")
 
 
 class YurewhaError(Exception):
@@ -101,7 +100,9 @@ class InvalidJson(YurewhaError, ValueError):
         self.rule = rule
 
     def __str__(self) -> str:
-        return f"invalid JSON: rule {self.rule}: {RULES.get(self.rule, 'no such rule')}"
+        if self.rule in _RULES:
+            return f"invalid JSON: {status_text(STATUSES['YUREWHA_RULE'] + self.rule)}"
+        return f"invalid JSON: rule {self.rule}: no such rule"
 
 
 class EmptyHandle(YurewhaError, ValueError):
@@ -168,8 +169,16 @@ class SessionGap(SessionError):
     """
 
 
-_SIZES = "size overflow: sizes or lengths add up to more than 2^64 - 1"
-_MEMORY = "out of memory: an allocation failed"
+#: The faults of a session alone.
+_SESSION_ERRORS: Dict[int, Type[SessionError]] = {
+    STATUSES["YUREWHA_SESSION_OVERLAP"]: SessionOverlap,
+    STATUSES["YUREWHA_SESSION_POSITIONS"]: SessionPositions,
+    STATUSES["YUREWHA_SESSION_GAP"]: SessionGap,
+}
+
+
+# Made in advance, since there may be no memory for it later.
+_MEMORY = f"{status_text(STATUSES['YUREWHA_MEMORY'])}: an allocation failed"
 
 
 def error_of(status: int, what: str = "invalid arguments") -> YurewhaError:
@@ -181,22 +190,16 @@ def error_of(status: int, what: str = "invalid arguments") -> YurewhaError:
     if status == STATUSES["YUREWHA_ARGUMENTS"]:
         return InvalidArguments(what)
     if status == STATUSES["YUREWHA_SIZES"]:
-        return SizeOverflow(_SIZES)
-    if status in (STATUSES["YUREWHA_MEMORY"], STATUSES["YUREWHA_SESSION_MEMORY"]):
+        return SizeOverflow(f"size overflow: {status_text(status)}")
+    if status == STATUSES["YUREWHA_MEMORY"]:
         return OutOfMemory(_MEMORY)
     if status == STATUSES["YUREWHA_TEXT"]:
         return InvalidText(what)
     if status == STATUSES["YUREWHA_EMPTY_HANDLE"]:
         return EmptyHandle("the object is empty: no call of this package made it, or it was freed")
-    if status == STATUSES["YUREWHA_SESSION_OVERLAP"]:
-        return SessionOverlap("a position is taken")
-    if status == STATUSES["YUREWHA_SESSION_POSITIONS"]:
-        return SessionPositions("the first position plus the number of chunks is more than 2^64 - 1")
-    if status == STATUSES["YUREWHA_SESSION_SIZES"]:
-        return SessionSizes("the sizes of all chunks add up to more than 2^64 - 1")
-    if status == STATUSES["YUREWHA_SESSION_GAP"]:
-        return SessionGap("the taken positions aren't exactly those below the total")
+    if status in _SESSION_ERRORS:
+        return _SESSION_ERRORS[status](status_text(status))
     rule = status - STATUSES["YUREWHA_RULE"]
-    if rule in RULES:
+    if rule in _RULES:
         return InvalidJson(rule)
-    return YurewhaError(f"the library returned status {status}, which this call doesn't have")
+    return YurewhaError(f"the library returned status {status} ({status_text(status)}), which this call doesn't have")

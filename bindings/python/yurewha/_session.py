@@ -7,7 +7,7 @@ from typing import Callable, Iterable, Iterator, List, Optional, Tuple, Type, Un
 
 from ._chunks import Chunks, ChunksLike
 from ._declarations import STATUSES
-from ._errors import InvalidArguments, SessionOverlap, YurewhaError, error_of
+from ._errors import InvalidArguments, SessionOverlap, SessionSizes, YurewhaError, error_of
 from ._guard import Guarded, both_locked
 from ._hash import Hash, checked_32, checked_u64
 from ._hashes import Hashes, HashesLike
@@ -155,6 +155,8 @@ class Session(Guarded):
             if status == STATUSES["YUREWHA_SESSION_OVERLAP"]:
                 run = None if self.taken(place) else self._run_from(place)
                 raise SessionOverlap(f"position {run[0] if run else place} is taken")
+        if status == STATUSES["YUREWHA_SIZES"]:
+            raise SessionSizes("the sizes of all chunks add up to more than 2^64 - 1")
         if status:
             raise error_of(status)
         return out.value

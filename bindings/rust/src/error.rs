@@ -1,7 +1,7 @@
 //! The errors of calls on lists of chunks and on subtrees.
 
 use crate::ffi;
-use crate::status::Refusal;
+use crate::status::{Refusal, StatusText};
 use std::fmt;
 
 /// Why a call failed. After a failure everything that was lent to the call is unchanged.
@@ -62,36 +62,25 @@ impl fmt::Display for CoreError {
 
 impl std::error::Error for CoreError {}
 
-// How a value breaks each of the rules 1 to 13, in the words of the header.
-const BROKEN_RULES: [&str; 13] = [
-    "the value isn't an object",
-    "the nodes or levels aren't an array, or a mark isn't a boolean",
-    "a node isn't a hash and a size",
-    "a level isn't two counts",
-    "there is no level",
-    "the counts don't add up to the number of nodes",
-    "the sizes add up to more than 2^64 - 1",
-    "there are right nodes at the top, or although the end is marked",
-    "there are left nodes below the top, although the start is marked. xet-core-structures leaves some when it merges \
-     from the start; make the subtree anew from the list of its chunks",
-    "the top has several nodes, although both ends are marked",
-    "the top of several levels has no node",
-    "left nodes don't end at a first stable point",
-    "right nodes don't begin at a last stable point",
-];
-
 /// The text of a rule that a value breaks.
 pub(crate) struct BrokenRule(pub(crate) u8);
 
 impl fmt::Display for BrokenRule {
     fn fmt(&self, f: &mut fmt::Formatter<'_>) -> fmt::Result {
-        write!(f, "rule {}", self.0)?;
-        match BROKEN_RULES.get(usize::from(self.0).wrapping_sub(1)) {
-            Some(text) => write!(f, ": {text}"),
-            None => Ok(()),
+        match self.0 {
+            1..=13 => write!(f, "{}", StatusText::of(ffi::YUREWHA_RULE + u32::from(self.0)))?,
+            other => write!(f, "rule {other}")?,
         }
+        if self.0 == 9 {
+            f.write_str(OF_MERGES_FROM_THE_START)?;
+        }
+        Ok(())
     }
 }
+
+// Where most values that break rule 9 come from.
+const OF_MERGES_FROM_THE_START: &str = ". xet-core-structures leaves some when it merges from the start; make the \
+    subtree anew from the list of its chunks";
 
 impl Refusal for CoreError {
     fn of(status: ffi::yurewha_status) -> Option<Self> {

@@ -19,12 +19,11 @@ pub const YUREWHA_EMPTY_HANDLE: yurewha_status = 6;
 pub const YUREWHA_RULE: yurewha_status = 16;
 pub const YUREWHA_SESSION_OVERLAP: yurewha_status = 33;
 pub const YUREWHA_SESSION_POSITIONS: yurewha_status = 34;
-pub const YUREWHA_SESSION_SIZES: yurewha_status = 35;
-pub const YUREWHA_SESSION_MEMORY: yurewha_status = 36;
 pub const YUREWHA_SESSION_GAP: yurewha_status = 37;
 
 pub const YUREWHA_HEX_LENGTH: usize = 64;
 pub const YUREWHA_BASE64_LENGTH: usize = 43;
+pub const YUREWHA_STATUS_TEXT_LENGTH: usize = 96;
 
 #[repr(C)]
 #[derive(Clone, Copy, Default)]
@@ -103,6 +102,12 @@ const _: () = {
 
 extern "C" {
     pub fn yurewha_version(text: *mut c_char, room: usize, length: *mut usize) -> yurewha_status;
+    pub fn yurewha_status_text(
+        status: yurewha_status,
+        text: *mut c_char,
+        room: usize,
+        length: *mut usize,
+    ) -> yurewha_status;
     pub fn yurewha_processor_level() -> *const c_char;
     pub fn yurewha_data_hash(bytes: *const u8, length: usize, hash: *mut yurewha_hash);
     pub fn yurewha_data_hashes(

@@ -2,6 +2,7 @@
 
 use crate::error::{CoreError, Result};
 use crate::ffi;
+use std::fmt;
 
 /// An error that a status can mean.
 pub(crate) trait Refusal: Sized {
@@ -13,7 +14,36 @@ pub(crate) trait Refusal: Sized {
 pub(crate) fn done<E: Refusal>(status: ffi::yurewha_status) -> std::result::Result<(), E> {
     match status {
         ffi::YUREWHA_DONE => Ok(()),
-        status => Err(E::of(status).unwrap_or_else(|| panic!("yurewha answered the status {status}"))),
+        status => Err(E::of(status).unwrap_or_else(|| unexpected(status))),
+    }
+}
+
+// Panics, because the call never returns this status.
+fn unexpected<E>(status: ffi::yurewha_status) -> E {
+    panic!("yurewha answered the status {status}: {}", StatusText::of(status))
+}
+
+/// What a status means, in the library's words.
+pub(crate) struct StatusText {
+    room: [u8; ffi::YUREWHA_STATUS_TEXT_LENGTH],
+    length: usize,
+}
+
+impl StatusText {
+    pub(crate) fn of(status: ffi::yurewha_status) -> Self {
+        let mut text = StatusText {
+            room: [0; ffi::YUREWHA_STATUS_TEXT_LENGTH],
+            length: 0,
+        };
+        // SAFETY: a room of the length that goes with it, and a length to write to. The room is enough for each text.
+        unsafe { ffi::yurewha_status_text(status, text.room.as_mut_ptr().cast(), text.room.len(), &mut text.length) };
+        text
+    }
+}
+
+impl fmt::Display for StatusText {
+    fn fmt(&self, f: &mut fmt::Formatter<'_>) -> fmt::Result {
+        f.write_str(&String::from_utf8_lossy(&self.room[..self.length]))
     }
 }
 
@@ -103,7 +133,13 @@ mod tests {
     }
 
     #[test]
-    #[should_panic(expected = "yurewha answered the status 6")]
+    fn a_number_that_is_no_status_has_a_text() {
+        assert_eq!(StatusText::of(ffi::YUREWHA_DONE).to_string(), "the call succeeded");
+        assert_eq!(StatusText::of(u32::MAX).to_string(), "unknown status");
+    }
+
+    #[test]
+    #[should_panic(expected = "yurewha answered the status 6: a handle is empty")]
     fn a_status_that_never_comes_is_a_panic() {
         told(seven(ffi::YUREWHA_EMPTY_HANDLE));
     }

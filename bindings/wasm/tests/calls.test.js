@@ -144,15 +144,13 @@ test("each status of the header has its error", () => {
         EMPTY_HANDLE: "EmptyHandle",
         SESSION_OVERLAP: "SessionOverlap",
         SESSION_POSITIONS: "SessionPositions",
-        SESSION_SIZES: "SessionSizes",
-        SESSION_MEMORY: "OutOfMemory",
         SESSION_GAP: "SessionGap",
     };
     for (const [name, kind] of Object.entries(wanted)) {
         const error = errorOf(STATUS[name], "a message");
         assert.equal(error.name, kind);
         assert.ok(error instanceof errors[kind] && error instanceof errors.YurewhaError && error.message.length > 0);
-        assert.equal(error instanceof errors.SessionError, /^SESSION_(?!MEMORY)/.test(name));
+        assert.equal(error instanceof errors.SessionError, /^SESSION_/.test(name));
     }
     for (let rule = 1; rule <= 13; rule++) {
         const error = errorOf(STATUS.RULE + rule);

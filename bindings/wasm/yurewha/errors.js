@@ -69,8 +69,6 @@ export const STATUS = {
     RULE: 16,
     SESSION_OVERLAP: 33,
     SESSION_POSITIONS: 34,
-    SESSION_SIZES: 35,
-    SESSION_MEMORY: 36,
     SESSION_GAP: 37,
 };
 
@@ -84,8 +82,6 @@ const ERRORS = new Map([
     [STATUS.EMPTY_HANDLE, () => new EmptyHandle("the object was freed")],
     [STATUS.SESSION_OVERLAP, () => new SessionOverlap("a position is taken")],
     [STATUS.SESSION_POSITIONS, () => new SessionPositions("the first position plus the number of chunks is more than 2^64 - 1")],
-    [STATUS.SESSION_SIZES, () => new SessionSizes(SIZES)],
-    [STATUS.SESSION_MEMORY, () => new OutOfMemory(MEMORY)],
     [STATUS.SESSION_GAP, () => new SessionGap("the taken positions aren't exactly those below the total")],
 ]);
 
@@ -104,3 +100,4 @@ export function check(status, what = "the arguments don't fit together") {
 
 export const outOfMemory = () => errorOf(STATUS.MEMORY);
 export const emptyHandle = () => errorOf(STATUS.EMPTY_HANDLE);
+export const sessionSizes = () => new SessionSizes(SIZES);

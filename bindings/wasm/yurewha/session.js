@@ -2,7 +2,7 @@
 
 import { decimal, u64 } from "./arguments.js";
 import { CHUNK_LENGTH, sizeOf } from "./chunks.js";
-import { STATUS, check } from "./errors.js";
+import { STATUS, check, sessionSizes } from "./errors.js";
 import { Handle, Handles, disposable } from "./handle.js";
 import { HASH_LENGTH, thirtyTwo } from "./hash.js";
 import { inspected, showing } from "./shown.js";
@@ -53,7 +53,9 @@ export function makeSession(library, { Hash, rawOf, result, unpacked, hmac }, { 
             const count = BigInt(packed.length / CHUNK_LENGTH);
             const { pointer } = this.#handle;
             const fresh = library.over([packed, 8], (at, out) => {
-                check(library.call("yurewha_session_put", pointer, position, at, count, out));
+                const status = library.call("yurewha_session_put", pointer, position, at, count, out);
+                if (status === STATUS.SIZES) throw sessionSizes();
+                check(status);
                 return library.count(out);
             });
             this.#numChunks += count;

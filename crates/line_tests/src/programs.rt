@@ -27,7 +27,7 @@ xetroot root|nothing|h1 100|64||xetroot: expected no argument, --help or --versi
 xetroot |nothing|h1 100|64||xetroot: expected no argument, --help or --version;
 xetroot --help --help|nothing|h1 100|64||xetroot: expected no argument, --help or --version;
 xetroot|text of arguments|h1 100|64||xetroot: expected no argument, --help or --version;
-xetroot --version|nothing|zz|0|xetroot 1.0.0 (hashes of xet-core-structures 1.5.2);|
+xetroot --version|nothing|zz|0|xetroot 1.1.0 (hashes of xet-core-structures 1.5.2);|
 xetroot --version|output|zz|5||xetroot: fault 5;
 xetrange make|nothing|h1 100|0|{"at_end":false,"at_start":false,"levels":[[1,0]],"nodes":[{"hash":"h1","size":100}]};|
 xetrange join|nothing||0|{"at_end":false,"at_start":false,"levels":[[0,0]],"nodes":[]};|
@@ -53,7 +53,7 @@ xetrange make join|nothing||64||xetrange: expected make, join, root, --help or -
 xetrange make |nothing||64||xetrange: expected make, join, root, --help or --version;
 xetrange  make|nothing||64||xetrange: expected make, join, root, --help or --version;
 xetrange make|text of arguments||64||xetrange: expected make, join, root, --help or --version;
-xetrange --version|nothing|zz|0|xetrange 1.0.0 (hashes of xet-core-structures 1.5.2);|
+xetrange --version|nothing|zz|0|xetrange 1.1.0 (hashes of xet-core-structures 1.5.2);|
 xetrange --help|output|zz|5||xetrange: fault 5;"#;
 
 // Words that are wrong for each program, separated by spaces. The first row is one empty word.

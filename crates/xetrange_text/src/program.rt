@@ -37,7 +37,7 @@ write, 8 a line that isn't a range. The status is 64 after a wrong argument.
   --version     prints the versions of xetrange and of xet-core-structures
 ";
 
-const VERSION: &str = "xetrange 1.0.0 (hashes of xet-core-structures 1.5.2)\n";
+const VERSION: &str = "xetrange 1.1.0 (hashes of xet-core-structures 1.5.2)\n";
 
 /// Does what the arguments request. Returns the exit status: 0, the number of a fault, or 64 after a wrong argument.
 ///

@@ -36,7 +36,7 @@ line, 2 sizes that pass 2^64 - 1, 3 out of memory, 4 a failed read, 5 a failed w
   --version     prints the versions of xetroot and of xet-core-structures
 ";
 
-const VERSION: &str = "xetroot 1.0.0 (hashes of xet-core-structures 1.5.2)\n";
+const VERSION: &str = "xetroot 1.1.0 (hashes of xet-core-structures 1.5.2)\n";
 
 /// Does what the arguments request. Returns the exit status: 0, the number of a fault, or 64 after a wrong argument.
 ///

@@ -31,7 +31,7 @@ module _ {A : Type 0} (answer : Result A SessionFault) (fault : SessionFault) (s
     λ p. has ∙ ap session_status (is_fault kind (told.1 p)),
   )
 
-  pub not_memory : (status ≡ 36 → ⊥) → IsErrOf answer Memory → ⊥
+  pub not_memory : (status ≡ 3 → ⊥) → IsErrOf answer Memory → ⊥
   not_memory other e = other (has ∙ ap session_status (is_fault Memory e))
 
   pub gap_tells : (W : Type 0) → (IsErrOf answer Gap → W → ⊥) → ((IsErrOf answer Gap → ⊥) → W) → (status ≡ 37) ↔ (W → ⊥)
@@ -45,7 +45,7 @@ module _ {A : Type 0} (answer : Result A SessionFault) (fault : SessionFault) (s
       → (IsErrOf answer Gap → Cover total kept.session.runs → ⊥) → ((IsErrOf answer Gap → ⊥) → Cover total kept.session.runs)
       → HoldsOfPlaced kept (λ placed. IsWhole total placed ↔ Cover total kept.session.runs) → IsWholeStatus (Some kept) total status
   refused_status kept total either gap cover whole =
-      let known : (status ≡ 37) ⊎ (status ≡ 36) = elim either [ inl e ↦ inl (has ∙ ap session_status e) | inr e ↦ inr (has ∙ ap session_status e) ] in
+      let known : (status ≡ 37) ⊎ (status ≡ 3) = elim either [ inl e ↦ inl (has ∙ ap session_status e) | inr e ↦ inr (has ∙ ap session_status e) ] in
       record {
         on_gap = gap_tells (Cover total kept.session.runs) gap cover;
         on_done = λ e. absurd (elim known [ inl k ↦ omega (arith, k, e) | inr k ↦ omega (arith, k, e) ]);

@@ -1,4 +1,5 @@
 pub mod Statuses
+pub mod StatusTexts
 pub mod Chunks
 pub mod Roots
 pub mod Hashers

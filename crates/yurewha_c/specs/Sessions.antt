@@ -9,7 +9,7 @@ use Rattle.upload_session.specs.declared.kept_hashes.KeptHashes as kept_hashes
 use Rattle.upload_session.specs.declared.kept_hashes.SeenHashes.{SeenHashes}
 use Rattle.upload_session.specs.Subtrees.{subtrees}
 use Rattle.yurewha_c.specs.Handles.{BothHold}
-use Rattle.yurewha_c.specs.Statuses.{done, arguments, sizes, memory, empty_handle, session_memory, session_gap}
+use Rattle.yurewha_c.specs.Statuses.{done, arguments, sizes, memory, empty_handle, session_gap}
 use Rattle.yurewha_c.specs.declared.kept_session.KeptSession.{KeptSession}
 
 -- what a session keeps of hashes: all
@@ -33,7 +33,7 @@ pub record IsWholeStatus (session : Option KeptSession) (total status : ℕ) : T
   pub on_gap : IfSome session (λ kept. (status ≡ session_gap) ↔ ¬ Cover total kept.session.runs)
   pub on_done : status ≡ done → IsSomeAnd session (λ kept. Cover total kept.session.runs)
   pub on_empty : (status ≡ empty_handle) ↔ (session ≡ None)
-  pub statuses : (status ≡ done) ⊎ ((status ≡ empty_handle) ⊎ ((status ≡ session_gap) ⊎ (status ≡ session_memory)))
+  pub statuses : (status ≡ done) ⊎ ((status ≡ empty_handle) ⊎ ((status ≡ session_gap) ⊎ (status ≡ memory)))
   pub whole : IfSome session (λ kept. HoldsOfPlaced kept (λ placed. IsWhole total placed ↔ Cover total kept.session.runs))
 
 -- a run by its first position, the position after its last one, and its range

@@ -26,9 +26,6 @@ room = 5
 abbrev pub empty_handle : ℕ
 empty_handle = 6
 
-abbrev pub session_memory : ℕ
-session_memory = 36
-
 abbrev pub session_gap : ℕ
 session_gap = 37
 
@@ -41,6 +38,6 @@ core_status (InvalidJson rule) = 16 + rule
 abbrev pub session_status : SessionFault → ℕ
 session_status Overlap = 33
 session_status Positions = 34
-session_status Sizes = 35
-session_status Memory = 36
+session_status Sizes = 2
+session_status Memory = 3
 session_status Gap = 37

@@ -9,4 +9,4 @@ pub record WritesText (text old new : List ℕ) (len status : ℕ) : Type 0 wher
   pub counted : len ≡ length text
 
 abbrev pub version_text : List ℕ
-version_text = codes "1.0.0"
+version_text = codes "1.1.0"

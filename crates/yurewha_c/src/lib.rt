@@ -18,6 +18,7 @@ mod session_handle;
 mod session_runs;
 mod session_saving;
 mod status;
+mod status_text;
 mod subtree;
 mod subtree_flat;
 mod subtree_handle;

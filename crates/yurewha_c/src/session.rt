@@ -13,8 +13,8 @@ use crate::hash::Hash;
 use crate::kept_session::KeptSession;
 use crate::session_handle::SessionHandle;
 use crate::status::{
-    DONE, EMPTY_HANDLE, MEMORY, SESSION_GAP, SESSION_MEMORY, SESSION_OVERLAP, SESSION_POSITIONS,
-    SESSION_SIZES, status_of_fault,
+    DONE, EMPTY_HANDLE, MEMORY, SESSION_GAP, SESSION_OVERLAP, SESSION_POSITIONS, SIZES,
+    status_of_fault,
 };
 use std::alloc::Global;
 use upload_session::session::SessionOf;
@@ -81,8 +81,8 @@ fn put_chunks(
 /// - `EMPTY_HANDLE`: the handle is empty.
 /// - `SESSION_OVERLAP`: one of the positions is taken.
 /// - `SESSION_POSITIONS`: otherwise, `first` plus the number of chunks is more than 2^64 - 1.
-/// - `SESSION_SIZES`: otherwise, the sizes of all chunks add up to more than 2^64 - 1.
-/// - `SESSION_MEMORY`: an allocation failed; this may be returned instead of the three above.
+/// - `SIZES`: otherwise, the sizes of all chunks add up to more than 2^64 - 1.
+/// - `MEMORY`: an allocation failed; this may be returned instead of the three above.
 ///
 /// Unless the status is `DONE`, nothing has changed.
 #[unsafe(no_mangle)]
@@ -106,19 +106,19 @@ pub extern "C" fn yurewha_session_put(
     ensures new { result ≡ DONE → IsSomeAnd session.old.value (λ before. 0 < length chunks.now →
         CountsNew seen_hashes before.session.kept (nodes_of chunks.now) new_hashes.new) }
     ensures empty { (result ≡ EMPTY_HANDLE) ↔ (session.old.value ≡ None) }
-    ensures overlap { result ≢ SESSION_MEMORY → 0 < length chunks.now → IfSome session.old.value (λ before.
+    ensures overlap { result ≢ MEMORY → 0 < length chunks.now → IfSome session.old.value (λ before.
         (result ≡ SESSION_OVERLAP) ↔ IsTrue (meet before.session.runs first (length chunks.now))) }
-    ensures positions { result ≢ SESSION_MEMORY → 0 < length chunks.now → IfSome session.old.value (λ before.
+    ensures positions { result ≢ MEMORY → 0 < length chunks.now → IfSome session.old.value (λ before.
         (result ≡ SESSION_POSITIONS) ↔ (¬ IsTrue (meet before.session.runs first (length chunks.now))
         × (2 ^ 64 ≤ first + length chunks.now))) }
-    ensures sizes { result ≢ SESSION_MEMORY → 0 < length chunks.now → IfSome session.old.value (λ before.
-        (result ≡ SESSION_SIZES) ↔ (¬ IsTrue (meet before.session.runs first (length chunks.now))
+    ensures sizes { result ≢ MEMORY → 0 < length chunks.now → IfSome session.old.value (λ before.
+        (result ≡ SIZES) ↔ (¬ IsTrue (meet before.session.runs first (length chunks.now))
         × (first + length chunks.now < 2 ^ 64)
         × (2 ^ 64 ≤ before.session.size + total_size (nodes_of chunks.now)))) }
     ensures meets { IfSome session.old.value (λ before. HoldsOfPlaced before (λ placed. 0 < length chunks.now →
         meet before.session.runs first (length chunks.now) ≡ overlaps placed first (length chunks.now))) }
     ensures statuses { (result ≡ DONE) ⊎ ((result ≡ EMPTY_HANDLE) ⊎ ((result ≡ SESSION_OVERLAP)
-        ⊎ ((result ≡ SESSION_POSITIONS) ⊎ ((result ≡ SESSION_SIZES) ⊎ (result ≡ SESSION_MEMORY))))) }
+        ⊎ ((result ≡ SESSION_POSITIONS) ⊎ ((result ≡ SIZES) ⊎ (result ≡ MEMORY))))) }
     ensures refused { result ≢ DONE → result ≢ EMPTY_HANDLE →
         BothHold session.old.value session.new.value (λ before after. IsUnchanged seen_hashes before.session after.session) }
     ensures still_empty { result ≡ EMPTY_HANDLE → session.new.value ≡ None }
@@ -166,7 +166,7 @@ pub extern "C" fn yurewha_session_taken(
 /// - `DONE`: the hash is written.
 /// - `EMPTY_HANDLE`: the handle is empty.
 /// - `SESSION_GAP`: the taken positions aren't exactly those from 0 to `total` - 1.
-/// - `SESSION_MEMORY`: an allocation failed.
+/// - `MEMORY`: an allocation failed.
 ///
 /// Unless the status is `DONE`, nothing is written.
 #[unsafe(no_mangle)]

@@ -31,20 +31,14 @@ pub const EMPTY_HANDLE: u32 = 6;
 /// number.
 pub const RULE: u32 = 16;
 
-/// A position is taken. This status and the next four are the faults of a session. If several apply, the call returns
-/// the one with the lowest number, unless an allocation fails before that.
+/// A position of a session is taken.
 pub const SESSION_OVERLAP: u32 = 33;
 
 /// The first position plus the number of chunks is more than 2^64 - 1.
 pub const SESSION_POSITIONS: u32 = 34;
 
-/// The sizes of all chunks add up to more than 2^64 - 1.
-pub const SESSION_SIZES: u32 = 35;
-
-/// An allocation of a session failed.
-pub const SESSION_MEMORY: u32 = 36;
-
-/// The taken positions aren't exactly those below the total.
+/// The taken positions of a session aren't exactly those below the total. Up to version 1.0, calls of a session returned
+/// 35 for `SIZES` and 36 for `MEMORY`. No status gets these numbers again.
 pub const SESSION_GAP: u32 = 37;
 
 // Returns the status of an error.
@@ -66,8 +60,8 @@ pub(crate) fn status_of_fault(fault: SessionFault) -> u32
     match fault {
         SessionFault::Overlap => SESSION_OVERLAP,
         SessionFault::Positions => SESSION_POSITIONS,
-        SessionFault::Sizes => SESSION_SIZES,
-        SessionFault::Memory => SESSION_MEMORY,
+        SessionFault::Sizes => SIZES,
+        SessionFault::Memory => MEMORY,
         SessionFault::Gap => SESSION_GAP,
     }
 }

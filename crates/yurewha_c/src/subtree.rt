@@ -86,6 +86,8 @@ fn are_equal(first: &MerkleHashSubtree, second: &MerkleHashSubtree) -> bool
 
 /// Writes whether two subtrees have the same marks, levels and nodes. It allocates nothing. Both handles are unchanged.
 ///
+/// The contract is for two handles. A caller in C may pass one handle twice all the same, and gets `true`.
+///
 /// - `DONE`: it is written.
 /// - `EMPTY_HANDLE`: a handle is empty. Nothing is written.
 #[unsafe(no_mangle)]
@@ -100,12 +102,22 @@ pub extern "C" fn yurewha_subtree_equal(
     ensures first_kept { first.new.value ≡ first.old.value }
     ensures second_kept { second.new.value ≡ second.old.value }
 {
-    let Some((one, other)) = SubtreeHandle::take_both(alloc, first, second) else {
+    if second.is_empty(alloc) {
+        return EMPTY_HANDLE;
+    }
+    let Some(one) = first.take(alloc) else {
         return EMPTY_HANDLE;
     };
-    *equal = are_equal(&one, &other);
-    first.put(one);
-    second.put(other);
+    *equal = match second.take(alloc) {
+        Some(other) => {
+            let equal = are_equal(&one, &other);
+            second.put_back(other);
+            equal
+        }
+        // The second handle wasn't empty before the first was taken out, so they are the same.
+        None => true,
+    };
+    first.put_back(one);
     DONE
 }
 

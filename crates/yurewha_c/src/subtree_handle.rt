@@ -1,6 +1,6 @@
 //! A handle of a subtree. What owns memory can't be passed to C, so its box is passed as a pointer.
 
-ghost use Rattle.std.specs.Prelude.{◌≡◌, ◌≢◌, ◌⊎◌, Option, Some, None, option_map, IfOk, IfErr, IfSome, IfNone};
+ghost use Rattle.std.specs.Prelude.{◌≡◌, ◌≢◌, ◌⊎◌, ◌↔◌, Option, Some, None, option_map, IfOk, IfErr, IfSome, IfNone, IsTrue};
 ghost use Rattle.xet_merkle.specs.Subtree.{Subtree};
 ghost use Rattle.yurewha_c.specs.Owned.{owns_subtree, subtree_code};
 
@@ -80,6 +80,28 @@ impl SubtreeHandle {
         let new = SubtreeHandle::of_parts(Parts::of(subtree));
         if let Some(old) = replace(self, new).into_parts() {
             drop(old.into_box());
+        }
+    }
+
+    // Puts a subtree into an empty handle, of which it reads nothing.
+    pub(crate) fn put_back(&mut self, subtree: Box<MerkleHashSubtree>)
+        requires { self.old.value ≡ None }
+        ensures { self.new.value ≡ Some subtree.value }
+    {
+        *self = SubtreeHandle::of_parts(Parts::of(subtree));
+    }
+
+    // Returns whether the handle is empty.
+    pub(crate) fn is_empty(&mut self, alloc: Global) -> bool
+        ensures empty { IsTrue result ↔ (self.old.value ≡ None) }
+        ensures kept { self.new.value ≡ self.old.value }
+    {
+        match self.take(alloc) {
+            Some(subtree) => {
+                self.put_back(subtree);
+                false
+            }
+            None => true,
         }
     }
 

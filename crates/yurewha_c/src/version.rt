@@ -13,5 +13,5 @@ use crate::text::write_text;
 pub extern "C" fn yurewha_version(room: &mut [u8], text_len: &mut usize) -> u32
     ensures { WritesText version_text room.old room.new text_len.new result }
 {
-    write_text("1.0.0".as_bytes(), room, text_len)
+    write_text("1.1.0".as_bytes(), room, text_len)
 }

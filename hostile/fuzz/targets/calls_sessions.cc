@@ -80,7 +80,7 @@ yurewha_status Sessions::refusal_of(const Chunks &chunks, uint64_t first, const 
 #else
     const std::optional<uint64_t> size = second::total_size(nodes);
 #endif
-    return second::sum(chunks.size, size) ? YUREWHA_DONE : YUREWHA_SESSION_SIZES;
+    return second::sum(chunks.size, size) ? YUREWHA_DONE : YUREWHA_SIZES;
 }
 
 void Sessions::put(size_t which, Input &input)
@@ -92,7 +92,7 @@ void Sessions::put(size_t which, Input &input)
     const yurewha_status wanted = kept[which] ? refusal_of(*kept[which], first, nodes) : YUREWHA_EMPTY_HANDLE;
     const yurewha_chunk *chunks = fenced_chunks(0, nodes);
     Out<uint64_t> new_hashes;
-    if (!is_done(wanted, YUREWHA_SESSION_MEMORY,
+    if (!is_done(wanted, YUREWHA_MEMORY,
                  [&] { return yurewha_session_put(&handles[which], first, chunks, nodes.size(), &new_hashes); })) {
         EXPECT(new_hashes.is_untouched());
         return;
@@ -153,7 +153,7 @@ void Sessions::hash(size_t which, Input &input, bool is_root)
     }
     const yurewha_status wanted = !kept[which] ? YUREWHA_EMPTY_HANDLE : is_whole ? YUREWHA_DONE : YUREWHA_SESSION_GAP;
     Out<yurewha_hash> hash;
-    if (is_done(wanted, YUREWHA_SESSION_MEMORY, [&] {
+    if (is_done(wanted, YUREWHA_MEMORY, [&] {
             return is_root ? yurewha_session_root(&handles[which], total, &hash)
                            : yurewha_session_finish(&handles[which], total, &hash);
         }))

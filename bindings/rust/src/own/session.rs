@@ -58,8 +58,8 @@ impl Refusal for SessionFault {
         match status {
             ffi::YUREWHA_SESSION_OVERLAP => Some(SessionFault::Overlap),
             ffi::YUREWHA_SESSION_POSITIONS => Some(SessionFault::Positions),
-            ffi::YUREWHA_SESSION_SIZES => Some(SessionFault::Sizes),
-            ffi::YUREWHA_SESSION_MEMORY => Some(SessionFault::Memory),
+            ffi::YUREWHA_SIZES => Some(SessionFault::Sizes),
+            ffi::YUREWHA_MEMORY => Some(SessionFault::Memory),
             ffi::YUREWHA_SESSION_GAP => Some(SessionFault::Gap),
             _ => None,
         }

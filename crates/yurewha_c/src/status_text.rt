@@ -1,0 +1,67 @@
+//! What each status means, in English.
+
+ghost use Rattle.std.specs.Prelude.{◌≡◌, ◌-◌, ◌≤◌, length};
+ghost use Rattle.yurewha_c.specs.StatusTexts.{rule_text, status_text};
+ghost use Rattle.yurewha_c.specs.Texts.{WritesText};
+
+use crate::status::{
+    ARGUMENTS, DONE, EMPTY_HANDLE, MEMORY, ROOM, RULE, SESSION_GAP, SESSION_OVERLAP,
+    SESSION_POSITIONS, SIZES, TEXT,
+};
+use crate::text::write_text;
+
+// Returns how a value breaks a rule.
+fn rule_text(rule: u32) -> &'static str
+    ensures value { result.now ≡ rule_text rule }
+    ensures fits { length result.now ≤ 96 }
+{
+    match rule {
+        1 => "rule 1: the value isn't an object",
+        2 => "rule 2: the nodes or levels aren't an array, or a mark isn't a boolean",
+        3 => "rule 3: a node isn't a hash and a size",
+        4 => "rule 4: a level isn't two counts",
+        5 => "rule 5: there is no level",
+        6 => "rule 6: the counts don't add up to the number of nodes",
+        7 => "rule 7: the sizes add up to more than 2^64 - 1",
+        8 => "rule 8: there are right nodes at the top, or although the end is marked",
+        9 => "rule 9: there are left nodes below the top, although the start is marked",
+        10 => "rule 10: the top has several nodes, although both ends are marked",
+        11 => "rule 11: the top of several levels has no node",
+        12 => "rule 12: left nodes don't end at a first stable point",
+        13 => "rule 13: right nodes don't begin at a last stable point",
+        _ => "unknown status",
+    }
+}
+
+// Returns what a status means.
+fn status_text(status: u32) -> &'static str
+    ensures value { result.now ≡ status_text status }
+    ensures fits { length result.now ≤ 96 }
+{
+    match status {
+        DONE => "the call succeeded",
+        ARGUMENTS => "the arguments don't fit together, or the requested thing doesn't exist",
+        SIZES => "sizes or lengths add up to more than 2^64 - 1",
+        MEMORY => "out of memory",
+        TEXT => "a text doesn't have the expected form",
+        ROOM => "the room is too small",
+        EMPTY_HANDLE => "a handle is empty",
+        SESSION_OVERLAP => "a position is taken",
+        SESSION_POSITIONS => "the first position plus the number of chunks passes 2^64 - 1",
+        SESSION_GAP => "the taken positions aren't exactly those below the total",
+        _ => rule_text(status.saturating_sub(RULE)),
+    }
+}
+
+/// Writes what a status means to the beginning of `room`, in English, and the length of this text to `text_len`. For a
+/// number that is no status the text is `unknown status`. No text has more than 96 bytes. It allocates nothing.
+///
+/// - `DONE`: it is written.
+/// - `ROOM`: the text is longer than `room`. Nothing is written to `room`, and `text_len` is the needed length.
+#[unsafe(no_mangle)]
+pub extern "C" fn yurewha_status_text(status: u32, room: &mut [u8], text_len: &mut usize) -> u32
+    ensures text { WritesText (status_text status) room.old room.new text_len.new result }
+    ensures fits { text_len.new ≤ 96 }
+{
+    write_text(status_text(status).as_bytes(), room, text_len)
+}
