@@ -1,6 +1,6 @@
 -- What the status of a failed session call says about the fault.
 use Rattle.std.specs.Prelude.{Some, Result, Err, IsErrOf}
-use Rattle.std.proofs.Common.{arith, ◌≡◌, ℕ, ◌⊎◌, ◌↔◌, List, refl, sym, ap, ◌∙◌, inl, inr}
+use Rattle.std.proofs.Common.{arith, ◌≡◌, ℕ, ◌⊎◌, ◌↔◌, refl, sym, ap, ◌∙◌, inl, inr}
 use Rattle.upload_session.specs.declared.session_fault.SessionFault.{SessionFault}
 use Rattle.upload_session.specs.declared.session_fault.SessionFault.TheVariants.{Overlap, Positions, Sizes, Memory, Gap}
 use Rattle.upload_session.specs.Session.{Cover, IsWhole}

@@ -111,13 +111,13 @@ pub extern "C" fn yurewha_subtree_equal(
     *equal = match second.take(alloc) {
         Some(other) => {
             let equal = are_equal(&one, &other);
-            second.put_back(other);
+            second.put(other);
             equal
         }
         // The second handle wasn't empty before the first was taken out, so they are the same.
         None => true,
     };
-    first.put_back(one);
+    first.put(one);
     DONE
 }
 

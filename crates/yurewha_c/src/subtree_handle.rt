@@ -83,14 +83,6 @@ impl SubtreeHandle {
         }
     }
 
-    // Puts a subtree into an empty handle, of which it reads nothing.
-    pub(crate) fn put_back(&mut self, subtree: Box<MerkleHashSubtree>)
-        requires { self.old.value ≡ None }
-        ensures { self.new.value ≡ Some subtree.value }
-    {
-        *self = SubtreeHandle::of_parts(Parts::of(subtree));
-    }
-
     // Returns whether the handle is empty.
     pub(crate) fn is_empty(&mut self, alloc: Global) -> bool
         ensures empty { IsTrue result ↔ (self.old.value ≡ None) }
@@ -98,7 +90,7 @@ impl SubtreeHandle {
     {
         match self.take(alloc) {
             Some(subtree) => {
-                self.put_back(subtree);
+                self.put(subtree);
                 false
             }
             None => true,

@@ -1,4 +1,4 @@
-use Rattle.std.proofs.Common.{◌≡◌, ◌<◌, [], arith, length, subst, ap, ◌∙◌, rules}
+use Rattle.std.proofs.Common.{◌≡◌, [], arith, length, subst, ap, ◌∙◌, rules}
 use Rattle.std.proofs.lemmas.List.{length-map, nil_from_length}
 use Rattle.std.proofs.lemmas.Result.{IfOk-weaker, on_ok_weaker}
 use Rattle.upload_session.specs.Session.{CountsNew, LearnsHashes}

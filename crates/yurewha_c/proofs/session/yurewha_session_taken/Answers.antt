@@ -1,4 +1,4 @@
-use Rattle.std.proofs.Common.{refl, ap, sym, ◌∙◌}
+use Rattle.std.proofs.Common.{refl, ap, ◌∙◌}
 use Rattle.upload_session.specs.Session.{meet}
 use Rattle.yurewha_c.proofs.session.yurewha_session_taken.Goals as goal
 
