@@ -44,12 +44,18 @@ static const struct way {
     {"messages of 8 KiB", by_one_call_each, 8 * KIB},
     {"messages of 32 KiB", by_one_call_each, 32 * KIB},
     {"messages of 64 KiB", by_one_call_each, LONG},
+    {"messages of 256 KiB", by_one_call_each, ALL},
     {"messages of 4 KiB in one call", by_one_call, 4 * KIB},
     {"messages of 16 KiB in one call", by_one_call, 16 * KIB},
     {"messages of 64 KiB in one call", by_one_call, LONG},
     {"pieces of 1 KiB", by_pieces, KIB},
-    {"pieces of 16 KiB", by_pieces, 16 * KIB},
+    {"pieces of 3 KiB", by_pieces, 3 * KIB},
+    {"pieces of 4 KiB", by_pieces, 4 * KIB},
+    {"pieces of 5,000 bytes", by_pieces, 5000},
     {"pieces of 10,000 bytes", by_pieces, 10000},
+    {"pieces of 16 KiB", by_pieces, 16 * KIB},
+    {"pieces of 20,000 bytes", by_pieces, 20000},
+    {"pieces of 50,000 bytes", by_pieces, 50000},
 };
 
 /* The hash of a message by a call that its way doesn't make, so that the instructions of a way's calls are those of the way. */
