@@ -1,0 +1,2 @@
+pub mod RangeProof
+pub mod Soundness
