@@ -1,2 +1,5 @@
 pub mod RangeProof
+pub mod Reading
+pub mod Sides
 pub mod Soundness
+pub mod Steps

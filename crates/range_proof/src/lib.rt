@@ -1,0 +1,15 @@
+//! Range proofs. Whoever knows the hash of a file checks a part of it with a few kilobytes: the nodes of the part's
+//! chunks, and the nodes beside the paths from them to the root.
+#![tactic(auto)]
+
+pub mod open_error;
+pub mod opened_range;
+mod places;
+pub mod proof;
+mod reading;
+mod sides;
+mod tops;
+
+pub use open_error::{OpenError, OpenFault};
+pub use opened_range::OpenedRange;
+pub use proof::RangeProof;
