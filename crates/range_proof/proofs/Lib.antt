@@ -1,3 +1,4 @@
 pub mod Opening
 pub mod PlacesOf
 pub mod ReadingOf
+pub mod SidesOf

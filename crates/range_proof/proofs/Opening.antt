@@ -57,6 +57,10 @@ IsRisen-more chunks levels i nodes sides made within here h parents =
           omega (arith, whole, same);
     }
 
+abbrev first_hash : List Node → List ℕ
+first_hash [] = []
+first_hash (node ∷ nodes) = node.0
+
 -- all levels
 pub HasTop-all : (chunks : List Node) (levels : List Sides) (i : ℕ) (nodes : List Node) (found : Option (List ℕ)) → length levels ≤ i →
     IsRisen chunks levels i nodes → MatchOption found (¬ (length nodes ≡ 1)) (λ hash. (size : ℕ) × (nodes ≡ (hash, size) ∷ [])) →
@@ -69,5 +73,5 @@ HasTop-all chunks levels i nodes (Some found) all h one = (
   λ hash top.
       let last = subst (λ (l : List Sides). Rises l nodes ((hash, top.0) ∷ [])) (drop_all i levels all) (h.down ((hash, top.0) ∷ []) top.1) in
       let same : (hash, top.0) ∷ [] ≡ (found, one.0) ∷ [] = sym last ∙ one.1 in
-      cc same,
+      ap first_hash same,
 )

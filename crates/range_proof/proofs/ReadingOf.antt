@@ -87,9 +87,9 @@ all_chunks nodes bytes rest i all none h = (
   },
 )
 
--- bytes are left over
-pub none_if_left : (nodes : List Node) (bytes rest : List ℕ) (i : ℕ) → length nodes ≤ i → ¬ (length rest ≡ 0) → IsReadSoFar nodes bytes i rest →
-    (chunks : List (List ℕ)) → ¬ (AreChunksOf nodes bytes chunks)
-none_if_left nodes bytes rest i all some h chunks k =
+-- chunks of all nodes leave nothing
+pub nothing_left : (nodes : List Node) (bytes rest : List ℕ) (i : ℕ) → length nodes ≤ i → IsReadSoFar nodes bytes i rest →
+    (chunks : List (List ℕ)) → AreChunksOf nodes bytes chunks → length rest ≡ 0
+nothing_left nodes bytes rest i all h chunks k =
     let len = ap length k.nodes_are in
-    some (sym (ap length (sym (ap bytes_of_chunks (drop_all i chunks (omega (arith, length-map chunks chunk_node)))) ∙ h.only chunks k)))
+    sym (ap length (sym (ap bytes_of_chunks (drop_all i chunks (omega (arith, length-map chunks chunk_node)))) ∙ h.only chunks k))
