@@ -1,14 +1,15 @@
 -- Rising from the chunks of a proof to its top, level by level.
-use Rattle.std.proofs.Common.{◌≡◌, ℕ, ◌+◌, ◌<◌, ◌≤◌, ◌^◌, List, [], ◌∷◌, ◌++◌, length, get_or, drop, map, Option, Some, None, refl, sym, ap, subst, ◌∙◌, arith}
-use Rattle.std.specs.Prelude.{sum_by, MatchOption}
+use Rattle.std.proofs.Common.{◌≡◌, ℕ, ◌+◌, ◌<◌, ◌≤◌, ◌^◌, List, [], ◌∷◌, ◌++◌, length, get_or, drop, map, Bool, Option, Some, None, refl, sym, ap, subst, ◌∙◌, arith}
+use Rattle.std.specs.Prelude.{◌↔◌, IsTrue, sum_by, MatchOption}
 use Rattle.std.proofs.lemmas.List.{drop_more, drop_all}
 use Rattle.std.proofs.lemmas.List.Sums.{sum_by-cons}
+use Rattle.xet_hash.specs.Hash.{default_hash}
 use Rattle.xet_roots.specs.Groups.{Node, Groups}
-use Rattle.xet_roots.specs.Roots.{total_size, parent, parent_hash}
+use Rattle.xet_roots.specs.Roots.{total_size, parent, parent_hash, salted_root}
 use Rattle.xet_roots.specs.Steps.Scan.{AreParents}
 use Rattle.xet_roots.proofs.Grouping.OneCutting.{Groups-unique}
 use Rattle.xet_roots.proofs.Roots.Making.{total_size-append, total_size-are_parents}
-use Rattle.range_proof.specs.RangeProof.{Sides, Proof, Rises, IsTop, file_size_of}
+use Rattle.range_proof.specs.RangeProof.{Sides, Proof, Rises, IsTop, Shows, ShowsRoot}
 use Rattle.range_proof.specs.Steps.Opening.{HasTop}
 
 -- the sizes on both sides of a level
@@ -56,6 +57,22 @@ IsRisen-more chunks levels i nodes sides made within here h parents =
           let same = total_size-are_parents parent_hash (sides.left ++ nodes ++ sides.right) made parents in
           omega (arith, whole, same);
     }
+
+-- a proof with this top shows a file hash if the top's is that hash
+pub Shows-from_top : (proof : Proof) (root shown file_hash salt : List ℕ) (answer : Bool) → HasTop proof (Some root) → shown ≡ salted_root salt root →
+    (IsTrue answer ↔ ((shown ≡ file_hash) × ¬ (file_hash ≡ default_hash))) → IsTrue answer ↔ Shows proof file_hash salt
+Shows-from_top proof root shown file_hash salt answer h is found = (
+  λ e. record { root = root; top = h.0; salted = sym (found.0 e).0 ∙ is; some = (found.0 e).1 },
+  λ s. found.1 (is ∙ ap (salted_root salt) (sym (h.1 s.root s.top)) ∙ sym s.salted, s.some),
+)
+
+-- the same for a root
+pub ShowsRoot-from_top : (proof : Proof) (top root : List ℕ) (answer : Bool) → HasTop proof (Some top) →
+    (IsTrue answer ↔ ((top ≡ root) × ¬ (root ≡ default_hash))) → IsTrue answer ↔ ShowsRoot proof root
+ShowsRoot-from_top proof top root answer h found = (
+  λ e. record { top = subst (IsTop proof) (found.0 e).0 h.0; some = (found.0 e).1 },
+  λ s. found.1 (sym (h.1 root s.top), s.some),
+)
 
 abbrev first_hash : List Node → List ℕ
 first_hash [] = []

@@ -1,7 +1,7 @@
 -- Places of nodes, one after another.
 use Rattle.std.proofs.Common.{◌≡◌, ℕ, zero, suc, ◌+◌, ◌<◌, ◌≤◌, List, [], ◌∷◌, ◌++◌, length, get_or, take, sym, ap, ◌∙◌, inl, inr, arith, length-append}
 use Rattle.std.proofs.lemmas.Bool.{cases_lt}
-use Rattle.std.proofs.lemmas.List.{get_or_append_left, get_or_push, take-append-le, take_all}
+use Rattle.std.proofs.lemmas.List.{get_or_append_left, get_or_push, get_or_default, take-append-le, take_all}
 use Rattle.xet_roots.specs.Groups.{Node}
 use Rattle.xet_roots.specs.Roots.{total_size}
 use Rattle.xet_roots.proofs.Roots.Making.{total_size-append}
@@ -36,3 +36,10 @@ ArePlaces-push start done places node place h e = record {
             ∙ ap (λ (l : List Node). start + total_size l) (sym (take_all k (done ++ node ∷ []) (omega (arith, length-append done (node ∷ [])))))
       ];
 }
+
+-- what `places[k]` reads
+pub place_read : (start : ℕ) (nodes : List Node) (places : List ℕ) (k place : ℕ) → ArePlaces start nodes places → k ≤ length nodes →
+    place ≡ get_or places k place → place ≡ start + total_size (take k nodes)
+place_read start nodes places k place h within read =
+    let count = h.count in
+    read ∙ get_or_default places k place 0 (omega arith) ∙ h.at k within

@@ -1,10 +1,13 @@
 -- Cutting data into chunks by the sizes of their nodes.
-use Rattle.std.proofs.Common.{◌≡◌, ℕ, ◌+◌, ◌<◌, ◌≤◌, List, [], ◌∷◌, ◌++◌, length, get_or, take, drop, map, refl, sym, ap, subst, ◌∙◌, arith, append_assoc, append-nil, length-append}
+use Rattle.std.proofs.Common.{◌≡◌, ℕ, ◌+◌, ◌-◌, ◌<◌, ◌≤◌, List, [], ◌∷◌, ◌++◌, length, get_or, take, drop, map, refl, sym, ap, subst, ◌∙◌, arith, append_assoc, append-nil, length-append}
 use Rattle.std.specs.Prelude.{flat_map}
 use Rattle.std.proofs.lemmas.List.{take_more, drop_more, drop_all, take_all, take-append-drop, drop_at, take_at, map-append, length-map, get_or-map, nil_from_length}
+use Rattle.std.proofs.lemmas.List.Sums.{sum_by-cons}
 use Rattle.xet_roots.specs.Groups.{Node}
+use Rattle.xet_roots.specs.Roots.{total_size}
 use Rattle.binding.specs.Binding.{chunk_node, chunk_nodes}
-use Rattle.range_proof.specs.Reading.{bytes_of_chunks, AreChunksOf}
+use Rattle.range_proof.specs.RangeProof.{Proof, offset_of}
+use Rattle.range_proof.specs.Reading.{bytes_of_chunks, AreChunksOf, IsRead}
 
 pub bytes_of_chunks-push : (chunks : List (List ℕ)) (chunk : List ℕ) → bytes_of_chunks (chunks ++ chunk ∷ []) ≡ bytes_of_chunks chunks ++ chunk
 bytes_of_chunks-push [] chunk = let e : chunk ++ [] ≡ [] ++ chunk = simp append-nil in e
@@ -93,3 +96,24 @@ pub nothing_left : (nodes : List Node) (bytes rest : List ℕ) (i : ℕ) → len
 nothing_left nodes bytes rest i all h chunks k =
     let len = ap length k.nodes_are in
     sym (ap length (sym (ap bytes_of_chunks (drop_all i chunks (omega (arith, length-map chunks chunk_node)))) ∙ h.only chunks k))
+
+-- chunks have as many bytes as their nodes say
+pub length-chunks : (nodes : List Node) (bytes : List ℕ) (chunks : List (List ℕ)) → AreChunksOf nodes bytes chunks → length bytes ≡ total_size nodes
+length-chunks nodes bytes chunks h = sym (ap length h.bytes_are) ∙ sizes chunks ∙ ap total_size h.nodes_are where
+  sizes : (chunks : List (List ℕ)) → length (bytes_of_chunks chunks) ≡ total_size (chunk_nodes chunks)
+  sizes [] = refl
+  sizes (chunk ∷ chunks) =
+      omega (arith, sizes chunks, length-append chunk (bytes_of_chunks chunks), sum_by-cons (λ (n : Node). n.1) (chunk_node chunk) (chunk_nodes chunks))
+
+-- the bytes between two places of the file
+pub IsRead-from : (proof : Proof) (from to begin end : ℕ) (all : List ℕ) (chunks : List (List ℕ)) → begin ≡ offset_of proof →
+    end ≡ offset_of proof + total_size proof.chunks → begin ≤ from → from ≤ to → to ≤ end → AreChunksOf proof.chunks all chunks →
+    IsRead proof from to all (take ((to - begin) - (from - begin)) (drop (from - begin) all))
+IsRead-from proof from to begin end all chunks begin_is end_is after order before h = record {
+  chunks = chunks;
+  are_chunks = h;
+  begin = omega arith;
+  in_order = order;
+  end = omega arith;
+  bytes_are = ap (λ (b : ℕ). take ((to - b) - (from - b)) (drop (from - b) all)) begin_is;
+}

@@ -12,7 +12,7 @@ use crate::open_error::{OpenError, OpenFault};
 use crate::opened_range::OpenedRange;
 use crate::places::places;
 use crate::sides::{LevelSides, copy_levels};
-use crate::tops::top;
+use crate::tops::{is_found, top};
 use std::alloc::{AllocError, Allocator, Global};
 use std::marker::Model;
 use xet_hash::data_hash::MerkleHash;
@@ -105,7 +105,7 @@ impl<A: Allocator + Clone> RangeProof<A> {
             return Ok(false);
         };
         let shown = file_hash_of_root(root, false, salt);
-        Ok(shown == *file_hash && *file_hash != MerkleHash::default())
+        Ok(is_found(&shown, file_hash))
     }
 
     // Returns whether the proof shows a root.
@@ -115,7 +115,7 @@ impl<A: Allocator + Clone> RangeProof<A> {
         let Some(top) = self.top()? else {
             return Ok(false);
         };
-        Ok(top == *root && *root != MerkleHash::default())
+        Ok(is_found(&top, root))
     }
 
     // Returns the hash of the proof's top, if it has one.
