@@ -1,16 +1,16 @@
 -- Levels, from the top down: two files with the same top have the same nodes on the level below, and so on down to their
 -- chunks.
-use Rattle.std.proofs.Common.{◌≡◌, ℕ, suc, ◌<◌, ◌≤◌, ◌⊎◌, Contains, List, [], ◌∷◌, ◌++◌, length, map, flat_map, refl, sym, ap, subst, ◌∙◌, inl, inr, arith}
+use Rattle.std.proofs.Common.{◌≡◌, ℕ, ◌<◌, ◌≤◌, ◌⊎◌, List, [], ◌∷◌, length, map, refl, sym, ap, subst, ◌∙◌, inl, inr, arith}
 use Rattle.std.specs.List.{AllByRecursion}
 use Rattle.std.proofs.lemmas.List.{length-map, map-append}
-use Rattle.xet_hash.specs.Hash.{default_hash, bytes_of, hash_of, IsHash}
+use Rattle.xet_hash.specs.Hash.{bytes_of, hash_of, IsHash}
 use Rattle.xet_hash.proofs.Hash.Laws.{hash_of-bytes_of}
 use Rattle.xet_roots.specs.Groups.{Node, Groups}
 use Rattle.xet_roots.specs.Roots.{group_text, parent, salted_root, IsRoot, IsFileHash}
 use Rattle.xet_roots.specs.Roots.IsRootBy.{no_node, one_node, of_parents}
 use Rattle.xet_roots.proofs.Grouping.OneCutting.{joined_nodes}
 use Rattle.xet_roots.proofs.Roots.OneRoot.{Groups-some}
-use Rattle.binding.specs.Binding.{Message, blake3_of, chunk_node, chunk_nodes, IsLevel, HashedForRoot, HashedForFile, Collision}
+use Rattle.binding.specs.Binding.{Message, chunk_node, chunk_nodes, IsLevel, HashedForRoot, HashedForFile, Collision}
 use Rattle.binding.specs.Binding.IsLevel.{lowest, above}
 use Rattle.binding.specs.Binding.HashedForRoot.{chunk as of_chunk, group as of_group}
 use Rattle.binding.specs.Binding.HashedForFile.{below, root as of_root}

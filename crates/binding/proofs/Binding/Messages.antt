@@ -1,5 +1,5 @@
 -- Messages with the same hash: they are the same message, or a collision.
-use Rattle.std.proofs.Common.{◌≡◌, ℕ, zero, suc, ◌+◌, ◌*◌, ◌<◌, ◌≤◌, ◌^◌, ◌⊎◌, Bool, if◌then◌else◌, leb, true, false, All, Contains, Decides, bytes_eq, List, [], ◌∷◌, ◌++◌, length, map, flat_map, refl, sym, ap, ◌∙◌, inl, inr, arith, length-append}
+use Rattle.std.proofs.Common.{◌≡◌, ℕ, zero, suc, ◌*◌, ◌<◌, ◌^◌, ◌⊎◌, Bool, if◌then◌else◌, leb, true, false, Contains, Decides, bytes_eq, List, [], ◌∷◌, ◌++◌, length, map, flat_map, refl, sym, ap, ◌∙◌, inl, inr, arith, length-append}
 use Rattle.std.specs.Int.{w32, to_le_bytes, byte_at, bytes_low_first}
 use Rattle.std.specs.List.{AllByRecursion}
 use Rattle.std.proofs.lemmas.Bool.{false≢true}
@@ -12,7 +12,7 @@ use Rattle.xet_hash.specs.Hash.{bytes_of}
 use Rattle.xet_roots.specs.Groups.{Node}
 use Rattle.xet_roots.specs.Roots.{group_text, parent, parent_hash}
 use Rattle.binding.specs.Binding.{Message, blake3_of, chunk_node, chunk_nodes, Collision}
-use Rattle.binding.proofs.Binding.Texts.{hashes, AreHashes, AreSizes, group_text_tells_hashes, group_text_tells_nodes}
+use Rattle.binding.proofs.Binding.Texts.{hashes}
 
 -- ---- Lists
 
@@ -180,7 +180,6 @@ module _ (these those : Message → Type 0) where
         ]
         | inr collision ↦ inr collision
       ]
-
 
   -- chunks with the same hashes
   pub same_chunks : (chunks others : List (List ℕ)) → AllByRecursion (λ bytes. these (chunk_message bytes)) chunks →

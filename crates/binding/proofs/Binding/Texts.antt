@@ -1,5 +1,5 @@
 -- A group's text says its nodes: the hash of each, and its size.
-use Rattle.std.proofs.Common.{◌≡◌, ℕ, zero, suc, ◌+◌, ◌*◌, ◌/◌, ◌%◌, ◌^◌, ◌<◌, ◌≤◌, ◌⊎◌, true, false, Bool, if◌then◌else◌, eqb, List, [], ◌∷◌, ◌++◌, length, map, flat_map, codes, refl, sym, ap, subst, ◌∙◌, inl, inr, arith, append_assoc, length-append, pow-suc, ne_eqb}
+use Rattle.std.proofs.Common.{◌≡◌, ℕ, zero, suc, ◌+◌, ◌/◌, ◌%◌, ◌^◌, ◌<◌, ◌≤◌, true, false, Bool, if◌then◌else◌, eqb, List, [], ◌∷◌, ◌++◌, length, map, refl, sym, ap, ◌∙◌, inl, inr, arith, append_assoc, length-append, pow-suc, ne_eqb}
 use Rattle.std.specs.Fmt.{decimal, digits, digits_onto, digit_glyph}
 use Rattle.std.specs.List.{AllByRecursion}
 use Rattle.std.proofs.lemmas.Bool.{cases_lt}
@@ -9,7 +9,7 @@ use Rattle.std.specs.Str.Parse.{digits_value}
 use Rattle.xet_hash.specs.Hash.{IsHash, hex_text}
 use Rattle.xet_hash.proofs.Hash.Laws.{hex_text-injective, IsHexText-hex_text}
 use Rattle.xet_roots.specs.Groups.{Node}
-use Rattle.xet_roots.specs.Roots.{node_line, group_text, parent}
+use Rattle.xet_roots.specs.Roots.{node_line, group_text}
 
 -- the hashes of some nodes
 abbrev pub hashes : List Node → List (List ℕ)
