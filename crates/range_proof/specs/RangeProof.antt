@@ -1,7 +1,7 @@
 -- Range proofs: the nodes of some adjacent chunks of a file, and the nodes beside the paths from them to the root. With
 -- them, whoever knows the root or the file hash alone can check the chunks.
 use Rattle.std.specs.Prelude.{◌≡◌, ℕ, ◌+◌, ◌-◌, ◌^◌, ◌<◌, ◌≤◌, All, List, [], ◌∷◌, ◌++◌, length, map, flat_map, take, drop, sum_by}
-use Rattle.xet_hash.specs.Hash.{default_hash}
+use Rattle.xet_hash.specs.Hash.{default_hash, IsHash}
 use Rattle.xet_roots.specs.Groups.{Node, Groups}
 use Rattle.xet_roots.specs.Roots.{total_size, parent, salted_root}
 
@@ -15,6 +15,16 @@ pub record Proof : Type 0 where
   pub chunks : List Node
   pub levels : List Sides
 
+-- the hash of each node is a hash: four words below 2 ^ 64
+abbrev pub AreHashes : List Node → Type 0
+AreHashes nodes = All (λ node. IsHash node.0) nodes
+
+-- the same of all nodes of a proof
+pub record HasHashes (proof : Proof) : Type 0 where
+  pub chunks : AreHashes proof.chunks
+  pub left : All (λ sides. AreHashes sides.left) proof.levels
+  pub right : All (λ sides. AreHashes sides.right) proof.levels
+
 -- the groups' nodes in one list
 abbrev pub joined : List (List Node) → List Node
 joined groups = flat_map (λ group. group) groups
@@ -26,7 +36,7 @@ joined groups = flat_map (λ group. group) groups
 -- more than come after. On the next level the range is their parents.
 pub data AreSides : List Node → List Node → List Node → List Sides → Type 0 where
   one_node : {front range back : List Node} → length (front ++ range ++ back) ≤ 1 → AreSides front range back []
-  beside : {front range back left right : List Node} {before hit after : List (List Node)} {levels : List Sides} →
+  beside : {front range back left right : List Node} (before hit after : List (List Node)) {levels : List Sides} →
       2 ≤ length (front ++ range ++ back) → Groups (front ++ range ++ back) (before ++ hit ++ after) →
       front ≡ joined before ++ left → back ≡ right ++ joined after →
       ((group : List Node) (more : List (List Node)) → hit ≡ group ∷ more → length left < length group) →

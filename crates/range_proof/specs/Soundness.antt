@@ -29,7 +29,7 @@ pub data CheckedForRoot (proof : Proof) (chunks : List (List ℕ)) : Message →
 -- the top's hash under the salt
 pub data CheckedForFile (proof : Proof) (chunks : List (List ℕ)) (salt : List ℕ) : Message → Type 0 where
   below : {message : Message} → CheckedForRoot proof chunks message → CheckedForFile proof chunks salt message
-  top : {hash : List ℕ} → IsTop proof hash → CheckedForFile proof chunks salt (salt, bytes_of hash)
+  top : (hash : List ℕ) → IsTop proof hash → CheckedForFile proof chunks salt (salt, bytes_of hash)
 
 -- a file has some chunks at the place that a proof names for its chunk of number k, and is as long as the proof says:
 -- `before` and `after` are its other chunks

@@ -14,28 +14,28 @@ use Rattle.binding.specs.Binding.{Message, chunk_node, chunk_nodes, IsLevel, Has
 use Rattle.binding.specs.Binding.IsLevel.{lowest, above}
 use Rattle.binding.specs.Binding.HashedForRoot.{chunk as of_chunk, group as of_group}
 use Rattle.binding.specs.Binding.HashedForFile.{below, root as of_root}
-use Rattle.binding.proofs.Binding.Texts.{hashes, AreHashes, group_text_tells_hashes}
+use Rattle.binding.proofs.Binding.Texts.{hashes, AllHashes, group_text_tells_hashes}
 use Rattle.binding.proofs.Binding.Messages.{each_front, each_back, each_map, each_contained, IsHash-blake3_of, IsHash-parent, chunk_message, group_message, same_message, same_chunks, same_texts, groups_against_chunks, chunks_against_groups}
 
 -- ---- The hashes of a level are hashes
 
-pub AreHashes-chunk_nodes : (chunks : List (List ℕ)) → AreHashes (chunk_nodes chunks)
-AreHashes-chunk_nodes chunks = each_map (λ node. IsHash node.0) chunk_node chunks (λ bytes. IsHash-blake3_of (chunk_message bytes))
+pub AllHashes-chunk_nodes : (chunks : List (List ℕ)) → AllHashes (chunk_nodes chunks)
+AllHashes-chunk_nodes chunks = each_map (λ node. IsHash node.0) chunk_node chunks (λ bytes. IsHash-blake3_of (chunk_message bytes))
 
-pub AreHashes-parents : (groups : List (List Node)) → AreHashes (map parent groups)
-AreHashes-parents groups = each_map (λ node. IsHash node.0) parent groups IsHash-parent
+pub AllHashes-parents : (groups : List (List Node)) → AllHashes (map parent groups)
+AllHashes-parents groups = each_map (λ node. IsHash node.0) parent groups IsHash-parent
 
-pub AreHashes-level : {nodes level : List Node} → AreHashes nodes → IsLevel nodes level → AreHashes level
-AreHashes-level h lowest = h
-AreHashes-level h (above {groups = groups} under two cutting) = AreHashes-parents groups
+pub AllHashes-level : {nodes level : List Node} → AllHashes nodes → IsLevel nodes level → AllHashes level
+AllHashes-level h lowest = h
+AllHashes-level h (above {groups = groups} under two cutting) = AllHashes-parents groups
 
-groups_joined : (groups : List (List Node)) → AreHashes (joined_nodes groups) → AllByRecursion AreHashes groups
-groups_joined [] h = tt
-groups_joined (group ∷ groups) h =
-    (each_front (λ node. IsHash node.0) group (joined_nodes groups) h, groups_joined groups (each_back (λ node. IsHash node.0) group (joined_nodes groups) h))
+-- what holds of each node of a list, holds of each node of its groups
+pub each_joined : (P : Node → Type 0) (groups : List (List Node)) → AllByRecursion P (joined_nodes groups) → AllByRecursion (AllByRecursion P) groups
+each_joined P [] h = tt
+each_joined P (group ∷ groups) h = (each_front P group (joined_nodes groups) h, each_joined P groups (each_back P group (joined_nodes groups) h))
 
-pub AreHashes-groups : {nodes : List Node} {groups : List (List Node)} → AreHashes nodes → Groups nodes groups → AllByRecursion AreHashes groups
-AreHashes-groups {groups = groups} h cutting = groups_joined groups (subst AreHashes (sym cutting.joined) h)
+pub AllHashes-groups : {nodes : List Node} {groups : List (List Node)} → AllHashes nodes → Groups nodes groups → AllByRecursion AllHashes groups
+AllHashes-groups {groups = groups} h cutting = each_joined (λ node. IsHash node.0) groups (subst AllHashes (sym cutting.joined) h)
 
 -- ---- The top of a file's levels
 
@@ -51,7 +51,7 @@ pub top_of_chunks : (chunks : List (List ℕ)) (root : List ℕ) → 0 < length 
 top_of_chunks chunks root some is_root = top_level lowest is_root (omega (arith, length-map chunks chunk_node))
 
 pub IsHash-root : (chunks : List (List ℕ)) (root : List ℕ) → 0 < length chunks → IsRoot (chunk_nodes chunks) root → IsHash root
-IsHash-root chunks root some is_root = (AreHashes-level (AreHashes-chunk_nodes chunks) (top_of_chunks chunks root some is_root).1).0
+IsHash-root chunks root some is_root = (AllHashes-level (AllHashes-chunk_nodes chunks) (top_of_chunks chunks root some is_root).1).0
 
 -- ---- The messages that are hashed for a file
 
@@ -66,7 +66,7 @@ each_group chunks {groups = groups} is_level two cutting =
 -- ---- Two files, from the top down
 
 -- groups with the same texts have the same hashes
-hashes-joined : (groups others : List (List Node)) → AllByRecursion AreHashes groups → AllByRecursion AreHashes others →
+hashes-joined : (groups others : List (List Node)) → AllByRecursion AllHashes groups → AllByRecursion AllHashes others →
     map group_text groups ≡ map group_text others → hashes (joined_nodes groups) ≡ hashes (joined_nodes others)
 hashes-joined [] [] h k e = refl
 hashes-joined [] (y ∷ others) h k e = cc e
@@ -92,7 +92,7 @@ same_levels {chunks} {others} (above {level = level} {groups = groups} under two
     elim (same_texts (HashedForRoot chunks) (HashedForRoot others) groups groups' (each_group chunks under two cutting) (each_group others under' two' cutting') e) [
       | inl texts ↦
           let joined : hashes (joined_nodes groups) ≡ hashes (joined_nodes groups') =
-          hashes-joined groups groups' (AreHashes-groups (AreHashes-level (AreHashes-chunk_nodes chunks) under) cutting) (AreHashes-groups (AreHashes-level (AreHashes-chunk_nodes others) under') cutting') texts in
+          hashes-joined groups groups' (AllHashes-groups (AllHashes-level (AllHashes-chunk_nodes chunks) under) cutting) (AllHashes-groups (AllHashes-level (AllHashes-chunk_nodes others) under') cutting') texts in
           same_levels under under' (omega arith) (ap hashes (sym cutting.joined) ∙ joined ∙ ap hashes cutting'.joined)
       | inr collision ↦ inr collision
     ]

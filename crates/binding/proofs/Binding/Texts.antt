@@ -16,12 +16,12 @@ abbrev pub hashes : List Node → List (List ℕ)
 hashes nodes = map (λ node. node.0) nodes
 
 -- each node's hash is four words below 2 ^ 64
-abbrev pub AreHashes : List Node → Type 0
-AreHashes nodes = AllByRecursion (λ node. IsHash node.0) nodes
+abbrev pub AllHashes : List Node → Type 0
+AllHashes nodes = AllByRecursion (λ node. IsHash node.0) nodes
 
 -- each node's size fits 64 bits
-abbrev pub AreSizes : List Node → Type 0
-AreSizes nodes = AllByRecursion (λ node. node.1 < 2 ^ 64) nodes
+abbrev pub AllSizes : List Node → Type 0
+AllSizes nodes = AllByRecursion (λ node. node.1 < 2 ^ 64) nodes
 
 -- ---- The numbers of a text
 
@@ -118,7 +118,7 @@ length-line node rest = rw (line_before node rest) (omega (arith, length-append 
 -- ---- Texts
 
 -- a group's text says the hashes of its nodes
-pub group_text_tells_hashes : (group other : List Node) → AreHashes group → AreHashes other → group_text group ≡ group_text other →
+pub group_text_tells_hashes : (group other : List Node) → AllHashes group → AllHashes other → group_text group ≡ group_text other →
     hashes group ≡ hashes other
 group_text_tells_hashes [] [] h k e = refl
 group_text_tells_hashes [] (b ∷ other) h k e = absurd (let len = ap length e in omega (arith, length-line b (group_text other)))
@@ -129,7 +129,7 @@ group_text_tells_hashes (a ∷ group) (b ∷ other) h k e =
     let tail = group_text_tells_hashes group other h.1 k.1 line.2 in cc
 
 -- a group's text says its nodes, if their sizes fit 64 bits: no other group has it
-pub group_text_tells_nodes : (group other : List Node) → AreHashes group → AreSizes group → AreHashes other → group_text group ≡ group_text other →
+pub group_text_tells_nodes : (group other : List Node) → AllHashes group → AllSizes group → AllHashes other → group_text group ≡ group_text other →
     group ≡ other
 group_text_tells_nodes [] [] h fits k e = refl
 group_text_tells_nodes [] (b ∷ other) h fits k e = absurd (let len = ap length e in omega (arith, length-line b (group_text other)))

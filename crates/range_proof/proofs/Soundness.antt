@@ -1,0 +1,3 @@
+-- Checked chunks are those of the file.
+pub mod Descent
+pub mod Checked
