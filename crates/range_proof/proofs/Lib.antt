@@ -1,2 +1,3 @@
+pub mod Completeness
 pub mod Parts
 pub mod Soundness

@@ -1,11 +1,11 @@
 //! Laws of range proofs. Each function does nothing: its contract is the law.
 
-ghost use Rattle.std.specs.Prelude.{◌≡◌, ℕ, ◌^◌, ◌<◌, ◌≤◌, ◌⊎◌, List, length, take, All};
+ghost use Rattle.std.specs.Prelude.{◌≡◌, ℕ, ◌+◌, ◌-◌, ◌^◌, ◌<◌, ◌≤◌, ◌⊎◌, List, length, take, drop};
 ghost use Rattle.xet_hash.specs.Hash.{default_hash};
 ghost use Rattle.xet_roots.specs.Groups.{Node};
 ghost use Rattle.xet_roots.specs.Roots.{total_size, IsRoot, IsFileHash};
 ghost use Rattle.binding.specs.Binding.{chunk_nodes, HashedForRoot, HashedForFile, Collision};
-ghost use Rattle.range_proof.specs.RangeProof.{Proof, HasHashes, IsProofOf, Shows, ShowsRoot, IsWellFormed, offset_of, file_size_of};
+ghost use Rattle.range_proof.specs.RangeProof.{Proof, HasHashes, IsProofOf, Shows, ShowsRoot, IsWellFormed, begin_of, file_size_of};
 ghost use Rattle.range_proof.specs.Soundness.{AreChunksAt, CheckedForRoot, CheckedForFile, HasChunksAt};
 
 /// A root is proof against lies. If a proof, of any origin, shows the root of a file, and some chunks are those of its
@@ -28,4 +28,42 @@ pub fn checked_chunks_are_those_of_the_file()
         HasHashes proof → file_size_of proof < 2 ^ 64 → Shows proof hash salt →
         0 < length chunks → AreChunksAt proof k chunks → IsFileHash (chunk_nodes file) salt hash →
         HasChunksAt file proof k chunks ⊎ Collision (CheckedForFile proof chunks salt) (HashedForFile file salt) }
+{}
+
+/// The proof of a range shows the root of its list, unless that is the default hash.
+pub fn range_proofs_show_the_root()
+    ensures { (nodes : List Node) (first end : ℕ) (proof : Proof) (root : List ℕ) →
+        IsProofOf nodes first end proof → IsRoot nodes root → ¬ (root ≡ default_hash) → ShowsRoot proof root }
+{}
+
+/// The proof of a range shows the file hash of its list under each salt, unless that is the default hash.
+pub fn range_proofs_show_the_file_hash()
+    ensures { (nodes : List Node) (first end : ℕ) (proof : Proof) (hash salt : List ℕ) →
+        IsProofOf nodes first end proof → IsFileHash nodes salt hash → ¬ (hash ≡ default_hash) → Shows proof hash salt }
+{}
+
+/// The proof of a range names the places of the range's chunks in the file, and the size of the file.
+pub fn range_proofs_name_places()
+    ensures begins { (nodes : List Node) (first end : ℕ) (proof : Proof) (k : ℕ) →
+        IsProofOf nodes first end proof → first + k ≤ end → begin_of proof k ≡ total_size (take (first + k) nodes) }
+    ensures size { (nodes : List Node) (first end : ℕ) (proof : Proof) →
+        IsProofOf nodes first end proof → file_size_of proof ≡ total_size nodes }
+{}
+
+/// The chunks of a file are accepted by the proof of their range.
+pub fn range_proofs_take_their_chunks()
+    ensures { (file : List (List ℕ)) (first end : ℕ) (proof : Proof) →
+        IsProofOf (chunk_nodes file) first end proof → AreChunksAt proof 0 (take (end - first) (drop first file)) }
+{}
+
+/// The proof of a range keeps the rules of its form, if the list has fewer than 2^64 nodes whose sizes fit 64 bits.
+pub fn range_proofs_are_well_formed()
+    ensures { (nodes : List Node) (first end : ℕ) (proof : Proof) →
+        IsProofOf nodes first end proof → length nodes < 2 ^ 64 → total_size nodes < 2 ^ 64 → IsWellFormed proof }
+{}
+
+/// A range of a list has exactly one proof.
+pub fn one_range_proof()
+    ensures unique { (nodes : List Node) (first end : ℕ) (proof other : Proof) →
+        IsProofOf nodes first end proof → IsProofOf nodes first end other → proof ≡ other }
 {}
