@@ -1,6 +1,7 @@
 -- Lists of nodes and of groups in parts.
 use Rattle.std.proofs.Common.{◌≡◌, ℕ, ◌+◌, ◌<◌, ◌≤◌, ◌^◌, List, [], ◌∷◌, ◌++◌, length, map, flat_map, take, drop, refl, sym, ap, ◌∙◌, arith, append_assoc, length-append}
 use Rattle.std.specs.List.{AllByRecursion, sum_by}
+use Rattle.std.proofs.lemmas.List.{take-map, drop-map}
 use Rattle.std.proofs.lemmas.List.Sums.{sum_by-cons, sum_by-append}
 use Rattle.xet_roots.specs.Groups.{Node}
 use Rattle.xet_roots.specs.Roots.{total_size, parent}
@@ -30,6 +31,10 @@ split_map f (x ∷ xs) (y ∷ front) back e =
       is_front = (let front_is = rest.is_front in cc);
       is_back = rest.is_back;
     }
+
+-- the images of a part of a list
+pub map_part : {X Y : Type 0} (f : X → Y) (n k : ℕ) (xs : List X) → map f (take n (drop k xs)) ≡ take n (drop k (map f xs))
+map_part f n k xs = sym (ap (take n) (drop-map f k xs) ∙ take-map f n (drop k xs))
 
 -- ---- Sizes
 

@@ -64,6 +64,8 @@ pub fn range_proofs_are_well_formed()
 
 /// A range of a list has exactly one proof.
 pub fn one_range_proof()
+    ensures exists { (nodes : List Node) (first end : ℕ) → first < end → end ≤ length nodes →
+        (proof : Proof) × IsProofOf nodes first end proof }
     ensures unique { (nodes : List Node) (first end : ℕ) (proof other : Proof) →
         IsProofOf nodes first end proof → IsProofOf nodes first end other → proof ≡ other }
 {}

@@ -27,10 +27,10 @@ AreGroups-back : (before groups : List (List Node)) → AreGroups (before ++ gro
 AreGroups-back [] groups h = h
 AreGroups-back (group ∷ before) groups h = AreGroups-back before groups (AreGroups-tail group (before ++ groups) h)
 
-joined-append : (groups more : List (List Node)) → joined (groups ++ more) ≡ joined groups ++ joined more
+pub joined-append : (groups more : List (List Node)) → joined (groups ++ more) ≡ joined groups ++ joined more
 joined-append groups more = flat_map-append (λ (group : List Node). group) groups more
 
-parents_parts : (before hit after : List (List Node)) →
+pub parents_parts : (before hit after : List (List Node)) →
     map parent (before ++ hit ++ after) ≡ map parent before ++ map parent hit ++ map parent after
 parents_parts before hit after =
     map-append parent (before ++ hit) after ∙ ap (λ l. l ++ map parent after) (map-append parent before hit)

@@ -19,13 +19,10 @@ use Rattle.range_proof.specs.RangeProof.{Sides, Proof, Rises, IsTop, ShowsRoot, 
 use Rattle.range_proof.specs.Soundness.{AreChunksAt, IsGroupAbove, CheckedForRoot, CheckedForFile, HasChunksAt}
 use Rattle.range_proof.specs.Soundness.CheckedForRoot.{chunk as of_chunk, group as of_group}
 use Rattle.range_proof.specs.Soundness.CheckedForFile.{below as checked_below, top as of_top}
-use Rattle.range_proof.proofs.Parts.{split_map, sum_by-add}
+use Rattle.range_proof.proofs.Parts.{map_part, split_map, sum_by-add}
 use Rattle.range_proof.proofs.Soundness.Descent.{Located, lefts, rights, descend}
 
 -- ---- Parts of lists
-
-map_part : {X Y : Type 0} (f : X → Y) (n k : ℕ) (xs : List X) → map f (take n (drop k xs)) ≡ take n (drop k (map f xs))
-map_part f n k xs = sym (ap (take n) (drop-map f k xs) ∙ take-map f n (drop k xs))
 
 cut_part : {X : Type 0} (n k : ℕ) (xs : List X) → xs ≡ take k xs ++ (take n (drop k xs) ++ drop n (drop k xs))
 cut_part n k xs = sym (take-append-drop k xs) ∙ ap (λ l. take k xs ++ l) (sym (take-append-drop n (drop k xs)))
