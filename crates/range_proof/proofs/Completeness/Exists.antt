@@ -1,5 +1,5 @@
 -- A range has a proof.
-use Rattle.std.proofs.Common.{◌≡◌, ℕ, zero, suc, ◌+◌, ◌-◌, ◌*◌, ◌<◌, ◌≤◌, ◌⊎◌, List, [], ◌∷◌, ◌++◌, length, map, flat_map, take, drop, refl, sym, ap, subst, ◌∙◌, inl, inr, arith, append_assoc, append-nil, length-append, le_refl}
+use Rattle.std.proofs.Common.{◌≡◌, ℕ, zero, suc, ◌-◌, ◌<◌, ◌≤◌, List, [], ◌∷◌, ◌++◌, length, map, take, drop, refl, sym, ap, subst, ◌∙◌, inl, inr, arith, append_assoc, append-nil, length-append, le_refl}
 use Rattle.std.proofs.lemmas.Bool.{cases_lt}
 use Rattle.std.proofs.lemmas.List.{length-map, append_cancel_left, same_from_push}
 use Rattle.xet_roots.specs.Groups.{Node, Groups}
@@ -107,6 +107,9 @@ cut_back (group ∷ groups) front back e some = elim (meets group (joined groups
 
 -- ---- All levels
 
+front_apart : (before left range back : List Node) → (before ++ left) ++ range ++ back ≡ before ++ (left ++ range ++ back)
+front_apart before left range back = simp append_assoc
+
 sides_within : (bound : ℕ) (front range back : List Node) → length (front ++ range ++ back) ≤ bound → 0 < length range → (levels : List Sides) × AreSides front range back levels
 sides_within zero front range back h some = ([], one_node (omega arith))
 sides_within (suc bound) front range back h some = elim (cases_lt (length (front ++ range ++ back)) 2) [
@@ -115,16 +118,16 @@ sides_within (suc bound) front range back h some = elim (cases_lt (length (front
       let cutting = Groups-exist (front ++ range ++ back) in
       let f = cut_front cutting.0 front (range ++ back) (cutting.1.joined ∙ append_assoc front range back) (omega (arith, length-append range back)) in
       let whole : joined f.before ++ joined f.rest ≡ joined f.before ++ (f.left ++ range ++ back) =
-      sym (joined-append f.before f.rest) ∙ ap joined (sym f.parts) ∙ cutting.1.joined ∙ ap (λ l. l ++ range ++ back) f.is_front ∙ simp append_assoc in
+      sym (joined-append f.before f.rest) ∙ ap joined (sym f.parts) ∙ cutting.1.joined ∙ ap (λ l. l ++ range ++ back) f.is_front
+      ∙ front_apart (joined f.before) f.left range back in
       let b = cut_back f.rest (f.left ++ range) back (append_cancel_left (joined f.before) _ _ whole) (omega (arith, length-append f.left range)) in
       let parts : cutting.0 ≡ f.before ++ b.hit ++ b.after = f.parts ∙ ap (λ l. f.before ++ l) b.parts ∙ sym (append_assoc f.before b.hit b.after) in
       let division : Groups (front ++ range ++ back) (f.before ++ b.hit ++ b.after) = subst (Groups (front ++ range ++ back)) parts cutting.1 in
       let few = Groups-few (front ++ range ++ back) (f.before ++ b.hit ++ b.after) division in
       let len = ap length (parents_parts f.before b.hit b.after) in
-      let up = sides_within bound (map parent f.before) (map parent b.hit) (map parent b.after) (omega (arith, length-map (f.before ++ b.hit ++ b.after) parent)) (parents_some b.hit b.some) in
-      (
+      let up = sides_within bound (map parent f.before) (map parent b.hit) (map parent b.after) (omega (arith, length-map (f.before ++ b.hit ++ b.after) parent)) (parents_some b.hit b.some) in (
         record { left = f.left; right = b.right } ∷ up.0,
-        beside f.before b.hit b.after two division f.is_front b.is_back (λ group more e. f.first group (more ++ b.after) (b.parts ∙ ap (λ l. l ++ b.after) e)) b.last up.1,
+        beside f.before b.hit b.after {levels = up.0} two division f.is_front b.is_back (λ group more e. f.first group (more ++ b.after) (b.parts ∙ ap (λ l. l ++ b.after) e)) b.last up.1,
       )
 ]
 

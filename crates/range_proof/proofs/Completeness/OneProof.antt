@@ -1,14 +1,14 @@
 -- A range has at most one proof.
-use Rattle.std.proofs.Common.{◌≡◌, ℕ, ◌+◌, ◌-◌, ◌<◌, ◌≤◌, List, [], ◌∷◌, ◌++◌, length, map, flat_map, take, drop, refl, sym, ap, subst, ◌∙◌, arith, append_assoc, length-append, length-take, length-drop}
+use Rattle.std.proofs.Common.{◌≡◌, ℕ, ◌+◌, ◌-◌, ◌<◌, ◌≤◌, List, [], ◌∷◌, ◌++◌, length, map, take, drop, refl, sym, ap, subst, ◌∙◌, arith, append_assoc, length-append, length-take, length-drop}
 use Rattle.std.proofs.lemmas.List.{append_cancel_left, append_cancel_right}
-use Rattle.xet_roots.specs.Groups.{Node, Groups}
+use Rattle.xet_roots.specs.Groups.{Node}
 use Rattle.xet_roots.specs.Roots.{parent}
 use Rattle.xet_roots.proofs.Lists.Places.{meets}
 use Rattle.xet_roots.proofs.Lists.Places.Meets.{same, earlier, later}
 use Rattle.xet_roots.proofs.Grouping.OneCutting.{Groups-unique}
 use Rattle.range_proof.specs.RangeProof.{Sides, Proof, AreSides, IsProofOf, joined}
 use Rattle.range_proof.specs.RangeProof.AreSides.{one_node, beside}
-use Rattle.range_proof.proofs.Completeness.Climb.{joined-append, Groups-hit, hit_some, parents_some, first_of_groups, last_of_groups}
+use Rattle.range_proof.proofs.Completeness.Climb.{joined-append, Groups-hit, hit_some, parents_some, last_of_groups}
 
 length-joined : (groups : List (List Node)) (x : List Node) (gap : List (List Node)) →
     length (joined (groups ++ x ∷ gap)) ≡ length (joined groups) + length x + length (joined gap)
@@ -90,8 +90,8 @@ same_sides {front} {range} {back} (beside {left = left} {right = right} before h
     let groups_some' = hit_some left' range right' hit' hit_cutting' some in
     let groups : before ++ hit ++ after ≡ before' ++ hit' ++ after' = Groups-unique _ _ _ cutting cutting' in
     let fronts = same_before before (hit ++ after) before' (hit' ++ after') left left'
-        (sym (append_assoc before hit after) ∙ groups ∙ append_assoc before' hit' after')
-        (sym is_front ∙ is_front') (first_of_rest hit after left groups_some first) (first_of_rest hit' after' left' groups_some' first') in
+    (sym (append_assoc before hit after) ∙ groups ∙ append_assoc before' hit' after')
+    (sym is_front ∙ is_front') (first_of_rest hit after left groups_some first) (first_of_rest hit' after' left' groups_some' first') in
     let backs = same_after hit after hit' after' right right' fronts.1 (sym is_back ∙ is_back') last last' in
     let lefts : left ≡ left' = append_cancel_left (joined before) left left' (sym is_front ∙ is_front' ∙ ap (λ l. joined l ++ left') (sym fronts.0)) in
     let rights : right ≡ right' = append_cancel_right right right' (joined after) (sym is_back ∙ is_back' ∙ ap (λ l. right' ++ joined l) (sym backs.1)) in

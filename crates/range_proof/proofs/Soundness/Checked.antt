@@ -1,26 +1,21 @@
 -- At the chunks: those that were checked are the file's, at the place that the proof names.
-use Rattle.std.proofs.Common.{◌≡◌, ℕ, ◌+◌, ◌<◌, ◌≤◌, ◌^◌, ◌⊎◌, Contains, List, [], ◌∷◌, ◌++◌, length, map, flat_map, take, drop, refl, sym, ap, subst, ◌∙◌, inl, inr, arith, append_assoc, length-append, length-take, length-drop, take-append-drop, take_all}
+use Rattle.std.proofs.Common.{◌≡◌, ℕ, ◌<◌, ◌≤◌, ◌^◌, ◌⊎◌, Contains, List, [], ◌∷◌, ◌++◌, length, map, flat_map, take, drop, refl, sym, ap, subst, ◌∙◌, inl, inr, arith, append_assoc, length-append, length-take, length-drop, take-append-drop, take_all}
 use Rattle.std.specs.List.{AllByRecursion}
-use Rattle.std.proofs.lemmas.List.{length-map, map-append, take-map, drop-map}
+use Rattle.std.proofs.lemmas.List.{length-map, map-append, take-map}
 use Rattle.std.proofs.lemmas.List.Elements.{recursion_from_All}
 use Rattle.std.proofs.lemmas.List.Sums.{sum_by-cons}
-use Rattle.xet_hash.specs.Hash.{default_hash, bytes_of, IsHash}
-use Rattle.xet_roots.specs.Groups.{Node, Groups}
-use Rattle.xet_roots.specs.Roots.{parent, total_size, IsRoot, IsFileHash, salted_root}
-use Rattle.xet_roots.specs.Roots.IsRootBy.{no_node, one_node, of_parents}
+use Rattle.xet_roots.specs.Groups.{Node}
+use Rattle.xet_roots.specs.Roots.{parent, total_size, IsRoot}
 use Rattle.xet_roots.proofs.Roots.Making.{total_size-append}
-use Rattle.binding.specs.Binding.{Message, chunk_node, chunk_nodes, IsLevel, HashedForRoot, HashedForFile, Collision}
+use Rattle.binding.specs.Binding.{Message, chunk_node, chunk_nodes, IsLevel, HashedForRoot, Collision}
 use Rattle.binding.specs.Binding.IsLevel.{lowest, above}
-use Rattle.binding.specs.Binding.HashedForFile.{below, root as of_root}
-use Rattle.binding.proofs.Binding.Texts.{hashes, AllHashes}
-use Rattle.binding.proofs.Binding.Messages.{each_front, each_back, each_contained, chunk_message, group_message, same_message, same_chunks, chunks_against_groups}
-use Rattle.binding.proofs.Binding.Levels.{AllHashes-parents, each_chunk, each_group, top_of_chunks, root_of_file_hash, IsHash-root, bytes_of-injective, Collision-more}
-use Rattle.range_proof.specs.RangeProof.{Sides, Proof, Rises, IsTop, ShowsRoot, Shows, HasHashes, begin_of, file_size_of}
-use Rattle.range_proof.specs.Soundness.{AreChunksAt, IsGroupAbove, CheckedForRoot, CheckedForFile, HasChunksAt}
-use Rattle.range_proof.specs.Soundness.CheckedForRoot.{chunk as of_chunk, group as of_group}
-use Rattle.range_proof.specs.Soundness.CheckedForFile.{below as checked_below, top as of_top}
+use Rattle.binding.proofs.Binding.Texts.{hashes}
+use Rattle.binding.proofs.Binding.Messages.{each_front, each_back, each_contained, chunk_message, group_message, same_chunks, chunks_against_groups}
+use Rattle.binding.proofs.Binding.Levels.{each_chunk, each_group, top_of_chunks}
+use Rattle.range_proof.specs.RangeProof.{Sides, Proof, IsTop, HasHashes, file_size_of}
+use Rattle.range_proof.specs.Soundness.{AreChunksAt, IsGroupAbove, HasChunksAt}
 use Rattle.range_proof.proofs.Parts.{map_part, split_map, sum_by-add}
-use Rattle.range_proof.proofs.Soundness.Descent.{Located, lefts, rights, descend}
+use Rattle.range_proof.proofs.Soundness.Descent.{lefts, rights, descend}
 
 -- ---- Parts of lists
 

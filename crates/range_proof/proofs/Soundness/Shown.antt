@@ -1,12 +1,11 @@
 -- What a proof that shows a root or a file hash says of a file with that root or file hash.
-use Rattle.std.proofs.Common.{◌≡◌, ℕ, ◌<◌, ◌≤◌, ◌^◌, ◌⊎◌, Contains, All, List, [], ◌∷◌, ◌++◌, length, map, refl, sym, ap, subst, ◌∙◌, inl, inr, arith}
-use Rattle.std.specs.List.{AllByRecursion}
+use Rattle.std.proofs.Common.{◌≡◌, ℕ, ◌<◌, ◌^◌, ◌⊎◌, List, [], ◌∷◌, length, map, refl, sym, ap, subst, ◌∙◌, inl, inr, arith}
 use Rattle.std.proofs.lemmas.List.{length-map}
 use Rattle.std.proofs.lemmas.List.Elements.{recursion_from_All}
-use Rattle.xet_hash.specs.Hash.{default_hash, bytes_of, IsHash}
+use Rattle.xet_hash.specs.Hash.{default_hash, bytes_of}
 use Rattle.xet_roots.specs.Groups.{Node}
-use Rattle.xet_roots.specs.Roots.{parent, salted_root, IsRoot, IsFileHash}
-use Rattle.xet_roots.specs.Roots.IsRootBy.{no_node, one_node, of_parents}
+use Rattle.xet_roots.specs.Roots.{parent, IsRoot, IsFileHash}
+use Rattle.xet_roots.specs.Roots.IsRootBy.{no_node, of_parents}
 use Rattle.binding.specs.Binding.{Message, chunk_node, chunk_nodes, HashedForRoot, HashedForFile, Collision}
 use Rattle.binding.specs.Binding.HashedForFile.{below, root as of_root}
 use Rattle.binding.proofs.Binding.Texts.{AllHashes}
