@@ -8,22 +8,23 @@ ghost use Rattle.binding.specs.Binding.{chunk_nodes, HashedForRoot, HashedForFil
 ghost use Rattle.range_proof.specs.RangeProof.{Proof, HasHashes, IsProofOf, Shows, ShowsRoot, IsWellFormed, begin_of, file_size_of};
 ghost use Rattle.range_proof.specs.Soundness.{AreChunksAt, CheckedForRoot, CheckedForFile, HasChunksAt};
 
-/// A root is proof against lies. If a proof, of any origin, shows the root of a file, and some chunks are those of its
-/// range from number k on, then the file has these chunks at the place that the proof names, and is as long as the
-/// proof says. Otherwise a message that was hashed to check them, and another one that was hashed for the file, have the
-/// same BLAKE3 hash.
+/// Range proofs of roots are sound. Take a proof from anybody that shows a root, and chunks whose hashes and lengths are
+/// those of its nodes from number k on. Then each file with this root has these chunks, one after another, at the place
+/// that the proof names for the first of them, and is as long as the proof says. Otherwise there is a collision: a message
+/// that was hashed to check the chunks, and a different one that is hashed for the file, have the same BLAKE3 hash.
 ///
 /// Nothing is assumed of the proof but what its type keeps: each hash is four words of 64 bits, and the sum of all sizes
-/// fits 64 bits.
-pub fn checked_chunks_are_those_of_the_root()
+/// fits 64 bits. Nothing at all is assumed of the file.
+pub fn range_proofs_of_roots_are_sound()
     ensures { (proof : Proof) (root : List ℕ) (k : ℕ) (chunks file : List (List ℕ)) →
         HasHashes proof → file_size_of proof < 2 ^ 64 → ShowsRoot proof root →
         0 < length chunks → AreChunksAt proof k chunks → IsRoot (chunk_nodes file) root →
         HasChunksAt file proof k chunks ⊎ Collision (CheckedForRoot proof chunks) (HashedForRoot file) }
 {}
 
-/// The same for a file hash under a salt.
-pub fn checked_chunks_are_those_of_the_file()
+/// Range proofs of file hashes are sound, as those of roots are. The messages of a collision may then also be the bytes
+/// of a root under the salt.
+pub fn range_proofs_of_file_hashes_are_sound()
     ensures { (proof : Proof) (hash salt : List ℕ) (k : ℕ) (chunks file : List (List ℕ)) →
         HasHashes proof → file_size_of proof < 2 ^ 64 → Shows proof hash salt →
         0 < length chunks → AreChunksAt proof k chunks → IsFileHash (chunk_nodes file) salt hash →
@@ -42,7 +43,8 @@ pub fn range_proofs_show_the_file_hash()
         IsProofOf nodes first end proof → IsFileHash nodes salt hash → ¬ (hash ≡ default_hash) → Shows proof hash salt }
 {}
 
-/// The proof of a range names the places of the range's chunks in the file, and the size of the file.
+/// The proof of a range names the place of each of its chunks in the file, and where the range ends, and the size of the
+/// file.
 pub fn range_proofs_name_places()
     ensures begins { (nodes : List Node) (first end : ℕ) (proof : Proof) (k : ℕ) →
         IsProofOf nodes first end proof → first + k ≤ end → begin_of proof k ≡ total_size (take (first + k) nodes) }
@@ -50,13 +52,14 @@ pub fn range_proofs_name_places()
         IsProofOf nodes first end proof → file_size_of proof ≡ total_size nodes }
 {}
 
-/// The chunks of a file are accepted by the proof of their range.
+/// The proof of a range takes the chunks of that range: their hashes and lengths are those of its nodes.
 pub fn range_proofs_take_their_chunks()
     ensures { (file : List (List ℕ)) (first end : ℕ) (proof : Proof) →
         IsProofOf (chunk_nodes file) first end proof → AreChunksAt proof 0 (take (end - first) (drop first file)) }
 {}
 
-/// The proof of a range keeps the rules of its form, if the list has fewer than 2^64 nodes whose sizes fit 64 bits.
+/// The proof of a range keeps the rules of every proof, if the list has fewer than 2^64 nodes and the sum of their sizes
+/// fits 64 bits.
 pub fn range_proofs_are_well_formed()
     ensures { (nodes : List Node) (first end : ℕ) (proof : Proof) →
         IsProofOf nodes first end proof → length nodes < 2 ^ 64 → total_size nodes < 2 ^ 64 → IsWellFormed proof }
