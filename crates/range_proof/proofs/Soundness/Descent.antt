@@ -14,7 +14,7 @@ use Rattle.xet_roots.proofs.Roots.OneRoot.{Groups-some}
 use Rattle.binding.specs.Binding.{Message, chunk_node, chunk_nodes, IsLevel, HashedForRoot, Collision}
 use Rattle.binding.specs.Binding.IsLevel.{lowest, above}
 use Rattle.binding.proofs.Binding.Texts.{hashes, AllHashes, AllSizes, group_text_tells_nodes}
-use Rattle.binding.proofs.Binding.Messages.{each_append, each_front, each_back, each_contained, chunk_message, group_message, same_texts, groups_against_chunks}
+use Rattle.binding.proofs.Binding.Messages.{each_append, each_contained, chunk_message, group_message, same_texts, groups_against_chunks}
 use Rattle.binding.proofs.Binding.Levels.{AllHashes-chunk_nodes, AllHashes-parents, AllHashes-level, AllHashes-groups, each_joined, each_chunk, each_group}
 use Rattle.range_proof.specs.RangeProof.{Sides, AreHashes, Rises, joined}
 use Rattle.range_proof.specs.Soundness.{IsGroupAbove}
