@@ -1,6 +1,7 @@
 -- Rising from the chunks of a proof to its top, level by level.
-use Rattle.std.proofs.Common.{◌≡◌, ℕ, ◌+◌, ◌<◌, ◌≤◌, ◌^◌, List, [], ◌∷◌, ◌++◌, length, get_or, drop, map, Bool, Option, Some, None, refl, sym, ap, subst, ◌∙◌, arith}
+use Rattle.std.proofs.Common.{◌≡◌, ℕ, ◌+◌, ◌<◌, ◌≤◌, ◌^◌, List, [], ◌∷◌, ◌++◌, length, get_or, drop, map, Bool, true, false, Result, Ok, Err, IfOk, IfErr, Option, Some, None, refl, sym, ap, subst, ◌∙◌, arith}
 use Rattle.std.specs.Prelude.{◌↔◌, IsTrue, sum_by, MatchOption}
+use Rattle.std.proofs.lemmas.Bool.{false≢true}
 use Rattle.std.proofs.lemmas.List.{drop_more, drop_all}
 use Rattle.std.proofs.lemmas.List.Sums.{sum_by-cons}
 use Rattle.xet_hash.specs.Hash.{default_hash}
@@ -73,6 +74,17 @@ ShowsRoot-from_top proof top root answer h found = (
   λ e. record { top = subst (IsTop proof) (found.0 e).0 h.0; some = (found.0 e).1 },
   λ s. found.1 (sym (h.1 root s.top), s.some),
 )
+
+-- an opened proof was found to show the hash, and a mismatch was found not to
+pub opened_shows : {E X : Type 0} (proof : Proof) (P : Proof → Type 0) (opened : Result Proof E) (shown : Result Bool X) → IfOk opened (λ range. range ≡ proof) →
+    IfOk opened (λ _. shown ≡ Ok true) → IfOk shown (λ is. IsTrue is ↔ P proof) → IfOk opened P
+opened_shows proof P (Ok range) shown same is found = subst P (sym same) ((subst (λ s. IfOk s (λ is. IsTrue is ↔ P proof)) is found).0 refl)
+opened_shows proof P (Err e) shown same is found = tt
+
+pub mismatch_hides : {E X : Type 0} (P : Type 0) (Q : E → Type 0) (opened : Result Proof E) (shown : Result Bool X) →
+    IfErr opened (λ e. Q e → shown ≡ Ok false) → IfOk shown (λ is. IsTrue is ↔ P) → IfErr opened (λ e. Q e → ¬ P)
+mismatch_hides P Q (Ok range) shown is found = tt
+mismatch_hides P Q (Err e) shown is found = λ q p. false≢true ((subst (λ s. IfOk s (λ is. IsTrue is ↔ P)) (is q) found).1 p)
 
 abbrev first_hash : List Node → List ℕ
 first_hash [] = []

@@ -1,9 +1,10 @@
 //! The proof of a range of a file's chunks.
 
 ghost use Rattle.xet_roots.specs.Roots.{total_size};
-ghost use Rattle.std.specs.Prelude.{◌≡◌, ◌+◌, ◌^◌, ◌<◌, ◌↔◌, List, length, IfOk, IfErr, IsTrue};
+ghost use Rattle.std.specs.Prelude.{◌≡◌, ◌+◌, ◌^◌, ◌<◌, ◌↔◌, length, true, false, Ok, IfOk, IfErr, IsTrue};
 ghost use Rattle.range_proof.specs.RangeProof.{Shows, ShowsRoot, IsWellFormed};
-ghost use Rattle.range_proof.specs.Sides.{left_at, right_at};
+ghost use Rattle.range_proof.specs.Sides.{left_at, right_at, same_proof};
+ghost use Rattle.range_proof.specs.Steps.Equality.{same_proof-per, same_proof-equiv};
 ghost use Rattle.range_proof.specs.Steps.Opening.{HasTop};
 ghost use Rattle.range_proof.specs.Steps.Places.{ArePlaces};
 ghost use Rattle.range_proof.specs.declared.open_error.OpenFault.TheVariants.{Mismatch};
@@ -80,9 +81,9 @@ impl<A: Allocator + Clone> RangeProof<A> {
     // Opens the proof if it was found to show a hash.
     fn opened(self, shown: Result<bool, AllocError>) -> Result<OpenedRange<A>, OpenError<A>>
         ensures same { IfOk result (λ range. range ≡ self) }
-        ensures shown { IfOk result (λ _. IfOk shown (λ is. IsTrue is)) }
+        ensures shown { IfOk result (λ _. shown ≡ Ok true) }
         ensures given_back { IfErr result (λ e. e.proof ≡ self) }
-        ensures mismatch { IfErr result (λ e. e.fault ≡ Mismatch → IfOk shown (λ is. ¬ (IsTrue is))) }
+        ensures mismatch { IfErr result (λ e. e.fault ≡ Mismatch → shown ≡ Ok false) }
     {
         match shown {
             Ok(true) => OpenedRange::new(self),
@@ -133,6 +134,11 @@ impl<A: Allocator + Clone> RangeProof<A> {
         places(self.chunks.allocator().clone()?, start, &self.chunks)
     }
 
+    // Returns a copy of the allocator.
+    pub(crate) fn allocator(&self) -> Result<A, AllocError> {
+        self.chunks.allocator().clone()
+    }
+
     /// Returns a copy. Fails with [`CoreError::OutOfMemory`] if an allocation fails.
     pub fn try_clone(&self) -> Result<Self, CoreError>
         ensures copy { IfOk result (λ copy. copy ≡ self.now) }
@@ -147,6 +153,14 @@ impl<A: Allocator + Clone> RangeProof<A> {
 }
 
 impl<A: Allocator> RangeProof<A> {
+    // Makes a proof of its chunks and levels.
+    pub(crate) fn new(chunks: Vec<Node, A>, levels: Vec<LevelSides<A>, A>) -> Self
+        requires { IsWellFormed (record { chunks = chunks.items; levels = levels.items }) }
+        ensures { result ≡ record { chunks = chunks.items; levels = levels.items } }
+    {
+        RangeProof { chunks, levels }
+    }
+
     /// Returns the nodes of the range's chunks. There is at least one.
     pub fn chunks(&self) -> &[Node]
         ensures nodes { result.now ≡ self.now.chunks }
@@ -192,4 +206,18 @@ impl<A: Allocator> RangeProof<A> {
             None => &[],
         }
     }
+}
+
+impl<A: Allocator> PartialEq for RangeProof<A> {
+    ghost eq = { same_proof };
+
+    ghost laws = { same_proof-per };
+
+    fn eq(&self, other: &Self) -> bool {
+        self.chunks == other.chunks && self.levels == other.levels
+    }
+}
+
+impl<A: Allocator> Eq for RangeProof<A> {
+    ghost laws = { same_proof-equiv };
 }
