@@ -5,3 +5,4 @@ pub mod PlacesOf
 pub mod ReadingOf
 pub mod SidesOf
 pub mod Soundness
+pub mod TreeOf

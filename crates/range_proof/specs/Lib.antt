@@ -1,3 +1,4 @@
+pub mod Proving
 pub mod RangeProof
 pub mod Reading
 pub mod Sides

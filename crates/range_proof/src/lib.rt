@@ -2,6 +2,7 @@
 //! chunks, and the nodes beside the paths from them to the root.
 #![tactic(auto)]
 
+pub mod hash_tree;
 pub mod laws;
 pub mod open_error;
 pub mod opened_range;
@@ -10,7 +11,9 @@ pub mod proof;
 mod reading;
 mod sides;
 mod tops;
+mod tree_level;
 
+pub use hash_tree::HashTree;
 pub use open_error::{OpenError, OpenFault};
 pub use opened_range::OpenedRange;
 pub use proof::RangeProof;
