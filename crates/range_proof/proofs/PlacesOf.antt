@@ -1,5 +1,5 @@
 -- Sums of the first of some things, such as places of nodes, and a search among them.
-use Rattle.std.proofs.Common.{◌≡◌, ℕ, zero, suc, ◌+◌, ◌≤◌, List, [], ◌∷◌, ◌++◌, length, get_or, take, sym, ap, subst, ◌∙◌, inl, inr, arith, length-append}
+use Rattle.std.proofs.Common.{◌≡◌, ℕ, zero, suc, ◌+◌, ◌-◌, ◌<◌, ◌≤◌, List, [], ◌∷◌, ◌++◌, length, get_or, take, sym, ap, subst, ◌∙◌, inl, inr, arith, length-append}
 use Rattle.std.specs.Prelude.{sum_by}
 use Rattle.std.proofs.lemmas.Bool.{cases_lt}
 use Rattle.std.proofs.lemmas.List.{get_or_append_left, get_or_push, get_or_default, take-append-le, take_all, take-take}
@@ -48,3 +48,44 @@ module _ {X : Type 0} (f : X → ℕ) where
   pub sums_rise : (xs : List X) (i j : ℕ) → i ≤ j → sum_by f (take i xs) ≤ sum_by f (take j xs)
   sums_rise xs i j below =
       subst (λ (l : List X). sum_by f l ≤ sum_by f (take j xs)) (take-take i j xs below) (sum_by-take-le f (take j xs) i)
+
+-- a place is in one of the parts that some bounds end
+pub record IsSearchable (bounds : List ℕ) (place : ℕ) : Type 0 where
+  pub some : 0 < length bounds
+  pub begin : get_or bounds 0 0 ≤ place
+  pub end : place < get_or bounds (length bounds - 1) 0
+
+-- it is in this part
+pub record IsPart (bounds : List ℕ) (place part : ℕ) : Type 0 where
+  pub within : part + 1 < length bounds
+  pub begins : get_or bounds part 0 ≤ place
+  pub ends : place < get_or bounds (part + 1) 0
+
+module _ {X : Type 0} (f : X → ℕ) (xs : List X) (sums : List ℕ) (h : AreSums f 0 xs sums) where
+  pub searchable : (place : ℕ) → place < sum_by f xs → IsSearchable sums place
+  searchable place below =
+      let count = h.count in
+      let first = h.at 0 (omega arith) in
+      let last : get_or sums (length xs) 0 ≡ 0 + sum_by f xs =
+      h.at (length xs) (omega arith) ∙ ap (λ (l : List X). 0 + sum_by f l) (take_all (length xs) xs (omega arith)) in
+      let same : length sums - 1 ≡ length xs = omega arith in
+      record {
+        some = omega arith;
+        begin = omega arith;
+        end = subst (λ (k : ℕ). place < get_or sums k 0) (sym same) (omega arith);
+      }
+
+  pub record IsIn (place part : ℕ) : Type 0 where
+    pub within : part < length xs
+    pub begins : sum_by f (take part xs) ≤ place
+    pub ends : place < sum_by f (take (part + 1) xs)
+
+  pub IsIn-from_part : (place part : ℕ) → IsPart sums place part → IsIn place part
+  IsIn-from_part place part p =
+      let count = h.count in
+      let inside = p.within in
+      let begin = h.at part (omega arith) in
+      let end = h.at (part + 1) (omega arith) in
+      let begins = p.begins in
+      let ends = p.ends in
+      record { within = omega arith; begins = omega arith; ends = omega arith }

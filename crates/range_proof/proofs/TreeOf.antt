@@ -4,19 +4,19 @@ use Rattle.std.specs.Prelude.{sum_by}
 use Rattle.std.proofs.lemmas.Bool.{cases_lt}
 use Rattle.std.proofs.lemmas.List.{length-map, take-append-drop, take_all, take_at, drop_at, drop_all, drop_more, take-take, drop-take, drop-drop, take-map, drop-map, get_or-take, get_or-drop, get_or_at, nil_from_length}
 use Rattle.std.proofs.lemmas.List.Concat.{flat_map-append}
-use Rattle.std.proofs.lemmas.List.Sums.{sum_by-cons, sum_by_more, sum_by_push}
+use Rattle.std.proofs.lemmas.List.Sums.{sum_by-cons, sum_by_more, sum_by_push, sum_by-take-le}
 use Rattle.xet_hash.specs.Hash.{default_hash}
 use Rattle.xet_roots.specs.Groups.{Node, Groups}
 use Rattle.xet_roots.specs.Roots.{total_size, parent, parent_hash, IsRoot}
 use Rattle.xet_roots.specs.Roots.IsRootBy.{no_node, one_node as one_root, of_parents}
 use Rattle.xet_roots.specs.Steps.Scan.{IsFirstGroup, AreParents}
-use Rattle.xet_roots.proofs.Grouping.OneCutting.{Groups-push, Groups-unique}
+use Rattle.xet_roots.proofs.Grouping.OneCutting.{Groups-push, Groups-unique, Groups-exist}
 use Rattle.xet_roots.proofs.Roots.Making.{total_size-are_parents}
 use Rattle.range_proof.specs.RangeProof.{Sides, AreSides, joined}
 use Rattle.range_proof.specs.RangeProof.AreSides.{one_node, beside}
 use Rattle.range_proof.specs.Steps.Places.{AreSums, AreBounds}
-use Rattle.range_proof.specs.Steps.Trees.{IsTree, lowest, IsBeside, AreSidesOf}
-use Rattle.range_proof.proofs.PlacesOf.{AreSums-none, AreSums-push, sums_rise}
+use Rattle.range_proof.specs.Steps.Trees.{IsLevelKept, IsTree, lowest, IsBeside, AreSidesOf}
+use Rattle.range_proof.proofs.PlacesOf.{AreSums-none, AreSums-push, sums_rise, sum_read, IsSearchable, searchable, IsPart, IsIn-from_part}
 
 -- ---- the bounds of groups
 
@@ -301,3 +301,65 @@ root_if_none levels top nodes root tree none is =
 pub root_if_one : (levels : List (List Node)) (top nodes : List Node) (root : List ℕ) → IsTree levels top nodes → (size : ℕ) × (top ≡ (root, size) ∷ []) → IsRoot nodes root
 root_if_one levels top nodes root tree one =
     root_of_top levels top nodes root tree (subst (λ (l : List Node). IsRoot l root) (sym one.1) one_root)
+
+-- ---- a level that keeps its bounds
+
+module _ (nodes : List Node) (bounds : List ℕ) (kept : IsLevelKept nodes bounds) where
+  -- each node is in a group
+  pub node_searchable : (node : ℕ) → node < length nodes → IsSearchable bounds node
+  node_searchable node within =
+      let groups = Groups-exist nodes in
+      searchable length groups.0 bounds (kept.bounds_are groups.0 groups.1) node (subst (λ (n : ℕ). node < n) (sym (groups_sum nodes groups.0 groups.1)) within)
+
+  module _ (first end g h begin stop : ℕ) (some : first < end) (within : end ≤ length nodes) (g_is : IsPart bounds first g) (h_is : IsPart bounds (end - 1) h)
+      (begin_is : begin ≡ get_or bounds g begin) (stop_is : stop ≡ get_or bounds (h + 1) stop) where
+    ends_of : (groups : List (List Node)) → Groups nodes groups → AreEnds groups first end g h
+    ends_of groups cutting =
+        let are = kept.bounds_are groups cutting in
+        let of_first = IsIn-from_part length groups bounds are first g g_is in
+        let of_last = IsIn-from_part length groups bounds are (end - 1) h h_is in
+        let begins = of_last.begins in
+        let ends = of_last.ends in
+        record {
+          g_within = of_first.within;
+          h_within = of_last.within;
+          g_begins = of_first.begins;
+          g_ends = of_first.ends;
+          h_begins = omega arith;
+          h_ends = omega arith;
+        }
+
+    begin_sum : (groups : List (List Node)) → Groups nodes groups → begin ≡ 0 + sum_by length (take g groups)
+    begin_sum groups cutting =
+        let inside = (ends_of groups cutting).g_within in
+        sum_read {X = List Node} length 0 groups bounds g begin (kept.bounds_are groups cutting) (omega arith) begin_is
+
+    stop_sum : (groups : List (List Node)) → Groups nodes groups → stop ≡ 0 + sum_by length (take (h + 1) groups)
+    stop_sum groups cutting =
+        let inside = (ends_of groups cutting).h_within in
+        sum_read {X = List Node} length 0 groups bounds (h + 1) stop (kept.bounds_are groups cutting) (omega arith) stop_is
+
+    -- where the sides are cut out
+    pub record AreCuts : Type 0 where
+      pub begin_before : begin ≤ first
+      pub stop_after : end ≤ stop
+      pub stop_within : stop ≤ length nodes
+
+    pub cuts : AreCuts
+    cuts =
+        let groups = Groups-exist nodes in
+        let e = ends_of groups.0 groups.1 in
+        let begins = e.g_begins in
+        let ends = e.h_ends in
+        let begin_at = begin_sum groups.0 groups.1 in
+        let stop_at = stop_sum groups.0 groups.1 in
+        let most = sum_by-take-le {X = List Node} length groups.0 (h + 1) in
+        let all = groups_sum nodes groups.0 groups.1 in
+        record { begin_before = omega arith; stop_after = omega arith; stop_within = omega arith }
+
+    pub beside_of : (sides : Sides) → sides ≡ record { left = take (first - begin) (drop begin nodes); right = take (stop - end) (drop end nodes) } →
+        (groups : List (List Node)) → Groups nodes groups → IsBeside nodes groups first end sides g (h + 1)
+    beside_of sides is groups cutting =
+        let begin_at = begin_sum groups cutting in
+        let stop_at = stop_sum groups cutting in
+        IsBeside-from nodes groups first end g h begin stop sides cutting some within (ends_of groups cutting) (omega arith) (omega arith) is

@@ -106,10 +106,10 @@ impl<A: Allocator + Clone> HashTree<A> {
         let mut to = end;
         let mut all = Vec::with_capacity(alloc.clone()?, levels.len())?;
         'levels: for level in levels {
-            let beside = level.beside(alloc.clone()?, from, to)?;
-            all.push(beside.sides)?;
-            from = beside.first;
-            to = beside.end;
+            let found = level.beside(alloc.clone()?, from, to)?;
+            from = found.first;
+            to = found.end;
+            all.push(found.sides)?;
         }
         Ok(all)
     }
@@ -118,7 +118,9 @@ impl<A: Allocator + Clone> HashTree<A> {
 impl<A: Allocator> HashTree<A> {
     // Returns the nodes of the chunks.
     fn chunks(&self) -> &[Node]
-        ensures { result.now ≡ self.now }
+        ensures nodes { result.now ≡ self.now }
+        ensures few { length self.now < 2 ^ 64 }
+        ensures fits { total_size self.now < 2 ^ 64 }
     {
         match self.levels.as_slice() {
             [level, ..] => level.nodes(),
