@@ -91,12 +91,7 @@ impl<A: Allocator + Clone> HashTree<A> {
     }
 
     // Returns the sides of a range of chunks on each level.
-    fn sides(
-        &self,
-        alloc: A,
-        first: usize,
-        end: usize,
-    ) -> Result<Vec<LevelSides<A>, A>, AllocError>
+    fn sides(&self, alloc: A, first: usize, end: usize) -> Result<Vec<LevelSides<A>, A>, AllocError>
         requires some { first < end }
         requires within { end ≤ length self.now }
         ensures { IfOk result (λ sides. AreSidesOf self.now first end sides.items) }
@@ -208,6 +203,10 @@ impl<A: Allocator + Clone> RangeProof<A> {
         if end <= first || chunks.len() < end {
             return Err(CoreError::InvalidArguments);
         }
-        HashTree::from_chunks(alloc.clone()?, chunks)?.proof(alloc, first, end)
+        if total_size(chunks).is_none() {
+            return Err(CoreError::SizeOverflow);
+        }
+        let tree = HashTree::from_chunks(alloc.clone()?, chunks)?;
+        tree.proof(alloc, first, end)
     }
 }
