@@ -1,9 +1,9 @@
 -- What it means that bytes were checked against a proof: the file has them at their place, or two messages collide.
-use Rattle.std.specs.Prelude.{◌≡◌, ℕ, ◌+◌, ◌⊎◌, List, [], ◌∷◌, ◌++◌, length, map, flat_map, take, drop, Contains}
+use Rattle.std.specs.Prelude.{◌≡◌, ℕ, List, ◌∷◌, ◌++◌, length, map, flat_map, take, drop, Contains}
 use Rattle.xet_hash.specs.Hash.{bytes_of, data_key, internal_key}
 use Rattle.xet_roots.specs.Groups.{Node, Groups}
 use Rattle.xet_roots.specs.Roots.{group_text, parent}
-use Rattle.binding.specs.Binding.{Message, chunk_node, chunk_nodes}
+use Rattle.binding.specs.Binding.{Message, chunk_nodes}
 use Rattle.range_proof.specs.RangeProof.{Sides, Proof, IsTop, begin_of, file_size_of}
 
 -- some chunks are those of the range from number k on: their hashes and lengths are those of the proof's nodes

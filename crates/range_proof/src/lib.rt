@@ -2,6 +2,7 @@
 //! chunks, and the nodes beside the paths from them to the root.
 #![tactic(auto)]
 
+pub mod laws;
 pub mod open_error;
 pub mod opened_range;
 mod places;
