@@ -1,3 +1,5 @@
+pub mod FlatProof
+pub mod ProofJson
 pub mod RangeProof
 pub mod Reading
 pub mod Sides

@@ -2,11 +2,14 @@
 //! chunks, and the nodes beside the paths from them to the root.
 #![tactic(auto)]
 
+mod flat;
+mod json;
 pub mod laws;
 pub mod open_error;
 pub mod opened_range;
 mod places;
 pub mod proof;
+mod proof_parts;
 mod reading;
 mod sides;
 mod tops;

@@ -133,6 +133,11 @@ impl<A: Allocator + Clone> RangeProof<A> {
         places(self.chunks.allocator().clone()?, start, &self.chunks)
     }
 
+    // Returns a copy of the allocator.
+    pub(crate) fn allocator(&self) -> Result<A, AllocError> {
+        self.chunks.allocator().clone()
+    }
+
     /// Returns a copy. Fails with [`CoreError::OutOfMemory`] if an allocation fails.
     pub fn try_clone(&self) -> Result<Self, CoreError>
         ensures copy { IfOk result (λ copy. copy ≡ self.now) }
@@ -147,6 +152,14 @@ impl<A: Allocator + Clone> RangeProof<A> {
 }
 
 impl<A: Allocator> RangeProof<A> {
+    // Makes a proof of its chunks and levels.
+    pub(crate) fn new(chunks: Vec<Node, A>, levels: Vec<LevelSides<A>, A>) -> Self
+        requires { IsWellFormed (record { chunks = chunks.items; levels = levels.items }) }
+        ensures { result ≡ record { chunks = chunks.items; levels = levels.items } }
+    {
+        RangeProof { chunks, levels }
+    }
+
     /// Returns the nodes of the range's chunks. There is at least one.
     pub fn chunks(&self) -> &[Node]
         ensures nodes { result.now ≡ self.now.chunks }

@@ -25,6 +25,13 @@ impl<A: Allocator> Model for LevelSides<A> {
 }
 
 impl<A: Allocator> LevelSides<A> {
+    // Makes the sides of a level of their nodes.
+    pub(crate) fn new(left: Vec<Node, A>, right: Vec<Node, A>) -> Self
+        ensures { result ≡ record { left = left.items; right = right.items } }
+    {
+        LevelSides { left, right }
+    }
+
     // Returns the nodes before those of the range.
     pub(crate) fn left(&self) -> &[Node]
         ensures { result.now ≡ self.now.left }
