@@ -5,4 +5,5 @@ pub mod Opening
 pub mod Parts
 pub mod PlacesOf
 pub mod ReadingOf
+pub mod SidesOf
 pub mod Soundness

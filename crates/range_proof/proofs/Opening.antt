@@ -1,14 +1,16 @@
 -- Rising from the chunks of a proof to its top, level by level.
-use Rattle.std.proofs.Common.{◌≡◌, ℕ, ◌+◌, ◌<◌, ◌≤◌, ◌^◌, List, [], ◌∷◌, ◌++◌, length, get_or, drop, map, Option, Some, None, refl, sym, ap, subst, ◌∙◌, arith}
-use Rattle.std.specs.Prelude.{sum_by, MatchOption}
+use Rattle.std.proofs.Common.{◌≡◌, ℕ, ◌+◌, ◌<◌, ◌≤◌, ◌^◌, List, [], ◌∷◌, ◌++◌, length, get_or, drop, map, Bool, true, false, Result, Ok, Err, IfOk, IfErr, Option, Some, None, refl, sym, ap, subst, ◌∙◌, arith}
+use Rattle.std.specs.Prelude.{◌↔◌, IsTrue, sum_by, MatchOption}
+use Rattle.std.proofs.lemmas.Bool.{false≢true}
 use Rattle.std.proofs.lemmas.List.{drop_more, drop_all}
 use Rattle.std.proofs.lemmas.List.Sums.{sum_by-cons}
+use Rattle.xet_hash.specs.Hash.{default_hash}
 use Rattle.xet_roots.specs.Groups.{Node, Groups}
-use Rattle.xet_roots.specs.Roots.{total_size, parent, parent_hash}
+use Rattle.xet_roots.specs.Roots.{total_size, parent, parent_hash, salted_root}
 use Rattle.xet_roots.specs.Steps.Scan.{AreParents}
 use Rattle.xet_roots.proofs.Grouping.OneCutting.{Groups-unique}
 use Rattle.xet_roots.proofs.Roots.Making.{total_size-append, total_size-are_parents}
-use Rattle.range_proof.specs.RangeProof.{Sides, Proof, Rises, IsTop, file_size_of}
+use Rattle.range_proof.specs.RangeProof.{Sides, Proof, Rises, IsTop, Shows, ShowsRoot}
 use Rattle.range_proof.specs.Steps.Opening.{HasTop}
 
 -- the sizes on both sides of a level
@@ -57,6 +59,37 @@ IsRisen-more chunks levels i nodes sides made within here h parents =
           omega (arith, whole, same);
     }
 
+-- a proof with this top shows a file hash if the top's is that hash
+pub Shows-from_top : (proof : Proof) (root shown file_hash salt : List ℕ) (answer : Bool) → HasTop proof (Some root) → shown ≡ salted_root salt root →
+    (IsTrue answer ↔ ((shown ≡ file_hash) × ¬ (file_hash ≡ default_hash))) → IsTrue answer ↔ Shows proof file_hash salt
+Shows-from_top proof root shown file_hash salt answer h is found = (
+  λ e. record { root = root; top = h.0; salted = sym (found.0 e).0 ∙ is; some = (found.0 e).1 },
+  λ s. found.1 (is ∙ ap (salted_root salt) (sym (h.1 s.root s.top)) ∙ sym s.salted, s.some),
+)
+
+-- the same for a root
+pub ShowsRoot-from_top : (proof : Proof) (top root : List ℕ) (answer : Bool) → HasTop proof (Some top) →
+    (IsTrue answer ↔ ((top ≡ root) × ¬ (root ≡ default_hash))) → IsTrue answer ↔ ShowsRoot proof root
+ShowsRoot-from_top proof top root answer h found = (
+  λ e. record { top = subst (IsTop proof) (found.0 e).0 h.0; some = (found.0 e).1 },
+  λ s. found.1 (sym (h.1 root s.top), s.some),
+)
+
+-- an opened proof was found to show the hash, and a mismatch was found not to
+pub opened_shows : {E X : Type 0} (proof : Proof) (P : Proof → Type 0) (opened : Result Proof E) (shown : Result Bool X) → IfOk opened (λ range. range ≡ proof) →
+    IfOk opened (λ _. shown ≡ Ok true) → IfOk shown (λ is. IsTrue is ↔ P proof) → IfOk opened P
+opened_shows proof P (Ok range) shown same is found = subst P (sym same) ((subst (λ s. IfOk s (λ is. IsTrue is ↔ P proof)) is found).0 refl)
+opened_shows proof P (Err e) shown same is found = tt
+
+pub mismatch_hides : {E X : Type 0} (P : Type 0) (Q : E → Type 0) (opened : Result Proof E) (shown : Result Bool X) →
+    IfErr opened (λ e. Q e → shown ≡ Ok false) → IfOk shown (λ is. IsTrue is ↔ P) → IfErr opened (λ e. Q e → ¬ P)
+mismatch_hides P Q (Ok range) shown is found = tt
+mismatch_hides P Q (Err e) shown is found = λ q p. false≢true ((subst (λ s. IfOk s (λ is. IsTrue is ↔ P)) (is q) found).1 p)
+
+abbrev first_hash : List Node → List ℕ
+first_hash [] = []
+first_hash (node ∷ nodes) = node.0
+
 -- all levels
 pub HasTop-all : (chunks : List Node) (levels : List Sides) (i : ℕ) (nodes : List Node) (found : Option (List ℕ)) → length levels ≤ i →
     IsRisen chunks levels i nodes → MatchOption found (¬ (length nodes ≡ 1)) (λ hash. (size : ℕ) × (nodes ≡ (hash, size) ∷ [])) →
@@ -69,5 +102,5 @@ HasTop-all chunks levels i nodes (Some found) all h one = (
   λ hash top.
       let last = subst (λ (l : List Sides). Rises l nodes ((hash, top.0) ∷ [])) (drop_all i levels all) (h.down ((hash, top.0) ∷ []) top.1) in
       let same : (hash, top.0) ∷ [] ≡ (found, one.0) ∷ [] = sym last ∙ one.1 in
-      cc same,
+      ap first_hash same,
 )

@@ -1,29 +1,30 @@
 -- Lists of nodes and of groups in parts.
-use Rattle.std.proofs.Common.{◌≡◌, ℕ, ◌+◌, ◌<◌, ◌^◌, List, [], ◌∷◌, ◌++◌, map, take, drop, refl, sym, ap, ◌∙◌, arith}
-use Rattle.std.specs.List.{sum_by}
+use Rattle.std.proofs.Common.{◌≡◌, ℕ, ◌+◌, ◌<◌, ◌^◌, List, [], ◌∷◌, ◌++◌, map, take, drop, refl, sym, ap, subst, ◌∙◌, arith}
+use Rattle.std.specs.List.{AllByRecursion, sum_by}
 use Rattle.std.proofs.lemmas.List.{take-map, drop-map}
 use Rattle.std.proofs.lemmas.List.Sums.{sum_by-cons}
 use Rattle.xet_roots.specs.Groups.{Node}
 use Rattle.xet_roots.specs.Roots.{total_size, parent}
 use Rattle.xet_roots.proofs.Roots.Making.{total_size-append}
 use Rattle.binding.proofs.Binding.Texts.{AllSizes}
+use Rattle.binding.proofs.Binding.Messages.{each_front, each_back}
 use Rattle.range_proof.specs.RangeProof.{joined}
 
 -- the parts of a list whose images are given in parts
-pub record Split {X Y : Type 0} (f : X → Y) (xs : List X) (front back : List Y) : Type 0 where
-  pub first : List X
-  pub second : List X
-  pub parts : xs ≡ first ++ second
-  pub is_front : map f first ≡ front
-  pub is_back : map f second ≡ back
+record InTwo {X Y : Type 0} (f : X → Y) (xs : List X) (front back : List Y) : Type 0 where
+  first : List X
+  second : List X
+  parts : xs ≡ first ++ second
+  is_front : map f first ≡ front
+  is_back : map f second ≡ back
 
-pub split_map : {X Y : Type 0} (f : X → Y) (xs : List X) (front back : List Y) → map f xs ≡ front ++ back → Split f xs front back
-split_map f xs [] back e = record { first = []; second = xs; parts = refl; is_front = refl; is_back = e }
-split_map f [] (y ∷ front) back e = cc e
-split_map f (x ∷ xs) (y ∷ front) back e =
+in_two : {X Y : Type 0} (f : X → Y) (xs : List X) (front back : List Y) → map f xs ≡ front ++ back → InTwo f xs front back
+in_two f xs [] back e = record { first = []; second = xs; parts = refl; is_front = refl; is_back = e }
+in_two f [] (y ∷ front) back e = cc e
+in_two f (x ∷ xs) (y ∷ front) back e =
     let tails : map f xs ≡ front ++ back = cc in
     let heads : f x ≡ y = cc in
-    let rest = split_map f xs front back tails in
+    let rest = in_two f xs front back tails in
     record {
       first = x ∷ rest.first;
       second = rest.second;
@@ -31,6 +32,34 @@ split_map f (x ∷ xs) (y ∷ front) back e =
       is_front = (let front_is = rest.is_front in cc);
       is_back = rest.is_back;
     }
+
+pub record InThree {X Y : Type 0} (f : X → Y) (xs : List X) (front range back : List Y) : Type 0 where
+  pub first : List X
+  pub middle : List X
+  pub last : List X
+  pub parts : xs ≡ first ++ (middle ++ last)
+  pub is_front : map f first ≡ front
+  pub is_range : map f middle ≡ range
+  pub is_back : map f last ≡ back
+
+pub in_three : {X Y : Type 0} (f : X → Y) (xs : List X) (front range back : List Y) → map f xs ≡ front ++ (range ++ back) → InThree f xs front range back
+in_three f xs front range back e =
+    let outer = in_two f xs front (range ++ back) e in
+    let inner = in_two f outer.second range back outer.is_back in
+    record {
+      first = outer.first;
+      middle = inner.first;
+      last = inner.second;
+      parts = outer.parts ∙ ap (λ l. outer.first ++ l) inner.parts;
+      is_front = outer.is_front;
+      is_range = inner.is_front;
+      is_back = inner.is_back;
+    }
+
+-- what holds of each element, holds of each in the middle
+pub each_middle : {X Y : Type 0} {f : X → Y} {xs : List X} {front range back : List Y} (P : X → Type 0) (s : InThree f xs front range back) →
+    AllByRecursion P xs → AllByRecursion P s.middle
+each_middle P s h = each_front P s.middle s.last (each_back P s.first (s.middle ++ s.last) (subst (AllByRecursion P) s.parts h))
 
 -- the images of a part of a list
 pub map_part : {X Y : Type 0} (f : X → Y) (n k : ℕ) (xs : List X) → map f (take n (drop k xs)) ≡ take n (drop k (map f xs))

@@ -1,9 +1,9 @@
 -- Reading bytes of a file from the data of the chunks that a proof names.
-use Rattle.std.specs.Prelude.{◌≡◌, ℕ, ◌+◌, ◌-◌, ◌≤◌, List, flat_map, slice_range}
+use Rattle.std.specs.Prelude.{◌≡◌, ℕ, ◌+◌, ◌-◌, ◌≤◌, List, length, flat_map, slice_range}
 use Rattle.xet_roots.specs.Groups.{Node}
 use Rattle.xet_roots.specs.Roots.{total_size}
 use Rattle.binding.specs.Binding.{chunk_nodes}
-use Rattle.range_proof.specs.RangeProof.{Proof, offset_of}
+use Rattle.range_proof.specs.RangeProof.{Proof, offset_of, file_size_of}
 
 -- the bytes of some chunks, one after another
 abbrev pub bytes_of_chunks : List (List ℕ) → List ℕ
@@ -23,3 +23,8 @@ pub record IsRead (proof : Proof) (from to : ℕ) (all bytes : List ℕ) : Type 
   pub in_order : from ≤ to
   pub end : to ≤ offset_of proof + total_size proof.chunks
   pub bytes_are : bytes ≡ slice_range all (from - offset_of proof) (to - offset_of proof)
+
+-- some bytes are those of a file from one place to another, and the file is as long as a proof says
+pub record IsPartOfFile (file : List (List ℕ)) (proof : Proof) (from to : ℕ) (bytes : List ℕ) : Type 0 where
+  pub bytes_are : bytes ≡ slice_range (bytes_of_chunks file) from to
+  pub size : length (bytes_of_chunks file) ≡ file_size_of proof

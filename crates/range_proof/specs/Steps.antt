@@ -1,2 +1,3 @@
+pub mod Equality
 pub mod Opening
 pub mod Places

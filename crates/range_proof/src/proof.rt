@@ -1,9 +1,10 @@
 //! The proof of a range of a file's chunks.
 
 ghost use Rattle.xet_roots.specs.Roots.{total_size};
-ghost use Rattle.std.specs.Prelude.{◌≡◌, ◌+◌, ◌^◌, ◌<◌, ◌↔◌, List, length, IfOk, IfErr, IsTrue};
+ghost use Rattle.std.specs.Prelude.{◌≡◌, ◌+◌, ◌^◌, ◌<◌, ◌↔◌, length, true, false, Ok, IfOk, IfErr, IsTrue};
 ghost use Rattle.range_proof.specs.RangeProof.{Shows, ShowsRoot, IsWellFormed};
-ghost use Rattle.range_proof.specs.Sides.{left_at, right_at};
+ghost use Rattle.range_proof.specs.Sides.{left_at, right_at, same_proof};
+ghost use Rattle.range_proof.specs.Steps.Equality.{same_proof-per, same_proof-equiv};
 ghost use Rattle.range_proof.specs.Steps.Opening.{HasTop};
 ghost use Rattle.range_proof.specs.Steps.Places.{ArePlaces};
 ghost use Rattle.range_proof.specs.declared.open_error.OpenFault.TheVariants.{Mismatch};
@@ -12,7 +13,7 @@ use crate::open_error::{OpenError, OpenFault};
 use crate::opened_range::OpenedRange;
 use crate::places::places;
 use crate::sides::{LevelSides, copy_levels};
-use crate::tops::top;
+use crate::tops::{is_found, top};
 use std::alloc::{AllocError, Allocator, Global};
 use std::marker::Model;
 use xet_hash::data_hash::MerkleHash;
@@ -80,9 +81,9 @@ impl<A: Allocator + Clone> RangeProof<A> {
     // Opens the proof if it was found to show a hash.
     fn opened(self, shown: Result<bool, AllocError>) -> Result<OpenedRange<A>, OpenError<A>>
         ensures same { IfOk result (λ range. range ≡ self) }
-        ensures shown { IfOk result (λ _. IfOk shown (λ is. IsTrue is)) }
+        ensures shown { IfOk result (λ _. shown ≡ Ok true) }
         ensures given_back { IfErr result (λ e. e.proof ≡ self) }
-        ensures mismatch { IfErr result (λ e. e.fault ≡ Mismatch → IfOk shown (λ is. ¬ (IsTrue is))) }
+        ensures mismatch { IfErr result (λ e. e.fault ≡ Mismatch → shown ≡ Ok false) }
     {
         match shown {
             Ok(true) => OpenedRange::new(self),
@@ -105,7 +106,7 @@ impl<A: Allocator + Clone> RangeProof<A> {
             return Ok(false);
         };
         let shown = file_hash_of_root(root, false, salt);
-        Ok(shown == *file_hash && *file_hash != MerkleHash::default())
+        Ok(is_found(&shown, file_hash))
     }
 
     // Returns whether the proof shows a root.
@@ -115,7 +116,7 @@ impl<A: Allocator + Clone> RangeProof<A> {
         let Some(top) = self.top()? else {
             return Ok(false);
         };
-        Ok(top == *root && *root != MerkleHash::default())
+        Ok(is_found(&top, root))
     }
 
     // Returns the hash of the proof's top, if it has one.
@@ -205,4 +206,18 @@ impl<A: Allocator> RangeProof<A> {
             None => &[],
         }
     }
+}
+
+impl<A: Allocator> PartialEq for RangeProof<A> {
+    ghost eq = { same_proof };
+
+    ghost laws = { same_proof-per };
+
+    fn eq(&self, other: &Self) -> bool {
+        self.chunks == other.chunks && self.levels == other.levels
+    }
+}
+
+impl<A: Allocator> Eq for RangeProof<A> {
+    ghost laws = { same_proof-equiv };
 }

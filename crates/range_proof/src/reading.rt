@@ -6,6 +6,7 @@ ghost use Rattle.range_proof.specs.RangeProof.{AreHashes, HasHashes};
 ghost use Rattle.range_proof.specs.Reading.{AreChunksOf};
 
 use crate::proof::RangeProof;
+use crate::sides::LevelSides;
 use std::alloc::Allocator;
 use xet_hash::data_hash::compute_data_hash;
 use xet_roots::groups::Node;
@@ -40,19 +41,28 @@ pub(crate) fn are_chunks(nodes: &[Node], data: &[u8]) -> bool
 fn read_words(nodes: &[Node])
     ensures { AreHashes nodes.now }
 {
-    'nodes: for (hash, _) in nodes {
-        let _words = hash.words();
+    'nodes: for node in nodes {
+        let _words = node.0.words();
     }
+}
+
+// Shows a proof the same of the nodes on both sides of a level.
+fn read_side_words<A: Allocator>(level: &LevelSides<A>)
+    ensures left { AreHashes level.now.left }
+    ensures right { AreHashes level.now.right }
+{
+    read_words(level.left());
+    read_words(level.right());
 }
 
 // Shows a proof the same of all nodes of a range proof.
 pub(crate) fn read_all_words<A: Allocator>(proof: &RangeProof<A>)
     ensures { HasHashes proof.now }
 {
-    read_words(proof.chunks());
+    let chunks = proof.chunks();
+    read_words(chunks);
     let levels = proof.levels();
     'levels: for level in levels {
-        read_words(level.left());
-        read_words(level.right());
+        read_side_words(level);
     }
 }

@@ -4,6 +4,8 @@ ghost use Rattle.std.specs.Prelude.{◌≡◌, ◌+◌, ◌^◌, ◌<◌, ◌≤
 ghost use Rattle.xet_roots.specs.Roots.{total_size, parent};
 ghost use Rattle.xet_roots.specs.Steps.Scan.{AreParents};
 ghost use Rattle.range_proof.specs.RangeProof.{Sides};
+ghost use Rattle.range_proof.specs.Sides.{same_sides};
+ghost use Rattle.range_proof.specs.Steps.Equality.{same_sides-per, same_sides-equiv};
 
 use std::alloc::{AllocError, Allocator};
 use std::marker::Model;
@@ -68,8 +70,22 @@ impl<A: Allocator + Clone> LevelSides<A> {
     {
         let left = left.to_vec(alloc.clone()?)?;
         let right = right.to_vec(alloc)?;
-        Ok(LevelSides { left, right })
+        Ok(LevelSides::new(left, right))
     }
+}
+
+impl<A: Allocator> PartialEq for LevelSides<A> {
+    ghost eq = { same_sides };
+
+    ghost laws = { same_sides-per };
+
+    fn eq(&self, other: &Self) -> bool {
+        self.left == other.left && self.right == other.right
+    }
+}
+
+impl<A: Allocator> Eq for LevelSides<A> {
+    ghost laws = { same_sides-equiv };
 }
 
 // Returns a copy of the sides of some levels.

@@ -1,6 +1,7 @@
 //! The top of a range proof: the node that the nodes of all levels lead to.
 
-ghost use Rattle.std.specs.Prelude.{◌≡◌, ℕ, [], ◌∷◌, length, IfOk, MatchOption};
+ghost use Rattle.std.specs.Prelude.{◌≡◌, ℕ, ◌↔◌, [], ◌∷◌, length, IfOk, IsTrue, MatchOption};
+ghost use Rattle.xet_hash.specs.Hash.{default_hash};
 ghost use Rattle.range_proof.specs.RangeProof.{IsWellFormed};
 ghost use Rattle.range_proof.specs.Steps.Opening.{HasTop};
 
@@ -17,6 +18,13 @@ fn only_hash(nodes: &[Node]) -> Option<MerkleHash>
         [(hash, _)] => Some(*hash),
         _ => None,
     }
+}
+
+// Returns whether a hash was found that was expected. The default hash never is, since an empty list has it.
+pub(crate) fn is_found(found: &MerkleHash, expected: &MerkleHash) -> bool
+    ensures { IsTrue result ↔ ((found.now ≡ expected.now) × ¬ (expected.now ≡ default_hash)) }
+{
+    *found == *expected && *expected != MerkleHash::default()
 }
 
 // Returns the hash of the top of the proof with these chunks and levels, if it has one.

@@ -14,12 +14,12 @@ use Rattle.xet_roots.proofs.Roots.OneRoot.{Groups-some}
 use Rattle.binding.specs.Binding.{Message, chunk_node, chunk_nodes, IsLevel, HashedForRoot, Collision}
 use Rattle.binding.specs.Binding.IsLevel.{lowest, above}
 use Rattle.binding.proofs.Binding.Texts.{hashes, AllHashes, AllSizes, group_text_tells_nodes}
-use Rattle.binding.proofs.Binding.Messages.{each_append, each_front, each_back, each_contained, chunk_message, group_message, same_texts, groups_against_chunks}
+use Rattle.binding.proofs.Binding.Messages.{each_append, each_contained, chunk_message, group_message, same_texts, groups_against_chunks}
 use Rattle.binding.proofs.Binding.Levels.{AllHashes-chunk_nodes, AllHashes-parents, AllHashes-level, AllHashes-groups, each_joined, each_chunk, each_group}
 use Rattle.range_proof.specs.RangeProof.{Sides, AreHashes, Rises, joined}
 use Rattle.range_proof.specs.Soundness.{IsGroupAbove}
 use Rattle.range_proof.specs.Soundness.IsGroupAbove.{here, above as further}
-use Rattle.range_proof.proofs.Parts.{split_map, total_size-parents, AllSizes-total}
+use Rattle.range_proof.proofs.Parts.{in_three, each_middle, total_size-parents, AllSizes-total}
 
 -- groups with the same texts are the same groups
 groups_from_texts : (groups others : List (List Node)) → AllByRecursion AllHashes groups → AllByRecursion AllSizes groups →
@@ -74,42 +74,34 @@ module _ (file : List (List ℕ)) (these : Message → Type 0) where
       level ≡ before ++ (range ++ after) → hashes range ≡ hashes (map parent groups) → total_size before ≡ lefts levels → total_size after ≡ rights levels →
       Located file (sides ∷ levels) nodes ⊎ Collision these (HashedForRoot file)
   step sides levels nodes groups h fits some cutting each _ lowest before range after parts e left right =
-      let outer = split_map chunk_node file before (range ++ after) parts in
-      let inner = split_map chunk_node outer.second range after outer.is_back in
-      let chunks = inner.first in
-      let all : file ≡ outer.first ++ (chunks ++ inner.second) = outer.parts ∙ ap (λ l. outer.first ++ l) inner.parts in
-      let hashed = subst (AllByRecursion (λ bytes. HashedForRoot file (chunk_message bytes))) all (each_chunk file) in
-      let hashed_chunks = each_front _ chunks inner.second (each_back _ outer.first (chunks ++ inner.second) hashed) in
-      inr (groups_against_chunks these (HashedForRoot file) groups chunks (Groups-some _ groups cutting (omega (arith, length-append (sides.left ++ nodes) sides.right, length-append sides.left nodes))) each hashed_chunks (sym e ∙ ap hashes (sym inner.is_front)))
+      let own = in_three chunk_node file before range after parts in
+      let groups_some = Groups-some _ groups cutting (omega (arith, length-append (sides.left ++ nodes) sides.right, length-append sides.left nodes)) in
+      let hashed = each_middle (λ bytes. HashedForRoot file (chunk_message bytes)) own (each_chunk file) in
+      inr (groups_against_chunks these (HashedForRoot file) groups own.middle groups_some each hashed (sym e ∙ ap hashes (sym own.is_range)))
   step sides levels nodes groups h fits some cutting each _ (above {level = under} {groups = file_groups} is_level two file_cutting) before range after parts e left right =
-      let outer = split_map parent file_groups before (range ++ after) parts in
-      let inner = split_map parent outer.second range after outer.is_back in
-      let same = inner.first in
-      let all : file_groups ≡ outer.first ++ (same ++ inner.second) = outer.parts ∙ ap (λ l. outer.first ++ l) inner.parts in
-      let hashed = subst (AllByRecursion (λ group. HashedForRoot file (group_message group))) all (each_group file is_level two file_cutting) in
-      let hashed_same = each_front _ same inner.second (each_back _ outer.first (same ++ inner.second) hashed) in
-      let file_hashes = subst (AllByRecursion AllHashes) all (AllHashes-groups (AllHashes-level (AllHashes-chunk_nodes file) is_level) file_cutting) in
-      let same_are_hashes = each_front AllHashes same inner.second (each_back AllHashes outer.first (same ++ inner.second) file_hashes) in
-      elim (same_texts these (HashedForRoot file) groups same each hashed_same (sym e ∙ ap hashes (sym inner.is_front))) [
+      let own = in_three parent file_groups before range after parts in
+      let hashed = each_middle (λ group. HashedForRoot file (group_message group)) own (each_group file is_level two file_cutting) in
+      let own_hashes = each_middle AllHashes own (AllHashes-groups (AllHashes-level (AllHashes-chunk_nodes file) is_level) file_cutting) in
+      elim (same_texts these (HashedForRoot file) groups own.middle each hashed (sym e ∙ ap hashes (sym own.is_range))) [
         | inl texts ↦
             let sizes = each_joined (λ node. node.1 < 2 ^ 64) groups (AllSizes-total (joined groups) (subst (λ (l : List Node). total_size l < 2 ^ 64) (sym cutting.joined) fits)) in
-            let are_same : groups ≡ same = groups_from_texts groups same (AllHashes-groups h cutting) sizes same_are_hashes texts in
+            let are_same : groups ≡ own.middle = groups_from_texts groups own.middle (AllHashes-groups h cutting) sizes own_hashes texts in
             inl (record {
               level = under;
               is_level = is_level;
-              before = joined outer.first ++ sides.left;
+              before = joined own.first ++ sides.left;
               range = nodes;
-              after = sides.right ++ joined inner.second;
+              after = sides.right ++ joined own.last;
               parts =
-                  sym file_cutting.joined ∙ ap joined (all ∙ ap (λ l. outer.first ++ (l ++ inner.second)) (sym are_same))
-                  ∙ joined_parts outer.first groups inner.second sides.left nodes sides.right cutting.joined;
+                  sym file_cutting.joined ∙ ap joined (own.parts ∙ ap (λ l. own.first ++ (l ++ own.last)) (sym are_same))
+                  ∙ joined_parts own.first groups own.last sides.left nodes sides.right cutting.joined;
               same_hashes = refl;
               left =
-                  let front = ap total_size outer.is_front in
-                  omega (arith, total_size-parents outer.first, total_size-append (joined outer.first) sides.left, sum_by-cons (λ (s : Sides). total_size s.left) sides levels);
+                  let front = ap total_size own.is_front in
+                  omega (arith, total_size-parents own.first, total_size-append (joined own.first) sides.left, sum_by-cons (λ (s : Sides). total_size s.left) sides levels);
               right =
-                  let back = ap total_size inner.is_back in
-                  omega (arith, total_size-parents inner.second, total_size-append sides.right (joined inner.second), sum_by-cons (λ (s : Sides). total_size s.right) sides levels);
+                  let back = ap total_size own.is_back in
+                  omega (arith, total_size-parents own.last, total_size-append sides.right (joined own.last), sum_by-cons (λ (s : Sides). total_size s.right) sides levels);
               same_nodes = inr refl;
             })
         | inr collision ↦ inr collision
