@@ -1,10 +1,11 @@
 -- A JSON value describes at most one proof. The parts of a well-formed proof break no rule, so its object describes it.
-use Rattle.std.proofs.Common.{◌≡◌, ℕ, ◌<◌, List, [], ◌∷◌, length, map, codes, refl, sym, ap, subst, ◌∙◌, arith}
+use Rattle.std.proofs.Common.{◌≡◌, ℕ, ◌<◌, List, [], ◌∷◌, length, map, is_some, true, false, codes, refl, sym, ap, subst, ◌∙◌, arith}
 use Rattle.std.specs.Prelude.{All}
 use Rattle.std.specs.List.{AllZip}
 use Rattle.std.specs.Str.{str_to_ascii_lowercase}
 use Rattle.std.proofs.lemmas.List.Elements.{All-nil, All-cons, All-head, All-tail, recursion_from_All}
-use Rattle.serde_json.specs.Data.{Data}
+use Rattle.serde_json.specs.Data.{Data, null, boolean, number, string, array, object}
+use Rattle.serde_json.specs.Find.{as_object}
 use Rattle.serde_json.specs.View.{items_of}
 use Rattle.xet_hash.specs.Hash.{IsHash, IsHexText, hex_text}
 use Rattle.xet_roots.specs.Groups.{Node}
@@ -14,7 +15,7 @@ use Rattle.xet_merkle.proofs.Json.Reading.{items_of-injective}
 use Rattle.xet_merkle.proofs.Json.OneMeaning.{no_member, one_list, one_node, reads_nodes}
 use Rattle.range_proof.specs.RangeProof.{Sides, Proof, AreHashes, HasHashes, IsWellFormed}
 use Rattle.range_proof.specs.ProofJson.{HasMembers, HasSides, ReadsSides, ReadsProof, AreLevels, BreaksPartRule, BreaksValueRule, BreaksRule, Reads, sides_json, proof_json}
-use Rattle.range_proof.specs.ProofJson.BreaksPartRule.{no_object, no_members, no_levels, no_nodes}
+use Rattle.range_proof.specs.ProofJson.BreaksPartRule.{no_object, no_arrays, no_levels, no_nodes}
 use Rattle.range_proof.specs.ProofJson.BreaksValueRule.{no_chunk, many_levels, many_beside, sizes_pass}
 use Rattle.range_proof.specs.ProofJson.BreaksRule.{of_parts, of_value}
 
@@ -51,6 +52,60 @@ value_kept proof rule h (many_levels some many) = let few = h.few_levels in omeg
 value_kept proof rule h (many_beside some few many) = many (record { left = h.few_left; right = h.few_right })
 value_kept proof rule h (sizes_pass some few beside past) = let fits = h.fits in omega arith
 
+-- ---- what breaks a rule of the parts
+
+pub breaks_rule_1 : (json : Data) → is_some (as_object json) ≡ false → BreaksPartRule json 1
+breaks_rule_1 null e = no_object refl
+breaks_rule_1 (boolean b) e = no_object refl
+breaks_rule_1 (number n) e = no_object refl
+breaks_rule_1 (string s) e = no_object refl
+breaks_rule_1 (array items) e = no_object refl
+breaks_rule_1 (object entries) e = cc
+
+pub breaks_rule_2 : (json : Data) → is_some (as_object json) ≡ true →
+    ((chunks levels : List Data) → HasMembers json chunks levels → ⊥) → BreaksPartRule json 2
+breaks_rule_2 null e none = cc
+breaks_rule_2 (boolean b) e none = cc
+breaks_rule_2 (number n) e none = cc
+breaks_rule_2 (string s) e none = cc
+breaks_rule_2 (array items) e none = cc
+breaks_rule_2 (object entries) e none = no_arrays refl none
+
+pub no_left : (value : Data) (left right : List Data) → HasSides value left right → ((nodes : List Node) → AllZip ReadsNode left nodes → ⊥) →
+    (sides : Sides) → ReadsSides value sides → ⊥
+no_left value left right members none sides h =
+    let same = one_pair value h.left_values h.right_values left right h.members members in
+    none sides.left (subst (λ (values : List Data). AllZip ReadsNode values sides.left) same.0 h.left_are)
+
+pub no_right : (value : Data) (left right : List Data) → HasSides value left right → ((nodes : List Node) → AllZip ReadsNode right nodes → ⊥) →
+    (sides : Sides) → ReadsSides value sides → ⊥
+no_right value left right members none sides h =
+    let same = one_pair value h.left_values h.right_values left right h.members members in
+    none sides.right (subst (λ (values : List Data). AllZip ReadsNode values sides.right) same.1 h.right_are)
+
+pub no_chunks_read : (json : Data) (chunks levels : List Data) → HasMembers json chunks levels → ((nodes : List Node) → AllZip ReadsNode chunks nodes → ⊥) →
+    (proof : Proof) → ReadsProof json proof → ⊥
+no_chunks_read json chunks levels members none proof h =
+    let same = one_members json h.chunk_values h.level_values chunks levels h.members members in
+    none proof.chunks (subst (λ (values : List Data). AllZip ReadsNode values proof.chunks) same.0 h.chunks_are)
+
+pub no_levels_read : (json : Data) (chunks levels : List Data) → HasMembers json chunks levels → ((all : List Sides) → AllZip ReadsSides levels all → ⊥) →
+    (proof : Proof) → ReadsProof json proof → ⊥
+no_levels_read json chunks levels members none proof h =
+    let same = one_members json h.chunk_values h.level_values chunks levels h.members members in
+    none proof.levels (subst (λ (values : List Data). AllZip ReadsSides values proof.levels) same.1 h.levels_are)
+
+-- parts that were read are those of a proof
+pub parts_of : (json : Data) (chunk_values level_values : List Data) (chunks : List Node) (levels : List Sides) → HasMembers json chunk_values level_values →
+    AllZip ReadsNode chunk_values chunks → AllZip ReadsSides level_values levels → ReadsProof json (record { chunks = chunks; levels = levels })
+parts_of json chunk_values level_values chunks levels members chunks_are levels_are = record {
+  chunk_values = chunk_values;
+  level_values = level_values;
+  members = members;
+  chunks_are = chunks_are;
+  levels_are = levels_are;
+}
+
 module _ (apart : (a b : List ℕ) → IsHash a → IsHash b → hex_text a ≡ hex_text b → a ≡ b) where
   one_sides : (value : Data) (a b : Sides) → ReadsSides value a → ReadsSides value b → a ≡ b
   one_sides value a b h k =
@@ -77,7 +132,7 @@ module _ (apart : (a b : List ℕ) → IsHash a → IsHash b → hex_text a ≡ 
 
   parts_kept : (json : Data) (proof : Proof) → ReadsProof json proof → (rule : ℕ) → BreaksPartRule json rule → ⊥
   parts_kept json proof parts rule (no_object e) = no_member json (codes "chunks") _ e parts.members.chunks_are
-  parts_kept json proof parts rule (no_members e none) = none _ _ parts.members
+  parts_kept json proof parts rule (no_arrays e none) = none _ _ parts.members
   parts_kept json proof parts rule (no_levels {chunks} {levels} members none) =
       let same = one_members json parts.chunk_values parts.level_values chunks levels parts.members members in
       none (subst AreLevels same.1 (are_levels parts.level_values proof.levels parts.levels_are))

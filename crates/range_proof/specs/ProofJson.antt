@@ -20,11 +20,13 @@ nodes_json nodes = array (items_of (map node_json nodes))
 abbrev pub sides_json : Sides → Data
 sides_json sides = object (member (codes "left") (nodes_json sides.left) (member (codes "right") (nodes_json sides.right) no_members))
 
+-- the members of a proof's object
+abbrev pub proof_object : Data → Data → Data
+proof_object chunks levels = object (member (codes "chunks") chunks (member (codes "levels") levels no_members))
+
 -- the nodes of the chunks, and the sides of each level, from the chunks up
 abbrev pub proof_json : Proof → Data
-proof_json proof = object (
-    member (codes "chunks") (nodes_json proof.chunks) (
-    member (codes "levels") (array (items_of (map sides_json proof.levels))) no_members))
+proof_json proof = proof_object (nodes_json proof.chunks) (array (items_of (map sides_json proof.levels)))
 
 -- ---- Reading
 
@@ -62,7 +64,7 @@ AreLevels values = All (λ value. (left : List Data) × (right : List Data) × H
 -- level isn't an object with the arrays `left` and `right`; a node isn't one
 pub data BreaksPartRule (json : Data) : ℕ → Type 0 where
   no_object : as_object json ≡ None → BreaksPartRule json 1
-  no_members : {members : Members} → as_object json ≡ Some members →
+  no_arrays : {members : Members} → as_object json ≡ Some members →
       ((chunks levels : List Data) → ¬ (HasMembers json chunks levels)) → BreaksPartRule json 2
   no_levels : {chunks levels : List Data} → HasMembers json chunks levels → ¬ (AreLevels levels) → BreaksPartRule json 3
   no_nodes : {chunks levels : List Data} → HasMembers json chunks levels → AreLevels levels →

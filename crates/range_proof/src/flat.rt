@@ -1,6 +1,6 @@
 //! The flat form of a range proof: the numbers of nodes on both sides of each level, and all nodes in one list.
 
-ghost use Rattle.std.specs.Prelude.{◌≡◌, ◌⊎◌, ◌+◌, ◌^◌, ◌<◌, ◌≤◌, ◌++◌, ℕ, map, length, IfOk, IfErr, IsTrue, SomeIff};
+ghost use Rattle.std.specs.Prelude.{◌≡◌, ◌⊎◌, ◌+◌, ◌^◌, ◌<◌, ◌≤◌, ◌++◌, ◌↔◌, ℕ, map, length, IfOk, IfErr, IsTrue, SomeIff};
 ghost use Rattle.xet_roots.specs.declared.error.CoreError.TheVariants.{InvalidJson};
 ghost use Rattle.range_proof.specs.RangeProof.{IsWellFormed};
 ghost use Rattle.range_proof.specs.FlatProof.{count_sum, count_of, left_nodes, right_nodes, IsFlat, BreaksFlatRule};
@@ -82,8 +82,10 @@ impl<A: Allocator + Clone> RangeProof<A> {
         if !leave_a_chunk(counts, nodes.len()) {
             return Err(CoreError::InvalidJson(5));
         }
-        let Parts { chunks, levels } = cut_levels(alloc, counts, nodes)?;
-        from_parts(chunks, levels)
+        let parts = cut_levels(alloc, counts, nodes)?;
+        let Parts { chunks, levels } = parts;
+        let proof = from_parts(chunks, levels)?;
+        Ok(proof)
     }
 
     /// Returns the numbers of left and right nodes of each level, from the chunks up, and all nodes in the order of the

@@ -6,7 +6,7 @@ ghost use Rattle.serde_json.specs.Data.{Data, array};
 ghost use Rattle.serde_json.specs.View.{view, items_of};
 ghost use Rattle.xet_roots.specs.declared.error.CoreError.TheVariants.{OutOfMemory, InvalidJson};
 ghost use Rattle.range_proof.specs.RangeProof.{AreHashes, Sides};
-ghost use Rattle.range_proof.specs.ProofJson.{nodes_json, sides_json, proof_json, HasMembers, HasSides, ReadsSides, AreLevels, Reads, BreaksRule};
+ghost use Rattle.range_proof.specs.ProofJson.{nodes_json, sides_json, proof_object, proof_json, HasMembers, HasSides, ReadsSides, AreLevels, Reads, BreaksRule};
 
 use crate::proof::RangeProof;
 use crate::proof_parts::from_parts;
@@ -53,6 +53,13 @@ fn levels_to_json<A: Allocator>(
     Ok(Value::Array(values))
 }
 
+// Returns the object of a proof's chunks and levels.
+fn object_of(alloc: Global, chunks: Value, levels: Value) -> Result<Value, AllocError>
+    ensures { IfOk result (λ value. view value ≡ proof_object (view chunks) (view levels)) }
+{
+    json!(in alloc; {"chunks": chunks, "levels": levels})
+}
+
 // The members of a proof's object, each an array.
 #[derive(Drop)]
 struct Members<'v> {
@@ -92,9 +99,9 @@ fn are_levels(values: &[Value]) -> bool
     ensures { IsTrue result ↔ AreLevels (map view values.now) }
 {
     'levels: for value in values {
-        if read_side_values(value).is_none() {
+        let Some(_) = read_side_values(value) else {
             return false;
-        }
+        };
     }
     true
 }
@@ -164,7 +171,8 @@ impl<A: Allocator + Clone> RangeProof<A> {
         }
         let chunks = read_nodes(alloc.clone()?, members.chunks, 4)?;
         let levels = read_levels(alloc, members.levels)?;
-        from_parts(chunks, levels)
+        let proof = from_parts(chunks, levels)?;
+        Ok(proof)
     }
 }
 
@@ -184,6 +192,6 @@ impl<A: Allocator> RangeProof<A> {
         // Laws of hex texts, for the clause `says`.
         hex_text_is_lowercase_digits();
         hex_text_tells_hashes_apart();
-        Ok(json!(in alloc; {"chunks": chunks, "levels": levels})?)
+        Ok(object_of(alloc, chunks, levels)?)
     }
 }

@@ -4,5 +4,5 @@ use Rattle.xet_roots.specs.Roots.{total_size}
 use Rattle.range_proof.proofs.proof_parts.size_beside.Given as goal
 
 abbrev pub invariant-sizes : goal.invariant-sizes
-invariant-sizes l =
+invariant-sizes g l =
     (l.size ≡ sum_by (λ sides. total_size sides.left + total_size sides.right) (take l.level-index l.levels)) × (l.size < 2 ^ 64)
