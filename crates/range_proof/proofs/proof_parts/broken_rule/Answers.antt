@@ -8,8 +8,8 @@ use Rattle.range_proof.proofs.proof_parts.broken_rule.Goals as goal
 pub returns-then-is_empty-clause-broken : goal.returns-then-is_empty-clause-broken
 returns-then-is_empty-clause-broken g c = no_chunk (grind (arith, nat_tests, c.if-is_empty.ensures))
 
-pub returns-then-len-gt-MAX_LEVELS-clause-broken : goal.returns-then-len-gt-MAX_LEVELS-clause-broken
-returns-then-len-gt-MAX_LEVELS-clause-broken g c = many_levels (grind (arith, nat_tests, c.if-is_empty.ensures)) (omega arith)
+pub returns-then-levels-gt-MAX_LEVELS-clause-broken : goal.returns-then-levels-gt-MAX_LEVELS-clause-broken
+returns-then-levels-gt-MAX_LEVELS-clause-broken g c = many_levels (grind (arith, nat_tests, c.if-is_empty.ensures)) (omega arith)
 
 pub returns-then-not-have_few_beside-clause-broken : goal.returns-then-not-have_few_beside-clause-broken
 returns-then-not-have_few_beside-clause-broken g c =
