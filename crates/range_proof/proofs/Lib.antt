@@ -7,3 +7,4 @@ pub mod PlacesOf
 pub mod ReadingOf
 pub mod SidesOf
 pub mod Soundness
+pub mod TreeOf

@@ -1,5 +1,6 @@
 pub mod FlatProof
 pub mod ProofJson
+pub mod Proving
 pub mod RangeProof
 pub mod Reading
 pub mod Sides

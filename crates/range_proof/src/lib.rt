@@ -3,6 +3,7 @@
 #![tactic(auto)]
 
 mod flat;
+pub mod hash_tree;
 mod json;
 pub mod laws;
 pub mod open_error;
@@ -13,7 +14,9 @@ mod proof_parts;
 mod reading;
 mod sides;
 mod tops;
+mod tree_level;
 
+pub use hash_tree::HashTree;
 pub use open_error::{OpenError, OpenFault};
 pub use opened_range::OpenedRange;
 pub use proof::RangeProof;

@@ -1,6 +1,6 @@
 //! A range of a file's chunks that a proof shows.
 
-ghost use Rattle.std.specs.Prelude.{◌≡◌, ℕ, ◌+◌, ◌<◌, ◌⊎◌, List, [], ◌∷◌, length, Some, slice_get, IsSome, IfOk, IfErr, IfSome, IfNone, SomeIff};
+ghost use Rattle.std.specs.Prelude.{◌≡◌, ℕ, ◌+◌, ◌<◌, ◌⊎◌, ◌↔◌, List, [], ◌∷◌, length, Some, slice_get, IsSome, IsTrue, IfOk, IfErr, IfSome, IfNone, SomeIff};
 ghost use Rattle.binding.specs.Binding.{chunk_node, chunk_nodes, HashedForFile, HashedForRoot, Collision};
 ghost use Rattle.xet_roots.specs.Roots.{IsRoot, IsFileHash};
 ghost use Rattle.range_proof.specs.RangeProof.{file_size_of, begin_of, Shows, ShowsRoot, HasHashes, IsWellFormed};
@@ -122,12 +122,22 @@ impl<A: Allocator> OpenedRange<A> {
         // The laws of soundness, for the last two clauses.
         range_proofs_of_file_hashes_are_sound();
         range_proofs_of_roots_are_sound();
-        let _file_size = self.file_size;
-        let node = self.proof.chunks().get(k)?;
-        if !is_chunk(node, data) {
+        if !self.is_chunk_at(k, data) {
             return None;
         }
         self.begins(k)
+    }
+
+    // Returns whether some data is that of a chunk of the range.
+    fn is_chunk_at(&self, k: usize, data: &[u8]) -> bool
+        ensures same { IsTrue result ↔ (slice_get self.now.chunks k ≡ Some (chunk_node «data».now)) }
+        ensures well_formed { IsWellFormed self.now }
+        ensures hashes { HasHashes self.now }
+    {
+        match self.proof.chunks().get(k) {
+            Some(node) => is_chunk(node, data),
+            None => false,
+        }
     }
 
     /// Checks the data of all chunks of the range, and returns the bytes of the file from the place `from` up to, but
@@ -146,7 +156,6 @@ impl<A: Allocator> OpenedRange<A> {
         // The laws of soundness, for the last two clauses.
         range_proofs_of_file_hashes_are_sound();
         range_proofs_of_roots_are_sound();
-        let _file_size = self.file_size;
         let begin = self.places[0];
         let end = self.places[self.num_chunks()];
         if from < begin || to < from || end < to || !are_chunks(self.proof.chunks(), data) {

@@ -11,7 +11,7 @@ use xet_hash::data_hash::MerkleHash;
 use xet_roots::groups::Node;
 
 // Returns the hash of a node that is alone.
-fn only_hash(nodes: &[Node]) -> Option<MerkleHash>
+pub(crate) fn only_hash(nodes: &[Node]) -> Option<MerkleHash>
     ensures { MatchOption result (¬ (length nodes.now ≡ 1)) (λ hash. (size : ℕ) × (nodes.now ≡ (hash, size) ∷ [])) }
 {
     match nodes {

@@ -3,13 +3,13 @@ use Rattle.std.proofs.lemmas.List.{take_more, take_all}
 use Rattle.std.proofs.lemmas.List.Sums.{sum_by_more, sum_by_more_le}
 use Rattle.xet_roots.specs.Groups.{Node}
 use Rattle.range_proof.specs.Steps.Places.{ArePlaces}
-use Rattle.range_proof.proofs.PlacesOf.{ArePlaces-none, ArePlaces-push}
+use Rattle.range_proof.proofs.PlacesOf.{AreSums-none, AreSums-push}
 use Rattle.range_proof.proofs.places.places.Goals as goal
 
 pub nodes-init : goal.nodes-init
 nodes-init g c = record {
   place = omega arith;
-  so_far = ArePlaces-none c.args.start c.push.new.self.items
+  so_far = AreSums-none (λ (n : Node). n.1) c.args.start c.push.new.self.items
       (c.in_ok-push.ensures.items ∙ ap (λ (l : List ℕ). l ++ c.args.start ∷ []) c.in_ok-places.ensures.items);
 }
 
@@ -37,7 +37,7 @@ nodes-preserved g c =
       so_far =
           subst (ArePlaces c.args.start (take (i + 1) nodes)) (sym c.in_ok-push-2.ensures.items)
           (subst (λ (l : List Node). ArePlaces c.args.start l (c.nodes.places.items ++ (c.nodes.place + node.1) ∷ [])) (sym taken)
-          (ArePlaces-push c.args.start (take i nodes) c.nodes.places.items node (c.nodes.place + node.1) c.nodes.invariant.so_far (omega arith)));
+          (AreSums-push (λ (n : Node). n.1) c.args.start (take i nodes) c.nodes.places.items node (c.nodes.place + node.1) c.nodes.invariant.so_far (omega arith)));
     }
 
 pub returns : goal.returns

@@ -5,17 +5,17 @@ use Rattle.binding.specs.Binding.{chunk_node}
 use Rattle.xet_roots.specs.Roots.{total_size}
 use Rattle.range_proof.specs.RangeProof.{Proof, offset_of, IsWellFormed}
 use Rattle.range_proof.specs.Reading.{AreChunksOf, IsRead}
-use Rattle.range_proof.proofs.PlacesOf.{place_read}
+use Rattle.range_proof.proofs.PlacesOf.{sum_read}
 use Rattle.range_proof.proofs.ReadingOf.{length-chunks, IsRead-from, AreChunksAt-all, IsPartOfFile-from}
 use Rattle.range_proof.proofs.opened_range.OpenedRange.read.Goals as goal
 
 pub slice_bounds-result-end : goal.slice_bounds-result-end
 slice_bounds-result-end g c =
     let proof = c.self.inside.proof in
-    let begin : c.index-begin.result.now ≡ offset_of proof + 0 = place_read _ _ _ 0 _ c.self.invariant.places_are (omega arith) c.index-begin.ensures in
+    let begin : c.index-begin.result.now ≡ offset_of proof + 0 = sum_read (λ (n : Node). n.1) _ _ _ 0 _ c.self.invariant.places_are (omega arith) c.index-begin.ensures in
     let last : c.num_chunks.result ≡ length proof.chunks = c.num_chunks.ensures.chunks ∙ ap (λ (p : Proof). length p.chunks) (sym c.self.view_is) in
     let end : c.index-end.result.now ≡ offset_of proof + total_size (take c.num_chunks.result proof.chunks) =
-    place_read _ _ _ c.num_chunks.result _ c.self.invariant.places_are (omega arith) c.index-end.ensures in
+    sum_read (λ (n : Node). n.1) _ _ _ c.num_chunks.result _ c.self.invariant.places_are (omega arith) c.index-end.ensures in
     let all = ap total_size (take_all c.num_chunks.result proof.chunks (omega arith)) in
     let found = c.if-not-are_chunks.ensures.0 refl in
     let size = length-chunks _ _ found.0 found.1 ∙ ap total_size c.chunks.ensures.nodes in
@@ -24,10 +24,10 @@ slice_bounds-result-end g c =
 pub returns-clause-read : goal.returns-clause-read
 returns-clause-read g c =
     let proof = c.self.inside.proof in
-    let begin : c.index-begin.result.now ≡ offset_of proof + 0 = place_read _ _ _ 0 _ c.self.invariant.places_are (omega arith) c.index-begin.ensures in
+    let begin : c.index-begin.result.now ≡ offset_of proof + 0 = sum_read (λ (n : Node). n.1) _ _ _ 0 _ c.self.invariant.places_are (omega arith) c.index-begin.ensures in
     let last : c.num_chunks.result ≡ length proof.chunks = c.num_chunks.ensures.chunks ∙ ap (λ (p : Proof). length p.chunks) (sym c.self.view_is) in
     let end : c.index-end.result.now ≡ offset_of proof + total_size (take c.num_chunks.result proof.chunks) =
-    place_read _ _ _ c.num_chunks.result _ c.self.invariant.places_are (omega arith) c.index-end.ensures in
+    sum_read (λ (n : Node). n.1) _ _ _ c.num_chunks.result _ c.self.invariant.places_are (omega arith) c.index-end.ensures in
     let all = ap total_size (take_all c.num_chunks.result proof.chunks (omega arith)) in
     let found = c.if-not-are_chunks.ensures.0 refl in
     subst (λ (p : Proof). IsRead p c.args.from c.args.to c.args.data.now
