@@ -111,18 +111,18 @@ module _ (apart : (a b : List ℕ) → IsHash a → IsHash b → hex_text a ≡ 
   one_sides value a b h k =
       let same = one_pair value h.left_values h.right_values k.left_values k.right_values h.members k.members in
       let left = one_list ReadsNode (one_node apart) k.left_values a.left b.left
-          (subst (λ (values : List Data). AllZip ReadsNode values a.left) same.0 h.left_are) k.left_are in
+      (subst (λ (values : List Data). AllZip ReadsNode values a.left) same.0 h.left_are) k.left_are in
       let right = one_list ReadsNode (one_node apart) k.right_values a.right b.right
-          (subst (λ (values : List Data). AllZip ReadsNode values a.right) same.1 h.right_are) k.right_are in
+      (subst (λ (values : List Data). AllZip ReadsNode values a.right) same.1 h.right_are) k.right_are in
       λ i. record { left = left i; right = right i }
 
   one_parts : (json : Data) (a b : Proof) → ReadsProof json a → ReadsProof json b → a ≡ b
   one_parts json a b h k =
       let same = one_members json h.chunk_values h.level_values k.chunk_values k.level_values h.members k.members in
       let chunks = one_list ReadsNode (one_node apart) k.chunk_values a.chunks b.chunks
-          (subst (λ (values : List Data). AllZip ReadsNode values a.chunks) same.0 h.chunks_are) k.chunks_are in
+      (subst (λ (values : List Data). AllZip ReadsNode values a.chunks) same.0 h.chunks_are) k.chunks_are in
       let levels = one_list ReadsSides one_sides k.level_values a.levels b.levels
-          (subst (λ (values : List Data). AllZip ReadsSides values a.levels) same.1 h.levels_are) k.levels_are in
+      (subst (λ (values : List Data). AllZip ReadsSides values a.levels) same.1 h.levels_are) k.levels_are in
       λ i. record { chunks = chunks i; levels = levels i }
 
   pub one_proof : (json : Data) (a b : Proof) → Reads json a → Reads json b → a ≡ b

@@ -69,11 +69,7 @@ impl<A: Allocator + Clone> RangeProof<A> {
     /// Fails with [`CoreError::InvalidJson`] and the lowest rule from 5 to 8 of [`Self::from_json`] that they break; rule 5
     /// means that the counts leave no node for the chunks. Fails with [`CoreError::OutOfMemory`] if an allocation fails;
     /// this may be returned instead of a rule.
-    pub fn from_flat(
-        alloc: A,
-        counts: &[(usize, usize)],
-        nodes: &[Node],
-    ) -> Result<Self, CoreError>
+    pub fn from_flat(alloc: A, counts: &[(usize, usize)], nodes: &[Node]) -> Result<Self, CoreError>
         ensures flat { IfOk result (IsFlat counts.now nodes.now) }
         ensures well_formed { IfOk result IsWellFormed }
         ensures errors { IfErr result (λ e. (e ≡ CoreError.OutOfMemory) ⊎ ((rule : ℕ) × (e ≡ InvalidJson rule)
@@ -84,8 +80,7 @@ impl<A: Allocator + Clone> RangeProof<A> {
         }
         let parts = cut_levels(alloc, counts, nodes)?;
         let Parts { chunks, levels } = parts;
-        let proof = from_parts(chunks, levels)?;
-        Ok(proof)
+        Ok(from_parts(chunks, levels)?)
     }
 
     /// Returns the numbers of left and right nodes of each level, from the chunks up, and all nodes in the order of the

@@ -171,8 +171,7 @@ impl<A: Allocator + Clone> RangeProof<A> {
         }
         let chunks = read_nodes(alloc.clone()?, members.chunks, 4)?;
         let levels = read_levels(alloc, members.levels)?;
-        let proof = from_parts(chunks, levels)?;
-        Ok(proof)
+        Ok(from_parts(chunks, levels)?)
     }
 }
 

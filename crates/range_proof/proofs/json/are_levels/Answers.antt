@@ -33,8 +33,7 @@ returns-in_default c = (
 
 pub returns : goal.returns
 returns c =
-    let all = take_all c.levels.value-index c.args.values.now c.levels-test.false in
-    (
+    let all = take_all c.levels.value-index c.args.values.now c.levels-test.false in (
       λ _. All-map IsLevel view c.args.values.now (subst (λ (values : List Value). All (λ value. IsLevel (view value)) values) all c.levels.invariant),
       λ _. refl,
     )

@@ -8,9 +8,12 @@ pub returns-in_err-read_sides-clause-refused : goal.returns-in_err-read_sides-cl
 returns-in_err-read_sides-clause-refused g c = passed_on _ c.from_residual-in_err-read_sides.result c.in_err-read_sides.field-0.0 c.from_residual-in_err-read_sides.ensures.1
     (elim c.in_err-read_sides.ensures.refused [
       | inl memory ↦ inl memory
-      | inr refused ↦ inr (refused.0, λ all h.
-          let found = read_each ReadsSides c.args.values.now c.levels.value-index c.value-item.result all c.levels-test.true c.value-item.is h in
-          refused.1 found.0 found.1)
+      | inr refused ↦ inr (
+        refused.0,
+        λ all h.
+            let found = read_each ReadsSides c.args.values.now c.levels.value-index c.value-item.result all c.levels-test.true c.value-item.is h in
+            refused.1 found.0 found.1,
+      )
     ])
 
 pub levels-preserved : goal.levels-preserved

@@ -12,11 +12,11 @@ pub returns-then-not-leave_a_chunk-clause-errors : goal.returns-then-not-leave_a
 returns-then-not-leave_a_chunk-clause-errors g c =
     inr (5, refl, no_chunk (not_less _ _ (λ h. false≢true (c.if-not-leave_a_chunk.ensures.1 h))))
 
-pub returns-in_err-proof-clause-errors : goal.returns-in_err-proof-clause-errors
-returns-in_err-proof-clause-errors g c =
-    let broken = c.in_err-proof.ensures.errors in
-    passed_on _ c.from_residual-in_err-proof.result c.in_err-proof.field-0.0 c.from_residual-in_err-proof.ensures.1
+pub returns-in_err-from_parts-clause-errors : goal.returns-in_err-from_parts-clause-errors
+returns-in_err-from_parts-clause-errors g c =
+    let broken = c.in_err-from_parts.ensures.errors in
+    passed_on _ c.from_residual-in_err-from_parts.result c.in_err-from_parts.field-0.0 c.from_residual-in_err-from_parts.ensures.1
     (inr (broken.0, broken.1, of_proof c.in_ok-parts.ensures broken.2))
 
 pub returns-clause-flat : goal.returns-clause-flat
-returns-clause-flat g c = subst (IsFlat c.args.counts.now c.args.nodes.now) (sym c.in_ok-proof.ensures.same) c.in_ok-parts.ensures
+returns-clause-flat g c = subst (IsFlat c.args.counts.now c.args.nodes.now) (sym c.in_ok-from_parts.ensures.same) c.in_ok-parts.ensures

@@ -23,28 +23,39 @@ pub returns-in_err-chunks-clause-errors : goal.returns-in_err-chunks-clause-erro
 returns-in_err-chunks-clause-errors g c = passed_on _ c.from_residual-in_err-chunks.result c.in_err-chunks.field-0.0 c.from_residual-in_err-chunks.ensures.1
     (elim c.in_err-chunks.ensures.refused [
       | inl memory ↦ inl memory
-      | inr refused ↦ inr (4, refused.0, of_parts (no_nodes c.in-Some.ensures.some (c.if-not-are_levels.ensures.0 refl)
-          (no_chunks_read _ _ _ c.in-Some.ensures.some refused.1)))
+      | inr refused ↦ inr (
+        4,
+        refused.0,
+        of_parts (no_nodes c.in-Some.ensures.some (c.if-not-are_levels.ensures.0 refl)
+            (no_chunks_read _ _ _ c.in-Some.ensures.some refused.1)),
+      )
     ])
 
 pub returns-in_err-levels-clause-errors : goal.returns-in_err-levels-clause-errors
 returns-in_err-levels-clause-errors g c = passed_on _ c.from_residual-in_err-levels.result c.in_err-levels.field-0.0 c.from_residual-in_err-levels.ensures.1
     (elim c.in_err-levels.ensures.refused [
       | inl memory ↦ inl memory
-      | inr refused ↦ inr (4, refused.0, of_parts (no_nodes c.in-Some.ensures.some (c.if-not-are_levels.ensures.0 refl)
-          (no_levels_read _ _ _ c.in-Some.ensures.some refused.1)))
+      | inr refused ↦ inr (
+        4,
+        refused.0,
+        of_parts (no_nodes c.in-Some.ensures.some (c.if-not-are_levels.ensures.0 refl)
+            (no_levels_read _ _ _ c.in-Some.ensures.some refused.1)),
+      )
     ])
 
-pub returns-in_err-proof-clause-errors : goal.returns-in_err-proof-clause-errors
-returns-in_err-proof-clause-errors g c =
-    let broken = c.in_err-proof.ensures.errors in
-    passed_on _ c.from_residual-in_err-proof.result c.in_err-proof.field-0.0 c.from_residual-in_err-proof.ensures.1
-    (inr (broken.0, broken.1,
-      of_value (parts_of _ _ _ _ _ c.in-Some.ensures.some c.in_ok-chunks.ensures.read c.in_ok-levels.ensures.read) broken.2))
+pub returns-in_err-from_parts-clause-errors : goal.returns-in_err-from_parts-clause-errors
+returns-in_err-from_parts-clause-errors g c =
+    let broken = c.in_err-from_parts.ensures.errors in
+    passed_on _ c.from_residual-in_err-from_parts.result c.in_err-from_parts.field-0.0 c.from_residual-in_err-from_parts.ensures.1
+    (inr (
+      broken.0,
+      broken.1,
+      of_value (parts_of _ _ _ _ _ c.in-Some.ensures.some c.in_ok-chunks.ensures.read c.in_ok-levels.ensures.read) broken.2,
+    ))
 
 pub returns-clause-reads : goal.returns-clause-reads
 returns-clause-reads g c =
     let json = view c.args.value.now in
-    let proof = c.in_ok-proof.proof in
+    let proof = c.in_ok-from_parts.field-0 in
     let parts = parts_of _ _ _ _ _ c.in-Some.ensures.some c.in_ok-chunks.ensures.read c.in_ok-levels.ensures.read in
-    Reads-parts c.hex_text_tells_hashes_apart.ensures json proof (subst (ReadsProof json) (sym c.in_ok-proof.ensures.same) parts) c.in_ok-proof.ensures.well_formed
+    Reads-parts c.hex_text_tells_hashes_apart.ensures json proof (subst (ReadsProof json) (sym c.in_ok-from_parts.ensures.same) parts) c.in_ok-from_parts.ensures.well_formed
