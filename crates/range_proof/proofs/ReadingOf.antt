@@ -38,7 +38,8 @@ next_chunk : (nodes : List Node) (bytes rest : List ℕ) (i : ℕ) (node : Node)
     (chunk_node (get_or chunks i []) ≡ node) × (get_or chunks i [] ++ bytes_of_chunks (drop (i + 1) chunks) ≡ rest)
 next_chunk nodes bytes rest i node chunks within here h k =
     let len = ap length k.nodes_are in
-    let inside : i < length chunks = omega (arith, length-map chunks chunk_node) in (
+    let inside : i < length chunks = omega (arith, length-map chunks chunk_node) in
+    (
       sym (get_or-map chunk_node chunks i [] node inside) ∙ ap (λ (l : List Node). get_or l i node) k.nodes_are ∙ sym here,
       ap bytes_of_chunks (sym (drop_more chunks i [] inside)) ∙ h.only chunks k,
     )

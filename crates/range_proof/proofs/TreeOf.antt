@@ -173,9 +173,9 @@ AreSides-more nodes groups first end from to sides levels two some cutting b abo
     b.left_is b.right_is
     (λ group more e. subst (λ (l : List Node). length sides.left < length l) (sym first_hit ∙ ap (λ (l : List (List Node)). get_or l 0 []) e) b.short_left)
     (λ more group e.
-    let len = ap length e in
-    subst (λ (l : List Node). length sides.right < length l)
-    (sym last_hit ∙ ap (λ (l : List (List Node)). get_or l ((to - from) - 1) []) e ∙ get_or_at more group [] [] ((to - from) - 1) (omega (arith, length-append more (group ∷ [])))) b.short_right)
+        let len = ap length e in
+        subst (λ (l : List Node). length sides.right < length l)
+        (sym last_hit ∙ ap (λ (l : List (List Node)). get_or l ((to - from) - 1) []) e ∙ get_or_at more group [] [] ((to - from) - 1) (omega (arith, length-append more (group ∷ [])))) b.short_right)
     (subst (λ (l : List Node). AreSides (map parent (take from groups)) (map parent hit) l levels) (drop-map parent to groups)
     (subst (λ (l : List Node). AreSides (map parent (take from groups)) l (drop to (map parent groups)) levels)
     (ap (take (to - from)) (drop-map parent from groups) ∙ take-map parent (to - from) (drop from groups))
@@ -293,10 +293,10 @@ root_if_none levels top nodes root tree none is =
     let few = top_few levels top nodes tree in
     root_of_top levels top nodes root tree
     (subst (λ (l : List Node). IsRoot l root) (sym (nil_from_length top (no_one (length top) few none))) (subst (λ (h : List ℕ). IsRoot [] h) (sym is) no_node)) where
-      no_one : (n : ℕ) → n ≤ 1 → ¬ (n ≡ 1) → n ≡ 0
-      no_one zero few none = refl
-      no_one (suc zero) few none = absurd (none refl)
-      no_one (suc (suc n)) few none = absurd (omega arith)
+  no_one : (n : ℕ) → n ≤ 1 → ¬ (n ≡ 1) → n ≡ 0
+  no_one zero few none = refl
+  no_one (suc zero) few none = absurd (none refl)
+  no_one (suc (suc n)) few none = absurd (omega arith)
 
 pub root_if_one : (levels : List (List Node)) (top nodes : List Node) (root : List ℕ) → IsTree levels top nodes → (size : ℕ) × (top ≡ (root, size) ∷ []) → IsRoot nodes root
 root_if_one levels top nodes root tree one =

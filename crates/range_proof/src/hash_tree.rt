@@ -91,7 +91,12 @@ impl<A: Allocator + Clone> HashTree<A> {
     }
 
     // Returns the sides of a range of chunks on each level.
-    fn sides(&self, alloc: A, first: usize, end: usize) -> Result<Vec<LevelSides<A>, A>, AllocError>
+    fn sides(
+        &self,
+        alloc: A,
+        first: usize,
+        end: usize,
+    ) -> Result<Vec<LevelSides<A>, A>, AllocError>
         requires some { first < end }
         requires within { end ≤ length self.now }
         ensures { IfOk result (λ sides. AreSidesOf self.now first end sides.items) }

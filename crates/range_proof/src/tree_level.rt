@@ -98,7 +98,12 @@ impl<A: Allocator + Clone> TreeLevel<A> {
     }
 
     // Returns the sides of a range of nodes, and the range of the groups that it lies in.
-    pub(crate) fn beside(&self, alloc: A, first: usize, end: usize) -> Result<Beside<A>, AllocError>
+    pub(crate) fn beside(
+        &self,
+        alloc: A,
+        first: usize,
+        end: usize,
+    ) -> Result<Beside<A>, AllocError>
         requires some { first < end }
         requires within { end ≤ length self.now }
         ensures { IfOk result (λ beside. (groups : List (List Node)) → Groups self.now groups →

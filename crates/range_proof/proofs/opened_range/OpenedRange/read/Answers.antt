@@ -31,7 +31,7 @@ returns-clause-read g c =
     let all = ap total_size (take_all c.num_chunks.result proof.chunks (omega arith)) in
     let found = c.if-not-are_chunks.ensures.0 refl in
     subst (λ (p : Proof). IsRead p c.args.from c.args.to c.args.data.now
-    (take ((c.args.to - c.index-begin.result.now) - (c.args.from - c.index-begin.result.now)) (drop (c.args.from - c.index-begin.result.now) c.args.data.now)))
+        (take ((c.args.to - c.index-begin.result.now) - (c.args.from - c.index-begin.result.now)) (drop (c.args.from - c.index-begin.result.now) c.args.data.now)))
     c.self.view_is
     (IsRead-from proof c.args.from c.args.to c.index-begin.result.now c.index-end.result.now c.args.data.now found.0 (omega arith) (omega arith)
     (omega arith) (omega arith) (omega arith)
@@ -53,9 +53,9 @@ returns-clause-sound g c = λ hash salt file shows is_hash.
       elim (c.range_proofs_of_file_hashes_are_sound.ensures c.args.self.now hash salt 0 read.chunks file hashes formed.fits shows
           (some_chunks c.args.self.now c.args.data.now read.chunks formed read.are_chunks)
           (AreChunksAt-all c.args.self.now c.args.data.now read.chunks read.are_chunks) is_hash) [
-            | inl found ↦ inl (IsPartOfFile-from c.args.self.now c.args.from c.args.to c.args.data.now _ file read found)
-            | inr collision ↦ inr collision
-          ],
+        | inl found ↦ inl (IsPartOfFile-from c.args.self.now c.args.from c.args.to c.args.data.now _ file read found)
+        | inr collision ↦ inr collision
+      ],
     )
 
 pub returns-clause-sound_for_root : goal.returns-clause-sound_for_root
@@ -68,7 +68,7 @@ returns-clause-sound_for_root g c = λ root file shows is_root.
       elim (c.range_proofs_of_roots_are_sound.ensures c.args.self.now root 0 read.chunks file hashes formed.fits shows
           (some_chunks c.args.self.now c.args.data.now read.chunks formed read.are_chunks)
           (AreChunksAt-all c.args.self.now c.args.data.now read.chunks read.are_chunks) is_root) [
-            | inl found ↦ inl (IsPartOfFile-from c.args.self.now c.args.from c.args.to c.args.data.now _ file read found)
-            | inr collision ↦ inr collision
-          ],
+        | inl found ↦ inl (IsPartOfFile-from c.args.self.now c.args.from c.args.to c.args.data.now _ file read found)
+        | inr collision ↦ inr collision
+      ],
     )
