@@ -152,7 +152,7 @@ impl<A: Allocator + Clone> RangeProof<A> {
     /// 8. the sizes of all nodes add up to at most 2^64 - 1.
     ///
     /// Fails with [`CoreError::OutOfMemory`] if an allocation fails; this may be returned instead of a rule. Time and
-    /// memory are proportional to the number of the value's members.
+    /// memory are at most proportional to the size of the value.
     pub fn from_json(alloc: A, value: &Value) -> Result<Self, CoreError>
         ensures reads { IfOk result (Reads (view value.now)) }
         ensures errors { IfErr result (λ e. (e ≡ CoreError.OutOfMemory)
