@@ -1,5 +1,5 @@
 -- Hash trees: bounds of groups, levels from the chunks up, and the sides of a range on each of them.
-use Rattle.std.proofs.Common.{◌≡◌, ℕ, zero, suc, ◌+◌, ◌-◌, ◌<◌, ◌≤◌, List, [], ◌∷◌, ◌++◌, length, get_or, map, take, drop, Option, Some, None, refl, sym, ap, subst, ◌∙◌, arith, append_assoc, append-nil, length-append, length-take, length-drop, inl, inr}
+use Rattle.std.proofs.Common.{◌≡◌, ℕ, zero, suc, ◌+◌, ◌-◌, ◌^◌, ◌<◌, ◌≤◌, List, [], ◌∷◌, ◌++◌, length, get_or, map, take, drop, Option, Some, None, refl, sym, ap, subst, ◌∙◌, arith, append_assoc, append-nil, length-append, length-take, length-drop, inl, inr}
 use Rattle.std.specs.Prelude.{sum_by}
 use Rattle.std.proofs.lemmas.Bool.{cases_lt}
 use Rattle.std.proofs.lemmas.List.{length-map, take-append-drop, take_all, take_at, drop_at, drop_all, drop_more, take-take, drop-take, drop-drop, take-map, drop-map, get_or-take, get_or-drop, get_or_at, nil_from_length}
@@ -12,10 +12,11 @@ use Rattle.xet_roots.specs.Roots.IsRootBy.{no_node, one_node as one_root, of_par
 use Rattle.xet_roots.specs.Steps.Scan.{IsFirstGroup, AreParents}
 use Rattle.xet_roots.proofs.Grouping.OneCutting.{Groups-push, Groups-unique, Groups-exist}
 use Rattle.xet_roots.proofs.Roots.Making.{total_size-are_parents}
-use Rattle.range_proof.specs.RangeProof.{Sides, AreSides, joined}
+use Rattle.range_proof.specs.Proving.{IsRangeOfBytes}
+use Rattle.range_proof.specs.RangeProof.{Sides, AreSides, IsProofOf, joined}
 use Rattle.range_proof.specs.RangeProof.AreSides.{one_node, beside}
-use Rattle.range_proof.specs.Steps.Places.{AreSums, AreBounds}
-use Rattle.range_proof.specs.Steps.Trees.{IsLevelKept, IsTree, lowest, IsBeside, AreSidesOf}
+use Rattle.range_proof.specs.Steps.Places.{ArePlaces, AreSums, AreBounds}
+use Rattle.range_proof.specs.Steps.Trees.{IsLevelKept, IsKept, IsTree, lowest, IsBeside, AreSidesOf}
 use Rattle.range_proof.proofs.PlacesOf.{AreSums-none, AreSums-push, sums_rise, sum_read, IsSearchable, searchable, IsPart, IsIn-from_part}
 
 -- ---- the bounds of groups
@@ -363,3 +364,44 @@ module _ (nodes : List Node) (bounds : List ℕ) (kept : IsLevelKept nodes bound
         let begin_at = begin_sum groups cutting in
         let stop_at = stop_sum groups cutting in
         IsBeside-from nodes groups first end g h begin stop sides cutting some within (ends_of groups cutting) (omega arith) (omega arith) is
+
+-- what a tree keeps, if its levels and its places are those of some chunks
+pub IsKept-from : (levels : List (List Node)) (top chunks : List Node) (places : List ℕ) → IsTree levels top chunks → ArePlaces 0 chunks places →
+    total_size chunks < 2 ^ 64 → IsKept levels top places
+IsKept-from levels top chunks places tree are fits =
+    let same = lowest_is levels top chunks tree in
+    record {
+      tree = subst (IsTree levels top) (sym same) tree;
+      places_are = subst (λ (l : List Node). ArePlaces 0 l places) (sym same) are;
+      fits = subst (λ (l : List Node). total_size l < 2 ^ 64) (sym same) fits;
+    }
+
+-- ---- the proof of a range
+
+pub IsProofOf-from : (nodes chunks : List Node) (first end : ℕ) (levels : List Sides) → first < end → end ≤ length nodes →
+    chunks ≡ take (end - first) (drop first nodes) → AreSidesOf nodes first end levels → IsProofOf nodes first end (record { chunks = chunks; levels = levels })
+IsProofOf-from nodes chunks first end levels some within is sides = record { some = some; within = within; chunks = is; sides = sides }
+
+-- ---- the range of chunks that holds some bytes
+
+pub IsRangeOfBytes-from : (nodes : List Node) (places : List ℕ) (from to first last : ℕ) → ArePlaces 0 nodes places → from < to →
+    IsPart places from first → IsPart places (to - 1) last → IsRangeOfBytes nodes from to first (last + 1)
+IsRangeOfBytes-from nodes places from to first last are order first_is last_is =
+    let a = IsIn-from_part (λ (n : Node). n.1) nodes places are from first first_is in
+    let b = IsIn-from_part (λ (n : Node). n.1) nodes places are (to - 1) last last_is in
+    let begins = b.begins in
+    let ends = b.ends in
+    let inside = b.within in
+    let a_begins = a.begins in
+    let same : last + 1 - 1 ≡ last = omega arith in
+    record {
+      some = elim (cases_lt first (last + 1)) [
+        | inl less ↦ less
+        | inr more ↦ let rise = sums_rise (λ (n : Node). n.1) nodes (last + 1) first more in absurd (omega arith)
+      ];
+      within = omega arith;
+      first_begins = a_begins;
+      first_ends = a.ends;
+      last_begins = subst (λ (k : ℕ). total_size (take k nodes) < to) (sym same) (omega arith);
+      last_ends = omega arith;
+    }
