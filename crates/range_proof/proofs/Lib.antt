@@ -1,4 +1,6 @@
 pub mod Completeness
+pub mod FlatOf
+pub mod JsonOf
 pub mod Opening
 pub mod Parts
 pub mod PlacesOf

@@ -1,3 +1,5 @@
+pub mod FlatProof
+pub mod ProofJson
 pub mod Proving
 pub mod RangeProof
 pub mod Reading

@@ -1,12 +1,17 @@
 //! Laws of range proofs. Each function does nothing: its contract is the law.
 
 ghost use Rattle.std.specs.Prelude.{◌≡◌, ℕ, ◌+◌, ◌-◌, ◌^◌, ◌<◌, ◌≤◌, ◌⊎◌, List, length, take, drop};
+ghost use Rattle.serde_json.specs.Data.{Data};
 ghost use Rattle.xet_hash.specs.Hash.{default_hash};
 ghost use Rattle.xet_roots.specs.Groups.{Node};
 ghost use Rattle.xet_roots.specs.Roots.{total_size, IsRoot, IsFileHash};
 ghost use Rattle.binding.specs.Binding.{chunk_nodes, HashedForRoot, HashedForFile, Collision};
 ghost use Rattle.range_proof.specs.RangeProof.{Proof, HasHashes, IsProofOf, Shows, ShowsRoot, IsWellFormed, begin_of, file_size_of};
+ghost use Rattle.range_proof.specs.ProofJson.{Reads};
+ghost use Rattle.range_proof.specs.FlatProof.{IsFlat};
 ghost use Rattle.range_proof.specs.Soundness.{AreChunksAt, CheckedForRoot, CheckedForFile, HasChunksAt};
+
+use xet_hash::laws::hex_text_tells_hashes_apart;
 
 /// Range proofs of roots are sound. Take a proof from anybody that shows a root, and chunks whose hashes and lengths are
 /// those of its nodes from number k on. Then each file with this root has these chunks, one after another, at the place
@@ -71,4 +76,19 @@ pub fn one_range_proof()
         (proof : Proof) × IsProofOf nodes first end proof }
     ensures unique { (nodes : List Node) (first end : ℕ) (proof other : Proof) →
         IsProofOf nodes first end proof → IsProofOf nodes first end other → proof ≡ other }
+{}
+
+/// A JSON value describes at most one range proof. So reading what `to_json` returns gives the same proof, unless an
+/// allocation fails.
+pub fn json_says_one_range_proof()
+    ensures { (json : Data) (a b : Proof) → Reads json a → Reads json b → a ≡ b }
+{
+    hex_text_tells_hashes_apart();
+}
+
+/// Counts and nodes are those of at most one range proof. So making a proof from what `to_flat` returns gives the same
+/// proof, unless an allocation fails.
+pub fn flat_lists_say_one_range_proof()
+    ensures { (counts : List (ℕ × ℕ)) (nodes : List Node) (a b : Proof) →
+        IsFlat counts nodes a → IsFlat counts nodes b → a ≡ b }
 {}

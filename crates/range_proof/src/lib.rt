@@ -2,12 +2,15 @@
 //! chunks, and the nodes beside the paths from them to the root.
 #![tactic(auto)]
 
+mod flat;
 pub mod hash_tree;
+mod json;
 pub mod laws;
 pub mod open_error;
 pub mod opened_range;
 mod places;
 pub mod proof;
+mod proof_parts;
 mod reading;
 mod sides;
 mod tops;

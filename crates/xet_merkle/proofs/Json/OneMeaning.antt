@@ -53,7 +53,7 @@ value_kept subtree rule h fits (of_levels some sum small broken) =
 
 -- ---- one subtree for a value
 
-no_member : (json : Data) (name : List ℕ) (member : Data) → as_object json ≡ None → get name json ≡ Some member → ⊥
+pub no_member : (json : Data) (name : List ℕ) (member : Data) → as_object json ≡ None → get name json ≡ Some member → ⊥
 no_member null name member e found = let clash : ⊥ = cc in clash
 no_member (boolean b) name member e found = let clash : ⊥ = cc in clash
 no_member (number n) name member e found = let clash : ⊥ = cc in clash
@@ -61,7 +61,7 @@ no_member (string s) name member e found = let clash : ⊥ = cc in clash
 no_member (array items) name member e found = let clash : ⊥ = cc in clash
 no_member (object entries) name member e found = let clash : ⊥ = cc in clash
 
-one_list : {X : Type 0} (Reads : Data → X → Type 0) → ((value : Data) (x y : X) → Reads value x → Reads value y → x ≡ y) →
+pub one_list : {X : Type 0} (Reads : Data → X → Type 0) → ((value : Data) (x y : X) → Reads value x → Reads value y → x ≡ y) →
     (values : List Data) (xs ys : List X) → AllZip Reads values xs → AllZip Reads values ys → xs ≡ ys
 one_list Reads one [] [] [] h k = refl
 one_list Reads one [] [] (y ∷ ys) h k = elim k [ ]
@@ -84,7 +84,7 @@ one_counts value a b h k =
     λ i. (first i, second i)
 
 module _ (apart : (a b : List ℕ) → IsHash a → IsHash b → hex_text a ≡ hex_text b → a ≡ b) where
-  one_node : (value : Data) (a b : Node) → ReadsNode value a → ReadsNode value b → a ≡ b
+  pub one_node : (value : Data) (a b : Node) → ReadsNode value a → ReadsNode value b → a ≡ b
   one_node value a b h k =
       let text : h.text ≡ k.text = cc (sym h.text_is ∙ k.text_is) in
       let words = apart a.0 b.0 h.is_hash k.is_hash (h.reads ∙ ap str_to_ascii_lowercase text ∙ sym k.reads) in
@@ -169,7 +169,7 @@ module _ (apart : (a b : List ℕ) → IsHash a → IsHash b → hex_text a ≡ 
 
   module _ (digits : (words : List ℕ) → IsHash words → IsHexText (hex_text words))
       (lowercase : (words : List ℕ) → IsHash words → str_to_ascii_lowercase (hex_text words) ≡ hex_text words) where
-    reads_nodes : (nodes : List Node) → AreHashes nodes → AllZip ReadsNode (map node_json nodes) nodes
+    pub reads_nodes : (nodes : List Node) → AreHashes nodes → AllZip ReadsNode (map node_json nodes) nodes
     reads_nodes [] h = tt
     reads_nodes (node ∷ nodes) h = (
       record {
