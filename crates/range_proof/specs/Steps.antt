@@ -1,0 +1,4 @@
+pub mod Equality
+pub mod Opening
+pub mod Places
+pub mod Trees

@@ -1,0 +1,94 @@
+//! Laws of range proofs. Each function does nothing: its contract is the law.
+
+ghost use Rattle.std.specs.Prelude.{◌≡◌, ℕ, ◌+◌, ◌-◌, ◌^◌, ◌<◌, ◌≤◌, ◌⊎◌, List, length, take, drop};
+ghost use Rattle.serde_json.specs.Data.{Data};
+ghost use Rattle.xet_hash.specs.Hash.{default_hash};
+ghost use Rattle.xet_roots.specs.Groups.{Node};
+ghost use Rattle.xet_roots.specs.Roots.{total_size, IsRoot, IsFileHash};
+ghost use Rattle.binding.specs.Binding.{chunk_nodes, HashedForRoot, HashedForFile, Collision};
+ghost use Rattle.range_proof.specs.RangeProof.{Proof, HasHashes, IsProofOf, Shows, ShowsRoot, IsWellFormed, begin_of, file_size_of};
+ghost use Rattle.range_proof.specs.ProofJson.{Reads};
+ghost use Rattle.range_proof.specs.FlatProof.{IsFlat};
+ghost use Rattle.range_proof.specs.Soundness.{AreChunksAt, CheckedForRoot, CheckedForFile, HasChunksAt};
+
+use xet_hash::laws::hex_text_tells_hashes_apart;
+
+/// Range proofs of roots are sound. Take a proof from anybody that shows a root, and chunks whose hashes and lengths are
+/// those of its nodes from number k on. Then each file with this root has these chunks, one after another, at the place
+/// that the proof names for the first of them, and is as long as the proof says. Otherwise there is a collision: a message
+/// that was hashed to check the chunks, and a different one that is hashed for the file, have the same BLAKE3 hash.
+///
+/// Nothing is assumed of the proof but what its type keeps: each hash is four words of 64 bits, and the sum of all sizes
+/// fits 64 bits. Nothing at all is assumed of the file.
+pub fn range_proofs_of_roots_are_sound()
+    ensures { (proof : Proof) (root : List ℕ) (k : ℕ) (chunks file : List (List ℕ)) →
+        HasHashes proof → file_size_of proof < 2 ^ 64 → ShowsRoot proof root →
+        0 < length chunks → AreChunksAt proof k chunks → IsRoot (chunk_nodes file) root →
+        HasChunksAt file proof k chunks ⊎ Collision (CheckedForRoot proof chunks) (HashedForRoot file) }
+{}
+
+/// Range proofs of file hashes are sound, as those of roots are. The messages of a collision may then also be the bytes
+/// of a root under the salt.
+pub fn range_proofs_of_file_hashes_are_sound()
+    ensures { (proof : Proof) (hash salt : List ℕ) (k : ℕ) (chunks file : List (List ℕ)) →
+        HasHashes proof → file_size_of proof < 2 ^ 64 → Shows proof hash salt →
+        0 < length chunks → AreChunksAt proof k chunks → IsFileHash (chunk_nodes file) salt hash →
+        HasChunksAt file proof k chunks ⊎ Collision (CheckedForFile proof chunks salt) (HashedForFile file salt) }
+{}
+
+/// The proof of a range shows the root of its list, unless that is the default hash.
+pub fn range_proofs_show_the_root()
+    ensures { (nodes : List Node) (first end : ℕ) (proof : Proof) (root : List ℕ) →
+        IsProofOf nodes first end proof → IsRoot nodes root → ¬ (root ≡ default_hash) → ShowsRoot proof root }
+{}
+
+/// The proof of a range shows the file hash of its list under each salt, unless that is the default hash.
+pub fn range_proofs_show_the_file_hash()
+    ensures { (nodes : List Node) (first end : ℕ) (proof : Proof) (hash salt : List ℕ) →
+        IsProofOf nodes first end proof → IsFileHash nodes salt hash → ¬ (hash ≡ default_hash) → Shows proof hash salt }
+{}
+
+/// The proof of a range names the place of each of its chunks in the file, and where the range ends, and the size of the
+/// file.
+pub fn range_proofs_name_places()
+    ensures begins { (nodes : List Node) (first end : ℕ) (proof : Proof) (k : ℕ) →
+        IsProofOf nodes first end proof → first + k ≤ end → begin_of proof k ≡ total_size (take (first + k) nodes) }
+    ensures size { (nodes : List Node) (first end : ℕ) (proof : Proof) →
+        IsProofOf nodes first end proof → file_size_of proof ≡ total_size nodes }
+{}
+
+/// The proof of a range takes the chunks of that range: their hashes and lengths are those of its nodes.
+pub fn range_proofs_take_their_chunks()
+    ensures { (file : List (List ℕ)) (first end : ℕ) (proof : Proof) →
+        IsProofOf (chunk_nodes file) first end proof → AreChunksAt proof 0 (take (end - first) (drop first file)) }
+{}
+
+/// The proof of a range keeps the rules of every proof, if the list has fewer than 2^64 nodes and the sum of their sizes
+/// fits 64 bits.
+pub fn range_proofs_are_well_formed()
+    ensures { (nodes : List Node) (first end : ℕ) (proof : Proof) →
+        IsProofOf nodes first end proof → length nodes < 2 ^ 64 → total_size nodes < 2 ^ 64 → IsWellFormed proof }
+{}
+
+/// A range of a list has exactly one proof.
+pub fn one_range_proof()
+    ensures exists { (nodes : List Node) (first end : ℕ) → first < end → end ≤ length nodes →
+        (proof : Proof) × IsProofOf nodes first end proof }
+    ensures unique { (nodes : List Node) (first end : ℕ) (proof other : Proof) →
+        IsProofOf nodes first end proof → IsProofOf nodes first end other → proof ≡ other }
+{}
+
+/// A JSON value describes at most one range proof. So reading what `to_json` returns gives the same proof, unless an
+/// allocation fails.
+pub fn json_says_one_range_proof()
+    ensures { (json : Data) (a b : Proof) → Reads json a → Reads json b → a ≡ b }
+{
+    hex_text_tells_hashes_apart();
+}
+
+/// Counts and nodes are those of at most one range proof. So making a proof from what `to_flat` returns gives the same
+/// proof, unless an allocation fails.
+pub fn flat_lists_say_one_range_proof()
+    ensures { (counts : List (ℕ × ℕ)) (nodes : List Node) (a b : Proof) →
+        IsFlat counts nodes a → IsFlat counts nodes b → a ≡ b }
+{}
