@@ -1,5 +1,5 @@
 -- The flat form of a range proof, level by level.
-use Rattle.std.proofs.Common.{◌≡◌, ℕ, ◌+◌, List, [], ◌∷◌, ◌++◌, length, map, refl, sym, ap, ◌∙◌, arith, append_assoc, append-nil, length-append}
+use Rattle.std.proofs.Common.{◌≡◌, ℕ, List, [], ◌∷◌, ◌++◌, length, map, refl, sym, ap, ◌∙◌, arith, append_assoc, append-nil, length-append}
 use Rattle.xet_roots.specs.Groups.{Node}
 use Rattle.range_proof.specs.RangeProof.{Sides, Proof}
 use Rattle.range_proof.specs.FlatProof.{left_nodes, right_nodes, count_of, IsFlat}

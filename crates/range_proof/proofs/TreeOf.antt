@@ -1,8 +1,8 @@
 -- Hash trees: bounds of groups, levels from the chunks up, and the sides of a range on each of them.
-use Rattle.std.proofs.Common.{◌≡◌, ℕ, zero, suc, ◌+◌, ◌-◌, ◌^◌, ◌<◌, ◌≤◌, List, [], ◌∷◌, ◌++◌, length, get_or, map, take, drop, Option, Some, None, refl, sym, ap, subst, ◌∙◌, arith, append_assoc, append-nil, length-append, length-take, length-drop, inl, inr}
+use Rattle.std.proofs.Common.{◌≡◌, ℕ, zero, suc, ◌+◌, ◌-◌, ◌^◌, ◌<◌, ◌≤◌, List, [], ◌∷◌, ◌++◌, length, get_or, map, take, drop, refl, sym, ap, subst, ◌∙◌, arith, append_assoc, append-nil, length-append, length-take, length-drop, inl, inr}
 use Rattle.std.specs.Prelude.{sum_by}
 use Rattle.std.proofs.lemmas.Bool.{cases_lt}
-use Rattle.std.proofs.lemmas.List.{length-map, take-append-drop, take_all, take_at, drop_at, drop_all, drop_more, take-take, drop-take, drop-drop, take-map, drop-map, get_or-take, get_or-drop, get_or_at, nil_from_length}
+use Rattle.std.proofs.lemmas.List.{length-map, take-append-drop, take_at, drop_at, drop_all, drop_more, take-take, drop-take, drop-drop, take-map, drop-map, get_or-take, get_or-drop, get_or_at, nil_from_length}
 use Rattle.std.proofs.lemmas.List.Concat.{flat_map-append}
 use Rattle.std.proofs.lemmas.List.Sums.{sum_by-cons, sum_by_more, sum_by_push, sum_by-take-le}
 use Rattle.xet_hash.specs.Hash.{default_hash}
@@ -15,7 +15,7 @@ use Rattle.xet_roots.proofs.Roots.Making.{total_size-are_parents}
 use Rattle.range_proof.specs.Proving.{IsRangeOfBytes}
 use Rattle.range_proof.specs.RangeProof.{Sides, AreSides, IsProofOf, joined}
 use Rattle.range_proof.specs.RangeProof.AreSides.{one_node, beside}
-use Rattle.range_proof.specs.Steps.Places.{ArePlaces, AreSums, AreBounds}
+use Rattle.range_proof.specs.Steps.Places.{ArePlaces, AreBounds}
 use Rattle.range_proof.specs.Steps.Trees.{IsLevelKept, IsKept, IsTree, lowest, IsBeside, AreSidesOf}
 use Rattle.range_proof.proofs.PlacesOf.{AreSums-none, AreSums-push, sums_rise, sum_read, IsSearchable, searchable, IsPart, IsIn-from_part}
 

@@ -1,6 +1,6 @@
 -- The JSON form of a range proof, as data of the toolchain's `serde_json`, and the lowest of the rules 1 to 8 that a value
 -- breaks. Members with other names are ignored.
-use Rattle.std.specs.Prelude.{◌≡◌, ℕ, ◌^◌, ◌<◌, ◌≤◌, All, List, [], length, map, Option, Some, None, codes}
+use Rattle.std.specs.Prelude.{◌≡◌, ℕ, ◌^◌, ◌<◌, ◌≤◌, All, List, length, map, Some, None, codes}
 use Rattle.std.specs.List.{AllZip}
 use Rattle.serde_json.specs.Data.{Data, Members, array, object, no_members, member}
 use Rattle.serde_json.specs.Find.{get, as_object}

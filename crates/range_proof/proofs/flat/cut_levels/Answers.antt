@@ -1,7 +1,6 @@
 use Rattle.std.proofs.Common.{◌≡◌, ℕ, ◌+◌, ◌-◌, ◌≤◌, List, [], ◌∷◌, ◌++◌, length, get_or, map, take, drop, sym, ap, ◌∙◌, arith, rules, length-take}
 use Rattle.std.proofs.lemmas.List.{drop_more, take_more, take-append-drop, length-drop, map-append}
 use Rattle.std.proofs.lemmas.List.Sums.{sum_by-cons}
-use Rattle.xet_roots.specs.Groups.{Node}
 use Rattle.range_proof.specs.RangeProof.{Sides}
 use Rattle.range_proof.specs.FlatProof.{count_sum, count_of, left_nodes, right_nodes}
 use Rattle.range_proof.proofs.FlatOf.{flat_more}

@@ -1,4 +1,4 @@
-use Rattle.std.proofs.Common.{inl, inr, ◌<◌, ◌≤◌, ◌^◌, length, refl, arith}
+use Rattle.std.proofs.Common.{inl, inr, ◌<◌, ◌≤◌, ◌^◌, refl, arith}
 use Rattle.std.proofs.lemmas.Bool.{false≢true, cases_lt}
 use Rattle.std.proofs.lemmas.Bool.Decides.{nat_tests}
 use Rattle.range_proof.specs.RangeProof.{Proof, file_size_of}

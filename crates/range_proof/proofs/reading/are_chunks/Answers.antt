@@ -1,4 +1,4 @@
-use Rattle.std.proofs.Common.{◌≤◌, length, refl, sym, ◌∙◌, arith}
+use Rattle.std.proofs.Common.{length, refl, sym, ◌∙◌, arith}
 use Rattle.std.proofs.lemmas.Bool.{false≢true}
 use Rattle.std.proofs.lemmas.Bool.Decides.{Decides-eqb}
 use Rattle.range_proof.proofs.ReadingOf.{IsReadSoFar-none, IsReadSoFar-more, none_if_short, none_if_other, all_chunks, nothing_left}

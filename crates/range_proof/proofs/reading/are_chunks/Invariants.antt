@@ -1,4 +1,3 @@
-use Rattle.std.proofs.Common.{take}
 use Rattle.range_proof.proofs.ReadingOf.{IsReadSoFar}
 use Rattle.range_proof.proofs.reading.are_chunks.Given as goal
 

@@ -1,9 +1,8 @@
-use Rattle.std.proofs.Common.{◌≡◌, ◌<◌, ◌^◌, List, ap, sym, subst, ◌∙◌, refl, arith}
+use Rattle.std.proofs.Common.{ap, ◌∙◌, refl, arith}
 use Rattle.std.proofs.lemmas.List.{take_all}
 use Rattle.std.specs.Prelude.{sum_by}
 use Rattle.xet_roots.specs.Roots.{total_size}
-use Rattle.range_proof.specs.RangeProof.{Sides}
-use Rattle.range_proof.proofs.SidesOf.{AreSizes, AreSizes-more, left_size, both_sizes}
+use Rattle.range_proof.proofs.SidesOf.{AreSizes-more, left_size, both_sizes}
 use Rattle.range_proof.proofs.sides.sizes_beside.Goals as goal
 
 pub size_of_nodes-before-requires : goal.size_of_nodes-before-requires

@@ -1,6 +1,6 @@
-use Rattle.std.proofs.Common.{◌≡◌, ◌<◌, ◌^◌, List, [], ◌∷◌, ◌++◌, length, sym, ap, subst, ◌∙◌, arith, rules}
+use Rattle.std.proofs.Common.{◌≡◌, List, [], ◌∷◌, ◌++◌, length, sym, ap, subst, ◌∙◌, arith, rules}
 use Rattle.xet_roots.specs.Groups.{Node}
-use Rattle.xet_roots.specs.Roots.{total_size, parent}
+use Rattle.xet_roots.specs.Roots.{parent}
 use Rattle.xet_roots.specs.Steps.Scan.{AreParents}
 use Rattle.xet_roots.proofs.Roots.Making.{AreParents-few}
 use Rattle.range_proof.proofs.TreeOf.{IsGrown, IsGrown-none, IsGrown-more, IsGrown-all}

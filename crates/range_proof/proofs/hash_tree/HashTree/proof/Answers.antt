@@ -1,7 +1,7 @@
-use Rattle.std.proofs.Common.{◌≡◌, ◌+◌, ◌-◌, ◌<◌, ◌≤◌, ℕ, List, length, take, drop, sym, ap, subst, ◌∙◌, arith}
+use Rattle.std.proofs.Common.{◌≡◌, ◌+◌, ◌-◌, ℕ, List, take, drop, sym, ap, subst, ◌∙◌, arith}
 use Rattle.xet_roots.specs.Groups.{Node}
 use Rattle.xet_roots.specs.Roots.{total_size}
-use Rattle.range_proof.specs.RangeProof.{Proof, IsProofOf, offset_of}
+use Rattle.range_proof.specs.RangeProof.{Proof, IsProofOf}
 use Rattle.range_proof.specs.Proving.{Proves}
 use Rattle.range_proof.proofs.TreeOf.{IsProofOf-from}
 use Rattle.range_proof.proofs.hash_tree.HashTree.proof.Goals as goal

@@ -1,4 +1,4 @@
-use Rattle.std.proofs.Common.{◌≡◌, ◌+◌, List, [], ◌∷◌, ◌++◌, sym, ap, subst, ◌∙◌, arith, rules}
+use Rattle.std.proofs.Common.{◌≡◌, ◌+◌, List, [], ◌∷◌, ◌++◌, sym, subst, rules}
 use Rattle.xet_roots.specs.Groups.{Node}
 use Rattle.range_proof.specs.RangeProof.{Sides}
 use Rattle.range_proof.specs.Steps.Trees.{IsTree}

@@ -1,4 +1,4 @@
-use Rattle.std.proofs.Common.{inl, inr, List, map, refl, sym, subst, ◌∙◌}
+use Rattle.std.proofs.Common.{inl, inr, refl, sym, subst, ◌∙◌}
 use Rattle.std.proofs.lemmas.Bool.{false≢true}
 use Rattle.serde_json.specs.View.{view}
 use Rattle.xet_roots.proofs.Results.{passed_on}

@@ -1,9 +1,8 @@
 use Rattle.std.proofs.Common.{◌≡◌, ◌+◌, ◌<◌, ◌≤◌, ◌-◌, ℕ, List, length, get_or, take, drop, sym, ap, subst, ◌∙◌, arith}
 use Rattle.xet_roots.specs.Groups.{Node, Groups}
-use Rattle.range_proof.specs.RangeProof.{Sides}
 use Rattle.range_proof.specs.Steps.Trees.{IsBeside}
-use Rattle.range_proof.proofs.PlacesOf.{IsSearchable, IsPart}
-use Rattle.range_proof.proofs.TreeOf.{node_searchable, AreCuts, cuts, beside_of}
+use Rattle.range_proof.proofs.PlacesOf.{IsPart}
+use Rattle.range_proof.proofs.TreeOf.{node_searchable, cuts, beside_of}
 use Rattle.range_proof.proofs.tree_level.TreeLevel.beside.Goals as goal
 
 pub part_at-from-requires-clause-some : goal.part_at-from-requires-clause-some
