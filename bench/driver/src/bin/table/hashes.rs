@@ -1,9 +1,10 @@
 //! Hashes of chunks, and the hex texts of hashes.
 
-use driver::drawn::Cuts;
+use driver::drawn::{Cuts, Draws};
 use driver::plain;
 use driver::rows::{Row, Task, HEAD};
 use std::hint::black_box;
+use std::ops::Range;
 use yurewha::merklehash::{compute_data_hash, MerkleHash};
 use yurewha::own::Hasher;
 
@@ -21,6 +22,44 @@ const PEER: &str = if cfg!(feature = "portable") {
 
 const LENGTHS: [(&str, usize); 5] =
     [("64 B", 64), ("1 KiB", 1024), ("8 KiB", 8 << 10), ("64 KiB", 64 << 10), ("1 MiB", 1 << 20)];
+
+/// As much as no cache holds, in which the chunks of an upload follow each other.
+const COLD_BYTES: usize = 128 << 20;
+
+/// Where chunks begin and end that follow each other in so many bytes. Their lengths are those of the store: 8 KiB and a random
+/// number of bytes, 56 KiB on average and with exponential distribution, but at most 128 KiB in all.
+fn chunk_places(bytes: usize) -> Vec<Range<usize>> {
+    let mut draws = Draws::new(1);
+    let mut places = Vec::new();
+    let mut start = 0;
+    loop {
+        let unit = (draws.word() >> 11) as f64 / (1u64 << 53) as f64;
+        let length = (8 << 10) + (-(1.0 - unit).ln() * (56 << 10) as f64) as usize;
+        let end = start + length.min(128 << 10);
+        if end > bytes {
+            return places;
+        }
+        places.push(start..end);
+        start = end;
+    }
+}
+
+/// Hashes one message after another, and begins again after the last.
+fn in_turn<'a, T: 'a>(bytes: &'a [u8], places: &'a [Range<usize>], hash: fn(&[u8]) -> T) -> Task<'a> {
+    let mut turns = places.iter().cycle();
+    Task::call(move || hash(black_box(&bytes[turns.next().expect("there are messages").clone()])))
+}
+
+/// Hashes of the messages at some places, beside the crate `blake3`.
+fn print_in_turn(name: &str, bytes: &[u8], places: &[Range<usize>]) {
+    let row = Row {
+        name: format!("`compute_data_hash`, {name}"),
+        ours: in_turn(bytes, places, compute_data_hash),
+        peers: vec![(PEER, in_turn(bytes, places, plain::data_hash))],
+        tenfold: None,
+    };
+    row.print();
+}
 
 fn in_pieces(chunk: &[u8], length: usize) -> MerkleHash {
     let mut hasher = Hasher::new_data();
@@ -45,6 +84,11 @@ pub fn print_hashes() {
         };
         row.print();
     }
+    let cold: Vec<u8> = (0..COLD_BYTES).map(|i| (i % 251) as u8).collect();
+    let blocks: Vec<Range<usize>> = (0..COLD_BYTES).step_by(64 << 10).map(|start| start..start + (64 << 10)).collect();
+    print_in_turn("64 KiB, cold", &cold, &blocks);
+    print_in_turn("chunks, hot", &bytes, &chunk_places(bytes.len()));
+    print_in_turn("chunks, cold", &cold, &chunk_places(cold.len()));
     let message = &bytes[..];
     for (name, length) in [("100 B", 100), ("2 KiB", 2 << 10), ("16 KiB", 16 << 10), ("64 KiB", 64 << 10)] {
         assert_eq!(*in_pieces(message, length), plain::data_hash(message));

@@ -1,0 +1,54 @@
+/* Prints how the time of a hash depends on where the stack stands. One message of 64 KiB is hashed with the stack pointer at
+ * each of the 256 places of a page that are a multiple of 16 bytes: the least time of the turns of each, the worst place over the
+ * best, and the places that take more than 1.05 of the best. */
+#define _POSIX_C_SOURCE 200809L
+#include "yurewha.h"
+
+#include <alloca.h>
+#include <stdio.h>
+#include <time.h>
+
+enum { PLACES = 256, STEP = 16, TURNS = 40, LENGTH = 64 * 1024 };
+
+static uint8_t message[LENGTH];
+
+static double now(void)
+{
+    struct timespec time;
+    clock_gettime(CLOCK_THREAD_CPUTIME_ID, &time);
+    return (double)time.tv_sec * 1e9 + (double)time.tv_nsec;
+}
+
+/* The time of a hash after the stack was moved by so many bytes. */
+__attribute__((noinline)) static double time_at(size_t moved)
+{
+    volatile char *room = alloca(moved + 1);
+    yurewha_hash hash;
+    room[moved] = 1;
+    const double begun = now();
+    yurewha_data_hash(message, sizeof message, &hash);
+    return now() - begun;
+}
+
+int main(void)
+{
+    double least[PLACES], best = 1e12, worst = 0;
+    int slow = 0;
+    for (int i = 0; i < LENGTH; i++)
+        message[i] = (uint8_t)(i % 251);
+    for (int turn = 0; turn < TURNS; turn++)
+        for (int place = 0; place < PLACES; place++) {
+            const double time = time_at((size_t)place * STEP);
+            if (turn == 0 || time < least[place])
+                least[place] = time;
+        }
+    for (int place = 0; place < PLACES; place++) {
+        best = least[place] < best ? least[place] : best;
+        worst = least[place] > worst ? least[place] : worst;
+    }
+    for (int place = 0; place < PLACES; place++)
+        slow += least[place] > 1.05 * best;
+    printf("best %.1f us, worst %.1f us, ratio %.3f, places above 1.05: %d of %d\n", best / 1000, worst / 1000, worst / best, slow,
+           PLACES);
+    return 0;
+}
