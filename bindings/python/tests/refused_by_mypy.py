@@ -77,7 +77,7 @@ hash_ < None
 hash_ < bytes(32)
 hash_ % 1.5
 hash_ % hash_
-hash_.hex.upper()
+hash_.hex.strip()
 hash_.hex(":")
 hash_.base64(True)
 hash_.hexdigest()
@@ -134,7 +134,7 @@ y.Hashes.from_hex([7])
 y.Hashes.from_hex([bytes(64)])
 hashes.append(hash_)
 hashes.colour = 1
-hashes.hex().upper()
+hashes.hex().strip()
 hashes[0] = hash_
 hashes + [1]
 " ".join(hashes)
@@ -381,7 +381,7 @@ y.merge([tree, tree])
 y.Hash = y.Hashes
 y.InvalidJson()
 y.InvalidJson("5")
-y.InvalidJson(5).rule.upper()
+y.InvalidJson(5).rule.strip()
 y.SizeOverflow("").rule
 class MyHash(y.Hash): pass
 class MyHasher(y.Hasher): pass
