@@ -5,7 +5,7 @@ from __future__ import annotations
 import ctypes
 import threading
 from operator import index
-from typing import Callable, NoReturn, SupportsIndex, Tuple, Type, TypeVar, Union, final
+from typing import TYPE_CHECKING, Callable, NoReturn, SupportsIndex, Tuple, Type, TypeVar, Union, final
 
 from ._calls import memmove
 from ._declarations import LENGTHS
@@ -151,11 +151,13 @@ class Hash:
         _set_raw(self, raw)
         return self
 
-    def __setattr__(self, name: str, value: object) -> None:
-        raise AttributeError("a hash can't be changed")
+    if not TYPE_CHECKING:  # a type checker would let each name be set
 
-    def __delattr__(self, name: str) -> None:
-        raise AttributeError("a hash can't be changed")
+        def __setattr__(self, name: str, value: object) -> None:
+            raise AttributeError("a hash can't be changed")
+
+        def __delattr__(self, name: str) -> None:
+            raise AttributeError("a hash can't be changed")
 
     @staticmethod
     def from_bytes(data: BytesLike) -> Hash:

@@ -4,7 +4,7 @@ from __future__ import annotations
 
 import ctypes
 import re
-from typing import Dict, Iterable, Iterator, List, SupportsIndex, Tuple, Union, cast, final
+from typing import Dict, Iterable, Iterator, List, SupportsIndex, Union, cast, final
 
 from ._arrow_out import Capsules, capsules_of_hashes, schema_of_hashes
 from ._errors import InvalidArguments, InvalidText, error_of
@@ -12,15 +12,15 @@ from ._hash import PIECE, Hash, HashLike, Start, checked_bool, raw_of, whole_num
 from ._lent import Lent, is_read_only
 from ._library import LONG_BYTES, CHash, calls_for
 from ._packed import BYTE, HASH, WORD, Packed, block_or_items, checked_block, is_column
-from ._types import BytesLike
+from ._types import BytesLike, Texts
 
 __all__ = ["Hashes", "data_hashes"]
 
 #: What a call accepts as hashes.
 HashesLike = Union["Hashes", Iterable[HashLike], BytesLike]
 
-#: What a call accepts as a column of hex texts. It isn't each `Iterable`, since a `str` is one.
-HexTexts = Union[List[str], Tuple[str, ...], Iterator[str]]
+#: What a call accepts as a column of hex texts.
+HexTexts = Union[Texts, Iterator[str]]
 
 #: What a call accepts as offsets.
 OffsetsLike = Union[Iterable[SupportsIndex], BytesLike]
@@ -66,7 +66,7 @@ class Hashes(Packed[Hash]):
         raise TypeError("Hashes can't be subclassed")
 
     @staticmethod
-    def from_hex(texts: Iterable[str]) -> Hashes:
+    def from_hex(texts: HexTexts) -> Hashes:
         """Returns the hashes with these hex texts. `Hash.from_hex` says which texts are valid.
 
         Raises `InvalidText` with the index of the first invalid text.

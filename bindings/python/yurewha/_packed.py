@@ -4,7 +4,7 @@ from __future__ import annotations
 
 from array import array
 from operator import index
-from typing import Any, ClassVar, Iterable, Pattern, Sequence, Tuple, Type, TypeVar, Union, cast, overload
+from typing import TYPE_CHECKING, Any, ClassVar, Iterable, Pattern, Sequence, Tuple, Type, TypeVar, Union, cast, overload
 
 from ._arrow import block_of_array, block_of_stream
 from ._errors import InvalidArguments
@@ -102,11 +102,13 @@ class Packed(Sequence[_Item]):
         """Returns the item that begins at this byte of the block."""
         raise NotImplementedError
 
-    def __setattr__(self, name: str, value: object) -> None:
-        raise AttributeError(f"{type(self).__name__} can't be changed")
+    if not TYPE_CHECKING:  # as in `Hash`
 
-    def __delattr__(self, name: str) -> None:
-        raise AttributeError(f"{type(self).__name__} can't be changed")
+        def __setattr__(self, name: str, value: object) -> None:
+            raise AttributeError(f"{type(self).__name__} can't be changed")
+
+        def __delattr__(self, name: str) -> None:
+            raise AttributeError(f"{type(self).__name__} can't be changed")
 
     @property
     def packed(self) -> bytes:

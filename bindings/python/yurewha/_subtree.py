@@ -8,6 +8,7 @@ import struct
 from typing import (
     TYPE_CHECKING,
     Callable,
+    ClassVar,
     Iterable,
     List,
     NamedTuple,
@@ -38,7 +39,7 @@ from ._library import (
     short,
 )
 from ._picture import picture_of
-from ._types import BytesLike
+from ._types import BytesLike, Texts
 
 __all__ = ["Flat", "Subtree", "file_hash", "find_stable_end", "find_stable_start", "xorb_hash"]
 
@@ -148,7 +149,7 @@ class Subtree(Guarded):
 
     _handle: CSubtree
     # An instance is mutable, so it has no hash.
-    __hash__ = None  # type: ignore[assignment]
+    __hash__: ClassVar[None] = None  # type: ignore[assignment]
 
     if TYPE_CHECKING:
 
@@ -628,7 +629,7 @@ def sides_of(flat: Flat) -> List[Tuple[Chunks, Chunks]]:
     return list(zip(lefts, reversed(rights)))
 
 
-def svg_of(subtrees: Sequence[Subtree], captions: Sequence[str] = ()) -> str:
+def svg_of(subtrees: Sequence[Subtree], captions: Texts = ()) -> str:
     """Returns one picture of several subtrees, one below the other, each with its caption.
 
     Raises `InvalidArguments` if there are more captions than subtrees, and `TypeError` if a caption isn't a `str`.
@@ -654,7 +655,7 @@ def svg_of(subtrees: Sequence[Subtree], captions: Sequence[str] = ()) -> str:
 
 
 def write_svg(
-    path: Union[str, "os.PathLike[str]"], subtrees: Sequence[Subtree], captions: Sequence[str] = ()
+    path: Union[str, "os.PathLike[str]"], subtrees: Sequence[Subtree], captions: Texts = ()
 ) -> None:
     """Writes the picture of several subtrees to a file.
 

@@ -2,7 +2,7 @@
 
 from __future__ import annotations
 
-from typing import TYPE_CHECKING, Mapping, Union
+from typing import TYPE_CHECKING, Iterable, Iterator, Mapping, Union
 
 if TYPE_CHECKING:
     from _typeshed import ReadableBuffer
@@ -16,10 +16,19 @@ if TYPE_CHECKING:
 
         def tobytes(self) -> bytes: ...
 
+    class Texts(Protocol):
+        """A list of texts, or any other collection of them. A `str` doesn't pass for one, as it would for an `Iterable[str]`,
+        because its `in` takes nothing but a `str`."""
+
+        def __contains__(self, item: object) -> bool: ...
+
+        def __iter__(self) -> Iterator[str]: ...
+
     #: Anything with the buffer protocol: `bytes`, `bytearray`, `memoryview`, `mmap.mmap`, `array.array`, NumPy arrays.
     BytesLike = Union[ReadableBuffer, Array]
 else:
     BytesLike = Union[bytes, bytearray, memoryview]
+    Texts = Iterable[str]
 
 
 def view_of(data: object) -> memoryview:

@@ -40,7 +40,7 @@
 //! - **Threads** that read one [`MerkleHashSubtree`](merklehash::MerkleHashSubtree) or [`Session`](own::Session) at
 //!   once take turns. Give each thread a clone if that is too slow.
 //! - **Errors.** [`CoreError`](error::CoreError) has the variants that these calls return, with its own texts.
-//! - **Targets** are Linux with glibc, on x86-64 and aarch64.
+//! - **Targets** are Linux on x86-64 and aarch64, with glibc or musl.
 //!
 //! The table "In the crate `yurewha`" of `docs/DIFFERENCES.md`, in the repository, lists the rest.
 

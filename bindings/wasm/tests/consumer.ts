@@ -129,12 +129,32 @@ export async function refused(): Promise<void> {
     y.xorbHash(hash);
     // @ts-expect-error a clone of a list isn't a list
     y.xorbHash({ bytes: chunks.bytes });
+    // @ts-expect-error the hash is a Hash, not its bytes
+    y.xorbHash([[data, 1]]);
+    // @ts-expect-error a chunk is a pair
+    y.xorbHash([{ hash, size: 1 }]);
+    // @ts-expect-error hashes have no sizes
+    y.xorbHash([hash]);
+    // @ts-expect-error a range isn't a list
+    y.xorbHash(whole);
+    // @ts-expect-error a list comes later
+    y.xorbHash(Promise.resolve(pairs));
+    // @ts-expect-error a root has no salt
+    y.xorbHash(pairs, data);
+    // @ts-expect-error there may be no stable point
+    y.findStableEnd(chunks).toFixed();
     // @ts-expect-error a list has to be given
     y.fileHash();
     // @ts-expect-error a salt isn't a hash
     y.fileHash(pairs, hash);
     // @ts-expect-error a salt isn't a text
     whole.fileHash("salt");
+    // @ts-expect-error without a salt the argument is left out
+    y.fileHash(pairs, null);
+    // @ts-expect-error a salt isn't an array
+    y.fileHash(pairs, [1, 2]);
+    // @ts-expect-error the salt comes last
+    y.fileHash(data, pairs);
     // @ts-expect-error there may be no file hash
     whole.fileHash().hex();
     // @ts-expect-error there may be no root
@@ -149,40 +169,98 @@ export async function refused(): Promise<void> {
     hash.bytes = new Uint8Array(32);
     // @ts-expect-error hex is a call
     const hex: string = hash.hex;
+    // @ts-expect-error bytes aren't a call
+    hash.bytes();
+    // @ts-expect-error a hash has no words
+    hash.words;
+    // @ts-expect-error a hash has no items
+    hash[0];
+    // @ts-expect-error hashes can't be added
+    hash + other;
+    // @ts-expect-error a hash isn't compared with a text
+    hash.equals(texts[0]!);
+    // @ts-expect-error an order isn't true or false
+    const less: boolean = hash.compare(other);
+    // @ts-expect-error a remainder is a BigInt
+    const four: number = hash.remainder(4);
     // @ts-expect-error a hash is made of bytes, not of its text
     new y.Hash("00");
     // @ts-expect-error a text isn't made of bytes
     y.Hash.fromHex(data);
     // @ts-expect-error a seed is a number
     y.Hash.randomFromSeed("1");
+    // @ts-expect-error a class is called by new
+    y.Hash();
+    // @ts-expect-error a hash is made of bytes
+    new y.Hash(hash);
+    // @ts-expect-error a hash isn't a text
+    y.Hash.fromHex(hash);
+    // @ts-expect-error base64 is a text
+    y.Hash.fromBase64(data);
     // @ts-expect-error the bytes are those of a Uint8Array
     y.dataHash([1, 2]);
     // @ts-expect-error a text has no bytes yet
     y.dataHash("abc");
+    // @ts-expect-error a buffer is no Uint8Array
+    y.dataHash(data.buffer);
+    // @ts-expect-error there has to be data
+    y.dataHash(undefined);
+    // @ts-expect-error the data of chunks isn't their list
+    y.dataHash(chunks);
     // @ts-expect-error the offsets are many
     y.dataHashes(data, 3);
     // @ts-expect-error an offset is a number
     y.dataHashes(data, ["0"]);
     // @ts-expect-error the offsets have to be given
     y.dataHashes(data);
+    // @ts-expect-error an offset is a number, not null
+    y.dataHashes(data, [0, null]);
+    // @ts-expect-error hashes come one by one
+    y.dataHashes(data, [0, 7]).hex();
     // @ts-expect-error a stream is of bytes
     await y.hashStream(["text"]);
+    // @ts-expect-error one piece isn't a stream
+    await y.hashStream(data);
+    // @ts-expect-error a stream of texts
+    await y.hashStream(new ReadableStream<string>());
     // @ts-expect-error a hash comes later
     y.hashStream([data]).hex();
     // @ts-expect-error there may be no chunk
     chunks.at(0)[0];
     // @ts-expect-error an index is a Number
     chunks.at(0n);
+    // @ts-expect-error a list has no items by brackets
+    chunks[0];
+    // @ts-expect-error a list can't be changed
+    chunks.push([hash, 1]);
+    // @ts-expect-error an end is a Number
+    chunks.slice(0, 1n);
+    // @ts-expect-error a chunk isn't a hash
+    for (const it of chunks) it.hex();
+    // @ts-expect-error a size is a BigInt
+    for (const [, bytes] of chunks) bytes.toFixed();
     // @ts-expect-error a list has no length to set
     chunks.length = 3;
     // @ts-expect-error packed chunks are bytes
     new y.Chunks(pairs);
+    // @ts-expect-error a chunk has two members
+    y.Chunks.from([[hash, 1, 2]]);
+    // @ts-expect-error pairs aren't their text
+    y.Chunks.fromJSON("[]");
     // @ts-expect-error a size is a text here
     y.Chunks.fromJSON([["00", 7]]);
     // @ts-expect-error a hasher takes bytes
     hasher.update("abc");
     // @ts-expect-error a key is bytes
     y.Hasher.keyed(hash);
+    // @ts-expect-error a hasher is made without data
+    new y.Hasher(data);
+    // @ts-expect-error a digest is a Hash
+    hasher.digest("hex");
+    // @ts-expect-error the hash so far isn't a call
+    hasher.hash();
+    // @ts-expect-error a length can't be set
+    hasher.count = 0n;
     // @ts-expect-error a Subtree is made by its calls
     new y.Subtree();
     // @ts-expect-error a mark is true or false
@@ -193,10 +271,32 @@ export async function refused(): Promise<void> {
     y.Subtree.merge(front, back);
     // @ts-expect-error a range isn't its text
     front.mergeInto(back.toJSON());
+    // @ts-expect-error a list isn't a range
+    y.Subtree.merge([front, chunks]);
+    // @ts-expect-error a session isn't a range
+    front.mergeInto(session);
+    // @ts-expect-error parents are counted
+    front.mergeInto(back).finalHash();
+    // @ts-expect-error an object isn't a text
+    y.Subtree.fromJSON(flat);
+    // @ts-expect-error flat lists aren't a range
+    front.equals(flat);
+    // @ts-expect-error there may be no root
+    const ended: Hash = whole.finalHash();
+    // @ts-expect-error a size is a BigInt
+    const sum: number = whole.totalSize;
+    // @ts-expect-error a mark can't be set
+    whole.atStart = true;
+    // @ts-expect-error nodes can't be set
+    whole.nodes = chunks;
+    // @ts-expect-error flat lists can't be changed
+    whole.toFlat().atEnd = true;
     // @ts-expect-error flat lists have nodes
     y.Subtree.fromFlat({ atStart: true, levels: [[0, 0]], atEnd: true });
     // @ts-expect-error a level is two counts
     y.Subtree.fromFlat({ ...flat, levels: [[1]] });
+    // @ts-expect-error flat lists have names
+    y.Subtree.fromFlat([true, [], [], true]);
     // @ts-expect-error the number of nodes can't be set
     front.numNodes = 3;
     // @ts-expect-error there may be no run
@@ -205,22 +305,62 @@ export async function refused(): Promise<void> {
     session.put(chunks);
     // @ts-expect-error a run has an end
     session.pushRun(0, run);
+    // @ts-expect-error a run has no names
+    session.run(0).first;
+    // @ts-expect-error a run has three members
+    session.run(0)[3];
+    // @ts-expect-error there may be no run
+    const [low, high, part] = session.runFrom(0);
+    // @ts-expect-error there may be no run
+    session.pushRun(...session.runFrom(0));
+    // @ts-expect-error chunks aren't a range
+    session.pushRun(0, 1, chunks);
+    // @ts-expect-error positions are BigInts
+    const holes: number[][] = session.gaps(7);
+    // @ts-expect-error a session is no list
+    for (const it of session) void it;
+    // @ts-expect-error hashes have no sizes
+    session.put(0, [hash]);
+    // @ts-expect-error a position is a number
+    session.taken("0");
+    // @ts-expect-error a count is a BigInt
+    session.numChunks + 1;
+    // @ts-expect-error a count can't be set
+    session.numChunks = 7n;
     // @ts-expect-error hashes are many
     session.keepHashes(hash);
+    // @ts-expect-error hashes aren't their texts
+    session.keepHashes([hash.hex()]);
+    // @ts-expect-error hashes aren't packed
+    session.knownHashes().bytes;
     // @ts-expect-error a total is a number
     session.finish("2");
     // @ts-expect-error a salt is bytes
     session.finish(2, "salt");
+    // @ts-expect-error a salt isn't a hash
+    session.finish(2, hash);
+    // @ts-expect-error a root has no salt
+    session.root(2, data);
     // @ts-expect-error a session isn't made of its form by new
     new y.Session(form);
     // @ts-expect-error a form has known hashes
     y.Session.restore({ runs: [] });
+    // @ts-expect-error a form isn't its JSON
+    y.Session.restore(JSON.stringify(form));
+    // @ts-expect-error positions in a form are texts
+    y.Session.restore({ runs: [[0, 1, "{}"]], knownHashes: [] });
+    // @ts-expect-error a form can't be changed
+    form.knownHashes[0] = "00";
     // @ts-expect-error the package comes later
     load().dataHash(data);
     // @ts-expect-error the module isn't a number
     await load(5);
     // @ts-expect-error the rule of another error
     new SizeOverflow("").rule;
+    // @ts-expect-error an error's text is a text
+    new SessionGap(7);
+    // @ts-expect-error another error has no rule
+    const broken: typeof InvalidJson = SizeOverflow;
     // @ts-expect-error a class of the instance can't be replaced
     y.Hash = y.Hash;
     void hex;

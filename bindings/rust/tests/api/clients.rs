@@ -3,12 +3,16 @@
 
 use yurewha as xet_core_structures;
 
+use std::collections::hash_map::Entry;
 use std::collections::{BTreeMap, BTreeSet, HashMap, HashSet};
 use std::error::Error;
-use std::fmt::Display;
+use std::fmt::{self, Display};
+use std::fs::{self, File};
 use std::hash::{BuildHasher, Hash, Hasher};
 use std::io::{self, BufWriter, Cursor, Read, Seek, SeekFrom, Write};
-use std::thread;
+use std::path::{Path, PathBuf};
+use std::sync::{mpsc, Arc};
+use std::{env, process, thread};
 use xet_core_structures::error::{CoreError, Result};
 use xet_core_structures::merklehash::passthrough_hasher::{U64DirectHasher, U64HashExtractable};
 use xet_core_structures::merklehash::*;
@@ -159,6 +163,45 @@ mod hashes {
         Ok(u64::from_str_radix(line.get(..16).unwrap_or("short"), 16)?)
     }
 
+    struct Tag(String);
+
+    impl From<DataHash> for Tag {
+        fn from(hash: DataHash) -> Tag {
+            Tag(hash.base64())
+        }
+    }
+
+    impl PartialEq<DataHash> for Tag {
+        fn eq(&self, hash: &DataHash) -> bool {
+            self.0 == hash.base64()
+        }
+    }
+
+    trait ObjectPath: Display {
+        fn object_path(&self, root: &Path) -> PathBuf {
+            let name = self.to_string();
+            root.join(&name[..2]).join(&name[2..])
+        }
+    }
+
+    impl ObjectPath for MerkleHash {}
+
+    trait Checksum: AsRef<[u8]> {
+        fn checksum(&self) -> u32 {
+            self.as_ref().iter().map(|byte| u32::from(*byte)).sum()
+        }
+    }
+
+    impl<T: AsRef<[u8]>> Checksum for T {}
+
+    #[test]
+    fn give_a_hash_traits_of_ones_own() {
+        let hash = MerkleHash::random_from_seed(1);
+        assert!(Tag::from(hash) == hash);
+        assert!(hash.object_path(Path::new("store")).starts_with("store/cf"));
+        assert_eq!(MerkleHash::from([0x0102, 0, 0, 3]).checksum(), 6);
+    }
+
     #[test]
     fn pass_errors_on() {
         let read = |line: &str| -> std::result::Result<u64, Failure> {
@@ -168,6 +211,16 @@ mod hashes {
         assert_eq!(read(&"1".repeat(64)).unwrap(), 0x1111_1111_1111_1111);
         assert!(!read("no hash").unwrap_err().to_string().is_empty());
         assert!(first_word("").is_err());
+    }
+
+    #[cfg(feature = "serde")]
+    #[test]
+    fn write_a_borrowed_hash() -> std::result::Result<(), serde_json::Error> {
+        #[derive(serde::Serialize)]
+        struct Line<'a>(#[serde(with = "hex::serde")] &'a MerkleHash);
+        let hash = MerkleHash::marker();
+        assert_eq!(serde_json::to_string(&Line(&hash))?, format!("\"{hash}\""));
+        Ok(())
     }
 }
 
@@ -181,6 +234,47 @@ mod writing {
         io::copy(&mut &data[..], &mut writer)?;
         assert_eq!(writer.hash(), compute_data_hash(&data));
         assert_eq!(writer.into_inner(), data);
+        Ok(())
+    }
+
+    #[test]
+    fn hash_a_file_as_it_is_written() -> io::Result<()> {
+        let path = env::temp_dir().join(format!("yurewha-client-{}", process::id()));
+        let file = File::options().read(true).write(true).create_new(true).open(&path)?;
+        fs::remove_file(&path)?;
+        let mut writer = HashedWrite::new(file);
+        ["a", "", "bc"]
+            .iter()
+            .try_for_each(|part| writer.write_all(part.as_bytes()))?;
+        writer.flush()?;
+        let (hash, mut file, mut read) = (writer.hash(), writer.into_inner(), Vec::new());
+        file.seek(SeekFrom::Start(0))?;
+        file.read_to_end(&mut read)?;
+        assert_eq!((compute_data_hash(&read), &read[..]), (hash, &b"abc"[..]));
+        Ok(())
+    }
+
+    struct Upload<W: Write> {
+        body: HashedWrite<W>,
+    }
+
+    impl<W: Write> Upload<W> {
+        fn finish(self) -> (MerkleHash, W) {
+            (self.body.hash(), self.body.into_inner())
+        }
+    }
+
+    #[test]
+    fn hash_what_goes_to_any_writer() -> io::Result<()> {
+        let mut upload = Upload {
+            body: HashedWrite::new(HashedWrite::new(Vec::new())),
+        };
+        let writer: &mut dyn Write = &mut upload.body;
+        writeln!(writer, "a line")?;
+        let (hash, inner) = upload.finish();
+        assert_eq!((hash, hash), (inner.hash(), compute_data_hash(&inner.into_inner())));
+        let mut boxed: Box<dyn Write + Send> = Box::new(HashedWrite::new(io::sink()));
+        assert_eq!(boxed.write(b"abc")?, 3);
         Ok(())
     }
 
@@ -289,6 +383,83 @@ mod subtrees {
         assert_eq!(format!("{last:?}"), format!("{:?}", ranges[2]));
     }
 
+    #[derive(Debug)]
+    enum Refused {
+        Ranges(CoreError),
+        Name(DataHashHexParseError),
+    }
+
+    impl Display for Refused {
+        fn fmt(&self, f: &mut fmt::Formatter<'_>) -> fmt::Result {
+            match self {
+                Refused::Ranges(error) => write!(f, "ranges: {error}"),
+                Refused::Name(error) => write!(f, "name: {error}"),
+            }
+        }
+    }
+
+    impl Error for Refused {
+        fn source(&self) -> Option<&(dyn Error + 'static)> {
+            match self {
+                Refused::Ranges(error) => Some(error),
+                Refused::Name(error) => Some(error),
+            }
+        }
+    }
+
+    impl From<CoreError> for Refused {
+        fn from(error: CoreError) -> Refused {
+            Refused::Ranges(error)
+        }
+    }
+
+    impl From<DataHashHexParseError> for Refused {
+        fn from(error: DataHashHexParseError) -> Refused {
+            Refused::Name(error)
+        }
+    }
+
+    fn check(ranges: &[MerkleHashSubtree], name: &str) -> std::result::Result<bool, Refused> {
+        let wanted = MerkleHash::from_hex(name)?;
+        Ok(MerkleHashSubtree::merge(ranges)?.final_hash() == Some(wanted))
+    }
+
+    #[test]
+    fn pass_errors_on_as_ones_own() {
+        let ranges = parts(&chunks(0..60), 20);
+        assert!(check(&ranges, &xorb_hash(&chunks(0..60)).hex()).unwrap());
+        let name = check(&ranges, "no name").unwrap_err();
+        assert!(matches!(&name, Refused::Name(_)) && name.source().is_some());
+        let marks = check(&ranges[1..], &"0".repeat(64));
+        assert!(!marks.unwrap());
+        let twice = check(&[ranges[2].clone(), ranges[2].clone()], &"0".repeat(64)).unwrap_err();
+        assert!(twice.source().unwrap().is::<CoreError>() && twice.to_string().len() > "ranges: ".len());
+    }
+
+    #[test]
+    fn send_ranges_over_a_channel() {
+        let chunks = chunks(0..400);
+        let (sender, receiver) = mpsc::channel();
+        thread::scope(|scope| {
+            for (place, part) in chunks.chunks(100).enumerate() {
+                let sender = sender.clone();
+                scope.spawn(move || {
+                    let range = MerkleHashSubtree::from_chunks(place == 0, part, place == 3);
+                    sender.send((place, range)).unwrap();
+                });
+            }
+        });
+        drop(sender);
+        let ranges: BTreeMap<usize, MerkleHashSubtree> = receiver.into_iter().collect();
+        let whole = MerkleHashSubtree::merge(&ranges.into_values().collect::<Vec<_>>()).unwrap();
+        let shared = Arc::new(whole);
+        let reader = thread::spawn({
+            let shared = Arc::clone(&shared);
+            move || shared.final_hash()
+        });
+        assert_eq!(reader.join().unwrap(), Some(xorb_hash(&chunks)));
+    }
+
     #[test]
     fn find_where_groups_end_for_sure() {
         let chunks = chunks(0..200);
@@ -365,6 +536,46 @@ mod maps {
         let mut map: HashMap<u64, &str, U64DirectHasher<u64>> = HashMap::with_hasher(Default::default());
         map.insert(7, "seven");
         assert_eq!((map[&7], map.hasher().hash_one(9_u64)), ("seven", 9));
+    }
+
+    #[test]
+    fn keep_a_set_of_keys() {
+        let mut seen: HashSet<MerkleHash, U64DirectHasher<MerkleHash>> = HashSet::default();
+        assert!(chunks(0..10).iter().all(|(hash, _)| seen.insert(*hash)));
+        assert!(!seen.insert(MerkleHash::random_from_seed(9)));
+    }
+
+    #[derive(Clone, Debug, Default)]
+    struct Index {
+        places: PassThroughHashMap<MerkleHash, Vec<usize>>,
+    }
+
+    impl Index {
+        // Whether the hash is new.
+        fn add(&mut self, hash: MerkleHash, place: usize) -> bool {
+            match self.places.entry(hash) {
+                Entry::Occupied(mut places) => {
+                    places.get_mut().push(place);
+                    false
+                }
+                Entry::Vacant(places) => {
+                    places.insert(vec![place]);
+                    true
+                }
+            }
+        }
+    }
+
+    #[test]
+    fn keep_a_map_in_a_type_of_ones_own() {
+        let mut index = Index::default();
+        let fresh = (0..10).filter(|place| index.add(MerkleHash::random_from_seed(*place as u64 % 4), *place));
+        assert_eq!(fresh.count(), 4);
+        let copy = index.clone();
+        index.places.remove(&MerkleHash::random_from_seed(0));
+        assert_eq!((index.places.len(), copy.places.len()), (3, 4));
+        assert_eq!(copy.places[&MerkleHash::random_from_seed(1)], [1, 5, 9]);
+        assert!(format!("{index:?}").starts_with("Index"));
     }
 
     #[derive(Clone, PartialEq, Eq, Debug)]

@@ -1,0 +1,126 @@
+"""What `mypy --strict` accepts. It is checked, and never run."""
+
+import array
+import json
+import mmap
+import pathlib
+import pickle
+from typing import Collection, Dict, Iterator, List, Optional, Sequence, Set, Tuple, Union
+
+import yurewha as y
+
+# Hashing bytes.
+data: Union[bytes, bytearray] = bytearray(b"abc")
+root: y.Hash = y.data_hash(data)
+root = y.data_hash(bytearray(), nobody_writes=True)
+root = y.data_hash(array.array("Q"))
+hashes: y.Hashes = y.data_hashes(b"abc", [0, 3])
+hashes = y.data_hashes(b"abc", array.array("q", [0, 3])) + hashes[:1]
+hashes = y.data_hashes(memoryview(b"abc"), range(0, 4), nobody_writes=True)
+hashes = y.hash_chunks("data", [0, 3])
+hashes = y.hash_chunks(pathlib.Path("data"), array.array("q", [0, 3]), progress=lambda done, total: print(done / total))
+hashes = y.hash_chunks(b"data", range(3), progress=None)
+
+# Hashes and hashers.
+names: Dict[y.Hash, str] = {root: "abc", y.Hash(): "none", y.Hash(memoryview(bytes(32))): "zeros"}
+ordered: List[y.Hash] = sorted(names)
+least: y.Hash = min(names, key=lambda hash_: hash_ % 4)
+word, second, third, fourth = y.Hash.random_from_seed(1).words
+text: str = f"{least:.16} {least!r}" + str(least) + root.hex() + y.Hasher(b"a").hexdigest()
+message: bytes = bytes(least) + root.bytes + y.Hasher.internal_node(b"a").copy().digest()
+
+# Chunks and columns.
+one: Tuple[y.Hash, int] = (y.Hash.random_from_seed(1), 100)
+mixed: List[Tuple[bytes, int]] = [(bytes(32), 1)]
+parts: Iterator[Tuple[y.Hash, int]] = ((y.data_hash(part), len(part)) for part in (b"a", b"bc"))
+packed: y.Chunks = y.Chunks([one])
+packed = y.Chunks(mixed)
+packed = y.Chunks([(root, 1), (bytes(32), 2)])
+packed = y.Chunks(parts) + [(least, 7)]
+first: Tuple[y.Hash, int] = packed[0]
+some: y.Chunks = packed[1:]
+backwards: Sequence[Tuple[y.Hash, int]] = packed[::-1]
+total: int = sum(size for _, size in packed) + sum(packed.sizes)
+found: bool = (least, 7) in packed and least in packed.hashes and packed.index((least, 7)) >= 0
+root = hashes[0]
+texts: List[str] = hashes.hex()
+several: Sequence[str] = texts
+collected: Collection[str] = set(texts)
+hashes = y.Hashes.from_hex(texts)
+hashes = y.Hashes.from_hex(several)
+hashes = y.Hashes.from_hex(collected)
+hashes = y.Hashes.from_hex(text for text in texts)
+packed = y.Chunks.from_columns(hashes, packed.sizes)
+packed = y.Chunks.from_columns([root, bytes(32)], [1, 2])
+packed = y.Chunks.from_columns(texts, [1, 2])
+packed = y.Chunks.from_columns(several, array.array("I", [1, 2]))
+packed = y.Chunks.from_columns(iter(texts), array.array("q", [1, 2]))
+table: str = packed._repr_html_()
+schema: object = packed.__arrow_c_schema__()
+capsules: Tuple[object, object] = hashes.__arrow_c_array__(requested_schema=schema)
+json.dumps({"root": root}, default=y.Hash.hex)
+
+# Roots.
+root = y.xorb_hash([one, one])
+root = y.xorb_hash(pair for pair in [one])
+root = y.xorb_hash(mmap.mmap(-1, 40))
+root = y.file_hash(packed.packed, salt=bytes(32))
+for view in (memoryview(b""), memoryview(bytearray())):
+    root = y.data_hash(view)
+    root = y.xorb_hash(view)
+point: Optional[int] = y.find_stable_start(packed)
+
+# Subtrees.
+tree: y.Subtree = y.Subtree.from_chunks(True, [one], False)
+tree = y.Subtree.from_chunks(at_start=True, chunks=packed, at_end=False) + y.Subtree.from_chunks(False, (), True)
+tree += y.Subtree.from_chunks(False, packed, True)
+tree = y.Subtree.merge_all(iter([tree]))
+tree = y.Subtree.from_json(tree.to_json().encode())
+tree = y.Subtree.from_flat(True, [[1, 0]], [one], False)
+tree = y.Subtree.from_flat(*tree.to_flat())
+tree = pickle.loads(pickle.dumps(tree))
+final: Optional[y.Hash] = tree.final_hash()
+if final is not None:
+    names[final] = final.hex()
+hashed: Optional[y.Hash] = tree.file_hash(salt=memoryview(bytes(32)))
+parents: int = tree.copy().merge_counted(y.Subtree.from_chunks(False, [], False))
+lefts: List[int] = [left for left, right in tree.levels]
+sides: Tuple[y.Chunks, y.Chunks] = (tree.left(0), tree.right(0))
+tree.write_svg(pathlib.Path("a.svg"), caption="a")
+text = y.svg_of([tree], texts) + y.svg_of([tree], several) + y.svg_of((tree,), ("a",))
+y.write_svg("b.svg", (tree, tree), captions=[f"part {number}" for number in range(2)])
+
+# Sessions.
+session = y.Session()
+new: int = session.put(0, packed)
+try:
+    new = session.put(first=3, chunks=packed)
+except (y.SessionOverlap, y.SessionPositions, y.SessionSizes, y.OutOfMemory) as error:
+    text = str(error)
+except y.InvalidJson as broken:
+    rule: int = broken.rule
+runs: Sequence[Tuple[int, y.Subtree]] = session.runs()
+ends: List[int] = [one_run.end for one_run in session.runs()]
+one_run: y.Run = session.run(0)
+start, subtree = one_run
+start = one_run.first + one_run.end + session.num_chunks + session.total_size
+for position, part in session:
+    tree = tree + part
+for each in session:
+    tree = tree + each.subtree
+trees: Dict[int, y.Subtree] = dict(session)
+gaps: List[range] = session.gaps(7)
+missing: int = sum(len(gap) for gap in gaps)
+root = session.finish(7, bytearray(32))
+root = session.finish(total=3, salt=None) if session.taken(0) else session.root(3)
+session = y.Session.from_json(session.to_json())
+session = y.Session.from_json(session.to_json().encode())
+run: Optional[Tuple[int, int, y.Subtree]] = session.run_from(0)
+if run is not None:
+    session.push_run(*run)
+for each in session.runs():
+    session.push_run(each.first, each.end, each.subtree)
+session.keep_hashes(session.known_hashes())
+session.keep_hashes(session.known_hashes().packed)
+session.keep_hashes([y.Hash(), bytes(32)])
+known: Set[y.Hash] = set(session.known_hashes())
