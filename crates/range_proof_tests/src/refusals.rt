@@ -59,6 +59,7 @@ const CALLS: [Call; 9] = [
 ];
 
 // A list of chunks, and its hashes.
+#[derive(Clone, Copy)]
 struct Chunks<'a> {
     memory: Global,
     nodes: &'a [Node],
