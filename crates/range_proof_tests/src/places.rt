@@ -1,0 +1,44 @@
+//! Calls on hash trees: where chunks are, and the hashes of their list.
+
+use crate::read::{list, range_of_list};
+use anyhow::Result;
+use range_proof::HashTree;
+use std::alloc::Global;
+
+/// Makes a call. Returns `None` if there is none of this name.
+pub fn answer(alloc: Global, name: &str, arguments: &str) -> Result<Option<String>> {
+    let text = match name {
+        "chunks_at" => chunks_at(alloc, arguments)?,
+        "bytes_of" => bytes_of(alloc, arguments)?,
+        "tree_hashes" => hashes(alloc, arguments)?,
+        _ => return Ok(None),
+    };
+    Ok(Some(text))
+}
+
+// Returns two numbers, or `none`.
+fn told_pair(alloc: Global, pair: Option<(u64, u64)>) -> Result<String> {
+    match pair {
+        Some((first, end)) => Ok(format!(in alloc; "{first} {end}")?),
+        None => Ok(String::from_str(alloc, "none")?),
+    }
+}
+
+fn chunks_at(alloc: Global, arguments: &str) -> Result<String> {
+    let ((from, to), chunks) = range_of_list(alloc, arguments)?;
+    let range = HashTree::from_chunks(alloc, &chunks)?.chunks_at(from, to);
+    told_pair(alloc, range.map(|(first, end)| (first as u64, end as u64)))
+}
+
+fn bytes_of(alloc: Global, arguments: &str) -> Result<String> {
+    let ((first, end), chunks) = range_of_list(alloc, arguments)?;
+    let tree = HashTree::from_chunks(alloc, &chunks)?;
+    told_pair(alloc, tree.bytes_of(first as usize, end as usize))
+}
+
+// Returns the root and the file hash without a salt that a tree gives, and the size of the file.
+fn hashes(alloc: Global, arguments: &str) -> Result<String> {
+    let tree = HashTree::from_chunks(alloc, &list(alloc, arguments)?)?;
+    let (root, file_hash) = (tree.root(), tree.file_hash(&[0; 32]));
+    Ok(format!(in alloc; "{root} {file_hash} {}", tree.total_size())?)
+}
