@@ -58,7 +58,10 @@ fn refused_values(alloc: Global, subtree: &MerkleHashSubtree) -> Result<usize, F
 
 #[test]
 fn subtrees_go_to_json(rt: HostRuntime) -> Result<(), Fail> {
-    let chunks = [1, 2, 3].map(|seed| (DataHash::random_from_seed(seed), 100 * seed));
+    let chunks = [(1, 100), (2, 200), (3, 300)].map(|(seed, size)| (
+        DataHash::random_from_seed(seed),
+        size,
+    ));
     let subtree = MerkleHashSubtree::from_chunks(rt.alloc(), true, &chunks, false)?;
     let empty = MerkleHashSubtree::from_chunks(rt.alloc(), true, &[], true)?;
     let (few, more) = (
