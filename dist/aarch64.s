@@ -1,5 +1,5 @@
 /* Yurewha 1.1.0 for aarch64: the proved library, as the toolchain compiles it. Made by dist/make, not by hand.
-   The sum of its sources: 628a67294c1db3193309cf6d608043badbacf0491a7d6192916e970cd5c7cc18 */
+   The sum of its sources: e212cbfde0728c79f063885784d8c49cef991affba10333209582635836cbb6a */
 	.section	".text.core::str::utf8::from_utf8","ax",@progbits
 	.p2align	2
 	.type	"core::str::utf8::from_utf8",@function

@@ -1,5 +1,5 @@
 /* Yurewha 1.1.0 for x86-64-v3: the proved library, as the toolchain compiles it. Made by dist/make, not by hand.
-   The sum of its sources: 628a67294c1db3193309cf6d608043badbacf0491a7d6192916e970cd5c7cc18 */
+   The sum of its sources: e212cbfde0728c79f063885784d8c49cef991affba10333209582635836cbb6a */
 	.section	.note.gnu.property,"a",@note
 	.p2align	3, 0x0
 	.long	4, 16, 5
