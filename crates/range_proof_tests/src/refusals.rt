@@ -86,10 +86,10 @@ fn proof<'a>(
 }
 
 // Returns how a call ended that should return a proof.
-fn proof_outcome(
+fn proof_outcome<'a>(
     alloc: &Refusing,
-    answer: Result<RangeProof<&Refusing>, CoreError>,
-    expected: &RangeProof<&Refusing>,
+    answer: Result<RangeProof<&'a Refusing>, CoreError>,
+    expected: &RangeProof<&'a Refusing>,
 ) -> Outcome {
     match answer {
         Ok(proof) => outcome_of(alloc, Ok(proof == *expected)),
@@ -98,10 +98,10 @@ fn proof_outcome(
 }
 
 // Returns how opening a proof ended. If memory was refused, the proof must come back unchanged.
-fn opening_outcome(
+fn opening_outcome<'a>(
     alloc: &Refusing,
-    answer: Result<OpenedRange<&Refusing>, OpenError<&Refusing>>,
-    expected: &RangeProof<&Refusing>,
+    answer: Result<OpenedRange<&'a Refusing>, OpenError<&'a Refusing>>,
+    expected: &RangeProof<&'a Refusing>,
 ) -> Outcome {
     match answer {
         Ok(range) => outcome_of(alloc, Ok(*range.proof() == *expected)),
