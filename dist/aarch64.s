@@ -1,5 +1,5 @@
 /* Yurewha 1.1.0 for aarch64: the proved library, as the toolchain compiles it. Made by dist/make, not by hand.
-   The sum of its sources: e212cbfde0728c79f063885784d8c49cef991affba10333209582635836cbb6a */
+   The sum of its sources: 4ae5a180f635901155184b5cfccfcc1aaf8665d1fe3e6b60a46b9a75db464938 */
 	.section	".text.core::str::utf8::from_utf8","ax",@progbits
 	.p2align	2
 	.type	"core::str::utf8::from_utf8",@function

@@ -1,5 +1,5 @@
 /* Yurewha 1.1.0 for x86-64-v2: the proved library, as the toolchain compiles it. Made by dist/make, not by hand.
-   The sum of its sources: e212cbfde0728c79f063885784d8c49cef991affba10333209582635836cbb6a */
+   The sum of its sources: 4ae5a180f635901155184b5cfccfcc1aaf8665d1fe3e6b60a46b9a75db464938 */
 	.section	.note.gnu.property,"a",@note
 	.p2align	3, 0x0
 	.long	4, 16, 5
