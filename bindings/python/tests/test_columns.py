@@ -7,7 +7,6 @@ import pickle
 import random
 import struct
 import sys
-import timeit
 import types
 
 import pytest
@@ -72,13 +71,32 @@ def test_sizes_are_read_by_the_width_of_the_column(kind):
                 y.Chunks.from_columns(HASHES[:4], numpy.array([0, top, negative, -1], dtype=kind))
 
 
-def test_signed_sizes_are_read_as_fast_as_unsigned_ones():
-    sizes = array.array("Q", range(1_000_000))
-    hashes = bytes(32 * len(sizes))
-    taken = {}
-    for column in (sizes, array.array("q", sizes)):
-        taken[column.typecode] = min(timeit.repeat(lambda: y.Chunks.from_columns(hashes, column), number=1, repeat=5))
-    assert taken["q"] < 1.5 * taken["Q"] + 0.02
+def steps_of(call):
+    """How many instructions of Python a call takes."""
+    steps = 0
+
+    def trace(frame, event, argument):
+        nonlocal steps
+        frame.f_trace_opcodes = True
+        steps += event == "opcode"
+        return trace
+
+    before = sys.gettrace()
+    sys.settrace(trace)
+    try:
+        call()
+    finally:
+        sys.settrace(before)
+    return steps
+
+
+@pytest.mark.parametrize("typecode", "Qq")
+def test_no_instruction_of_python_is_taken_for_each_size(typecode):
+    steps = set()
+    for count in (1000, 2000):
+        hashes, sizes = bytes(32 * count), array.array(typecode, range(count))
+        steps.add(steps_of(lambda: y.Chunks.from_columns(hashes, sizes)))
+    assert len(steps) == 1 and steps.pop() > 0
 
 
 def test_hex_texts_in_a_column():

@@ -118,6 +118,17 @@ mod tests {
         }
     }
 
+    // Rule 9 also says what to do.
+    #[test]
+    fn each_broken_rule_has_its_text() {
+        for rule in 1..=13 {
+            let error = CoreError::InvalidJson(rule).to_string();
+            assert!(error.starts_with(&format!("invalid JSON: rule {rule}: ")), "{error}");
+            assert_eq!(error.contains("make the subtree anew"), rule == 9, "{error}");
+        }
+        assert_eq!(CoreError::InvalidJson(14).to_string(), "invalid JSON: rule 14");
+    }
+
     #[test]
     fn other_statuses_have_none() {
         let others = [

@@ -497,15 +497,16 @@ mod tests {
     #[test]
     fn each_status_has_its_fault() {
         let faults = [
-            SessionFault::Overlap,
-            SessionFault::Positions,
-            SessionFault::Sizes,
-            SessionFault::Memory,
-            SessionFault::Gap,
+            (ffi::YUREWHA_SESSION_OVERLAP, SessionFault::Overlap),
+            (ffi::YUREWHA_SESSION_POSITIONS, SessionFault::Positions),
+            (ffi::YUREWHA_SIZES, SessionFault::Sizes),
+            (ffi::YUREWHA_MEMORY, SessionFault::Memory),
+            (ffi::YUREWHA_SESSION_GAP, SessionFault::Gap),
         ];
-        let statuses = ffi::YUREWHA_SESSION_OVERLAP..=ffi::YUREWHA_SESSION_GAP;
-        assert!(statuses.map(SessionFault::of).eq(faults.map(Some)));
-        for status in [ffi::YUREWHA_MEMORY, ffi::YUREWHA_EMPTY_HANDLE, 32, 38] {
+        for (status, fault) in faults {
+            assert_eq!(SessionFault::of(status), Some(fault));
+        }
+        for status in [ffi::YUREWHA_DONE, ffi::YUREWHA_EMPTY_HANDLE, 32, 35, 36, 38] {
             assert_eq!(SessionFault::of(status), None);
         }
     }
