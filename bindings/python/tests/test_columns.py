@@ -92,11 +92,11 @@ def steps_of(call):
 
 @pytest.mark.parametrize("typecode", "Qq")
 def test_no_instruction_of_python_is_taken_for_each_size(typecode):
-    steps = set()
-    for count in (1000, 2000):
+    steps = []
+    for count in (1000, 1000, 2000):  # the first call may take more, as it fills caches
         hashes, sizes = bytes(32 * count), array.array(typecode, range(count))
-        steps.add(steps_of(lambda: y.Chunks.from_columns(hashes, sizes)))
-    assert len(steps) == 1 and steps.pop() > 0
+        steps.append(steps_of(lambda: y.Chunks.from_columns(hashes, sizes)))
+    assert steps[1] == steps[2] > 0
 
 
 def test_hex_texts_in_a_column():
