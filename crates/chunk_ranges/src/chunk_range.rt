@@ -112,3 +112,11 @@ pub trait ChunkRange: Drop {
         ensures root { (chunks : List Node) → stands self.now chunks → IfOk result (λ root. IfSome root (IsRoot chunks)) }
         ensures errors { IfErr result (λ e. e ≡ CoreError.OutOfMemory) };
 }
+
+/// A range that can be copied.
+pub trait CopyableRange: ChunkRange {
+    /// Returns a copy. Fails with [`CoreError::OutOfMemory`] if an allocation fails.
+    fn try_clone(&self) -> Result<Self, CoreError>
+        ensures copy { IfOk result (λ copy. copy ≡ self.now) }
+        ensures errors { IfErr result (λ e. e ≡ CoreError.OutOfMemory) };
+}

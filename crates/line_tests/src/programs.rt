@@ -9,6 +9,7 @@ use std::fmt;
 use std::io::{self, ErrorKind};
 use std::test::Fail;
 use test_support::texts::{four_fields, with_hashes};
+use xet_merkle::merkle_hash_subtree::MerkleHashSubtree;
 
 // Each row has the words of a command, what fails in the run, standard input, the status, standard output and standard
 // error. `;` stands for a newline.
@@ -120,7 +121,13 @@ fn run(
     let mut w = Output::new(alloc, manner(failing == "output"), EVEN);
     let mut errors = Output::new(alloc, manner(failing == "errors"), EVEN);
     let status = if command.starts_with("xetroot") {
-        xetroot_text::program::program(&refusing, args, &mut r, &mut w, &mut errors)
+        xetroot_text::program::program::<MerkleHashSubtree<&RefusingAllocator<Global>>, _, _, _>(
+            &refusing,
+            args,
+            &mut r,
+            &mut w,
+            &mut errors,
+        )
     } else {
         xetrange_text::program::program(&refusing, alloc, args, &mut r, &mut w, &mut errors)
     };

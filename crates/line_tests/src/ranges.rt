@@ -7,6 +7,7 @@ use std::io::{Read, Write};
 use std::test::Fail;
 use test_support::texts::{NO_CHUNK, NO_PAIR, THREE_PAIRS, lines_of_row, two_fields, with_hashes};
 use xet_hash::data_hash::DataHash;
+use xet_merkle::merkle_hash_subtree::MerkleHashSubtree;
 use xetrange_text::fault::RangeFault;
 use xetrange_text::join::{join, root};
 use xetrange_text::make::make;
@@ -92,7 +93,7 @@ fn root_of_pieces(
 // Returns whether the root of all pieces is what `run` writes for the whole, for each cut at a line end.
 fn agrees_at_each_cut(alloc: Global, text: &[u8]) -> Result<bool, Fail> {
     let (mut reader, mut output) = (text, Vec::new(alloc));
-    if run(alloc, &mut reader, &mut output).is_err() {
+    if run::<MerkleHashSubtree, _, _>(alloc, &mut reader, &mut output).is_err() {
         return Ok(false);
     }
     for (i, byte) in text.iter().enumerate() {

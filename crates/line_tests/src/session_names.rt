@@ -1,9 +1,10 @@
 //! The names of a session that `xetroot_text` re-exports.
 
+use subtree_sessions::session::Session;
 use xet_hash::data_hash::DataHash;
 use xet_merkle::plain_range::PlainRange;
 use xetroot_text::kept_hashes::NoHashes;
-use xetroot_text::session::{Session, SessionOf};
+use xetroot_text::session::SessionOf;
 use xetroot_text::session_fault::SessionFault;
 
 #[test]

@@ -2,8 +2,8 @@
 use Rattle.std.proofs.Common.{ℕ, ◌+◌, ◌^◌, ◌<◌, ◌≤◌, List, [], ◌∷◌, ◌++◌, length, codes, decimal, subst, ap, inl, inr, arith, append-nil, length-append}
 use Rattle.std.specs.List.{concat}
 use Rattle.std.proofs.lemmas.List.Sums.{sum_by-append}
-use Rattle.xet_merkle.specs.Groups.{Node}
-use Rattle.xet_merkle.specs.Roots.{total_size}
+use Rattle.xet_roots.specs.Groups.{Node}
+use Rattle.xet_roots.specs.Roots.{total_size}
 use Rattle.line_io.specs.Lines.{byte_limit, content}
 use Rattle.line_io.proofs.Lines.{concat-push}
 use Rattle.pair_text.specs.Lines.{IsSeparator, SaysPair}

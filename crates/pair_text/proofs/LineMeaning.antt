@@ -12,7 +12,7 @@ use Rattle.std.proofs.lemmas.Fmt.{decimal_injective, decimal_is_IsNumeral}
 use Rattle.xet_hash.specs.Blake3.{keyed_hash}
 use Rattle.xet_hash.specs.Hash.{IsHexText, data_key, hash_of}
 use Rattle.xet_hash.proofs.Hash.Laws.{hash_of_digits, hex_text-injective}
-use Rattle.xet_merkle.specs.Groups.{Node}
+use Rattle.xet_roots.specs.Groups.{Node}
 use Rattle.pair_text.specs.declared.line.Line.{Line}
 use Rattle.pair_text.specs.declared.line.Line.TheVariants.{Separator, Position, Pair}
 use Rattle.pair_text.specs.Lines.{IsSeparator, IsPositionLine, IsPairLine, SaysPair}

@@ -3,7 +3,7 @@ use Rattle.std.proofs.Common.{◌≡◌, ℕ, ◌<◌, ◌^◌, List, ◌∷◌,
 use Rattle.std.proofs.lemmas.List.{take_at, drop_at, take-append-drop}
 use Rattle.std.specs.Str.{str_to_ascii_lowercase}
 use Rattle.xet_hash.specs.Hash.{IsHash, IsHexText, hex_text}
-use Rattle.xet_merkle.specs.Groups.{Node}
+use Rattle.xet_roots.specs.Groups.{Node}
 use Rattle.pair_text.specs.Lines.{IsPairLine}
 
 module _ (line : List ℕ) (node : Node) (h : IsPairLine line node) where

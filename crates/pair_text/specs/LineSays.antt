@@ -1,6 +1,6 @@
 -- Which lines a value of the type `Line` stands for.
 use Rattle.std.specs.Prelude.{ℕ, List}
-use Rattle.xet_merkle.specs.Groups.{Node}
+use Rattle.xet_roots.specs.Groups.{Node}
 use Rattle.line_io.specs.Lines.{content}
 use Rattle.pair_text.specs.declared.line.Line.{Line}
 use Rattle.pair_text.specs.declared.line.Line.TheVariants.{Separator, Position, Pair}

@@ -3,7 +3,7 @@ use Rattle.std.specs.Prelude.{◌≡◌, ℕ, ◌^◌, ◌<◌, ◌⊎◌, List,
 use Rattle.std.specs.Str.{str_to_ascii_lowercase}
 use Rattle.xet_hash.specs.Blake3.{keyed_hash}
 use Rattle.xet_hash.specs.Hash.{IsHash, IsHexText, data_key, hash_of, hex_text}
-use Rattle.xet_merkle.specs.Groups.{Node}
+use Rattle.xet_roots.specs.Groups.{Node}
 
 -- the line that ends a range
 abbrev pub IsSeparator : List ℕ → Type 0

@@ -1,8 +1,8 @@
 -- The two lines of output.
 use Rattle.std.specs.Prelude.{◌≡◌, ℕ, List, ◌++◌, codes, replicate}
 use Rattle.xet_hash.specs.Hash.{hex_text}
-use Rattle.xet_merkle.specs.Groups.{Node}
-use Rattle.xet_merkle.specs.Roots.{IsRoot, IsFileHash}
+use Rattle.xet_roots.specs.Groups.{Node}
+use Rattle.xet_roots.specs.Roots.{IsRoot, IsFileHash}
 
 -- the text of a root and a file hash
 abbrev pub output_text : List ℕ → List ℕ → List ℕ

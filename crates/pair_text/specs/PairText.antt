@@ -1,8 +1,8 @@
 -- A text of pairs in which no line names a position: its pairs in order, its answer and its faults.
 use Rattle.std.specs.Prelude.{ℕ, ◌+◌, ◌^◌, ◌<◌, ◌≤◌, ◌⊎◌, List, [], ◌∷◌, length}
 use Rattle.std.specs.List.{concat}
-use Rattle.xet_merkle.specs.Groups.{Node}
-use Rattle.xet_merkle.specs.Roots.{total_size}
+use Rattle.xet_roots.specs.Groups.{Node}
+use Rattle.xet_roots.specs.Roots.{total_size}
 use Rattle.line_io.specs.Lines.{byte_limit, content, lines_of}
 use Rattle.pair_text.specs.declared.pair_fault.PairFault.{PairFault}
 use Rattle.pair_text.specs.declared.pair_fault.PairFault.TheVariants.{Bad, Sizes}

@@ -1,13 +1,13 @@
 //! What one line of the input says.
 
 ghost use Rattle.std.specs.Prelude.{◌≡◌, ◌^◌, ◌<◌, ℕ, decimal, IfSome, IfNone};
-ghost use Rattle.xet_merkle.specs.Groups.{Node};
+ghost use Rattle.xet_roots.specs.Groups.{Node};
 ghost use Rattle.pair_text.specs.Lines.{IsSeparator, IsPositionLine, IsPairLine};
 ghost use Rattle.pair_text.specs.LineSays.{Says};
 
 use std::str;
 use xet_hash::data_hash::DataHash;
-use xet_merkle::aggregated_hashes::Node;
+use xet_roots::aggregated_hashes::Node;
 
 /// A line of the input that isn't bad.
 #[derive(Clone, Copy, Debug, PartialEq, Eq)]

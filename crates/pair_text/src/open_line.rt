@@ -1,7 +1,7 @@
 //! The line that is being read.
 
 ghost use Rattle.std.specs.Prelude.{◌≡◌, ◌==◌, ◌++◌, ℕ, List, [], length, IfSome, IfNone, OnErr, OnOk};
-ghost use Rattle.xet_merkle.specs.Groups.{Node};
+ghost use Rattle.xet_roots.specs.Groups.{Node};
 ghost use Rattle.pair_text.specs.Lines.{IsSeparator, IsPositionLine, SaysPair};
 ghost use Rattle.pair_text.specs.LineSays.{Says};
 

@@ -3,7 +3,7 @@ use Rattle.std.proofs.Common.{arith, ◌≡◌, ◌+◌, ◌<◌, ◌≤◌, ◌
 use Rattle.std.specs.Prelude.{filter, cond}
 use Rattle.std.proofs.lemmas.List.{append-nil}
 use Rattle.std.proofs.lemmas.List.Elements.{filter-append}
-use Rattle.xet_merkle.specs.Groups.{Node}
+use Rattle.xet_roots.specs.Groups.{Node}
 use Rattle.upload_session.specs.Session.{Placed, Put, placed_from, place, overlaps, ArePlaced}
 use Rattle.upload_session.proofs.Placing.{before, after, any-placed, before-all, before-none, after-all, after-none, placed_from-append, placed_from-below, placed_from-from}
 use Rattle.upload_session.proofs.Positions.{neither, overlaps-run}

@@ -12,7 +12,7 @@ use Rattle.std.proofs.lemmas.Map.Entries.{length-keys_of}
 use Rattle.std.proofs.lemmas.Map.Keys.{IsDistinct-push}
 use Rattle.std.proofs.lemmas.Map.Made.{is_some-lookup, length-from_same_keys}
 use Rattle.xet_hash.specs.FiniteMap.{value_at, IsFiniteMap, Sets}
-use Rattle.xet_merkle.specs.Groups.{Node}
+use Rattle.xet_roots.specs.Groups.{Node}
 use Rattle.upload_session.specs.Hashes.{Hash, hash_eq, hashes_of, is_among, AreNew}
 
 -- one more hash

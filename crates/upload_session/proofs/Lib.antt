@@ -7,6 +7,5 @@ pub mod OpenRuns
 pub mod Placing
 pub mod Positions
 pub mod Refusals
-pub mod Restoring
 pub mod SortedEntries
 pub mod Whole

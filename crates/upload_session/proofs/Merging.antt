@@ -6,8 +6,8 @@ use Rattle.std.specs.Map.{remove_entry, set_value}
 use Rattle.std.proofs.lemmas.List.{append-nil, append_assoc}
 use Rattle.std.proofs.lemmas.List.Elements.{All-nil, All-cons, All-head, All-tail}
 use Rattle.std.proofs.lemmas.List.Sums.{sum_by-cons}
-use Rattle.xet_merkle.specs.Groups.{Node}
-use Rattle.xet_merkle.specs.Roots.{total_size}
+use Rattle.xet_roots.specs.Groups.{Node}
+use Rattle.xet_roots.specs.Roots.{total_size}
 use Rattle.chunk_ranges.specs.declared.chunk_range.ChunkRange as chunk_range
 use Rattle.upload_session.specs.declared.runs.Run.{Run}
 use Rattle.upload_session.specs.Session.{PlacedRun, end_of, first_of, size_of_runs, AreApart, AreOf}

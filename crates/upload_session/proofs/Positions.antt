@@ -7,7 +7,7 @@ use Rattle.std.specs.List.{list_any}
 use Rattle.std.proofs.lemmas.Bool.{true≢false}
 use Rattle.std.proofs.lemmas.List.Elements.{All-nil, All-cons, All-append, All-head, All-tail, All-weaker}
 use Rattle.std.proofs.lemmas.List.Folds.{list_any-append, list_any_none}
-use Rattle.xet_merkle.specs.Groups.{Node}
+use Rattle.xet_roots.specs.Groups.{Node}
 use Rattle.chunk_ranges.specs.declared.chunk_range.ChunkRange as chunk_range
 use Rattle.upload_session.specs.Session.{Placed, PlacedRun, placed_from, ends_after, is_taken, meet, meets, overlaps, AreApart, EndBefore, StandFor}
 use Rattle.upload_session.proofs.Placing.{Rises, rises-after}

@@ -1,7 +1,7 @@
 -- What holds after a call fails.
 use Rattle.std.specs.Prelude.{◌≡◌, ◌^◌, ◌<◌, ◌⊎◌, ℕ, Result, Ok, Err, IfErr, OnErr}
 use Rattle.std.proofs.Common.{arith, ap, inl, inr}
-use Rattle.xet_merkle.specs.Ranges.{Refusals}
+use Rattle.chunk_ranges.specs.Ranges.{Refusals}
 use Rattle.xet_roots.specs.declared.error.CoreError.{CoreError}
 use Rattle.xet_roots.specs.declared.error.CoreError.TheVariants.{InvalidArguments, SizeOverflow, OutOfMemory}
 

@@ -5,9 +5,9 @@ use Rattle.std.proofs.lemmas.Bool.{true≢false}
 use Rattle.std.proofs.lemmas.Option.{same_Some}
 use Rattle.std.proofs.lemmas.List.{append-nil, length-append}
 use Rattle.std.proofs.lemmas.List.Elements.{All-head}
-use Rattle.xet_merkle.specs.Groups.{Node}
+use Rattle.xet_roots.specs.Groups.{Node}
 use Rattle.chunk_ranges.specs.declared.chunk_range.ChunkRange as chunk_range
-use Rattle.xet_merkle.specs.Roots.{salted_root, IsRoot, IsFileHash}
+use Rattle.xet_roots.specs.Roots.{salted_root, IsRoot, IsFileHash}
 use Rattle.upload_session.specs.Session.{Placed, PlacedRun, placed_from, chunks_of, AreFrom, Cover, HaveFileHash, HaveRoot, IsRunOf, IsWhole, StandFor}
 use Rattle.upload_session.proofs.Placing.{chunks-placed}
 

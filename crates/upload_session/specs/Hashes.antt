@@ -3,7 +3,7 @@ use Rattle.std.specs.Prelude.{◌≡◌, ℕ, Bool, not, List, ◌&&◌, ◌||�
 use Rattle.std.specs.Cmp.Lexicographic.{pointwise}
 use Rattle.std.specs.List.{IsDistinct, list_any}
 use Rattle.xet_hash.specs.FiniteMap.{value_at}
-use Rattle.xet_merkle.specs.Groups.{Node}
+use Rattle.xet_roots.specs.Groups.{Node}
 use Rattle.upload_session.specs.declared.kept_hashes.SeenHashes.{SeenHashes}
 
 -- a hash as its four words

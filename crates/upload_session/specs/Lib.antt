@@ -1,4 +1,3 @@
 pub mod Hashes
 pub mod Session
-pub mod Subtrees
 pub mod Steps

@@ -1,8 +1,8 @@
 -- Chunks by their positions, and the runs of a session that stand for them.
 use Rattle.std.specs.Prelude.{◌≡◌, ℕ, ◌+◌, ◌-◌, ◌<◌, ◌≤◌, Bool, false, not, List, [], ◌∷◌, ◌++◌, ◌&&◌, length, filter, map, replicate, sum_by, All, Option, None, Some, IfSome, option_to_list, nat_eq, nat_lt, slice_get}
 use Rattle.std.specs.List.{list_any}
-use Rattle.xet_merkle.specs.Groups.{Node}
-use Rattle.xet_merkle.specs.Roots.{total_size, salted_root, IsRoot, IsFileHash}
+use Rattle.xet_roots.specs.Groups.{Node}
+use Rattle.xet_roots.specs.Roots.{total_size, salted_root, IsRoot, IsFileHash}
 use Rattle.chunk_ranges.specs.declared.chunk_range.ChunkRange as chunk_range
 use Rattle.upload_session.specs.declared.kept_hashes.KeptHashes as kept_hashes
 use Rattle.upload_session.specs.declared.runs.Run.{Run}

@@ -8,7 +8,7 @@ ghost use Rattle.upload_session.specs.Hashes.{Hash, hash_eq, hashes_of, is_among
 use std::alloc::{AllocError, Allocator, Global};
 use xet_hash::data_hash::MerkleHash;
 use xet_hash::passthrough_hashmap::PassThroughHashMap;
-use xet_merkle::aggregated_hashes::Node;
+use xet_roots::aggregated_hashes::Node;
 
 /// What is kept of the hashes of chunks, to find out which later hashes are new.
 pub trait KeptHashes<A: Allocator>: Drop {

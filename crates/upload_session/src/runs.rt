@@ -5,20 +5,19 @@ ghost use Rattle.std.specs.Ordering.{nat_cmp};
 ghost use Rattle.std.specs.BTreeMap.{is_at};
 ghost use Rattle.std.specs.Map.{lookup};
 ghost use Rattle.upload_session.specs.declared.runs.Run.{Run};
-ghost use Rattle.xet_merkle.specs.Groups.{Node};
-ghost use Rattle.xet_merkle.specs.Roots.{total_size};
+ghost use Rattle.xet_roots.specs.Groups.{Node};
+ghost use Rattle.xet_roots.specs.Roots.{total_size};
 ghost use Rattle.upload_session.specs.Steps.Neighbours.{IsPrevious, IsWithNext, AreAround, IsPutBefore, Places};
 ghost use Rattle.upload_session.specs.Steps.OpenRuns.{IsOpen, AreOpen, HaveRoom, HaveRoomFor, GrowBy, size_at, sizes_of};
 ghost use Rattle.upload_session.specs.Session.{Placed, PlacedRun, ends_after, meet, place, AreApart, AreJoined, Cover, EndBefore, StandFor};
 
 use crate::session_fault::SessionFault;
-use std::alloc::{AllocError, Allocator};
+use chunk_ranges::chunk_range::{ChunkRange, CopyableRange};
+use std::alloc::AllocError;
 use std::collections::BTreeMap;
 use std::marker::Model;
-use xet_merkle::CoreError;
-use xet_merkle::aggregated_hashes::Node;
-use xet_merkle::chunk_range::ChunkRange;
-use xet_merkle::merkle_hash_subtree::MerkleHashSubtree;
+use xet_roots::CoreError;
+use xet_roots::aggregated_hashes::Node;
 
 // What is kept of a run of adjacent taken positions.
 #[derive(Drop)]
@@ -29,7 +28,7 @@ struct Run<C> {
     range: C,
 }
 
-impl<A: Allocator + Clone> Clone for Run<MerkleHashSubtree<A>> {
+impl<C: CopyableRange> Clone for Run<C> {
     ghost is_clone = { λ run copy. copy ≡ run };
 
     fn clone(&self) -> Result<Self, AllocError> {
@@ -60,7 +59,7 @@ impl<C: ChunkRange> Model for Runs<C> {
     ghost view = { λ stored. stored.runs.entries };
 }
 
-impl<A: Allocator + Clone> Runs<MerkleHashSubtree<A>> {
+impl<C: CopyableRange> Runs<C> {
     /// Returns a copy. Fails if an allocation fails.
     pub fn try_clone(&self) -> Result<Self, AllocError>
         ensures { IfOk result (λ copy. copy ≡ self.now) }

@@ -1,8 +1,8 @@
 //! A session: ranges of chunks that come in any order, merged as they become adjacent.
 
 ghost use Rattle.std.specs.Prelude.{◌≡◌, ℕ, ◌+◌, ◌^◌, ◌<◌, ◌≤◌, ◌↔◌, ◌⊎◌, List, [], false, length, replicate, find, option_map, slice_get, Ok, All, IfOk, IfErr, SomeIff, OnOk, OnErr, IsOk, IsTrue, IsErrOf};
-ghost use Rattle.xet_merkle.specs.Groups.{Node};
-ghost use Rattle.xet_merkle.specs.Roots.{total_size, IsRoot, IsFileHash};
+ghost use Rattle.xet_roots.specs.Groups.{Node};
+ghost use Rattle.xet_roots.specs.Roots.{total_size, IsRoot, IsFileHash};
 ghost use Rattle.std.specs.List.{IsDistinct};
 ghost use Rattle.upload_session.specs.Hashes.{Hash, hash_eq, Knows};
 ghost use Rattle.upload_session.specs.Session.{PlacedRun, ends_after, meet, chunks_of, is_taken, overlaps, size_of_runs, with_last, AreApart, AreJoined, CanFollow, CountsNew, Cover, HasNothing, HaveFileHash, HaveRoot, HoldsOfPlaced, IsUnchanged, IsWhole, KeepsKnown, LearnsHashes, PlacesChunks};
@@ -10,16 +10,12 @@ ghost use Rattle.upload_session.specs.Session.{PlacedRun, ends_after, meet, chun
 use crate::kept_hashes::{KeptHashes, SeenHashes};
 use crate::runs::Runs;
 use crate::session_fault::SessionFault;
-use std::alloc::{AllocError, Allocator, Global};
+use chunk_ranges::chunk_range::{ChunkRange, CopyableRange, hashes_of_open};
+use std::alloc::{AllocError, Global};
 use std::marker::Model;
 use xet_hash::data_hash::MerkleHash;
-use xet_merkle::CoreError;
-use xet_merkle::aggregated_hashes::Node;
-use xet_merkle::chunk_range::{ChunkRange, hashes_of_open};
-use xet_merkle::merkle_hash_subtree::MerkleHashSubtree;
-
-/// A session over subtrees, which keeps all hashes.
-pub type Session<A = Global> = SessionOf<MerkleHashSubtree<A>>;
+use xet_roots::CoreError;
+use xet_roots::aggregated_hashes::Node;
 
 /// Chunks by their positions, which come in any order.
 ///
@@ -317,7 +313,7 @@ impl<C: ChunkRange, H: KeptHashes<C::Alloc>> SessionOf<C, H> {
     }
 }
 
-impl<A: Allocator + Clone> Session<A> {
+impl<C: ChunkRange> SessionOf<C> {
     /// Returns the number of known hashes: those that puts had and those that [`SessionOf::keep_hashes`] kept, each
     /// counted once. It allocates nothing.
     pub fn num_known_hashes(&self) -> usize
@@ -328,13 +324,15 @@ impl<A: Allocator + Clone> Session<A> {
     }
 
     /// Returns all known hashes, each once, in no particular order. Fails if an allocation fails.
-    pub fn known_hashes(&self) -> Result<Vec<MerkleHash, A>, AllocError>
+    pub fn known_hashes(&self) -> Result<Vec<MerkleHash, C::Alloc>, AllocError>
         ensures all { IfOk result (λ hashes. Knows self.now.kept hashes.items) }
         ensures each_once { IfOk result (λ hashes. IsDistinct hash_eq hashes.items) }
     {
         self.kept.to_vec(self.runs.allocator().clone()?)
     }
+}
 
+impl<C: CopyableRange> SessionOf<C> {
     /// Returns a copy, which stands for the same chunks. Fails if an allocation fails.
     pub fn try_clone(&self) -> Result<Self, AllocError>
         ensures { IfOk result (λ copy. copy ≡ self.now) }

@@ -4,8 +4,8 @@ use Rattle.std.specs.Prelude.{filter, cond}
 use Rattle.std.specs.List.{concat}
 use Rattle.std.proofs.lemmas.Bool.{false_from_ne_true}
 use Rattle.std.proofs.lemmas.List.{reverse-append, length-reverse}
-use Rattle.xet_merkle.specs.Groups.{Node}
-use Rattle.xet_merkle.specs.Roots.{total_size}
+use Rattle.xet_roots.specs.Groups.{Node}
+use Rattle.xet_roots.specs.Roots.{total_size}
 use Rattle.upload_session.specs.Session.{Placed, ArePlaced, chunks_of, is_taken, place, placed_from}
 use Rattle.upload_session.proofs.Positions.{taken-overlaps}
 use Rattle.line_io.specs.Lines.{byte_limit, content}

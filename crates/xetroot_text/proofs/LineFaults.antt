@@ -2,7 +2,7 @@
 use Rattle.std.proofs.Common.{◌≡◌, ℕ, ◌+◌, ◌≤◌, List, length, refl, inr}
 use Rattle.std.specs.List.{concat}
 use Rattle.upload_session.specs.Session.{Placed, IsWhole}
-use Rattle.xet_merkle.specs.Groups.{Node}
+use Rattle.xet_roots.specs.Groups.{Node}
 use Rattle.line_io.specs.Lines.{byte_limit, content, lines_of}
 use Rattle.line_io.specs.Faults as line_io
 use Rattle.line_io.specs.declared.fault.AnswerFault.{AnswerFault}

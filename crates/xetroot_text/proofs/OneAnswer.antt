@@ -6,8 +6,8 @@ use Rattle.std.proofs.lemmas.List.{reverse-append}
 use Rattle.std.proofs.lemmas.List.Folds.{concat-append}
 use Rattle.xet_hash.specs.Blake3.{keyed_hash}
 use Rattle.xet_hash.specs.Hash.{bytes_of, default_hash, hash_of}
-use Rattle.xet_merkle.specs.Groups.{Node}
-use Rattle.xet_merkle.specs.Roots.{total_size, parent, IsRoot, IsFileHash}
+use Rattle.xet_roots.specs.Groups.{Node}
+use Rattle.xet_roots.specs.Roots.{total_size, parent, IsRoot, IsFileHash}
 use Rattle.xet_roots.proofs.Lists.Places.{Meets, meets}
 use Rattle.xet_roots.proofs.Lists.Places.Meets.{same as at_one, earlier as before_it, later as after_it}
 use Rattle.xet_roots.proofs.Roots.OneRoot.{root_exists, IsRootBy-unique}

@@ -1,8 +1,8 @@
 -- What is kept of placed pairs when pairs are added and ranges end.
 use Rattle.std.proofs.Common.{arith, ◌≡◌, ◌+◌, ◌^◌, ◌<◌, ◌≤◌, ℕ, Bool, true, false, List, [], ◌∷◌, ◌++◌, ◌&&◌, ◌||◌, nat_eq, nat_lt, length, length-append, refl, sym, ap, subst, ◌∙◌}
 use Rattle.std.proofs.lemmas.Bool.{or_from, or_parts}
-use Rattle.xet_merkle.specs.Groups.{Node}
-use Rattle.xet_merkle.specs.Roots.{total_size}
+use Rattle.xet_roots.specs.Groups.{Node}
+use Rattle.xet_roots.specs.Roots.{total_size}
 use Rattle.upload_session.specs.Session.{Placed, Parts, StandFor, chunks_of, is_taken, meet, overlaps, place, placed_from}
 use Rattle.upload_session.specs.declared.kept_hashes.NoHashes.{NoHashes}
 use Rattle.upload_session.proofs.Placing.{any-placed, place-size}

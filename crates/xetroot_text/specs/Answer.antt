@@ -1,8 +1,8 @@
 -- The program's answer to its input.
 use Rattle.std.specs.Prelude.{ℕ, ◌+◌, ◌-◌, ◌^◌, ◌<◌, ◌≤◌, ◌⊎◌, IsTrue, List, [], ◌∷◌, length, map, reverse}
 use Rattle.std.specs.List.{concat}
-use Rattle.xet_merkle.specs.Groups.{Node}
-use Rattle.xet_merkle.specs.Roots.{total_size}
+use Rattle.xet_roots.specs.Groups.{Node}
+use Rattle.xet_roots.specs.Roots.{total_size}
 use Rattle.upload_session.specs.Session.{Placed, ArePlaced, IsWhole, chunks_of, is_taken}
 use Rattle.line_io.specs.Lines.{byte_limit, content, lines_of}
 use Rattle.line_io.specs.Faults.{HasFault}

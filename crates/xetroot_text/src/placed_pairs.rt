@@ -2,10 +2,11 @@
 
 ghost use Rattle.std.specs.Prelude.{◌≡◌, ◌+◌, ◌-◌, ◌^◌, ◌<◌, ◌≤◌, ℕ, List, length, [], ◌∷◌, replicate, IfOk, IfErr, OnErr, OnOk, IsTrue};
 ghost use Rattle.line_io.specs.Faults.{IfFaulty};
-ghost use Rattle.xet_merkle.specs.Roots.{IsRoot, IsFileHash};
+ghost use Rattle.xet_roots.specs.Roots.{IsRoot, IsFileHash};
 ghost use Rattle.upload_session.specs.Session.{Placed, IsWhole, chunks_of, is_taken, place};
 
 use crate::fault::{Gap, LineFault};
+use chunk_ranges::chunk_range::ChunkRange;
 use line_io::fault::Refusal;
 use pair_text::line::Line;
 use pair_text::said_lines::TakeSaid;
@@ -15,8 +16,7 @@ use upload_session::kept_hashes::NoHashes;
 use upload_session::session::SessionOf;
 use upload_session::session_fault::SessionFault;
 use xet_hash::data_hash::MerkleHash;
-use xet_merkle::aggregated_hashes::Node;
-use xet_merkle::chunk_range::ChunkRange;
+use xet_roots::aggregated_hashes::Node;
 
 // The most pairs of a range. A longer range is put in several parts.
 const MAX_RANGE_LEN: usize = 4096;

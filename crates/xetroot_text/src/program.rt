@@ -11,9 +11,9 @@ ghost use Rattle.xetroot_text.specs.Words.{AreKnown};
 
 use crate::fault::Fault;
 use crate::run::run;
+use chunk_ranges::chunk_range::ChunkRange;
 use line_io::devices::write_all;
 use line_io::request::{Request, WRONG_ARGUMENT, print_line};
-use std::alloc::Allocator;
 use std::env::Args;
 use std::io::{self, ErrorKind, Read, Write};
 
@@ -41,9 +41,10 @@ const VERSION: &str = "xetroot 1.1.0 (hashes of xet-core-structures 1.5.2)\n";
 /// Does what the arguments request. Returns the exit status: 0, the number of a fault, or 64 after a wrong argument.
 ///
 /// Without arguments it does what [`run`] does. With `--help` or `--version` it writes a text to `w`, and with any
-/// arguments it reads nothing of `r`. If the status isn't 0, it writes the reason to `errors` as one line.
-pub fn program<R: Read, W: Write, E: Write>(
-    alloc: impl Allocator,
+/// arguments it reads nothing of `r`. If the status isn't 0, it writes the reason to `errors` as one line. It keeps each
+/// run of adjacent positions as one `C`.
+pub fn program<C: ChunkRange, R: Read, W: Write, E: Write>(
+    alloc: C::Alloc,
     args: io::Result<Args>,
     r: &mut R,
     w: &mut W,
@@ -65,7 +66,7 @@ pub fn program<R: Read, W: Write, E: Write>(
     ensures unread { ¬ HasWords args [] → Keeps (R.remaining r.old) (R.remaining r.new) }
     ensures silent { result ≡ 0 → Keeps (E.contents errors.old) (E.contents errors.new) }
 {
-    let Some(result) = perform(alloc, args, r, w) else {
+    let Some(result) = perform::<C, R, W>(alloc, args, r, w) else {
         print_line(errors, "xetroot: expected no argument, --help or --version");
         return WRONG_ARGUMENT;
     };
@@ -79,8 +80,8 @@ pub fn program<R: Read, W: Write, E: Write>(
 }
 
 // Does what the arguments request. Returns `None` if they are wrong.
-fn perform<R: Read, W: Write>(
-    alloc: impl Allocator,
+fn perform<C: ChunkRange, R: Read, W: Write>(
+    alloc: C::Alloc,
     args: io::Result<Args>,
     r: &mut R,
     w: &mut W,
@@ -103,7 +104,7 @@ fn perform<R: Read, W: Write>(
     ensures none { IfNone result (Keeps (W.contents w.old) (W.contents w.new)) }
 {
     match Request::read(args) {
-        Ok(Request::Nothing) => Some(run(alloc, r, w)),
+        Ok(Request::Nothing) => Some(run::<C, R, W>(alloc, r, w)),
         Ok(Request::Help) => Some(write_text(w, HELP)),
         Ok(Request::Version) => Some(write_text(w, VERSION)),
         Ok(Request::Word(_) | Request::Unknown) => None,

@@ -7,7 +7,7 @@ use Rattle.upload_session.specs.Hashes.{AreNew, Knows}
 use Rattle.upload_session.specs.Session.{Placed, PlacedRun, ends_after, with_last, CanFollow, Cover, IsWhole, StandFor}
 use Rattle.upload_session.specs.declared.kept_hashes.KeptHashes as kept_hashes
 use Rattle.upload_session.specs.declared.kept_hashes.SeenHashes.{SeenHashes}
-use Rattle.upload_session.specs.Subtrees.{subtrees}
+use Rattle.subtree_sessions.specs.Subtrees.{subtrees}
 use Rattle.yurewha_c.specs.Handles.{BothHold}
 use Rattle.yurewha_c.specs.Statuses.{done, arguments, sizes, memory, empty_handle, session_gap}
 use Rattle.yurewha_c.specs.declared.kept_session.KeptSession.{KeptSession}

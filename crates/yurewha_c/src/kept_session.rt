@@ -1,6 +1,6 @@
 //! The session that a handle owns.
 
-use upload_session::session::Session;
+use subtree_sessions::session::Session;
 
 // A session over subtrees, under a name without parameters.
 #[derive(Drop)]

@@ -3,7 +3,7 @@
 ghost use Rattle.std.specs.Prelude.{◌≡◌, ◌≢◌, ◌⊎◌, ◌↔◌, ◌+◌, ◌^◌, ◌<◌, ◌≤◌, None, IfErr, IfOk, IfSome, IsErrOf, IsSomeAnd, IsTrue, [], OnErr, OnOk, Ok, replicate, length};
 ghost use Rattle.xet_merkle.specs.Roots.{IsRoot, IsFileHash, total_size};
 ghost use Rattle.upload_session.specs.Session.{place, chunks_of, is_taken, meet, overlaps, AreJoined, CountsNew, HasNothing, HaveFileHash, HaveRoot, IsUnchanged, LearnsHashes};
-ghost use Rattle.upload_session.specs.Subtrees.{subtrees};
+ghost use Rattle.subtree_sessions.specs.Subtrees.{subtrees};
 ghost use Rattle.yurewha_c.specs.Chunks.{nodes_of};
 ghost use Rattle.yurewha_c.specs.Handles.{BothHold, IsCopyStatus, Reads};
 ghost use Rattle.yurewha_c.specs.Sessions.{seen_hashes, HoldsOfPlaced, IsWholeStatus, Stands};

@@ -13,7 +13,7 @@ use xet_merkle::merkle_hash_subtree::MerkleHashSubtree;
 use xet_merkle::plain_range::PlainRange;
 use xetrange_text::join::{join, root};
 use xetrange_text::make::make;
-use xetroot_text::run::{run, run_with};
+use xetroot_text::run::run;
 
 /// Calls that answer lines. Each has its lines if these are pairs and chunks. The commands of `xetrange` use those of
 /// 28 nodes.
@@ -104,13 +104,13 @@ pub fn status_of<W: Write>(
 ) -> u8 {
     let r = &mut input;
     let result = match call {
-        "run" => run(alloc, r, output).map_err(|fault| fault.status()),
+        "run" => run::<MerkleHashSubtree<&Refusing>, _, _>(alloc, r, output).map_err(
+            |fault| fault.status(),
+        ),
         "make" => make(alloc, memory, r, output).map_err(|fault| fault.status()),
         "join" => join(alloc, memory, r, output).map_err(|fault| fault.status()),
         "root" => root(alloc, memory, r, output).map_err(|fault| fault.status()),
-        _ => run_with::<PlainRange<&Refusing>, _, _>(alloc, r, output).map_err(
-            |fault| fault.status(),
-        ),
+        _ => run::<PlainRange<&Refusing>, _, _>(alloc, r, output).map_err(|fault| fault.status()),
     };
     result.err().unwrap_or(0)
 }

@@ -1,7 +1,7 @@
 -- The pairs that are kept by position. Only private contracts and proofs use them.
 use Rattle.std.specs.Prelude.{◌≡◌, ℕ, ◌+◌, ◌-◌, ◌^◌, ◌<◌, ◌≤◌, false, IsTrue, List, [], ◌∷◌, length}
-use Rattle.xet_merkle.specs.Groups.{Node}
-use Rattle.xet_merkle.specs.Roots.{total_size}
+use Rattle.xet_roots.specs.Groups.{Node}
+use Rattle.xet_roots.specs.Roots.{total_size}
 use Rattle.chunk_ranges.specs.declared.chunk_range.ChunkRange as chunk_range
 use Rattle.upload_session.specs.Session.{Placed, Parts, StandFor, chunks_of, is_taken, overlaps, place}
 use Rattle.upload_session.specs.declared.kept_hashes.NoHashes.{NoHashes}

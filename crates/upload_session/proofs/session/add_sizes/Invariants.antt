@@ -1,5 +1,5 @@
 use Rattle.std.proofs.Common.{◌≡◌, ◌+◌, ◌<◌, ◌^◌, take}
-use Rattle.xet_merkle.specs.Roots.{total_size}
+use Rattle.xet_roots.specs.Roots.{total_size}
 use Rattle.upload_session.proofs.session.add_sizes.Given as goal
 
 abbrev pub invariant-loop-size : goal.invariant-loop-size

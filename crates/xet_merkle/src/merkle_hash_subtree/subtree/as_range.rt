@@ -3,7 +3,7 @@ ghost use Rattle.subtree_levels.specs.Levels.{levels_size};
 ghost use Rattle.subtree_levels.specs.Subtree.{IsCanonical};
 
 use super::MerkleHashSubtree;
-use chunk_ranges::chunk_range::ChunkRange;
+use chunk_ranges::chunk_range::{ChunkRange, CopyableRange};
 use std::alloc::Allocator;
 use subtree_levels::levels::Operand;
 use xet_hash::data_hash::MerkleHash;
@@ -58,5 +58,11 @@ impl<A: Allocator + Clone> ChunkRange for MerkleHashSubtree<A> {
 
     fn root(&self) -> Result<Option<MerkleHash>, CoreError> {
         Ok(self.final_hash())
+    }
+}
+
+impl<A: Allocator + Clone> CopyableRange for MerkleHashSubtree<A> {
+    fn try_clone(&self) -> Result<Self, CoreError> {
+        MerkleHashSubtree::try_clone(self)
     }
 }

@@ -2,13 +2,13 @@
 use Rattle.std.proofs.Common.{arith, ◌≡◌, List, [], ◌∷◌, ◌++◌, sym, ap, ◌∙◌}
 use Rattle.std.proofs.lemmas.List.{map-append}
 use Rattle.std.proofs.lemmas.List.Sums.{sum_by-append, sum_by-cons}
-use Rattle.xet_merkle.specs.Groups.{Node}
-use Rattle.xet_merkle.specs.Roots.{parent_hash, total_size}
-use Rattle.xet_merkle.specs.Subtree.{Subtree}
+use Rattle.xet_roots.specs.Groups.{Node}
+use Rattle.xet_roots.specs.Roots.{parent_hash, total_size}
+use Rattle.subtree_levels.specs.Subtree.{Subtree}
 use Rattle.subtree_levels.proofs.Canonical.Collapsing.{levels_size-canonical}
 use Rattle.chunk_ranges.specs.declared.chunk_range.ChunkRange as chunk_range
 use Rattle.upload_session.specs.Session.{Placed, PlacedRun, placed_from, chunks_of, size_of_runs, StandFor}
-use Rattle.upload_session.specs.Subtrees.{subtrees}
+use Rattle.subtree_sessions.specs.Subtrees.{subtrees}
 use Rattle.upload_session.proofs.Placing.{chunks-placed}
 
 module _ {C A : Type 0} (kind : chunk_range.Ghosts C A)

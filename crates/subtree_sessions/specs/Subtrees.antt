@@ -1,6 +1,6 @@
 -- Subtrees as a kind of range.
-use Rattle.xet_merkle.specs.Levels.{levels_size}
-use Rattle.xet_merkle.specs.Subtree.{Subtree, IsCanonical}
+use Rattle.subtree_levels.specs.Levels.{levels_size}
+use Rattle.subtree_levels.specs.Subtree.{Subtree, IsCanonical}
 use Rattle.chunk_ranges.specs.declared.chunk_range.ChunkRange as chunk_range
 
 -- what subtrees stand for, their marks and their sizes

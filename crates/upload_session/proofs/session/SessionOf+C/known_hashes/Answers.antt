@@ -1,7 +1,7 @@
 use Rattle.std.proofs.Common.{subst}
 use Rattle.std.specs.Prelude.{IfOk}
 use Rattle.upload_session.specs.Hashes.{Knows}
-use Rattle.upload_session.proofs.session.Session+A.known_hashes.Goals as goal
+use Rattle.upload_session.proofs.session.SessionOf+C.known_hashes.Goals as goal
 
 pub returns-clause-all : goal.returns-clause-all
 returns-clause-all g c =

@@ -1,9 +1,9 @@
 use Rattle.std.proofs.Common.{List, sym, ap, subst, ◌∙◌}
-use Rattle.xet_merkle.specs.Subtree.{Subtree}
+use Rattle.subtree_levels.specs.Subtree.{Subtree}
 use Rattle.upload_session.specs.Session.{PlacedRun, size_of_runs, StandFor}
-use Rattle.upload_session.specs.Subtrees.{subtrees}
-use Rattle.upload_session.proofs.Restoring.{sizes-subtrees}
-use Rattle.upload_session.proofs.laws.sessions_can_be_restored.Goals as goal
+use Rattle.subtree_sessions.specs.Subtrees.{subtrees}
+use Rattle.subtree_sessions.proofs.Restoring.{sizes-subtrees}
+use Rattle.subtree_sessions.proofs.laws.sessions_can_be_restored.Goals as goal
 
 pub returns : goal.returns
 returns g c = λ saved restored placed stand runs size. (
