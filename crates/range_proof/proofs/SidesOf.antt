@@ -14,7 +14,6 @@ both_sizes sides = total_size sides.left + total_size sides.right
 pub record AreSizes (levels : List Sides) (i before after : ℕ) : Type 0 where
   pub left : before ≡ sum_by left_size (take i levels)
   pub both : before + after ≡ sum_by both_sizes (take i levels)
-  pub most : before + after ≤ sum_by both_sizes levels
 
 -- one level more
 pub AreSizes-more : (levels : List Sides) (i : ℕ) (level : Sides) (before after left right : ℕ) → i < length levels → level ≡ get_or levels i level →
@@ -25,5 +24,13 @@ AreSizes-more levels i level before after left right within here before_is both_
     let more_both = sum_by_more both_sizes levels i level within in
     let here_left = ap left_size here in
     let here_both = ap both_sizes here in
+    record { left = omega arith; both = omega arith }
+
+-- the sizes up to a level and on it are at most those of all
+pub level_fits : (levels : List Sides) (i : ℕ) (level : Sides) → i < length levels → level ≡ get_or levels i level →
+    sum_by both_sizes (take i levels) + both_sizes level ≤ sum_by both_sizes levels
+level_fits levels i level within here =
+    let more = sum_by_more both_sizes levels i level within in
+    let here_both = ap both_sizes here in
     let most = sum_by-take-le both_sizes levels (i + 1) in
-    record { left = omega arith; both = omega arith; most = omega arith }
+    omega arith

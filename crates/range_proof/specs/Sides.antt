@@ -1,7 +1,8 @@
 -- The sides of one level of a proof, and when two proofs compare equal.
-use Rattle.std.specs.Prelude.{ℕ, Bool, ◌&&◌, nat_eq, List, [], slice_index_or}
+use Rattle.std.specs.Prelude.{ℕ, Bool, ◌&&◌, List, [], slice_index_or}
 use Rattle.std.specs.Cmp.Lexicographic.{pointwise}
 use Rattle.xet_roots.specs.Groups.{Node}
+use Rattle.subtree_levels.specs.Subtree.{same_node}
 use Rattle.range_proof.specs.RangeProof.{Sides, Proof}
 
 -- a level without nodes beside the range
@@ -15,10 +16,7 @@ left_at levels i = (slice_index_or levels i no_sides).left
 abbrev pub right_at : List Sides → ℕ → List Node
 right_at levels i = (slice_index_or levels i no_sides).right
 
--- whether two nodes, the sides of two levels, and two proofs are equal
-abbrev pub same_node : Node → Node → Bool
-same_node a b = pointwise nat_eq a.0 b.0 && nat_eq a.1 b.1
-
+-- whether the sides of two levels, and two proofs are equal
 abbrev pub same_sides : Sides → Sides → Bool
 same_sides a b = pointwise same_node a.left b.left && pointwise same_node a.right b.right
 

@@ -111,6 +111,7 @@ pub(crate) fn size_of_nodes(nodes: &[Node]) -> u64
 }
 
 // Returns the sums of the sizes on all left and on all right sides.
+#[tactic(auto, using(crate::proofs::SidesOf::level_fits))]
 pub(crate) fn sizes_beside<A: Allocator>(levels: &[LevelSides<A>]) -> (u64, u64)
     requires { sum_by (λ sides. total_size sides.left + total_size sides.right) levels.now < 2 ^ 64 }
     ensures left { result.0 ≡ sum_by (λ sides. total_size sides.left) levels.now }

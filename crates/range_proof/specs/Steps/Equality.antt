@@ -1,25 +1,13 @@
 -- The laws that `==` of proofs keeps: it returns true exactly for equal proofs.
-use Rattle.std.specs.Prelude.{◌≡◌, Bool, ◌&&◌, nat_eq}
+use Rattle.std.specs.Prelude.{◌≡◌}
 use Rattle.std.specs.Bool.{Decides}
-use Rattle.std.specs.Cmp.{IsEquivalence, IsPartialEquivalence, partial_equiv_from_equiv, decided, unsigned_Decides}
+use Rattle.std.specs.Cmp.{IsEquivalence, IsPartialEquivalence, partial_equiv_from_equiv, decided}
 use Rattle.std.specs.Cmp.Lexicographic.{pointwise, pointwise_decides}
 use Rattle.std.proofs.Common.{ap}
-use Rattle.std.proofs.lemmas.Bool.{and_parts, and_from}
-use Rattle.xet_roots.specs.Groups.{Node}
+use Rattle.subtree_levels.specs.Steps.SubtreeEquality.{both_decide, same_node-decides}
+use Rattle.subtree_levels.specs.Subtree.{same_node}
 use Rattle.range_proof.specs.RangeProof.{Sides, Proof}
-use Rattle.range_proof.specs.Sides.{same_node, same_sides, same_proof}
-
--- two tests decide a pair of facts
-both_decide : (a b : Bool) (P Q R : Type 0) → Decides a P → Decides b Q → (P → Q → R) → (R → P) → (R → Q) → Decides (a && b) R
-both_decide a b P Q R p q together first second = (
-  λ e. let both = and_parts a b e in together (p.0 both.0) (q.0 both.1),
-  λ r. and_from a b (p.1 (first r)) (q.1 (second r)),
-)
-
-pub same_node-decides : (a b : Node) → Decides (same_node a b) (a ≡ b)
-same_node-decides a b =
-    both_decide (pointwise nat_eq a.0 b.0) (nat_eq a.1 b.1) (a.0 ≡ b.0) (a.1 ≡ b.1) (a ≡ b) (pointwise_decides unsigned_Decides a.0 b.0) (unsigned_Decides a.1 b.1)
-    (λ p q i. (p i, q i)) (ap (λ (node : Node). node.0)) (ap (λ (node : Node). node.1))
+use Rattle.range_proof.specs.Sides.{same_sides, same_proof}
 
 pub same_sides-decides : (a b : Sides) → Decides (same_sides a b) (a ≡ b)
 same_sides-decides a b =

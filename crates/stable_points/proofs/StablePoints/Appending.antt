@@ -88,6 +88,31 @@ front_of a b c d e short = elim (meets a b c d e) [
   | later x gap p q ↦ (x ∷ gap, p, q)
 ]
 
+-- a stable place whose third natural cut is among the first nodes of a list is a stable place of these nodes
+pub stable_within : (front back left right : List Node) (stable : IsStable left right) → front ++ back ≡ left ++ right →
+    length left + length stable.begins.between < length front → (rest : List Node) × (front ≡ left ++ rest) × IsStable left rest
+stable_within front back left right stable e inside =
+    let begins = stable.begins in
+    let cuts : List Node = begins.between ++ begins.first ∷ [] in
+    let parts : front ++ back ≡ (left ++ cuts) ++ begins.after =
+    e ∙ ap (λ (l : List Node). left ++ l) (begins.parts ∙ sym (append_assoc begins.between (begins.first ∷ []) begins.after))
+    ∙ sym (append_assoc left cuts begins.after) in
+    let at = front_of front back (left ++ cuts) begins.after parts (omega (arith, length-append left cuts, length-append begins.between (begins.first ∷ []))) in (
+      cuts ++ at.0,
+      at.1 ∙ append_assoc left cuts at.0,
+      record {
+        ends = stable.ends;
+        begins = record {
+          between = begins.between;
+          first = begins.first;
+          after = at.0;
+          parts = append_assoc begins.between (begins.first ∷ []) at.0;
+          first_cut = begins.first_cut;
+          gap = begins.gap;
+        };
+      },
+    )
+
 pub nothing_of : (nodes : List Node) → length nodes < 1 → nodes ≡ []
 nothing_of [] few = refl
 nothing_of (x ∷ nodes) few = absurd (omega arith)
@@ -149,25 +174,7 @@ module _ (near more : List Node) (none : (cut : Node) → Cut cut → NoNew (cut
       let six = ends.gap.six in
       let six_after = begins.gap.six in
       elim (cases_lt (length left + length begins.between) (length (front ++ (before ++ near)))) [
-        | inl inside ↦
-            let third : List Node = left ++ (begins.between ++ begins.first ∷ []) in
-            let parts : (front ++ (before ++ near)) ++ more ≡ third ++ begins.after =
-            e ∙ ap (λ (l : List Node). left ++ l) (begins.parts ∙ sym (append_assoc begins.between (begins.first ∷ []) begins.after)) ∙ sym (append_assoc left (begins.between ++ begins.first ∷ []) begins.after) in
-            let at = front_of (front ++ (before ++ near)) more third begins.after parts (omega (arith, length-append left (begins.between ++ begins.first ∷ []), length-append begins.between (begins.first ∷ []))) in (
-              (begins.between ++ begins.first ∷ []) ++ at.0,
-              at.1 ∙ append_assoc left (begins.between ++ begins.first ∷ []) at.0,
-              record {
-                ends = ends;
-                begins = record {
-                  between = begins.between;
-                  first = begins.first;
-                  after = at.0;
-                  parts = append_assoc begins.between (begins.first ∷ []) at.0;
-                  first_cut = begins.first_cut;
-                  gap = begins.gap;
-                };
-              },
-            )
+        | inl inside ↦ stable_within (front ++ (before ++ near)) more left right stable e inside
         | inr beyond ↦ elim (cases_lt (length ends.before) (length out)) [
           | inl short ↦ elim enough [
             | inl nothing ↦

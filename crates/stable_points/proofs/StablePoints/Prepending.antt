@@ -9,7 +9,7 @@ use Rattle.stable_points.specs.declared.search.CutScan.{CutScan}
 use Rattle.stable_points.proofs.Lists.PlaceSearch.{same_place}
 use Rattle.stable_points.proofs.StablePoints.Scan.{stable_ends}
 use Rattle.stable_points.proofs.StablePoints.Loops.{Scanned, LastSoFar-none}
-use Rattle.stable_points.proofs.StablePoints.Appending.{none_new, front_of, ends_after}
+use Rattle.stable_points.proofs.StablePoints.Appending.{none_new, front_of, ends_after, stable_within}
 
 -- nodes that a scan passes from their start on
 none_scanned : (nodes : List Node) → completes_none (record { has_cut = false; ends_stable = false; since_cut = 0 }) nodes ≡ true → NoStable nodes
@@ -24,7 +24,7 @@ none_scanned nodes none left right e stable =
 module _ (more near far : List Node) (enough : (far ≡ []) ⊎ (14 ≤ length near)) (none : NoStable (more ++ near)) where
   -- the third natural cut of a stable point whose first one is put before
   third_in_sight : (left right : List Node) (stable : IsStable left right) → more ++ (near ++ far) ≡ left ++ right → length stable.ends.before < length more →
-      length left + (length stable.begins.between + 1) ≤ length (more ++ near)
+      length left + length stable.begins.between < length (more ++ near)
   third_in_sight left right stable e short =
       let ends = stable.ends in
       let begins = stable.begins in
@@ -43,25 +43,8 @@ module _ (more near far : List Node) (enough : (far ≡ []) ⊎ (14 ≤ length n
 
   first_not_before : (left right : List Node) (stable : IsStable left right) → more ++ (near ++ far) ≡ left ++ right → ¬ (length stable.ends.before < length more)
   first_not_before left right stable e short =
-      let begins = stable.begins in
-      let third : List Node = left ++ (begins.between ++ begins.first ∷ []) in
-      let parts : (more ++ near) ++ far ≡ third ++ begins.after =
-      append_assoc more near far ∙ e ∙ ap (λ (l : List Node). left ++ l) (begins.parts ∙ sym (append_assoc begins.between (begins.first ∷ []) begins.after))
-      ∙ sym (append_assoc left (begins.between ++ begins.first ∷ []) begins.after) in
-      let within = third_in_sight left right stable e short in
-      let at = front_of (more ++ near) far third begins.after parts (omega (arith, length-append left (begins.between ++ begins.first ∷ []), length-append begins.between (begins.first ∷ []))) in
-      none left ((begins.between ++ begins.first ∷ []) ++ at.0) (at.1 ∙ append_assoc left (begins.between ++ begins.first ∷ []) at.0)
-      (record {
-        ends = stable.ends;
-        begins = record {
-          between = begins.between;
-          first = begins.first;
-          after = at.0;
-          parts = append_assoc begins.between (begins.first ∷ []) at.0;
-          first_cut = begins.first_cut;
-          gap = begins.gap;
-        };
-      })
+      let at = stable_within (more ++ near) far left right stable (append_assoc more near far ∙ e) (third_in_sight left right stable e short) in
+      none left at.0 at.1 at.2
 
   adds_none : AddsNoStableBefore more (near ++ far)
   adds_none left right e stable =

@@ -1,45 +1,9 @@
-use Rattle.std.proofs.Common.{ap, ◌∙◌, refl, arith}
+use Rattle.std.proofs.Common.{ap, ◌∙◌}
 use Rattle.std.proofs.lemmas.List.{take_all}
 use Rattle.std.specs.Prelude.{sum_by}
 use Rattle.xet_roots.specs.Roots.{total_size}
 use Rattle.range_proof.proofs.SidesOf.{AreSizes-more, left_size, both_sizes}
 use Rattle.range_proof.proofs.sides.sizes_beside.Goals as goal
-
-pub size_of_nodes-before-requires : goal.size_of_nodes-before-requires
-size_of_nodes-before-requires g c =
-    let level = c.level-item.result in
-    let more = AreSizes-more c.args.levels.now c.levels.level-index level c.levels.before c.levels.after (total_size level.left) (total_size level.right)
-    c.levels-test.true c.level-item.is c.levels.invariant.before c.levels.invariant.both refl refl in
-    let left = ap total_size c.left.ensures in
-    let fits = c.requires in
-    omega arith
-
-pub overflow_add-before : goal.overflow_add-before
-overflow_add-before g c =
-    let level = c.level-item.result in
-    let more = AreSizes-more c.args.levels.now c.levels.level-index level c.levels.before c.levels.after (total_size level.left) (total_size level.right)
-    c.levels-test.true c.level-item.is c.levels.invariant.before c.levels.invariant.both refl refl in
-    let left = c.size_of_nodes-before.ensures ∙ ap total_size c.left.ensures in
-    let fits = c.requires in
-    omega arith
-
-pub size_of_nodes-after-requires : goal.size_of_nodes-after-requires
-size_of_nodes-after-requires g c =
-    let level = c.level-item.result in
-    let more = AreSizes-more c.args.levels.now c.levels.level-index level c.levels.before c.levels.after (total_size level.left) (total_size level.right)
-    c.levels-test.true c.level-item.is c.levels.invariant.before c.levels.invariant.both refl refl in
-    let right = ap total_size c.right.ensures in
-    let fits = c.requires in
-    omega arith
-
-pub overflow_add-after : goal.overflow_add-after
-overflow_add-after g c =
-    let level = c.level-item.result in
-    let more = AreSizes-more c.args.levels.now c.levels.level-index level c.levels.before c.levels.after (total_size level.left) (total_size level.right)
-    c.levels-test.true c.level-item.is c.levels.invariant.before c.levels.invariant.both refl refl in
-    let right = c.size_of_nodes-after.ensures ∙ ap total_size c.right.ensures in
-    let fits = c.requires in
-    omega arith
 
 pub levels-preserved : goal.levels-preserved
 levels-preserved g c =
