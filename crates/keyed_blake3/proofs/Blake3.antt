@@ -1,6 +1,7 @@
 -- What the proofs of keyed BLAKE3 share. Each file is about one step from the blocks of a message to its root.
 pub mod Absorbing
 pub mod Blocks
+pub mod ByBlocks
 pub mod Finishing
 pub mod InStep
 pub mod LaneBytes
@@ -8,4 +9,5 @@ pub mod Lanes
 pub mod Merging
 pub mod Rows
 pub mod Subtrees
+pub mod TwoRows
 pub mod Waiting

@@ -1,5 +1,7 @@
 -- Definitions that only the contracts of private functions use.
+pub mod Blocks
 pub mod LaneRows
 pub mod Lanes
 pub mod Rows
 pub mod Tree
+pub mod TwoRows

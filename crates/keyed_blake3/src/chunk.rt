@@ -1,8 +1,9 @@
 //! The chaining value of a chunk, block by block (BLAKE3 specification, 2.4).
 
-ghost use Rattle.std.specs.Prelude.{◌≡◌, ◌+◌, ◌*◌, ◌≤◌, drop, length};
+ghost use Rattle.std.specs.Prelude.{◌≡◌, ℕ, ◌+◌, ◌*◌, ◌≤◌, List, drop, length};
 ghost use Rattle.std.specs.Int.{from_le_bytes, w32};
-ghost use Rattle.keyed_blake3.specs.Blake3.{block, chunk_end_flag, chunk_value, compress, keyed_hash_flag, start_flag, words_at};
+ghost use Rattle.keyed_blake3.specs.Blake3.{block, blocks_before_last, chunk_end_flag, chunk_value, compress, keyed_hash_flag, start_flag, words_at};
+ghost use Rattle.keyed_blake3.specs.Steps.Blocks.{value_after};
 
 use crate::compression::compress;
 
@@ -87,20 +88,48 @@ pub(crate) fn last_value(
     compress_block(h, &block, counter, rest.len() as u32, flags)
 }
 
+// Returns the number of a chunk's last block. An empty chunk has one block, too.
+#[inline(always)]
+pub(crate) fn last_block(chunk: &[u8]) -> usize
+    ensures { result ≡ blocks_before_last chunk.now }
+{
+    chunk.len().saturating_sub(1) / BLOCK_LEN
+}
+
+// Returns the chaining value of a chunk of at most 1024 bytes from that after its first `blocks` blocks (2.4). The last block
+// may be one of them.
+pub(crate) fn value_from(
+    h: &[u32; 8],
+    chunk: &[u8],
+    blocks: usize,
+    counter: u64,
+    flags: u32,
+) -> [u32; 8]
+    requires chunk { length chunk.now ≤ 1024 }
+    requires flags { flags ≤ 8 }
+    ensures { (key : List ℕ) → h.now ≡ value_after key counter chunk.now flags blocks
+        → result ≡ chunk_value key counter chunk.now flags }
+{
+    let last = last_block(chunk);
+    if blocks > last {
+        return *h;
+    }
+    let mut value = *h;
+    'chain: for n in blocks..last {
+        let at = BLOCK_LEN * n;
+        let block = &chunk[at..at + BLOCK_LEN];
+        let block_flags = KEYED_HASH + start_flag(n as u64);
+        value = compress_block(&value, block, counter, BLOCK_LEN as u32, block_flags);
+    }
+    let rest = &chunk[BLOCK_LEN * last..];
+    last_value(&value, rest, counter, last as u64, flags)
+}
+
 // Returns the chaining value of a chunk of at most 1024 bytes (2.4).
 pub(crate) fn chunk_value(key: &[u32; 8], chunk: &[u8], counter: u64, flags: u32) -> [u32; 8]
     requires chunk { length chunk.now ≤ 1024 }
     requires flags { flags ≤ 8 }
     ensures { result ≡ chunk_value key.now counter chunk.now flags }
 {
-    let last = chunk.len().saturating_sub(1) / BLOCK_LEN;
-    let mut h = *key;
-    'chain: for n in 0..last {
-        let at = BLOCK_LEN * n;
-        let block = &chunk[at..at + BLOCK_LEN];
-        let flags = KEYED_HASH + start_flag(n as u64);
-        h = compress_block(&h, block, counter, BLOCK_LEN as u32, flags);
-    }
-    let rest = &chunk[BLOCK_LEN * last..];
-    last_value(&h, rest, counter, last as u64, flags)
+    value_from(key, chunk, 0, counter, flags)
 }

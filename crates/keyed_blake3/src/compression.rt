@@ -10,6 +10,8 @@ mod lane_bytes;
 mod lane_rows;
 pub(crate) mod lanes;
 mod rows;
+pub(crate) mod two;
+pub(crate) mod two_rows;
 
 use rows::{Quads, Rows};
 use std::simd::prelude::*;

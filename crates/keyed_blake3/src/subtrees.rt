@@ -1,13 +1,16 @@
 //! The chaining values of subtrees of one size, side by side (BLAKE3 specification, 2.5): lane j belongs to subtree j.
 
 ghost use Rattle.std.specs.Prelude.{◌≡◌, ℕ, ◌+◌, ◌*◌, ◌/◌, ◌^◌, ◌<◌, ◌≤◌, ◌++◌, List, drop, length, slice_index, take};
-ghost use Rattle.keyed_blake3.specs.Blake3.{parent_value};
-ghost use Rattle.keyed_blake3.specs.Steps.Lanes.{AreFull, beside, lane};
+ghost use Rattle.keyed_blake3.specs.Blake3.{chunk_value, keyed_hash_flag, parent_flag, parent_value};
+ghost use Rattle.keyed_blake3.specs.Steps.Lanes.{AreFull, beside, chunk_at, lane};
 ghost use Rattle.keyed_blake3.specs.Steps.Tree.{subtree_at};
 
-use crate::chunk::{CHUNK_LEN, KEYED_HASH};
+use crate::chunk::{BLOCK_LEN, CHUNK_LEN, KEYED_HASH};
 use crate::chunks::{chunk_values, key_of_each};
-use crate::compression::lanes::{LANES, Lanes, compress_each, each};
+use crate::compression::lanes::{LANES, Lanes, compress_each, each, lane};
+use crate::compression::two::{apart, both, compress_two};
+use crate::compression::two_rows::Block;
+use crate::two_chunks::two_chunk_values;
 use std::simd::prelude::*;
 
 // The domain flag (table 3) of a parent.
@@ -134,6 +137,50 @@ fn values_apart(
     values_above(key, &left, &right)
 }
 
+// Returns a vector of two words and zeros.
+#[inline(always)]
+fn of_two(x: u32, y: u32) -> Lanes
+    ensures full { length result ≡ LANES }
+    ensures first { slice_index result 0 ≡ x }
+    ensures second { slice_index result 1 ≡ y }
+{
+    let mut words = [0u32; LANES];
+    words[0] = x;
+    words[1] = y;
+    Simd::from_array(words)
+}
+
+// Returns vectors of the words of two values, in the first two lanes.
+#[inline(always)]
+fn lanes_of_two(x: &[u32; 8], y: &[u32; 8]) -> [Lanes; 8]
+    ensures full { AreFull result }
+    ensures first { lane 0 result ≡ x.now }
+    ensures second { lane 1 result ≡ y.now }
+{
+    [
+        of_two(x[0], y[0]),
+        of_two(x[1], y[1]),
+        of_two(x[2], y[2]),
+        of_two(x[3], y[3]),
+        of_two(x[4], y[4]),
+        of_two(x[5], y[5]),
+        of_two(x[6], y[6]),
+        of_two(x[7], y[7]),
+    ]
+}
+
+// Returns the values of two chunks, in the first two lanes. The first one has number `first`.
+fn values_of_two(key: &[u32; 8], chunks: &[u8], first: u64) -> [Lanes; 8]
+    requires counter { first + 1 < 2 ^ 64 }
+    requires chunks { length chunks.now ≡ 2048 }
+    ensures full { AreFull result }
+    ensures lanes { (j : ℕ) → j < 2 → lane j result ≡ chunk_value key.now (first + j) (chunk_at j chunks.now) 0 }
+{
+    let (left, right) = chunks.split_at(CHUNK_LEN);
+    let (x, y) = two_chunk_values(key, left, right, (first, first + 1), 0);
+    lanes_of_two(&x, &y)
+}
+
 // Returns the values of up to `LANES` subtrees of one size, of which the first begins with chunk number `first`. If
 // there are fewer than `LANES`, each is a chunk.
 pub(crate) fn subtree_values(key: &[u32; 8], chunks: &[u8], first: u64) -> [Lanes; 8]
@@ -144,12 +191,61 @@ pub(crate) fn subtree_values(key: &[u32; 8], chunks: &[u8], first: u64) -> [Lane
         → (0 < k → n ≡ LANES) → chunks.now ≡ take (length chunks.now) (drop (1024 * first) m) → j < n
         → lane j result ≡ subtree_at key.now k (first + 2 ^ k * j) m }
 {
+    if chunks.len() == 2 * CHUNK_LEN {
+        return values_of_two(key, chunks, first);
+    }
     if chunks.len() <= CHUNK_LEN * LANES {
         let places = neighbours(chunks.len() / CHUNK_LEN - 1);
         return chunk_values(key, chunks, &places, first);
     }
     let len = chunks.len() / (CHUNK_LEN * LANES);
     values_apart(key, chunks, &starts(len), len, first)
+}
+
+// Returns the block of a parent: the values of its two subtrees (2.5).
+#[inline(always)]
+fn parent_block(left: &[u32; 8], right: &[u32; 8]) -> Block
+    ensures words { result.words ≡ left.now ++ right.now }
+    ensures counter { result.counter ≡ 0 }
+    ensures len { result.len ≡ 64 }
+    ensures flags { result.flags ≡ keyed_hash_flag + parent_flag }
+{
+    let mut words = [0u32; 16];
+    words[..8].copy_from_slice(left);
+    words[8..].copy_from_slice(right);
+    Block {
+        words,
+        counter: 0,
+        len: BLOCK_LEN as u32,
+        flags: KEYED_HASH + PARENT,
+    }
+}
+
+// Returns the values of the parents of four subtrees, in the first two lanes.
+fn two_parent_values(key: &[u32; 8], values: &[Lanes; 8]) -> [Lanes; 8]
+    requires { AreFull values.now }
+    ensures full { AreFull result }
+    ensures lanes { (j : ℕ) → j < 2 → lane j result
+        ≡ parent_value key.now (lane (2 * j) values.now) (lane (2 * j + 1) values.now) 0 }
+{
+    let first = parent_block(&lane(values, 0), &lane(values, 1));
+    let second = parent_block(&lane(values, 2), &lane(values, 3));
+    let (x, y) = apart(&compress_two(&both(key, key), &first, &second));
+    lanes_of_two(&x, &y)
+}
+
+// Returns the values of the parents of the first `count` subtrees, two for each.
+fn joined_values(key: &[u32; 8], values: &[Lanes; 8], count: usize) -> [Lanes; 8]
+    requires count { count ≤ LANES }
+    requires full { AreFull values.now }
+    ensures full { AreFull result }
+    ensures lanes { (j : ℕ) → 2 * j + 1 < count → lane j result
+        ≡ parent_value key.now (lane (2 * j) values.now) (lane (2 * j + 1) values.now) 0 }
+{
+    if count <= 4 {
+        return two_parent_values(key, values);
+    }
+    parent_values(key, values, values)
 }
 
 // Joins neighbouring subtrees of one size side by side, level by level, while more than two are left and each has its
@@ -177,7 +273,7 @@ pub(crate) fn join_in_pairs(
     let mut number = number;
     let mut count = count;
     'levels: while count > 2 && count % 2 == 0 && number % 2 == 0 {
-        *values = parent_values(key, values, values);
+        *values = joined_values(key, values, count);
         number /= 2;
         count /= 2;
     }

@@ -17,8 +17,8 @@ use crate::subtrees::{PARENT, join_in_pairs, subtree_values};
 // The most chaining values that may wait: a message has at most 2^54 chunks.
 pub(crate) const MAX_DEPTH: usize = 54;
 
-// The fewest chunks that are hashed side by side: two alone are slower so than one after the other.
-const CHUNKS_SIDE_BY_SIDE: usize = 3;
+// The fewest chunks that are hashed side by side.
+const CHUNKS_SIDE_BY_SIDE: usize = 2;
 
 // The domain flag (table 3) of the root.
 pub(crate) const ROOT: u32 = 8;
@@ -229,7 +229,7 @@ impl Tree {
         ensures rest { 64 * result ≤ length rest.now }
         ensures absorbed { 64 * result < length rest.now → (key m : List ℕ) → IsAbsorbed key self.old number m
             → rest.now ≡ drop (64 * number) m → IsAbsorbed key self.new (number + result) m }
-        ensures whole { 64 * result ≡ length rest.now → ((number + result) % 16 ≡ 0) × (32 < result) }
+        ensures whole { 64 * result ≡ length rest.now → ((number + result) % 16 ≡ 0) × (16 < result) }
         ensures ended { 64 * result ≡ length rest.now → (key m : List ℕ) → IsAbsorbed key self.old number m
             → rest.now ≡ drop (64 * number) m → IsEnded key self.new ((number + result) / 16) m }
     {

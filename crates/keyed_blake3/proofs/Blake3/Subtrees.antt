@@ -47,6 +47,12 @@ is_chunk (suc k) n bytes e few all =
     let some = pow_pos k in
     absurd (omega (arith, pow-succ' 2 k, rw full at e))
 
+-- two lanes
+pub two_lanes : (P : ℕ → Type 0) → P 0 → P 1 → (j : ℕ) → j < 2 → P j
+two_lanes P x y zero h = x
+two_lanes P x y (suc zero) h = y
+two_lanes P x y (suc (suc j)) h = absurd (omega arith)
+
 -- values of chunks are those of subtrees
 pub chunk_values_at : (key : List ℕ) (first n j : ℕ) (m bytes value : List ℕ) → length bytes ≡ 1024 * (2 ^ 0 * n)
     → bytes ≡ take (length bytes) (drop (1024 * first) m) → j < n → value ≡ chunk_value key (first + j) (chunk_at j bytes) 0

@@ -1,13 +1,12 @@
 use Rattle.std.proofs.Common.{◌≡◌, suc, ◌+◌, ◌*◌, ◌/◌, ◌^◌, ◌≤◌, ℕ, length, arith, ap, ◌∙◌}
 use Rattle.std.proofs.Math.Nat.{mul-le-mul_left}
-use Rattle.keyed_blake3.proofs.Blake3.Subtrees.{beside_left, parents_at}
+use Rattle.keyed_blake3.proofs.Blake3.Subtrees.{parents_at}
 use Rattle.keyed_blake3.proofs.Blake3.Waiting.{double}
 use Rattle.keyed_blake3.proofs.subtrees.join_in_pairs.Goals as goal
 
 pub levels-preserved : goal.levels-preserved
 levels-preserved c =
     let i = c.levels.invariant in
-    let values = c.levels.values in
     let number : ℕ = c.levels.number / 2 in
     let count : ℕ = c.levels.count / 2 in
     let even_number : c.levels.number ≡ 2 * number = omega arith in
@@ -17,7 +16,7 @@ levels-preserved c =
       some = omega arith;
       count = omega arith;
       number = omega arith;
-      full = c.parent_values.ensures.full;
+      full = c.joined_values.ensures.full;
       lanes = λ k first m whole long are.
           let was = i.lanes k first m whole long are in
           let level : ℕ = was.0 in
@@ -28,10 +27,7 @@ levels-preserved c =
             λ j h.
                 let within : 2 ^ suc level * (j + 1) ≤ 2 ^ suc level * count = mul-le-mul_left (2 ^ suc level) (omega (arith, h)) in
                 let end : 1024 * (first + 2 ^ suc level * (j + 1)) ≤ length m = omega (arith, within, all, long) in
-                c.parent_values.ensures.lanes j (omega (arith, h, i.count, c.requires.count))
-                ∙ parents_at c.args.key.now first level j m _ _
-                (beside_left values values (2 * j) c.parent_values.ensures.sizes.0 i.full (omega (arith, h, i.count, c.requires.count)) ∙ was.3 (2 * j) (omega (arith, h)))
-                (beside_left values values (2 * j + 1) c.parent_values.ensures.sizes.0 i.full (omega (arith, h, i.count, c.requires.count)) ∙ was.3 (2 * j + 1) (omega (arith, h)))
-                end,
+                c.joined_values.ensures.lanes j (omega (arith, h))
+                ∙ parents_at c.args.key.now first level j m _ _ (was.3 (2 * j) (omega (arith, h))) (was.3 (2 * j + 1) (omega (arith, h))) end,
           );
     }

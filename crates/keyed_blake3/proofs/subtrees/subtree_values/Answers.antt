@@ -8,7 +8,15 @@ use Rattle.keyed_blake3.proofs.subtrees.subtree_values.Goals as goal
 
 pub returns-then-chunks-clause-lanes : goal.returns-then-chunks-clause-lanes
 returns-then-chunks-clause-lanes c = λ k n j m size few all is h.
-    let none : k ≡ 0 = is_chunk k n (length c.args.chunks.now) size c.if-chunks.true all in
+    let none : k ≡ 0 = is_chunk k n (length c.args.chunks.now) size (omega arith) all in
+    let chunks : length c.args.chunks.now ≡ 1024 * (2 ^ 0 * n) = size ∙ ap (λ (i : ℕ). 1024 * (2 ^ i * n)) none in
+    let two : n ≡ 2 = omega (arith, chunks, one-mul n) in
+    subst (λ (i : ℕ). lane j c.values_of_two.result ≡ subtree_at c.args.key.now i (c.args.first + 2 ^ i * j) m) (sym none)
+    (chunk_values_at c.args.key.now c.args.first n j m c.args.chunks.now (lane j c.values_of_two.result) chunks is h (c.values_of_two.ensures.lanes j (omega (arith, h, two))))
+
+pub returns-then-chunks-2-clause-lanes : goal.returns-then-chunks-2-clause-lanes
+returns-then-chunks-2-clause-lanes c = λ k n j m size few all is h.
+    let none : k ≡ 0 = is_chunk k n (length c.args.chunks.now) size c.if-chunks-2.true all in
     let chunks : length c.args.chunks.now ≡ 1024 * (2 ^ 0 * n) = size ∙ ap (λ (i : ℕ). 1024 * (2 ^ i * n)) none in
     let within : j < LANES = omega (arith, h, few) in
     let same : get_or c.neighbours-places.result j 0 ≡ j = (c.neighbours-places.ensures j within).1 (omega (arith, chunks, one-mul n, h)) in
@@ -18,7 +26,7 @@ returns-then-chunks-clause-lanes c = λ k n j m size few all is h.
 
 pub returns-clause-lanes : goal.returns-clause-lanes
 returns-clause-lanes c = λ k n j m size few all is h.
-    let full : n ≡ LANES = lanes_full k n (length c.args.chunks.now) size c.if-chunks.false few all in
+    let full : n ≡ LANES = lanes_full k n (length c.args.chunks.now) size c.if-chunks-2.false few all in
     let whole : length c.args.chunks.now ≡ 1024 * (2 ^ k * LANES) = size ∙ ap (λ (i : ℕ). 1024 * (2 ^ k * i)) full in
     let len : length c.args.chunks.now / (1024 * LANES) ≡ 2 ^ k = omega (arith, whole) in
     let within : j < LANES = omega (arith, h, few) in

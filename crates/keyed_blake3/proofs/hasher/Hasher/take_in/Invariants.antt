@@ -10,7 +10,7 @@ invariant-whole l = record {
   number : 64 * l.number ≡ l.fn.self.count + l.start;
   start : l.start ≤ length l.piece;
   absorbed : l.start < length l.piece → (key m : List ℕ) → IsTaken key l.fn.self l.fn.number m → IsAbsorbed (words_at 8 key) l.self.tree l.number (m ++ l.piece);
-  whole : l.start ≡ length l.piece → (l.number % 16 ≡ 0) × (32 < l.number);
+  whole : l.start ≡ length l.piece → (l.number % 16 ≡ 0) × (16 < l.number);
   ended : l.start ≡ length l.piece → (key m : List ℕ) → IsTaken key l.fn.self l.fn.number m → IsEnded (words_at 8 key) l.self.tree (l.number / 16) (m ++ l.piece);
 }
 
