@@ -11,7 +11,7 @@ ghost use Rattle.xet_roots.specs.Steps.Room.{most_made};
 
 use crate::error::CoreError;
 pub use crate::groups::{AGGREGATED_HASHES_MEAN_TREE_BRANCHING_FACTOR, Node};
-use crate::groups::{MIN_GROUP_LEN, first_group_len, group_size, parent, total_size};
+use crate::groups::{MIN_GROUP_LEN, first_group_len, group_size, parent, total_size, two_parents};
 use crate::parent_maker::{ParentHashes, ParentMaker};
 use std::alloc::{AllocError, Allocator};
 use xet_hash::data_hash::{HMACKey, MerkleHash};
@@ -32,8 +32,15 @@ pub fn parents<A: Allocator, P: ParentMaker>(
     let mut made = Vec::with_capacity(alloc, nodes.len().div_ceil(MIN_GROUP_LEN))?;
     let mut rest = nodes;
     'groups: while !rest.is_empty() {
-        let (group, after) = rest.split_at(first_group_len(rest));
-        made.push((maker.make(group), group_size(group)))?;
+        let (first, after) = rest.split_at(first_group_len(rest));
+        if after.is_empty() {
+            made.push((maker.make(first), group_size(first)))?;
+            return Ok(made);
+        }
+        let (second, after) = after.split_at(first_group_len(after));
+        let (of_first, of_second) = maker.make_two(first, second);
+        made.push((of_first, group_size(first)))?;
+        made.push((of_second, group_size(second)))?;
         rest = after;
     }
     Ok(made)
@@ -48,11 +55,19 @@ fn shrink<A: Allocator>(nodes: &mut Vec<Node, A>)
     let mut read = 0;
     'groups: while read < nodes.len() {
         let rest = &nodes[read..];
-        let len = first_group_len(rest);
-        let parent = parent(&rest[..len]);
-        nodes[made] = parent;
-        made += 1;
-        read += len;
+        let first = first_group_len(rest);
+        let (group, after) = rest.split_at(first);
+        if after.is_empty() {
+            nodes[made] = parent(group);
+            nodes.truncate(made + 1);
+            return;
+        }
+        let second = first_group_len(after);
+        let (of_first, of_second) = two_parents(group, &after[..second]);
+        nodes[made] = of_first;
+        nodes[made + 1] = of_second;
+        made += 2;
+        read += first + second;
     }
     nodes.truncate(made);
 }

@@ -9,7 +9,9 @@ ghost use Rattle.xet_roots.specs.Groups.{Node, is_cut};
 ghost use Rattle.xet_roots.specs.Roots.{total_size, node_line, group_text, parent_hash, parent};
 ghost use Rattle.xet_roots.specs.Steps.Scan.{IsFirstGroup};
 
-use xet_hash::data_hash::{MerkleHash, compute_internal_node_hash};
+use xet_hash::data_hash::{
+    MerkleHash, compute_internal_node_hash, compute_two_internal_node_hashes,
+};
 
 /// One in this many hashes is a natural cut. A group has 5.5 nodes on average, since no group ends before its third
 /// node unless the list does, and none has more than nine.
@@ -125,6 +127,21 @@ pub(crate) fn parent_hash(group: &[Node]) -> MerkleHash
     compute_internal_node_hash(&text[start..])
 }
 
+// Returns the hashes of two groups' parents. The two texts are hashed at once.
+#[tactic(auto, unfolding(crate::specs::Roots::parent_hash))]
+pub(crate) fn two_parent_hashes(first: &[Node], second: &[Node]) -> (MerkleHash, MerkleHash)
+    requires first { length first.now ≤ MAX_GROUP_LEN }
+    requires second { length second.now ≤ MAX_GROUP_LEN }
+    ensures first { result.0 ≡ parent_hash first.now }
+    ensures second { result.1 ≡ parent_hash second.now }
+{
+    let mut first_text = [0; MAX_TEXT_LEN];
+    let first_start = write_text(&mut first_text, first);
+    let mut second_text = [0; MAX_TEXT_LEN];
+    let second_start = write_text(&mut second_text, second);
+    compute_two_internal_node_hashes(&first_text[first_start..], &second_text[second_start..])
+}
+
 // Returns the sum of the sizes in a group.
 pub(crate) fn group_size(group: &[Node]) -> u64
     requires { total_size group.now < 2 ^ 64 }
@@ -140,4 +157,18 @@ pub(crate) fn parent(group: &[Node]) -> Node
     ensures { result ≡ parent group.now }
 {
     (parent_hash(group), group_size(group))
+}
+
+// Returns the parents of two groups.
+pub(crate) fn two_parents(first: &[Node], second: &[Node]) -> (Node, Node)
+    requires few { (length first.now ≤ MAX_GROUP_LEN) × (length second.now ≤ MAX_GROUP_LEN) }
+    requires fits { (total_size first.now < 2 ^ 64) × (total_size second.now < 2 ^ 64) }
+    ensures first { result.0 ≡ parent first.now }
+    ensures second { result.1 ≡ parent second.now }
+{
+    let (of_first, of_second) = two_parent_hashes(first, second);
+    (
+        (of_first, group_size(first)),
+        (of_second, group_size(second)),
+    )
 }
