@@ -121,7 +121,43 @@ const char *yurewha_processor_level(void)
          size_t count), (session, hashes, count)) \
     CALL(level, yurewha_status, return, session_num_known_hashes, (yurewha_session *session, size_t *count), (session, count)) \
     CALL(level, yurewha_status, return, session_known_hashes, (yurewha_session *session, yurewha_hash *hashes, size_t count), \
-         (session, hashes, count))
+         (session, hashes, count)) \
+    CALL(level, yurewha_status, return, hash_tree_from_chunks, (const yurewha_chunk *chunks, size_t count, \
+         yurewha_hash_tree *tree), (chunks, count, tree)) \
+    CALL(level, yurewha_status, return, hash_tree_root, (yurewha_hash_tree *tree, yurewha_hash *root), (tree, root)) \
+    CALL(level, yurewha_status, return, hash_tree_file_hash, (yurewha_hash_tree *tree, const yurewha_bytes *salt, \
+         yurewha_hash *hash), (tree, salt, hash)) \
+    CALL(level, yurewha_status, return, hash_tree_num_chunks, (yurewha_hash_tree *tree, size_t *count), (tree, count)) \
+    CALL(level, yurewha_status, return, hash_tree_total_size, (yurewha_hash_tree *tree, uint64_t *size), (tree, size)) \
+    CALL(level, yurewha_status, return, hash_tree_chunks_at, (yurewha_hash_tree *tree, uint64_t from, uint64_t to, \
+         size_t *first, size_t *end), (tree, from, to, first, end)) \
+    CALL(level, yurewha_status, return, hash_tree_bytes_of, (yurewha_hash_tree *tree, size_t first, size_t end, \
+         uint64_t *from, uint64_t *to), (tree, first, end, from, to)) \
+    CALL(level, yurewha_status, return, hash_tree_proof, (yurewha_hash_tree *tree, size_t first, size_t end, \
+         yurewha_level *levels, size_t level_room, yurewha_chunk *nodes, size_t node_room, size_t *level_count, \
+         size_t *node_count), (tree, first, end, levels, level_room, nodes, node_room, level_count, node_count)) \
+    CALL(level, void, , hash_tree_free, (yurewha_hash_tree *tree), (tree)) \
+    CALL(level, yurewha_status, return, range_proof_to_json, (const yurewha_level *levels, size_t level_count, \
+         const yurewha_chunk *nodes, size_t node_count, char *text, size_t room, size_t *length), (levels, level_count, nodes, \
+         node_count, text, room, length)) \
+    CALL(level, yurewha_status, return, range_proof_from_json, (const char *text, size_t length, yurewha_level *levels, \
+         size_t level_room, yurewha_chunk *nodes, size_t node_room, size_t *level_count, size_t *node_count), (text, length, \
+         levels, level_room, nodes, node_room, level_count, node_count)) \
+    CALL(level, yurewha_status, return, range_proof_open, (const yurewha_level *levels, size_t level_count, \
+         const yurewha_chunk *nodes, size_t node_count, const yurewha_hash *file_hash, const yurewha_bytes *salt, \
+         yurewha_opened_range *range), (levels, level_count, nodes, node_count, file_hash, salt, range)) \
+    CALL(level, yurewha_status, return, range_proof_open_root, (const yurewha_level *levels, size_t level_count, \
+         const yurewha_chunk *nodes, size_t node_count, const yurewha_hash *root, yurewha_opened_range *range), (levels, \
+         level_count, nodes, node_count, root, range)) \
+    CALL(level, yurewha_status, return, opened_range_file_size, (yurewha_opened_range *range, uint64_t *size), (range, size)) \
+    CALL(level, yurewha_status, return, opened_range_num_chunks, (yurewha_opened_range *range, size_t *count), (range, count)) \
+    CALL(level, yurewha_status, return, opened_range_bytes_of, (yurewha_opened_range *range, size_t chunk, uint64_t *from, \
+         uint64_t *to), (range, chunk, from, to)) \
+    CALL(level, yurewha_status, return, opened_range_check, (yurewha_opened_range *range, size_t chunk, const uint8_t *data, \
+         size_t length, uint64_t *place), (range, chunk, data, length, place)) \
+    CALL(level, yurewha_status, return, opened_range_read, (yurewha_opened_range *range, uint64_t from, uint64_t to, \
+         const uint8_t *data, size_t length, size_t *start), (range, from, to, data, length, start)) \
+    CALL(level, void, , opened_range_free, (yurewha_opened_range *range), (range))
 
 /* A level, whether the processor has it, and its calls. */
 #define MEMBER(level, type, hand_back, name, parameters, arguments) type(*name) parameters;

@@ -35,7 +35,7 @@ private:
     int failures = 0;
 };
 
-// Subtrees and sessions that free themselves, as a caller in C++ would have them.
+// Handles that free themselves, as a caller in C++ would have them.
 struct Subtree : yurewha_subtree {
     Subtree() : yurewha_subtree{} {}
     Subtree(const Subtree &) = delete;
@@ -48,6 +48,20 @@ struct Session : yurewha_session {
     Session(const Session &) = delete;
     Session &operator=(const Session &) = delete;
     ~Session() { yurewha_session_free(this); }
+};
+
+struct HashTree : yurewha_hash_tree {
+    HashTree() : yurewha_hash_tree{} {}
+    HashTree(const HashTree &) = delete;
+    HashTree &operator=(const HashTree &) = delete;
+    ~HashTree() { yurewha_hash_tree_free(this); }
+};
+
+struct OpenedRange : yurewha_opened_range {
+    OpenedRange() : yurewha_opened_range{} {}
+    OpenedRange(const OpenedRange &) = delete;
+    OpenedRange &operator=(const OpenedRange &) = delete;
+    ~OpenedRange() { yurewha_opened_range_free(this); }
 };
 
 bool same(const yurewha_hash &first, const yurewha_hash &second) { return yurewha_compare(&first, &second) == 0; }
@@ -185,6 +199,55 @@ void trees(Checks &check)
     check(yurewha_session_finish(&session, 28, &told) == YUREWHA_DONE && same(told, file), "finish");
 }
 
+// The file is twelve chunks of three bytes each, and the range those that hold its bytes 10 to 13.
+void ranges(Checks &check)
+{
+    const std::string data = "abcdefghijklmnopqrstuvwxyz0123456789";
+    const auto *const bytes = reinterpret_cast<const std::uint8_t *>(data.data());
+    std::array<yurewha_chunk, 12> all{};
+    for (std::size_t i = 0; i < all.size(); i++) {
+        yurewha_data_hash(bytes + 3 * i, 3, &all[i].hash);
+        all[i].size = 3;
+    }
+    HashTree tree;
+    yurewha_hash root{}, file{}, told{};
+    const yurewha_bytes salt{{1, 2, 3}};
+    std::size_t count = 0, first = 0, end = 0, level_count = 0, node_count = 0, length = 0;
+    std::uint64_t size = 0, from = 0, to = 0, place = 0;
+    check(yurewha_hash_tree_from_chunks(all.data(), all.size(), &tree) == YUREWHA_DONE, "hash_tree_from_chunks");
+    check(yurewha_hash_tree_root(&tree, &root) == YUREWHA_DONE, "hash_tree_root");
+    check(yurewha_xorb_hash(all.data(), all.size(), &told) == YUREWHA_DONE && same(told, root), "the root of the tree");
+    check(yurewha_hash_tree_file_hash(&tree, &salt, &file) == YUREWHA_DONE && !same(file, root), "hash_tree_file_hash");
+    check(yurewha_hash_tree_num_chunks(&tree, &count) == YUREWHA_DONE && count == 12, "hash_tree_num_chunks");
+    check(yurewha_hash_tree_total_size(&tree, &size) == YUREWHA_DONE && size == 36, "hash_tree_total_size");
+    check(yurewha_hash_tree_chunks_at(&tree, 10, 14, &first, &end) == YUREWHA_DONE && first == 3 && end == 5, "chunks_at");
+    check(yurewha_hash_tree_bytes_of(&tree, first, end, &from, &to) == YUREWHA_DONE && from == 9 && to == 15, "bytes_of");
+
+    std::vector<yurewha_level> levels(64);
+    std::vector<yurewha_chunk> nodes(end - first + 1024);
+    check(yurewha_hash_tree_proof(&tree, first, end, levels.data(), levels.size(), nodes.data(), nodes.size(), &level_count,
+                                  &node_count) == YUREWHA_DONE, "hash_tree_proof");
+    check(yurewha_range_proof_to_json(levels.data(), level_count, nodes.data(), node_count, nullptr, 0, &length)
+              == YUREWHA_ROOM, "range_proof_to_json without room");
+    std::string text(length, '\0');
+    check(yurewha_range_proof_to_json(levels.data(), level_count, nodes.data(), node_count, text.data(), text.size(), &length)
+              == YUREWHA_DONE, "range_proof_to_json");
+    check(yurewha_range_proof_from_json(text.data(), text.size(), levels.data(), levels.size(), nodes.data(), nodes.size(),
+                                        &level_count, &node_count) == YUREWHA_DONE, "range_proof_from_json");
+
+    OpenedRange range;
+    std::size_t start = 0;
+    check(yurewha_range_proof_open_root(levels.data(), level_count, nodes.data(), node_count, &root, &range) == YUREWHA_DONE,
+          "range_proof_open_root");
+    check(yurewha_range_proof_open(levels.data(), level_count, nodes.data(), node_count, &file, &salt, &range) == YUREWHA_DONE,
+          "range_proof_open");
+    check(yurewha_opened_range_file_size(&range, &size) == YUREWHA_DONE && size == 36, "opened_range_file_size");
+    check(yurewha_opened_range_num_chunks(&range, &count) == YUREWHA_DONE && count == 2, "opened_range_num_chunks");
+    check(yurewha_opened_range_bytes_of(&range, 1, &from, &to) == YUREWHA_DONE && from == 12 && to == 15, "bytes of a chunk");
+    check(yurewha_opened_range_check(&range, 1, bytes + 12, 3, &place) == YUREWHA_DONE && place == 12, "opened_range_check");
+    check(yurewha_opened_range_read(&range, 10, 14, bytes + 9, 6, &start) == YUREWHA_DONE && start == 1, "opened_range_read");
+}
+
 } // namespace
 
 int main()
@@ -192,5 +255,6 @@ int main()
     Checks check;
     hashes(check);
     trees(check);
+    ranges(check);
     return check.result();
 }

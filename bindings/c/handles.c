@@ -29,6 +29,8 @@ struct handles {
     yurewha_subtree *subtree;
     yurewha_subtree *other;
     yurewha_session *session;
+    yurewha_hash_tree *tree;
+    yurewha_opened_range *range;
 };
 
 static yurewha_status clone(struct handles h, struct room *r) { return (void)r, yurewha_subtree_clone(h.subtree, h.other); }
@@ -160,6 +162,58 @@ static yurewha_status known_hashes_without_room(struct handles h, struct room *r
 static yurewha_status root(struct handles h, struct room *r) { return yurewha_session_root(h.session, 0, &r->hash); }
 static yurewha_status finish(struct handles h, struct room *r) { return yurewha_session_finish(h.session, 0, &r->hash); }
 
+static yurewha_status tree_root(struct handles h, struct room *r) { return yurewha_hash_tree_root(h.tree, &r->hash); }
+static yurewha_status tree_file_hash(struct handles h, struct room *r)
+{
+    const yurewha_bytes salt = {{1, 2, 3}};
+    return yurewha_hash_tree_file_hash(h.tree, &salt, &r->hash);
+}
+static yurewha_status tree_num_chunks(struct handles h, struct room *r)
+{
+    return yurewha_hash_tree_num_chunks(h.tree, &r->counts[0]);
+}
+static yurewha_status tree_total_size(struct handles h, struct room *r)
+{
+    return yurewha_hash_tree_total_size(h.tree, &r->number);
+}
+static yurewha_status tree_chunks_at(struct handles h, struct room *r)
+{
+    return yurewha_hash_tree_chunks_at(h.tree, 0, 1, &r->counts[0], &r->counts[1]);
+}
+static yurewha_status tree_bytes_of(struct handles h, struct room *r)
+{
+    return yurewha_hash_tree_bytes_of(h.tree, 0, 1, &r->number, &r->end);
+}
+static yurewha_status tree_proof(struct handles h, struct room *r)
+{
+    return yurewha_hash_tree_proof(h.tree, 0, 1, r->levels, LENGTH(r->levels), r->nodes, LENGTH(r->nodes), &r->counts[0],
+                                   &r->counts[1]);
+}
+static yurewha_status tree_proof_without_room(struct handles h, struct room *r)
+{
+    return yurewha_hash_tree_proof(h.tree, 0, 1, NULL, 0, NULL, 0, &r->counts[0], &r->counts[1]);
+}
+static yurewha_status range_file_size(struct handles h, struct room *r)
+{
+    return yurewha_opened_range_file_size(h.range, &r->number);
+}
+static yurewha_status range_num_chunks(struct handles h, struct room *r)
+{
+    return yurewha_opened_range_num_chunks(h.range, &r->counts[0]);
+}
+static yurewha_status range_bytes_of(struct handles h, struct room *r)
+{
+    return yurewha_opened_range_bytes_of(h.range, 0, &r->number, &r->end);
+}
+static yurewha_status range_check(struct handles h, struct room *r)
+{
+    return yurewha_opened_range_check(h.range, 0, NULL, 0, &r->number);
+}
+static yurewha_status range_read(struct handles h, struct room *r)
+{
+    return yurewha_opened_range_read(h.range, 0, 0, NULL, 0, &r->counts[0]);
+}
+
 static const struct {
     const char *name;
     yurewha_status (*call)(struct handles, struct room *);
@@ -195,7 +249,53 @@ static const struct {
     {"known_hashes without room", known_hashes_without_room},
     {"root", root},
     {"finish", finish},
+    {"root of a tree", tree_root},
+    {"file_hash", tree_file_hash},
+    {"num_chunks of a tree", tree_num_chunks},
+    {"total_size of a tree", tree_total_size},
+    {"chunks_at", tree_chunks_at},
+    {"bytes_of of a tree", tree_bytes_of},
+    {"proof", tree_proof},
+    {"proof without room", tree_proof_without_room},
+    {"file_size", range_file_size},
+    {"num_chunks of a range", range_num_chunks},
+    {"bytes_of of a range", range_bytes_of},
+    {"check", range_check},
+    {"read", range_read},
 };
+
+/* All handles that own something: the chunk alone, or a session without it. */
+struct owned {
+    yurewha_subtree subtree;
+    yurewha_session session;
+    yurewha_hash_tree tree;
+    yurewha_opened_range range;
+};
+
+static const struct owned nothing = {{NULL}, {NULL}, {NULL}, {NULL}};
+
+static struct owned owned_of(const yurewha_chunk *chunk)
+{
+    struct owned made = nothing;
+    EXPECT_STATUS(YUREWHA_DONE, yurewha_subtree_from_chunks(true, chunk, 1, true, &made.subtree));
+    EXPECT_STATUS(YUREWHA_DONE, yurewha_session_new(&made.session));
+    EXPECT_STATUS(YUREWHA_DONE, yurewha_hash_tree_from_chunks(chunk, 1, &made.tree));
+    EXPECT_STATUS(YUREWHA_DONE, yurewha_range_proof_open_root(NULL, 0, chunk, 1, &chunk->hash, &made.range));
+    return made;
+}
+
+static void free_all(struct owned *owned)
+{
+    yurewha_subtree_free(&owned->subtree);
+    yurewha_session_free(&owned->session);
+    yurewha_hash_tree_free(&owned->tree);
+    yurewha_opened_range_free(&owned->range);
+}
+
+static bool are_empty(const struct owned *owned)
+{
+    return owned->subtree.at == NULL && owned->session.at == NULL && owned->tree.at == NULL && owned->range.at == NULL;
+}
 
 /* Handles as {0}; freed; freed twice; moved away, and so set to {0} by hand. */
 static void empty_handles(void)
@@ -204,35 +304,25 @@ static void empty_handles(void)
     for (size_t i = 0; i < LENGTH(calls) * LENGTH(ways); i++) {
         const size_t way = i % LENGTH(ways);
         const yurewha_chunk chunk = {{{1, 2, 3, 4}}, 5};
-        yurewha_subtree subtree = {0}, moved = {0}, other = range_of(&chunk, 0, 1, false, false), before = {0};
-        yurewha_session session = {0}, moved_session = {0};
+        yurewha_subtree other = range_of(&chunk, 0, 1, false, false), before = {0};
+        struct owned owned = way != 0 ? owned_of(&chunk) : nothing, moved = nothing;
         struct room room;
         row("%s, %s", calls[i / LENGTH(ways)].name, ways[way]);
         EXPECT_STATUS(YUREWHA_DONE, yurewha_subtree_clone(&other, &before));
-        if (way != 0) {
-            EXPECT_STATUS(YUREWHA_DONE, yurewha_subtree_from_chunks(true, &chunk, 1, true, &subtree));
-            EXPECT_STATUS(YUREWHA_DONE, yurewha_session_new(&session));
-        }
         if (way == 3) {
-            moved = subtree;
-            moved_session = session;
-            subtree = (yurewha_subtree){0};
-            session = (yurewha_session){0};
+            moved = owned;
+            owned = nothing;
         }
-        for (size_t j = 0; j < (way == 3 ? 0 : way); j++) {
-            yurewha_subtree_free(&subtree);
-            yurewha_session_free(&session);
-        }
+        for (size_t j = 0; j < (way == 3 ? 0 : way); j++)
+            free_all(&owned);
         fill(&room);
-        const struct handles handles = {&subtree, &other, &session};
+        const struct handles handles = {&owned.subtree, &other, &owned.session, &owned.tree, &owned.range};
         EXPECT_STATUS(YUREWHA_EMPTY_HANDLE, calls[i / LENGTH(ways)].call(handles, &room));
         EXPECT(is_filled(&room));
-        EXPECT(subtree.at == NULL && session.at == NULL);
+        EXPECT(are_empty(&owned));
         EXPECT(same_subtree(&other, &before));
-        yurewha_subtree_free(&subtree);
-        yurewha_session_free(&session);
-        yurewha_subtree_free(&moved);
-        yurewha_session_free(&moved_session);
+        free_all(&owned);
+        free_all(&moved);
         yurewha_subtree_free(&other);
         yurewha_subtree_free(&before);
     }
@@ -280,7 +370,9 @@ static bool is_only(const void *room, size_t size, unsigned char byte)
     return true;
 }
 
-enum text { HEX, BASE64, STATUS, JSON };
+enum text { HEX, BASE64, STATUS, JSON, PROOF };
+
+static const yurewha_chunk one_chunk = {{{1, 2, 3, 4}}, 5};
 
 static yurewha_status write_text(enum text which, yurewha_subtree *subtree, char *text, size_t room, size_t *length)
 {
@@ -292,6 +384,8 @@ static yurewha_status write_text(enum text which, yurewha_subtree *subtree, char
         return yurewha_base64(&hash, text, room, length);
     case STATUS:
         return yurewha_status_text(YUREWHA_SESSION_GAP, text, room, length);
+    case PROOF:
+        return yurewha_range_proof_to_json(NULL, 0, &one_chunk, 1, text, room, length);
     default:
         return yurewha_subtree_to_json(subtree, text, room, length);
     }
@@ -299,7 +393,7 @@ static yurewha_status write_text(enum text which, yurewha_subtree *subtree, char
 
 static void text_rooms(yurewha_subtree *subtree)
 {
-    for (int which = HEX; which <= JSON; which++) {
+    for (int which = HEX; which <= PROOF; which++) {
         size_t wanted = 0;
         EXPECT_STATUS(YUREWHA_ROOM, write_text((enum text)which, subtree, NULL, 0, &wanted));
         const size_t rooms[] = {0, 1, wanted / 2, wanted - 1, wanted, wanted + 1, wanted + 100};
@@ -319,19 +413,40 @@ static void text_rooms(yurewha_subtree *subtree)
     }
 }
 
-static void flat_rooms(yurewha_subtree *subtree, size_t level_count, size_t node_count)
+/* What writes flat lists: a subtree, a tree that makes a proof, or else a JSON text of a proof. */
+struct source {
+    yurewha_subtree *subtree;
+    yurewha_hash_tree *tree;
+    const char *text;
+    size_t length;
+};
+
+static yurewha_status write_lists(const struct source *it, yurewha_level *levels, size_t level_room, yurewha_chunk *nodes,
+                                  size_t node_room, size_t *level_count, size_t *node_count)
 {
+    if (it->subtree != NULL)
+        return yurewha_subtree_to_flat(it->subtree, levels, level_room, nodes, node_room, level_count, node_count);
+    if (it->tree != NULL)
+        return yurewha_hash_tree_proof(it->tree, 11, 14, levels, level_room, nodes, node_room, level_count, node_count);
+    return yurewha_range_proof_from_json(it->text, it->length, levels, level_room, nodes, node_room, level_count, node_count);
+}
+
+static void flat_rooms(const struct source *source, size_t number)
+{
+    size_t level_count = 0, node_count = 0;
+    row("lists of source %zu", number);
+    EXPECT_STATUS(YUREWHA_ROOM, write_lists(source, NULL, 0, NULL, 0, &level_count, &node_count));
     for (size_t i = 0; i < 9; i++) {
         const size_t level_room = level_count - 1 + i / 3, node_room = node_count - 1 + i % 3;
         const bool fits = level_room >= level_count && node_room >= node_count;
         yurewha_level *levels = block(level_room * sizeof *levels);
         yurewha_chunk *nodes = block(node_room * sizeof *nodes);
         size_t levels_told = 12345, nodes_told = 12345;
-        row("%zu levels of %zu, %zu nodes of %zu", level_room, level_count, node_room, node_count);
+        row("source %zu, %zu levels of %zu, %zu nodes of %zu", number, level_room, level_count, node_room, node_count);
         memset(levels, 0xa5, level_room * sizeof *levels);
         memset(nodes, 0xa5, node_room * sizeof *nodes);
         EXPECT_STATUS(fits ? YUREWHA_DONE : YUREWHA_ROOM,
-                      yurewha_subtree_to_flat(subtree, levels, level_room, nodes, node_room, &levels_told, &nodes_told));
+                      write_lists(source, levels, level_room, nodes, node_room, &levels_told, &nodes_told));
         EXPECT(levels_told == level_count && nodes_told == node_count);
         const size_t from_level = fits ? level_count : 0, from_node = fits ? node_count : 0;
         EXPECT(is_only(levels + from_level, (level_room - from_level) * sizeof *levels, 0xa5));
@@ -345,17 +460,61 @@ void test_rooms(void)
 {
     yurewha_chunk *chunks = list_of(NULL, 40);
     yurewha_subtree subtree = range_of(chunks, 0, 40, false, false);
-    size_t level_count = 0, node_count = 0;
+    yurewha_hash_tree tree = {0};
+    yurewha_level levels[8];
+    yurewha_chunk nodes[64];
+    size_t level_count = 0, node_count = 0, length = 0;
+    char text[8000];
     row("rooms");
-    EXPECT_STATUS(YUREWHA_DONE, yurewha_subtree_num_levels(&subtree, &level_count));
-    EXPECT_STATUS(YUREWHA_DONE, yurewha_subtree_num_nodes(&subtree, &node_count));
+    EXPECT_STATUS(YUREWHA_DONE, yurewha_hash_tree_from_chunks(chunks, 40, &tree));
+    EXPECT_STATUS(YUREWHA_DONE, yurewha_hash_tree_proof(&tree, 11, 14, levels, LENGTH(levels), nodes, LENGTH(nodes),
+                                                        &level_count, &node_count));
+    EXPECT_STATUS(YUREWHA_DONE,
+                  yurewha_range_proof_to_json(levels, level_count, nodes, node_count, text, sizeof text, &length));
+    const struct source sources[] = {{.subtree = &subtree}, {.tree = &tree}, {.text = text, .length = length}};
     text_rooms(&subtree);
-    flat_rooms(&subtree, level_count, node_count);
+    for (size_t i = 0; i < LENGTH(sources); i++)
+        flat_rooms(&sources[i], i);
     yurewha_subtree_free(&subtree);
+    yurewha_hash_tree_free(&tree);
     free(chunks);
 }
 
 /* ---- Null with length 0 */
+
+/* The tree of no chunks, the proofs of nothing, and a range without bytes. */
+static void empty_ranges(void)
+{
+    const yurewha_hash zeros = {{0, 0, 0, 0}};
+    const yurewha_bytes salt = {{1, 2, 3}};
+    yurewha_hash hash = {{1, 2, 3, 4}};
+    yurewha_hash_tree tree = {0};
+    yurewha_opened_range range = {0};
+    size_t counts[2] = {12345, 12345};
+    uint64_t number = 12345;
+    row("null with length 0, range proofs");
+    EXPECT_STATUS(YUREWHA_DONE, yurewha_hash_tree_from_chunks(NULL, 0, &tree));
+    EXPECT_STATUS(YUREWHA_DONE, yurewha_hash_tree_root(&tree, &hash));
+    EXPECT(same_hash(&hash, &zeros));
+    EXPECT_STATUS(YUREWHA_DONE, yurewha_hash_tree_total_size(&tree, &number));
+    EXPECT(number == 0);
+    EXPECT_STATUS(YUREWHA_ARGUMENTS, yurewha_hash_tree_proof(&tree, 0, 0, NULL, 0, NULL, 0, &counts[0], &counts[1]));
+    EXPECT_STATUS(YUREWHA_PROOF_RULE + 5, yurewha_range_proof_to_json(NULL, 0, NULL, 0, NULL, 0, &counts[0]));
+    EXPECT_STATUS(YUREWHA_PROOF_RULE + 5, yurewha_range_proof_open(NULL, 0, NULL, 0, &zeros, &salt, &range));
+    EXPECT_STATUS(YUREWHA_PROOF_RULE + 5, yurewha_range_proof_open_root(NULL, 0, NULL, 0, &zeros, &range));
+    EXPECT_STATUS(YUREWHA_TEXT, yurewha_range_proof_from_json(NULL, 0, NULL, 0, NULL, 0, &counts[0], &counts[1]));
+    EXPECT(counts[0] == 12345 && counts[1] == 12345 && range.at == NULL);
+
+    yurewha_chunk chunk = {{{0, 0, 0, 0}}, 0};
+    yurewha_data_hash(NULL, 0, &chunk.hash);
+    EXPECT_STATUS(YUREWHA_DONE, yurewha_range_proof_open_root(NULL, 0, &chunk, 1, &chunk.hash, &range));
+    number = 12345;
+    EXPECT_STATUS(YUREWHA_DONE, yurewha_opened_range_check(&range, 0, NULL, 0, &number));
+    EXPECT_STATUS(YUREWHA_DONE, yurewha_opened_range_read(&range, 0, 0, NULL, 0, &counts[0]));
+    EXPECT(number == 0 && counts[0] == 0);
+    yurewha_hash_tree_free(&tree);
+    yurewha_opened_range_free(&range);
+}
 
 void test_empty_slices(void)
 {
@@ -426,6 +585,7 @@ void test_empty_slices(void)
     EXPECT(number == 0);
     EXPECT_STATUS(YUREWHA_DONE, yurewha_session_num_runs(&session, &point));
     EXPECT(point == 0);
+    empty_ranges();
     yurewha_subtree_free(&subtree);
     yurewha_subtree_free(&other);
     yurewha_session_free(&session);

@@ -199,6 +199,35 @@ void tell_session(yurewha_hasher *message, yurewha_session *session)
     free(hashes);
 }
 
+void tell_hash_tree(yurewha_hasher *message, yurewha_hash_tree *tree)
+{
+    yurewha_hash root;
+    size_t count = 0;
+    uint64_t size = 0;
+    const yurewha_status status = yurewha_hash_tree_num_chunks(tree, &count);
+    tell(message, &status, sizeof status);
+    if (status == YUREWHA_EMPTY_HANDLE)
+        return;
+    EXPECT_STATUS(YUREWHA_DONE, yurewha_hash_tree_total_size(tree, &size));
+    EXPECT_STATUS(YUREWHA_DONE, yurewha_hash_tree_root(tree, &root));
+    tell(message, &count, sizeof count);
+    tell(message, &size, sizeof size);
+    tell(message, &root, sizeof root);
+}
+
+void tell_opened_range(yurewha_hasher *message, yurewha_opened_range *range)
+{
+    size_t count = 0;
+    uint64_t places[3] = {0, 0, 0};
+    const yurewha_status status = yurewha_opened_range_num_chunks(range, &count);
+    tell(message, &status, sizeof status);
+    for (size_t i = 0; i < count; i++) {
+        EXPECT_STATUS(YUREWHA_DONE, yurewha_opened_range_bytes_of(range, i, &places[0], &places[1]));
+        EXPECT_STATUS(YUREWHA_DONE, yurewha_opened_range_file_size(range, &places[2]));
+        tell(message, places, sizeof places);
+    }
+}
+
 int main(int count, char **names)
 {
     static const struct {
@@ -209,7 +238,7 @@ int main(int count, char **names)
         {"hasher", test_hasher},       {"lanes", test_lanes},
         {"roots", test_roots},         {"subtrees", test_subtrees},
         {"merging", test_merging},     {"texts", test_texts},
-        {"sessions", test_sessions},
+        {"sessions", test_sessions},   {"range_proofs", test_range_proofs},
         {"handles", test_handles},     {"rooms", test_rooms},
         {"empty_slices", test_empty_slices}, {"refusals", test_refusals},
         {"costs", test_costs},         {"large", test_large},

@@ -32,10 +32,10 @@ yurewha_hash hash_of(const char *hex);
 bool same_hash(const yurewha_hash *first, const yurewha_hash *second);
 bool is_hash(const yurewha_hash *hash, const char *hex);
 
-/* Lists of chunks in blocks of their own. By a pattern, which is repeated, chunk i has the words i, 0, 0 and w, and the size 1; w
- * is 0 where its character is '|', which makes a natural cut, else 1. Without a pattern, it has the hash of the seed i + 1 and
- * the size 100 + 977 * i % 9901. By digits, each is the hash of that seed with the size 100 times the digit, 0 the default hash
- * with the size 0, and X the hash of seed 1 with the greatest size. */
+/* Lists of chunks in blocks of their own. By a pattern, which is repeated, chunk i has the words i, 0, 0 and w, and the size
+ * 1; w is 0 where its character is '|', which makes a natural cut, else 1. Without a pattern, it has the hash of the seed i +
+ * 1 and the size 100 + 977 * i % 9901. By digits, each is the hash of that seed with the size 100 times the digit, 0 the
+ * default hash with the size 0, and X the hash of seed 1 with the greatest size. */
 yurewha_chunk *list_of(const char *pattern, size_t count);
 yurewha_chunk *digits_of(const char *digits);
 
@@ -76,9 +76,12 @@ bool same_subtree(yurewha_subtree *first, yurewha_subtree *second);
 /* The hashes that a session knows, by rising order, in a block of their own. With an empty handle there are none. */
 yurewha_hash *known_hashes(yurewha_session *session, size_t *count);
 
-/* Adds to a message all that can be told of a subtree, or of a session. A session's takes memory. */
+/* Adds to a message all that can be told of what a handle owns; of a hash tree, what determines the rest. A session's takes
+ * memory. */
 void tell_subtree(yurewha_hasher *message, yurewha_subtree *subtree);
 void tell_session(yurewha_hasher *message, yurewha_session *session);
+void tell_hash_tree(yurewha_hasher *message, yurewha_hash_tree *tree);
+void tell_opened_range(yurewha_hasher *message, yurewha_opened_range *range);
 
 /* malloc and realloc, of which a request can be refused, and how many requests and bytes were asked for since then; see
  * refusing.c. A block that grows counts with all of its bytes each time. */
@@ -99,6 +102,7 @@ void test_subtrees(void);
 void test_merging(void);
 void test_texts(void);
 void test_sessions(void);
+void test_range_proofs(void);
 void test_handles(void);
 void test_rooms(void);
 void test_empty_slices(void);

@@ -20,8 +20,9 @@ static bool has_text(yurewha_status status, const char *text) { return strcmp(te
 /* Each status has a text of its own; other numbers have one and the same, also the two that the library of 1.0 had. */
 static void status_texts(void)
 {
-    for (yurewha_status status = 0; status < 60; status++) {
-        const bool is_known = status <= YUREWHA_EMPTY_HANDLE || (status > YUREWHA_RULE && status <= YUREWHA_RULE + 13)
+    for (yurewha_status status = 0; status < 70; status++) {
+        const bool is_known = status <= YUREWHA_MISMATCH || (status > YUREWHA_RULE && status <= YUREWHA_RULE + 13)
+            || (status > YUREWHA_PROOF_RULE && status <= YUREWHA_PROOF_RULE + 8)
             || status == YUREWHA_SESSION_OVERLAP || status == YUREWHA_SESSION_POSITIONS || status == YUREWHA_SESSION_GAP;
         const struct status_text found = text_of(status);
         row("text of status %u: %s", status, found.text);
@@ -32,6 +33,7 @@ static void status_texts(void)
     row("texts of statuses");
     EXPECT(has_text(YUREWHA_DONE, "the call succeeded") && has_text(YUREWHA_SESSION_MEMORY, "out of memory"));
     EXPECT(has_text(YUREWHA_RULE + 13, "rule 13: right nodes don't begin at a last stable point"));
+    EXPECT(has_text(YUREWHA_PROOF_RULE + 5, "rule 5: there is no chunk"));
     EXPECT(has_text(UINT32_MAX, "unknown status"));
 }
 
@@ -55,6 +57,8 @@ void test_layout(void)
         {"hasher's alignment", _Alignof(yurewha_hasher), 8},
         {"subtree", sizeof(yurewha_subtree), sizeof(void *)},
         {"session", sizeof(yurewha_session), sizeof(void *)},
+        {"hash tree", sizeof(yurewha_hash_tree), sizeof(void *)},
+        {"opened range", sizeof(yurewha_opened_range), sizeof(void *)},
         {"DONE", YUREWHA_DONE, 0},
         {"ARGUMENTS", YUREWHA_ARGUMENTS, 1},
         {"SIZES", YUREWHA_SIZES, 2},
@@ -62,12 +66,14 @@ void test_layout(void)
         {"TEXT", YUREWHA_TEXT, 4},
         {"ROOM", YUREWHA_ROOM, 5},
         {"EMPTY_HANDLE", YUREWHA_EMPTY_HANDLE, 6},
+        {"MISMATCH", YUREWHA_MISMATCH, 7},
         {"RULE", YUREWHA_RULE, 16},
         {"SESSION_OVERLAP", YUREWHA_SESSION_OVERLAP, 33},
         {"SESSION_POSITIONS", YUREWHA_SESSION_POSITIONS, 34},
         {"SESSION_SIZES, which is SIZES", YUREWHA_SESSION_SIZES, 2},
         {"SESSION_MEMORY, which is MEMORY", YUREWHA_SESSION_MEMORY, 3},
         {"SESSION_GAP", YUREWHA_SESSION_GAP, 37},
+        {"PROOF_RULE", YUREWHA_PROOF_RULE, 48},
     };
     for (size_t i = 0; i < LENGTH(rows); i++) {
         row("%s: %zu", rows[i].name, rows[i].found);

@@ -8,7 +8,7 @@
  */
 #include "harness.h"
 
-enum { LEVELS = 16 };
+enum { LEVELS = 16, PART = 40 };
 
 /* What a world is made of. */
 static const struct shape {
@@ -22,6 +22,14 @@ static const struct shape {
     {"small", NULL, 150, false, 0, true},
     {"long lists and many runs", ".", 4500, false, 300, false},
     {"long levels", ".", 3000, true, 0, false},
+};
+
+/* The flat lists of a range proof, and room for as many. */
+struct lists {
+    yurewha_level levels[LEVELS];
+    yurewha_chunk nodes[PART + 16 * LEVELS];
+    size_t level_count;
+    size_t node_count;
 };
 
 struct world {
@@ -41,6 +49,16 @@ struct world {
     yurewha_session session;
     yurewha_session other; /* owns a session of one run */
     yurewha_session none;
+    yurewha_hash_tree tree;      /* over all chunks */
+    yurewha_hash_tree part_tree; /* over the first PART of them */
+    yurewha_hash_tree no_tree;
+    yurewha_opened_range range; /* the first chunk as a file */
+    yurewha_opened_range no_range;
+    yurewha_hash root; /* of all chunks */
+    struct lists proof;
+    struct lists proof_room;
+    char *proof_json;
+    size_t proof_json_length;
     char *text; /* room for the JSON text */
     size_t text_room;
     yurewha_hash *hashes; /* `count` of them, which no chunk has */
@@ -145,6 +163,23 @@ static void make_hashes(struct world *w)
     memset(w->known, 0xa5, w->count * sizeof *w->known);
 }
 
+/* Trees, the proof of PART chunks in the middle, and a range that no such proof opens. */
+static void make_proof(struct world *w)
+{
+    const size_t first = w->count / 3;
+    memset(&w->proof_room, 0xa5, sizeof w->proof_room);
+    EXPECT_STATUS(YUREWHA_DONE, yurewha_hash_tree_from_chunks(w->chunks, w->count, &w->tree));
+    EXPECT_STATUS(YUREWHA_DONE, yurewha_hash_tree_from_chunks(w->chunks, PART, &w->part_tree));
+    EXPECT_STATUS(YUREWHA_DONE, yurewha_hash_tree_root(&w->tree, &w->root));
+    EXPECT_STATUS(YUREWHA_DONE, yurewha_range_proof_open_root(NULL, 0, w->chunks, 1, &w->chunks[0].hash, &w->range));
+    EXPECT_STATUS(YUREWHA_DONE, yurewha_hash_tree_proof(&w->tree, first, first + PART, w->proof.levels, LEVELS, w->proof.nodes,
+                                                        LENGTH(w->proof.nodes), &w->proof.level_count, &w->proof.node_count));
+    w->proof_json = block(120 * w->proof.node_count + 1000);
+    EXPECT_STATUS(YUREWHA_DONE, yurewha_range_proof_to_json(w->proof.levels, w->proof.level_count, w->proof.nodes,
+                                                            w->proof.node_count, w->proof_json,
+                                                            120 * w->proof.node_count + 1000, &w->proof_json_length));
+}
+
 static void make(struct world *w, const struct shape *shape, bool is_filled)
 {
     memset(w, 0, sizeof *w);
@@ -169,6 +204,7 @@ static void make(struct world *w, const struct shape *shape, bool is_filled)
     make_texts(w);
     make_hashes(w);
     make_sessions(w, is_filled);
+    make_proof(w);
 }
 
 static void unmake(struct world *w)
@@ -181,6 +217,12 @@ static void unmake(struct world *w)
     yurewha_session_free(&w->session);
     yurewha_session_free(&w->other);
     yurewha_session_free(&w->none);
+    yurewha_hash_tree_free(&w->tree);
+    yurewha_hash_tree_free(&w->part_tree);
+    yurewha_hash_tree_free(&w->no_tree);
+    yurewha_opened_range_free(&w->range);
+    yurewha_opened_range_free(&w->no_range);
+    free(w->proof_json);
     free(w->chunks);
     free(w->json);
     free(w->text);
@@ -202,6 +244,13 @@ static yurewha_hash told_of(struct world *w)
     tell_session(&message, &w->session);
     tell_session(&message, &w->other);
     tell_session(&message, &w->none);
+    tell_hash_tree(&message, &w->tree);
+    tell_hash_tree(&message, &w->part_tree);
+    tell_hash_tree(&message, &w->no_tree);
+    tell_opened_range(&message, &w->range);
+    tell_opened_range(&message, &w->no_range);
+    EXPECT_STATUS(YUREWHA_DONE,
+                  yurewha_hasher_update(&message, (const uint8_t *)&w->proof_room, sizeof w->proof_room));
     EXPECT_STATUS(YUREWHA_DONE, yurewha_hasher_update(&message, (const uint8_t *)&w->room, sizeof w->room));
     EXPECT_STATUS(YUREWHA_DONE, yurewha_hasher_update(&message, (const uint8_t *)w->text, w->text_room));
     EXPECT_STATUS(YUREWHA_DONE,
@@ -423,6 +472,74 @@ static yurewha_status finish(struct world *w) { return yurewha_session_finish(&w
 static yurewha_status free_subtree(struct world *w) { return yurewha_subtree_free(&w->owned), YUREWHA_DONE; }
 static yurewha_status free_session(struct world *w) { return yurewha_session_free(&w->session), YUREWHA_DONE; }
 
+static yurewha_status free_tree(struct world *w) { return yurewha_hash_tree_free(&w->tree), YUREWHA_DONE; }
+static yurewha_status free_range(struct world *w) { return yurewha_opened_range_free(&w->range), YUREWHA_DONE; }
+
+/* Hash trees and range proofs. */
+static yurewha_status tree(struct world *w)
+{
+    return yurewha_hash_tree_from_chunks(w->chunks, w->count, &w->no_tree);
+}
+static yurewha_status tree_over(struct world *w)
+{
+    return yurewha_hash_tree_from_chunks(w->chunks, w->count, &w->part_tree);
+}
+static yurewha_status tree_past(struct world *w)
+{
+    w->chunks[7].size = UINT64_MAX;
+    return yurewha_hash_tree_from_chunks(w->chunks, w->count, &w->part_tree);
+}
+static yurewha_status proof_from(struct world *w, size_t first)
+{
+    struct lists *room = &w->proof_room;
+    return yurewha_hash_tree_proof(&w->tree, first, first + PART, room->levels, LEVELS, room->nodes, LENGTH(room->nodes),
+                                   &room->level_count, &room->node_count);
+}
+static yurewha_status proof(struct world *w) { return proof_from(w, w->count / 2); }
+static yurewha_status no_proof(struct world *w) { return proof_from(w, w->count - PART + 1); }
+static yurewha_status proof_to_json(struct world *w)
+{
+    return yurewha_range_proof_to_json(w->proof.levels, w->proof.level_count, w->proof.nodes, w->proof.node_count, w->text,
+                                       w->text_room, &w->room.count);
+}
+static yurewha_status proof_from_text(struct world *w, const char *text, size_t length)
+{
+    struct lists *room = &w->proof_room;
+    return yurewha_range_proof_from_json(text, length, room->levels, LEVELS, room->nodes, LENGTH(room->nodes),
+                                         &room->level_count, &room->node_count);
+}
+static yurewha_status proof_from_json(struct world *w) { return proof_from_text(w, w->proof_json, w->proof_json_length); }
+static yurewha_status proof_from_half_json(struct world *w)
+{
+    return proof_from_text(w, w->proof_json, w->proof_json_length / 2);
+}
+static yurewha_status proof_from_empty_json(struct world *w)
+{
+    return proof_from_text(w, "{\"chunks\":[],\"levels\":[]}", 25);
+}
+static yurewha_status open_with(struct world *w, const yurewha_hash *root, yurewha_opened_range *range)
+{
+    return yurewha_range_proof_open_root(w->proof.levels, w->proof.level_count, w->proof.nodes, w->proof.node_count, root,
+                                         range);
+}
+static yurewha_status open_root(struct world *w) { return open_with(w, &w->root, &w->no_range); }
+static yurewha_status open_root_over(struct world *w) { return open_with(w, &w->root, &w->range); }
+static yurewha_status open_other_root(struct world *w) { return open_with(w, &w->chunks[0].hash, &w->range); }
+static yurewha_status open_file(struct world *w)
+{
+    const yurewha_bytes salt = {{1, 2, 3}};
+    yurewha_hash file_hash;
+    EXPECT_STATUS(YUREWHA_DONE, yurewha_hash_tree_file_hash(&w->tree, &salt, &file_hash));
+    return yurewha_range_proof_open(w->proof.levels, w->proof.level_count, w->proof.nodes, w->proof.node_count, &file_hash,
+                                    &salt, &w->range);
+}
+/* Nine nodes on one side. */
+static yurewha_status open_forged(struct world *w)
+{
+    const yurewha_level level = {9, 0};
+    return yurewha_range_proof_open_root(&level, 1, w->chunks, 10, &w->root, &w->range);
+}
+
 /* Calls that take no memory, made where each request is refused. */
 static void hash_without_memory(struct world *w)
 {
@@ -469,12 +586,31 @@ static void read_without_memory(struct world *w)
     EXPECT_STATUS(YUREWHA_DONE, yurewha_session_num_known_hashes(&w->session, &w->room.count));
 }
 
+static void read_ranges_without_memory(struct world *w)
+{
+    const yurewha_bytes salt = {{1, 2, 3}};
+    EXPECT_STATUS(YUREWHA_DONE, yurewha_hash_tree_root(&w->tree, &w->room.hash));
+    EXPECT_STATUS(YUREWHA_DONE, yurewha_hash_tree_file_hash(&w->tree, &salt, &w->room.hash));
+    EXPECT_STATUS(YUREWHA_DONE, yurewha_hash_tree_num_chunks(&w->tree, &w->room.count));
+    EXPECT_STATUS(YUREWHA_DONE, yurewha_hash_tree_total_size(&w->tree, &w->room.number));
+    EXPECT_STATUS(YUREWHA_DONE, yurewha_hash_tree_chunks_at(&w->tree, 500, 2000, &w->room.count, &w->room.more));
+    EXPECT_STATUS(YUREWHA_DONE, yurewha_hash_tree_bytes_of(&w->tree, 3, 9, &w->room.number, &w->room.end));
+    EXPECT_STATUS(YUREWHA_DONE, yurewha_opened_range_file_size(&w->range, &w->room.number));
+    EXPECT_STATUS(YUREWHA_DONE, yurewha_opened_range_num_chunks(&w->range, &w->room.count));
+    EXPECT_STATUS(YUREWHA_DONE, yurewha_opened_range_bytes_of(&w->range, 0, &w->room.number, &w->room.end));
+    const uint8_t *data = (const uint8_t *)w->json;
+    const size_t length = (size_t)w->chunks[0].size;
+    EXPECT_STATUS(YUREWHA_MISMATCH, yurewha_opened_range_check(&w->range, 0, data, length, &w->room.number));
+    EXPECT_STATUS(YUREWHA_MISMATCH, yurewha_opened_range_read(&w->range, 0, length, data, length, &w->room.count));
+}
+
 static void takes_no_memory(struct world *w)
 {
     row("calls that take no memory");
     refuse(1, true);
     hash_without_memory(w);
     read_without_memory(w);
+    read_ranges_without_memory(w);
     EXPECT(requests() == 0);
     refuse(0, false);
 }
@@ -550,6 +686,22 @@ static const struct scenario {
     {"finish", finish, YUREWHA_DONE, YUREWHA_MEMORY, true},
     {"free of a subtree", free_subtree, YUREWHA_DONE, YUREWHA_DONE, false},
     {"free of a session", free_session, YUREWHA_DONE, YUREWHA_DONE, false},
+    {"tree", tree, YUREWHA_DONE, YUREWHA_MEMORY, false},
+    {"tree into a full handle", tree_over, YUREWHA_DONE, YUREWHA_MEMORY, false},
+    {"tree past 64 bits", tree_past, YUREWHA_SIZES, YUREWHA_SIZES, false},
+    {"proof", proof, YUREWHA_DONE, YUREWHA_MEMORY, false},
+    {"proof past the last chunk", no_proof, YUREWHA_ARGUMENTS, YUREWHA_ARGUMENTS, false},
+    {"proof to JSON", proof_to_json, YUREWHA_DONE, YUREWHA_MEMORY, false},
+    {"proof from JSON", proof_from_json, YUREWHA_DONE, YUREWHA_MEMORY, false},
+    {"proof from half a text", proof_from_half_json, YUREWHA_TEXT, YUREWHA_MEMORY, false},
+    {"proof against rule 5", proof_from_empty_json, YUREWHA_PROOF_RULE + 5, YUREWHA_MEMORY, false},
+    {"open_root", open_root, YUREWHA_DONE, YUREWHA_MEMORY, false},
+    {"open_root into a full handle", open_root_over, YUREWHA_DONE, YUREWHA_MEMORY, false},
+    {"open_root with another root", open_other_root, YUREWHA_MISMATCH, YUREWHA_MEMORY, false},
+    {"open_root against rule 7", open_forged, YUREWHA_PROOF_RULE + 7, YUREWHA_MEMORY, false},
+    {"open", open_file, YUREWHA_DONE, YUREWHA_MEMORY, false},
+    {"free of a tree", free_tree, YUREWHA_DONE, YUREWHA_DONE, false},
+    {"free of a range", free_range, YUREWHA_DONE, YUREWHA_DONE, false},
 };
 
 /* Makes the call with one request refused, or with all from it on. */

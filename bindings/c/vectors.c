@@ -1,41 +1,34 @@
 /* The test vectors of vectors/, as lines that make_vector_lines prints; YUREWHA_VECTORS is their file. */
-#include "harness.h"
+#include "vectors.h"
 
 #include <inttypes.h>
 
-#define MOST_FIELDS 16
 #define MOST_RANGES 8
-
-/* The fields of a line after its number and its kind. */
-struct line {
-    char *fields[MOST_FIELDS];
-    size_t count;
-};
 
 static yurewha_session session;
 static yurewha_subtree ranges[MOST_RANGES];
 static size_t range_count;
 
-static const char *field(const struct line *it, size_t i)
+const char *field(const struct line *it, size_t i)
 {
     if (i >= it->count)
         abort();
     return it->fields[i];
 }
 
-static bool is_there(const char *text)
+bool is_there(const char *text)
 {
     return strcmp(text, "-") != 0;
 }
 
-static uint64_t number(const struct line *it, size_t i)
+uint64_t number(const struct line *it, size_t i)
 {
     return strtoull(field(it, i), NULL, 10);
 }
 
 /* ---- What fields say */
 
-static uint8_t *bytes_of(const char *hex, size_t *length)
+uint8_t *bytes_of(const char *hex, size_t *length)
 {
     *length = is_there(hex) ? strlen(hex) / 2 : 0;
     uint8_t *bytes = block(*length);
@@ -48,8 +41,7 @@ static uint8_t *bytes_of(const char *hex, size_t *length)
     return bytes;
 }
 
-/* 32 bytes by the 64 digits at the beginning of a text. */
-static yurewha_bytes key_of(const char *hex)
+yurewha_bytes key_of(const char *hex)
 {
     yurewha_bytes key;
     char digits[65] = "";
@@ -81,8 +73,23 @@ static yurewha_chunk of_node(const char *text)
     return (yurewha_chunk){hash_of(hex), strtoull(text + 65, NULL, 10)};
 }
 
-/* The list that a field says, in a block of its own. */
-static yurewha_chunk *chunks_of(const char *said, size_t *count)
+/* The chunk with the data whose hex text comes before the next comma. */
+static yurewha_chunk of_data(const char *text)
+{
+    const size_t digits = strcspn(text, ",");
+    char *hex = block(digits + 1);
+    size_t length = 0;
+    memcpy(hex, text, digits);
+    hex[digits] = '\0';
+    uint8_t *bytes = bytes_of(hex, &length);
+    yurewha_chunk chunk = {{{0, 0, 0, 0}}, length};
+    yurewha_data_hash(bytes, length, &chunk.hash);
+    free(bytes);
+    free(hex);
+    return chunk;
+}
+
+yurewha_chunk *chunks_of(const char *said, size_t *count)
 {
     const char rule = said[0], *at = said + 1;
     char *next = NULL;
@@ -105,7 +112,8 @@ static yurewha_chunk *chunks_of(const char *said, size_t *count)
             chunks[i] = of_seed(first + i, 100 + 977 * i % 9901);
         } else {
             const uint64_t seed = rule == 's' ? strtoull(at, NULL, 10) : 0;
-            chunks[i] = rule == 'n' ? of_node(at) : seed != 0 ? of_seed(seed, 100 * seed) : (yurewha_chunk){{{0, 0, 0, 0}}, 0};
+            const yurewha_chunk zeros = {{{0, 0, 0, 0}}, 0};
+            chunks[i] = rule == 'n' ? of_node(at) : rule == 'b' ? of_data(at) : seed != 0 ? of_seed(seed, 100 * seed) : zeros;
             at += strcspn(at, ",") + 1;
         }
     }
@@ -500,8 +508,7 @@ static void json(const struct line *it)
     free(other);
 }
 
-/* The levels of a field, as "8,4 2,0", in a block of their own. */
-static yurewha_level *levels_of(const char *said, size_t *count)
+yurewha_level *levels_of(const char *said, size_t *count)
 {
     char *at = (char *)said;
     *count = is_there(said);
@@ -614,6 +621,10 @@ static void make(const char *kind, const struct line *it)
         {"ranges", take_ranges}, {"bracketing", bracketing}, {"json", json}, {"flat", flat},
         {"session", new_session}, {"put", put},     {"taken", taken},     {"runs", runs},
         {"run", run},         {"root", root},       {"finish", finish},
+        {"tree", check_tree}, {"chunks_at", check_chunks_at}, {"bytes_of", check_bytes_of},
+        {"proof", check_proof}, {"no_proof", check_no_proof}, {"opening", check_opening},
+        {"data", check_data}, {"reading", check_reading},
+        {"proof_json", check_proof_json}, {"flat_proof", check_flat_proof},
     };
     for (size_t i = 0; i < LENGTH(checks); i++) {
         if (strcmp(kind, checks[i].kind) == 0) {
@@ -653,6 +664,7 @@ void test_vectors(void)
         take_line(at);
     }
     free_ranges();
+    free_range_vectors();
     yurewha_session_free(&session);
     free(text);
 }

@@ -1,6 +1,7 @@
 /*
  * Yurewha computes the hashes by which the Hugging Face Xet store names chunks and files. It also merges the subtrees of
- * adjacent ranges of chunks without the chunks. The header is for C11 and C++17.
+ * adjacent ranges of chunks without the chunks, and makes and opens range proofs, by which whoever knows the hash of a file
+ * checks a part of it. The header is for C11 and C++17.
  *
  * Each call but yurewha_processor_level is proved to satisfy the contract of its export in crates/yurewha_c. The comments
  * state these contracts in words.
@@ -19,16 +20,16 @@
  *
  * Handles
  *
- * - yurewha_subtree and yurewha_session are handles. An empty handle is {0} and owns nothing. Any other handle was written
- *   by a call of this library and owns memory.
+ * - yurewha_subtree, yurewha_session, yurewha_hash_tree and yurewha_opened_range are handles. An empty handle is {0} and owns
+ *   nothing. Any other handle was written by a call of this library and owns memory.
  * - A handle that a call writes to must be empty or own something. It must not be uninitialized. If the call succeeds, it
  *   frees what the handle owned before. If it fails, the handle keeps what it owned.
- * - yurewha_subtree_free and yurewha_session_free free a handle and leave it empty. Freeing an empty handle does nothing,
- *   so freeing twice is harmless. Any other call that reads an empty handle returns YUREWHA_EMPTY_HANDLE.
+ * - The call of a handle's type whose name ends with _free frees a handle and leaves it empty. Freeing an empty handle does
+ *   nothing, so freeing twice is harmless. Any other call that reads an empty handle returns YUREWHA_EMPTY_HANDLE.
  * - A handle may be moved by copying its bytes. After that, only one of the copies may be used.
  * - A handle may go to another thread. No two threads may use the same handle at once, not even in two calls that only read
  *   it: while a call reads a handle, it writes to the handle, and a second call may crash. So handles are never const. Use a
- *   lock, or give each thread a handle of its own by yurewha_subtree_clone. Different handles are independent.
+ *   lock, or give each thread a handle of its own, as yurewha_subtree_clone does. Different handles are independent.
  * - Threads may share the lists that yurewha_subtree_to_flat wrote, since calls take these arrays as const. Each thread can
  *   make a handle of its own from them, by yurewha_subtree_from_flat.
  *
@@ -70,7 +71,8 @@ extern "C" {
  *
  * Version 1.1 added yurewha_data_hashes, yurewha_processor_level, yurewha_session_copy, yurewha_session_keep_hashes,
  * yurewha_session_known_hashes, yurewha_session_num_known_hashes, yurewha_session_push_run, yurewha_session_run_from,
- * yurewha_status_text and yurewha_version. */
+ * yurewha_status_text and yurewha_version; and range proofs, which are all calls whose names begin with yurewha_hash_tree_,
+ * yurewha_range_proof_ or yurewha_opened_range_. */
 #define YUREWHA_VERSION "1.1.0"
 #define YUREWHA_VERSION_MAJOR 1
 #define YUREWHA_VERSION_MINOR 1
@@ -87,10 +89,15 @@ typedef uint32_t yurewha_status;
 #define YUREWHA_TEXT 4u         /* a text doesn't have the expected form */
 #define YUREWHA_ROOM 5u         /* the room is too small; the needed length is written */
 #define YUREWHA_EMPTY_HANDLE 6u /* a handle that the call reads is empty */
+#define YUREWHA_MISMATCH 7u     /* a range proof doesn't show the hash, or the data isn't that of the range */
 
 /* YUREWHA_RULE + rule: a JSON value, or flat lists, describe no subtree. They break this rule, from 1 to 13, and no rule
  * with a lower number. The rules are listed at yurewha_subtree_from_json. */
 #define YUREWHA_RULE 16u
+
+/* YUREWHA_PROOF_RULE + rule: a JSON value, or flat lists, are no range proof. They break this rule, which is one of 8, and no
+ * rule with a lower number. The rules are listed at yurewha_range_proof_from_json. */
+#define YUREWHA_PROOF_RULE 48u
 
 /* Calls of a session return these, too. */
 #define YUREWHA_SESSION_OVERLAP 33u   /* a position is taken */
@@ -120,7 +127,7 @@ typedef struct yurewha_chunk {
     uint64_t size;
 } yurewha_chunk;
 
-/* How many nodes a subtree keeps on a level, on the left side and on the right side. */
+/* How many nodes a subtree or a range proof has on a level, on the left side and on the right side. */
 typedef struct yurewha_level {
     size_t left;
     size_t right;
@@ -141,6 +148,14 @@ typedef struct yurewha_subtree {
 typedef struct yurewha_session {
     uint8_t *at;
 } yurewha_session;
+
+typedef struct yurewha_hash_tree {
+    uint8_t *at;
+} yurewha_hash_tree;
+
+typedef struct yurewha_opened_range {
+    uint8_t *at;
+} yurewha_opened_range;
 
 /* The lengths of a hash as hex text and as base64 text, and the greatest length of a status's text. */
 #define YUREWHA_HEX_LENGTH 64u
@@ -541,6 +556,160 @@ yurewha_status yurewha_session_num_known_hashes(yurewha_session *session, size_t
  *   MEMORY        an allocation failed */
 YUREWHA_NODISCARD YUREWHA_NONNULL(1)
 yurewha_status yurewha_session_known_hashes(yurewha_session *session, yurewha_hash *hashes, size_t count);
+
+/* ---- Hash trees: all levels over a list of chunks, which make range proofs */
+
+/* Makes the hash tree over some chunks. The handle owns it.
+ *   DONE    it is made
+ *   SIZES   if and only if the sizes add up to more than 2^64 - 1
+ *   MEMORY  an allocation failed */
+YUREWHA_NODISCARD YUREWHA_NONNULL(3)
+yurewha_status yurewha_hash_tree_from_chunks(const yurewha_chunk *chunks, size_t count, yurewha_hash_tree *tree);
+
+/* These write the root of the chunks, their file hash under a salt, the number of chunks, and the sum of their sizes, which is
+ * the size of the file in bytes. They allocate nothing.
+ *   DONE          it is written
+ *   EMPTY_HANDLE  the handle is empty */
+YUREWHA_NODISCARD YUREWHA_NONNULL(1, 2)
+yurewha_status yurewha_hash_tree_root(yurewha_hash_tree *tree, yurewha_hash *root);
+YUREWHA_NODISCARD YUREWHA_NONNULL(1, 2, 3)
+yurewha_status yurewha_hash_tree_file_hash(yurewha_hash_tree *tree, const yurewha_bytes *salt, yurewha_hash *hash);
+YUREWHA_NODISCARD YUREWHA_NONNULL(1, 2)
+yurewha_status yurewha_hash_tree_num_chunks(yurewha_hash_tree *tree, size_t *count);
+YUREWHA_NODISCARD YUREWHA_NONNULL(1, 2)
+yurewha_status yurewha_hash_tree_total_size(yurewha_hash_tree *tree, uint64_t *size);
+
+/* Writes the least range of chunks that holds the bytes of the file between the places `from` and `to`, or the end of the
+ * file if that comes before `to`. `first` gets the number of its first chunk, and `end` the number after that of its last
+ * one. Allocates nothing.
+ *   DONE          they are written
+ *   ARGUMENTS     if and only if there is a tree, and there are no such bytes
+ *   EMPTY_HANDLE  if and only if the handle is empty */
+YUREWHA_NODISCARD YUREWHA_NONNULL(1, 4, 5)
+yurewha_status yurewha_hash_tree_chunks_at(yurewha_hash_tree *tree, uint64_t from, uint64_t to, size_t *first, size_t *end);
+
+/* Writes where in the file the chunks from number `first` up to, but without, number `end` begin and end, in bytes. Allocates
+ * nothing.
+ *   DONE          the two places are written
+ *   ARGUMENTS     if and only if there is a tree, and `first` isn't less than `end` or there are fewer than `end` chunks
+ *   EMPTY_HANDLE  if and only if the handle is empty */
+YUREWHA_NODISCARD YUREWHA_NONNULL(1, 4, 5)
+yurewha_status yurewha_hash_tree_bytes_of(yurewha_hash_tree *tree, size_t first, size_t end, uint64_t *from, uint64_t *to);
+
+/* Writes the range proof of the chunks from number `first` up to, but without, number `end`, as flat lists. `levels` gets the
+ * numbers of left and right nodes of each level, from the chunks up. `nodes` gets all nodes in the order of the file: the
+ * left nodes of all levels, lowest level first, then the nodes of the chunks, then the right nodes of all levels, highest
+ * level first. `level_count` and `node_count` get the lengths of the lists. A room for 64 levels and `end` - `first` + 1024
+ * nodes is always large enough.
+ *   DONE          the lists are written
+ *   ROOM          a list is longer than its room; nothing is written to either, and the counts are the needed lengths
+ *   ARGUMENTS     if and only if there is a tree, and `first` isn't less than `end` or there are fewer than `end` chunks
+ *   MEMORY        an allocation failed
+ *   EMPTY_HANDLE  if and only if the handle is empty */
+YUREWHA_NODISCARD YUREWHA_NONNULL(1, 8, 9)
+yurewha_status yurewha_hash_tree_proof(yurewha_hash_tree *tree, size_t first, size_t end, yurewha_level *levels,
+                                       size_t level_room, yurewha_chunk *nodes, size_t node_room, size_t *level_count,
+                                       size_t *node_count);
+
+/* Frees what the handle owns, and leaves it empty. */
+YUREWHA_NONNULL(1)
+void yurewha_hash_tree_free(yurewha_hash_tree *tree);
+
+/* ---- Range proofs: with one, whoever knows the hash of a file checks a part of it */
+
+/* A range proof has the nodes of some adjacent chunks, and those that stand beside the paths from them to the root. Its flat
+ * lists are those that yurewha_hash_tree_proof writes. They may come from anybody. */
+
+/* Writes a range proof as compact JSON text to the beginning of `text`, which has room for `room` bytes, and the length of
+ * the JSON text to `length`.
+ *   DONE               it is written
+ *   ROOM               the JSON text is longer than `room`; nothing is written to `text`, and `length` is the needed length
+ *   PROOF_RULE + rule  the lists break this rule, from 5 to 8 of yurewha_range_proof_from_json, and none of these with a lower
+ *                      number
+ *   MEMORY             an allocation failed; this may be returned instead of the two above */
+YUREWHA_NODISCARD YUREWHA_NONNULL(7)
+yurewha_status yurewha_range_proof_to_json(const yurewha_level *levels, size_t level_count, const yurewha_chunk *nodes,
+                                           size_t node_count, char *text, size_t room, size_t *length);
+
+/* Reads a range proof from JSON text, and writes it as flat lists. The value is an object with these members: `chunks`, the
+ * nodes of the range's chunks; and `levels`, an object for each level, from the chunks up, with the nodes of both sides as
+ * `left` and `right`. Each node has its `hash` in hex and its `size`.
+ *   DONE               the lists are written
+ *   ROOM               a list is longer than its room; nothing is written to either, and the counts are the needed lengths
+ *   TEXT               the text isn't JSON
+ *   PROOF_RULE + rule  the value breaks this rule, and none with a lower number:
+ *                        1  it is an object
+ *                        2  `chunks` and `levels` are arrays
+ *                        3  a level is an object, and its `left` and `right` are arrays
+ *                        4  a node is an object with `hash`, 64 hex digits, and `size`, a whole number below 2^64
+ *                        5  there is at least one chunk; in flat lists, the counts leave at least one node for the chunks
+ *                        6  there are at most 64 levels
+ *                        7  a side of a level has at most 8 nodes
+ *                        8  the sizes of all nodes add up to at most 2^64 - 1
+ *   MEMORY             an allocation failed; this may be returned instead of the three above */
+YUREWHA_NODISCARD YUREWHA_NONNULL(7, 8)
+yurewha_status yurewha_range_proof_from_json(const char *text, size_t length, yurewha_level *levels, size_t level_room,
+                                             yurewha_chunk *nodes, size_t node_room, size_t *level_count, size_t *node_count);
+
+/* Opens a range proof with a file hash under a salt, or with a root. The handle owns the opened range. The default hash is
+ * never shown, since it is the hash of the empty file.
+ *   DONE               the proof shows the hash
+ *   MISMATCH           it doesn't
+ *   PROOF_RULE + rule  the lists break this rule, from 5 to 8 of yurewha_range_proof_from_json, and none of these with a lower
+ *                      number
+ *   MEMORY             an allocation failed; this may be returned instead of the two above */
+YUREWHA_NODISCARD YUREWHA_NONNULL(5, 6, 7)
+yurewha_status yurewha_range_proof_open(const yurewha_level *levels, size_t level_count, const yurewha_chunk *nodes,
+                                        size_t node_count, const yurewha_hash *file_hash, const yurewha_bytes *salt,
+                                        yurewha_opened_range *range);
+YUREWHA_NODISCARD YUREWHA_NONNULL(5, 6)
+yurewha_status yurewha_range_proof_open_root(const yurewha_level *levels, size_t level_count, const yurewha_chunk *nodes,
+                                             size_t node_count, const yurewha_hash *root, yurewha_opened_range *range);
+
+/* These write the size of the file in bytes, and the number of chunks of the range. Like all places of an opened range, the
+ * size is the proof's own word until data was checked: it tells a reader where to cut, and no more. They allocate nothing.
+ *   DONE          it is written
+ *   EMPTY_HANDLE  the handle is empty */
+YUREWHA_NODISCARD YUREWHA_NONNULL(1, 2)
+yurewha_status yurewha_opened_range_file_size(yurewha_opened_range *range, uint64_t *size);
+YUREWHA_NODISCARD YUREWHA_NONNULL(1, 2)
+yurewha_status yurewha_opened_range_num_chunks(yurewha_opened_range *range, size_t *count);
+
+/* Writes where in the file a chunk of the range begins and ends, in bytes. The chunks of the range count from 0. Allocates
+ * nothing.
+ *   DONE          the two places are written
+ *   ARGUMENTS     if and only if there is a range, and it has no such chunk
+ *   EMPTY_HANDLE  if and only if the handle is empty */
+YUREWHA_NODISCARD YUREWHA_NONNULL(1, 3, 4)
+yurewha_status yurewha_opened_range_bytes_of(yurewha_opened_range *range, size_t chunk, uint64_t *from, uint64_t *to);
+
+/* Checks the data of a chunk of the range, and writes where in the file it begins. The chunks of the range count from 0.
+ * Allocates nothing.
+ *
+ * After DONE, each file with the hash that the proof was opened with has this data at this place, and has the size that the
+ * proof says, unless two messages that were hashed have the same BLAKE3 hash.
+ *   DONE          the hash and the length of the data are those of the chunk's node
+ *   MISMATCH      they aren't, or the range has no such chunk
+ *   EMPTY_HANDLE  if and only if the handle is empty */
+YUREWHA_NODISCARD YUREWHA_NONNULL(1, 5)
+yurewha_status yurewha_opened_range_check(yurewha_opened_range *range, size_t chunk, const uint8_t *data, size_t length,
+                                          uint64_t *place);
+
+/* Checks the data of all chunks of the range, which come one after another with nothing else, and finds in it the bytes of the
+ * file between the places `from` and `to`: they are the `to` - `from` bytes from `data[start]` on. Allocates nothing.
+ *
+ * After DONE, each file with the hash that the proof was opened with has these bytes between these places, and has the size
+ * that the proof says, unless two messages that were hashed have the same BLAKE3 hash.
+ *   DONE          the data is that of the range's chunks, and the range holds both places, which are in order
+ *   MISMATCH      the data isn't, or the range doesn't hold the places, or `to` is less than `from`
+ *   EMPTY_HANDLE  if and only if the handle is empty */
+YUREWHA_NODISCARD YUREWHA_NONNULL(1, 6)
+yurewha_status yurewha_opened_range_read(yurewha_opened_range *range, uint64_t from, uint64_t to, const uint8_t *data,
+                                         size_t length, size_t *start);
+
+/* Frees what the handle owns, and leaves it empty. */
+YUREWHA_NONNULL(1)
+void yurewha_opened_range_free(yurewha_opened_range *range);
 
 #ifdef __cplusplus
 }

@@ -90,6 +90,45 @@ DECLARATIONS: Dict[str, Declaration] = {
     "yurewha_session_keep_hashes": ("yurewha_status", ("yurewha_session *", "const yurewha_hash *", "size_t")),
     "yurewha_session_num_known_hashes": ("yurewha_status", ("yurewha_session *", "size_t *")),
     "yurewha_session_known_hashes": ("yurewha_status", ("yurewha_session *", "yurewha_hash *", "size_t")),
+    # Hash trees
+    "yurewha_hash_tree_from_chunks": (
+        "yurewha_status", ("const yurewha_chunk *", "size_t", "yurewha_hash_tree *")),
+    "yurewha_hash_tree_root": ("yurewha_status", ("yurewha_hash_tree *", "yurewha_hash *")),
+    "yurewha_hash_tree_file_hash": (
+        "yurewha_status", ("yurewha_hash_tree *", "const yurewha_bytes *", "yurewha_hash *")),
+    "yurewha_hash_tree_num_chunks": ("yurewha_status", ("yurewha_hash_tree *", "size_t *")),
+    "yurewha_hash_tree_total_size": ("yurewha_status", ("yurewha_hash_tree *", "uint64_t *")),
+    "yurewha_hash_tree_chunks_at": (
+        "yurewha_status", ("yurewha_hash_tree *", "uint64_t", "uint64_t", "size_t *", "size_t *")),
+    "yurewha_hash_tree_bytes_of": (
+        "yurewha_status", ("yurewha_hash_tree *", "size_t", "size_t", "uint64_t *", "uint64_t *")),
+    "yurewha_hash_tree_proof": (
+        "yurewha_status",
+        ("yurewha_hash_tree *", "size_t", "size_t", "yurewha_level *", "size_t", "yurewha_chunk *", "size_t", "size_t *", "size_t *")),
+    "yurewha_hash_tree_free": ("void", ("yurewha_hash_tree *",)),
+    # Range proofs
+    "yurewha_range_proof_to_json": (
+        "yurewha_status",
+        ("const yurewha_level *", "size_t", "const yurewha_chunk *", "size_t", "char *", "size_t", "size_t *")),
+    "yurewha_range_proof_from_json": (
+        "yurewha_status",
+        ("const char *", "size_t", "yurewha_level *", "size_t", "yurewha_chunk *", "size_t", "size_t *", "size_t *")),
+    "yurewha_range_proof_open": (
+        "yurewha_status",
+        ("const yurewha_level *", "size_t", "const yurewha_chunk *", "size_t", "const yurewha_hash *", "const yurewha_bytes *", "yurewha_opened_range *")),
+    "yurewha_range_proof_open_root": (
+        "yurewha_status",
+        ("const yurewha_level *", "size_t", "const yurewha_chunk *", "size_t", "const yurewha_hash *", "yurewha_opened_range *")),
+    "yurewha_opened_range_file_size": ("yurewha_status", ("yurewha_opened_range *", "uint64_t *")),
+    "yurewha_opened_range_num_chunks": ("yurewha_status", ("yurewha_opened_range *", "size_t *")),
+    "yurewha_opened_range_bytes_of": (
+        "yurewha_status", ("yurewha_opened_range *", "size_t", "uint64_t *", "uint64_t *")),
+    "yurewha_opened_range_check": (
+        "yurewha_status", ("yurewha_opened_range *", "size_t", "const uint8_t *", "size_t", "uint64_t *")),
+    "yurewha_opened_range_read": (
+        "yurewha_status",
+        ("yurewha_opened_range *", "uint64_t", "uint64_t", "const uint8_t *", "size_t", "size_t *")),
+    "yurewha_opened_range_free": ("void", ("yurewha_opened_range *",)),
 }
 
 #: The statuses, by their names in the header.
@@ -101,7 +140,9 @@ STATUSES: Dict[str, int] = {
     "YUREWHA_TEXT": 4,
     "YUREWHA_ROOM": 5,
     "YUREWHA_EMPTY_HANDLE": 6,
+    "YUREWHA_MISMATCH": 7,
     "YUREWHA_RULE": 16,
+    "YUREWHA_PROOF_RULE": 48,
     "YUREWHA_SESSION_OVERLAP": 33,
     "YUREWHA_SESSION_POSITIONS": 34,
     "YUREWHA_SESSION_GAP": 37,
@@ -123,6 +164,8 @@ MEMBERS: Dict[str, Tuple[Member, ...]] = {
     "yurewha_hasher": (("state", "uint64_t", 256),),
     "yurewha_subtree": (("at", "uint8_t *", 1),),
     "yurewha_session": (("at", "uint8_t *", 1),),
+    "yurewha_hash_tree": (("at", "uint8_t *", 1),),
+    "yurewha_opened_range": (("at", "uint8_t *", 1),),
 }
 
 #: The structs that calls use, and their sizes in bytes.
@@ -134,4 +177,6 @@ STRUCTS: Dict[str, int] = {
     "yurewha_hasher": 2048,
     "yurewha_subtree": 8,
     "yurewha_session": 8,
+    "yurewha_hash_tree": 8,
+    "yurewha_opened_range": 8,
 }

@@ -16,7 +16,9 @@ pub const YUREWHA_MEMORY: yurewha_status = 3;
 pub const YUREWHA_TEXT: yurewha_status = 4;
 pub const YUREWHA_ROOM: yurewha_status = 5;
 pub const YUREWHA_EMPTY_HANDLE: yurewha_status = 6;
+pub const YUREWHA_MISMATCH: yurewha_status = 7;
 pub const YUREWHA_RULE: yurewha_status = 16;
+pub const YUREWHA_PROOF_RULE: yurewha_status = 48;
 pub const YUREWHA_SESSION_OVERLAP: yurewha_status = 33;
 pub const YUREWHA_SESSION_POSITIONS: yurewha_status = 34;
 pub const YUREWHA_SESSION_GAP: yurewha_status = 37;
@@ -64,6 +66,16 @@ pub struct yurewha_subtree {
 
 #[repr(C)]
 pub struct yurewha_session {
+    pub at: *mut u8,
+}
+
+#[repr(C)]
+pub struct yurewha_hash_tree {
+    pub at: *mut u8,
+}
+
+#[repr(C)]
+pub struct yurewha_opened_range {
     pub at: *mut u8,
 }
 
@@ -259,6 +271,105 @@ extern "C" {
         hashes: *mut yurewha_hash,
         count: usize,
     ) -> yurewha_status;
+    pub fn yurewha_hash_tree_from_chunks(
+        chunks: *const yurewha_chunk,
+        count: usize,
+        tree: *mut yurewha_hash_tree,
+    ) -> yurewha_status;
+    pub fn yurewha_hash_tree_root(tree: *mut yurewha_hash_tree, root: *mut yurewha_hash) -> yurewha_status;
+    pub fn yurewha_hash_tree_file_hash(
+        tree: *mut yurewha_hash_tree,
+        salt: *const yurewha_bytes,
+        hash: *mut yurewha_hash,
+    ) -> yurewha_status;
+    pub fn yurewha_hash_tree_num_chunks(tree: *mut yurewha_hash_tree, count: *mut usize) -> yurewha_status;
+    pub fn yurewha_hash_tree_total_size(tree: *mut yurewha_hash_tree, size: *mut u64) -> yurewha_status;
+    pub fn yurewha_hash_tree_chunks_at(
+        tree: *mut yurewha_hash_tree,
+        from: u64,
+        to: u64,
+        first: *mut usize,
+        end: *mut usize,
+    ) -> yurewha_status;
+    pub fn yurewha_hash_tree_bytes_of(
+        tree: *mut yurewha_hash_tree,
+        first: usize,
+        end: usize,
+        from: *mut u64,
+        to: *mut u64,
+    ) -> yurewha_status;
+    pub fn yurewha_hash_tree_proof(
+        tree: *mut yurewha_hash_tree,
+        first: usize,
+        end: usize,
+        levels: *mut yurewha_level,
+        level_room: usize,
+        nodes: *mut yurewha_chunk,
+        node_room: usize,
+        level_count: *mut usize,
+        node_count: *mut usize,
+    ) -> yurewha_status;
+    pub fn yurewha_hash_tree_free(tree: *mut yurewha_hash_tree);
+    pub fn yurewha_range_proof_to_json(
+        levels: *const yurewha_level,
+        level_count: usize,
+        nodes: *const yurewha_chunk,
+        node_count: usize,
+        text: *mut c_char,
+        room: usize,
+        length: *mut usize,
+    ) -> yurewha_status;
+    pub fn yurewha_range_proof_from_json(
+        text: *const c_char,
+        length: usize,
+        levels: *mut yurewha_level,
+        level_room: usize,
+        nodes: *mut yurewha_chunk,
+        node_room: usize,
+        level_count: *mut usize,
+        node_count: *mut usize,
+    ) -> yurewha_status;
+    pub fn yurewha_range_proof_open(
+        levels: *const yurewha_level,
+        level_count: usize,
+        nodes: *const yurewha_chunk,
+        node_count: usize,
+        file_hash: *const yurewha_hash,
+        salt: *const yurewha_bytes,
+        range: *mut yurewha_opened_range,
+    ) -> yurewha_status;
+    pub fn yurewha_range_proof_open_root(
+        levels: *const yurewha_level,
+        level_count: usize,
+        nodes: *const yurewha_chunk,
+        node_count: usize,
+        root: *const yurewha_hash,
+        range: *mut yurewha_opened_range,
+    ) -> yurewha_status;
+    pub fn yurewha_opened_range_file_size(range: *mut yurewha_opened_range, size: *mut u64) -> yurewha_status;
+    pub fn yurewha_opened_range_num_chunks(range: *mut yurewha_opened_range, count: *mut usize) -> yurewha_status;
+    pub fn yurewha_opened_range_bytes_of(
+        range: *mut yurewha_opened_range,
+        chunk: usize,
+        from: *mut u64,
+        to: *mut u64,
+    ) -> yurewha_status;
+    pub fn yurewha_opened_range_check(
+        range: *mut yurewha_opened_range,
+        chunk: usize,
+        data: *const u8,
+        length: usize,
+        place: *mut u64,
+    ) -> yurewha_status;
+    pub fn yurewha_opened_range_read(
+        range: *mut yurewha_opened_range,
+        from: u64,
+        to: u64,
+        data: *const u8,
+        length: usize,
+        start: *mut usize,
+    ) -> yurewha_status;
+    pub fn yurewha_opened_range_free(range: *mut yurewha_opened_range);
 }
 
 // Tests of the calls that no other module makes.

@@ -159,6 +159,7 @@ impl<A: Allocator> HashTree<A> {
     /// `None` if there are no such bytes. It allocates nothing.
     pub fn chunks_at(&self, from: u64, to: u64) -> Option<(usize, usize)>
         ensures range { IfSome result (λ range. IsRangeOfBytes self.now from (min to (total_size self.now)) range.0 range.1) }
+        ensures some { IfSome result (λ _. from < min to (total_size self.now)) }
         ensures none { IfNone result (min to (total_size self.now) ≤ from) }
     {
         let stop = to.min(self.total_size());

@@ -1,7 +1,9 @@
 pub mod AsBox
 pub mod NodesOfChunks
 pub mod Offsets
+pub mod RangeReading
 pub mod FlatLevels
 pub mod HandleLists
 pub mod Handles
 pub mod SessionStatuses
+pub mod ProofTexts

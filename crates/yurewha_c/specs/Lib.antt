@@ -6,6 +6,8 @@ pub mod Hashers
 pub mod Order
 pub mod FlatLists
 pub mod Pieces
+pub mod ProofLists
+pub mod OpenedRanges
 pub mod Texts
 pub mod Rows
 pub mod Owned

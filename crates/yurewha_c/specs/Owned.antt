@@ -8,7 +8,7 @@ use Rattle.std.specs.Coded.{coded_option}
 use Rattle.std.specs.Box.Ownership.{box_owns}
 use Rattle.std.specs.Global.{Global}
 use Rattle.std.specs.contracts.impls.GlobalAllocator.TheImpl.{ghosts}
-use Rattle.yurewha_c.specs.Rows.{subtree_row, session_row}
+use Rattle.yurewha_c.specs.Rows.{subtree_row, session_row, hash_tree_row, opened_range_row}
 
 -- a pointer that is null
 abbrev pub IsNull : Ptr → Fml
@@ -30,3 +30,15 @@ owns_session = owns_kept session_row
 
 abbrev pub session_code : Coded (Option session_row.Denot)
 session_code = coded_option session_row.coded
+
+abbrev pub owns_hash_tree : Global → Ptr → Option hash_tree_row.Denot → Fml
+owns_hash_tree = owns_kept hash_tree_row
+
+abbrev pub hash_tree_code : Coded (Option hash_tree_row.Denot)
+hash_tree_code = coded_option hash_tree_row.coded
+
+abbrev pub owns_opened_range : Global → Ptr → Option opened_range_row.Denot → Fml
+owns_opened_range = owns_kept opened_range_row
+
+abbrev pub opened_range_code : Coded (Option opened_range_row.Denot)
+opened_range_code = coded_option opened_range_row.coded

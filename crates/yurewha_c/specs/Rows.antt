@@ -2,6 +2,8 @@
 use denote.RattleType.{RattleType}
 use Rattle.std.specs.contracts.alloc.Global as global
 use Rattle.std.specs.contracts.impls.GlobalAllocator.TheImpl.{ghosts}
+use Rattle.range_proof.specs.contracts.hash_tree.HashTree as hash_tree
+use Rattle.range_proof.specs.contracts.opened_range.OpenedRange as opened_range
 use Rattle.xet_merkle.specs.contracts.merkle_hash_subtree.subtree.MerkleHashSubtree as subtree
 use Rattle.yurewha_c.specs.contracts.kept_session.KeptSession as session
 
@@ -10,3 +12,9 @@ subtree_row = subtree.the_row global.the_row ghosts
 
 abbrev pub session_row : RattleType
 session_row = session.the_row
+
+abbrev pub hash_tree_row : RattleType
+hash_tree_row = hash_tree.the_row global.the_row ghosts
+
+abbrev pub opened_range_row : RattleType
+opened_range_row = opened_range.the_row global.the_row ghosts

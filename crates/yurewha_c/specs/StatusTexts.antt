@@ -1,10 +1,10 @@
 -- What each status means, in English.
-use Rattle.std.specs.Prelude.{ℕ, ◌-◌, ◌==◌, if◌then◌else◌, List, codes}
+use Rattle.std.specs.Prelude.{ℕ, ◌-◌, ◌==◌, nat_le, if◌then◌else◌, List, codes}
 
 abbrev pub unknown_status : List ℕ
 unknown_status = codes "unknown status"
 
--- how a value breaks a rule; the rules are 1 to 13
+-- how a subtree's value breaks a rule; the rules are 1 to 13
 abbrev pub rule_text : ℕ → List ℕ
 rule_text rule =
     if rule == 1 then codes "rule 1: the value isn't an object"
@@ -22,7 +22,20 @@ rule_text rule =
     else if rule == 13 then codes "rule 13: right nodes don't begin at a last stable point"
     else unknown_status
 
--- what a status means; 16 plus the number of a rule is a status, too
+-- how a range proof's value breaks a rule; the rules are 1 to 8
+abbrev pub proof_rule_text : ℕ → List ℕ
+proof_rule_text rule =
+    if rule == 1 then codes "rule 1: the range proof isn't an object"
+    else if rule == 2 then codes "rule 2: the chunks or levels aren't an array"
+    else if rule == 3 then codes "rule 3: a level isn't an object with two arrays"
+    else if rule == 4 then codes "rule 4: a node isn't a hash and a size"
+    else if rule == 5 then codes "rule 5: there is no chunk"
+    else if rule == 6 then codes "rule 6: there are more than 64 levels"
+    else if rule == 7 then codes "rule 7: a side of a level has more than 8 nodes"
+    else if rule == 8 then codes "rule 8: the sizes add up to more than 2^64 - 1"
+    else unknown_status
+
+-- what a status means; 16 plus the number of a subtree's rule is a status, and so is 48 plus that of a range proof's rule
 abbrev pub status_text : ℕ → List ℕ
 status_text status =
     if status == 0 then codes "the call succeeded"
@@ -32,7 +45,9 @@ status_text status =
     else if status == 4 then codes "a text doesn't have the expected form"
     else if status == 5 then codes "the room is too small"
     else if status == 6 then codes "a handle is empty"
+    else if status == 7 then codes "the range proof doesn't show the hash, or the data isn't that of the range"
     else if status == 33 then codes "a position is taken"
     else if status == 34 then codes "the first position plus the number of chunks passes 2^64 - 1"
     else if status == 37 then codes "the taken positions aren't exactly those below the total"
-    else rule_text (status - 16)
+    else if nat_le status 48 then rule_text (status - 16)
+    else proof_rule_text (status - 48)

@@ -2,6 +2,8 @@
 use Rattle.std.specs.Prelude.{ℕ, ◌+◌}
 use Rattle.xet_roots.specs.declared.error.CoreError.{CoreError}
 use Rattle.xet_roots.specs.declared.error.CoreError.TheVariants.{InvalidArguments, SizeOverflow, OutOfMemory, InvalidJson}
+use Rattle.range_proof.specs.declared.open_error.OpenFault.{OpenFault}
+use Rattle.range_proof.specs.declared.open_error.OpenFault.TheVariants as open_faults
 use Rattle.upload_session.specs.declared.session_fault.SessionFault.{SessionFault}
 use Rattle.upload_session.specs.declared.session_fault.SessionFault.TheVariants.{Overlap, Positions, Sizes, Memory, Gap}
 
@@ -26,6 +28,9 @@ room = 5
 abbrev pub empty_handle : ℕ
 empty_handle = 6
 
+abbrev pub mismatch : ℕ
+mismatch = 7
+
 abbrev pub session_gap : ℕ
 session_gap = 37
 
@@ -41,3 +46,14 @@ session_status Positions = 34
 session_status Sizes = 2
 session_status Memory = 3
 session_status Gap = 37
+
+-- the rules of a range proof have statuses of their own
+abbrev pub proof_status : CoreError → ℕ
+proof_status InvalidArguments = 1
+proof_status SizeOverflow = 2
+proof_status OutOfMemory = 3
+proof_status (InvalidJson rule) = 48 + rule
+
+abbrev pub open_status : OpenFault → ℕ
+open_status open_faults.Mismatch = 7
+open_status open_faults.OutOfMemory = 3

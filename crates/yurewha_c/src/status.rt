@@ -1,8 +1,9 @@
 //! The statuses that exports return. The status is 0 if and only if the call succeeded.
 
 ghost use Rattle.std.specs.Prelude.{◌≡◌};
-ghost use Rattle.yurewha_c.specs.Statuses.{core_status, session_status};
+ghost use Rattle.yurewha_c.specs.Statuses.{core_status, open_status, proof_status, session_status};
 
+use range_proof::OpenFault;
 use upload_session::session_fault::SessionFault;
 use xet_merkle::CoreError;
 
@@ -27,8 +28,11 @@ pub const ROOM: u32 = 5;
 /// A handle that the call reads is empty.
 pub const EMPTY_HANDLE: u32 = 6;
 
-/// This plus the number of a rule, from 1 to 13: a JSON value, or flat lists, break this rule and none with a lower
-/// number.
+/// The range proof doesn't show the hash, or the data isn't that of the range.
+pub const MISMATCH: u32 = 7;
+
+/// This plus the number of a rule, from 1 to 13: the JSON value, or the flat lists, of a subtree break this rule and none
+/// with a lower number.
 pub const RULE: u32 = 16;
 
 /// A position of a session is taken.
@@ -40,6 +44,10 @@ pub const SESSION_POSITIONS: u32 = 34;
 /// The taken positions of a session aren't exactly those below the total. Up to version 1.0, calls of a session returned
 /// 35 for `SIZES` and 36 for `MEMORY`. No status gets these numbers again.
 pub const SESSION_GAP: u32 = 37;
+
+/// This plus the number of a rule, from 1 to 8: the JSON value, or the flat lists, of a range proof break this rule and
+/// none with a lower number.
+pub const PROOF_RULE: u32 = 48;
 
 // Returns the status of an error.
 pub(crate) fn status_of(error: CoreError) -> u32
@@ -63,5 +71,25 @@ pub(crate) fn status_of_fault(fault: SessionFault) -> u32
         SessionFault::Sizes => SIZES,
         SessionFault::Memory => MEMORY,
         SessionFault::Gap => SESSION_GAP,
+    }
+}
+
+// Returns the status of an error of a range proof, whose rules have statuses of their own.
+pub(crate) fn status_of_proof(error: CoreError) -> u32
+    ensures { result ≡ proof_status error }
+{
+    match error {
+        CoreError::InvalidJson(rule) => PROOF_RULE + u32::from(rule),
+        other => status_of(other),
+    }
+}
+
+// Returns the status of a range proof that wasn't opened.
+pub(crate) fn status_of_open(fault: OpenFault) -> u32
+    ensures { result ≡ open_status fault }
+{
+    match fault {
+        OpenFault::Mismatch => MISMATCH,
+        OpenFault::OutOfMemory => MEMORY,
     }
 }

@@ -1,16 +1,16 @@
 //! What each status means, in English.
 
 ghost use Rattle.std.specs.Prelude.{◌≡◌, ◌-◌, ◌≤◌, length};
-ghost use Rattle.yurewha_c.specs.StatusTexts.{rule_text, status_text};
+ghost use Rattle.yurewha_c.specs.StatusTexts.{proof_rule_text, rule_text, status_text};
 ghost use Rattle.yurewha_c.specs.Texts.{WritesText};
 
 use crate::status::{
-    ARGUMENTS, DONE, EMPTY_HANDLE, MEMORY, ROOM, RULE, SESSION_GAP, SESSION_OVERLAP,
-    SESSION_POSITIONS, SIZES, TEXT,
+    ARGUMENTS, DONE, EMPTY_HANDLE, MEMORY, MISMATCH, PROOF_RULE, ROOM, RULE, SESSION_GAP,
+    SESSION_OVERLAP, SESSION_POSITIONS, SIZES, TEXT,
 };
 use crate::text::write_text;
 
-// Returns how a value breaks a rule.
+// Returns how a subtree's value breaks a rule.
 fn rule_text(rule: u32) -> &'static str
     ensures value { result.now ≡ rule_text rule }
     ensures fits { length result.now ≤ 96 }
@@ -33,6 +33,24 @@ fn rule_text(rule: u32) -> &'static str
     }
 }
 
+// Returns how a range proof's value breaks a rule.
+fn proof_rule_text(rule: u32) -> &'static str
+    ensures value { result.now ≡ proof_rule_text rule }
+    ensures fits { length result.now ≤ 96 }
+{
+    match rule {
+        1 => "rule 1: the range proof isn't an object",
+        2 => "rule 2: the chunks or levels aren't an array",
+        3 => "rule 3: a level isn't an object with two arrays",
+        4 => "rule 4: a node isn't a hash and a size",
+        5 => "rule 5: there is no chunk",
+        6 => "rule 6: there are more than 64 levels",
+        7 => "rule 7: a side of a level has more than 8 nodes",
+        8 => "rule 8: the sizes add up to more than 2^64 - 1",
+        _ => "unknown status",
+    }
+}
+
 // Returns what a status means.
 fn status_text(status: u32) -> &'static str
     ensures value { result.now ≡ status_text status }
@@ -46,10 +64,12 @@ fn status_text(status: u32) -> &'static str
         TEXT => "a text doesn't have the expected form",
         ROOM => "the room is too small",
         EMPTY_HANDLE => "a handle is empty",
+        MISMATCH => "the range proof doesn't show the hash, or the data isn't that of the range",
         SESSION_OVERLAP => "a position is taken",
         SESSION_POSITIONS => "the first position plus the number of chunks passes 2^64 - 1",
         SESSION_GAP => "the taken positions aren't exactly those below the total",
-        _ => rule_text(status.saturating_sub(RULE)),
+        0..=PROOF_RULE => rule_text(status.saturating_sub(RULE)),
+        _ => proof_rule_text(status - PROOF_RULE),
     }
 }
 

@@ -14,7 +14,7 @@ use std::alloc::{AllocError, Global};
 use xet_merkle::aggregated_hashes::Node;
 use xet_merkle::merkle_hash_subtree::MerkleHashSubtree;
 
-/// How many nodes a subtree keeps on a level, on the left side and on the right side.
+/// How many nodes a subtree or a range proof has on a level, on the left side and on the right side.
 #[derive(Clone, Copy)]
 #[repr(C)]
 pub struct Level {
@@ -23,7 +23,7 @@ pub struct Level {
 }
 
 // Returns the counts of some levels, in allocated memory.
-fn counts_of(alloc: Global, levels: &[Level]) -> Result<Vec<(usize, usize)>, AllocError>
+pub(crate) fn counts_of(alloc: Global, levels: &[Level]) -> Result<Vec<(usize, usize)>, AllocError>
     ensures { IfOk result (λ counts. counts.items ≡ counts_of levels.now) }
 {
     let mut counts = Vec::with_capacity(alloc, levels.len())?;
@@ -72,7 +72,7 @@ pub extern "C" fn yurewha_subtree_from_flat(
 }
 
 // Writes some nodes to a list from `at` on. Returns the place after them.
-fn write_nodes(nodes: &[Node], list: &mut [Chunk], at: usize) -> usize
+pub(crate) fn write_nodes(nodes: &[Node], list: &mut [Chunk], at: usize) -> usize
     requires { at + length nodes.now ≤ length list.old }
     ensures place { result ≡ at + length nodes.now }
     ensures written { nodes_of (take result list.new) ≡ nodes_of (take at list.old) ++ nodes.now }

@@ -1,0 +1,103 @@
+//! Range proofs as JSON text.
+
+ghost use Rattle.std.specs.Prelude.{◌≡◌, ◌≢◌, ◌⊎◌, ℕ, ◌+◌, Some, None, IfOk, IsUtf8};
+ghost use Rattle.serde_json.specs.Data.{Data};
+ghost use Rattle.serde_json.specs.Read.{read};
+ghost use Rattle.serde_json.specs.Written.{compact_text};
+ghost use Rattle.range_proof.specs.RangeProof.{Proof};
+ghost use Rattle.range_proof.specs.ProofJson.{BreaksRule, Reads, proof_json};
+ghost use Rattle.yurewha_c.specs.ProofLists.{AreOfProof, IsFlatRule, WritesProof};
+ghost use Rattle.yurewha_c.specs.Texts.{WritesText};
+
+use crate::chunks::Chunk;
+use crate::proof_lists::{read_proof, write_proof};
+use crate::status::{DONE, MEMORY, PROOF_RULE, ROOM, TEXT, status_of_proof};
+use crate::subtree_flat::Level;
+use crate::text::write_text;
+use range_proof::RangeProof;
+use serde_json::Value;
+use std::alloc::{AllocError, Global};
+
+// Returns the compact JSON text of a range proof.
+#[tactic(auto, using(crate::proofs::ProofTexts::no_float))]
+fn json_text(alloc: Global, proof: &RangeProof) -> Result<Vec<u8>, AllocError>
+    ensures { IfOk result (λ text. text.items ≡ compact_text (proof_json proof.now)) }
+{
+    let Ok(value) = proof.to_json(alloc) else {
+        return Err(AllocError);
+    };
+    value.to_vec(alloc)
+}
+
+/// Writes a range proof as compact JSON text to the beginning of `room`, and the length of the JSON text to `text_len`.
+///
+/// - `DONE`: it is written.
+/// - `ROOM`: the JSON text is longer than `room`. Nothing is written to `room`, and `text_len` is the needed length.
+/// - `PROOF_RULE` + rule: the flat lists break this rule, from 5 to 8 of `RangeProof::from_json` of `range_proof`, and none
+///   of these with a lower number.
+/// - `MEMORY`: an allocation failed; this may be returned instead of a rule.
+///
+/// Unless the status is `DONE` or `ROOM`, nothing is written.
+#[unsafe(no_mangle)]
+pub extern "C" fn yurewha_range_proof_to_json(
+    alloc: Global,
+    levels: &[Level],
+    nodes: &[Chunk],
+    room: &mut [u8],
+    text_len: &mut usize,
+) -> u32
+    ensures written { (result ≡ DONE) ⊎ (result ≡ ROOM) → (proof : Proof) × AreOfProof levels.now nodes.now proof
+        × WritesText (compact_text (proof_json proof)) room.old room.new text_len.new result }
+    ensures statuses { (result ≡ DONE) ⊎ ((result ≡ ROOM) ⊎ ((result ≡ MEMORY) ⊎ IsFlatRule levels.now nodes.now result)) }
+    ensures unchanged { result ≢ DONE → room.new ≡ room.old }
+    ensures no_len { result ≢ DONE → result ≢ ROOM → text_len.new ≡ text_len.old }
+{
+    let proof = match read_proof(alloc, levels, nodes) {
+        Ok(proof) => proof,
+        Err(status) => return status,
+    };
+    match json_text(alloc, &proof) {
+        Ok(text) => write_text(&text, room, text_len),
+        Err(_) => MEMORY,
+    }
+}
+
+/// Reads a range proof from JSON text, and writes it as flat lists, as `yurewha_hash_tree_proof` does.
+///
+/// - `DONE`: the lists are written.
+/// - `ROOM`: a list is longer than its room. Nothing is written to either, and `level_len` and `node_len` are the
+///   needed lengths.
+/// - `TEXT`: the text isn't UTF-8, or isn't JSON.
+/// - `PROOF_RULE` + rule: the value breaks this rule, from 1 to 8 of `RangeProof::from_json` of `range_proof`, and none
+///   with a lower number.
+/// - `MEMORY`: an allocation failed; this may be returned instead of `TEXT`, a rule or `ROOM`.
+///
+/// Unless the status is `DONE` or `ROOM`, nothing is written.
+#[unsafe(no_mangle)]
+pub extern "C" fn yurewha_range_proof_from_json(
+    alloc: Global,
+    text: &[u8],
+    levels: &mut [Level],
+    nodes: &mut [Chunk],
+    level_len: &mut usize,
+    node_len: &mut usize,
+) -> u32
+    ensures reads { (result ≡ DONE) ⊎ (result ≡ ROOM) → (proof : Proof)
+        × ((json : Data) × IsUtf8 text.now × (read text.now ≡ Some json) × Reads json proof)
+        × WritesProof proof levels.old levels.new nodes.old nodes.new level_len.new node_len.new result }
+    ensures text { result ≡ TEXT → IsUtf8 text.now → read text.now ≡ None }
+    ensures statuses { (result ≡ DONE) ⊎ ((result ≡ ROOM) ⊎ ((result ≡ TEXT) ⊎ ((result ≡ MEMORY)
+        ⊎ ((rule : ℕ) × (result ≡ PROOF_RULE + rule)
+        × (json : Data) × IsUtf8 text.now × (read text.now ≡ Some json) × BreaksRule json rule)))) }
+    ensures unchanged { result ≢ DONE → (levels.new ≡ levels.old) × (nodes.new ≡ nodes.old) }
+    ensures no_lens { result ≢ DONE → result ≢ ROOM → (level_len.new ≡ level_len.old) × (node_len.new ≡ node_len.old) }
+{
+    let value = match Value::from_slice(alloc, text) {
+        Ok(value) => value,
+        Err(error) => return if error.is_memory() { MEMORY } else { TEXT },
+    };
+    match RangeProof::from_json(alloc, &value) {
+        Ok(proof) => write_proof(&proof, levels, nodes, level_len, node_len),
+        Err(error) => status_of_proof(error),
+    }
+}
