@@ -40,8 +40,8 @@ pub fn keyed_hash(key: &[u8; 32], data: &[u8]) -> [u8; 32]
     hasher.finalize()
 }
 
-/// Returns the keyed BLAKE3 hashes of two messages under one key. Messages of at most 1024 bytes are hashed at once, which takes
-/// less time than one after the other.
+/// Returns the keyed BLAKE3 hashes of two messages under one key. If neither has more than 1024 bytes, both are hashed at once,
+/// which takes less time than one after the other.
 pub fn keyed_hash_two(key: &[u8; 32], first: &[u8], second: &[u8]) -> ([u8; 32], [u8; 32])
     ensures first { result.0 ≡ keyed_hash key.now first.now }
     ensures second { result.1 ≡ keyed_hash key.now second.now }
