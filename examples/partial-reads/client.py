@@ -3,8 +3,8 @@
 
     ./client.py URL FILE_HASH START STOP > PART
 
-It writes the bytes from START up to STOP to standard output, if all of them are the file's, and nothing otherwise. On standard error it
-says what it fetched.
+It writes the bytes from START up to STOP to standard output, if all of them are the file's, and nothing otherwise. On standard error
+it says what it fetched.
 """
 
 from __future__ import annotations

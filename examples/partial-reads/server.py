@@ -3,8 +3,8 @@
 
     ./server.py FOLDER [PORT]      the folder is one that make_file.py filled; the port is 8000 if none is given
 
-`GET /data` with the header `Range: bytes=FIRST-LAST` returns these bytes. `GET /proof?start=START&stop=STOP` returns the proof of the
-chunks with the bytes from START up to STOP, as JSON. Nobody has to trust the server.
+`GET /data` with the header `Range: bytes=FIRST-LAST` returns these bytes. `GET /proof?start=START&stop=STOP` returns the proof of
+the chunks with the bytes from START up to STOP, as JSON. Nobody has to trust the server.
 """
 
 from __future__ import annotations

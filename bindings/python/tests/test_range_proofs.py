@@ -5,6 +5,7 @@ import importlib.util
 import mmap
 import pickle
 import struct
+import sys
 from pathlib import Path
 
 import pytest
@@ -103,11 +104,11 @@ def test_the_worked_proof():
 
 
 UNREAD = [
-    ("the proof is of the bytes 7 to 14, and not of 0 to 2", 0, 2, b"another"),
-    ("the proof is of the bytes 7 to 14, and not of 6 to 8", 6, 8, b"another"),
-    ("the proof is of the bytes 7 to 14, and not of 13 to 15", 13, 15, b"another"),
-    ("the proof is of the bytes 7 to 14, and not of 10 to 8", 10, 8, b"another"),
-    ("the proof is of the bytes 7 to 14, and not of 0 to 18446744073709551615", 0, MAX, b"another"),
+    ("the proof is of the bytes from 7 up to 14, and not of those from 0 up to 2", 0, 2, b"another"),
+    ("the proof is of the bytes from 7 up to 14, and not of those from 6 up to 8", 6, 8, b"another"),
+    ("the proof is of the bytes from 7 up to 14, and not of those from 13 up to 15", 13, 15, b"another"),
+    ("the proof is of the bytes from 7 up to 14, and not of those from 10 up to 8", 10, 8, b"another"),
+    ("the proof is of the bytes from 7 up to 14, and not of those from 0 up to 18446744073709551615", 0, MAX, b"another"),
     ("the range has 7 bytes, and the data 8", 8, 10, b"another."),
     ("the range has 7 bytes, and the data 6", 8, 10, b"anothe"),
     ("the range has 7 bytes, and the data 0", 8, 8, b""),
@@ -390,7 +391,7 @@ def test_representations():
     opened = TREE.proof(1, 3).open(NAME)
     assert repr(TREE) == "<yurewha.HashTree of 3 chunks, 25 bytes>"
     assert repr(TREE.proof(1, 3)) == "<yurewha.RangeProof of 2 chunks, with 1 node beside on 1 level>"
-    assert repr(opened) == "<yurewha.OpenedRange of 2 chunks: bytes 7 to 25 of 25, by the proof's word>"
+    assert repr(opened) == "<yurewha.OpenedRange of 2 chunks: bytes from 7 up to 25 of 25, by the proof's word>"
     for it in (opened, y.HashTree(CHUNKS)):
         it.__del__()
         assert repr(it) == f"<yurewha.{type(it).__name__} that can't be read>"
@@ -399,8 +400,9 @@ def test_representations():
 def campaign():
     """The script of hostile/ as a module."""
     loader = importlib.machinery.SourceFileLoader("campaign", str(REPOSITORY / "hostile" / "proofs"))
-    module = importlib.util.module_from_spec(importlib.util.spec_from_loader("campaign", loader))
+    module, path = importlib.util.module_from_spec(importlib.util.spec_from_loader("campaign", loader)), list(sys.path)
     loader.exec_module(module)
+    sys.path[:] = path
     return module
 
 

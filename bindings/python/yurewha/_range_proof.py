@@ -164,7 +164,7 @@ class RangeProof:
         >>> from yurewha import Hash, HashTree
         >>> tree = HashTree([(Hash(), 7), (Hash(), 8)])
         >>> tree.proof(1, 2).open(tree.file_hash(salt=bytes(32)), salt=bytes(32))
-        <yurewha.OpenedRange of 1 chunk: bytes 7 to 15 of 15, by the proof's word>
+        <yurewha.OpenedRange of 1 chunk: bytes from 7 up to 15 of 15, by the proof's word>
         """
         raw = raw_of(file_hash, "a file hash")
         key = bytes(32) if salt is None else checked_32(salt, "a salt")
@@ -494,7 +494,7 @@ class OpenedRange(Guarded):
         """Returns why bytes couldn't be read from data of this length."""
         begin, end = self.begins(0), self.ends(self.num_chunks - 1)
         if not begin <= start <= stop <= end:
-            return f"the proof is of the bytes {begin} to {end}, and not of {start} to {stop}"
+            return f"the proof is of the bytes from {begin} up to {end}, and not of those from {start} up to {stop}"
         if length != end - begin:
             return f"the range has {end - begin} bytes, and the data {length}"
         return "this isn't the data of the range"
@@ -511,7 +511,7 @@ class OpenedRange(Guarded):
     def __repr__(self) -> str:
         try:
             count = self.num_chunks
-            places = f"bytes {self.begins(0)} to {self.ends(count - 1)} of {self.file_size}"
+            places = f"bytes from {self.begins(0)} up to {self.ends(count - 1)} of {self.file_size}"
         except YurewhaError:
             return "<yurewha.OpenedRange that can't be read>"
         return f"<yurewha.OpenedRange of {_counted(count, 'chunk')}: {places}, by the proof's word>"

@@ -31,22 +31,22 @@ else:
 
 @final
 class VerifiedFile(_Raw):
-    """A file somewhere else, read in parts. Each part is checked against the file hash before it is returned. It is read-only.
+    """A read-only file that is somewhere else. What is read of it is checked against the file hash before it is returned.
 
     `fetch(start, stop)` returns the bytes of the file from `start` up to, but without, `stop`. `prove(start, stop)` returns the
-    proof of the chunks with these bytes, or with those up to the end of the file: it is `HashTree.proof_of_bytes`, or asks a server
-    for what that returns. Nobody trusts either. Each byte that is returned is one of each file with this hash, at this place; or
-    somebody has found a collision of BLAKE3. Otherwise `ProofMismatch` is raised, and nothing is returned.
+    proof of the chunks with these bytes, or with those of them that the file has: it is `HashTree.proof_of_bytes`, or it asks a
+    server for the same. Neither has to be trusted. Each file with this hash has the bytes that are returned, at this place, or
+    somebody has found a collision of BLAKE3. If other bytes or another proof come, `ProofMismatch` is raised, and nothing is
+    returned.
 
-    `zipfile`, `pyarrow`, `fsspec` and others read through it, as it is an `io.RawIOBase` that can seek. It returns all bytes that
-    are asked for, unless the file ends.
+    `zipfile`, `pyarrow`, `fsspec` and others read through it, because it is an `io.RawIOBase` that can seek. A read returns all
+    bytes that are asked for, unless the file ends.
 
-    - The size of the file is known after the first part was checked. So seeking from the end may fetch the first chunk. Before
-      that, reading after the end raises what `prove` raises.
-    - The last chunks that were checked are kept, at most `cache_size` bytes of them, so that a reader of small pieces fetches each
-      chunk once.
-    - A proof whose chunks go more than `chunk_limit` bytes beyond the bytes that are asked for is refused. So a server can't make a
-      reader fetch a whole file for one byte.
+    - The size of the file is known once something was checked. So seeking from the end may fetch the first chunk. Until the size is
+      known, reading after the end raises what `prove` raises.
+    - What was checked last is kept, at most `cache_size` bytes of it, so that a reader of small pieces fetches each chunk once.
+    - A proof is refused if its chunks go more than `chunk_limit` bytes beyond what is asked for. So a server can't make a reader
+      fetch a whole file for one byte.
 
     >>> from yurewha import HashTree, data_hash
     >>> tree = HashTree([(data_hash(data), len(data)) for data in (b"a chunk", b"another", b"and a third")])
@@ -201,10 +201,9 @@ class VerifiedFile(_Raw):
         opened = proof.open(self._hash, self._salt)
         begin, end, size = opened.begins(0), opened.ends(opened.num_chunks - 1), opened.file_size
         if not begin <= start < min(stop, size) <= end:
-            raise ProofMismatch(f"the proof is of the bytes {begin} to {end} of {size}, and not of {start} to {stop}")
+            raise ProofMismatch(f"{_told(begin, end)}, and not of those from {start} up to {stop}")
         if start - begin > self._chunk_limit or end - stop > self._chunk_limit:
-            raise ProofMismatch(
-                f"the proof is of the bytes {begin} to {end}, far more than {start} to {stop}; chunk_limit is {self._chunk_limit}")
+            raise ProofMismatch(f"{_told(begin, end)}, far more than those from {start} up to {stop}")
         data = own_bytes(self._fetch(begin, end))
         opened.read(begin, end, data)
         self._size = size
@@ -271,3 +270,7 @@ class VerifiedFile(_Raw):
 
     def __repr__(self) -> str:
         return f"<yurewha.VerifiedFile {self._hash}>"
+
+
+def _told(begin: int, end: int) -> str:
+    return f"the proof is of the bytes from {begin} up to {end}"
