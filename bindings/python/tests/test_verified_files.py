@@ -166,11 +166,11 @@ DISHONEST = {
     "another file": (
         "the proof doesn't show this file hash", lambda s: (OTHER.fetch, lambda a, b: OTHER.tree.proof_of_bytes(a, b))),
     "the whole file for a part": (
-        "far more than", lambda s: (s.fetch, lambda a, b: s.tree.proof(0, s.tree.num_chunks))),
+        "see chunk_limit", lambda s: (s.fetch, lambda a, b: s.tree.proof(0, s.tree.num_chunks))),
     "a parent for a chunk": (
-        "far more than", lambda s: (s.fetch, lambda a, b: y.RangeProof.from_flat([], [(s.tree.root, len(s.data))]))),
+        "see chunk_limit", lambda s: (s.fetch, lambda a, b: y.RangeProof.from_flat([], [(s.tree.root, len(s.data))]))),
     "a parent for a chunk of no file": (
-        "far more than", lambda s: (s.fetch, lambda a, b: y.RangeProof.from_flat([], [(s.tree.root, 2**64 - 1)]))),
+        "see chunk_limit", lambda s: (s.fetch, lambda a, b: y.RangeProof.from_flat([], [(s.tree.root, 2**64 - 1)]))),
     "a short parent for a chunk": (
         "this isn't the data of the range", lambda s: (
             lambda a, b: (s.data * 2)[a:b], lambda a, b: y.RangeProof.from_flat([], [(s.tree.root, b + 200)]))),

@@ -128,7 +128,8 @@ class InvalidProof(InvalidJson):
 class ProofMismatch(YurewhaError, ValueError):
     """A range proof doesn't show the hash that it was opened with, or data isn't that of the file.
 
-    It isn't an `OSError`, because many programs take those for passing troubles: `zipfile` would say that the file isn't a ZIP.
+    It isn't an `OSError`, because programs take those for troubles of a device or a network: some would try again, and `zipfile`
+    would say that the file isn't a ZIP.
 
     >>> issubclass(ProofMismatch, ValueError)
     True

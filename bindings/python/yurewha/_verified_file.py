@@ -185,7 +185,7 @@ class VerifiedFile(_Raw):
         """Returns bytes from a place on: at least one and at most `most`, or none at the end of the file."""
         if start >= (_MAX_U64 if self._size is None else self._size):
             return memoryview(b"")
-        for begin, data in self._checked.items():
+        for begin, data in list(self._checked.items()):
             if begin <= start < begin + len(data):
                 self._keep(begin, data)
                 return memoryview(data)[start - begin:start - begin + most]
@@ -203,7 +203,7 @@ class VerifiedFile(_Raw):
         if not begin <= start < min(stop, size) <= end:
             raise ProofMismatch(f"{_told(begin, end)}, and not of those from {start} up to {stop}")
         if start - begin > self._chunk_limit or end - stop > self._chunk_limit:
-            raise ProofMismatch(f"{_told(begin, end)}, far more than those from {start} up to {stop}")
+            raise ProofMismatch(f"{_told(begin, end)}, too far beyond those from {start} up to {stop}: see chunk_limit")
         data = own_bytes(self._fetch(begin, end))
         opened.read(begin, end, data)
         self._size = size
