@@ -1,10 +1,12 @@
 """What `mypy --strict` accepts. It is checked, and never run."""
 
 import array
+import io
 import json
 import mmap
 import pathlib
 import pickle
+import zipfile
 from typing import Collection, Dict, Iterator, List, Optional, Sequence, Set, Tuple, Union
 
 import yurewha as y
@@ -124,3 +126,42 @@ session.keep_hashes(session.known_hashes())
 session.keep_hashes(session.known_hashes().packed)
 session.keep_hashes([y.Hash(), bytes(32)])
 known: Set[y.Hash] = set(session.known_hashes())
+
+# Range proofs.
+hash_tree: y.HashTree = y.HashTree([one, (bytes(32), 7)])
+hash_tree = y.HashTree(packed.packed)
+root = hash_tree.root
+root = hash_tree.file_hash(salt=bytes(32))
+least_range: Tuple[int, int] = hash_tree.chunks_at(0, hash_tree.total_size)
+proof: y.RangeProof = hash_tree.proof(*least_range)
+proof = hash_tree.proof_of_bytes(*hash_tree.bytes_of(0, hash_tree.num_chunks))
+proof = y.RangeProof.from_json(proof.to_json().encode())
+proof = y.RangeProof.from_flat(*proof.to_flat())
+proof = y.RangeProof.from_flat([[0, 1]], [one, (bytes(32), 7)])
+proof = y.RangeProof.from_bytes(memoryview(proof.to_bytes()))
+proofs: Dict[y.RangeProof, str] = {proof: text}
+packed = proof.chunks + proof.left(0) + proof.right(proof.num_levels)
+lefts = [left for left, right in proof.levels]
+opened: y.OpenedRange = proof.open(root, salt=bytes(32))
+opened = proof.open_root(bytes(32))
+total = opened.file_size + opened.begins(0) + opened.ends(opened.num_chunks - 1)
+place: int = opened.check(0, bytearray(b"abc"), nobody_writes=True)
+try:
+    read: bytes = bytes(opened.read(0, 3, memoryview(b"abc")))
+except y.ProofMismatch as mismatch:
+    text = str(mismatch)
+except y.InvalidProof as broken_proof:
+    rule = broken_proof.rule
+
+
+def fetch(start: int, stop: int) -> memoryview:
+    return memoryview(bytes(stop - start))
+
+
+verified: io.RawIOBase = y.VerifiedFile(root, fetch, hash_tree.proof_of_bytes)
+file: y.VerifiedFile = y.VerifiedFile(bytes(32), lambda start, stop: b"", lambda start, stop: proof, bytes(32), cache_size=0)
+read = file.read(7) + file.read() + file.readall()
+total = file.seek(-3, io.SEEK_END) + file.tell() + file.size + file.readinto(bytearray(7))
+with y.VerifiedFile(root, fetch, hash_tree.proof_of_bytes, chunk_limit=1 << 20) as raw:
+    texts = zipfile.ZipFile(raw).namelist()
+buffered: io.BufferedReader = io.BufferedReader(file)

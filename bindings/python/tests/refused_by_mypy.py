@@ -8,6 +8,10 @@ import yurewha as y
 
 tree, session, hash_, hasher = y.Subtree.merge_all([]), y.Session(), y.Hash(), y.Hasher()
 chunks, hashes = y.Chunks(), y.Hashes()
+hash_tree = y.HashTree(chunks)
+proof = hash_tree.proof(0, 1)
+opened = proof.open(hash_)
+file = y.VerifiedFile(hash_, lambda start, stop: b"", hash_tree.proof_of_bytes)
 
 # Each line from here on is refused.
 
@@ -373,6 +377,89 @@ for run in session: run.merge(tree)
 start, end, part = session.run_from(0)
 low, high, whole = session.run(0)
 
+# Range proofs.
+y.HashTree()
+y.HashTree(None)
+y.HashTree("chunks")
+y.HashTree([1, 2])
+y.HashTree(chunks, 7)
+hash_tree.root()
+hash_tree.root = hash_
+hash_tree.file_hash("salt")
+hash_tree.file_hash(hash_)
+hash_tree.total_size()
+hash_tree.num_chunks = 3
+hash_tree.chunks_at(0)
+hash_tree.chunks_at("0", 1)
+hash_tree.chunks_at(0, 1).first
+hash_tree.bytes_of(0)
+hash_tree.bytes_of(0, 1.5)
+hash_tree.proof(0)
+hash_tree.proof(0, "1")
+hash_tree.proof((0, 1))
+hash_tree.proof_of_bytes(0)
+hash_tree.proof_of_bytes(0, None)
+hash_tree.proof(0, 1).check(0, b"")
+y.RangeProof()
+y.RangeProof([], [])
+y.RangeProof.from_chunks(chunks, 0, 1)
+y.RangeProof.from_json({})
+y.RangeProof.from_json(proof)
+y.RangeProof.from_flat([1], chunks)
+y.RangeProof.from_flat([(0, 1)])
+y.RangeProof.from_bytes("text")
+proof.chunks()
+proof.chunks = chunks
+proof.levels[0].left
+proof.left("0")
+proof.left()
+proof.num_levels()
+proof.open()
+proof.open("00")
+proof.open(hash_, "salt")
+proof.open(hash_, hash_)
+proof.open_root(hash_, bytes(32))
+proof.open_root(None)
+proof.file_size
+proof.check(0, b"")
+proof.to_json().decode()
+proof + proof
+proof < proof
+y.OpenedRange()
+y.OpenedRange(proof)
+opened.file_size()
+opened.begins()
+opened.begins("0")
+opened.ends(0.5)
+opened.check(0)
+opened.check(b"", 0)
+opened.check(0, "text")
+opened.check(0, b"", True)
+opened.check(0, b"").begins
+opened.read(0, b"")
+opened.read(0, 1)
+opened.read(0, 1, "text")
+opened.read(0, 1, b"", True)
+opened.read(0, 1, b"").decode()
+y.VerifiedFile()
+y.VerifiedFile(hash_)
+y.VerifiedFile(hash_, b"data", hash_tree.proof_of_bytes)
+y.VerifiedFile("00", lambda start, stop: b"", hash_tree.proof_of_bytes)
+y.VerifiedFile(hash_, lambda start, stop: "text", hash_tree.proof_of_bytes)
+y.VerifiedFile(hash_, lambda start: b"", hash_tree.proof_of_bytes)
+y.VerifiedFile(hash_, lambda start, stop: b"", hash_tree)
+y.VerifiedFile(hash_, lambda start, stop: b"", lambda start, stop: "proof")
+y.VerifiedFile(hash_, lambda start, stop: b"", hash_tree.proof_of_bytes, hash_)
+y.VerifiedFile(hash_, lambda start, stop: b"", hash_tree.proof_of_bytes, None, 7)
+y.VerifiedFile(hash_, lambda start, stop: b"", hash_tree.proof_of_bytes, size=7)
+file.size()
+file.size = 7
+file.file_hash = hash_
+file.read("7")
+file.readinto(b"abc")
+file.seek("0")
+file.salt
+
 # Names, errors and classes.
 y.MerkleHash()
 y.SessionEnd
@@ -390,3 +477,10 @@ class MyChunks(y.Chunks): pass
 class MyTree(y.Subtree): pass
 class MySession(y.Session): pass
 class MyRun(y.Run): pass
+class MyHashTree(y.HashTree): pass
+class MyProof(y.RangeProof): pass
+class MyRange(y.OpenedRange): pass
+class MyFile(y.VerifiedFile): pass
+y.InvalidProof()
+y.InvalidProof("5")
+y.ProofMismatch("").rule

@@ -44,6 +44,31 @@ def freed_session():
     return made
 
 
+NODE = (y.Hash.random_from_seed(1), 7)
+TREE = y.HashTree([NODE, ONE])
+PROOF = TREE.proof(0, 1)
+
+
+def opened():
+    return PROOF.open_root(TREE.root)
+
+
+def freed_range():
+    range_ = opened()
+    range_.__del__()
+    return range_
+
+
+def freed_hash_tree():
+    tree = y.HashTree([ONE])
+    tree.__del__()
+    return tree
+
+
+def verified(fetch=lambda start, stop: b"", prove=lambda start, stop: PROOF, **options):
+    return y.VerifiedFile(TREE.file_hash(), fetch, prove, **options)
+
+
 def full_hasher():
     """No test can add 2^64 bytes, so the word that is the length of the message is written by hand."""
     hasher = y.Hasher(bytes(12345))
@@ -120,6 +145,51 @@ REFUSED = [
     (y.InvalidArguments, lambda: session().push_run(-1, 1, open_tree())),
     (y.InvalidArguments, lambda: session().push_run(0, MAX + 1, open_tree())),
     (y.SizeOverflow, lambda: session(1).push_run(3, 4, y.Subtree.from_chunks(False, [(Z, MAX)], False))),
+    (y.SizeOverflow, lambda: y.HashTree([(Z, MAX), ONE])),
+    (y.InvalidArguments, lambda: y.HashTree([(Z, -1)])),
+    (y.InvalidArguments, lambda: y.HashTree(bytes(39))),
+    (y.InvalidArguments, lambda: TREE.proof(0, 0)),
+    (y.InvalidArguments, lambda: TREE.proof(0, 3)),
+    (y.InvalidArguments, lambda: TREE.proof(-1, 1)),
+    (y.InvalidArguments, lambda: TREE.proof(0, MAX + 1)),
+    (y.InvalidArguments, lambda: TREE.proof_of_bytes(8, 9)),
+    (y.InvalidArguments, lambda: TREE.chunks_at(3, 3)),
+    (y.InvalidArguments, lambda: TREE.chunks_at(-1, 3)),
+    (y.InvalidArguments, lambda: TREE.bytes_of(2, 2)),
+    (y.InvalidArguments, lambda: TREE.bytes_of(0, MAX + 1)),
+    (y.InvalidArguments, lambda: TREE.file_hash(bytes(31))),
+    (y.InvalidArguments, lambda: PROOF.open(bytes(31))),
+    (y.InvalidArguments, lambda: PROOF.open(Z, bytes(33))),
+    (y.InvalidArguments, lambda: PROOF.open_root(bytes(33))),
+    (y.InvalidArguments, lambda: PROOF.left(-1)),
+    (y.InvalidArguments, lambda: PROOF.right(MAX + 1)),
+    (y.InvalidArguments, lambda: y.RangeProof.from_flat([(-1, 0)], [])),
+    (y.InvalidArguments, lambda: y.RangeProof.from_flat([(0, MAX + 1)], [])),
+    (y.InvalidArguments, lambda: y.RangeProof.from_flat([], bytes(39))),
+    (y.InvalidArguments, lambda: y.RangeProof.from_bytes(bytes(7))),
+    (y.InvalidProof, lambda: y.RangeProof.from_bytes(bytes(8))),
+    (y.InvalidProof, lambda: y.RangeProof.from_flat([], [])),
+    (y.InvalidProof, lambda: y.RangeProof.from_json("[]")),
+    (y.InvalidText, lambda: y.RangeProof.from_json("")),
+    (y.InvalidText, lambda: y.RangeProof.from_json(b"\xff")),
+    (y.InvalidText, lambda: y.RangeProof.from_json('"\ud800"')),
+    (y.ProofMismatch, lambda: PROOF.open(Z)),
+    (y.ProofMismatch, lambda: PROOF.open(TREE.root)),
+    (y.ProofMismatch, lambda: PROOF.open_root(Z)),
+    (y.ProofMismatch, lambda: opened().check(0, b"")),
+    (y.ProofMismatch, lambda: opened().read(0, 1, b"")),
+    (y.InvalidArguments, lambda: opened().check(1, b"")),
+    (y.InvalidArguments, lambda: opened().check(-1, b"")),
+    (y.InvalidArguments, lambda: opened().begins(1)),
+    (y.InvalidArguments, lambda: opened().ends(MAX + 1)),
+    (y.InvalidArguments, lambda: opened().read(-1, 1, b"")),
+    (y.InvalidArguments, lambda: opened().read(0, MAX + 1, b"")),
+    (y.InvalidArguments, lambda: verified(cache_size=-1)),
+    (y.InvalidArguments, lambda: verified(chunk_limit=MAX + 1)),
+    (y.InvalidArguments, lambda: verified(salt=bytes(31))),
+    (y.InvalidArguments, lambda: y.VerifiedFile(bytes(31), print, print)),
+    (y.InvalidArguments, lambda: verified().seek(0, 3)),
+    (y.ProofMismatch, lambda: verified().read(1)),
     (y.InvalidArguments, lambda: session().keep_hashes([bytes(31)])),
     (y.InvalidArguments, lambda: session().keep_hashes(bytes(33))),
     # Handles that were freed by hand, and one that nothing was put in
@@ -158,6 +228,22 @@ REFUSED = [
         lambda: pickle.dumps(freed_session()),
         lambda: freed_session().root(0),
         lambda: freed_session().finish(0),
+        lambda: freed_hash_tree().root,
+        lambda: freed_hash_tree().file_hash(),
+        lambda: freed_hash_tree().num_chunks,
+        lambda: freed_hash_tree().total_size,
+        lambda: freed_hash_tree().chunks_at(0, 1),
+        lambda: freed_hash_tree().bytes_of(0, 1),
+        lambda: freed_hash_tree().proof(0, 1),
+        lambda: freed_hash_tree().proof_of_bytes(0, 1),
+        lambda: pickle.dumps(freed_hash_tree()),
+        lambda: y.OpenedRange.__new__(y.OpenedRange).num_chunks,
+        lambda: freed_range().num_chunks,
+        lambda: freed_range().file_size,
+        lambda: freed_range().begins(0),
+        lambda: freed_range().ends(0),
+        lambda: freed_range().check(0, b""),
+        lambda: freed_range().read(0, 1, b""),
     )),
     # Types
     *((TypeError, call) for call in (
@@ -206,16 +292,63 @@ REFUSED = [
         lambda: session().keep_hashes([7]),
         lambda: session().keep_hashes(64 * "0"),
         lambda: pickle.dumps(y.Hasher()),
+        lambda: y.HashTree(),
+        lambda: y.HashTree(7),
+        lambda: y.HashTree("abc"),
+        lambda: TREE.proof("0", 1),
+        lambda: TREE.proof(0, 1.0),
+        lambda: TREE.chunks_at(0, None),
+        lambda: TREE.bytes_of(b"", 1),
+        lambda: TREE.file_hash(32 * "0"),
+        lambda: y.RangeProof(),
+        lambda: y.RangeProof([], []),
+        lambda: y.RangeProof.from_json(7),
+        lambda: y.RangeProof.from_json({}),
+        lambda: y.RangeProof.from_flat(7, []),
+        lambda: y.RangeProof.from_flat([7], []),
+        lambda: y.RangeProof.from_flat([(1.0, 0)], []),
+        lambda: y.RangeProof.from_flat([], [7]),
+        lambda: y.RangeProof.from_bytes("text"),
+        lambda: PROOF.left("0"),
+        lambda: PROOF.open(64 * "0"),
+        lambda: PROOF.open(None),
+        lambda: PROOF.open(Z, 32 * "0"),
+        lambda: PROOF.open_root(bytearray(32)),
+        lambda: y.OpenedRange(),
+        lambda: pickle.dumps(opened()),
+        lambda: opened().begins("0"),
+        lambda: opened().check(0, "text"),
+        lambda: opened().check(0, b"", nobody_writes=1),
+        lambda: opened().check(None, b""),
+        lambda: opened().read(0, 1, "text"),
+        lambda: opened().read(0, 1, b"", nobody_writes=None),
+        lambda: opened().read(0.0, 1, b""),
+        lambda: y.VerifiedFile(TREE.file_hash(), b"data", TREE.proof),
+        lambda: y.VerifiedFile(TREE.file_hash(), print, TREE),
+        lambda: y.VerifiedFile(64 * "0", print, print),
+        lambda: verified(prove=lambda start, stop: PROOF.to_json()).read(1),
+        lambda: verified(cache_size="1"),
+        lambda: verified().read("1"),
+        lambda: verified().seek(None),
+        lambda: verified().readinto(b"abc"),
+        lambda: pickle.dumps(verified()),
         lambda: type("Other", (y.Hash,), {}),
         lambda: type("Other", (y.Hasher,), {}),
         lambda: type("Other", (y.Chunks,), {}),
         lambda: type("Other", (y.Subtree,), {}),
         lambda: type("Other", (y.Session,), {}),
+        lambda: type("Other", (y.HashTree,), {}),
+        lambda: type("Other", (y.RangeProof,), {}),
+        lambda: type("Other", (y.OpenedRange,), {}),
+        lambda: type("Other", (y.VerifiedFile,), {}),
     )),
     (AttributeError, lambda: setattr(y.Hash(), "_raw", b"")),
     (AttributeError, lambda: delattr(y.Hash(), "_raw")),
     (AttributeError, lambda: setattr(y.Chunks(), "_packed", b"")),
     (AttributeError, lambda: setattr(open_tree(), "other", 1)),
+    (AttributeError, lambda: setattr(PROOF, "_levels", b"")),
+    (AttributeError, lambda: delattr(PROOF, "_nodes")),
+    (AttributeError, lambda: setattr(TREE, "other", 1)),
     (IndexError, lambda: y.Chunks([ONE])[1]),
     (IndexError, lambda: y.Chunks([ONE])[-2]),
 ]
@@ -298,6 +431,11 @@ NAMED = [
     ("hash 1 ", lambda: session().keep_hashes([Z, 7])),
     ("the run has no position", lambda: session(3).push_run(4, 5, open_tree())),
     ("the run is a Subtree", lambda: session(3).push_run(5, 6, [ONE])),
+    ("chunk 1 ", lambda: y.HashTree([ONE, 7])),
+    ("level 1 ", lambda: y.RangeProof.from_flat([(1, 0), 7], [])),
+    ("a count of level 1 ", lambda: y.RangeProof.from_flat([(1, 0), (0, -1)], [])),
+    ("the range has no chunk 1", lambda: opened().check(1, b"")),
+    ("this isn't the data of chunk 0", lambda: opened().check(0, b"")),
 ]
 
 
@@ -348,6 +486,8 @@ def deep_calls():
     chunks = y.Chunks(30 * [(y.Hash.random_from_seed(1), 7)])
     tree, closed, one = (y.Subtree.from_chunks(False, chunks, False), closed_tree(), session(3, 9))
     great, text = bytearray((1 << 20) + 17), one.to_json()
+    file = y.HashTree([(y.data_hash(great), len(great))])
+    file_range = file.proof(0, 1).open_root(file.root)
     return [
         lambda: y.Hash(bytearray(32)), Z.hex, lambda: y.Hash.from_hex(64 * "0"), Z.base64, lambda: Z.hmac(Z), lambda: Z % 3,
         lambda: Z < Z, lambda: y.data_hash(great), lambda: y.internal_node_hash(memoryview(b"abc")[1:]),
@@ -363,6 +503,12 @@ def deep_calls():
         lambda: one.run_from(0)[:2], lambda: one.gaps(20), lambda: session(0).finish(1, bytes(32)), one.known_hashes,
         lambda: pickle.loads(pickle.dumps(one)).num_runs, lambda: y.Session.from_json(text).to_json(),
         lambda: one.copy().keep_hashes([Z]), lambda: one.copy().push_run(20, 50, tree),
+        lambda: y.HashTree(chunks).root, lambda: TREE.file_hash(bytes(32)), lambda: TREE.proof_of_bytes(0, 7) == PROOF,
+        lambda: TREE.bytes_of(0, 2), lambda: y.RangeProof.from_json(PROOF.to_json()).left(0),
+        lambda: y.RangeProof.from_flat(*PROOF.to_flat()).chunks, lambda: y.RangeProof.from_bytes(PROOF.to_bytes()).right(0),
+        lambda: repr(opened()), lambda: opened().ends(0), lambda: file_range.check(0, memoryview(great)),
+        lambda: file_range.read(3, 5, great).tobytes(), lambda: pickle.loads(pickle.dumps(PROOF)).levels,
+        lambda: y.VerifiedFile(file.file_hash(), lambda start, stop: great, file.proof_of_bytes, chunk_limit=len(great)).read(7),
     ]
 
 
@@ -388,18 +534,22 @@ def test_a_stack_that_ends_anywhere(number):
 
 
 def test_what_the_exceptions_are():
-    for error in (y.InvalidArguments, y.SizeOverflow, y.InvalidText, y.InvalidJson, y.SessionOverlap, y.SessionPositions,
-                  y.SessionSizes, y.SessionGap, y.EmptyHandle):
+    for error in (y.InvalidArguments, y.SizeOverflow, y.InvalidText, y.InvalidJson, y.InvalidProof, y.ProofMismatch,
+                  y.SessionOverlap, y.SessionPositions, y.SessionSizes, y.SessionGap, y.EmptyHandle):
         assert issubclass(error, y.YurewhaError) and issubclass(error, ValueError)
     assert issubclass(y.ReentrantCall, RuntimeError) and issubclass(y.ReentrantCall, y.YurewhaError)
     assert issubclass(y.OutOfMemory, MemoryError) and issubclass(y.OutOfMemory, y.YurewhaError)
-    of_status = {status: type(_errors.error_of(status)) for status in range(1, 45)}
+    of_status = {status: type(_errors.error_of(status)) for status in range(1, 60)}
     assert of_status[1] is y.InvalidArguments and of_status[2] is y.SizeOverflow and of_status[3] is y.OutOfMemory
     assert of_status[4] is y.InvalidText and of_status[6] is y.EmptyHandle
     assert [of_status[status] for status in range(17, 30)] == 13 * [y.InvalidJson]
     assert of_status[33] is y.SessionOverlap and of_status[34] is y.SessionPositions and of_status[37] is y.SessionGap
-    assert all(of_status[status] is y.YurewhaError for status in (5, 7, 16, 30, 35, 36, 40))
-    assert str(_errors.error_of(7)) == "the library returned status 7 (unknown status), which this call doesn't have"
+    assert all(of_status[status] is y.YurewhaError for status in (5, 8, 16, 30, 35, 36, 40, 48, 57))
+    assert str(_errors.error_of(8)) == "the library returned status 8 (unknown status), which this call doesn't have"
+    assert of_status[7] is y.ProofMismatch and [of_status[status] for status in range(49, 57)] == 8 * [y.InvalidProof]
+    assert not issubclass(y.ProofMismatch, OSError) and issubclass(y.InvalidProof, y.InvalidJson)
+    assert str(y.InvalidProof(7)) == "invalid range proof: rule 7: a side of a level has more than 8 nodes"
+    assert str(y.InvalidProof(9)) == "invalid range proof: rule 9: no such rule"
     assert str(y.InvalidJson(6)) == "invalid JSON: rule 6: the counts don't add up to the number of nodes"
     assert str(y.InvalidJson(14)) == "invalid JSON: rule 14: no such rule"
 
@@ -414,6 +564,8 @@ tree = y.Subtree.from_chunks(False, chunks, False)
 other = y.Subtree.from_chunks(False, [(y.Hash(), 1)], False)
 session, full, hashes = y.Session(), y.Session(), chunks.hashes
 full.put(0, chunks)
+hash_tree = y.HashTree(chunks)
+proof = hash_tree.proof(0, count)
 pages = int(open("/proc/self/statm").read().split()[0])
 resource.setrlimit(resource.RLIMIT_AS, (pages * resource.getpagesize() + (8 << 20), resource.RLIM_INFINITY))
 calls = [
@@ -427,6 +579,9 @@ calls = [
     lambda: session.push_run(0, count, tree),
     lambda: session.keep_hashes(hashes),
     lambda: y.Subtree.merge_all([tree, tree]),
+    lambda: y.HashTree(chunks),
+    lambda: proof.open_root(hash_tree.root),
+    lambda: proof.open(hash_tree.file_hash()),
 ]
 for number, call in enumerate(calls):
     try:
@@ -435,7 +590,15 @@ for number, call in enumerate(calls):
         assert isinstance(error, MemoryError) and "out of memory" in str(error)
     else:
         raise AssertionError("call %d wasn't refused" % number)
+for call in (lambda: hash_tree.proof(0, count), proof.to_json):  # Python has no memory for what the library writes to
+    try:
+        call()
+    except MemoryError:
+        pass
+    else:
+        raise AssertionError("a call wasn't refused")
 assert tree.num_nodes == count and session.num_runs == 0 and len(session.known_hashes()) == 0
+assert hash_tree.proof(7, 8).open_root(hash_tree.root).begins(0) == 7
 print("refused", len(calls))
 """
 
@@ -447,7 +610,7 @@ def test_out_of_memory():
     done = subprocess.run(
         [sys.executable, "-c", OUT_OF_MEMORY.format(path=sys.path)], capture_output=True, text=True, check=False,
         env=environment)
-    assert done.stdout == "refused 10\n", done.stderr
+    assert done.stdout == "refused 13\n", done.stderr
 
 
 def test_no_leak():
@@ -465,7 +628,11 @@ def test_no_leak():
             one.runs()
             pickle.loads(pickle.dumps(one))
             y.Hasher(bytes(1000)).copy().digest()
-            for call in (lambda: tree + closed_tree(), lambda: y.Subtree.from_json("[]")):
+            hash_tree = y.HashTree(chunks)
+            proof = y.RangeProof.from_json(hash_tree.proof(7, 20).to_json())
+            pickle.loads(pickle.dumps(proof)).open_root(hash_tree.root).begins(3)
+            for call in (lambda: tree + closed_tree(), lambda: y.Subtree.from_json("[]"), lambda: proof.open(Z),
+                         lambda: y.RangeProof.from_json("[]"), lambda: proof.open_root(hash_tree.root).read(0, 1, b"a")):
                 with pytest.raises(ValueError):
                     call()
 

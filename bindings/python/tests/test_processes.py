@@ -54,7 +54,8 @@ def test_a_pool(way):
 @pytest.mark.parametrize("protocol", range(pickle.HIGHEST_PROTOCOL + 1))
 def test_pickles(protocol):
     tree = piece(1)
-    for value in (tree, y.Hash.random_from_seed(1), block(1, 10), [tree, {"a": tree}]):
+    proof = y.HashTree(block(1, 100)).proof(7, 20)
+    for value in (tree, y.Hash.random_from_seed(1), block(1, 10), [tree, {"a": tree}], proof, [proof, {"a": proof}]):
         assert pickle.loads(pickle.dumps(value, protocol)) == value
     session = y.Session()
     session.put(7, block(1, 10))
@@ -108,7 +109,8 @@ def test_a_pickle_names_the_package_alone(protocol):
     session = y.Session()
     session.put(7, block(1, 10))
     values = [y.Hash(), block(1, 3), y.Hashes([y.Hash()]), piece(1), piece(1).to_flat(), session, session.runs(),
-              y.SessionGap("a"), y.InvalidJson(3), y.data_hash, y.Session, y.Hash.from_hex]
+              y.SessionGap("a"), y.InvalidJson(3), y.data_hash, y.Session, y.Hash.from_hex, y.InvalidProof(3),
+              y.ProofMismatch("a"), y.HashTree(block(1, 3)), y.HashTree(block(1, 3)).proof(0, 2), y.RangeProof.from_json]
     for value in values:
         pickled = pickle.dumps(value, protocol)
         texts = [str(argument) for code, argument, _ in pickletools.genops(pickled)]
@@ -131,6 +133,10 @@ def test_a_changed_pickle():
     for runs in ((high, low), (low, low), (low, (5, 8, high[2])), (low, (7, 7, high[2]))):
         with pytest.raises(y.InvalidArguments):
             make(runs, hashes)
+    make, (levels, nodes) = y.HashTree(block(1, 100)).proof(7, 20).__reduce__()
+    for arguments in ((levels, nodes[-40:]), (((9, 0), *levels), nodes + 9 * nodes[:40]), (65 * ((0, 0),), nodes)):
+        with pytest.raises(y.InvalidProof):
+            make(*arguments)
 
 
 def in_child(work):

@@ -137,9 +137,31 @@ def test_one_session_shared():
     assert session.num_runs == 1 and session.root(8000) == y.xorb_hash(chunks)
 
 
+def test_one_hash_tree_and_one_opened_range_shared():
+    data = [bytes([number]) * 1000 for number in range(200)]
+    tree = y.HashTree([(y.data_hash(it), len(it)) for it in data])
+    proofs = [tree.proof(number, number + 20) for number in range(180)]
+    opened, name = proofs[50].open(tree.file_hash()), tree.file_hash()
+
+    def prove(thread):
+        for number in range(thread, 180, 8):
+            proof = tree.proof_of_bytes(1000 * number, 1000 * (number + 20))
+            assert proof == proofs[number] == y.RangeProof.from_json(proof.to_json())
+            assert tree.proof(number, number + 20).open(name).begins(3) == 1000 * (number + 3)
+
+    def check(thread):
+        for number in range(20):
+            assert opened.check(number, data[50 + number]) == opened.begins(number) == 1000 * (50 + number)
+            assert opened.read(50_000, 70_000, b"".join(data[50:70]))[:1] == bytes([50])
+
+    run(*(lambda thread=thread, call=call: call(thread) for thread in range(8) for call in (prove, check)))
+
+
 def test_a_block_changed_by_another_thread():
     """What comes out is the hash of some bytes; nothing else is promised."""
     block_ = bytearray(40 * 2000)
+    tree = y.HashTree([(y.data_hash(block_), len(block_))])
+    opened = tree.proof(0, 1).open_root(tree.root)
     stop = threading.Event()
 
     def write():
@@ -153,6 +175,10 @@ def test_a_block_changed_by_another_thread():
             for _ in range(100):
                 y.Subtree.from_chunks(False, block_, False)
                 y.data_hash(block_)
+                with contextlib.suppress(y.ProofMismatch):
+                    opened.check(0, block_)
+                with contextlib.suppress(y.ProofMismatch):
+                    assert y.data_hash(opened.read(0, len(block_), block_)) == tree.root  # of what was checked, in a copy
         finally:
             stop.set()
 

@@ -8,7 +8,7 @@ import pytest
 y = pytest.importorskip("yurewha", reason="there is no libyurewha: run make -C bindings, or set YUREWHA_LIB_DIR")
 
 FOLDER = Path(__file__).resolve().parents[3] / "vectors"
-FILES = ("hashes", "texts", "roots", "subtrees", "merges", "subtree_json", "sessions", "upstream")
+FILES = ("hashes", "texts", "roots", "subtrees", "merges", "subtree_json", "range_proofs", "sessions", "upstream")
 ERRORS = {"SizeOverflow": y.SizeOverflow, "InvalidArguments": y.InvalidArguments, "NotJson": y.InvalidText,
           "Overlap": y.SessionOverlap, "Positions": y.SessionPositions, "Sizes": y.SessionSizes, "Gap": y.SessionGap}
 
@@ -31,7 +31,21 @@ def chunks_of(said):
         return [(y.Hash.random_from_seed((first + i) % 2**64), 100 + 977 * i % 9901) for i in range(told["count"])]
     if rule == "seeds":
         return [(y.Hash.random_from_seed(k) if k else y.Hash(), 100 * k) for k in map(int, told)]
+    if rule == "counted":
+        every = told["cutEvery"]
+        return [(hash_of_words(i, 0, 0, not every or i % every != every - 1), 1) for i in range(told["count"])]
+    if rule in ("numbers", "chunkBytes"):
+        return [(y.data_hash(data), len(data)) for data in data_of(rule, told)]
     return [(y.Hash.from_hex(node["hash"]), int(node["size"])) for node in told]
+
+
+def data_of(rule, told):
+    """The data of chunks."""
+    if rule == "chunkBytes":
+        return map(bytes.fromhex, told)
+    lengths = told["lengths"]
+    sized = ((told["first"] + i, lengths[i % len(lengths)]) for i in range(told["count"]))
+    return ((b"%d " % number * length)[:length] for number, length in sized)
 
 
 def subtree_of(it):
@@ -206,12 +220,116 @@ def session(_, it):
             assert session_call(made, call) == call[wanted]
 
 
+def accepted(call, *arguments):
+    """What a call on range proofs returns, or None where it refuses."""
+    try:
+        return call(*arguments)
+    except (y.InvalidArguments, y.ProofMismatch):
+        return None
+
+
+def group_text_hash(nodes):
+    return y.data_hash("".join(f"{hash_.hex()} : {size}\n" for hash_, size in nodes).encode()).hex()
+
+
+def hash_tree(_, it):
+    if it["result"] == "invalid":
+        with pytest.raises(ERRORS[it["error"]]):
+            y.HashTree(chunks_of(it["list"]))
+        return
+    tree = y.HashTree(chunks_of(it["list"]))
+    assert (tree.root.hex(), tree.file_hash().hex(), str(tree.total_size)) == (it["root"], it["fileHash"], it["totalSize"])
+    for row in it.get("salted", []):
+        assert tree.file_hash(bytes.fromhex(row["saltBytes"])).hex() == row["fileHash"]
+    for row in it["chunksAt"]:
+        found = accepted(tree.chunks_at, int(row["start"]), int(row["stop"]))
+        assert found == (row["chunks"] and tuple(row["chunks"]))
+    for row in it["bytesOf"]:
+        found = accepted(tree.bytes_of, row["first"], row["end"])
+        assert found == (row["bytes"] and tuple(map(int, row["bytes"])))
+    for row in it["proofs"]:
+        made_proof(tree, row)
+
+
+def made_proof(tree, row):
+    proof = tree.proof(row["first"], row["end"])
+    text, nodes = proof.to_json(), proof.to_flat()[1]
+    assert [list(level) for level in proof.levels] == row["levels"]
+    assert (y.data_hash(text.encode()).hex(), group_text_hash(nodes)) == (row["jsonHash"], row["flatHash"])
+    assert row.get("json", text) == text
+    if "flatNodes" in row:
+        assert chunks_of({"nodes": row["flatNodes"]}) == list(nodes)
+    for opened in (accepted(proof.open, tree.file_hash()), accepted(proof.open_root, tree.root)):
+        if opened is None:
+            assert tree.root == y.Hash()
+        else:
+            check_places(opened, row)
+            assert opened.file_size == tree.total_size
+
+
+def check_places(opened, it):
+    numbers = range(opened.num_chunks)
+    assert [*map(opened.begins, numbers), opened.ends(opened.num_chunks - 1)] == list(map(int, it["places"]))
+    assert list(map(opened.ends, numbers)) == list(map(int, it["places"][1:]))
+
+
+def proof_refused(_, it):
+    if it["error"] == "SizeOverflow":
+        with pytest.raises(y.SizeOverflow):
+            y.HashTree(chunks_of(it["list"]))
+    elif sum(size for _, size in chunks_of(it["list"])) < 2**64:
+        with pytest.raises(ERRORS[it["error"]]):
+            y.HashTree(chunks_of(it["list"])).proof(it["first"], it["end"])
+
+
+def open_proof(_, it):
+    proof = y.RangeProof.from_json(it["text"])
+    if "root" in it:
+        opened = accepted(proof.open_root, y.Hash.from_hex(it["root"]))
+    else:
+        opened = accepted(proof.open, y.Hash.from_hex(it["fileHash"]), bytes.fromhex(it["saltBytes"]))
+    assert (opened is not None) == (it["result"] == "valid")
+    if opened is None:
+        assert it["error"] == "Mismatch"
+        return
+    assert str(opened.file_size) == it["fileSize"]
+    check_places(opened, it)
+    for row in it["checks"]:
+        found = accepted(opened.check, row["number"], bytes.fromhex(row["dataBytes"]))
+        assert found == (row["place"] and int(row["place"]))
+    for row in it["reads"]:
+        found = accepted(opened.read, int(row["start"]), int(row["stop"]), bytes.fromhex(row["dataBytes"]))
+        assert (found if found is None else found.hex()) == row["readBytes"]
+
+
+def read_proof(read, it):
+    """The proof that a call reads, or None if it refuses as the test says."""
+    if it["result"] == "valid":
+        return read()
+    with pytest.raises(y.InvalidText if it["error"] == "NotJson" else y.InvalidProof) as raised:
+        read()
+    assert getattr(raised.value, "rule", None) == it.get("rule")
+    return None
+
+
+def proof_json(_, it):
+    proof = read_proof(lambda: y.RangeProof.from_json(it["text"]), it)
+    assert proof is None or proof.to_json() == it.get("written", it["text"])
+
+
+def flat_proof(_, it):
+    levels, nodes = [tuple(map(int, level)) for level in it["levels"]], chunks_of({"nodes": it["nodes"]})
+    proof = read_proof(lambda: y.RangeProof.from_flat(levels, nodes), it)
+    assert proof is None or (proof.to_json(), proof.to_flat()) == (it["json"], (tuple(levels), y.Chunks(nodes)))
+
+
 CHECKS = {
     "MessageHash": message_hash, "PieceHash": piece_hash, "Key": key, "RandomFromSeed": random_from_seed, "Hmac": hmac,
     "HashForms": hash_forms, "HexText": lambda _, it: read_text(y.Hash.from_hex, it),
     "Base64Text": lambda _, it: read_text(y.Hash.from_base64, it), "HashOrder": hash_order, "Root": root, "Parent": parent,
     "RootSteps": root_steps, "StablePoints": stable_points, "Subtree": subtree, "Merge": merge, "MergeRefused": merge_refused,
-    "Bracketing": bracketing, "SubtreeJson": subtree_json, "Session": session,
+    "Bracketing": bracketing, "SubtreeJson": subtree_json, "Session": session, "HashTree": hash_tree,
+    "ProofRefused": proof_refused, "OpenProof": open_proof, "ProofJson": proof_json, "FlatProof": flat_proof,
 }
 
 
@@ -230,5 +348,4 @@ def test_vectors(name):
 
 
 def test_each_file_is_read():
-    # The package has no range proofs yet.
-    assert {path.stem for path in FOLDER.glob("*.json")} == {*FILES, "range_proofs"}
+    assert {path.stem for path in FOLDER.glob("*.json")} == {*FILES}

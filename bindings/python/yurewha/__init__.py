@@ -19,8 +19,10 @@ from ._errors import (
     InUseAtFork,
     InvalidArguments,
     InvalidJson,
+    InvalidProof,
     InvalidText,
     OutOfMemory,
+    ProofMismatch,
     ReentrantCall,
     SessionError,
     SessionGap,
@@ -32,7 +34,9 @@ from ._errors import (
 )
 from ._files import hash_chunks
 from ._hash import Hash, Hasher, data_hash, internal_node_hash
+from ._hash_tree import HashTree
 from ._hashes import Hashes, data_hashes
+from ._range_proof import OpenedRange, RangeProof
 from ._session import Run, Session
 from ._subtree import (
     Flat,
@@ -44,6 +48,7 @@ from ._subtree import (
     write_svg,
     xorb_hash,
 )
+from ._verified_file import VerifiedFile
 
 __version__ = "1.1.0"
 
@@ -53,13 +58,18 @@ __all__ = [
     "EmptyHandle",
     "Flat",
     "Hash",
+    "HashTree",
     "Hasher",
     "Hashes",
     "InUseAtFork",
     "InvalidArguments",
     "InvalidJson",
+    "InvalidProof",
     "InvalidText",
+    "OpenedRange",
     "OutOfMemory",
+    "ProofMismatch",
+    "RangeProof",
     "ReentrantCall",
     "Run",
     "Session",
@@ -70,6 +80,7 @@ __all__ = [
     "SessionSizes",
     "SizeOverflow",
     "Subtree",
+    "VerifiedFile",
     "YurewhaError",
     "data_hash",
     "data_hashes",

@@ -13,8 +13,10 @@ __all__ = [
     "InUseAtFork",
     "InvalidArguments",
     "InvalidJson",
+    "InvalidProof",
     "InvalidText",
     "OutOfMemory",
+    "ProofMismatch",
     "ReentrantCall",
     "SessionError",
     "SessionGap",
@@ -28,11 +30,14 @@ __all__ = [
 #: The rules for the JSON form of a subtree.
 _RULES = range(1, 14)
 
+#: The rules for the JSON form of a range proof.
+_PROOF_RULES = range(1, 9)
+
 
 def status_text(status: int) -> str:
     """Returns what a status means, in the library's words.
 
-    >>> status_text(33), status_text(7)
+    >>> status_text(33), status_text(8)
     ('a position is taken', 'unknown status')
     """
     text, length = ctypes.create_string_buffer(LENGTHS["YUREWHA_STATUS_TEXT_LENGTH"]), ctypes.c_size_t()
@@ -103,6 +108,32 @@ class InvalidJson(YurewhaError, ValueError):
         if self.rule in _RULES:
             return f"invalid JSON: {status_text(STATUSES['YUREWHA_RULE'] + self.rule)}"
         return f"invalid JSON: rule {self.rule}: no such rule"
+
+
+class InvalidProof(InvalidJson):
+    """A JSON value, flat lists or bytes don't describe a range proof. `rule` is the lowest of 8 rules that they break.
+
+    This is also an `InvalidJson`.
+
+    >>> print(InvalidProof(5))
+    invalid range proof: rule 5: there is no chunk
+    """
+
+    def __str__(self) -> str:
+        if self.rule in _PROOF_RULES:
+            return f"invalid range proof: {status_text(STATUSES['YUREWHA_PROOF_RULE'] + self.rule)}"
+        return f"invalid range proof: rule {self.rule}: no such rule"
+
+
+class ProofMismatch(YurewhaError, ValueError):
+    """A range proof doesn't show the hash that it was opened with, or data isn't that of the file.
+
+    It isn't an `OSError`, because programs take those for troubles of a device or a network: some would try again, and `zipfile`
+    would say that the file isn't a ZIP.
+
+    >>> issubclass(ProofMismatch, ValueError)
+    True
+    """
 
 
 class EmptyHandle(YurewhaError, ValueError):
@@ -182,7 +213,7 @@ _MEMORY = f"{status_text(STATUSES['YUREWHA_MEMORY'])}: an allocation failed"
 
 
 def error_of(status: int, what: str = "invalid arguments") -> YurewhaError:
-    """Returns the exception for a status other than 0. `what` is the text of `InvalidArguments` and `InvalidText`.
+    """Returns the exception for a status other than 0. `what` is the text of `InvalidArguments`, `InvalidText`, `ProofMismatch`.
 
     >>> error_of(2)
     SizeOverflow('size overflow: sizes or lengths add up to more than 2^64 - 1')
@@ -197,9 +228,14 @@ def error_of(status: int, what: str = "invalid arguments") -> YurewhaError:
         return InvalidText(what)
     if status == STATUSES["YUREWHA_EMPTY_HANDLE"]:
         return EmptyHandle("the object is empty: no call of this package made it, or it was freed")
+    if status == STATUSES["YUREWHA_MISMATCH"]:
+        return ProofMismatch(what)
     if status in _SESSION_ERRORS:
         return _SESSION_ERRORS[status](status_text(status))
     rule = status - STATUSES["YUREWHA_RULE"]
     if rule in _RULES:
         return InvalidJson(rule)
+    proof_rule = status - STATUSES["YUREWHA_PROOF_RULE"]
+    if proof_rule in _PROOF_RULES:
+        return InvalidProof(proof_rule)
     return YurewhaError(f"the library returned status {status} ({status_text(status)}), which this call doesn't have")

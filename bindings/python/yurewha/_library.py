@@ -71,6 +71,14 @@ class CSession(ctypes.Structure):
     _fields_ = _fields("yurewha_session")
 
 
+class CHashTree(ctypes.Structure):
+    _fields_ = _fields("yurewha_hash_tree")
+
+
+class COpenedRange(ctypes.Structure):
+    _fields_ = _fields("yurewha_opened_range")
+
+
 #: The structs by their names in the header.
 STRUCT_TYPES: Dict[str, Any] = {
     "yurewha_hash": CHash,
@@ -80,6 +88,8 @@ STRUCT_TYPES: Dict[str, Any] = {
     "yurewha_hasher": CHasher,
     "yurewha_subtree": CSubtree,
     "yurewha_session": CSession,
+    "yurewha_hash_tree": CHashTree,
+    "yurewha_opened_range": COpenedRange,
 }
 
 #: The ctypes type for each type of the header. If a call only reads bytes, a hash, a key or chunks, it gets a Python `bytes`

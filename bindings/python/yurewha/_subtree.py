@@ -4,7 +4,6 @@ from __future__ import annotations
 
 import ctypes
 import os
-import struct
 from typing import (
     TYPE_CHECKING,
     Callable,
@@ -27,6 +26,7 @@ from ._declarations import STATUSES
 from ._errors import InvalidArguments, YurewhaError, error_of
 from ._guard import Guarded, all_locked, both_locked
 from ._hash import Hash, checked_32, checked_bool, checked_text, checked_u64, own_bytes
+from ._levels import LEVEL, Counts, packed_levels
 from ._library import (
     LONG_BYTES,
     LONG_CHUNKS,
@@ -43,7 +43,6 @@ from ._types import BytesLike, Texts
 
 __all__ = ["Flat", "Subtree", "file_hash", "find_stable_end", "find_stable_start", "xorb_hash"]
 
-_LEVEL = struct.Struct("<QQ")
 _CHUNK_SIZE = ctypes.sizeof(CChunk)
 _FromFlat = Callable[[bool, Iterable[Sequence[SupportsIndex]], ChunksLike, bool], "Subtree"]
 
@@ -127,7 +126,7 @@ class Flat(NamedTuple):
     """
 
     at_start: bool
-    levels: Tuple[Tuple[int, int], ...]
+    levels: Counts
     nodes: Chunks
     at_end: bool
 
@@ -288,7 +287,7 @@ class Subtree(Guarded):
         return self.num_nodes == 0
 
     @property
-    def levels(self) -> Tuple[Tuple[int, int], ...]:
+    def levels(self) -> Counts:
         """The number of left and right nodes of each level, from the chunks up.
 
         >>> Subtree.from_chunks(False, [(Hash(), 7), (Hash(), 8)], False).levels
@@ -543,23 +542,15 @@ class Subtree(Guarded):
         """
         checked_bool(at_start, "at_start")
         checked_bool(at_end, "at_end")
-        packed_levels = bytearray()
-        for number, level in enumerate(levels):
-            try:
-                left, right = level
-            except (TypeError, ValueError):
-                raise TypeError(f"level {number} is a pair of numbers, of left and of right nodes") from None
-            what = f"a count of level {number}"
-            packed_levels += _LEVEL.pack(checked_u64(left, what), checked_u64(right, what))
-        packed = Chunks(nodes).packed
+        counts, packed = packed_levels(levels), Chunks(nodes).packed
         count, self = len(packed) // _CHUNK_SIZE, Subtree._empty()
         status = calls_for(count, LONG_NODES).yurewha_subtree_from_flat(
-            at_start, bytes(packed_levels), len(packed_levels) // _LEVEL.size, packed, count, at_end, self._handle)
+            at_start, counts, len(counts) // LEVEL.size, packed, count, at_end, self._handle)
         if status:
             raise error_of(status)
         return self
 
-    def __reduce__(self) -> Tuple[_FromFlat, Tuple[bool, Tuple[Tuple[int, int], ...], bytes, bool]]:
+    def __reduce__(self) -> Tuple[_FromFlat, Tuple[bool, Counts, bytes, bool]]:
         # A pickle has flat lists, which are checked like JSON. So a changed pickle gives a valid subtree or an error.
         flat = self.to_flat()
         return Subtree.from_flat, (flat.at_start, flat.levels, flat.nodes.packed, flat.at_end)

@@ -5,7 +5,7 @@ from __future__ import annotations
 from typing import TYPE_CHECKING, Iterable, Iterator, Mapping, Union
 
 if TYPE_CHECKING:
-    from _typeshed import ReadableBuffer
+    from _typeshed import ReadableBuffer, WriteableBuffer
     from typing_extensions import Protocol
 
     class Array(Protocol):
@@ -26,8 +26,11 @@ if TYPE_CHECKING:
 
     #: Anything with the buffer protocol: `bytes`, `bytearray`, `memoryview`, `mmap.mmap`, `array.array`, NumPy arrays.
     BytesLike = Union[ReadableBuffer, Array]
+    #: A buffer that a call writes to.
+    Room = WriteableBuffer
 else:
     BytesLike = Union[bytes, bytearray, memoryview]
+    Room = Union[bytearray, memoryview]
     Texts = Iterable[str]
 
 

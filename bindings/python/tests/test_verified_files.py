@@ -1,0 +1,328 @@
+"""Files that are read in parts: places, what is fetched, what is refused, and readers over them."""
+
+import io
+import os
+import random
+import tarfile
+import threading
+import zipfile
+
+import pytest
+
+import yurewha as y
+
+
+class Source:
+    """A file with its tree, and what was fetched of it."""
+
+    def __init__(self, data, cuts):
+        self.data = data
+        self.cuts = cuts
+        self.chunks = [(y.data_hash(data[a:b]), b - a) for a, b in zip(cuts, cuts[1:])]
+        self.tree = y.HashTree(self.chunks)
+        self.fetched, self.proved = [], []
+
+    def fetch(self, start, stop):
+        self.fetched.append((start, stop))
+        return self.data[start:stop]
+
+    def prove(self, start, stop):
+        self.proved.append((start, stop))
+        return self.tree.proof_of_bytes(start, stop)
+
+    def open(self, **options):
+        return y.VerifiedFile(self.tree.file_hash(), self.fetch, self.prove, **options)
+
+
+def drawn(seed, count, longest=100):
+    rng = random.Random(seed)
+    cuts = [0]
+    for _ in range(count):
+        cuts.append(cuts[-1] + rng.randint(1, longest))
+    return Source(rng.randbytes(cuts[-1]), cuts)
+
+
+def test_it_reads_as_a_file_does():
+    """The same calls as on a file in memory give the same."""
+    source, rng = drawn(1, 200), random.Random(2)
+    for options in ({}, {"cache_size": 0}, {"cache_size": 150}):
+        file, plain = source.open(**options), io.BytesIO(source.data)
+        assert file.size == len(source.data)
+        for _ in range(1500):
+            call = rng.randrange(6)
+            if call == 0:
+                place = rng.choice((rng.randrange(len(source.data) + 50), 0, len(source.data)))
+                assert file.seek(place) == plain.seek(place)
+            elif call == 1:
+                back = rng.randrange(len(source.data))
+                assert file.seek(-back, os.SEEK_END) == plain.seek(-back, os.SEEK_END)
+            elif call == 2:
+                step = rng.randrange(300)
+                assert file.seek(step, os.SEEK_CUR) == plain.seek(step, os.SEEK_CUR)
+            elif call == 3:
+                count = rng.choice((0, 1, 7, rng.randrange(400)))
+                assert file.read(count) == plain.read(count)
+            elif call == 4:
+                rooms = [bytearray(b"-" * rng.randrange(300))] * 2
+                counts = [file.readinto(rooms[0]), plain.readinto(rooms[1])]
+                assert counts[0] == counts[1] and rooms[0] == rooms[1]
+            elif rng.random() < 0.05:
+                assert file.read(rng.choice((-1, None))) == plain.read()
+            assert file.tell() == plain.tell()
+
+
+def test_what_is_fetched():
+    """The chunks with the bytes that are asked for, once each while they are kept."""
+    source = drawn(3, 100)
+    file = source.open()
+    start, stop = source.cuts[40] + 1, source.cuts[43] - 1
+    file.seek(start)
+    assert file.read(stop - start) == source.data[start:stop]
+    assert source.fetched == [(source.cuts[40], source.cuts[43])] and source.proved == [(start, stop)]
+    assert file.size == len(source.data)
+    file.seek(source.cuts[40])
+    assert file.read(source.cuts[43] - source.cuts[40]) == source.data[source.cuts[40]:source.cuts[43]]
+    assert len(source.fetched) == 1
+    file.seek(stop)
+    assert file.read(2) == source.data[stop:stop + 2]
+    assert source.fetched[1:] == [(source.cuts[43], source.cuts[44])]
+    file.seek(0)
+    assert file.readall() == source.data
+    assert source.fetched[2:] == [(0, source.cuts[-1])]
+
+
+def test_the_size_is_known_after_a_chunk_is_checked():
+    source = drawn(4, 50)
+    file = source.open()
+    assert source.fetched == []
+    assert file.seek(-3, os.SEEK_END) == len(source.data) - 3 and source.fetched == [(0, source.cuts[1])]
+    assert file.read(100) == source.data[-3:] and file.read(100) == file.read() == b"" and file.readinto(bytearray(7)) == 0
+    unknown = source.open()
+    unknown.seek(len(source.data) + 5)
+    with pytest.raises(y.InvalidArguments, match="the file has no bytes from"):
+        unknown.read(1)
+    assert unknown.size == len(source.data) and unknown.read(1) == b""
+    assert unknown.seek(2**70) == 2**70 and unknown.read(1) == source.open().read(0) == b""
+
+
+def test_an_empty_file_needs_no_proof():
+    file = Source(b"", [0]).open()
+    assert (file.size, file.read(), file.read(7), file.seek(0, os.SEEK_END)) == (0, b"", b"", 0)
+
+
+def test_the_cache_is_bounded():
+    source = drawn(5, 300)
+    file = source.open(cache_size=1000)
+    rng = random.Random(6)
+    for _ in range(500):
+        place = rng.randrange(len(source.data))
+        file.seek(place)
+        assert file.read(5) == source.data[place:place + 5]
+        assert sum(map(len, file._checked.values())) <= 1000
+    file.seek(0)
+    assert file.read(5000) == source.data[:5000] and all(len(data) <= 1000 for data in file._checked.values())
+
+
+def test_long_reads_are_fetched_by_pieces(monkeypatch):
+    monkeypatch.setattr("yurewha._verified_file.PIECE", 500)
+    source = drawn(7, 100)
+    assert source.open().read() == source.data
+    assert len(source.fetched) > len(source.data) // 700 and all(stop - start < 500 + 200 for start, stop in source.fetched)
+
+
+def test_a_salt():
+    source = drawn(8, 20)
+    salt = bytes(range(32))
+    salted = y.VerifiedFile(source.tree.file_hash(salt), source.fetch, source.prove, salt)
+    assert salted.read() == source.data and salted.file_hash == source.tree.file_hash(salt)
+    for wrong in (y.VerifiedFile(source.tree.file_hash(salt), source.fetch, source.prove),
+                  y.VerifiedFile(source.tree.file_hash(), source.fetch, source.prove, salt),
+                  y.VerifiedFile(source.tree.root, source.fetch, source.prove)):
+        with pytest.raises(y.ProofMismatch, match="the proof doesn't show this file hash under this salt"):
+            wrong.read(1)
+
+
+def changed(data, at):
+    return data[:at] + bytes([data[at] ^ 1]) + data[at + 1:]
+
+
+OTHER = drawn(10, 100)
+
+#: What a dishonest server does with the bytes and the proofs of an honest one, and what is said of it.
+DISHONEST = {
+    "a byte changed": ("this isn't the data of the range", lambda s: (lambda a, b: changed(s.data[a:b], (b - a) // 2), s.prove)),
+    "a byte less": ("the range has ", lambda s: (lambda a, b: s.data[a:b - 1], s.prove)),
+    "a byte more": ("the range has ", lambda s: (lambda a, b: s.data[a:b + 1], s.prove)),
+    "no bytes": ("the range has ", lambda s: (lambda a, b: b"", s.prove)),
+    "other bytes": ("this isn't the data of the range", lambda s: (lambda a, b: s.data[a + 1:b + 1], s.prove)),
+    "another part and its proof": (
+        "the proof is of the bytes", lambda s: (s.fetch, lambda a, b: s.tree.proof_of_bytes(a + 500, b + 500))),
+    "the part before and its proof": (
+        "the proof is of the bytes", lambda s: (s.fetch, lambda a, b: s.tree.proof_of_bytes(abs(a - 500), abs(b - 500) + 5))),
+    "fewer chunks and their proof": (
+        "the proof is of the bytes", lambda s: (s.fetch, lambda a, b: s.tree.proof_of_bytes(a, a + 1))),
+    "another file's proof": (
+        "the proof doesn't show this file hash", lambda s: (s.fetch, lambda a, b: OTHER.tree.proof_of_bytes(a, b))),
+    "another file": (
+        "the proof doesn't show this file hash", lambda s: (OTHER.fetch, lambda a, b: OTHER.tree.proof_of_bytes(a, b))),
+    "the whole file for a part": (
+        "see chunk_limit", lambda s: (s.fetch, lambda a, b: s.tree.proof(0, s.tree.num_chunks))),
+    "a parent for a chunk": (
+        "see chunk_limit", lambda s: (s.fetch, lambda a, b: y.RangeProof.from_flat([], [(s.tree.root, len(s.data))]))),
+    "a parent for a chunk of no file": (
+        "see chunk_limit", lambda s: (s.fetch, lambda a, b: y.RangeProof.from_flat([], [(s.tree.root, 2**64 - 1)]))),
+    "a short parent for a chunk": (
+        "this isn't the data of the range", lambda s: (
+            lambda a, b: (s.data * 2)[a:b], lambda a, b: y.RangeProof.from_flat([], [(s.tree.root, b + 200)]))),
+}
+
+
+@pytest.mark.parametrize("name", DISHONEST)
+def test_dishonest_servers(name):
+    said, of = DISHONEST[name]
+    source = drawn(9, 150)
+    fetch, prove = of(source)
+    file = y.VerifiedFile(source.tree.file_hash(), fetch, prove, chunk_limit=2500)
+    room = bytearray(300)
+    for read in (lambda: file.read(300), lambda: file.readinto(room), lambda: io.BufferedReader(file, 300).read(300)):
+        assert file.seek(2000) == 2000
+        with pytest.raises(y.ProofMismatch, match=said):
+            read()
+    assert room == bytes(300) and file._checked == {}
+    file = y.VerifiedFile(source.tree.file_hash(), fetch, prove, chunk_limit=2500)
+    with pytest.raises(y.ProofMismatch):
+        zipfile.ZipFile(file)
+
+
+def test_a_mismatch_later_returns_nothing_and_leaves_the_position(monkeypatch):
+    monkeypatch.setattr("yurewha._verified_file.PIECE", 500)
+    source = drawn(11, 100)
+    bad = changed(source.data, 2500)
+    file = y.VerifiedFile(source.tree.file_hash(), lambda a, b: bad[a:b], source.prove)
+    assert file.read(100) == source.data[:100]
+    with pytest.raises(y.ProofMismatch):
+        file.read(4000)
+    assert file.tell() == 100 and file.read(300) == source.data[100:400]
+
+
+def test_errors_of_the_callers_calls_pass_through():
+    source = drawn(12, 20)
+
+    def broken(start, stop):
+        raise ConnectionError("mine")
+
+    for fetch, prove in ((broken, source.prove), (source.fetch, broken)):
+        file = y.VerifiedFile(source.tree.file_hash(), fetch, prove)
+        with pytest.raises(ConnectionError, match="mine"):
+            file.read(10)
+        assert file.tell() == 0
+    for fetch, prove, said in (
+        (lambda a, b: "text", source.prove, "bytes-like"),
+        (source.fetch, lambda a, b: None, "prove returns a RangeProof, not NoneType"),
+    ):
+        with pytest.raises(TypeError, match=said):
+            y.VerifiedFile(source.tree.file_hash(), fetch, prove).read(10)
+
+
+def test_data_in_other_forms():
+    source = drawn(13, 20)
+    for form in (bytearray, memoryview, lambda data: memoryview(bytearray(data))):
+        file = y.VerifiedFile(source.tree.file_hash(), lambda a, b: form(source.data[a:b]), source.prove)
+        assert file.read() == source.data
+
+
+def test_positions_and_states():
+    source = drawn(14, 20)
+    file = source.open()
+    assert file.readable() and file.seekable() and not file.writable() and not file.isatty()
+    for call, error in (
+        (lambda: file.seek(-1), OSError), (lambda: file.seek(-1, os.SEEK_CUR), OSError),
+        (lambda: file.seek(-len(source.data) - 1, os.SEEK_END), OSError), (lambda: file.seek(0, 3), ValueError),
+        (lambda: file.seek(0.5), TypeError), (lambda: file.read("1"), TypeError), (file.fileno, OSError),
+    ):
+        with pytest.raises(error):
+            call()
+        assert file.tell() == 0
+    assert repr(file) == f"<yurewha.VerifiedFile {source.tree.file_hash()}>"
+    with file as same:
+        assert same is file and file.read(3) == source.data[:3]
+    for call in (lambda: file.read(1), lambda: file.readinto(bytearray(1)), lambda: file.seek(0), file.tell, file.readable,
+                 file.seekable, lambda: file.size, file.readall):
+        with pytest.raises(ValueError, match="closed"):
+            call()
+
+
+def zipped(count):
+    """A ZIP of files of random bytes, cut into chunks."""
+    rng, room = random.Random(15), io.BytesIO()
+    members = {f"folder/{number}.bin": rng.randbytes(rng.randrange(20_000)) for number in range(count)}
+    with zipfile.ZipFile(room, "w", zipfile.ZIP_DEFLATED) as archive:
+        for name, data in members.items():
+            archive.writestr(name, data)
+    data = room.getvalue()
+    cuts = [*range(0, len(data), 1000), len(data)]
+    return Source(data, cuts), members
+
+
+def test_zipfile_reads_through_it():
+    source, members = zipped(100)
+    with zipfile.ZipFile(source.open()) as archive:
+        assert archive.namelist() == list(members)
+        assert archive.read("folder/57.bin") == members["folder/57.bin"]
+    fetched = sum(stop - start for start, stop in source.fetched)
+    assert fetched < 60_000 < len(source.data) // 10
+    with zipfile.ZipFile(io.BufferedReader(source.open())) as archive:
+        assert archive.testzip() is None and {name: archive.read(name) for name in members} == members
+
+
+def test_a_changed_member_is_refused():
+    source, members = zipped(20)
+    place = zipfile.ZipFile(io.BytesIO(source.data)).getinfo("folder/7.bin").header_offset
+    bad = changed(source.data, place + 200)
+    with zipfile.ZipFile(y.VerifiedFile(source.tree.file_hash(), lambda a, b: bad[a:b], source.prove)) as archive:
+        assert archive.read("folder/15.bin") == members["folder/15.bin"]
+        with pytest.raises(y.ProofMismatch):
+            archive.read("folder/7.bin")
+
+
+def test_fsspec_reads_through_it():
+    fsspec = pytest.importorskip("fsspec")
+    source, members = zipped(50)
+    files = fsspec.filesystem("zip", fo=source.open())
+    assert sorted(files.ls("folder", detail=False)) == sorted(members)
+    assert files.cat("folder/33.bin") == members["folder/33.bin"]
+
+
+def test_tarfile_and_text_read_through_it():
+    room = io.BytesIO()
+    with tarfile.open(fileobj=room, mode="w") as archive:
+        for number in range(30):
+            info = tarfile.TarInfo(f"{number}.txt")
+            info.size = 3000
+            archive.addfile(info, io.BytesIO(b"%4d\n" % number * 600))
+    data = room.getvalue()
+    source = Source(data, [*range(0, len(data), 2000), len(data)])
+    with tarfile.open(fileobj=source.open()) as archive:
+        lines = io.TextIOWrapper(archive.extractfile("17.txt")).read().splitlines()
+    assert lines == 600 * ["  17"]
+
+
+def test_threads_read_one_file():
+    source = drawn(16, 500, 1000)
+    file = source.open(cache_size=5000)
+    wrong = []
+
+    def work(seed):
+        rng = random.Random(seed)
+        for _ in range(200):
+            data = file.read(rng.randrange(1, 700))
+            if data not in source.data:
+                wrong.append(data)
+            file.seek(rng.randrange(len(source.data)))
+
+    threads = [threading.Thread(target=work, args=(seed,)) for seed in range(6)]
+    for thread in threads:
+        thread.start()
+    for thread in threads:
+        thread.join()
+    assert wrong == []

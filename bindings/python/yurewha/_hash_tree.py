@@ -1,0 +1,212 @@
+"""Hash trees, which make range proofs."""
+
+from __future__ import annotations
+
+import ctypes
+from typing import Optional, Tuple, Type, final
+
+from ._chunks import Chunks, ChunksLike
+from ._errors import YurewhaError, error_of
+from ._guard import Guarded
+from ._hash import Hash, checked_32, checked_u64
+from ._library import LONG_CHUNKS, LONG_NODES, CChunk, CHash, CHashTree, CLevel, calls_for, short
+from ._range_proof import MOST_LEVELS, RangeProof
+from ._types import BytesLike
+
+__all__ = ["HashTree"]
+
+_CHUNK_SIZE = ctypes.sizeof(CChunk)
+# At most 64 levels have at most 8 nodes on either side.
+_MOST_BESIDE = 16 * MOST_LEVELS
+
+
+@final
+class HashTree(Guarded):
+    """The chunks of a file, and all levels of nodes above them. Whoever has the list of the chunks proves parts of the file by it.
+
+    A proof takes time with the number of levels and of its own nodes, and not with the number of chunks. A tree is immutable. Its
+    pickle has the chunks alone, and the levels are made again.
+
+    Raises `SizeOverflow` if the sizes add up to more than 2^64 - 1.
+
+    >>> from yurewha import data_hash
+    >>> tree = HashTree([(data_hash(data), len(data)) for data in (b"a chunk", b"another", b"and a third")])
+    >>> proof = tree.proof_of_bytes(8, 10)                      # for whoever reads the bytes 8 and 9, and knows the file hash
+    >>> bytes(proof.open(tree.file_hash()).read(8, 10, b"another"))
+    b'no'
+    """
+
+    __slots__ = ("_handle",)
+
+    _handle: CHashTree
+
+    def __new__(cls, chunks: ChunksLike) -> HashTree:
+        self = object.__new__(cls)
+        self._guard()
+        self._handle = CHashTree()
+        packed = Chunks(chunks).packed
+        count = len(packed) // _CHUNK_SIZE
+        status = calls_for(count, LONG_CHUNKS).yurewha_hash_tree_from_chunks(packed, count, self._handle)
+        if status:
+            raise error_of(status)
+        return self
+
+    def __init_subclass__(cls) -> None:
+        raise TypeError("HashTree can't be subclassed")
+
+    def __del__(self) -> None:
+        # As in `Subtree`.
+        try:
+            if not self._is_ours():
+                return
+            with self._lock:
+                self._free(self._handle)
+        except AttributeError:
+            pass
+
+    _free = staticmethod(short.yurewha_hash_tree_free)
+
+    # ---- The file
+
+    @property
+    def root(self) -> Hash:
+        """The root of the chunks, as `xorb_hash` returns it.
+
+        >>> HashTree([]).root == Hash()
+        True
+        """
+        out = CHash()
+        with self._locked():
+            status = short.yurewha_hash_tree_root(self._handle, out)
+        if status:
+            raise error_of(status)
+        return Hash._of(bytes(out))
+
+    def file_hash(self, salt: Optional[BytesLike] = None) -> Hash:
+        """Returns the file hash of the chunks, as the function `file_hash` does. A salt has 32 bytes.
+
+        >>> from yurewha import file_hash
+        >>> HashTree([(Hash(), 7)]).file_hash() == file_hash([(Hash(), 7)])
+        True
+        """
+        key, out = bytes(32) if salt is None else checked_32(salt, "a salt"), CHash()
+        with self._locked():
+            status = short.yurewha_hash_tree_file_hash(self._handle, key, out)
+        if status:
+            raise error_of(status)
+        return Hash._of(bytes(out))
+
+    @property
+    def num_chunks(self) -> int:
+        """The number of chunks.
+
+        >>> HashTree([(Hash(), 7), (Hash(), 8)]).num_chunks
+        2
+        """
+        out = ctypes.c_size_t()
+        with self._locked():
+            status = short.yurewha_hash_tree_num_chunks(self._handle, out)
+        if status:
+            raise error_of(status)
+        return out.value
+
+    @property
+    def total_size(self) -> int:
+        """The total size of the chunks in bytes, which is the size of the file.
+
+        >>> HashTree([(Hash(), 7), (Hash(), 8)]).total_size
+        15
+        """
+        out = ctypes.c_uint64()
+        with self._locked():
+            status = short.yurewha_hash_tree_total_size(self._handle, out)
+        if status:
+            raise error_of(status)
+        return out.value
+
+    # ---- Places
+
+    def chunks_at(self, start: int, stop: int) -> Tuple[int, int]:
+        """Returns the least range of chunks with the bytes from `start` up to `stop` or to the end of the file.
+
+        These are the number of the first chunk, and one more than that of the last. Raises `InvalidArguments` if there is no such
+        byte.
+
+        >>> HashTree([(Hash(), 7), (Hash(), 8), (Hash(), 9)]).chunks_at(3, 15)
+        (0, 2)
+        """
+        begin, end = checked_u64(start, "a place"), checked_u64(stop, "a place")
+        first, after = ctypes.c_size_t(), ctypes.c_size_t()
+        with self._locked():
+            status = short.yurewha_hash_tree_chunks_at(self._handle, begin, end, first, after)
+        if status:
+            raise error_of(status, f"the file has no bytes from {begin} up to {end}")
+        return first.value, after.value
+
+    def bytes_of(self, first: int, end: int) -> Tuple[int, int]:
+        """Returns where in the file the chunks from number `first` up to, but without, number `end` begin and end.
+
+        Raises `InvalidArguments` if there is no such chunk, or not all of them are there.
+
+        >>> HashTree([(Hash(), 7), (Hash(), 8), (Hash(), 9)]).bytes_of(1, 3)
+        (7, 24)
+        """
+        number, after = checked_u64(first, "the number of a chunk"), checked_u64(end, "the number of a chunk")
+        begin, stop = ctypes.c_uint64(), ctypes.c_uint64()
+        with self._locked():
+            status = short.yurewha_hash_tree_bytes_of(self._handle, number, after, begin, stop)
+        if status:
+            raise error_of(status, _no_chunks(number, after))
+        return begin.value, stop.value
+
+    # ---- Proofs
+
+    def proof(self, first: int, end: int) -> RangeProof:
+        """Returns the proof of the chunks from number `first` up to, but without, number `end`.
+
+        It can be opened with the file hash under each salt, and with the root. Each range has one proof. Raises `InvalidArguments`
+        if there is no such chunk, or not all of them are there.
+
+        >>> HashTree([(Hash(), 7), (Hash(), 8), (Hash(), 9)]).proof(1, 2)
+        <yurewha.RangeProof of 1 chunk, with 2 nodes beside on 1 level>
+        """
+        number, after = checked_u64(first, "the number of a chunk"), checked_u64(end, "the number of a chunk")
+        room = max(min(after, self.num_chunks) - number, 0) + _MOST_BESIDE
+        levels, nodes = (CLevel * MOST_LEVELS)(), (CChunk * room)()
+        level_count, node_count = ctypes.c_size_t(), ctypes.c_size_t()
+        with self._locked():
+            status = calls_for(room - _MOST_BESIDE, LONG_NODES).yurewha_hash_tree_proof(
+                self._handle, number, after, levels, MOST_LEVELS, nodes, room, level_count, node_count)
+        if status:
+            raise error_of(status, _no_chunks(number, after))
+        return RangeProof._written_to(levels, level_count.value, nodes, node_count.value)
+
+    def proof_of_bytes(self, start: int, stop: int) -> RangeProof:
+        """Returns the proof of the chunks that `chunks_at` returns, those with the bytes from `start` up to `stop`.
+
+        A server calls it for a reader. Raises `InvalidArguments` if there is no such byte.
+
+        >>> len(HashTree([(Hash(), 7), (Hash(), 8), (Hash(), 9)]).proof_of_bytes(3, 15).chunks)
+        2
+        """
+        return self.proof(*self.chunks_at(start, stop))
+
+    def __copy__(self) -> HashTree:
+        return self
+
+    def __deepcopy__(self, memo: object) -> HashTree:
+        return self
+
+    def __reduce__(self) -> Tuple[Type[HashTree], Tuple[bytes]]:
+        count = self.num_chunks
+        return HashTree, (self.proof(0, count).chunks.packed if count else b"",)
+
+    def __repr__(self) -> str:
+        try:
+            return f"<yurewha.HashTree of {self.num_chunks} chunks, {self.total_size} bytes>"
+        except YurewhaError:
+            return "<yurewha.HashTree that can't be read>"
+
+
+def _no_chunks(first: int, end: int) -> str:
+    return f"the tree doesn't have the chunks from {first} up to {end}, or these are none"

@@ -1,0 +1,537 @@
+"""Range proofs: parts of a file that are checked against the hash of the file."""
+
+from __future__ import annotations
+
+import ctypes
+import struct
+from typing import (
+    TYPE_CHECKING,
+    Callable,
+    Iterable,
+    NoReturn,
+    Optional,
+    Sequence,
+    SupportsIndex,
+    Tuple,
+    Union,
+    final,
+)
+
+from ._calls import string_at
+from ._chunks import Chunks, ChunksLike
+from ._declarations import STATUSES
+from ._errors import InvalidArguments, YurewhaError, error_of
+from ._guard import Guarded
+from ._hash import HashLike, Start, checked_32, checked_bool, checked_text, checked_u64, own_bytes, raw_of
+from ._lent import in_place, is_read_only, view_of_bytes
+from ._levels import LEVEL, Counts, packed_levels
+from ._library import LONG_BYTES, LONG_NODES, CChunk, CLevel, COpenedRange, calls_for, short
+from ._types import BytesLike
+
+__all__ = ["OpenedRange", "RangeProof"]
+
+_COUNT = struct.Struct("<Q")
+_CHUNK_SIZE = ctypes.sizeof(CChunk)
+#: The most levels of a proof.
+MOST_LEVELS = 64
+# The fewest bytes of a node in JSON.
+_LEAST_NODE = len('{"hash":"","size":0}') + 64
+_ROOM = STATUSES["YUREWHA_ROOM"]
+_FromFlat = Callable[[Iterable[Sequence[SupportsIndex]], ChunksLike], "RangeProof"]
+
+
+@final
+class RangeProof:
+    """The nodes of some adjacent chunks of a file, the *range*, and the few nodes beside the paths from them to the root.
+
+    With it, whoever knows the file hash checks these chunks, where in the file they are, and how long the file is. A
+    `HashTree` makes it. It may come from anybody: until it is opened, nothing is known but that it has the right form. It is
+    immutable, has JSON and bytes, and can be pickled. Unpickling a stranger's file runs its code, whatever this package checks.
+
+    >>> from yurewha import HashTree, data_hash
+    >>> tree = HashTree([(data_hash(data), len(data)) for data in (b"a chunk", b"another", b"and a third")])
+    >>> proof = tree.proof(1, 2)
+    >>> proof
+    <yurewha.RangeProof of 1 chunk, with 2 nodes beside on 1 level>
+    >>> proof.open(tree.file_hash()).check(0, b"another")    # it is at byte 7 of the file
+    7
+    """
+
+    __slots__ = ("_levels", "_nodes")
+
+    # The C structs of the flat lists.
+    _levels: bytes
+    _nodes: Chunks
+
+    if TYPE_CHECKING:
+
+        def __init__(self, there_is_no_such_call: NoReturn) -> None: ...
+
+    else:
+
+        def __init__(self, *arguments: object, **names: object) -> None:
+            raise TypeError("a RangeProof is made by HashTree.proof, RangeProof.from_json, .from_flat or .from_bytes")
+
+        def __setattr__(self, name: str, value: object) -> None:
+            raise AttributeError("a range proof can't be changed")
+
+        def __delattr__(self, name: str) -> None:
+            raise AttributeError("a range proof can't be changed")
+
+    def __init_subclass__(cls) -> None:
+        raise TypeError("RangeProof can't be subclassed")
+
+    @classmethod
+    def _of(cls, levels: bytes, nodes: bytes) -> RangeProof:
+        self = object.__new__(cls)
+        object.__setattr__(self, "_levels", levels)
+        object.__setattr__(self, "_nodes", Chunks._of(nodes))
+        return self
+
+    @classmethod
+    def _written_to(cls, levels: ctypes.Array[CLevel], num_levels: int, nodes: ctypes.Array[CChunk], num_nodes: int) -> RangeProof:
+        """Returns the proof that a call of the library wrote to these arrays."""
+        return cls._of(string_at(levels, LEVEL.size * num_levels), string_at(nodes, _CHUNK_SIZE * num_nodes))
+
+    # ---- Nodes
+
+    @property
+    def levels(self) -> Counts:
+        """How many nodes are on the left and on the right side of each level, from the chunks up.
+
+        The proof of a file of one chunk has no level.
+
+        >>> from yurewha import Hash, HashTree
+        >>> HashTree([(Hash(), 7), (Hash(), 8)]).proof(0, 1).levels
+        ((0, 1),)
+        """
+        return tuple(LEVEL.iter_unpack(self._levels))  # type: ignore[arg-type]
+
+    @property
+    def num_levels(self) -> int:
+        """The number of levels.
+
+        >>> from yurewha import Hash, HashTree
+        >>> HashTree([(Hash(), 7)]).proof(0, 1).num_levels
+        0
+        """
+        return len(self._levels) // LEVEL.size
+
+    @property
+    def chunks(self) -> Chunks:
+        """The nodes of the range. They show nothing by themselves: only data that was checked is shown.
+
+        >>> from yurewha import Hash, HashTree
+        >>> list(HashTree([(Hash(), 7), (Hash(), 8)]).proof(0, 1).chunks) == [(Hash(), 7)]
+        True
+        """
+        lefts, rights = (sum(level[side] for level in self.levels) for side in (0, 1))
+        return self._nodes[lefts:len(self._nodes) - rights]
+
+    def left(self, level: int) -> Chunks:
+        """Returns the nodes of a level before the range or the nodes above it. There are none if there is no such level.
+
+        >>> from yurewha import Hash, HashTree
+        >>> len(HashTree([(Hash(), 7), (Hash(), 8)]).proof(1, 2).left(0))
+        1
+        """
+        counts, number = self.levels, checked_u64(level, "a level")
+        at = sum(left for left, _ in counts[:number])
+        return self._nodes[at:at + counts[number][0]] if number < len(counts) else Chunks()
+
+    def right(self, level: int) -> Chunks:
+        """Returns the nodes of a level after the range or the nodes above it. There are none if there is no such level.
+
+        >>> from yurewha import Hash, HashTree
+        >>> len(HashTree([(Hash(), 7), (Hash(), 8)]).proof(1, 2).right(0))
+        0
+        """
+        counts, number = self.levels, checked_u64(level, "a level")
+        after = len(self._nodes) - sum(right for _, right in counts[:number])
+        return self._nodes[after - counts[number][1]:after] if number < len(counts) else Chunks()
+
+    # ---- Opening
+
+    def open(self, file_hash: HashLike, salt: Optional[BytesLike] = None) -> OpenedRange:
+        """Opens the proof with a file hash, and the salt of 32 bytes that it is under. Returns the opened range.
+
+        The proof shows that its nodes lead to this file hash. Whether they are chunks is shown only by checking data with
+        `OpenedRange.check` or `read`. A stranger can give parents of chunks for chunks, with any places and file size.
+
+        Raises `ProofMismatch` if the nodes don't lead to the file hash, or if that is the default hash, which is the hash of the
+        empty file. Takes time and memory with the number of the proof's nodes.
+
+        >>> from yurewha import Hash, HashTree
+        >>> tree = HashTree([(Hash(), 7), (Hash(), 8)])
+        >>> tree.proof(1, 2).open(tree.file_hash(salt=bytes(32)), salt=bytes(32))
+        <yurewha.OpenedRange of 1 chunk: bytes from 7 up to 15 of 15, by the proof's word>
+        """
+        raw = raw_of(file_hash, "a file hash")
+        key = bytes(32) if salt is None else checked_32(salt, "a salt")
+        return self._opened("yurewha_range_proof_open", "the proof doesn't show this file hash under this salt", raw, key)
+
+    def open_root(self, root: HashLike) -> OpenedRange:
+        """Opens the proof with a root, such as the hash of a xorb, as `open` does with a file hash.
+
+        >>> from yurewha import Hash, HashTree
+        >>> tree = HashTree([(Hash(), 7), (Hash(), 8)])
+        >>> tree.proof(0, 1).open_root(tree.root).file_size
+        15
+        """
+        return self._opened("yurewha_range_proof_open_root", "the proof doesn't show this root", raw_of(root, "a root"))
+
+    def _opened(self, which: str, mismatch: str, *hashes: bytes) -> OpenedRange:
+        opened, count = OpenedRange._empty(), len(self._nodes)
+        call = getattr(calls_for(count, LONG_NODES), which)
+        status = call(self._levels, self.num_levels, self._nodes.packed, count, *hashes, opened._handle)
+        if status:
+            raise error_of(status, mismatch)
+        return opened
+
+    # ---- Forms
+
+    def to_json(self) -> str:
+        """Returns the proof as compact JSON text, about 100 bytes for each node.
+
+        >>> from yurewha import Hash, HashTree
+        >>> HashTree([(Hash(), 7)]).proof(0, 1).to_json().replace(64 * "0", "..")
+        '{"chunks":[{"hash":"..","size":7}],"levels":[]}'
+        """
+        # As in `Subtree._to_json`: a level's two arrays and its punctuation have less than 64 bytes.
+        room = 128 * len(self._nodes) + 64 * self.num_levels + 128
+        text, length = ctypes.create_string_buffer(room), ctypes.c_size_t()
+        status = self._written(text, room, length)
+        if status:
+            raise error_of(status)
+        return string_at(text, length.value).decode("ascii")
+
+    def _written(self, text: ctypes.Array[ctypes.c_char], room: int, length: ctypes.c_size_t) -> int:
+        count = len(self._nodes)
+        return int(calls_for(count, LONG_NODES).yurewha_range_proof_to_json(
+            self._levels, self.num_levels, self._nodes.packed, count, text, room, length))
+
+    @staticmethod
+    def from_json(text: Union[str, BytesLike]) -> RangeProof:
+        """Returns the proof that a JSON text describes. The text is a `str` or its bytes.
+
+        Raises `InvalidText` if the text isn't JSON. Raises `InvalidProof` with the lowest rule, from 1 to 8, that it breaks. Time
+        and memory are in proportion to the text, so limit the length of a stranger's text before you read it.
+
+        >>> RangeProof.from_json('{"chunks":[{"hash":"%064x","size":7}],"levels":[]}' % 1).levels
+        ()
+        """
+        data = checked_text(text, "JSON") if isinstance(text, str) else own_bytes(text)
+        levels, nodes = (CLevel * MOST_LEVELS)(), (CChunk * (len(data) // _LEAST_NODE + 1))()
+        level_count, node_count = ctypes.c_size_t(), ctypes.c_size_t()
+        status = calls_for(len(data), LONG_BYTES).yurewha_range_proof_from_json(
+            data, len(data), levels, len(levels), nodes, len(nodes), level_count, node_count)
+        if status:
+            raise error_of(status, "the text isn't JSON")
+        return RangeProof._written_to(levels, level_count.value, nodes, node_count.value)
+
+    def to_flat(self) -> Tuple[Counts, Chunks]:
+        """Returns the proof as flat lists: the counts of `levels`, and all nodes in one list.
+
+        The nodes are the left ones of all levels, lowest level first, then the range, then the right ones of all levels, highest
+        level first.
+
+        >>> from yurewha import Hash, HashTree
+        >>> HashTree([(Hash(), 7), (Hash(), 8)]).proof(0, 1).to_flat()
+        (((0, 1),), <yurewha.Chunks of 2>)
+        """
+        return self.levels, self._nodes
+
+    @staticmethod
+    def from_flat(levels: Iterable[Sequence[SupportsIndex]], nodes: ChunksLike) -> RangeProof:
+        """Returns the proof that flat lists describe, in the form of `to_flat`.
+
+        Raises `InvalidProof` with the lowest rule, from 5 to 8, that they break.
+
+        >>> RangeProof.from_flat([], [(bytes(32), 7)]).levels
+        ()
+        """
+        return RangeProof._of(packed_levels(levels), Chunks(nodes).packed)._checked()
+
+    def _checked(self) -> RangeProof:
+        """Returns the same proof if the library reads it, which it does before it finds that there is no room for a text."""
+        status = self._written(ctypes.create_string_buffer(1), 0, ctypes.c_size_t())
+        if status != _ROOM:
+            raise error_of(status)
+        return self
+
+    def to_bytes(self) -> bytes:
+        """Returns the flat lists as bytes, 40 for each node. In base64 they are short enough for a header of HTTP.
+
+        They are the number of levels, the two counts of each level, and the nodes, each a hash and a size. Each number has eight
+        bytes, the least first.
+
+        >>> len(RangeProof.from_flat([(0, 1)], [(bytes(32), 7), (bytes(32), 8)]).to_bytes())
+        104
+        """
+        return b"".join((_COUNT.pack(self.num_levels), self._levels, self._nodes.packed))
+
+    def __bytes__(self) -> bytes:
+        return self.to_bytes()
+
+    @staticmethod
+    def from_bytes(data: BytesLike) -> RangeProof:
+        """Returns the proof that bytes describe, in the form of `to_bytes`.
+
+        Raises `InvalidArguments` if they don't have this form. Raises `InvalidProof` as `from_flat` does.
+
+        >>> proof = RangeProof.from_flat([(0, 1)], [(bytes(32), 7), (bytes(32), 8)])
+        >>> RangeProof.from_bytes(proof.to_bytes()) == proof
+        True
+        """
+        given = own_bytes(data)
+        count = _COUNT.unpack_from(given)[0] if len(given) >= _COUNT.size else 0
+        at = _COUNT.size + LEVEL.size * count
+        if len(given) < at or (len(given) - at) % _CHUNK_SIZE:
+            raise InvalidArguments("the bytes of a range proof are a number of levels, 16 bytes for each, and 40 for each node")
+        return RangeProof._of(given[_COUNT.size:at], given[at:])._checked()
+
+    def __eq__(self, other: object) -> bool:
+        if not isinstance(other, RangeProof):
+            return NotImplemented
+        return self._levels == other._levels and self._nodes == other._nodes
+
+    def __hash__(self) -> int:
+        return hash((self._levels, self._nodes))
+
+    def __copy__(self) -> RangeProof:
+        return self
+
+    def __deepcopy__(self, memo: object) -> RangeProof:
+        return self
+
+    def __reduce__(self) -> Tuple[_FromFlat, Tuple[Counts, bytes]]:
+        # As in `Subtree`, a pickle is checked when it is read.
+        return RangeProof.from_flat, (self.levels, self._nodes.packed)
+
+    def __repr__(self) -> str:
+        chunks = len(self.chunks)
+        beside = _counted(len(self._nodes) - chunks, "node")
+        return f"<yurewha.RangeProof of {_counted(chunks, 'chunk')}, with {beside} beside on {_counted(self.num_levels, 'level')}>"
+
+
+def _counted(count: int, what: str) -> str:
+    return f"{count} {what}{'s' * (count != 1)}"
+
+
+@final
+class OpenedRange(Guarded):
+    """A range proof that was opened with a file hash or a root, which checks the data of the range's chunks.
+
+    It is proved what an accepted chunk means. Each file with the hash that the proof was opened with has these bytes at the place
+    that `check` returns, and is as long as `file_size` says; or somebody has found a collision of BLAKE3. Until a chunk was
+    checked, `begins`, `ends` and `file_size` are the proof's own word. A reader learns from them where to cut, and no more. A
+    pickle has none of this: send the proof, and open it there.
+
+    >>> from yurewha import HashTree, data_hash
+    >>> tree = HashTree([(data_hash(data), len(data)) for data in (b"a chunk", b"another", b"and a third")])
+    >>> opened = tree.proof(1, 3).open(tree.file_hash())
+    >>> opened.check(1, b"and a third"), opened.begins(1)    # in any order, as they arrive
+    (14, 14)
+    >>> bytes(opened.read(12, 17, b"anotherand a third"))    # the bytes 12 to 16 of the file, from the data of both chunks
+    b'erand'
+    """
+
+    __slots__ = ("_handle",)
+
+    _handle: COpenedRange
+
+    if TYPE_CHECKING:
+
+        def __init__(self, there_is_no_such_call: NoReturn) -> None: ...
+
+    else:
+
+        def __new__(cls, *arguments: object, **names: object) -> OpenedRange:
+            return cls._empty()
+
+        def __init__(self, *arguments: object, **names: object) -> None:
+            raise TypeError("an OpenedRange is made by RangeProof.open or .open_root")
+
+    def __init_subclass__(cls) -> None:
+        raise TypeError("OpenedRange can't be subclassed")
+
+    def __del__(self) -> None:
+        # As in `Subtree`.
+        try:
+            if not self._is_ours():
+                return
+            with self._lock:
+                self._free(self._handle)
+        except AttributeError:
+            pass
+
+    _free = staticmethod(short.yurewha_opened_range_free)
+
+    @classmethod
+    def _empty(cls) -> OpenedRange:
+        self = object.__new__(cls)
+        self._guard()
+        self._handle = COpenedRange()
+        return self
+
+    @property
+    def file_size(self) -> int:
+        """The size of the file in bytes. It is the proof's own word until a chunk was checked.
+
+        >>> from yurewha import Hash, HashTree
+        >>> tree = HashTree([(Hash(), 7), (Hash(), 8)])
+        >>> tree.proof(0, 1).open_root(tree.root).file_size
+        15
+        """
+        out = ctypes.c_uint64()
+        with self._locked():
+            status = short.yurewha_opened_range_file_size(self._handle, out)
+        if status:
+            raise error_of(status)
+        return out.value
+
+    @property
+    def num_chunks(self) -> int:
+        """The number of chunks of the range. There is at least one.
+
+        >>> from yurewha import Hash, HashTree
+        >>> tree = HashTree([(Hash(), 7), (Hash(), 8)])
+        >>> tree.proof(0, 2).open_root(tree.root).num_chunks
+        2
+        """
+        out = ctypes.c_size_t()
+        with self._locked():
+            status = short.yurewha_opened_range_num_chunks(self._handle, out)
+        if status:
+            raise error_of(status)
+        return out.value
+
+    def begins(self, chunk: int) -> int:
+        """Returns where in the file a chunk of the range begins. It is the proof's own word until a chunk was checked.
+
+        The chunks of the range are numbered from 0. Raises `InvalidArguments` if there is no such chunk.
+
+        >>> from yurewha import Hash, HashTree
+        >>> tree = HashTree([(Hash(), 7), (Hash(), 8)])
+        >>> tree.proof(1, 2).open_root(tree.root).begins(0)
+        7
+        """
+        return self._bytes_of(chunk)[0]
+
+    def ends(self, chunk: int) -> int:
+        """Returns the place after the last byte of a chunk of the range, as `begins` does that of its first byte.
+
+        >>> from yurewha import Hash, HashTree
+        >>> tree = HashTree([(Hash(), 7), (Hash(), 8)])
+        >>> tree.proof(1, 2).open_root(tree.root).ends(0)
+        15
+        """
+        return self._bytes_of(chunk)[1]
+
+    def _bytes_of(self, chunk: SupportsIndex) -> Tuple[int, int]:
+        number, begin, end = checked_u64(chunk, "the number of a chunk"), ctypes.c_uint64(), ctypes.c_uint64()
+        with self._locked():
+            status = short.yurewha_opened_range_bytes_of(self._handle, number, begin, end)
+        if status:
+            raise error_of(status, f"the range has no chunk {number}")
+        return begin.value, end.value
+
+    def check(self, chunk: int, data: BytesLike, *, nobody_writes: bool = False) -> int:
+        """Checks the data of a chunk of the range. Returns where in the file it begins.
+
+        The chunks of the range are numbered from 0. Raises `ProofMismatch` unless the data's hash and length are those of the
+        chunk's node. Raises `InvalidArguments` if there is no such chunk. It never returns something for false, so a mismatch
+        can't be overlooked. Read-only bytes are hashed in place, and others are copied, unless the caller promises with
+        `nobody_writes=True` that nobody writes to them.
+
+        >>> from yurewha import HashTree, data_hash
+        >>> tree = HashTree([(data_hash(b"abc"), 3)])
+        >>> tree.proof(0, 1).open(tree.file_hash()).check(0, b"abc")
+        0
+        """
+        number, place = checked_u64(chunk, "the number of a chunk"), ctypes.c_uint64()
+
+        def check(start: Start, length: int) -> int:
+            calls = calls_for(length, LONG_BYTES)
+            with self._locked():
+                return int(calls.yurewha_opened_range_check(self._handle, number, start, length, place))
+
+        status = _passed(data, nobody_writes, check)
+        if status:
+            self._bytes_of(number)  # raises if there is no such chunk
+            raise error_of(status, f"this isn't the data of chunk {number} of the range")
+        return place.value
+
+    def read(self, start: int, stop: int, data: BytesLike, *, nobody_writes: bool = False) -> memoryview:
+        """Checks the data of all chunks of the range, and returns the bytes of the file from `start` up to, but without, `stop`.
+
+        `data` is the data of these chunks, one after another, and nothing else. Raises `ProofMismatch` unless each chunk checks
+        and the range has these bytes. So a server that sends another part of the file, or another file, is refused.
+
+        The result is a read-only view of the data if that is `bytes`, or a view of `bytes`. Other data is copied once, before it
+        is checked. With `nobody_writes=True` the caller promises that nobody writes to it while the view is used, and it isn't
+        copied.
+
+        >>> from yurewha import HashTree, data_hash
+        >>> tree = HashTree([(data_hash(data), len(data)) for data in (b"a chunk", b"another", b"and a third")])
+        >>> bytes(tree.proof_of_bytes(8, 10).open(tree.file_hash()).read(8, 10, b"another"))
+        b'no'
+        """
+        begin, end, at = checked_u64(start, "a place"), checked_u64(stop, "a place"), ctypes.c_size_t()
+        view = _unchanging(data, nobody_writes)
+
+        def read(first: Start, length: int) -> int:
+            calls = calls_for(length, LONG_BYTES)
+            with self._locked():
+                return int(calls.yurewha_opened_range_read(self._handle, begin, end, first, length, at))
+
+        status = in_place(view, read)
+        if status:
+            raise error_of(status, self._told(begin, end, view.nbytes))
+        return view[at.value:at.value + end - begin]
+
+    def _told(self, start: int, stop: int, length: int) -> str:
+        """Returns why bytes couldn't be read from data of this length."""
+        begin, end = self.begins(0), self.ends(self.num_chunks - 1)
+        if not begin <= start <= stop <= end:
+            return f"the proof is of the bytes from {begin} up to {end}, and not of those from {start} up to {stop}"
+        if length != end - begin:
+            return f"the range has {end - begin} bytes, and the data {length}"
+        return "this isn't the data of the range"
+
+    def __copy__(self) -> OpenedRange:
+        return self
+
+    def __deepcopy__(self, memo: object) -> OpenedRange:
+        return self
+
+    def __reduce__(self) -> NoReturn:
+        raise TypeError("an OpenedRange can't be pickled, but its RangeProof can")
+
+    def __repr__(self) -> str:
+        try:
+            count = self.num_chunks
+            places = f"bytes from {self.begins(0)} up to {self.ends(count - 1)} of {self.file_size}"
+        except YurewhaError:
+            return "<yurewha.OpenedRange that can't be read>"
+        return f"<yurewha.OpenedRange of {_counted(count, 'chunk')}: {places}, by the proof's word>"
+
+
+def _passed(data: BytesLike, nobody_writes: bool, call: Callable[[Start, int], int]) -> int:
+    """Passes bytes to a call at once, in place if nobody can write to them or if the caller promises it, else as a copy."""
+    checked_bool(nobody_writes, "nobody_writes")
+    if type(data) is bytes:
+        return call(data, len(data))
+    with view_of_bytes(data) as view:
+        if view.c_contiguous and (nobody_writes or is_read_only(view)):
+            return in_place(view, call)
+        return call(view.tobytes(), view.nbytes)
+
+
+def _unchanging(data: BytesLike, nobody_writes: bool) -> memoryview:
+    """Returns a read-only view of bytes, of a copy unless they are `bytes` or the caller promises that nobody writes to them."""
+    checked_bool(nobody_writes, "nobody_writes")
+    view = view_of_bytes(data)
+    if view.format == "B" and view.ndim == 1 and view.c_contiguous and (nobody_writes or type(view.obj) is bytes):
+        return view.toreadonly()
+    return memoryview(view.tobytes())

@@ -1,0 +1,73 @@
+#!/usr/bin/env python3
+"""Reads a part of a file on a server, and checks it against the file hash alone.
+
+    ./client.py URL FILE_HASH START STOP > PART
+
+It writes the bytes from START up to STOP to standard output, if all of them are the file's, and nothing otherwise. On standard error
+it says what it fetched.
+"""
+
+from __future__ import annotations
+
+import sys
+from pathlib import Path
+from urllib.error import URLError
+from urllib.request import Request, urlopen
+
+ROOT = Path(__file__).resolve().parents[2]
+sys.path.insert(0, str(ROOT / "bindings" / "python"))
+
+from yurewha import Hash, ProofMismatch, RangeProof, VerifiedFile, YurewhaError  # noqa: E402
+
+#: Longer proofs aren't read.
+LONGEST_PROOF = 1 << 20
+
+
+class Remote:
+    """A file on a server, and how many bytes of it and of proofs were fetched."""
+
+    def __init__(self, url: str) -> None:
+        self.url = url
+        self.data_bytes = self.proof_bytes = 0
+
+    def fetch(self, start: int, stop: int) -> bytes:
+        """Returns some bytes of the file. If more come than were asked for, it reads one of them, so that they are refused."""
+        with urlopen(Request(f"{self.url}/data", headers={"Range": f"bytes={start}-{stop - 1}"})) as answer:
+            data: bytes = answer.read(stop - start + 1)
+        self.data_bytes += len(data)
+        return data
+
+    def prove(self, start: int, stop: int) -> RangeProof:
+        """Returns the proof of some bytes of the file."""
+        with urlopen(f"{self.url}/proof?start={start}&stop={stop}") as answer:
+            text: bytes = answer.read(LONGEST_PROOF + 1)
+        if len(text) > LONGEST_PROOF:
+            raise ProofMismatch(f"the proof has more than {LONGEST_PROOF} bytes")
+        self.proof_bytes += len(text)
+        return RangeProof.from_json(text)
+
+
+def read(remote: Remote, file_hash: Hash, start: int, stop: int) -> tuple[bytes, int]:
+    """Returns a part of the file, and the size of the file."""
+    file = VerifiedFile(file_hash, remote.fetch, remote.prove)
+    file.seek(start)
+    return file.read(stop - start), file.size
+
+
+def main(url: str, file_hash: str, start: str, stop: str) -> int:
+    remote = Remote(url)
+    try:
+        part, size = read(remote, Hash.from_hex(file_hash), int(start), int(stop))
+    except (YurewhaError, URLError) as error:
+        print(f"refused: {error}", file=sys.stderr)
+        return 1
+    sys.stdout.buffer.write(part)
+    fetched = f"{remote.data_bytes:,} bytes and {remote.proof_bytes:,} of proofs were fetched"
+    print(f"{len(part):,} bytes of {size:,} are verified; {fetched}", file=sys.stderr)
+    return 0
+
+
+if __name__ == "__main__":
+    if len(sys.argv) != 5:
+        sys.exit(__doc__)
+    sys.exit(main(*sys.argv[1:]))
