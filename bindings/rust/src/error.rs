@@ -1,4 +1,4 @@
-//! The errors of calls on lists of chunks and on subtrees.
+//! The errors of calls on lists of chunks, on subtrees and on range proofs.
 
 use crate::ffi;
 use crate::status::{Refusal, StatusText};
@@ -20,7 +20,7 @@ use std::fmt;
 /// # use yurewha::error::CoreError;
 /// fn is_of_a_text(error: CoreError) -> bool {
 ///     match error {
-///         CoreError::InvalidText | CoreError::InvalidJson(_) => true,
+///         CoreError::InvalidText | CoreError::InvalidJson(_) | CoreError::InvalidProofJson(_) => true,
 ///         CoreError::InvalidArguments | CoreError::SizeOverflow | CoreError::OutOfMemory => false,
 ///     }
 /// }
@@ -30,6 +30,7 @@ use std::fmt;
 pub enum CoreError {
     /// A range other than the last is marked at its end, or one other than the first at its start. For a session, a
     /// run that is [pushed](crate::own::Session::push_run) has no position or leaves no gap, or its subtree is marked.
+    /// For a range proof, the list doesn't have these chunks.
     InvalidArguments,
     /// The sizes of all nodes add up to more than `u64::MAX` bytes.
     SizeOverflow,
@@ -43,6 +44,9 @@ pub enum CoreError {
     /// Rule 9 is broken by about half of the subtrees that `xet-core-structures` saves after it has merged a range that
     /// is marked at its start with the next one. Make such a subtree anew from the list of its chunks.
     InvalidJson(u8),
+    /// A value doesn't describe a range proof. The number is the lowest rule, from 1 to 8, that the value breaks.
+    /// [`from_json`](crate::own::RangeProof::from_json) lists the rules.
+    InvalidProofJson(u8),
 }
 
 /// The result of a call, or why it failed.
@@ -56,6 +60,7 @@ impl fmt::Display for CoreError {
             CoreError::OutOfMemory => f.write_str("out of memory"),
             CoreError::InvalidText => f.write_str("invalid text"),
             CoreError::InvalidJson(rule) => write!(f, "invalid JSON: {}", BrokenRule(*rule)),
+            CoreError::InvalidProofJson(rule) => write!(f, "invalid JSON: {}", BrokenProofRule(*rule)),
         }
     }
 }
@@ -81,6 +86,32 @@ impl fmt::Display for BrokenRule {
 // Where most values that break rule 9 come from.
 const OF_MERGES_FROM_THE_START: &str = ". xet-core-structures leaves some when it merges from the start; make the \
     subtree anew from the list of its chunks";
+
+/// The text of a rule of range proofs that a value breaks.
+#[derive(Clone, Copy)]
+pub(crate) struct BrokenProofRule(pub(crate) u8);
+
+impl fmt::Display for BrokenProofRule {
+    fn fmt(&self, f: &mut fmt::Formatter<'_>) -> fmt::Result {
+        write!(f, "rule {}", self.0)?;
+        let how = usize::from(self.0)
+            .checked_sub(1)
+            .and_then(|place| PROOF_RULES.get(place));
+        how.map_or(Ok(()), |how| write!(f, ": {how}"))
+    }
+}
+
+// How a value breaks each of the rules from 1 on. The library has texts of the rules of subtrees alone.
+const PROOF_RULES: [&str; 8] = [
+    "the value isn't an object",
+    "the chunks or levels aren't an array",
+    "a level isn't an object with both sides as arrays",
+    "a node isn't a hash and a size",
+    "there is no chunk",
+    "there are more than 64 levels",
+    "a side of a level has more than 8 nodes",
+    "the sizes add up to more than 2^64 - 1",
+];
 
 impl Refusal for CoreError {
     fn of(status: ffi::yurewha_status) -> Option<Self> {
@@ -127,6 +158,14 @@ mod tests {
             assert_eq!(error.contains("make the subtree anew"), rule == 9, "{error}");
         }
         assert_eq!(CoreError::InvalidJson(14).to_string(), "invalid JSON: rule 14");
+        for rule in 1..=8 {
+            let error = CoreError::InvalidProofJson(rule).to_string();
+            assert!(error.starts_with(&format!("invalid JSON: rule {rule}: ")), "{error}");
+        }
+        for rule in [0, 9] {
+            let error = CoreError::InvalidProofJson(rule).to_string();
+            assert_eq!(error, format!("invalid JSON: rule {rule}"));
+        }
     }
 
     #[test]

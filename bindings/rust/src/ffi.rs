@@ -16,6 +16,7 @@ pub const YUREWHA_MEMORY: yurewha_status = 3;
 pub const YUREWHA_TEXT: yurewha_status = 4;
 pub const YUREWHA_ROOM: yurewha_status = 5;
 pub const YUREWHA_EMPTY_HANDLE: yurewha_status = 6;
+pub const YUREWHA_MISMATCH: yurewha_status = 7;
 pub const YUREWHA_RULE: yurewha_status = 16;
 pub const YUREWHA_SESSION_OVERLAP: yurewha_status = 33;
 pub const YUREWHA_SESSION_POSITIONS: yurewha_status = 34;
@@ -67,6 +68,16 @@ pub struct yurewha_session {
     pub at: *mut u8,
 }
 
+#[repr(C)]
+pub struct yurewha_hash_tree {
+    pub at: *mut u8,
+}
+
+#[repr(C)]
+pub struct yurewha_opened_range {
+    pub at: *mut u8,
+}
+
 impl yurewha_hasher {
     // Room for a hasher. It must be begun before use.
     pub const ROOM: Self = yurewha_hasher { state: [0; 256] };
@@ -86,6 +97,20 @@ impl Default for yurewha_session {
     }
 }
 
+impl Default for yurewha_hash_tree {
+    // The empty handle.
+    fn default() -> Self {
+        yurewha_hash_tree { at: ptr::null_mut() }
+    }
+}
+
+impl Default for yurewha_opened_range {
+    // The empty handle.
+    fn default() -> Self {
+        yurewha_opened_range { at: ptr::null_mut() }
+    }
+}
+
 const fn assert_layout<T>(size: usize, align: usize) {
     assert!(size_of::<T>() == size && align_of::<T>() == align);
 }
@@ -98,6 +123,8 @@ const _: () = {
     assert_layout::<yurewha_hasher>(2048, 8);
     assert_layout::<yurewha_subtree>(size_of::<usize>(), align_of::<usize>());
     assert_layout::<yurewha_session>(size_of::<usize>(), align_of::<usize>());
+    assert_layout::<yurewha_hash_tree>(size_of::<usize>(), align_of::<usize>());
+    assert_layout::<yurewha_opened_range>(size_of::<usize>(), align_of::<usize>());
 };
 
 extern "C" {
@@ -259,6 +286,105 @@ extern "C" {
         hashes: *mut yurewha_hash,
         count: usize,
     ) -> yurewha_status;
+    pub fn yurewha_hash_tree_from_chunks(
+        chunks: *const yurewha_chunk,
+        count: usize,
+        tree: *mut yurewha_hash_tree,
+    ) -> yurewha_status;
+    pub fn yurewha_hash_tree_root(tree: *mut yurewha_hash_tree, root: *mut yurewha_hash) -> yurewha_status;
+    pub fn yurewha_hash_tree_file_hash(
+        tree: *mut yurewha_hash_tree,
+        salt: *const yurewha_bytes,
+        hash: *mut yurewha_hash,
+    ) -> yurewha_status;
+    pub fn yurewha_hash_tree_num_chunks(tree: *mut yurewha_hash_tree, count: *mut usize) -> yurewha_status;
+    pub fn yurewha_hash_tree_total_size(tree: *mut yurewha_hash_tree, size: *mut u64) -> yurewha_status;
+    pub fn yurewha_hash_tree_chunks_at(
+        tree: *mut yurewha_hash_tree,
+        from: u64,
+        to: u64,
+        first: *mut usize,
+        end: *mut usize,
+    ) -> yurewha_status;
+    pub fn yurewha_hash_tree_bytes_of(
+        tree: *mut yurewha_hash_tree,
+        first: usize,
+        end: usize,
+        from: *mut u64,
+        to: *mut u64,
+    ) -> yurewha_status;
+    pub fn yurewha_hash_tree_proof(
+        tree: *mut yurewha_hash_tree,
+        first: usize,
+        end: usize,
+        levels: *mut yurewha_level,
+        level_room: usize,
+        nodes: *mut yurewha_chunk,
+        node_room: usize,
+        level_count: *mut usize,
+        node_count: *mut usize,
+    ) -> yurewha_status;
+    pub fn yurewha_hash_tree_free(tree: *mut yurewha_hash_tree);
+    pub fn yurewha_range_proof_to_json(
+        levels: *const yurewha_level,
+        level_count: usize,
+        nodes: *const yurewha_chunk,
+        node_count: usize,
+        text: *mut c_char,
+        room: usize,
+        length: *mut usize,
+    ) -> yurewha_status;
+    pub fn yurewha_range_proof_from_json(
+        text: *const c_char,
+        length: usize,
+        levels: *mut yurewha_level,
+        level_room: usize,
+        nodes: *mut yurewha_chunk,
+        node_room: usize,
+        level_count: *mut usize,
+        node_count: *mut usize,
+    ) -> yurewha_status;
+    pub fn yurewha_range_proof_open(
+        levels: *const yurewha_level,
+        level_count: usize,
+        nodes: *const yurewha_chunk,
+        node_count: usize,
+        file_hash: *const yurewha_hash,
+        salt: *const yurewha_bytes,
+        range: *mut yurewha_opened_range,
+    ) -> yurewha_status;
+    pub fn yurewha_range_proof_open_root(
+        levels: *const yurewha_level,
+        level_count: usize,
+        nodes: *const yurewha_chunk,
+        node_count: usize,
+        root: *const yurewha_hash,
+        range: *mut yurewha_opened_range,
+    ) -> yurewha_status;
+    pub fn yurewha_opened_range_file_size(range: *mut yurewha_opened_range, size: *mut u64) -> yurewha_status;
+    pub fn yurewha_opened_range_num_chunks(range: *mut yurewha_opened_range, count: *mut usize) -> yurewha_status;
+    pub fn yurewha_opened_range_bytes_of(
+        range: *mut yurewha_opened_range,
+        chunk: usize,
+        from: *mut u64,
+        to: *mut u64,
+    ) -> yurewha_status;
+    pub fn yurewha_opened_range_check(
+        range: *mut yurewha_opened_range,
+        chunk: usize,
+        data: *const u8,
+        length: usize,
+        place: *mut u64,
+    ) -> yurewha_status;
+    pub fn yurewha_opened_range_read(
+        range: *mut yurewha_opened_range,
+        from: u64,
+        to: u64,
+        data: *const u8,
+        length: usize,
+        start: *mut usize,
+    ) -> yurewha_status;
+    pub fn yurewha_opened_range_free(range: *mut yurewha_opened_range);
 }
 
 // Tests of the calls that no other module makes.

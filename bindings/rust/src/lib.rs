@@ -54,7 +54,10 @@ pub mod merklehash;
 pub mod own;
 
 mod ffi;
+#[cfg(feature = "serde")]
+mod forms;
 mod handle;
+mod in_form;
 mod lent_chunks;
 mod status;
 
