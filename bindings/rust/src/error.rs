@@ -3,6 +3,7 @@
 use crate::ffi;
 use crate::status::{Refusal, StatusText};
 use std::fmt;
+use std::ops::RangeInclusive;
 
 /// Why a call failed. After a failure everything that was lent to the call is unchanged.
 ///
@@ -93,25 +94,12 @@ pub(crate) struct BrokenProofRule(pub(crate) u8);
 
 impl fmt::Display for BrokenProofRule {
     fn fmt(&self, f: &mut fmt::Formatter<'_>) -> fmt::Result {
-        write!(f, "rule {}", self.0)?;
-        let how = usize::from(self.0)
-            .checked_sub(1)
-            .and_then(|place| PROOF_RULES.get(place));
-        how.map_or(Ok(()), |how| write!(f, ": {how}"))
+        match self.0 {
+            1..=8 => write!(f, "{}", StatusText::of(ffi::YUREWHA_PROOF_RULE + u32::from(self.0))),
+            other => write!(f, "rule {other}"),
+        }
     }
 }
-
-// How a value breaks each of the rules from 1 on. The library has texts of the rules of subtrees alone.
-const PROOF_RULES: [&str; 8] = [
-    "the value isn't an object",
-    "the chunks or levels aren't an array",
-    "a level isn't an object with both sides as arrays",
-    "a node isn't a hash and a size",
-    "there is no chunk",
-    "there are more than 64 levels",
-    "a side of a level has more than 8 nodes",
-    "the sizes add up to more than 2^64 - 1",
-];
 
 impl Refusal for CoreError {
     fn of(status: ffi::yurewha_status) -> Option<Self> {
@@ -120,15 +108,19 @@ impl Refusal for CoreError {
             ffi::YUREWHA_SIZES => Some(CoreError::SizeOverflow),
             ffi::YUREWHA_MEMORY => Some(CoreError::OutOfMemory),
             ffi::YUREWHA_TEXT => Some(CoreError::InvalidText),
-            _ => rule_of(status).map(CoreError::InvalidJson),
+            _ => broken_rule(status),
         }
     }
 }
 
-// The rule of a status.
-fn rule_of(status: ffi::yurewha_status) -> Option<u8> {
-    let rule = u8::try_from(status.checked_sub(ffi::YUREWHA_RULE)?).ok()?;
-    (1..=13).contains(&rule).then_some(rule)
+// The error of a status that names a broken rule.
+fn broken_rule(status: ffi::yurewha_status) -> Option<CoreError> {
+    let rule_from = |first: u32, rules: RangeInclusive<u8>| {
+        let rule = u8::try_from(status.checked_sub(first)?).ok()?;
+        rules.contains(&rule).then_some(rule)
+    };
+    let of_subtree = rule_from(ffi::YUREWHA_RULE, 1..=13).map(CoreError::InvalidJson);
+    of_subtree.or_else(|| rule_from(ffi::YUREWHA_PROOF_RULE, 1..=8).map(CoreError::InvalidProofJson))
 }
 
 #[cfg(test)]
@@ -144,7 +136,11 @@ mod tests {
             (ffi::YUREWHA_TEXT, CoreError::InvalidText),
         ];
         let rules = (1..=13).map(|rule| (ffi::YUREWHA_RULE + u32::from(rule), CoreError::InvalidJson(rule)));
-        for (status, error) in errors.into_iter().chain(rules) {
+        let of_proofs = (1..=8).map(|rule| {
+            let status = ffi::YUREWHA_PROOF_RULE + u32::from(rule);
+            (status, CoreError::InvalidProofJson(rule))
+        });
+        for (status, error) in errors.into_iter().chain(rules).chain(of_proofs) {
             assert_eq!(CoreError::of(status), Some(error));
         }
     }
@@ -174,9 +170,12 @@ mod tests {
             ffi::YUREWHA_DONE,
             ffi::YUREWHA_ROOM,
             ffi::YUREWHA_EMPTY_HANDLE,
+            ffi::YUREWHA_MISMATCH,
             15,
             16,
             30,
+            48,
+            57,
             u32::MAX,
         ];
         for status in others

@@ -18,6 +18,7 @@ pub const YUREWHA_ROOM: yurewha_status = 5;
 pub const YUREWHA_EMPTY_HANDLE: yurewha_status = 6;
 pub const YUREWHA_MISMATCH: yurewha_status = 7;
 pub const YUREWHA_RULE: yurewha_status = 16;
+pub const YUREWHA_PROOF_RULE: yurewha_status = 48;
 pub const YUREWHA_SESSION_OVERLAP: yurewha_status = 33;
 pub const YUREWHA_SESSION_POSITIONS: yurewha_status = 34;
 pub const YUREWHA_SESSION_GAP: yurewha_status = 37;

@@ -158,11 +158,12 @@ test("each status of the header has its error", () => {
         assert.ok(error instanceof errors.InvalidJson && error.rule === rule && error.message.startsWith(`rule ${rule}: `));
     }
     for (let rule = 1; rule <= PROOF_RULES.length; rule++) {
-        const error = errorOf(STATUS.RULE + rule, "", PROOF_RULES);
+        const error = errorOf(STATUS.PROOF_RULE + rule);
         assert.ok(error instanceof errors.InvalidJson && error.rule === rule && error.message === `rule ${rule}: ${PROOF_RULES[rule - 1]}`);
     }
-    assert.equal(errorOf(STATUS.RULE + 9, "", PROOF_RULES).name, "YurewhaError");
-    assert.equal(errorOf(99).name, "YurewhaError");
+    for (const status of [99, STATUS.RULE, STATUS.RULE + 14, STATUS.PROOF_RULE, STATUS.PROOF_RULE + 9]) {
+        assert.equal(errorOf(status).name, "YurewhaError");
+    }
 });
 
 test("a hash has its texts, also in JSON, and doesn't change", () => {

@@ -157,7 +157,7 @@ test("Node's console shows what an object is", () => {
     assert.equal(plain(new y.Hasher().update(Uint8Array.of(1, 2))).slice(0, 24), "Hasher { count: 2n, hash");
     assert.equal(plain(y.HashTree.fromChunks([[hash, 7]])), `HashTree { numChunks: 1, totalSize: 7n, root: Hash(${hash.hex()}) }`);
     const proof = y.RangeProof.fromChunks([[hash, 7]], 0, 1);
-    assert.equal(plain(proof), `RangeProof { chunks: Chunks(1) [ [ Hash(${hash.hex()}), 7n ] ], numLevels: 0 }`);
+    assert.equal(plain(proof), "RangeProof { chunks: Chunks(1) [ [ [Hash], 7n ] ], numLevels: 0 }");
     assert.equal(plain(proof.openRoot(hash)), "OpenedRange { fileSize: 7n, numChunks: 1, begins: 0n, ends: 7n }");
     range.free();
     assert.equal(inspect(range), "Subtree <the object was freed>");

@@ -85,6 +85,7 @@ export const STATUS = {
     SESSION_OVERLAP: 33,
     SESSION_POSITIONS: 34,
     SESSION_GAP: 37,
+    PROOF_RULE: 48,
 };
 
 const SIZES = "the sizes add up to more than 2^64 - 1";
@@ -101,17 +102,23 @@ const ERRORS = new Map([
     [STATUS.SESSION_GAP, () => new SessionGap("the taken positions aren't exactly those below the total")],
 ]);
 
-/** The error of a status other than 0. `what` is the message of InvalidArguments and InvalidText; a broken rule is one of `rules`. */
-export function errorOf(status, what, rules = RULES) {
+/** The error of a status other than 0. `what` is the message of InvalidArguments and InvalidText. */
+export function errorOf(status, what) {
     const make = ERRORS.get(status);
-    if (make) return make(what);
-    const rule = status - STATUS.RULE;
-    return rule >= 1 && rule <= rules.length ? new InvalidJson(rule, rules) : new YurewhaError(`the library returned status ${status}`);
+    return make ? make(what) : (brokenRule(status, STATUS.RULE, RULES) ?? brokenRule(status, STATUS.PROOF_RULE, PROOF_RULES) ?? unknown(status));
 }
 
+/** The error of a status that is that of one of the rules, whose statuses come after `first`. */
+function brokenRule(status, first, rules) {
+    const rule = status - first;
+    return rule >= 1 && rule <= rules.length ? new InvalidJson(rule, rules) : null;
+}
+
+const unknown = (status) => new YurewhaError(`the library returned status ${status}`);
+
 /** Throws the error of a status, unless it is 0. */
-export function check(status, what = "the arguments don't fit together", rules = RULES) {
-    if (status !== STATUS.DONE) throw errorOf(status, what, rules);
+export function check(status, what = "the arguments don't fit together") {
+    if (status !== STATUS.DONE) throw errorOf(status, what);
 }
 
 export const outOfMemory = () => errorOf(STATUS.MEMORY);

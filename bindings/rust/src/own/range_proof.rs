@@ -89,24 +89,6 @@ impl Rooms {
     }
 }
 
-// An error of a call on the JSON or the lists of a proof, whose rules aren't those of a subtree.
-struct ProofError(CoreError);
-
-impl Refusal for ProofError {
-    fn of(status: ffi::yurewha_status) -> Option<Self> {
-        match CoreError::of(status)? {
-            CoreError::InvalidJson(rule @ 1..=8) => Some(ProofError(CoreError::InvalidProofJson(rule))),
-            CoreError::InvalidJson(_) => None,
-            error => Some(ProofError(error)),
-        }
-    }
-}
-
-// What a call on the JSON or the lists of a proof writes to its out parameter, or its error.
-fn answer_of_proof<T: Default>(call: impl FnOnce(&mut T) -> ffi::yurewha_status) -> Result<T> {
-    answer(call).map_err(|ProofError(error)| error)
-}
-
 // Levels and nodes as a call gets them, each with its number.
 struct Lists {
     levels: *const ffi::yurewha_level,
@@ -351,7 +333,7 @@ impl RangeProof {
         let mut text: Vec<u8> = zeros(self.json_length_at_most())?;
         let (room, room_length) = (text.as_mut_ptr().cast(), text.len());
         // SAFETY: levels and nodes of their numbers, a room with its length, and a length to write to.
-        let length = answer_of_proof(|length| unsafe {
+        let length = answer(|length| unsafe {
             ffi::yurewha_range_proof_to_json(
                 it.levels,
                 it.level_count,
@@ -412,7 +394,7 @@ impl RangeProof {
         let (levels, level_room) = (rooms.levels.as_mut_ptr(), rooms.levels.len());
         let (nodes, node_room) = (rooms.nodes.as_mut_ptr(), rooms.nodes.len());
         // SAFETY: a text of its length, two rooms with their lengths, and two numbers to write to.
-        let counts = answer_of_proof(|(level_count, node_count)| unsafe {
+        let counts = answer(|(level_count, node_count)| unsafe {
             ffi::yurewha_range_proof_from_json(
                 text.as_ptr().cast(),
                 text.len(),
@@ -439,7 +421,7 @@ impl RangeProof {
         };
         // What has a text keeps the rules.
         if status != ffi::YUREWHA_ROOM {
-            done(status).map_err(|ProofError(error)| error)?;
+            done(status)?;
         }
         drop(lent);
         Ok(RangeProof { levels, nodes })
@@ -574,7 +556,7 @@ mod tests {
     use super::*;
 
     #[test]
-    fn each_status_has_its_error() {
+    fn each_status_has_its_fault() {
         let faults = [
             (ffi::YUREWHA_MISMATCH, OpenFault::Mismatch),
             (ffi::YUREWHA_MEMORY, OpenFault::OutOfMemory),
@@ -582,15 +564,8 @@ mod tests {
         for (status, fault) in faults {
             assert_eq!(OpenFault::of(status), Some(fault));
         }
-        for status in [ffi::YUREWHA_DONE, ffi::YUREWHA_ARGUMENTS, ffi::YUREWHA_RULE + 5] {
+        for status in [ffi::YUREWHA_DONE, ffi::YUREWHA_ARGUMENTS, ffi::YUREWHA_PROOF_RULE + 5] {
             assert_eq!(OpenFault::of(status), None);
         }
-        let error_of = |status| ProofError::of(status).map(|ProofError(error)| error);
-        for rule in 1..=8 {
-            let error = error_of(ffi::YUREWHA_RULE + u32::from(rule));
-            assert_eq!(error, Some(CoreError::InvalidProofJson(rule)));
-        }
-        assert_eq!([9, 13].map(|rule| error_of(ffi::YUREWHA_RULE + rule)), [None; 2]);
-        assert_eq!(error_of(ffi::YUREWHA_TEXT), Some(CoreError::InvalidText));
     }
 }

@@ -1,6 +1,6 @@
 //! The hash tree over a list of chunks, which makes range proofs.
 
-use super::{answer_of_proof, RangeProof, Rooms, MOST_BESIDE};
+use super::{RangeProof, Rooms, MOST_BESIDE};
 use crate::error::Result;
 use crate::ffi;
 use crate::handle::Owned;
@@ -201,7 +201,7 @@ impl HashTree {
         let (levels, level_room) = (rooms.levels.as_mut_ptr(), rooms.levels.len());
         let (nodes, node_room) = (rooms.nodes.as_mut_ptr(), rooms.nodes.len());
         // SAFETY: a handle, two rooms with their lengths, and two numbers to write to.
-        let counts = answer_of_proof(|(level_count, node_count)| unsafe {
+        let counts = answer(|(level_count, node_count)| unsafe {
             ffi::yurewha_hash_tree_proof(
                 &mut *self.lock(),
                 start,
