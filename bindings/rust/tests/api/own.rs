@@ -33,7 +33,8 @@ fn own_items_have_their_signatures() {
     let _: fn(&str) -> Result<own::RangeProof> = own::RangeProof::from_json;
     let _: [fn(&own::OpenedRange, usize) -> Option<u64>; 2] = [own::OpenedRange::begins, own::OpenedRange::ends];
     let _: fn(&own::OpenedRange, usize, &[u8]) -> Option<u64> = own::OpenedRange::check;
-    let _: for<'d> fn(&own::OpenedRange, Range<u64>, &'d [u8]) -> Option<&'d [u8]> = own::OpenedRange::read;
+    type Read = for<'d> fn(&own::OpenedRange, Range<u64>, &'d [u8]) -> Option<&'d [u8]>;
+    let _: Read = own::OpenedRange::read;
     let _: fn(Pairs) -> Result<own::HashTree> = own::HashTree::from_chunks;
     let _: fn(&own::HashTree, Range<u64>) -> Option<Range<usize>> = own::HashTree::chunks_at;
     let _: fn(&own::HashTree, Range<usize>) -> Option<Range<u64>> = own::HashTree::bytes_of;
