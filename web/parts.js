@@ -126,6 +126,7 @@ export class Parts {
     }
 
     #read() {
+        for (const id of ["sent", "part-verdict", "part-bytes", "path"]) get(id).replaceChildren();
         const asked = [numberOf("from"), numberOf("to")];
         const answer = CHANGES[get("change").value](this.#yurewha, this.#server.answer(...asked));
         const result = read(this.#server.tree.fileHash(), asked, answer);
