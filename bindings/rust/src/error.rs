@@ -136,7 +136,7 @@ mod tests {
             (ffi::YUREWHA_TEXT, CoreError::InvalidText),
         ];
         let rules = (1..=13).map(|rule| (ffi::YUREWHA_RULE + u32::from(rule), CoreError::InvalidJson(rule)));
-        let of_proofs = (1..=8).map(|rule| {
+        let of_proofs = [1, 2, 3, 4, 5, 6, 7, 8].map(|rule| {
             let status = ffi::YUREWHA_PROOF_RULE + u32::from(rule);
             (status, CoreError::InvalidProofJson(rule))
         });
