@@ -89,7 +89,6 @@ const OF_MERGES_FROM_THE_START: &str = ". xet-core-structures leaves some when i
     subtree anew from the list of its chunks";
 
 /// The text of a rule of range proofs that a value breaks.
-#[derive(Clone, Copy)]
 pub(crate) struct BrokenProofRule(pub(crate) u8);
 
 impl fmt::Display for BrokenProofRule {

@@ -216,10 +216,10 @@ impl RangeProof {
     }
 
     /// Opens the proof with a file hash. That succeeds if its nodes have a common root, and this root gives the file
-    /// hash. Whoever sent the proof can't choose the answer, unless two messages are known that have one BLAKE3 hash.
+    /// hash. The default hash is never shown, since it is the file hash of the empty file under each salt.
     ///
-    /// What is opened is known to end in this hash, and no more: [`OpenedRange`] says what a check of data shows. The
-    /// default hash is never shown, since it is the file hash of the empty file under each salt.
+    /// So an opened proof leads to this hash. That alone shows nothing of its nodes; [`OpenedRange`] says what a check of
+    /// data shows.
     ///
     /// ```
     /// use yurewha::merklehash::{file_hash, MerkleHash};
