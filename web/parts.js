@@ -87,15 +87,7 @@ export class Parts {
         this.#on("make-file", "submit", () => this.#serve(this.#made()));
         this.#on("read-part", "submit", () => this.#read());
         this.#on("change", "change", () => this.#read());
-        get("part-of").addEventListener("change", async (event) => {
-            const [file] = event.target.files;
-            if (!file) return;
-            const data = file.size > MOST_BYTES ? null : new Uint8Array(await file.arrayBuffer());
-            report(() => {
-                if (data === null) throw new Error(`the file has more than ${MOST_BYTES} bytes`);
-                this.#serve(data);
-            });
-        });
+        get("part-of").addEventListener("change", ({ target }) => target.files.length > 0 && this.#pick(target.files[0]));
         this.#serve(this.#made());
     }
 
@@ -104,6 +96,19 @@ export class Parts {
             event.preventDefault();
             this.#report(run);
         });
+    }
+
+    /** Reads a file of the user's, and begins with it. */
+    async #pick(file) {
+        try {
+            if (file.size > MOST_BYTES) throw new Error(`the file has more than ${MOST_BYTES} bytes`);
+            const data = new Uint8Array(await file.arrayBuffer());
+            this.#report(() => this.#serve(data));
+        } catch (error) {
+            this.#report(() => {
+                throw error;
+            });
+        }
     }
 
     /** Lines with their numbers, as many bytes as are asked for. */

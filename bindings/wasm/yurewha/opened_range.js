@@ -98,19 +98,18 @@ export function makeOpenedRange(library) {
         }
 
         checking() {
-            const count = this.numChunks;
             const pieces = new Pieces();
             let next = 0;
+            /** The length of the next chunk, or null after the last one. */
+            let length = this.#lengthOf(next);
             /** Passes on each chunk that is there. */
             const pass = (controller) => {
-                for (; next < count; next++) {
-                    const length = this.ends(next) - this.begins(next);
-                    if (length > BigInt(pieces.length)) return;
-                    const data = pieces.take(Number(length));
+                for (; length !== null && length <= pieces.length; length = this.#lengthOf(++next)) {
+                    const data = pieces.take(length);
                     if (this.check(next, data) === null) throw new ProofMismatch(`the data of chunk ${next} of the range isn't the file's`);
                     if (data.length > 0) controller.enqueue(data);
                 }
-                if (pieces.length > 0) throw new ProofMismatch("there is more data than that of the range");
+                if (length === null && pieces.length > 0) throw new ProofMismatch("there is more data than that of the range");
             };
             return new TransformStream({
                 transform(piece, controller) {
@@ -119,13 +118,18 @@ export function makeOpenedRange(library) {
                 },
                 flush(controller) {
                     pass(controller);
-                    if (next < count) throw new ProofMismatch(`the data ends before chunk ${next} of the range is whole`);
+                    if (length !== null) throw new ProofMismatch(`the data ends before chunk ${next} of the range is whole`);
                 },
             });
         }
 
         free() {
             this.#handle.free();
+        }
+
+        #lengthOf(chunk) {
+            const places = this.#bytesOf(chunk);
+            return places && Number(places[1] - places[0]);
         }
 
         /** A number that a call writes. */
