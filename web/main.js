@@ -1,8 +1,9 @@
-// Loads the module and starts both tabs.
+// Loads the module and starts the tabs.
 
 import { Files } from "./files.js";
 import { Merging } from "./merging.js";
 import { loaded } from "./package.js";
+import { Parts } from "./parts.js";
 
 /** Runs something, shows the message of what it throws, and returns whether it threw nothing. */
 function report(run) {
@@ -43,7 +44,10 @@ startTabs();
 new Files(report);
 try {
     const yurewha = await loaded();
-    report(() => new Merging(yurewha, report));
+    report(() => {
+        new Merging(yurewha, report);
+        new Parts(yurewha, report);
+    });
 } catch (error) {
     report(() => {
         throw error;

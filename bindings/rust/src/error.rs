@@ -1,8 +1,9 @@
-//! The errors of calls on lists of chunks and on subtrees.
+//! The errors of calls on lists of chunks, on subtrees and on range proofs.
 
 use crate::ffi;
 use crate::status::{Refusal, StatusText};
 use std::fmt;
+use std::ops::RangeInclusive;
 
 /// Why a call failed. After a failure everything that was lent to the call is unchanged.
 ///
@@ -20,7 +21,7 @@ use std::fmt;
 /// # use yurewha::error::CoreError;
 /// fn is_of_a_text(error: CoreError) -> bool {
 ///     match error {
-///         CoreError::InvalidText | CoreError::InvalidJson(_) => true,
+///         CoreError::InvalidText | CoreError::InvalidJson(_) | CoreError::InvalidProofJson(_) => true,
 ///         CoreError::InvalidArguments | CoreError::SizeOverflow | CoreError::OutOfMemory => false,
 ///     }
 /// }
@@ -30,6 +31,7 @@ use std::fmt;
 pub enum CoreError {
     /// A range other than the last is marked at its end, or one other than the first at its start. For a session, a
     /// run that is [pushed](crate::own::Session::push_run) has no position or leaves no gap, or its subtree is marked.
+    /// For a range proof, the list doesn't have these chunks.
     InvalidArguments,
     /// The sizes of all nodes add up to more than `u64::MAX` bytes.
     SizeOverflow,
@@ -43,6 +45,9 @@ pub enum CoreError {
     /// Rule 9 is broken by about half of the subtrees that `xet-core-structures` saves after it has merged a range that
     /// is marked at its start with the next one. Make such a subtree anew from the list of its chunks.
     InvalidJson(u8),
+    /// A value doesn't describe a range proof. The number is the lowest rule, from 1 to 8, that the value breaks.
+    /// [`from_json`](crate::own::RangeProof::from_json) lists the rules.
+    InvalidProofJson(u8),
 }
 
 /// The result of a call, or why it failed.
@@ -56,6 +61,7 @@ impl fmt::Display for CoreError {
             CoreError::OutOfMemory => f.write_str("out of memory"),
             CoreError::InvalidText => f.write_str("invalid text"),
             CoreError::InvalidJson(rule) => write!(f, "invalid JSON: {}", BrokenRule(*rule)),
+            CoreError::InvalidProofJson(rule) => write!(f, "invalid JSON: {}", BrokenProofRule(*rule)),
         }
     }
 }
@@ -82,6 +88,18 @@ impl fmt::Display for BrokenRule {
 const OF_MERGES_FROM_THE_START: &str = ". xet-core-structures leaves some when it merges from the start; make the \
     subtree anew from the list of its chunks";
 
+/// The text of a rule of range proofs that a value breaks.
+pub(crate) struct BrokenProofRule(pub(crate) u8);
+
+impl fmt::Display for BrokenProofRule {
+    fn fmt(&self, f: &mut fmt::Formatter<'_>) -> fmt::Result {
+        match self.0 {
+            1..=8 => write!(f, "{}", StatusText::of(ffi::YUREWHA_PROOF_RULE + u32::from(self.0))),
+            other => write!(f, "rule {other}"),
+        }
+    }
+}
+
 impl Refusal for CoreError {
     fn of(status: ffi::yurewha_status) -> Option<Self> {
         match status {
@@ -89,15 +107,19 @@ impl Refusal for CoreError {
             ffi::YUREWHA_SIZES => Some(CoreError::SizeOverflow),
             ffi::YUREWHA_MEMORY => Some(CoreError::OutOfMemory),
             ffi::YUREWHA_TEXT => Some(CoreError::InvalidText),
-            _ => rule_of(status).map(CoreError::InvalidJson),
+            _ => broken_rule(status),
         }
     }
 }
 
-// The rule of a status.
-fn rule_of(status: ffi::yurewha_status) -> Option<u8> {
-    let rule = u8::try_from(status.checked_sub(ffi::YUREWHA_RULE)?).ok()?;
-    (1..=13).contains(&rule).then_some(rule)
+// The error of a status that names a broken rule.
+fn broken_rule(status: ffi::yurewha_status) -> Option<CoreError> {
+    let rule_from = |first: u32, rules: RangeInclusive<u8>| {
+        let rule = u8::try_from(status.checked_sub(first)?).ok()?;
+        rules.contains(&rule).then_some(rule)
+    };
+    let of_subtree = rule_from(ffi::YUREWHA_RULE, 1..=13).map(CoreError::InvalidJson);
+    of_subtree.or_else(|| rule_from(ffi::YUREWHA_PROOF_RULE, 1..=8).map(CoreError::InvalidProofJson))
 }
 
 #[cfg(test)]
@@ -113,7 +135,11 @@ mod tests {
             (ffi::YUREWHA_TEXT, CoreError::InvalidText),
         ];
         let rules = (1..=13).map(|rule| (ffi::YUREWHA_RULE + u32::from(rule), CoreError::InvalidJson(rule)));
-        for (status, error) in errors.into_iter().chain(rules) {
+        let of_proofs = [1, 2, 3, 4, 5, 6, 7, 8].map(|rule| {
+            let status = ffi::YUREWHA_PROOF_RULE + u32::from(rule);
+            (status, CoreError::InvalidProofJson(rule))
+        });
+        for (status, error) in errors.into_iter().chain(rules).chain(of_proofs) {
             assert_eq!(CoreError::of(status), Some(error));
         }
     }
@@ -127,6 +153,14 @@ mod tests {
             assert_eq!(error.contains("make the subtree anew"), rule == 9, "{error}");
         }
         assert_eq!(CoreError::InvalidJson(14).to_string(), "invalid JSON: rule 14");
+        for rule in 1..=8 {
+            let error = CoreError::InvalidProofJson(rule).to_string();
+            assert!(error.starts_with(&format!("invalid JSON: rule {rule}: ")), "{error}");
+        }
+        for rule in [0, 9] {
+            let error = CoreError::InvalidProofJson(rule).to_string();
+            assert_eq!(error, format!("invalid JSON: rule {rule}"));
+        }
     }
 
     #[test]
@@ -135,9 +169,12 @@ mod tests {
             ffi::YUREWHA_DONE,
             ffi::YUREWHA_ROOM,
             ffi::YUREWHA_EMPTY_HANDLE,
+            ffi::YUREWHA_MISMATCH,
             15,
             16,
             30,
+            48,
+            57,
             u32::MAX,
         ];
         for status in others

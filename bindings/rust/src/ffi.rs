@@ -98,6 +98,20 @@ impl Default for yurewha_session {
     }
 }
 
+impl Default for yurewha_hash_tree {
+    // The empty handle.
+    fn default() -> Self {
+        yurewha_hash_tree { at: ptr::null_mut() }
+    }
+}
+
+impl Default for yurewha_opened_range {
+    // The empty handle.
+    fn default() -> Self {
+        yurewha_opened_range { at: ptr::null_mut() }
+    }
+}
+
 const fn assert_layout<T>(size: usize, align: usize) {
     assert!(size_of::<T>() == size && align_of::<T>() == align);
 }
@@ -110,6 +124,8 @@ const _: () = {
     assert_layout::<yurewha_hasher>(2048, 8);
     assert_layout::<yurewha_subtree>(size_of::<usize>(), align_of::<usize>());
     assert_layout::<yurewha_session>(size_of::<usize>(), align_of::<usize>());
+    assert_layout::<yurewha_hash_tree>(size_of::<usize>(), align_of::<usize>());
+    assert_layout::<yurewha_opened_range>(size_of::<usize>(), align_of::<usize>());
 };
 
 extern "C" {

@@ -18,12 +18,26 @@ impl Handle for ffi::yurewha_session {
     const FREE: unsafe extern "C" fn(*mut Self) = ffi::yurewha_session_free;
 }
 
+impl Handle for ffi::yurewha_hash_tree {
+    const FREE: unsafe extern "C" fn(*mut Self) = ffi::yurewha_hash_tree_free;
+}
+
+impl Handle for ffi::yurewha_opened_range {
+    const FREE: unsafe extern "C" fn(*mut Self) = ffi::yurewha_opened_range_free;
+}
+
 // SAFETY: a handle is a pointer to memory of `malloc` that only one value owns. Nothing of the library is bound to a
 // thread, and any thread may call `free`.
 unsafe impl Send for ffi::yurewha_subtree {}
 
 // SAFETY: as above.
 unsafe impl Send for ffi::yurewha_session {}
+
+// SAFETY: as above.
+unsafe impl Send for ffi::yurewha_hash_tree {}
+
+// SAFETY: as above.
+unsafe impl Send for ffi::yurewha_opened_range {}
 
 /// A handle with one owner, which frees it.
 ///

@@ -37,6 +37,13 @@ pub(crate) fn room<T>(count: usize) -> Result<Vec<T>> {
     Ok(room)
 }
 
+/// A vector of `count` default values.
+pub(crate) fn zeros<T: Clone + Default>(count: usize) -> Result<Vec<T>> {
+    let mut zeros = room(count)?;
+    zeros.resize(count, T::default());
+    Ok(zeros)
+}
+
 /// A pair as a chunk.
 pub(crate) fn chunk_of((hash, size): Node) -> yurewha_chunk {
     let hash = yurewha_hash { words: *hash };

@@ -92,6 +92,18 @@ pub(crate) fn told_if_there<T: Default>(call: impl FnOnce(&mut T) -> ffi::yurewh
     there.then_some(answer)
 }
 
+/// What a call writes to its out parameter, or `None` if it refuses the data that it is given. It can't fail otherwise.
+pub(crate) fn told_if_shown<T: Default>(call: impl FnOnce(&mut T) -> ffi::yurewha_status) -> Option<T> {
+    let mut answer = T::default();
+    match call(&mut answer) {
+        ffi::YUREWHA_MISMATCH => None,
+        status => {
+            done(status).unwrap_or_else(refused_question);
+            Some(answer)
+        }
+    }
+}
+
 // Panics, because a call that can't fail did.
 fn refused_question<T>(error: CoreError) -> T {
     panic!("yurewha refused a question: {error}")
@@ -130,6 +142,8 @@ mod tests {
         assert_eq!(told(seven(ffi::YUREWHA_DONE)), 7);
         assert_eq!(told_if_there(seven(ffi::YUREWHA_DONE)), Some(7));
         assert_eq!(told_if_there(seven(ffi::YUREWHA_ARGUMENTS)), None);
+        assert_eq!(told_if_shown(seven(ffi::YUREWHA_DONE)), Some(7));
+        assert_eq!(told_if_shown(seven(ffi::YUREWHA_MISMATCH)), None);
     }
 
     #[test]

@@ -17,7 +17,7 @@ use yurewha::merklehash::{
 };
 use yurewha::own::{
     self, try_file_hash, try_file_hash_with_salt, try_find_stable_end, try_find_stable_start, try_xorb_hash,
-    HashTextError, Node, Session, SessionFault,
+    HashTextError, HashTree, Node, OpenError, OpenFault, OpenedRange, RangeProof, Session, SessionFault,
 };
 
 extern "C" {
@@ -170,6 +170,45 @@ fn debug_output_is_refused() {
     });
 }
 
+#[test]
+fn range_proofs_are_refused() {
+    let nodes = nodes(60);
+    assert_each_refusal(NO_MEMORY, || RangeProof::from_chunks(&nodes, 20..30));
+    assert_each_refusal(NO_MEMORY, || HashTree::from_chunks(&nodes));
+    let tree = HashTree::from_chunks(&nodes).unwrap();
+    assert_each_refusal(NO_MEMORY, || tree.proof(20..30));
+    let proof = tree.proof(20..30).unwrap();
+    assert_each_refusal(NO_MEMORY, || proof.try_clone());
+    assert_each_refusal(NO_MEMORY, || proof.to_json());
+    let text = proof.to_json().unwrap();
+    assert_each_refusal(NO_MEMORY, || RangeProof::from_json(&text));
+    assert_eq!(RangeProof::from_json(&text).as_ref(), Ok(&proof));
+    // The proof comes back, so that it can be tried again.
+    type Open = fn(RangeProof, &DataHash) -> Result<OpenedRange, OpenError>;
+    let calls: [(Open, DataHash); 2] = [
+        (RangeProof::open, tree.file_hash()),
+        (RangeProof::open_root, tree.root()),
+    ];
+    for (open, hash) in calls {
+        let mut kept = proof.clone();
+        for before in 0.. {
+            match with_refusal(before, || open(kept, &hash)) {
+                (Err(OpenError { proof, fault }), true) => {
+                    assert_eq!(fault, OpenFault::OutOfMemory);
+                    kept = proof;
+                }
+                (answer, refused) => {
+                    assert_eq!(
+                        (answer.unwrap().begins(0), refused, before > 0),
+                        (Some(20), false, true)
+                    );
+                    break;
+                }
+            }
+        }
+    }
+}
+
 #[cfg(feature = "serde")]
 #[test]
 fn forms_of_serde_are_refused() {
@@ -206,6 +245,12 @@ fn forms_of_serde_are_refused() {
     });
     assert_each_refusal(true, || {
         bincode::serialize_into(std::io::sink(), &session).map_err(is_no_memory)
+    });
+    let proof = RangeProof::from_chunks(&nodes(60), 20..30).unwrap();
+    let (json, binary) = (proof.to_json().unwrap(), bincode::serialize(&proof).unwrap());
+    assert_each_refusal(true, || serde_json::from_str::<RangeProof>(&json).map_err(is_no_memory));
+    assert_each_refusal(true, || {
+        bincode::deserialize::<RangeProof>(&binary).map_err(is_no_memory)
     });
     assert_each_refusal(true, || serde_json::from_str::<Session>(&text).map_err(is_no_memory));
     assert_each_refusal(true, || bincode::deserialize::<Session>(&bytes).map_err(is_no_memory));
@@ -287,6 +332,10 @@ fn a_value_that_is_dropped_frees_its_memory() {
         session.put(10, &nodes[10..]).unwrap();
         session.put(0, &nodes[..10]).unwrap();
         assert_eq!(session.clone().runs().count(), 1);
+        let tree = HashTree::from_chunks(&nodes).unwrap();
+        let proof = tree.proof(7..9).unwrap();
+        assert!(proof.clone().open_root(&DataHash::marker()).is_err());
+        assert_eq!(proof.open_root(&tree.root()).unwrap().num_chunks(), 2);
         assert_eq!(session.finish(60), Ok(file_hash(&nodes)));
     });
     assert_eq!(left, 0);
@@ -342,6 +391,8 @@ fn calls_without_a_result_name_call_and_cause_in_a_panic() {
     assert_eq!(panic_of(|| session.range(0)), "Session::range: out of memory");
     assert_eq!(panic_of(|| session.run_from(0)), "Session::run_from: out of memory");
     assert_eq!(panic_of(|| session.clone()), "Session::clone: out of memory");
+    let proof = RangeProof::from_chunks(&nodes, 20..30).unwrap();
+    assert_eq!(panic_of(|| proof.clone()), "RangeProof::clone: out of memory");
 }
 
 #[test]
@@ -351,6 +402,12 @@ fn other_calls_take_no_memory() {
     let copy = subtree.clone();
     let mut session = Session::new();
     session.put(0, &nodes).unwrap();
+    let (tree, xorb_root) = (HashTree::from_chunks(&nodes).unwrap(), xorb_hash(&nodes));
+    let chunks = [&b"a chunk"[..], b"another", b"and a third"].map(|data| (compute_data_hash(data), data.len() as u64));
+    let range = RangeProof::from_chunks(&chunks, 1..2)
+        .unwrap()
+        .open(&file_hash(&chunks))
+        .unwrap();
     let text = DataHash::marker().hex();
     let taken = requests(|| {
         let hash = DataHash::random_from_seed(1);
@@ -370,6 +427,11 @@ fn other_calls_take_no_memory() {
         assert!(session.num_chunks() == 60 && subtree.file_hash() != subtree.file_hash_with_salt(&bytes));
         assert!(find_stable_start(&nodes) <= find_stable_end(&nodes));
         assert!(try_find_stable_start(&nodes).is_ok() && try_find_stable_end(&nodes).is_ok());
+        assert!(tree.root() == xorb_root && tree.file_hash() != tree.file_hash_with_salt(&bytes));
+        assert!(tree.chunks_at(7..9) == Some(7..9) && tree.bytes_of(7..9) == Some(7..9) && tree.num_chunks() == 60);
+        assert!(range.begins(0) == Some(7) && range.ends(0) == Some(14) && range.file_size() == 25);
+        assert!(range.check(0, b"another") == Some(7) && range.check(0, b"a chunk").is_none());
+        assert!(range.read(8..10, b"another").is_some() && range.num_chunks() == 1 && range.proof().num_levels() == 1);
     });
     assert_eq!(taken, 0);
 }

@@ -1,12 +1,13 @@
 //! The test vectors of the repository's folder `vectors`, through the crate.
 
-use serde_json::Value;
+use serde_json::{json, Value};
 use std::fs;
 use std::path::Path;
 use yurewha::error::CoreError;
 use yurewha::merklehash::{compute_data_hash, compute_internal_node_hash, DataHash, MerkleHashSubtree};
 use yurewha::merklehash::{find_stable_end, find_stable_start, xorb_hash};
 use yurewha::own::{try_file_hash, try_file_hash_with_salt, try_xorb_hash, Hasher, Node, Session, SessionFault};
+use yurewha::own::{HashTree, OpenFault, OpenedRange, RangeProof};
 
 // Every member that is asked for is there, or the test fails.
 fn text<'a>(it: &'a Value, name: &str) -> &'a str {
@@ -48,11 +49,15 @@ fn hash(it: &Value, name: &str) -> DataHash {
     DataHash::from_hex(text(it, name)).unwrap()
 }
 
-// 32 bytes by their hex digits, in order.
+// Bytes by their hex digits, in order.
+fn unhex(digits: &str) -> Vec<u8> {
+    let pair = |at| u8::from_str_radix(&digits[at..at + 2], 16).unwrap();
+    (0..digits.len()).step_by(2).map(pair).collect()
+}
+
+// 32 of them.
 fn bytes(it: &Value, name: &str) -> [u8; 32] {
-    let digits = text(it, name);
-    assert_eq!(digits.len(), 64);
-    std::array::from_fn(|i| u8::from_str_radix(&digits[2 * i..2 * i + 2], 16).unwrap())
+    unhex(text(it, name)).try_into().unwrap()
 }
 
 fn message(length: usize) -> Vec<u8> {
@@ -85,8 +90,41 @@ fn chunks(said: &Value) -> Vec<Node> {
             .map(|seed| of_seed(seed.parse().unwrap()))
             .collect();
     }
+    if said["counted"].is_object() {
+        let every = count(&said["counted"], "cutEvery");
+        let node = |i: usize| {
+            let is_cut = every > 0 && i % every == every - 1;
+            (DataHash::from([i as u64, 0, 0, u64::from(!is_cut)]), 1)
+        };
+        return (0..count(&said["counted"], "count")).map(node).collect();
+    }
+    if said["numbers"].is_object() || said["chunkBytes"].is_array() {
+        let node = |data: &Vec<u8>| (compute_data_hash(data), data.len() as u64);
+        return data_of(said).iter().map(node).collect();
+    }
+    nodes(said, "nodes")
+}
+
+fn nodes(it: &Value, name: &str) -> Vec<Node> {
     let node = |it: &Value| (hash(it, "hash"), number(it, "size"));
-    array(said, "nodes").iter().map(node).collect()
+    array(it, name).iter().map(node).collect()
+}
+
+// The data of the chunks that a rule tells.
+fn data_of(said: &Value) -> Vec<Vec<u8>> {
+    if said["chunkBytes"].is_array() {
+        return texts(said, "chunkBytes").map(unhex).collect();
+    }
+    let rule = &said["numbers"];
+    let lengths: Vec<usize> = array(rule, "lengths")
+        .iter()
+        .map(|it| it.as_u64().unwrap() as usize)
+        .collect();
+    let data = |i: usize| {
+        let number = format!("{} ", count(rule, "first") + i);
+        number.bytes().cycle().take(lengths[i % lengths.len()]).collect()
+    };
+    (0..count(rule, "count")).map(data).collect()
 }
 
 fn subtree(it: &Value) -> Result<MerkleHashSubtree, CoreError> {
@@ -241,6 +279,193 @@ fn root_steps(it: &Value) {
     assert_eq!(nodes.iter().map(|node| node.0).collect::<Vec<_>>(), [hash(it, "root")]);
 }
 
+fn place(it: &Value) -> u64 {
+    it.as_str().unwrap().parse().unwrap()
+}
+
+fn hash_tree(it: &Value) {
+    let chunks = chunks(&it["list"]);
+    let tree = HashTree::from_chunks(&chunks);
+    if !is_valid(it) {
+        assert_eq!(tree.unwrap_err(), error(it));
+        return;
+    }
+    let tree = tree.unwrap();
+    assert_eq!(
+        (tree.root(), tree.file_hash()),
+        (hash(it, "root"), hash(it, "fileHash"))
+    );
+    assert_eq!(
+        (tree.num_chunks(), tree.total_size()),
+        (chunks.len(), number(it, "totalSize"))
+    );
+    for row in it["salted"].as_array().into_iter().flatten() {
+        assert_eq!(
+            tree.file_hash_with_salt(&bytes(row, "saltBytes")),
+            hash(row, "fileHash")
+        );
+    }
+    for row in array(it, "chunksAt") {
+        let wanted = row["chunks"].as_array().map(|range| {
+            let [first, end] = [0, 1].map(|k| range[k].as_u64().unwrap() as usize);
+            first..end
+        });
+        assert_eq!(
+            tree.chunks_at(number(row, "start")..number(row, "stop")),
+            wanted,
+            "{row}"
+        );
+    }
+    for row in array(it, "bytesOf") {
+        let wanted = row["bytes"].as_array().map(|range| place(&range[0])..place(&range[1]));
+        assert_eq!(tree.bytes_of(count(row, "first")..count(row, "end")), wanted, "{row}");
+    }
+    for row in array(it, "proofs") {
+        let range = count(row, "first")..count(row, "end");
+        let proof = tree.proof(range.clone()).unwrap();
+        assert_eq!(RangeProof::from_chunks(&chunks, range.clone()).as_ref(), Ok(&proof));
+        check_proof(&proof, row, &chunks[range]);
+        let by_root = proof.clone().open_root(&tree.root());
+        check_places(&proof.open(&tree.file_hash()).unwrap(), row, tree.total_size());
+        // The default hash may be the root of one chunk, but opens nothing.
+        match by_root {
+            Ok(range) => check_places(&range, row, tree.total_size()),
+            Err(error) => assert_eq!((error.fault, tree.root()), (OpenFault::Mismatch, DataHash::default())),
+        }
+    }
+}
+
+// The lines of a list, which the hash of a flat list is of.
+fn lines(nodes: &[Node]) -> String {
+    nodes.iter().map(|(hash, size)| format!("{hash} : {size}\n")).collect()
+}
+
+fn check_proof(proof: &RangeProof, it: &Value, chunks: &[Node]) {
+    let levels = 0..proof.num_levels();
+    let counts = levels
+        .clone()
+        .map(|level| json!([proof.left(level).len(), proof.right(level).len()]));
+    assert_eq!(Value::from_iter(counts), it["levels"]);
+    assert_eq!(proof.chunks(), chunks);
+    let lefts: Vec<_> = levels.clone().map(|level| proof.left(level)).collect();
+    let rights: Vec<_> = levels.rev().map(|level| proof.right(level)).collect();
+    let flat = [lefts.concat(), chunks.to_vec(), rights.concat()].concat();
+    assert_eq!(compute_data_hash(lines(&flat).as_bytes()), hash(it, "flatHash"));
+    if it["flatNodes"].is_array() {
+        assert_eq!(flat, nodes(it, "flatNodes"));
+    }
+    let json = proof.to_json().unwrap();
+    assert_eq!(compute_data_hash(json.as_bytes()), hash(it, "jsonHash"));
+    if let Some(wanted) = it["json"].as_str() {
+        assert_eq!(json, wanted);
+    }
+    assert_eq!(RangeProof::from_json(&json).as_ref(), Ok(proof));
+}
+
+fn check_places(range: &OpenedRange, it: &Value, file_size: u64) {
+    let places: Vec<u64> = array(it, "places").iter().map(place).collect();
+    assert_eq!((range.file_size(), range.num_chunks()), (file_size, places.len() - 1));
+    for (k, ends) in places.windows(2).enumerate() {
+        assert_eq!((range.begins(k), range.ends(k)), (Some(ends[0]), Some(ends[1])));
+    }
+    assert_eq!(
+        (range.begins(places.len() - 1), range.ends(places.len() - 1)),
+        (None, None)
+    );
+}
+
+fn proof_refused(it: &Value) {
+    let chunks = chunks(&it["list"]);
+    let range = count(it, "first")..count(it, "end");
+    assert_eq!(RangeProof::from_chunks(&chunks, range.clone()), Err(error(it)));
+    // A tree is refused for its sizes alone.
+    if let Ok(tree) = HashTree::from_chunks(&chunks) {
+        assert_eq!(tree.proof(range), Err(error(it)));
+    }
+}
+
+fn open_proof(it: &Value) {
+    let proof = RangeProof::from_json(text(it, "text")).unwrap();
+    let given = proof.clone();
+    let opened = match it["root"].is_string() {
+        true => given.open_root(&hash(it, "root")),
+        false => given.open_with_salt(&hash(it, "fileHash"), &bytes(it, "saltBytes")),
+    };
+    if !is_valid(it) {
+        assert_eq!(text(it, "error"), "Mismatch");
+        let error = opened.unwrap_err();
+        assert_eq!((error.fault, error.proof), (OpenFault::Mismatch, proof));
+        return;
+    }
+    let range = opened.unwrap();
+    check_places(&range, it, number(it, "fileSize"));
+    for row in array(it, "checks") {
+        let wanted = row["place"].as_str().map(|place| place.parse().unwrap());
+        let data = unhex(text(row, "dataBytes"));
+        assert_eq!(range.check(count(row, "number"), &data), wanted, "{row}");
+    }
+    for row in array(it, "reads") {
+        let (data, wanted) = (unhex(text(row, "dataBytes")), row["readBytes"].as_str().map(unhex));
+        let found = range.read(number(row, "start")..number(row, "stop"), &data);
+        assert_eq!(found, wanted.as_deref(), "{row}");
+    }
+}
+
+fn proof_error(it: &Value) -> CoreError {
+    match error(it) {
+        CoreError::InvalidJson(rule) => CoreError::InvalidProofJson(rule),
+        other => other,
+    }
+}
+
+fn proof_json(it: &Value) {
+    let given = text(it, "text");
+    let found = RangeProof::from_json(given);
+    if is_valid(it) {
+        let written = it["written"].as_str().unwrap_or(given);
+        assert_eq!(found.unwrap().to_json().as_deref(), Ok(written));
+    } else {
+        assert_eq!(found, Err(proof_error(it)));
+    }
+}
+
+// The crate has no flat form. Of lists whose counts fit, the JSON text and the bytes of bincode are read instead.
+fn flat_proof(it: &Value) {
+    let counts: Vec<[u128; 2]> = array(it, "levels")
+        .iter()
+        .map(|level| [0, 1].map(|side| level[side].as_str().unwrap().parse().unwrap()))
+        .collect();
+    let nodes = nodes(it, "nodes");
+    if counts.iter().flatten().sum::<u128>() > nodes.len() as u128 {
+        assert_eq!(proof_error(it), CoreError::InvalidProofJson(5));
+        return;
+    }
+    let (mut rest, mut levels) = (&nodes[..], Vec::new());
+    for [left, right] in counts {
+        let (lefts, after) = rest.split_at(left as usize);
+        let (inner, rights) = after.split_at(after.len() - right as usize);
+        levels.push((lefts.to_vec(), rights.to_vec()));
+        rest = inner;
+    }
+    let object = |node: &Node| json!({"hash": node.0.hex(), "size": node.1});
+    let objects = |nodes: &[Node]| Value::from_iter(nodes.iter().map(object));
+    let sides = levels
+        .iter()
+        .map(|(left, right)| json!({"left": objects(left), "right": objects(right)}));
+    let json = json!({"chunks": objects(rest), "levels": Value::from_iter(sides)}).to_string();
+    let found = RangeProof::from_json(&json);
+    if is_valid(it) {
+        assert_eq!(found.as_ref().unwrap().to_json().as_deref(), Ok(text(it, "json")));
+    } else {
+        assert_eq!(found, Err(proof_error(it)));
+    }
+    #[cfg(feature = "serde")]
+    {
+        let bytes = bincode::serialize(&(rest, levels)).unwrap();
+        assert_eq!(bincode::deserialize::<RangeProof>(&bytes).ok(), found.ok());
+    }
+}
+
 fn stable_points(it: &Value) {
     let chunks = chunks(&it["list"]);
     let points = [find_stable_start(&chunks), find_stable_end(&chunks)];
@@ -360,6 +585,11 @@ fn check(group: &Value, it: &Value) {
         "Bracketing" => bracketing(group, it),
         "SubtreeJson" => subtree_json(it),
         "Session" => session(it),
+        "HashTree" => hash_tree(it),
+        "ProofRefused" => proof_refused(it),
+        "OpenProof" => open_proof(it),
+        "ProofJson" => proof_json(it),
+        "FlatProof" => flat_proof(it),
         other => panic!("the type {other}"),
     }
 }
@@ -412,6 +642,11 @@ fn texts_of_subtrees() {
 #[test]
 fn sessions() {
     check_file("sessions.json");
+}
+
+#[test]
+fn proofs_of_parts_of_files() {
+    check_file("range_proofs.json");
 }
 
 #[test]

@@ -49,7 +49,7 @@ test("an error has its name in a minified bundle too", async () => {
     bundled("names.mjs", "--platform=browser");
     const made = await import(pathToFileURL(join(folder, "names.mjs")));
     const kinds = Object.keys(errors).filter((name) => name !== "load");
-    assert.equal(kinds.length, 13);
+    assert.equal(kinds.length, 14);
     for (const name of kinds) {
         const error = name === "InvalidJson" ? new made[name](1) : new made[name]("a message");
         assert.deepEqual([error.name, `${error}`], [name, `${name}: ${error.message}`]);

@@ -7,7 +7,7 @@ import { Readable } from "node:stream";
 import { test } from "node:test";
 import { fileURLToPath } from "node:url";
 import * as errors from "../yurewha/index.js";
-import { STATUS, errorOf } from "../yurewha/errors.js";
+import { PROOF_RULES, STATUS, errorOf } from "../yurewha/errors.js";
 import { AREA } from "../yurewha/library.js";
 import { BYTES, ROOT, chunksOf, loadAll } from "./support.js";
 
@@ -142,6 +142,7 @@ test("each status of the header has its error", () => {
         MEMORY: "OutOfMemory",
         TEXT: "InvalidText",
         EMPTY_HANDLE: "EmptyHandle",
+        MISMATCH: "ProofMismatch",
         SESSION_OVERLAP: "SessionOverlap",
         SESSION_POSITIONS: "SessionPositions",
         SESSION_GAP: "SessionGap",
@@ -156,7 +157,13 @@ test("each status of the header has its error", () => {
         const error = errorOf(STATUS.RULE + rule);
         assert.ok(error instanceof errors.InvalidJson && error.rule === rule && error.message.startsWith(`rule ${rule}: `));
     }
-    assert.equal(errorOf(99).name, "YurewhaError");
+    for (let rule = 1; rule <= PROOF_RULES.length; rule++) {
+        const error = errorOf(STATUS.PROOF_RULE + rule);
+        assert.ok(error instanceof errors.InvalidJson && error.rule === rule && error.message === `rule ${rule}: ${PROOF_RULES[rule - 1]}`);
+    }
+    for (const status of [99, STATUS.RULE, STATUS.RULE + 14, STATUS.PROOF_RULE, STATUS.PROOF_RULE + 9]) {
+        assert.equal(errorOf(status).name, "YurewhaError");
+    }
 });
 
 test("a hash has its texts, also in JSON, and doesn't change", () => {
@@ -459,8 +466,8 @@ test("each declared name is there, and each that is there is declared", () => {
     };
     const own = (it) => Object.getOwnPropertyNames(it);
     assert.deepEqual(own(y).sort(), members("Yurewha").sort());
-    for (const name of ["Hash", "Chunks", "Hasher", "Subtree", "Session"]) {
-        const freed = name === "Subtree" || name === "Session" ? ["free"] : [];
+    for (const name of ["Hash", "Chunks", "Hasher", "Subtree", "Session", "HashTree", "RangeProof", "OpenedRange"]) {
+        const freed = ["Subtree", "Session", "HashTree", "OpenedRange"].includes(name) ? ["free"] : [];
         assert.deepEqual(own(y[name].prototype).filter((it) => it !== "constructor").sort(), [...members(name), ...freed].sort());
         const statics = own(y[name]).filter((it) => !["length", "name", "prototype"].includes(it));
         assert.deepEqual(statics.sort(), members(`${name}Constructor`).filter((it) => it !== "prototype").sort());

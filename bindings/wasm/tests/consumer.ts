@@ -6,6 +6,7 @@ import {
     InvalidJson,
     InvalidText,
     OutOfMemory,
+    ProofMismatch,
     SessionError,
     SessionGap,
     SessionOverlap,
@@ -21,11 +22,19 @@ import {
     type ChunksConstructor,
     type Flat,
     type FlatInput,
+    type FlatProof,
+    type FlatProofInput,
     type Freed,
     type Hash,
     type HashConstructor,
+    type HashTree,
+    type HashTreeConstructor,
     type Hasher,
     type HasherConstructor,
+    type OpenedRange,
+    type OpenedRangeConstructor,
+    type RangeProof,
+    type RangeProofConstructor,
     type Run,
     type SavedSession,
     type Session,
@@ -41,6 +50,7 @@ const y: Yurewha = await load();
 const classes: [HashConstructor, ChunksConstructor, HasherConstructor, SubtreeConstructor, SessionConstructor] = [
     y.Hash, y.Chunks, y.Hasher, y.Subtree, y.Session,
 ];
+const provers: [HashTreeConstructor, RangeProofConstructor, OpenedRangeConstructor] = [y.HashTree, y.RangeProof, y.OpenedRange];
 const data = new TextEncoder().encode("a chunk");
 const hash: Hash = y.dataHash(data);
 const other: Hash = new y.Hash(hash.bytes);
@@ -90,6 +100,22 @@ restored.keepHashes(session.knownHashes());
 const form: SavedSession = restored.saved;
 const again: Session = y.Session.restore(JSON.parse(JSON.stringify(form)) as SavedSession).clone();
 const taken: boolean = again.taken(1) && session.numRuns === 1;
+const tree: HashTree = y.HashTree.fromChunks(pairs);
+const [place, after]: [number, number] = tree.chunksAt(0, 5n)!;
+const bytesOf: [bigint, bigint] | null = tree.bytesOf(place, after);
+const proof: RangeProof = tree.proof(place, BigInt(after));
+const sides: [Chunks, Chunks, number] = [proof.left(0), proof.right(0n), proof.numLevels];
+const flatProof: FlatProof = proof.toFlat();
+const proofInput: FlatProofInput = { ...flatProof, levels: [[0n, 1]] };
+const proofs: RangeProof[] = [
+    y.RangeProof.fromChunks(chunks, 0, 1), y.RangeProof.fromJSON(proof.toJSON()), new y.RangeProof(proof.bytes), y.RangeProof.fromFlat(proofInput),
+];
+const opened: OpenedRange = proof.open(y.fileHash(pairs));
+const byRoot: OpenedRange = proofs[0]!.openRoot(tree.root);
+const places: (bigint | null)[] = [opened.begins(0), opened.ends(0n), opened.check(0, data), opened.fileSize];
+const part: Uint8Array | null = opened.read(1, 3n, data);
+const checked: string[] = [];
+for await (const it of new Blob([data]).stream().pipeThrough(opened.checking()) as unknown as AsyncIterable<Uint8Array>) checked.push(new TextDecoder().decode(it));
 const point: number | null = y.findStableStart(chunks) ?? y.findStableEnd(lists[0]!);
 const freed: Freed[] = [again, back];
 
@@ -104,6 +130,11 @@ try {
     session.put(1n, pairs);
 } catch (error) {
     if (!(error instanceof SessionOverlap)) throw error;
+}
+try {
+    proof.open(root);
+} catch (error) {
+    if (!(error instanceof ProofMismatch)) throw error;
 }
 const kinds: (typeof YurewhaError)[] = [
     InvalidArguments, SizeOverflow, OutOfMemory, InvalidText, Trapped, SessionError, SessionPositions, SessionSizes, SessionGap,
@@ -351,6 +382,46 @@ export async function refused(): Promise<void> {
     y.Session.restore({ runs: [[0, 1, "{}"]], knownHashes: [] });
     // @ts-expect-error a form can't be changed
     form.knownHashes[0] = "00";
+    // @ts-expect-error a proof of one number
+    y.RangeProof.fromChunks(chunks, 0);
+    // @ts-expect-error a range has two numbers
+    tree.proof([0, 1]);
+    // @ts-expect-error there may be no such chunks
+    const [begin, stop] = tree.chunksAt(0, 1);
+    // @ts-expect-error places are BigInts
+    const ends: [number, number] | null = tree.bytesOf(0, 1);
+    // @ts-expect-error a root isn't a call
+    tree.root();
+    // @ts-expect-error a file hash is a call
+    tree.fileHash.hex();
+    // @ts-expect-error a tree is made of chunks
+    new y.HashTree(chunks);
+    // @ts-expect-error a proof is made of bytes
+    new y.RangeProof(proof.toJSON());
+    // @ts-expect-error a proof has to be opened
+    proof.check(0, data);
+    // @ts-expect-error a proof is opened with a hash, not its text
+    proof.open(hash.hex());
+    // @ts-expect-error a salt is bytes
+    proof.open(hash, hash);
+    // @ts-expect-error a root has no salt
+    proof.openRoot(root, data);
+    // @ts-expect-error a proof holds no memory
+    proof.free();
+    // @ts-expect-error an opened range is made by a proof
+    new y.OpenedRange(proof);
+    // @ts-expect-error data may be refused
+    opened.check(0, data).toString();
+    // @ts-expect-error data may be refused
+    opened.read(0, 1, data).length;
+    // @ts-expect-error data is bytes
+    opened.read(0, 1, "a chunk");
+    // @ts-expect-error a place comes before the data
+    opened.read(data, 0, 1);
+    // @ts-expect-error a size is a BigInt
+    const fileSize: number = opened.fileSize;
+    // @ts-expect-error what is checked is bytes
+    new ReadableStream<string>().pipeThrough(opened.checking());
     // @ts-expect-error the package comes later
     load().dataHash(data);
     // @ts-expect-error the module isn't a number
@@ -371,8 +442,10 @@ const same = final !== null && final.equals(root) && restored.root(2).equals(roo
 const hashed = order === 0 && streamed.length === 4 && streamed.every((it) => it.equals(hash)) && counts[1].equals(hash) && counts[0] === 7n;
 const salted = file !== null && file.equals(files[1]!) && file.equals(session.finish(2, new Uint8Array(32)));
 const listed = copies.every((it) => y.xorbHash(it).equals(root)) && last?.[1] === 200n && nodes.length === 1 && gaps.length === 1;
+const proven = `${place} ${after} ${bytesOf}` === "0 1 0,7" && `${sides[0].length} ${sides[1].length} ${sides[2]}` === "0 1 1" &&
+    proofs.every((it) => it.equals(proof)) && `${places}` === "0,7,0,207" && part?.length === 2 && checked.join() === "a chunk" && byRoot.numChunks === 1;
 const more = taken && told[3] === 1 && read.length === 4 && !cut === (hash.remainder(4n) !== 0n) && others.length === 2 && !inner.equals(hash);
 console.log(
-    same && hashed && salted && listed && more && classes.length === 5 && kinds.length === 9 && source !== null && fresh === 2 && start > 0n &&
+    same && hashed && salted && listed && more && classes.length === 5 && provers.length === 3 && proven && kinds.length === 9 && source !== null && fresh === 2 && start > 0n &&
         levels.length > 0 && parents >= 0 && point === null && `${first} ${rest[0]}`.length > 128,
 );

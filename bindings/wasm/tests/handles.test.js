@@ -37,6 +37,8 @@ async function counted() {
 }
 const list = (y, count) => chunksOf(y, { drawn: { firstSeed: "1", count } });
 
+const openedRange = (y) => y.RangeProof.fromChunks(list(y, 3), 1, 2).openRoot(y.xorbHash(list(y, 3)));
+
 /** Each call of an object, with other objects in place. */
 function callsOf(y) {
     const range = () => y.Subtree.fromChunks(false, list(y, 3), false);
@@ -54,6 +56,14 @@ function callsOf(y) {
             (it) => it.finish(0), (it) => it.runFrom(0), (it) => it.pushRun(0, 1, other), (it) => it.keepHashes([]),
             (it) => it.knownHashes(), (it) => it.numChunks, (it) => it.totalSize, (it) => it.gaps(0), (it) => it.saved,
             (it) => it.finish(0, new Uint8Array(32)), (it) => it.clone(),
+        ]],
+        HashTree: [() => y.HashTree.fromChunks(list(y, 3)), [
+            (it) => it.root, (it) => it.fileHash(), (it) => it.numChunks, (it) => it.totalSize, (it) => it.chunksAt(0, 1), (it) => it.bytesOf(0, 1),
+            (it) => it.proof(0, 1), (it) => it.proof(1, 0),
+        ]],
+        OpenedRange: [() => openedRange(y), [
+            (it) => it.proof, (it) => it.fileSize, (it) => it.numChunks, (it) => it.begins(0), (it) => it.ends(0), (it) => it.check(0, new Uint8Array()),
+            (it) => it.read(0, 0, new Uint8Array()), (it) => it.checking(),
         ]],
     };
 }
@@ -157,6 +167,15 @@ test("every block goes back", async () => {
     assert.throws(() => y.Subtree.merge([run, front, run]));
     assert.throws(() => y.Subtree.fromJSON("{}"));
     assert.throws(() => session.run(1));
+    const tree = y.HashTree.fromChunks(chunks);
+    const proof = tree.proof(3, 90);
+    const opened = proof.open(tree.fileHash());
+    for (const call of [() => tree.proof(3, 3), () => proof.openRoot(new y.Hash()), () => y.HashTree.fromChunks(5), () => y.RangeProof.fromJSON("{}")]) {
+        assert.throws(call);
+    }
+    assert.equal(opened.check(0, new Uint8Array()), null);
+    y.RangeProof.fromChunks(chunks, 3, 4);
+    made.push(tree, opened);
     y.xorbHash(y.Chunks.from(list(y, 30_000)));
     for (const object of [front, back, run, session, ...made]) object.free();
     assert.equal(seen.blocks, before);
@@ -165,9 +184,9 @@ test("every block goes back", async () => {
 test("an object is freed by Symbol.dispose", async () => {
     const { yurewha: y, seen } = await counted();
     const before = seen.blocks;
-    for (const object of [y.Subtree.fromChunks(true, [], true), new y.Session()]) {
+    for (const object of [y.Subtree.fromChunks(true, [], true), new y.Session(), y.HashTree.fromChunks([]), openedRange(y)]) {
         object[Symbol.dispose]();
-        assert.throws(() => object.numRuns ?? object.numNodes, EmptyHandle);
+        assert.throws(() => object.numRuns ?? object.numNodes ?? object.numChunks, EmptyHandle);
     }
     assert.equal(seen.blocks, before);
 });
@@ -177,7 +196,7 @@ test("an object that nobody can reach is freed some time later", async () => {
     const before = seen.blocks;
     const kept = new y.Session();
     (() => {
-        for (let k = 0; k < 200; k++) [y.Subtree.fromChunks(true, list(y, 5), false), new y.Session()].forEach((it, n) => n + k === 0 && it.free());
+        for (let k = 0; k < 200; k++) [y.Subtree.fromChunks(true, list(y, 5), false), new y.Session(), openedRange(y)].forEach((it, n) => n + k === 0 && it.free());
     })();
     for (let k = 0; k < 50 && seen.blocks > before + 1; k++) {
         globalThis.gc();

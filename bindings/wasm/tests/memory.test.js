@@ -23,6 +23,10 @@ function scene(y) {
     const restored = new y.Session();
     const middle = y.Subtree.fromChunks(false, chunks.slice(100, 200), false);
     const { saved } = session;
+    const tree = y.HashTree.fromChunks(chunks);
+    const proof = tree.proof(100, 200);
+    const [text, [fileHash, root]] = [proof.toJSON(), [tree.fileHash(), tree.root]];
+    const told = (opened) => [opened.begins(0), opened.ends(99), opened.fileSize];
     const others = Array.from({ length: COUNT }, (_, k) => y.Hash.randomFromSeed(1000 + k));
     const state = () => [
         plain(front), plain(back), session.numRuns, restored.numRuns, [0, 99, 100, 199, 200, 299, 300].map((position) => session.taken(position)), hash.hex(),
@@ -49,6 +53,14 @@ function scene(y) {
         restore: () => y.Session.restore(saved).numRuns,
         runFrom: () => plain(session.runFrom(100)[2]),
         knownHashes: () => session.knownHashes().length,
+        "a tree": () => y.HashTree.fromChunks(chunks).numChunks,
+        "a proof of a tree": () => tree.proof(100, 200).bytes,
+        "a proof of chunks": () => y.RangeProof.fromChunks(chunks, 100, 200).bytes,
+        "a proof as JSON": () => proof.toJSON(),
+        "a proof of JSON": () => y.RangeProof.fromJSON(text).bytes,
+        "a proof of bytes": () => new y.RangeProof(proof.bytes).bytes,
+        open: () => told(proof.open(fileHash)),
+        openRoot: () => told(proof.openRoot(root)),
         // These change an object, so they come last.
         pushRun: () => [restored.pushRun(400, 500, middle), restored.numRuns],
         keepHashes: () => [restored.keepHashes(others), restored.knownHashes().length],

@@ -1,5 +1,5 @@
-"""The page web/ in Chromium and Firefox: ranges are cut and merged, and files hashed. Roots and counts are compared with the
-model's, and each state is photographed.
+"""The page web/ in Chromium and Firefox: ranges are cut and merged, files hashed, and parts of files read with a proof. Roots and
+counts are compared with the model's, and each state is photographed.
 
     page_test.py FOLDER
 """
@@ -18,6 +18,7 @@ from typing import Any, Callable, List, Union
 
 ROOT = Path(__file__).resolve().parents[3]
 sys.path[:0] = [str(ROOT / "model"), str(Path(__file__).parent)]
+import range_proof as r  # noqa: E402
 import xet_model as m  # noqa: E402
 from browsers import Chromium, Firefox  # noqa: E402
 
@@ -121,6 +122,9 @@ def use_the_keyboard(browser: Browser) -> None:
     same(browser.run("return document.activeElement.id"), "between-9")
     browser.type("#tab-ranges", "\ue014")
     same(browser.run("return [document.activeElement.id, document.getElementById('ranges').hidden]"), ["tab-files", True])
+    browser.type("#tab-files", "\ue014")
+    same(browser.run("return document.activeElement.id"), "tab-parts")
+    browser.type("#tab-parts", "\ue012")
     browser.type("#tab-files", "\ue012")
     same(browser.run("return document.getElementById('ranges').hidden"), False)
 
@@ -180,6 +184,66 @@ def hash_files(browser: Browser, folder: Path, photo: Callable[[str], None]) -> 
     browser.click("#tab-ranges")
 
 
+def pieces_of(data: bytes, length: int) -> List[m.Node]:
+    """The nodes of chunks of one length."""
+    pieces = (data[at : at + length] for at in range(0, len(data), length))
+    return [(m.compute_data_hash(piece), len(piece)) for piece in pieces]
+
+
+def read_a_part(browser: Browser, folder: Path, photo: Callable[[str], None]) -> None:
+    """Bytes of a made file and of a picked one are read with a proof. A wrong byte and a wrong proof are refused, and marked."""
+    browser.click("#tab-parts")
+    made = "".join(f"line {k + 1:04}\n" for k in range(5000)).encode()
+    assert_part(browser, made, 500, 25_000, 25_100)
+    photo("part")
+    for change, said, wrong in (("byte", "Refused: 1 chunk of", "Chunks"), ("node", "Refused: the proof", "Root")):
+        choose(browser, change)
+        same([text(browser, "part-verdict").startswith(said), text(browser, "part-bytes")], [True, ""])
+        same(browser.run("return document.getElementById('part-verdict').className"), "other")
+        same(browser.run("return document.querySelectorAll('#path .wrong').length"), 1)
+        rows = "[...document.querySelectorAll('#path .name')].find((it) => it.textContent === arguments[0]).getAttribute('y')"
+        height = f"return Number({rows}) - Number(document.querySelector('#path .wrong text').getAttribute('y'))"
+        same(browser.run(height, wrong), 0)
+        photo(f"part-{change}")
+    choose(browser, "nothing")
+    data = bytes(ord("a") + (k * k // 7) % 26 for k in range(40_007))
+    (folder / "picked.txt").write_bytes(data)
+    browser.type("#part-of", str(folder / "picked.txt"))
+    wait(browser, "document.getElementById('part-file-size').textContent.startsWith('40007 bytes')")
+    for first, end in ((40_000, 40_006), (0, 1), (1234, 9876), (0, 40_007)):
+        browser.run("document.getElementById('from').value = arguments[0]; document.getElementById('to').value = arguments[1]", first, end)
+        browser.click("#read-part button")
+        assert_part(browser, data, 500, first, end)
+    photo("part-whole")
+    browser.run("document.getElementById('from').value = 40007")
+    browser.click("#read-part button")
+    same([text(browser, "error"), text(browser, "part-verdict")], ["The file has no such bytes.", ""])
+    browser.click("#tab-ranges")
+
+
+def choose(browser: Browser, change: str) -> None:
+    script = "const it = document.getElementById('change'); it.value = arguments[0]; it.dispatchEvent(new Event('change'))"
+    browser.run(script, change)
+
+
+def assert_part(browser: Browser, data: bytes, length: int, first: int, end: int) -> None:
+    """What the page shows of bytes that were read is what the model says."""
+    nodes = pieces_of(data, length)
+    chunks = r.chunks_at(nodes, first, end)
+    assert chunks
+    proof = r.prove(nodes, *chunks)
+    count = len(r.to_flat(proof)[1])
+    same(text(browser, "part-file-hash"), m.to_hex(m.file_root(nodes)))
+    same(text(browser, "part-verdict"), f"Accepted: these are bytes {first} to {end} of a file of {len(data)} bytes.")
+    same(text(browser, "part-bytes").startswith(data[first : min(end, first + 240)].decode()), True)
+    same(f"a proof of {count} nodes ({len(r.to_json_text(proof))} bytes of JSON)" in text(browser, "sent"), True)
+    top = browser.run("return [...document.querySelectorAll('#path title')].at(-1).textContent")
+    same(top.split("\n"), [m.to_hex(m.root(nodes)), f"{len(data)} bytes"])
+    beside = [len(left) + len(right) for left, right in proof.levels]
+    same(browser.run("return document.querySelectorAll('#path .beside').length"), sum(beside))
+    same(browser.run("return document.querySelectorAll('#path .wrong').length"), 0)
+
+
 def stay_on_the_page(browser: Browser) -> None:
     """Nothing overflows; a request to another place is refused by the policy, and so is a script that is written into the page."""
     width = browser.run("return [document.documentElement.scrollWidth, innerWidth]")
@@ -212,6 +276,7 @@ def whole(kind: Callable[[int, bool], Browser], url: str, width: int, dark: bool
         draw_paste_and_play(browser, photo)
         with tempfile.TemporaryDirectory() as folder:
             hash_files(browser, Path(folder), photo)
+            read_a_part(browser, Path(folder), photo)
         same(browser.messages(), [])
         stay_on_the_page(browser)
         print(f"{browser.version()}, {browser.run('return innerWidth')} pixels, {'dark' if dark else 'light'}: passed")

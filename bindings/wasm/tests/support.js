@@ -58,7 +58,7 @@ export function capped(bytes, pages) {
 export const pagesOf = (exports) => exports.memory.buffer.byteLength / 65536;
 
 /** The chunks that a rule of the vectors says; vectors/README.md has the rules. */
-export function chunksOf({ Hash }, list) {
+export function chunksOf({ Hash, dataHash }, list) {
     const [[rule, said]] = Object.entries(list);
     const ofWords = (...words) => {
         const block = new DataView(new ArrayBuffer(32));
@@ -74,6 +74,21 @@ export function chunksOf({ Hash }, list) {
             ]),
         seeds: () => said.map((seed) => [seed === "0" ? new Hash() : Hash.randomFromSeed(BigInt(seed)), 100n * BigInt(seed)]),
         nodes: () => said.map(({ hash, size }) => [Hash.fromHex(hash), BigInt(size)]),
+        counted: () =>
+            Array.from({ length: said.count }, (_, k) => [ofWords(k, 0, 0, said.cutEvery > 0 && k % said.cutEvery === said.cutEvery - 1 ? 0 : 1), 1]),
+        numbers: () => ofData(),
+        chunkBytes: () => ofData(),
     };
+    const ofData = () => dataOf(list).map((data) => [dataHash(data), data.length]);
     return rules[rule]();
+}
+
+/** The data of the chunks that a rule of the vectors says. */
+export function dataOf({ chunkBytes, numbers }) {
+    if (chunkBytes) return chunkBytes.map((hex) => Buffer.from(hex, "hex"));
+    return Array.from({ length: numbers.count }, (_, k) => {
+        const text = `${numbers.first + k} `;
+        const length = numbers.lengths[k % numbers.lengths.length];
+        return Buffer.from(text.repeat(Math.ceil(length / text.length)).slice(0, length));
+    });
 }

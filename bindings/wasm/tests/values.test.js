@@ -14,6 +14,9 @@ const sessionOf = (...puts) => {
     puts.forEach(([first, count]) => session.put(first, list(count)));
     return session;
 };
+const treeOf = (count) => y.HashTree.fromChunks(list(count));
+const proofOf = (first, end) => y.RangeProof.fromChunks(list(30), first, end);
+const rangeOf = (first, end) => proofOf(first, end).openRoot(y.xorbHash(list(30)));
 
 /** Of each class, calls that make objects of different values. */
 const KINDS = {
@@ -26,6 +29,9 @@ const KINDS = {
         () => y.Subtree.fromChunks(false, list(100), false),
         () => y.Subtree.fromChunks(false, list(101), false),
     ],
+    HashTree: [() => treeOf(0), () => treeOf(1), () => treeOf(30), () => treeOf(31)],
+    RangeProof: [() => proofOf(0, 1), () => proofOf(0, 2), () => proofOf(7, 9)],
+    OpenedRange: [() => rangeOf(0, 1), () => rangeOf(0, 2), () => rangeOf(7, 9)],
     Session: [() => sessionOf(), () => sessionOf([0, 3]), () => sessionOf([1, 3]), () => sessionOf([0, 3], [7, 2])],
 };
 
@@ -68,10 +74,12 @@ test("another thread makes each object again of what it is sent", () => {
     const chunks = y.Chunks.from(list(50));
     const range = y.Subtree.fromChunks(true, chunks, true);
     const session = sessionOf([40, 10], [0, 30]);
-    const sent = received([hash.bytes, chunks.bytes, range.toJSON(), session.saved]);
+    const proof = proofOf(7, 9);
+    const sent = received([hash.bytes, chunks.bytes, range.toJSON(), session.saved, proof.bytes]);
     assert.equal(new other.Hash(sent[0]).hex(), hash.hex());
     assert.equal(other.xorbHash(new other.Chunks(sent[1])).hex(), y.xorbHash(chunks).hex());
     assert.equal(other.Subtree.fromJSON(sent[2]).finalHash().hex(), range.finalHash().hex());
+    assert.equal(new other.RangeProof(sent[4]).openRoot(other.xorbHash(list(30, other))).begins(0), rangeOf(7, 9).begins(0));
     const restored = other.Session.restore(sent[3]);
     for (const [it, made] of [[y, session], [other, restored]]) assert.equal(made.put(30, list(35, it).slice(25)), 5);
     assert.deepEqual(restored.saved, session.saved);
@@ -83,6 +91,9 @@ test("a structured clone is a plain object with the value, which no call takes",
     assert.deepStrictEqual(structuredClone(hash), { bytes: hash.bytes });
     assert.deepStrictEqual(structuredClone(y.Chunks.from(list(2))), { bytes: y.Chunks.from(list(2)).bytes });
     assert.deepStrictEqual(structuredClone(sessionOf([3, 2])), { saved: sessionOf([3, 2]).saved });
+    assert.deepStrictEqual(structuredClone(proofOf(7, 9)), { bytes: proofOf(7, 9).bytes });
+    assert.deepStrictEqual(structuredClone(rangeOf(7, 9)), { proof: { bytes: proofOf(7, 9).bytes } });
+    assert.deepStrictEqual(structuredClone(treeOf(3)).numChunks, 3);
     const flat = structuredClone(y.Subtree.fromChunks(false, list(9), true));
     assert.deepStrictEqual([flat.atStart, flat.atEnd, flat.levels], [false, true, [[9, 0]]]);
     assert.throws(() => hash.equals(structuredClone(hash)), TypeError);
@@ -144,6 +155,10 @@ test("Node's console shows what an object is", () => {
     assert.equal(plain(range), "Subtree { atStart: true, atEnd: false, totalSize: 7n, numLevels: 1, numNodes: 1 }");
     assert.equal(plain(sessionOf([4, 3])), "Session { numChunks: 3n, totalSize: 3231n, numRuns: 1 }");
     assert.equal(plain(new y.Hasher().update(Uint8Array.of(1, 2))).slice(0, 24), "Hasher { count: 2n, hash");
+    assert.equal(plain(y.HashTree.fromChunks([[hash, 7]])), `HashTree { numChunks: 1, totalSize: 7n, root: Hash(${hash.hex()}) }`);
+    const proof = y.RangeProof.fromChunks([[hash, 7]], 0, 1);
+    assert.equal(plain(proof), "RangeProof { chunks: Chunks(1) [ [ [Hash], 7n ] ], numLevels: 0 }");
+    assert.equal(plain(proof.openRoot(hash)), "OpenedRange { fileSize: 7n, numChunks: 1, begins: 0n, ends: 7n }");
     range.free();
     assert.equal(inspect(range), "Subtree <the object was freed>");
     assert.equal(plain({ a: { b: { hash } } }, { depth: 1 }), "{ a: { b: [Object] } }");

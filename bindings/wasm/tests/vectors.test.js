@@ -6,7 +6,7 @@ import { test } from "node:test";
 import * as errors from "../yurewha/index.js";
 import { ROOT, chunksOf, loadAll } from "./support.js";
 
-const FILES = ["hashes", "texts", "roots", "subtrees", "merges", "subtree_json", "sessions", "upstream"];
+const FILES = ["hashes", "texts", "roots", "subtrees", "merges", "subtree_json", "range_proofs", "sessions", "upstream"];
 const ERRORS = {
     SizeOverflow: errors.SizeOverflow,
     InvalidArguments: errors.InvalidArguments,
@@ -15,6 +15,7 @@ const ERRORS = {
     Positions: errors.SessionPositions,
     Sizes: errors.SessionSizes,
     Gap: errors.SessionGap,
+    Mismatch: errors.ProofMismatch,
 };
 const unhex = (text) => Uint8Array.from(Buffer.from(text, "hex"));
 const message = (length) => Uint8Array.from({ length }, (_, k) => k % 251);
@@ -29,6 +30,25 @@ function checksOver(y) {
         assert.equal(y.dataHash(Buffer.from(text)).hex(), it.jsonHash);
         assert.equal(tree.finalHash()?.hex() ?? null, it.finalHash);
         assert.equal(it.json ?? text, text);
+    };
+    const plain = (nodes) => Array.from(nodes, ([hash, size]) => ({ hash: hash.hex(), size: `${size}` }));
+    const breaks = (rule) => (error) => error instanceof errors.InvalidJson && error.rule === rule;
+    const checkProof = (proof, it) => {
+        const { levels, nodes } = proof.toFlat();
+        const lines = Array.from(nodes, ([hash, size]) => `${hash} : ${size}\n`).join("");
+        const text = proof.toJSON();
+        assert.deepEqual(levels, it.levels);
+        assert.equal(y.dataHash(Buffer.from(lines)).hex(), it.flatHash);
+        assert.equal(y.dataHash(Buffer.from(text)).hex(), it.jsonHash);
+        assert.equal(it.json ?? text, text);
+        assert.deepEqual(it.flatNodes ?? plain(nodes), plain(nodes));
+        assert.ok(y.RangeProof.fromJSON(text).equals(proof));
+    };
+    const checkPlaces = (range, places, fileSize) => {
+        const found = Array.from({ length: range.numChunks }, (_, k) => [range.begins(k), range.ends(k)]);
+        assert.deepEqual(found, places.slice(1).map((place, k) => [BigInt(places[k]), BigInt(place)]));
+        assert.equal(range.fileSize, BigInt(fileSize));
+        assert.deepEqual([range.begins(range.numChunks), range.ends(range.numChunks)], [null, null]);
     };
     const readText = (read) => (_, it) => {
         if (it.result === "valid") assert.equal(read(it.text).hex(), it.hash);
@@ -148,6 +168,63 @@ function checksOver(y) {
             if (it.result === "valid") assert.equal(y.Subtree.fromJSON(it.text).toJSON(), it.written ?? it.text);
             else if (it.error === "NotJson") assert.throws(() => y.Subtree.fromJSON(it.text), errors.InvalidText);
             else assert.throws(() => y.Subtree.fromJSON(it.text), (error) => error instanceof errors.InvalidJson && error.rule === it.rule);
+        },
+        HashTree(_, it) {
+            const chunks = chunksOf(y, it.list);
+            if (it.result === "invalid") return assert.throws(() => y.HashTree.fromChunks(chunks), ERRORS[it.error]);
+            const tree = y.HashTree.fromChunks(chunks);
+            assert.deepEqual([tree.root.hex(), tree.fileHash().hex()], [it.root, it.fileHash]);
+            assert.deepEqual([tree.numChunks, tree.totalSize], [chunks.length, BigInt(it.totalSize)]);
+            for (const row of it.salted ?? []) assert.equal(tree.fileHash(unhex(row.saltBytes)).hex(), row.fileHash);
+            for (const row of it.chunksAt) assert.deepEqual(tree.chunksAt(BigInt(row.start), BigInt(row.stop)), row.chunks);
+            for (const row of it.bytesOf) assert.deepEqual(tree.bytesOf(row.first, row.end), row.bytes && row.bytes.map(BigInt));
+            for (const row of it.proofs) {
+                const proof = tree.proof(row.first, row.end);
+                checkProof(proof, row);
+                if (chunks.length < 100) assert.ok(y.RangeProof.fromChunks(chunks, row.first, row.end).equals(proof));
+                const ranges = [proof.open(tree.fileHash())];
+                // The default hash may be the root of one chunk, but opens nothing.
+                if (it.root === "0".repeat(64)) assert.throws(() => proof.openRoot(tree.root), errors.ProofMismatch);
+                else ranges.push(proof.openRoot(tree.root));
+                for (const range of ranges) {
+                    checkPlaces(range, row.places, it.totalSize);
+                    range.free();
+                }
+            }
+            tree.free();
+        },
+        ProofRefused(_, it) {
+            const chunks = y.Chunks.from(chunksOf(y, it.list));
+            assert.throws(() => y.RangeProof.fromChunks(chunks, it.first, it.end), ERRORS[it.error]);
+            // A tree is refused for its sizes alone, before it has any range.
+            const fits = [...chunks].reduce((sum, [, size]) => sum + size, 0n) < 2n ** 64n;
+            assert.throws(() => y.HashTree.fromChunks(chunks).proof(it.first, it.end), fits ? ERRORS[it.error] : errors.SizeOverflow);
+        },
+        OpenProof(_, it) {
+            const proof = y.RangeProof.fromJSON(it.text);
+            const open = () => (it.root ? proof.openRoot(y.Hash.fromHex(it.root)) : proof.open(y.Hash.fromHex(it.fileHash), unhex(it.saltBytes)));
+            if (it.result === "invalid") return assert.throws(open, ERRORS[it.error]);
+            const range = open();
+            checkPlaces(range, it.places, it.fileSize);
+            for (const row of it.checks) assert.equal(range.check(row.number, unhex(row.dataBytes)), row.place && BigInt(row.place));
+            for (const row of it.reads) {
+                assert.deepEqual(range.read(BigInt(row.start), BigInt(row.stop), unhex(row.dataBytes)), row.readBytes === null ? null : unhex(row.readBytes));
+            }
+        },
+        ProofJson(_, it) {
+            if (it.result === "valid") assert.equal(y.RangeProof.fromJSON(it.text).toJSON(), it.written ?? it.text);
+            else if (it.error === "NotJson") assert.throws(() => y.RangeProof.fromJSON(it.text), errors.InvalidText);
+            else assert.throws(() => y.RangeProof.fromJSON(it.text), breaks(it.rule));
+        },
+        FlatProof(_, it) {
+            const flat = { levels: it.levels.map((level) => level.map(BigInt)), nodes: chunksOf(y, { nodes: it.nodes }) };
+            // Counts past 2^64 - 1 can't be given.
+            if (flat.levels.flat().some((count) => count >= 2n ** 64n)) return assert.throws(() => y.RangeProof.fromFlat(flat), RangeError);
+            if (it.result === "invalid") return assert.throws(() => y.RangeProof.fromFlat(flat), breaks(it.rule));
+            const proof = y.RangeProof.fromFlat(flat);
+            assert.equal(proof.toJSON(), it.json);
+            assert.deepEqual([proof.toFlat().levels, plain(proof.toFlat().nodes)], [it.levels.map((level) => level.map(Number)), it.nodes]);
+            assert.ok(new y.RangeProof(proof.bytes).equals(proof));
         },
         Session(_, it) {
             const session = new y.Session();

@@ -8,6 +8,7 @@ export {
     InvalidJson,
     InvalidText,
     OutOfMemory,
+    ProofMismatch,
     SessionError,
     SessionGap,
     SessionOverlap,

@@ -6,8 +6,8 @@
  *
  * Objects keep their bytes in private members. What comparisons need is an own property of each, so `deepStrictEqual` of two
  * objects compares their values. A structured clone is a plain object with these properties, and no call takes it. To hand an
- * object to a worker, send what it can be made of again: `bytes` of a `Hash` or `Chunks`, `toJSON()` of a `Subtree`, `saved` of
- * a `Session`.
+ * object to a worker, send what it can be made of again: `bytes` of a `Hash`, `Chunks` or `RangeProof`, `toJSON()` of a
+ * `Subtree`, `saved` of a `Session`.
  */
 
 declare global {
@@ -45,6 +45,9 @@ export interface Yurewha {
     readonly Hasher: HasherConstructor;
     readonly Subtree: SubtreeConstructor;
     readonly Session: SessionConstructor;
+    readonly HashTree: HashTreeConstructor;
+    readonly RangeProof: RangeProofConstructor;
+    readonly OpenedRange: OpenedRangeConstructor;
 
     /** Returns the hash of a chunk. `data` is its data. The hash is keyed BLAKE3 under the data key. */
     dataHash(data: Uint8Array): Hash;
@@ -399,6 +402,179 @@ export interface SavedSession {
     readonly knownHashes: readonly string[];
 }
 
+/**
+ * All levels of nodes over a list of chunks, kept so that a proof takes time with the number of levels and of its own nodes, and not
+ * with the number of chunks. Chunks and bytes count from 0.
+ *
+ * Any call may throw `OutOfMemory`, if the memory can't grow.
+ */
+export interface HashTree extends Freed {
+    /** The root of the chunks. With no chunks it is the default hash. */
+    readonly root: Hash;
+
+    /** Returns the file hash of the chunks, without a salt or under one of 32 bytes. With no chunks it is the default hash.
+     * @throws InvalidArguments the salt has another length */
+    fileHash(salt?: Uint8Array): Hash;
+
+    readonly numChunks: number;
+
+    /** The sum of the sizes of the chunks: the size of the file in bytes. */
+    readonly totalSize: bigint;
+
+    /** Returns the least range of chunks that holds the bytes of the file from `from` up to, but not including, `to`, or those of them
+     * that are in the file: the number of its first chunk, and one more than that of its last. Returns null if there are no such bytes. */
+    chunksAt(from: U64, to: U64): [first: number, end: number] | null;
+
+    /** Returns where in the file the chunks from `first` up to, but not including, `end` begin and end. Returns null unless there is
+     * such a chunk, and only chunks of the list. */
+    bytesOf(first: U64, end: U64): [from: bigint, to: bigint] | null;
+
+    /** Returns the proof of the chunks from `first` up to, but not including, `end`. It opens under the file hash of all chunks,
+     * whatever the salt, and under their root.
+     * @throws InvalidArguments the range has no chunk, or one that isn't in the list */
+    proof(first: U64, end: U64): RangeProof;
+}
+
+export interface HashTreeConstructor {
+    readonly prototype: HashTree;
+
+    /** Makes the tree over some chunks.
+     * @throws SizeOverflow the sizes add up to more than 2^64 - 1 */
+    fromChunks(chunks: ChunkList): HashTree;
+}
+
+/**
+ * The nodes of some adjacent chunks of a file, and the nodes beside the paths from them to the root. Whoever knows the file hash opens
+ * the proof, and then checks the data of these chunks without the other chunks.
+ *
+ * A proof may come from anybody: making one of bytes, JSON or lists checks its form alone. A node alone shows nothing, since the
+ * parents of a level pass as chunks of their own list. Only data that an `OpenedRange` accepted is part of the file.
+ *
+ * A proof can't be changed, and holds no memory of the module, so there is nothing to free.
+ */
+export interface RangeProof {
+    /** The nodes of the range's chunks. There is at least one. */
+    readonly chunks: Chunks;
+
+    /** The number of levels on which nodes may stand beside those of the range. */
+    readonly numLevels: number;
+
+    /** A copy of the packed form: a byte with the number of levels; for each level, from the chunks up, two bytes with the numbers of
+     * its left and right nodes; and the nodes in the order of `FlatProof`, packed as in `Chunks`. */
+    readonly bytes: Uint8Array;
+
+    /** Returns the nodes before those of the range on a level, at most 8. Levels count from 0, from the chunks up. There are none if
+     * there is no such level. */
+    left(level: U64): Chunks;
+
+    /** Returns the nodes after those of the range on a level, in the same way. */
+    right(level: U64): Chunks;
+
+    /**
+     * Opens the proof with a file hash, without a salt or under one of 32 bytes. That succeeds if its nodes have a common root, and this
+     * root gives the file hash. The default hash is never shown, since it is the file hash of the empty file.
+     * @throws ProofMismatch the proof doesn't show this hash: it is that of another file, was altered, or the salt is another
+     * @throws InvalidArguments the salt has another length
+     */
+    open(fileHash: Hash, salt?: Uint8Array): OpenedRange;
+
+    /** Opens the proof with the root of a list of chunks, such as the hash of a xorb.
+     * @throws ProofMismatch the proof doesn't show this hash, or it is the default hash */
+    openRoot(root: Hash): OpenedRange;
+
+    /** Returns whether both have the same chunks, and the same nodes on the sides of each level. */
+    equals(other: RangeProof): boolean;
+
+    /** Returns the proof as compact JSON text. It is a string because sizes may be more than 2^53, so `JSON.stringify` writes a string
+     * too. */
+    toJSON(): string;
+
+    toFlat(): FlatProof;
+}
+
+export interface RangeProofConstructor {
+    /** Makes a proof from its packed form, which is copied.
+     * @throws InvalidArguments it has no such form
+     * @throws InvalidJson it breaks a rule from 5 to 8 */
+    new (bytes: Uint8Array): RangeProof;
+    readonly prototype: RangeProof;
+
+    /** Returns the proof of the chunks of a list from `first` up to, but not including, `end`. To make several proofs of one list, keep
+     * its `HashTree`.
+     * @throws InvalidArguments the range has no chunk, or one that isn't in the list
+     * @throws SizeOverflow otherwise, the sizes add up to more than 2^64 - 1 */
+    fromChunks(chunks: ChunkList, first: U64, end: U64): RangeProof;
+
+    /** Reads a proof from JSON text, or from its UTF-8 bytes.
+     * @throws InvalidText the text isn't JSON
+     * @throws InvalidJson the value breaks a rule */
+    fromJSON(text: string | Uint8Array): RangeProof;
+
+    /** Makes a proof from flat lists.
+     * @throws InvalidJson they break a rule from 5 to 8 */
+    fromFlat(flat: FlatProofInput): RangeProof;
+}
+
+/** A range proof as flat lists. `levels` has the numbers of left and right nodes of each level, from the chunks up. `nodes` has the left
+ * nodes of all levels, lowest level first, then the chunks of the range, then the right nodes of all levels, highest level first. */
+export interface FlatProof {
+    readonly levels: [left: number, right: number][];
+    readonly nodes: Chunks;
+}
+
+export interface FlatProofInput {
+    readonly levels: Iterable<readonly [left: U64, right: U64]>;
+    readonly nodes: ChunkList;
+}
+
+/**
+ * A range of a file's chunks, and where in the file it is, as a range proof shows it. It checks the chunks' data as they arrive, in any
+ * order. The chunks of the range count from 0.
+ *
+ * If `check`, `read` or `checking` accepts data, each file with the hash that the proof was opened with has this data at this place, and
+ * has `fileSize` bytes. Otherwise two messages with one BLAKE3 hash were found. A file is here a list of chunks. Until data was
+ * accepted, the places and `fileSize` are the proof's own word. They tell a reader where to cut, and no more.
+ */
+export interface OpenedRange extends Freed {
+    /** The proof that was opened. */
+    readonly proof: RangeProof;
+
+    /** The size of the file in bytes. */
+    readonly fileSize: bigint;
+
+    /** The number of chunks of the range. There is at least one. */
+    readonly numChunks: number;
+
+    /** Returns where in the file a chunk of the range begins, or null if there is no such chunk. */
+    begins(chunk: U64): bigint | null;
+
+    /** Returns where in the file a chunk of the range ends, or null if there is no such chunk. */
+    ends(chunk: U64): bigint | null;
+
+    /** Checks the data of a chunk. Returns where in the file it begins, if the data's hash and length are those of the chunk's node.
+     * Returns null if not, or if there is no such chunk. */
+    check(chunk: U64, data: Uint8Array): bigint | null;
+
+    /** Checks the data of all chunks of the range, one after another and nothing else, and returns a copy of the bytes of the file from
+     * `from` up to, but not including, `to`. Returns null unless each chunk checks and the range holds these places. */
+    read(from: U64, to: U64, data: Uint8Array): Uint8Array | null;
+
+    /**
+     * Returns a stream that takes the data of the range in any pieces, such as the body of a response, and passes on each chunk once it
+     * has checked. So whatever comes out of it is part of the file, from `begins(0)` on. It fails with `ProofMismatch` at the first chunk
+     * that isn't the file's, and if the data ends too early or doesn't end with the range. A piece that isn't a `Uint8Array` is a
+     * `TypeError`.
+     *
+     * It keeps the data of one chunk. A stranger's proof may name a chunk of any size, so a reader who knows the greatest size of a chunk
+     * compares `begins` and `ends` first. The range may not be freed before the stream has ended.
+     */
+    checking(): TransformStream<Uint8Array, Uint8Array>;
+}
+
+export interface OpenedRangeConstructor {
+    readonly prototype: OpenedRange;
+}
+
 /** The base class of all errors of this package, except those for a wrong type or a number out of range. */
 export class YurewhaError extends Error {}
 
@@ -414,11 +590,14 @@ export class OutOfMemory extends YurewhaError {}
 /** A text doesn't have the expected form. */
 export class InvalidText extends YurewhaError {}
 
-/** A JSON value, or flat lists, describe no subtree. */
+/** A JSON value, or flat lists, describe no subtree or no range proof. */
 export class InvalidJson extends YurewhaError {
-    /** The lowest rule, from 1 to 13, that they break. */
+    /** The lowest rule that they break: from 1 to 13 for a subtree, from 1 to 8 for a range proof. */
     readonly rule: number;
 }
+
+/** A range proof doesn't show a hash, or data isn't that of the range. */
+export class ProofMismatch extends YurewhaError {}
 
 /** The object was freed. */
 export class EmptyHandle extends YurewhaError {}

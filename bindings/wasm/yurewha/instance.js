@@ -2,7 +2,10 @@
 
 import { makeChunks } from "./chunks.js";
 import { makeHash } from "./hash.js";
+import { makeHashTree } from "./hash_tree.js";
 import { makeHashing } from "./hasher.js";
+import { makeOpenedRange } from "./opened_range.js";
+import { makeRangeProof } from "./range_proof.js";
 import { makeRoots } from "./roots.js";
 import { makeSession } from "./session.js";
 import { makeSubtree } from "./subtree.js";
@@ -11,11 +14,17 @@ export function instanceOver(library) {
     const hashes = makeHash(library);
     const lists = makeChunks(hashes);
     const subtrees = makeSubtree(library, hashes, lists);
+    const ranges = makeOpenedRange(library);
+    const HashTree = makeHashTree(library, hashes, lists, (...given) => proofs.written(...given));
+    const proofs = makeRangeProof(library, hashes, lists, ranges, HashTree);
     return Object.freeze({
         Hash: hashes.Hash,
         Chunks: lists.Chunks,
         Subtree: subtrees.Subtree,
         Session: makeSession(library, hashes, lists, subtrees),
+        HashTree,
+        RangeProof: proofs.RangeProof,
+        OpenedRange: ranges.OpenedRange,
         ...makeHashing(library, hashes),
         ...makeRoots(library, hashes, lists),
     });

@@ -1,13 +1,13 @@
 // Subtrees: what is kept of a range of chunks.
 
-import { bytes, pairOf, text, truth, u64 } from "./arguments.js";
+import { bytes, text, truth } from "./arguments.js";
 import { CHUNK_LENGTH } from "./chunks.js";
 import { STATUS, check } from "./errors.js";
 import { HANDLE_LENGTH, Handle, Handles, disposable } from "./handle.js";
 import { thirtyTwo } from "./hash.js";
+import { LEVEL_LENGTH, packedLevels, unpackedLevels } from "./levels.js";
 import { inspected, showing } from "./shown.js";
 
-const LEVEL_LENGTH = 16;
 const decoder = new TextDecoder();
 const flag = (value) => (value ? 1 : 0);
 const misplaced = "of adjacent ranges, only the first may be marked at its start, and only the last at its end";
@@ -245,22 +245,4 @@ export function makeSubtree(library, { Hash, rawOf, result, hmac }, { Chunks, pa
     }
 
     return { Subtree: disposable(Subtree), owned, pointerOf, totalSizeOf };
-}
-
-function packedLevels(levels) {
-    const pairs = [...levels];
-    const counts = new DataView(new ArrayBuffer(LEVEL_LENGTH * pairs.length));
-    pairs.forEach((pair, k) => {
-        pairOf(pair, `level ${k} is a pair of counts, of left and right nodes`).forEach((count, side) => {
-            counts.setBigUint64(LEVEL_LENGTH * k + 8 * side, u64(count, `a count of level ${k}`), true);
-        });
-    });
-    return new Uint8Array(counts.buffer);
-}
-
-function unpackedLevels(block) {
-    const counts = new DataView(block.buffer);
-    return Array.from({ length: block.length / LEVEL_LENGTH }, (_, k) =>
-        [0, 8].map((side) => Number(counts.getBigUint64(LEVEL_LENGTH * k + side, true))),
-    );
 }

@@ -1,4 +1,4 @@
-/* A second reading of JSON texts, by RFC 8259, and of the subtrees that they say, by the rules 1 to 13. */
+/* A second reading of the subtrees that JSON texts say, by the rules 1 to 13. */
 #ifndef SECOND_JSON_H
 #define SECOND_JSON_H
 

@@ -53,18 +53,6 @@ Node parent_of(const Nodes &nodes, size_t first, size_t length)
     return {hash_of_group(text), size};
 }
 
-Nodes parents_of(const Nodes &nodes, size_t first, size_t end)
-{
-    const Nodes grouped(nodes.begin() + static_cast<ptrdiff_t>(first), nodes.begin() + static_cast<ptrdiff_t>(end));
-    Nodes parents;
-    for (size_t at = 0; at < grouped.size();) {
-        const size_t length = group_length(grouped, at);
-        parents.push_back(parent_of(grouped, at, length));
-        at += length;
-    }
-    return parents;
-}
-
 struct Triple {
     size_t a, b, c;
     size_t point() const { return b + 1; }
@@ -107,11 +95,6 @@ std::optional<std::pair<size_t, size_t>> split(const Nodes &nodes, bool at_start
         if (triples[i - 1].a >= from)
             return {{from, triples[i - 1].point()}};
     return {};
-}
-
-Nodes part(const Nodes &nodes, size_t from, size_t to)
-{
-    return Nodes(nodes.begin() + static_cast<ptrdiff_t>(from), nodes.begin() + static_cast<ptrdiff_t>(to));
 }
 
 /* Rule 12, of one level: the side ends as before a first stable point, and has none. */
@@ -198,11 +181,33 @@ size_t node_count(const Subtree &subtree)
     return count;
 }
 
+Nodes part(const Nodes &nodes, size_t from, size_t to)
+{
+    return Nodes(nodes.begin() + static_cast<ptrdiff_t>(from), nodes.begin() + static_cast<ptrdiff_t>(to));
+}
+
+std::vector<size_t> group_bounds(const Nodes &nodes)
+{
+    std::vector<size_t> bounds = {0};
+    while (bounds.back() < nodes.size())
+        bounds.push_back(bounds.back() + group_length(nodes, bounds.back()));
+    return bounds;
+}
+
+Nodes parents_of(const Nodes &nodes)
+{
+    const std::vector<size_t> bounds = group_bounds(nodes);
+    Nodes parents;
+    for (size_t i = 1; i < bounds.size(); i++)
+        parents.push_back(parent_of(nodes, bounds[i - 1], bounds[i] - bounds[i - 1]));
+    return parents;
+}
+
 Hash root_of(const Nodes &nodes)
 {
     if (nodes.empty())
         return {};
-    return nodes.size() == 1 ? nodes[0].hash : root_of(parents_of(nodes, 0, nodes.size()));
+    return nodes.size() == 1 ? nodes[0].hash : root_of(parents_of(nodes));
 }
 
 Hash file_hash_of(const Nodes &nodes, const Hash &salt) { return nodes.empty() ? Hash{} : hmac(root_of(nodes), salt); }
@@ -226,7 +231,7 @@ Subtree canonical(const Nodes &nodes, bool at_start, bool at_end)
     while (const auto middle = split(level, at_start, at_end)) {
         const auto [from, to] = *middle;
         subtree.levels.push_back({part(level, 0, from), part(level, to, level.size())});
-        level = parents_of(level, from, to);
+        level = parents_of(part(level, from, to));
     }
     subtree.levels.push_back({level, {}});
     return subtree;
@@ -237,7 +242,7 @@ uint64_t work(const Nodes &nodes, bool at_start, bool at_end)
     uint64_t made = 0;
     Nodes level = nodes;
     while (const auto middle = split(level, at_start, at_end)) {
-        level = parents_of(level, middle->first, middle->second);
+        level = parents_of(part(level, middle->first, middle->second));
         made += level.size();
     }
     return made;

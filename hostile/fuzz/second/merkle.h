@@ -40,6 +40,13 @@ std::optional<uint64_t> total_size(const Nodes &nodes);
 std::optional<uint64_t> total_size(const Subtree &subtree);
 size_t node_count(const Subtree &subtree);
 
+/* Where each group of a list begins, and last the length of the list. */
+std::vector<size_t> group_bounds(const Nodes &nodes);
+Nodes parents_of(const Nodes &nodes);
+
+/* The nodes from a place up to, and without, another one. */
+Nodes part(const Nodes &nodes, size_t from, size_t to);
+
 /* The root and the file hash of a list whose sizes fit 64 bits. */
 Hash root_of(const Nodes &nodes);
 Hash file_hash_of(const Nodes &nodes, const Hash &salt);

@@ -1,9 +1,12 @@
-/* Compares the second reading with the test vectors of vectors/, without the library: the lines of bindings/c/make_vector_lines,
- * in the file that is named. */
+/* Compares the second reading with the test vectors of vectors/, without the library: the lines of bindings/c/make_vector_lines, and
+ * range_proofs.json, in the files that are named. */
 #include "json.h"
+#include "json_value.h"
+#include "proof.h"
 
 #include <cstdio>
 #include <fstream>
+#include <iterator>
 
 #include "yurewha.h"
 
@@ -218,13 +221,169 @@ void check(const Line &it)
         flat(it);
 }
 
+/* A test of range_proofs.json. */
+struct Test {
+    const second::Value &value;
+
+    bool has(const char *name) const { return value.members.count(name) != 0; }
+    const second::Value &at(const char *name) const { return value.members.at(name); }
+    const std::string &text(const char *name) const { return at(name).string; }
+    bool is_valid() const { return text("result") == "valid"; }
+    unsigned rule() const { return has("rule") ? static_cast<unsigned>(at("rule").whole) : 0; }
+    bool is_told(const char *name) const { return at(name).kind == second::Value::STRING; }
+
+    void expect(bool holds, const char *what) const
+    {
+        checks++;
+        if (!holds) {
+            failures++;
+            std::printf("range_proofs.json:%llu: %s\n", static_cast<unsigned long long>(at("tcId").whole), what);
+        }
+    }
+};
+
+/* A list that is told without its seeds, or nothing. */
+std::optional<second::Nodes> list_of(const second::Value &said)
+{
+    second::Nodes nodes;
+    const auto data = [&](const std::string &data) { nodes.push_back({second::data_hash(data), data.size()}); };
+    const auto &[rule, of_rule] = *said.members.begin();
+    if (rule == "chunkBytes") {
+        for (const second::Value &item : of_rule.items)
+            data(bytes_of(item.string));
+    } else if (rule == "numbers") {
+        const std::vector<second::Value> &lengths = of_rule.members.at("lengths").items;
+        for (uint64_t i = 0; i < of_rule.members.at("count").whole; i++) {
+            const uint64_t length = lengths[i % lengths.size()].whole;
+            std::string text;
+            while (text.size() < length)
+                text += std::to_string(of_rule.members.at("first").whole + i) + " ";
+            data(text.substr(0, length));
+        }
+    } else if (rule == "counted") {
+        const uint64_t every = of_rule.members.at("cutEvery").whole;
+        for (uint64_t i = 0; i < of_rule.members.at("count").whole; i++)
+            nodes.push_back({{i, 0, 0, !(every > 0 && i % every == every - 1)}, 1});
+    } else {
+        return {};
+    }
+    return nodes;
+}
+
+void proof_of_list(const Test &it, const second::Nodes &nodes)
+{
+    const second::Proof proof = second::prove(nodes, it.at("first").whole, it.at("end").whole);
+    it.expect(second::data_hash(second::json_text(proof)) == hash(it.text("jsonHash")), "the text of a proof");
+    const std::vector<second::Value> &places = it.at("places").items;
+    for (size_t k = 0; k < places.size(); k++)
+        it.expect(second::begins(proof, k) == std::stoull(places[k].string), "a place");
+    it.expect(second::shows_root(proof, second::root_of(nodes)), "the root");
+    it.expect(second::shows(proof, second::file_hash_of(nodes, {}), {}), "the file hash");
+}
+
+void hash_tree(const Test &it)
+{
+    const std::optional<second::Nodes> nodes = list_of(it.at("list"));
+    if (!nodes || !it.is_valid())
+        return;
+    it.expect(second::root_of(*nodes) == hash(it.text("root")), "the root");
+    for (const second::Value &row : it.at("chunksAt").items) {
+        const auto found = second::chunks_at(*nodes, std::stoull(row.members.at("start").string), std::stoull(row.members.at("stop").string));
+        const second::Value &wanted = row.members.at("chunks");
+        it.expect(wanted.items.empty() ? !found : found == std::pair<size_t, size_t>(wanted.items[0].whole, wanted.items[1].whole),
+                  "the chunks at some bytes");
+    }
+    for (second::Value row : it.at("proofs").items) {
+        row.members["tcId"] = it.at("tcId");
+        proof_of_list({row}, *nodes);
+    }
+}
+
+void open_proof(const Test &it)
+{
+    const second::ProofReading read = second::read_proof(it.text("text"));
+    it.expect(read.is_json && read.rule == 0, "the proof");
+    const bool is_shown = it.has("root") ? second::shows_root(read.proof, hash(it.text("root")))
+                                         : second::shows(read.proof, hash(it.text("fileHash")), second::hash_of(key_of(it.text("saltBytes"))));
+    it.expect(is_shown == it.is_valid(), "what it shows");
+    if (!it.is_valid())
+        return;
+    it.expect(second::file_size(read.proof) == std::stoull(it.text("fileSize")), "the size of the file");
+    for (const second::Value &value : it.at("checks").items) {
+        const Test row = {value};
+        const auto place = second::check(read.proof, row.at("number").whole, bytes_of(row.text("dataBytes")));
+        it.expect(row.is_told("place") ? place == std::stoull(row.text("place")) : !place, "the place of a chunk");
+    }
+    for (const second::Value &value : it.at("reads").items) {
+        const Test row = {value};
+        const std::string data = bytes_of(row.text("dataBytes"));
+        const uint64_t from = std::stoull(row.text("start")), to = std::stoull(row.text("stop"));
+        const auto start = second::read(read.proof, from, to, data);
+        it.expect(row.is_told("readBytes") ? start && data.substr(*start, to - from) == bytes_of(row.text("readBytes")) : !start,
+                  "the bytes that are read");
+    }
+}
+
+void proof_json(const Test &it)
+{
+    const second::ProofReading read = second::read_proof(it.text("text"));
+    it.expect(read.is_json == (it.is_valid() || it.text("error") != "NotJson") && read.rule == it.rule(), "the rule");
+    if (it.is_valid())
+        it.expect(second::json_text(read.proof) == it.text(it.has("written") ? "written" : "text"), "the text that is written");
+}
+
+/* Whether a number has 64 bits. */
+bool fits(const std::string &digits)
+{
+    const std::string greatest = std::to_string(UINT64_MAX);
+    return digits.size() < greatest.size() || (digits.size() == greatest.size() && digits <= greatest);
+}
+
+void flat_proof(const Test &it)
+{
+    std::vector<std::pair<uint64_t, uint64_t>> counts;
+    for (const second::Value &level : it.at("levels").items) {
+        const std::string &left = level.items[0].string, &right = level.items[1].string;
+        if (!fits(left) || !fits(right))
+            return;
+        counts.push_back({std::stoull(left), std::stoull(right)});
+    }
+    second::Nodes nodes;
+    for (const second::Value &node : it.at("nodes").items)
+        nodes.push_back({hash(node.members.at("hash").string), std::stoull(node.members.at("size").string)});
+    second::Proof proof;
+    it.expect(second::read_flat(counts, nodes, proof) == it.rule(), "the rule of flat lists");
+    if (it.is_valid())
+        it.expect(second::json_text(proof) == it.text("json") && second::flat_nodes(proof) == nodes, "the proof of flat lists");
+}
+
+void check_proofs(const second::Value &file)
+{
+    for (const second::Value &group : file.members.at("testGroups").items) {
+        const std::string &type = group.members.at("type").string;
+        for (const second::Value &value : group.members.at("tests").items) {
+            const Test it = {value};
+            if (type == "HashTree")
+                hash_tree(it);
+            else if (type == "OpenProof")
+                open_proof(it);
+            else if (type == "ProofJson")
+                proof_json(it);
+            else if (type == "FlatProof")
+                flat_proof(it);
+        }
+    }
+}
+
 }  // namespace
 
 int main(int, char **names)
 {
-    std::ifstream file(names[1]);
+    std::ifstream file(names[1]), proofs(names[2]);
     for (std::string text; std::getline(file, text);)
         check({parts_of(text, '\t')});
+    const std::string text((std::istreambuf_iterator<char>(proofs)), {});
+    check_proofs(*second::read_json(text));
     std::printf("%zu checks of the second reading, %zu failed\n", checks, failures);
     return failures != 0 || checks == 0;
 }

@@ -1,24 +1,21 @@
 /* JSON texts of subtrees. */
 #include "../second/json.h"
-#include "support.h"
+#include "spelling.h"
 
 namespace {
 
-/* Spells a JSON text, for which the bytes of an input say the members, the numbers and the nodes. */
-class Spelling {
+class SubtreeSpelling : Spelling {
 public:
-    explicit Spelling(Input &input) : input(input) {}
+    using Spelling::Spelling;
 
     std::string text()
     {
         const uint8_t marks = input.byte();
         const second::Subtree subtree = some_subtree(marks & 1, marks & 2);
-        const second::Nodes flat = second::flat_nodes(subtree);
-        std::string levels, nodes;
+        std::string levels;
         for (const second::Level &level : subtree.levels)
             levels += (levels.empty() ? "" : ",") + array(number(level.left.size()) + "," + number(level.right.size()));
-        for (const second::Node &node : flat)
-            nodes += (nodes.empty() ? "" : ",") + spelled_node(node);
+        const std::string nodes = spelled_nodes(second::flat_nodes(subtree));
         std::string members = member("at_end", truth(marks & 2)) + "," + member("at_start", truth(marks & 1));
         members += "," + member("levels", array(levels)) + "," + member("nodes", array(nodes));
         if (odd())
@@ -29,53 +26,6 @@ public:
     }
 
 private:
-    Input &input;
-
-    /* Now and then. */
-    bool odd() { return input.byte() > 0xE0; }
-
-    std::string space() { return odd() ? (input.flag() ? " " : "\n\t") : ""; }
-
-    std::string array(const std::string &items) { return odd() ? "[" + items + ",0]" : "[" + space() + items + "]"; }
-
-    std::string truth(bool is_true) { return odd() ? "null" : is_true ? "true" : "false"; }
-
-    std::string member(std::string name, const std::string &value)
-    {
-        if (odd())
-            name = input.flag() ? name + "s" : "\\u00" + hex_byte(static_cast<uint8_t>(name[0])) + name.substr(1);
-        return "\"" + name + "\"" + space() + ":" + space() + value;
-    }
-
-    static std::string hex_byte(uint8_t byte)
-    {
-        static constexpr char DIGITS[] = "0123456789abcdef";
-        return {DIGITS[byte >> 4], DIGITS[byte & 15]};
-    }
-
-    std::string number(uint64_t number)
-    {
-        static constexpr const char *ENDS[] = {".0", "e0", "E+0", "0", "00000000000000000000", "e400", ".5"};
-        if (!odd())
-            return std::to_string(number);
-        const uint8_t how = input.byte();
-        return how % 8 == 0 ? "-" + std::to_string(number) : std::to_string(number) + ENDS[how % 8 - 1];
-    }
-
-    std::string nested()
-    {
-        const size_t depth = 120 + input.below(10);
-        return std::string(depth, '[') + std::string(depth, ']');
-    }
-
-    std::string spelled_node(const second::Node &node)
-    {
-        std::string hash = second::hex_of(node.hash);
-        if (odd())
-            hash = hash.substr(input.flag()) + (input.flag() ? "A" : "g");
-        return "{" + member("hash", "\"" + hash + "\"") + "," + member("size", number(node.size)) + "}";
-    }
-
     /* A canonical one, or one of levels that are drawn; in either some nodes may be changed. */
     second::Subtree some_subtree(bool at_start, bool at_end)
     {
@@ -150,7 +100,7 @@ extern "C" int LLVMFuzzerTestOneInput(const uint8_t *data, size_t size)
 {
     Input input(data, size);
     const uint8_t kind = input.byte();
-    const std::string text = kind & 1 ? Spelling(input).text() : std::string(input.rest());
+    const std::string text = kind & 1 ? SubtreeSpelling(input).text() : std::string(input.rest());
     second::Subtree kept = second::canonical({{{7, 7, 7, 7}, 7}}, true, false);
     const yurewha_chunk chunk = {{{7, 7, 7, 7}}, 7};
     yurewha_subtree handle = {};

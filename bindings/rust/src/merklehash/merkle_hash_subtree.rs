@@ -4,7 +4,8 @@ use super::MerkleHash;
 use crate::error::Result;
 use crate::ffi;
 use crate::handle::Owned;
-use crate::lent_chunks::{lend, node_of, room};
+use crate::in_form::InForm;
+use crate::lent_chunks::{lend, node_of, room, zeros};
 use crate::status::{answer, plain, told, told_if_there};
 use std::sync::MutexGuard;
 use std::{fmt, mem, ptr};
@@ -394,13 +395,6 @@ impl MerkleHashSubtree {
     }
 }
 
-// A vector of `count` default values.
-fn zeros<T: Clone + Default>(count: usize) -> Result<Vec<T>> {
-    let mut zeros = room(count)?;
-    zeros.resize(count, T::default());
-    Ok(zeros)
-}
-
 // Marks and flat lists, in the order of `from_json`. They may describe no subtree.
 struct Flat {
     nodes: Vec<ffi::yurewha_chunk>,
@@ -432,15 +426,6 @@ impl Flat {
             at_start,
             at_end,
         })
-    }
-}
-
-// The elements of a list in another form. They are made one by one, so there is no allocation.
-struct InForm<'a, T, F>(&'a [T], F);
-
-impl<T, U: fmt::Debug, F: Fn(&T) -> U> fmt::Debug for InForm<'_, T, F> {
-    fn fmt(&self, f: &mut fmt::Formatter<'_>) -> fmt::Result {
-        f.debug_list().entries(self.0.iter().map(&self.1)).finish()
     }
 }
 

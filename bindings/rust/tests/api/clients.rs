@@ -197,7 +197,8 @@ mod hashes {
     #[test]
     fn give_a_hash_traits_of_ones_own() {
         let hash = MerkleHash::random_from_seed(1);
-        assert!(Tag::from(hash) == hash);
+        let tag = Tag::from(hash);
+        assert!(tag == hash);
         assert!(hash.object_path(Path::new("store")).starts_with("store/cf"));
         assert_eq!(MerkleHash::from([0x0102, 0, 0, 3]).checksum(), 6);
     }

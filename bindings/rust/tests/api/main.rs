@@ -12,6 +12,9 @@ mod map;
 mod merging;
 mod own;
 mod panics;
+#[cfg(feature = "serde")]
+mod proof_forms;
+mod range_proofs;
 mod reference_lists;
 mod roots;
 mod saving;

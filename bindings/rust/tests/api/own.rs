@@ -1,5 +1,6 @@
 //! What the Rust crate doesn't have, and that it stands in nobody's way.
 
+use std::ops::Range;
 use yurewha::error::{CoreError, Result};
 use yurewha::merklehash::{self, MerkleHash, MerkleHashSubtree as Subtree};
 use yurewha::own;
@@ -22,6 +23,22 @@ fn own_items_have_their_signatures() {
     let _: fn(&own::Session) -> u64 = own::Session::num_chunks;
     type Finished = std::result::Result<MerkleHash, own::SessionFault>;
     let _: fn(&own::Session, u64, &[u8; 32]) -> Finished = own::Session::finish_with_salt;
+    let _: fn(Pairs, Range<usize>) -> Result<own::RangeProof> = own::RangeProof::from_chunks;
+    type Opened = std::result::Result<own::OpenedRange, own::OpenError>;
+    let _: [fn(own::RangeProof, &MerkleHash) -> Opened; 2] = [own::RangeProof::open, own::RangeProof::open_root];
+    let _: fn(own::RangeProof, &MerkleHash, &[u8; 32]) -> Opened = own::RangeProof::open_with_salt;
+    let _: for<'p> fn(&'p own::RangeProof) -> Pairs<'p> = own::RangeProof::chunks;
+    let _: [for<'p> fn(&'p own::RangeProof, usize) -> Pairs<'p>; 2] = [own::RangeProof::left, own::RangeProof::right];
+    let _: fn(&own::RangeProof) -> Result<String> = own::RangeProof::to_json;
+    let _: fn(&str) -> Result<own::RangeProof> = own::RangeProof::from_json;
+    let _: [fn(&own::OpenedRange, usize) -> Option<u64>; 2] = [own::OpenedRange::begins, own::OpenedRange::ends];
+    let _: fn(&own::OpenedRange, usize, &[u8]) -> Option<u64> = own::OpenedRange::check;
+    type Read = for<'d> fn(&own::OpenedRange, Range<u64>, &'d [u8]) -> Option<&'d [u8]>;
+    let _: Read = own::OpenedRange::read;
+    let _: fn(Pairs) -> Result<own::HashTree> = own::HashTree::from_chunks;
+    let _: fn(&own::HashTree, Range<u64>) -> Option<Range<usize>> = own::HashTree::chunks_at;
+    let _: fn(&own::HashTree, Range<usize>) -> Option<Range<u64>> = own::HashTree::bytes_of;
+    let _: fn(&own::HashTree, Range<usize>) -> Result<own::RangeProof> = own::HashTree::proof;
     let _: fn(&Subtree) -> Result<String> = Subtree::to_json;
     let _: fn(&str) -> Result<Subtree> = Subtree::from_json;
 }
@@ -32,6 +49,9 @@ fn errors_and_subtrees_can_be_compared() {
     error::<CoreError>();
     error::<own::HashTextError>();
     error::<own::SessionFault>();
+    error::<own::OpenFault>();
+    fn error_with_a_proof<T: std::error::Error + PartialEq + Send + Sync + 'static>() {}
+    error_with_a_proof::<own::OpenError>();
     error::<merklehash::DataHashHexParseError>();
     error::<merklehash::DataHashBytesParseError>();
     fn subtree<T: PartialEq + Eq>() {}
@@ -44,7 +64,7 @@ fn errors_and_subtrees_can_be_compared() {
 fn errors_may_get_more_variants() {
     let _ = |error: CoreError| match error {
         CoreError::InvalidArguments | CoreError::SizeOverflow | CoreError::OutOfMemory => 1,
-        CoreError::InvalidText | CoreError::InvalidJson(_) => 2,
+        CoreError::InvalidText | CoreError::InvalidJson(_) | CoreError::InvalidProofJson(_) => 2,
         _ => 3,
     };
     let _ = |error: own::HashTextError| match error {
@@ -55,6 +75,10 @@ fn errors_may_get_more_variants() {
         own::SessionFault::Overlap | own::SessionFault::Positions | own::SessionFault::Sizes => 1,
         own::SessionFault::Memory | own::SessionFault::Gap => 2,
         _ => 3,
+    };
+    let _ = |fault: own::OpenFault| match fault {
+        own::OpenFault::Mismatch | own::OpenFault::OutOfMemory => 1,
+        _ => 2,
     };
 }
 
@@ -72,13 +96,14 @@ mod of_the_user {
         ($($name:ident)*) => { $(pub mod $name { pub const ONE: u8 = 1; })* };
     }
     unit_structs!(Node Session SessionFault Hasher HashTextError CoreError Result Owned);
+    unit_structs!(HashTree RangeProof OpenedRange OpenError OpenFault);
     pub fn try_xorb_hash() {}
     pub fn try_file_hash() {}
     pub fn try_file_hash_with_salt() {}
     pub fn try_find_stable_start() {}
     pub fn try_find_stable_end() {}
     constants!(DATA_KEY);
-    modules!(blake3 session own error errors forms lent_chunks hashed_write roots stable_points json_text serde);
+    modules!(blake3 range_proof in_form session own error errors forms lent_chunks hashed_write roots stable_points json_text serde);
 }
 
 // The alias is beside the modules, as in the Rust crate, not in one of them.
@@ -160,6 +185,7 @@ mod through_globs {
             Result,
             Owned,
         );
+        let _ = (HashTree, RangeProof, OpenedRange, OpenError, OpenFault);
         try_xorb_hash();
         try_file_hash();
         try_file_hash_with_salt();
@@ -167,6 +193,8 @@ mod through_globs {
         try_find_stable_end();
         let modules = [
             blake3::ONE,
+            range_proof::ONE,
+            in_form::ONE,
             session::ONE,
             own::ONE,
             error::ONE,
@@ -179,7 +207,7 @@ mod through_globs {
             json_text::ONE,
             serde::ONE,
         ];
-        assert_eq!(modules, [1; 12]);
+        assert_eq!(modules, [1; 14]);
         assert_eq!(DATA_KEY, 0);
     }
 }

@@ -5,8 +5,8 @@ use std::future::Future;
 use std::panic::{RefUnwindSafe, UnwindSafe};
 use std::sync::{Arc, OnceLock};
 use std::thread;
-use yurewha::merklehash::{file_hash, xorb_hash, DataHash, MerkleHashSubtree};
-use yurewha::own::{self, Session, SessionFault};
+use yurewha::merklehash::{compute_data_hash, file_hash, xorb_hash, DataHash, MerkleHashSubtree};
+use yurewha::own::{self, HashTree, OpenedRange, RangeProof, Session, SessionFault};
 
 const fn assert_send_and_sync<T: Send + Sync>() {}
 
@@ -15,10 +15,16 @@ const fn assert_unwind_safe<T: UnwindSafe + RefUnwindSafe>() {}
 const _: () = {
     assert_send_and_sync::<MerkleHashSubtree>();
     assert_send_and_sync::<Session>();
+    assert_send_and_sync::<HashTree>();
+    assert_send_and_sync::<RangeProof>();
+    assert_send_and_sync::<OpenedRange>();
     assert_send_and_sync::<DataHash>();
     assert_send_and_sync::<own::Hasher>();
     assert_unwind_safe::<MerkleHashSubtree>();
     assert_unwind_safe::<Session>();
+    assert_unwind_safe::<HashTree>();
+    assert_unwind_safe::<RangeProof>();
+    assert_unwind_safe::<OpenedRange>();
 };
 
 #[test]
@@ -130,6 +136,29 @@ fn threads_look_at_the_same_session() {
                     assert!(session.taken(299) && !session.taken(300));
                     assert_eq!((session.runs().count(), session.root(300)), (2, Err(SessionFault::Gap)));
                     assert_eq!(session.gaps(311).unwrap().len(), 1);
+                }
+            });
+        }
+    });
+}
+
+#[test]
+fn threads_look_at_the_same_tree_and_the_same_range() {
+    let data: Vec<_> = (0..300_u32).map(|i| i.to_le_bytes()).collect();
+    let chunks: Vec<_> = data.iter().map(|data| (compute_data_hash(data), 4)).collect();
+    let tree = HashTree::from_chunks(&chunks).unwrap();
+    let range = tree.proof(100..200).unwrap().open(&file_hash(&chunks)).unwrap();
+    let (whole, fetched) = (data.concat(), data[100..200].concat());
+    thread::scope(|scope| {
+        for _ in 0..THREADS {
+            scope.spawn(|| {
+                for k in 0..100 {
+                    let proof = tree.proof(k..k + 2).unwrap();
+                    let opened = proof.open_root(&tree.root()).unwrap();
+                    assert_eq!(opened.begins(1), Some(4 * (k as u64 + 1)));
+                    assert_eq!(range.check(k, &data[100 + k]), Some(4 * (100 + k as u64)));
+                    assert_eq!(range.read(500..510, &fetched), Some(&whole[500..510]));
+                    assert_eq!(tree.chunks_at(0..5), Some(0..2));
                 }
             });
         }

@@ -1,9 +1,9 @@
 //! A subtree in serde's formats: a struct of four members.
 
-use super::{pair_of, Flat, InForm, MerkleHashSubtree};
-use crate::ffi::yurewha_chunk;
+use super::{pair_of, Flat, MerkleHashSubtree};
+use crate::forms::named;
+use crate::in_form::InForm;
 use crate::lent_chunks::node_of;
-use crate::merklehash::data_hash::{hex, DataHash};
 use serde::ser::{Error, SerializeStruct};
 use serde::{Deserialize, Deserializer, Serialize, Serializer};
 
@@ -11,29 +11,6 @@ mod reading;
 
 const NAME: &str = "MerkleHashSubtree";
 const MEMBERS: &[&str] = &["nodes", "levels", "at_start", "at_end"];
-
-// A node in a human-readable format.
-const NODE_NAME: &str = "Node";
-const NODE_MEMBERS: &[&str] = &["hash", "size"];
-
-#[derive(Serialize)]
-#[serde(rename = "Node")]
-struct NamedNode {
-    #[serde(with = "hex::serde")]
-    hash: DataHash,
-    size: u64,
-}
-
-fn named(chunk: &yurewha_chunk) -> NamedNode {
-    let (hash, size) = node_of(chunk);
-    NamedNode { hash, size }
-}
-
-impl<T, U: Serialize, F: Fn(&T) -> U> Serialize for InForm<'_, T, F> {
-    fn serialize<S: Serializer>(&self, serializer: S) -> Result<S::Ok, S::Error> {
-        serializer.collect_seq(self.0.iter().map(&self.1))
-    }
-}
 
 /// Writes a struct of `nodes`, `levels`, `at_start` and `at_end`, in this order. In a human-readable format, a node is
 /// a struct of `hash`, 64 hex digits, and `size`. In other formats it is a pair of hash and size. A level is a pair:

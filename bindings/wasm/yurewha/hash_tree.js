@@ -1,0 +1,97 @@
+// Hash trees: all levels of nodes over a list of chunks, which make range proofs.
+
+import { u64 } from "./arguments.js";
+import { CHUNK_LENGTH } from "./chunks.js";
+import { STATUS, check } from "./errors.js";
+import { Handle, Handles, disposable } from "./handle.js";
+import { HASH_LENGTH, thirtyTwo } from "./hash.js";
+import { MOST_BESIDE, NO_RANGE } from "./range_proof.js";
+import { inspected, showing } from "./shown.js";
+
+/** The class `HashTree` over a library. `written` makes the proof that a call writes. */
+export function makeHashTree(library, { result }, { packedOf }, written) {
+    const handles = new Handles(library, "yurewha_hash_tree_free");
+
+    class HashTree {
+        #handle;
+
+        constructor(handle) {
+            if (!(handle instanceof Handle)) throw new TypeError("a HashTree is made by fromChunks");
+            this.#handle = handle;
+            handles.watch(this, handle);
+            show(this);
+        }
+
+        static fromChunks(chunks) {
+            const packed = packedOf(chunks);
+            return library.over([packed], (at) => {
+                const count = BigInt(packed.length / CHUNK_LENGTH);
+                return new HashTree(handles.make((made) => check(library.call("yurewha_hash_tree_from_chunks", at, count, made))));
+            });
+        }
+
+        get root() {
+            const { pointer } = this.#handle;
+            return result([], (out) => check(library.call("yurewha_hash_tree_root", pointer, out)));
+        }
+
+        fileHash(salt) {
+            const key = salt === undefined ? new Uint8Array(HASH_LENGTH) : thirtyTwo(salt, "a salt");
+            const { pointer } = this.#handle;
+            return result([key], (...pointers) => check(library.call("yurewha_hash_tree_file_hash", pointer, ...pointers)));
+        }
+
+        get numChunks() {
+            return Number(this.#told("yurewha_hash_tree_num_chunks"));
+        }
+
+        get totalSize() {
+            return this.#told("yurewha_hash_tree_total_size");
+        }
+
+        chunksAt(from, to) {
+            const range = this.#pair("yurewha_hash_tree_chunks_at", u64(from, "a place"), u64(to, "a place"));
+            return range && range.map(Number);
+        }
+
+        bytesOf(first, end) {
+            return this.#pair("yurewha_hash_tree_bytes_of", u64(first, "the number of a chunk"), u64(end, "the number of a chunk"));
+        }
+
+        proof(first, end) {
+            const [from, to] = [u64(first, "the number of a chunk"), u64(end, "the number of a chunk")];
+            const most = from < to ? Math.min(this.numChunks, Number(to - from)) : 0;
+            const { pointer } = this.#handle;
+            return written(most + MOST_BESIDE, [], (rooms) => {
+                check(library.call("yurewha_hash_tree_proof", pointer, from, to, ...rooms), NO_RANGE);
+            });
+        }
+
+        free() {
+            this.#handle.free();
+        }
+
+        /** A number that a call writes. */
+        #told(name) {
+            const { pointer } = this.#handle;
+            return library.over([8], (out) => {
+                check(library.call(name, pointer, out));
+                return library.u64(out);
+            });
+        }
+
+        /** Two numbers that a call writes, or null if there are none. */
+        #pair(name, ...given) {
+            const { pointer } = this.#handle;
+            return library.over([8, 8], (...out) => {
+                const status = library.call(name, pointer, ...given, ...out);
+                if (status === STATUS.ARGUMENTS) return null;
+                check(status);
+                return out.map((at) => library.u64(at));
+            });
+        }
+    }
+    const show = showing(HashTree, ["root", "numChunks", "totalSize"]);
+    inspected(HashTree, "HashTree", ({ numChunks, totalSize, root }, inspect) => ` ${inspect({ numChunks, totalSize, root })}`);
+    return disposable(HashTree);
+}

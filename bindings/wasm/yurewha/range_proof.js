@@ -1,0 +1,191 @@
+// Range proofs: the nodes of some adjacent chunks of a file, and those beside the paths to the root.
+
+import { bytes, text, u64 } from "./arguments.js";
+import { CHUNK_LENGTH } from "./chunks.js";
+import { InvalidArguments, STATUS, check } from "./errors.js";
+import { HASH_LENGTH, thirtyTwo } from "./hash.js";
+import { LEVEL_LENGTH, packedLevels, unpackedLevels } from "./levels.js";
+import { inspected, showing } from "./shown.js";
+
+const MOST_LEVELS = 64;
+/** The most nodes beside a range: eight on each side of each level. */
+export const MOST_BESIDE = 2 * 8 * MOST_LEVELS;
+/** The JSON text of a node has more bytes. */
+const NODE_TEXT = 64;
+export const NO_RANGE = "a range has a chunk, and only chunks of the list";
+const UNPACKED = "a packed proof is a number of levels, two counts for each, and 40 bytes for each node";
+const decoder = new TextDecoder();
+
+/** The flat lists of a proof, packed as the module has them. */
+class Lists {
+    constructor(levels, nodes) {
+        this.levels = levels;
+        this.nodes = nodes;
+    }
+
+    /** The numbers of left and right nodes of each level. */
+    get counts() {
+        return unpackedLevels(this.levels);
+    }
+
+    /** The nodes from one number up to, and without, another. */
+    slice(start, end) {
+        return this.nodes.subarray(CHUNK_LENGTH * start, CHUNK_LENGTH * end);
+    }
+}
+
+/** The lists that packed bytes have. Whether they are those of a proof isn't known yet. */
+function unpacked(packed) {
+    const [count] = packed;
+    const start = 1 + 2 * count;
+    if (count === undefined || packed.length < start || (packed.length - start) % CHUNK_LENGTH !== 0) throw new InvalidArguments(UNPACKED);
+    const counts = Array.from({ length: count }, (_, level) => [packed[1 + 2 * level], packed[2 + 2 * level]]);
+    return new Lists(packedLevels(counts), packed.slice(start));
+}
+
+/** The class `RangeProof` over a library, and `written`, the proof that a call writes to rooms for so many nodes. */
+export function makeRangeProof(library, { rawOf }, { Chunks, packedOf }, { opened }, HashTree) {
+    class RangeProof {
+        #lists;
+
+        constructor(packed) {
+            this.#lists = packed instanceof Lists ? packed : checked(unpacked(bytes(packed, "a packed proof")));
+            show(this);
+        }
+
+        static fromChunks(chunks, first, end) {
+            const list = Chunks.from(chunks);
+            const [from, to] = [first, end].map((number) => u64(number, "the number of a chunk"));
+            // A tree is made only of sizes that fit, which come second.
+            if (from >= to || to > BigInt(list.length)) throw new InvalidArguments(NO_RANGE);
+            const tree = HashTree.fromChunks(list);
+            try {
+                return tree.proof(from, to);
+            } finally {
+                tree.free();
+            }
+        }
+
+        static fromJSON(json) {
+            const given = typeof json === "string" ? text(json, "JSON") : bytes(json, "JSON");
+            const what = "the text is no JSON text";
+            return written(Math.floor(given.length / NODE_TEXT), [given], (rooms, at) => {
+                check(library.call("yurewha_range_proof_from_json", at, BigInt(given.length), ...rooms), what);
+            });
+        }
+
+        static fromFlat({ levels, nodes }) {
+            const counts = packedLevels(levels);
+            return new RangeProof(checked(new Lists(counts, packedOf(nodes).slice())));
+        }
+
+        get bytes() {
+            const { counts, nodes } = this.#lists;
+            const block = new Uint8Array(1 + 2 * counts.length + nodes.length);
+            block.set([counts.length, ...counts.flat()]);
+            block.set(nodes, 1 + 2 * counts.length);
+            return block;
+        }
+
+        get chunks() {
+            const [before, after] = this.#beside(this.numLevels);
+            return new Chunks(this.#lists.slice(before, this.#numNodes - after));
+        }
+
+        get numLevels() {
+            return this.#lists.levels.length / LEVEL_LENGTH;
+        }
+
+        get #numNodes() {
+            return this.#lists.nodes.length / CHUNK_LENGTH;
+        }
+
+        left(level) {
+            const place = Number(u64(level, "the number of a level"));
+            if (place >= this.numLevels) return new Chunks();
+            const [before] = this.#beside(place);
+            return new Chunks(this.#lists.slice(before, before + this.#lists.counts[place][0]));
+        }
+
+        right(level) {
+            const place = Number(u64(level, "the number of a level"));
+            if (place >= this.numLevels) return new Chunks();
+            const end = this.#numNodes - this.#beside(place)[1];
+            return new Chunks(this.#lists.slice(end - this.#lists.counts[place][1], end));
+        }
+
+        open(fileHash, salt) {
+            const key = salt === undefined ? new Uint8Array(HASH_LENGTH) : thirtyTwo(salt, "a salt");
+            return this.#opened("yurewha_range_proof_open", rawOf(fileHash, "a file hash"), key);
+        }
+
+        openRoot(root) {
+            return this.#opened("yurewha_range_proof_open_root", rawOf(root, "a root"));
+        }
+
+        equals(other) {
+            if (typeof other !== "object" || other === null || !(#lists in other)) throw new TypeError("the other is a RangeProof");
+            const [mine, its] = [this.bytes, other.bytes];
+            return mine.length === its.length && mine.every((byte, place) => byte === its[place]);
+        }
+
+        toJSON() {
+            const length = jsonLength(this.#lists);
+            return over(this.#lists, [length, 8], (lists, room, out) => {
+                check(library.call("yurewha_range_proof_to_json", ...lists, room, BigInt(length), out));
+                return decoder.decode(library.read(room, length));
+            });
+        }
+
+        toFlat() {
+            return { levels: this.#lists.counts, nodes: new Chunks(this.#lists.nodes) };
+        }
+
+        #opened(name, ...given) {
+            return over(this.#lists, given, (lists, ...pointers) =>
+                opened(this, (made) => check(library.call(name, ...lists, ...pointers, made))),
+            );
+        }
+
+        /** How many nodes stand on the left and on the right of the levels below one. */
+        #beside(level) {
+            const below = this.#lists.counts.slice(0, level);
+            return [0, 1].map((side) => below.reduce((sum, count) => sum + count[side], 0));
+        }
+    }
+    const show = showing(RangeProof, ["bytes"]);
+    inspected(RangeProof, "RangeProof", ({ chunks, numLevels }, inspect) => ` ${inspect({ chunks, numLevels })}`);
+
+    /** Calls `run` with the arguments of flat lists, and pointers to parts. */
+    const over = ({ levels, nodes }, parts, run) =>
+        library.over([levels, nodes, ...parts], (levelsAt, nodesAt, ...pointers) => {
+            const lists = [levelsAt, BigInt(levels.length / LEVEL_LENGTH), nodesAt, BigInt(nodes.length / CHUNK_LENGTH)];
+            return run(lists, ...pointers);
+        });
+
+    /** Without room the call writes how long the text is, if the lists are those of a proof. */
+    const jsonLength = (lists) =>
+        over(lists, [0, 8], (given, room, out) => {
+            const status = library.call("yurewha_range_proof_to_json", ...given, room, 0n, out);
+            if (status !== STATUS.ROOM) check(status);
+            return library.count(out);
+        });
+
+    /** Lists that are those of a proof. */
+    function checked(lists) {
+        jsonLength(lists);
+        return lists;
+    }
+
+    /** The proof that a call writes to rooms for at most so many nodes. The call gets pointers to parts, too. */
+    function written(most, parts, run) {
+        const rooms = [LEVEL_LENGTH * MOST_LEVELS, CHUNK_LENGTH * most];
+        return library.over([...parts, ...rooms, 8, 8], (...pointers) => {
+            const [levels, nodes, levelCount, nodeCount] = pointers.splice(parts.length);
+            run([levels, BigInt(MOST_LEVELS), nodes, BigInt(most), levelCount, nodeCount], ...pointers);
+            const counts = library.read(levels, LEVEL_LENGTH * library.count(levelCount));
+            return new RangeProof(new Lists(counts, library.read(nodes, CHUNK_LENGTH * library.count(nodeCount))));
+        });
+    }
+    return { RangeProof, written };
+}
