@@ -1,6 +1,6 @@
-/* Prints how the time of a hash depends on where the stack stands. One message of 64 KiB is hashed with the stack pointer at
- * each of the 256 places of a page that are a multiple of 16 bytes: the least time of the turns of each, the worst place over the
- * best, and the places that take more than 1.05 of the best. */
+/* Prints how the time of a hash depends on where the stack stands, as a line of a table. One message of 64 KiB is hashed with the
+ * stack pointer at each of the 256 places of a page that are a multiple of 16 bytes: the least time of the turns of each, the worst
+ * place over the best, and how many places take more than 1.05 of the best. */
 #define _POSIX_C_SOURCE 200809L
 #include "yurewha.h"
 
@@ -48,7 +48,7 @@ int main(void)
     }
     for (int place = 0; place < PLACES; place++)
         slow += least[place] > 1.05 * best;
-    printf("best %.1f us, worst %.1f us, ratio %.3f, places above 1.05: %d of %d\n", best / 1000, worst / 1000, worst / best, slow,
+    printf("| %s | %.1f µs | %.1f µs | %.3f | %d of %d |\n", yurewha_processor_level(), best / 1000, worst / 1000, worst / best, slow,
            PLACES);
     return 0;
 }

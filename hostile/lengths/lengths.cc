@@ -1,6 +1,6 @@
-/* Compares the library's hashes with a second reading of the definition: of every length up to 20,000, of lengths around the
- * multiples of 1024, 4096, 8192 and 65,536 up to 2^20, of drawn messages that are cut into drawn pieces, and of messages of
- * about 2^32 chunks, from a state that is written into the hasher. */
+/* Compares the library's hashes with a second reading of the definition: of every length up to 20,000, of lengths around all
+ * multiples of 16,384 and some of 1024, 4096 and 8192 up to 2^20, of drawn messages that are cut into drawn pieces, and of messages
+ * of about 2^32 chunks, from a state that is written into the hasher. */
 #include "../fuzz/second/hash.h"
 #include "yurewha.h"
 
@@ -15,7 +15,7 @@
 
 namespace {
 
-constexpr size_t EVERY_LENGTH = 20'000, LONGEST = 1 << 20, CUTTINGS = 20'000;
+constexpr size_t EVERY_LENGTH = 20'000, LONGEST = 1 << 20, CUTTINGS = 100'000;
 
 size_t checks, failures;
 
@@ -104,8 +104,10 @@ int main()
     const std::string_view message = longest;
     for (size_t length = 0; length <= EVERY_LENGTH; length++)
         whole(message.substr(0, length));
-    for (const size_t unit : {1024, 4096, 8192, 65'536})
-        for (size_t multiple = unit; multiple <= LONGEST; multiple += unit * (1 + random() % 16))
+    /* Units, and how many of them there are at most from one multiple to the next. */
+    constexpr size_t STEPS[][2] = {{1024, 16}, {4096, 16}, {8192, 16}, {16'384, 1}};
+    for (const auto &[unit, farthest] : STEPS)
+        for (size_t multiple = unit; multiple <= LONGEST; multiple += unit * (1 + random() % farthest))
             for (size_t length = multiple - 1; length <= multiple + 1; length++)
                 whole(message.substr(0, length));
     constexpr size_t LONGEST_PIECES[] = {100, 1024, 1100, 2048, 5000, 16'384, 70'000};
