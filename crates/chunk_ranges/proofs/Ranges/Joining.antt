@@ -70,3 +70,55 @@ module _ {R : Type 0} (stands : R → List Node → Type 0) (start end : R → B
     one [] zip e = elim zip [ ]
     one (list ∷ []) zip e = subst (stands range) (sym (append-nil list) ∙ e) zip.0
     one (list ∷ next ∷ others) zip e = elim zip.1 [ ]
+
+-- ranges that are joined to one on either side
+module _ {R : Type 0} (stands : R → List Node → Type 0) (start end : R → Bool) (total : R → ℕ) where
+  unmarked_between : (front back : List R) → NoMarkBetween start end (front ++ back) → (e s : Bool) → end_of_last end front ≡ Some e → start_of_first start back ≡ Some s →
+      (e ≡ false) × (s ≡ false)
+  unmarked_between [] back marks e s last first = let clash : ⊥ = cc in absurd clash
+  unmarked_between (x ∷ []) [] marks e s last first = let clash : ⊥ = cc in absurd clash
+  unmarked_between (x ∷ []) (y ∷ back) marks e s last first =
+      ((let same : e ≡ end x = cc in same) ∙ marks.0, (let same : s ≡ start y = cc in same) ∙ marks.1)
+  unmarked_between (x ∷ y ∷ front) back marks e s last first = unmarked_between (y ∷ front) back marks.2 e s last first
+
+  pub unmarked_parts : (front back : List R) → NoMarkBetween start end (front ++ back) → NoMarkBetween start end front × NoMarkBetween start end back
+  unmarked_parts [] back marks = (tt, marks)
+  unmarked_parts (x ∷ []) [] marks = (tt, tt)
+  unmarked_parts (x ∷ []) (y ∷ back) marks = (tt, marks.2)
+  unmarked_parts (x ∷ y ∷ front) back marks = let rest = unmarked_parts (y ∷ front) back marks.2 in ((marks.0, marks.1, rest.0), rest.1)
+
+  start_of_append : (front back : List R) (s : Bool) → start_of_first start front ≡ Some s → start_of_first start (front ++ back) ≡ Some s
+  start_of_append [] back s first = let clash : ⊥ = cc in absurd clash
+  start_of_append (x ∷ front) back s first = first
+
+  end_of_append : (front back : List R) (e : Bool) → end_of_last end back ≡ Some e → end_of_last end (front ++ back) ≡ Some e
+  end_of_append [] back e last = last
+  end_of_append (x ∷ []) [] e last = let clash : ⊥ = cc in absurd clash
+  end_of_append (x ∷ []) (y ∷ back) e last = last
+  end_of_append (x ∷ y ∷ front) back e last = end_of_append (y ∷ front) back e last
+
+  zip_parts : (front back : List R) (lists : List (List Node)) → AllZip stands (front ++ back) lists →
+      (ls rs : List (List Node)) × AllZip stands front ls × AllZip stands back rs × (flat_map (λ list. list) lists ≡ flat_map (λ list. list) ls ++ flat_map (λ list. list) rs)
+  zip_parts [] back lists all = ([], lists, tt, all, refl)
+  zip_parts (x ∷ front) back [] all = elim all [ ]
+  zip_parts (x ∷ front) back (list ∷ lists) all =
+      let rest = zip_parts front back lists all.1 in
+      (list ∷ rest.0, rest.1, (all.0, rest.2), rest.3, ap (λ (l : List Node). list ++ l) rest.4 ∙ sym (append_assoc list (flat_map (λ list. list) rest.0) (flat_map (λ list. list) rest.1)))
+
+  pub JoinsTo-both : (front back : List R) (a b : R) → NoMarkBetween start end (front ++ back) → JoinsTo stands start end total front (a ∷ []) → JoinsTo stands start end total back (b ∷ []) →
+      JoinsTo stands start end total (front ++ back) (a ∷ b ∷ [])
+  JoinsTo-both front back a b marks x y =
+      let between = unmarked_between front back marks (end a) (start b) (sym x.last) (sym y.first) in record {
+        marks = (between.0, between.1, tt);
+        first = sym (start_of_append front back (start a) (sym x.first));
+        last = sym (end_of_append front back (end b) (sym y.last));
+        sum = let first = x.sum in let second = y.sum in omega (arith, sum_by-append total front back, sum_by-cons total a (b ∷ []), sum_by-cons total a [], sum_by-cons total b []);
+        lists = λ lists all.
+            let parts = zip_parts front back lists all in
+            let one = JoinsTo-one stands start end total front a x parts.0 parts.2 in
+            let two = JoinsTo-one stands start end total back b y parts.1 parts.3 in (
+              flat_map (λ list. list) parts.0 ∷ flat_map (λ list. list) parts.1 ∷ [],
+              (one, (two, tt)),
+              ap (λ (l : List Node). flat_map (λ list. list) parts.0 ++ l) (append-nil (flat_map (λ list. list) parts.1)) ∙ sym parts.4,
+            );
+      }
