@@ -1,7 +1,8 @@
-"""What the model answers to lines of crates/range_proof_tests/stdin, whose head says how they are written.
+"""What the model answers to the lines of range proofs that a program of crates/ answers.
 
-A line is a call, an arrow, and what the call returns.  `answer` takes the call
-and gives what the program has to print after the arrow.
+A line is a call, an arrow, and what the call returns; the head of the input
+says how they are written.  `answer` takes the call and gives what the program
+has to print after the arrow.
 """
 
 from __future__ import annotations

@@ -159,10 +159,6 @@ def test_no_chunks():
             call(0, 1)
 
 
-def exchanged(levels, nodes):
-    return levels, [*nodes[:1], CHUNKS[0], *nodes[2:]]
-
-
 #: Each makes another proof of the honest one of [1, 2): the flat lists have a left node, the chunk and a right node.
 ALTERED = {
     "the chunk exchanged": lambda levels, nodes: (levels, [nodes[0], CHUNKS[0], nodes[2]]),
