@@ -65,7 +65,8 @@ function read(fileHash, [from, to], { proof, data }) {
         return { isShown: false, wrong: [], refused: "Refused: the proof doesn’t lead to the hash of the file." };
     }
     try {
-        const stop = Math.min(to, Number(range.ends(range.numChunks - 1)));
+        // Fewer bytes are accepted only at the end of the file. Its size is shown by the same check.
+        const stop = Math.min(to, Number(range.fileSize));
         const bytes = range.read(from, stop, data);
         if (bytes !== null) return { isShown: true, wrong: [], bytes, stop, fileSize: range.fileSize };
         const wrong = wrongChunks(range, data);

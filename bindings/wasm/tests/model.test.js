@@ -57,6 +57,25 @@ function checksOver(y) {
             if (!it.error) return assert.equal(y.Subtree.fromJSON(it.text).toJSON(), it.json);
             assert.throws(() => y.Subtree.fromJSON(it.text), (error) => error.name === it.error && error.rule === it.rule);
         },
+        partial(it) {
+            const data = it.data.map(unhex);
+            const tree = y.HashTree.fromChunks(data.map((chunk) => [y.dataHash(chunk), chunk.length]));
+            const honest = tree.proof(it.first, it.end);
+            assert.equal(honest.toJSON(), it.honest);
+            assert.equal(tree.fileHash(unhex(it.salt)).hex(), it.file);
+            tree.free();
+            const open = () => y.RangeProof.fromJSON(it.text).open(y.Hash.fromHex(it.file), unhex(it.salt));
+            if (!it.checks) return refused(open, "ProofMismatch");
+            const range = open();
+            assert.deepEqual([range.fileSize, range.begins(0)], [BigInt(it.size), BigInt(it.begins)]);
+            it.checks.forEach(([chunk, place], k) => assert.equal(range.check(k, unhex(chunk)), place && BigInt(place)));
+            if (it.read) {
+                const [from, to, bytes] = it.read;
+                const found = range.read(BigInt(from), BigInt(to), Buffer.concat(data.slice(it.first, it.end)));
+                assert.deepEqual(found && Buffer.from(found).toString("hex"), bytes);
+            }
+            range.free();
+        },
         session(it) {
             const session = new y.Session();
             for (const call of it.calls) {
@@ -99,4 +118,6 @@ test("the cases have each error and each rule of JSON texts", () => {
         assert.ok(seen.has(wanted), wanted);
     }
     for (let rule = 1; rule <= 13; rule++) assert.ok(seen.has(rule), `rule ${rule}`);
+    const opened = cases.filter((it) => it.kind === "partial").map((it) => Boolean(it.checks));
+    assert.ok(opened.includes(true) && opened.includes(false));
 });

@@ -565,8 +565,10 @@ export interface OpenedRange extends Freed {
      * that isn't the file's, and if the data ends too early or doesn't end with the range. A piece that isn't a `Uint8Array` is a
      * `TypeError`.
      *
-     * It keeps the data of one chunk. A stranger's proof may name a chunk of any size, so a reader who knows the greatest size of a chunk
-     * compares `begins` and `ends` first. The range may not be freed before the stream has ended.
+     * The stream doesn't know which bytes were asked for, and a server may send another part of the file. So compare `begins` of the
+     * first chunk and `ends` of the last one with the places that you asked for. The stream keeps the data of one chunk, which a
+     * stranger's proof may name with any size; compare that, too, if you know how long a chunk may be. Don't free the range before the
+     * stream has ended.
      */
     checking(): TransformStream<Uint8Array, Uint8Array>;
 }

@@ -494,6 +494,18 @@ impl fmt::Debug for DebugLevels<'_> {
 ///
 /// assert_eq!(OpenFault::Mismatch.to_string(), "the proof doesn't show this hash");
 /// ```
+///
+/// Later versions may have more variants, so a `match` needs an arm for others:
+///
+/// ```compile_fail,E0004
+/// # use yurewha::own::OpenFault;
+/// fn is_worth_another_try(fault: OpenFault) -> bool {
+///     match fault {
+///         OpenFault::OutOfMemory => true,
+///         OpenFault::Mismatch => false,
+///     }
+/// }
+/// ```
 #[derive(Clone, Copy, Debug, PartialEq, Eq)]
 #[non_exhaustive]
 pub enum OpenFault {
