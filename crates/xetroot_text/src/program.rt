@@ -106,7 +106,7 @@ fn perform<R: Read, W: Write>(
         Ok(Request::Nothing) => Some(run(alloc, r, w)),
         Ok(Request::Help) => Some(write_text(w, HELP)),
         Ok(Request::Version) => Some(write_text(w, VERSION)),
-        Ok(Request::Word(_) | Request::Unknown) => None,
+        Ok(Request::Command(..) | Request::Unreadable) => None,
         Err(_) => Some(Err(Fault::Memory)),
     }
 }
