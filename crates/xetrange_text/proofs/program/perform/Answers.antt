@@ -1,4 +1,4 @@
-use Rattle.std.proofs.Common.{List, ℕ, ◌∷◌, ap, sym, subst, ◌∙◌, IfErr}
+use Rattle.std.proofs.Common.{List, ℕ, ◌∷◌, sym, subst, ◌∙◌, IfErr}
 use Rattle.std.proofs.lemmas.Result.{IfErr-weaker}
 use Rattle.std.specs.String.{string_bytes}
 use Rattle.line_io.specs.Answers.{AnswersInput}
