@@ -17,6 +17,7 @@ use xet_merkle::merkle_hash_subtree::{
 use xetrange_text::fault::RangeFault;
 use xetrange_text::join::{join, root};
 use xetrange_text::make::make;
+use xetrange_text::prove::prove;
 
 // Returns three chunks, each with its seed.
 fn chunks() -> [Node; 3] {
@@ -107,14 +108,22 @@ const RANGES: &[u8] =
 "#;
 
 #[test]
-fn ranges_are_made_and_joined(rt: HostRuntime) -> Result<(), Fail> {
+fn ranges_are_made_joined_and_proved(rt: HostRuntime) -> Result<(), Fail> {
     let alloc = rt.alloc();
-    for command in 0..3 {
+    for command in 0..4 {
         let mut writer = HashedWrite::new(Nowhere);
         let (unwritten, mut ranges) = (writer.hash(), RANGES);
         let result = match command {
             0 => make(alloc, alloc, &mut b"+a\n--\n+b".as_slice(), &mut writer),
             1 => join(alloc, alloc, &mut ranges, &mut writer),
+            2 => prove(
+                alloc,
+                alloc,
+                0,
+                1,
+                &mut b"+a\n--\n+b".as_slice(),
+                &mut writer,
+            ),
             _ => root(alloc, alloc, &mut ranges, &mut writer),
         };
         if result == Err(RangeFault::Memory) {

@@ -24,7 +24,7 @@ pub fn answer_lines<L: TakeLines, A: AnswerLines<L>, R: Read, W: Write>(
     w: &mut W,
 ) -> Result<(), AnswerFault<L::Fault, A::Fault>>
     requires { L.has_taken lines [] [] }
-    ensures { AnswersInput A.is_answer (IsFaultOf L.is_fault A.is_fault) Write
+    ensures { AnswersInput (A.is_answer answers) (IsFaultOf L.is_fault (A.is_fault answers)) Write
         (R.remaining r.old) (R.remaining r.new) (W.contents w.old) (W.contents w.new) result }
 {
     let lines = read_lines(lines, r)?;

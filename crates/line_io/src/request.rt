@@ -1,9 +1,10 @@
 //! What the arguments of a program request, and how it reports a fault.
 
-ghost use Rattle.std.specs.Prelude.{◌≡◌, ◌↔◌, IfErr, IfOk, IsErr, IsOkAnd};
+ghost use Rattle.std.specs.Prelude.{◌≡◌, ◌↔◌, [], ◌∷◌, IfErr, IfOk, IfSome, IfNone, IsErr, IsOkAnd};
 ghost use Rattle.std.specs.IoError.{error_kind};
-ghost use Rattle.line_io.specs.Requests.{AskFor, words_of};
-ghost use Rattle.line_io.specs.declared.request.Request.TheVariants.{Unknown};
+ghost use Rattle.std.specs.String.{string_bytes};
+ghost use Rattle.line_io.specs.Requests.{AskFor, words_left, words_of};
+ghost use Rattle.line_io.specs.declared.request.Request.TheVariants.{Unreadable};
 
 use crate::devices::write_all;
 use arrayvec::ArrayString;
@@ -19,18 +20,18 @@ pub const WRONG_ARGUMENT: u8 = 64;
 const ONE_PIECE_LEN: usize = 100;
 
 /// What the words after a program's name request.
-#[derive(Debug, PartialEq, Eq, Drop)]
+#[derive(Drop)]
 pub enum Request {
     /// There is no word.
     Nothing,
-    /// The word is `-h` or `--help`.
+    /// The only word is `-h` or `--help`.
     Help,
-    /// The word is `--version`.
+    /// The only word is `--version`.
     Version,
-    /// It is another word.
-    Word(String),
-    /// There are several words, or the arguments can't be read, for example because one isn't UTF-8.
-    Unknown,
+    /// Another word, and the words after it.
+    Command(String, Args),
+    /// The arguments can't be read, for example because one isn't UTF-8.
+    Unreadable,
 }
 
 impl Request {
@@ -39,27 +40,35 @@ impl Request {
     /// Fails only if the arguments can't be read because an allocation failed.
     pub fn read(args: io::Result<Args>) -> Result<Request, AllocError>
         ensures words { IfOk args (λ args. IsOkAnd result (λ request. AskFor (words_of args) request)) }
-        ensures unreadable { IfErr args (λ _. IfOk result (λ request. request ≡ Unknown)) }
+        ensures unreadable { IfErr args (λ _. IfOk result (λ request. request ≡ Unreadable)) }
         ensures refused { IfErr args (λ error. IsErr result ↔ (error_kind error ≡ ErrorKind.OutOfMemory)) }
     {
         let mut args = match args {
             Ok(args) => args,
             Err(error) if error.kind() == ErrorKind::OutOfMemory => return Err(AllocError),
-            Err(_) => return Ok(Request::Unknown),
+            Err(_) => return Ok(Request::Unreadable),
         };
         let _program = args.next();
         let Some(word) = args.next() else {
             return Ok(Request::Nothing);
         };
-        if args.next().is_some() {
-            return Ok(Request::Unknown);
+        if args.len() > 0 {
+            return Ok(Request::Command(word, args));
         }
         Ok(match word.as_str() {
             "-h" | "--help" => Request::Help,
             "--version" => Request::Version,
-            _ => Request::Word(word),
+            _ => Request::Command(word, args),
         })
     }
+}
+
+/// Returns the next of some words.
+pub fn next_word(words: &mut Args) -> Option<String>
+    ensures word { IfSome result (λ word. words_left words.old ≡ string_bytes word ∷ words_left words.new) }
+    ensures none { IfNone result (words_left words.old ≡ []) }
+{
+    words.next()
 }
 
 /// Writes a text and a newline, whatever their length. Up to 100 bytes are written in one piece, and more in the pieces

@@ -61,15 +61,15 @@ pub trait AnswerLines<L: TakeLines>: Drop {
     type Fault: Drop;
 
     // The answer to a text.
-    ghost is_answer: { List ℕ → List ℕ → Type 0 };
+    ghost is_answer: { Self → List ℕ → List ℕ → Type 0 };
 
     // Why a text has no answer.
-    ghost is_fault: { List ℕ → Self.Fault → Type 0 };
+    ghost is_fault: { Self → List ℕ → Self.Fault → Type 0 };
 
     /// Returns the answer, after all lines were taken.
     fn answer(self, lines: L) -> Result<Self::Output, Refusal<Self::Fault>>
         ensures answer { IfOk result (λ output. (text : List ℕ) → L.has_taken lines (lines_of text) [] →
-            is_answer text (Self.Output.items output)) }
+            is_answer self text (Self.Output.items output)) }
         ensures fault { IfErr result (λ refusal. (text : List ℕ) → L.has_taken lines (lines_of text) [] →
-            IfFaulty refusal (is_fault text)) };
+            IfFaulty refusal (is_fault self text)) };
 }

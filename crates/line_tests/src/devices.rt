@@ -11,6 +11,7 @@ use xet_merkle::plain_range::PlainRange;
 use xetrange_text::fault::RangeFault;
 use xetrange_text::join::{join, root};
 use xetrange_text::make::make;
+use xetrange_text::prove::prove;
 use xetroot_text::fault::Fault;
 use xetroot_text::run::run;
 
@@ -22,20 +23,22 @@ enum Call {
     Make,
     Join,
     Root,
+    Prove,
 }
 
-const CALLS: [Call; 5] = [
+const CALLS: [Call; 6] = [
     Call::Run,
     Call::RunOverPlainRanges,
     Call::Make,
     Call::Join,
     Call::Root,
+    Call::Prove,
 ];
 
 // Returns a line that the call takes.
 fn line_of(call: Call) -> &'static str {
     match call {
-        Call::Run | Call::RunOverPlainRanges | Call::Make => {
+        Call::Run | Call::RunOverPlainRanges | Call::Make | Call::Prove => {
             "+a chunk of more bytes than the forty that two reads give"
         }
         Call::Join | Call::Root => NO_CHUNK,
@@ -70,7 +73,7 @@ fn end_of_range(fault: RangeFault) -> End {
         RangeFault::BadLine(line) | RangeFault::Sizes(line) | RangeFault::BadRange(line, _) => {
             Some(line)
         }
-        RangeFault::Memory | RangeFault::Read | RangeFault::Write => None,
+        RangeFault::Memory | RangeFault::Read | RangeFault::Write | RangeFault::NoChunks => None,
     };
     End {
         status: fault.status(),
@@ -86,6 +89,7 @@ fn end_of_call<R: Read, W: Write>(alloc: Global, call: Call, r: &mut R, w: &mut 
         Call::Make => make(alloc, alloc, r, w).map_err(end_of_range),
         Call::Join => join(alloc, alloc, r, w).map_err(end_of_range),
         Call::Root => root(alloc, alloc, r, w).map_err(end_of_range),
+        Call::Prove => prove(alloc, alloc, 0, 1, r, w).map_err(end_of_range),
     };
     result.err().unwrap_or(DONE)
 }

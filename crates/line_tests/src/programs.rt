@@ -44,16 +44,45 @@ xetrange root|input||4||xetrange: fault 4;
 xetrange make|output|h1 100|5||xetrange: fault 5;
 xetrange join|output||5||xetrange: fault 5;
 xetrange root|output||5||xetrange: fault 5;
+xetrange prove 1 2|nothing|h1 100;h2 200;h3 300|0|{"chunks":[{"hash":"h2","size":200}],"levels":[{"left":[{"hash":"h1","size":100}],"right":[{"hash":"h3","size":300}]}]};|
+xetrange prove 0 3|nothing|h1 100;--;h2 200;h3 300;|0|{"chunks":[{"hash":"h1","size":100},{"hash":"h2","size":200},{"hash":"h3","size":300}],"levels":[{"left":[],"right":[]}]};|
+xetrange prove 0 1|nothing|h1 100|0|{"chunks":[{"hash":"h1","size":100}],"levels":[]};|
+xetrange prove 3 4|nothing|0000000000000000000000000000000000000000000000000000000000000000 0;h1 100;0000000000000000000000000000000000000000000000000000000000000000 0;h1 100|0|{"chunks":[{"hash":"h1","size":100}],"levels":[{"left":[],"right":[]},{"left":[{"hash":"f04f4d4245ec66bda7bd6f962f5344d27c7e73c5405e7c83bf61814037633e71","size":100}],"right":[]}]};|
+xetrange prove 0 1|nothing|0000000000000000000000000000000000000000000000000000000000000000 0;h1 100;0000000000000000000000000000000000000000000000000000000000000000 0;h1 100|0|{"chunks":[{"hash":"0000000000000000000000000000000000000000000000000000000000000000","size":0}],"levels":[{"left":[],"right":[{"hash":"h1","size":100},{"hash":"0000000000000000000000000000000000000000000000000000000000000000","size":0}]},{"left":[],"right":[{"hash":"fe536ba64afae22e992334c62335987cb8ae79e55f32806d473d7619a83ce721","size":100}]}]};|
+xetrange prove 0 1|nothing|h1 18446744073709551615;h2 0|0|{"chunks":[{"hash":"h1","size":18446744073709551615}],"levels":[{"left":[],"right":[{"hash":"h2","size":0}]}]};|
+xetrange prove 1 2|nothing|+a chunk;+another;+and a third|0|{"chunks":[{"hash":"3481034b52254c2f1e0143ae20ce9e2459685799a774f5764bf5585211c865c1","size":7}],"levels":[{"left":[{"hash":"fc2d9e764137e94a0c4d7bdc0b584e73a34945fbf4efeef155acc8927c1399ff","size":7}],"right":[{"hash":"b5d2de3673ccda688a6ae4c470f097787aa87b128f134b1f5a7d33379b2f66e9","size":11}]}]};|
+xetrange prove 1 3|nothing|+a chunk;+another;+and a third|0|{"chunks":[{"hash":"3481034b52254c2f1e0143ae20ce9e2459685799a774f5764bf5585211c865c1","size":7},{"hash":"b5d2de3673ccda688a6ae4c470f097787aa87b128f134b1f5a7d33379b2f66e9","size":11}],"levels":[{"left":[{"hash":"fc2d9e764137e94a0c4d7bdc0b584e73a34945fbf4efeef155acc8927c1399ff","size":7}],"right":[]}]};|
+xetrange prove 0 3|nothing|+a chunk;+another;+and a third|0|{"chunks":[{"hash":"fc2d9e764137e94a0c4d7bdc0b584e73a34945fbf4efeef155acc8927c1399ff","size":7},{"hash":"3481034b52254c2f1e0143ae20ce9e2459685799a774f5764bf5585211c865c1","size":7},{"hash":"b5d2de3673ccda688a6ae4c470f097787aa87b128f134b1f5a7d33379b2f66e9","size":11}],"levels":[{"left":[],"right":[]}]};|
+xetrange prove 0 0|nothing|h1 100;h2 200;h3 300|9||xetrange: fault 9;
+xetrange prove 2 1|nothing|h1 100;h2 200;h3 300|9||xetrange: fault 9;
+xetrange prove 0 4|nothing|h1 100;h2 200;h3 300|9||xetrange: fault 9;
+xetrange prove 3 4|nothing|h1 100;h2 200;h3 300|9||xetrange: fault 9;
+xetrange prove 0 18446744073709551615|nothing|h1 100;h2 200;h3 300|9||xetrange: fault 9;
+xetrange prove 0 1|nothing||9||xetrange: fault 9;
+xetrange prove 0 1|nothing|h1 100;@0;h2 200|1||xetrange: fault 1 at line 2;
+xetrange prove 0 1|nothing|h1 18446744073709551615;h2 1|2||xetrange: fault 2 at line 2;
+xetrange prove 0 1|memory|h1 100|3||xetrange: fault 3;
+xetrange prove 0 1|input|h1 100|4||xetrange: fault 4;
+xetrange prove 0 1|output|h1 100|5||xetrange: fault 5;
 xetrange join|nothing|{}|8||xetrange: fault 8 at line 1: rule 2;
 xetrange root|nothing|zz|8||xetrange: fault 8 at line 1;
 xetrange root|errors|zz|8||
-xetrange|nothing||64||xetrange: expected make, join, root, --help or --version;
-xetrange |nothing||64||xetrange: expected make, join, root, --help or --version;
-xetrange unmake|nothing||64||xetrange: expected make, join, root, --help or --version;
-xetrange make join|nothing||64||xetrange: expected make, join, root, --help or --version;
-xetrange make |nothing||64||xetrange: expected make, join, root, --help or --version;
-xetrange  make|nothing||64||xetrange: expected make, join, root, --help or --version;
-xetrange make|text of arguments||64||xetrange: expected make, join, root, --help or --version;
+xetrange|nothing||64||xetrange: expected make, join, root, prove FIRST END, --help or --version;
+xetrange |nothing||64||xetrange: expected make, join, root, prove FIRST END, --help or --version;
+xetrange unmake|nothing||64||xetrange: expected make, join, root, prove FIRST END, --help or --version;
+xetrange make join|nothing||64||xetrange: expected make, join, root, prove FIRST END, --help or --version;
+xetrange make |nothing||64||xetrange: expected make, join, root, prove FIRST END, --help or --version;
+xetrange  make|nothing||64||xetrange: expected make, join, root, prove FIRST END, --help or --version;
+xetrange prove|nothing|h1 100|64||xetrange: expected make, join, root, prove FIRST END, --help or --version;
+xetrange prove 0|nothing|h1 100|64||xetrange: expected make, join, root, prove FIRST END, --help or --version;
+xetrange prove 0 1 2|nothing|h1 100|64||xetrange: expected make, join, root, prove FIRST END, --help or --version;
+xetrange prove  0 1|nothing|h1 100|64||xetrange: expected make, join, root, prove FIRST END, --help or --version;
+xetrange prove 00 1|nothing|h1 100|64||xetrange: expected make, join, root, prove FIRST END, --help or --version;
+xetrange prove +0 1|nothing|h1 100|64||xetrange: expected make, join, root, prove FIRST END, --help or --version;
+xetrange prove -1 1|nothing|h1 100|64||xetrange: expected make, join, root, prove FIRST END, --help or --version;
+xetrange prove 0 0x1|nothing|h1 100|64||xetrange: expected make, join, root, prove FIRST END, --help or --version;
+xetrange prove 0 18446744073709551616|nothing|h1 100|64||xetrange: expected make, join, root, prove FIRST END, --help or --version;
+xetrange make|text of arguments||64||xetrange: expected make, join, root, prove FIRST END, --help or --version;
 xetrange --version|nothing|zz|0|xetrange 1.1.0 (hashes of xet-core-structures 1.5.2);|
 xetrange --help|output|zz|5||xetrange: fault 5;"#;
 
@@ -180,6 +209,7 @@ line, 2 sizes that pass 2^64 - 1, 3 out of memory, 4 a failed read, 5 a failed w
 
 const XETRANGE_HELP: &str = "\
 Usage: xetrange make|join|root
+       xetrange prove FIRST END
 
 Hashes ranges of a file's chunks separately, and merges them without their chunks.
 Each command reads standard input and writes standard output.
@@ -187,10 +217,13 @@ Each command reads standard input and writes standard output.
   make    reads pairs, chunks and `--`, as xetroot does; writes the line of their range
   join    reads lines of ranges, in order; writes the line of the merged range
   root    reads lines of ranges, in order; writes what xetroot writes for the whole
+  prove   reads what make reads; writes the line of the range proof of the chunks from
+          number FIRST up to, but without, number END; chunks count from 0
 
 A fault goes to standard error with its number, which is the exit status: 1 a bad
 line, 2 sizes that pass 2^64 - 1, 3 out of memory, 4 a failed read, 5 a failed
-write, 8 a line that isn't a range. The status is 64 after a wrong argument.
+write, 8 a line that isn't a range, 9 chunks that the input doesn't have. The status
+is 64 after a wrong argument.
 
   -h, --help    prints this text
   --version     prints the versions of xetrange and of xet-core-structures
@@ -227,7 +260,12 @@ fn wrong_words_are_refused_by_both_programs(rt: HostRuntime) -> Result<(), Fail>
             "{words}"
         );
         assert!(rt;
-            is_refused(rt.alloc(), "xetrange", words, "make, join, root")?,
+            is_refused(
+                rt.alloc(),
+                "xetrange",
+                words,
+                "make, join, root, prove FIRST END"
+            )?,
             "{words}"
         );
     }

@@ -54,8 +54,8 @@ fn parse_pair(line: &[u8]) -> Option<Node>
     Some((hash, size))
 }
 
-// Returns the number that some decimal digits spell, without a sign or leading zeros.
-fn parse_decimal(digits: &[u8]) -> Option<u64>
+/// Returns the number that some decimal digits spell, without a sign or leading zeros.
+pub fn parse_decimal(digits: &[u8]) -> Option<u64>
     ensures number { IfSome result (λ number. digits.now ≡ decimal number) }
     ensures none { IfNone result ((number : ℕ) → number < 2 ^ 64 → ¬ (digits.now ≡ decimal number)) }
 {

@@ -9,6 +9,7 @@ use xet_merkle::plain_range::PlainRange;
 use xetrange_text::fault::RangeFault;
 use xetrange_text::join::{join, root};
 use xetrange_text::make::make;
+use xetrange_text::prove::prove;
 use xetroot_text::fault::Fault;
 use xetroot_text::run::run;
 
@@ -81,12 +82,25 @@ fn xetroot(alloc: Global, input: &[u8]) -> Result<String> {
 // Runs a command of `xetrange`. With `of` it first runs `make` for pieces of the input, which have bars between them.
 fn xetrange(alloc: Global, arguments: &str) -> Result<String> {
     let (command, input) = arguments.split_once(' ').context("no input")?;
+    if command == "prove" {
+        return xetrange_prove(alloc, input);
+    }
     let input = match input.strip_prefix("of ") {
         Some(pieces) => made(alloc, pieces)?,
         None => lines(alloc, input)?,
     };
     let (end, output) = run_command(alloc, command, input.as_bytes())?;
     told(alloc, end, output)
+}
+
+// Runs `prove FIRST END`.
+fn xetrange_prove(alloc: Global, arguments: &str) -> Result<String> {
+    let (first, rest) = arguments.split_once(' ').context("no first number")?;
+    let (end, input) = rest.split_once(' ').context("no second number")?;
+    let (first, end) = (first.parse()?, end.parse()?);
+    let (text, mut output) = (lines(alloc, input)?, Vec::new(alloc));
+    let done = prove(alloc, alloc, first, end, &mut text.as_bytes(), &mut output);
+    told(alloc, done, output)
 }
 
 // Returns the lines of the ranges that `make` writes for pieces of an input.

@@ -19,10 +19,11 @@ use Rattle.pair_text.specs.PairText as pair_text
 use Rattle.pair_text.specs.declared.pair_fault.PairFault.{PairFault}
 use Rattle.pair_text.specs.declared.pair_fault.PairFault.TheVariants.{Bad as bad_pair, Sizes as pair_sizes}
 use Rattle.xetrange_text.specs.declared.fault.RangeFault.TheVariants.{Write}
+use Rattle.xetrange_text.specs.declared.fault.NoChunks.{NoChunks}
 use Rattle.xetrange_text.specs.declared.fault.LineFault.{LineFault}
 use Rattle.xetrange_text.specs.declared.fault.LineFault.TheVariants.{Bad, Sizes, NoRange}
-use Rattle.xetrange_text.specs.Status.{make_fault_of, range_fault_of}
-use Rattle.xetrange_text.specs.Answers.{IsLineFault, IsMakeFaultOf, IsRangeFaultOf}
+use Rattle.xetrange_text.specs.Status.{make_fault_of, prove_fault_of, range_fault_of}
+use Rattle.xetrange_text.specs.Answers.{IsLineFault, IsMakeFaultOf, IsProveFaultOf, IsRangeFaultOf, LacksChunks}
 use Rattle.xetrange_text.specs.Steps.MergedLines.{IsNoRange}
 
 -- a line whose pair is refused
@@ -59,6 +60,25 @@ make-write (Input input_memory) is = cc is
 make-write (Input read_failed) is = cc is
 make-write (Answer refusal) is = cc is
 make-write write_failed is = refl
+
+pub prove-fault : (first end : ℕ) (text : List ℕ) (of : AnswerFault PairFault NoChunks)
+    → line_io.IsFaultOf pair_text.IsLineFault (λ text _. LacksChunks first end text) text of → IsProveFaultOf first end text (prove_fault_of of)
+prove-fault first end text (Input (Line number bad_pair)) faulty = faulty
+prove-fault first end text (Input (Line number pair_sizes)) faulty = faulty
+prove-fault first end text (Input input_memory) faulty = tt
+prove-fault first end text (Input read_failed) faulty = tt
+prove-fault first end text (Answer (Faulty lacking)) faulty = faulty
+prove-fault first end text (Answer out_of_memory) faulty = tt
+prove-fault first end text write_failed faulty = tt
+
+pub prove-write : (of : AnswerFault PairFault NoChunks) → prove_fault_of of ≡ Write → of ≡ write_failed
+prove-write (Input (Line number bad_pair)) is = cc is
+prove-write (Input (Line number pair_sizes)) is = cc is
+prove-write (Input input_memory) is = cc is
+prove-write (Input read_failed) is = cc is
+prove-write (Answer (Faulty lacking)) is = cc is
+prove-write (Answer out_of_memory) is = cc is
+prove-write write_failed is = refl
 
 pub range-fault : {T : Type 0} (is_text_fault : List ℕ → T → Type 0) (text : List ℕ) (of : AnswerFault LineFault T) → line_io.IsFaultOf IsLineFault is_text_fault text of
     → IsRangeFaultOf text (range_fault_of of)

@@ -1,5 +1,7 @@
 pub mod Depth
+pub mod NoFloat
 pub mod OneLine
 pub mod MergedRanges
 pub mod Faults
+pub mod Words
 pub mod Cutting

@@ -1,11 +1,13 @@
--- What `make`, `join` and `root` write for their inputs.
-use Rattle.std.specs.Prelude.{◌≡◌, ℕ, ◌+◌, ◌^◌, ◌<◌, ◌≤◌, List, length, replicate, flat_map}
+-- What `make`, `join`, `root` and `prove` write for their inputs.
+use Rattle.std.specs.Prelude.{◌≡◌, ℕ, ◌+◌, ◌^◌, ◌<◌, ◌≤◌, ◌⊎◌, List, length, replicate, flat_map}
 use Rattle.std.specs.List.{concat}
 use Rattle.xet_merkle.specs.Groups.{Node}
 use Rattle.xet_merkle.specs.Roots.{IsRoot, IsFileHash}
 use Rattle.xet_merkle.specs.Levels.{levels_size}
 use Rattle.xet_merkle.specs.Subtree.{Subtree, IsCanonical}
 use Rattle.xet_merkle.specs.Merging.{AreCanonical, ranges_size}
+use Rattle.range_proof.specs.RangeProof.{Proof}
+use Rattle.range_proof.specs.Proving.{Proves}
 use Rattle.line_io.specs.Lines.{byte_limit, content, lines_of}
 use Rattle.line_io.specs.Faults.{HasFault}
 use Rattle.pair_text.specs.Output.{output_text}
@@ -13,10 +15,11 @@ use Rattle.pair_text.specs.PairText as pair_text
 use Rattle.pair_text.specs.PairText.{AreGood}
 use Rattle.pair_text.specs.declared.pair_fault.PairFault.TheVariants.{Bad as bad_pair, Sizes as pair_sizes}
 use Rattle.xetrange_text.specs.declared.fault.RangeFault.{RangeFault}
-use Rattle.xetrange_text.specs.declared.fault.RangeFault.TheVariants.{BadLine, Sizes, Memory, Read, Write, BadRange}
+use Rattle.xetrange_text.specs.declared.fault.RangeFault.TheVariants.{BadLine, Sizes, Memory, Read, Write, BadRange, NoChunks}
 use Rattle.xetrange_text.specs.declared.fault.LineFault.{LineFault}
 use Rattle.xetrange_text.specs.declared.fault.LineFault.TheVariants.{Bad, Sizes as passes_sizes, NoRange}
 use Rattle.xetrange_text.specs.Ranges.{IsOpen, SaysRange, SaysNoRange, AreRanges, AreMerged, IsRangeLine}
+use Rattle.xetrange_text.specs.Proofs.{IsProofLine}
 
 -- `make`: the line of the canonical subtree of the pairs that the lines say, open at both ends
 abbrev pub IsMadeOf : List ℕ → List ℕ → Type 0
@@ -29,6 +32,7 @@ abbrev pub IsMakeFaultOf : List ℕ → RangeFault → Type 0
 IsMakeFaultOf text (BadLine number) = HasFault pair_text.IsLineFault text number bad_pair
 IsMakeFaultOf text (Sizes number) = HasFault pair_text.IsLineFault text number pair_sizes
 IsMakeFaultOf text (BadRange number rule) = ⊥
+IsMakeFaultOf text NoChunks = ⊥
 IsMakeFaultOf text Memory = Unit {0}
 IsMakeFaultOf text Read = Unit {0}
 IsMakeFaultOf text Write = Unit {0}
@@ -70,6 +74,27 @@ abbrev pub IsRangeFaultOf : List ℕ → RangeFault → Type 0
 IsRangeFaultOf text (BadLine number) = HasFault IsLineFault text number Bad
 IsRangeFaultOf text (BadRange number rule) = HasFault IsLineFault text number (NoRange rule)
 IsRangeFaultOf text (Sizes number) = HasFault IsLineFault text number passes_sizes
+IsRangeFaultOf text NoChunks = ⊥
 IsRangeFaultOf text Memory = Unit {0}
 IsRangeFaultOf text Read = Unit {0}
 IsRangeFaultOf text Write = Unit {0}
+
+-- `prove`: the line of the proof of the chunks from number `first` up to, but without, number `end`, of the pairs that
+-- the lines say
+abbrev pub IsProvedOf : ℕ → ℕ → List ℕ → List ℕ → Type 0
+IsProvedOf first end text output =
+    (pairs : List Node) × (proof : Proof) × AreGood (lines_of text) pairs × Proves pairs first end proof × IsProofLine output proof
+
+-- the lines don't have these chunks
+abbrev pub LacksChunks : ℕ → ℕ → List ℕ → Type 0
+LacksChunks first end text = (pairs : List Node) × AreGood (lines_of text) pairs × ((end ≤ first) ⊎ (length pairs < end))
+
+-- its faults
+abbrev pub IsProveFaultOf : ℕ → ℕ → List ℕ → RangeFault → Type 0
+IsProveFaultOf first end text (BadLine number) = HasFault pair_text.IsLineFault text number bad_pair
+IsProveFaultOf first end text (Sizes number) = HasFault pair_text.IsLineFault text number pair_sizes
+IsProveFaultOf first end text (BadRange number rule) = ⊥
+IsProveFaultOf first end text NoChunks = LacksChunks first end text
+IsProveFaultOf first end text Memory = Unit {0}
+IsProveFaultOf first end text Read = Unit {0}
+IsProveFaultOf first end text Write = Unit {0}

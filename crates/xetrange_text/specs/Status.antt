@@ -2,11 +2,13 @@
 use Rattle.std.specs.Prelude.{◌≡◌, ℕ, Result, Ok, Err}
 use Rattle.line_io.specs.declared.fault.AnswerFault.{AnswerFault}
 use Rattle.line_io.specs.declared.fault.AnswerFault.TheVariants.{Input, Answer, Write as write_failed}
+use Rattle.line_io.specs.declared.fault.Refusal.TheVariants.{Faulty, Memory as out_of_memory}
 use Rattle.line_io.specs.declared.fault.InputFault.TheVariants.{Line, Memory as input_memory, Read as read_failed}
 use Rattle.pair_text.specs.declared.pair_fault.PairFault.{PairFault}
 use Rattle.pair_text.specs.declared.pair_fault.PairFault.TheVariants.{Bad as bad_pair, Sizes as pair_sizes}
 use Rattle.xetrange_text.specs.declared.fault.RangeFault.{RangeFault}
-use Rattle.xetrange_text.specs.declared.fault.RangeFault.TheVariants.{BadLine, Sizes, Memory, Read, Write, BadRange}
+use Rattle.xetrange_text.specs.declared.fault.RangeFault.TheVariants.{BadLine, Sizes, Memory, Read, Write, BadRange, NoChunks as chunks_lacking}
+use Rattle.xetrange_text.specs.declared.fault.NoChunks.{NoChunks}
 use Rattle.xetrange_text.specs.declared.fault.LineFault.{LineFault}
 use Rattle.xetrange_text.specs.declared.fault.LineFault.TheVariants.{Bad, Sizes as passes_sizes, NoRange}
 
@@ -18,6 +20,7 @@ status_of Memory = 3
 status_of Read = 4
 status_of Write = 5
 status_of (BadRange number rule) = 8
+status_of chunks_lacking = 9
 
 -- the exit status of a call with this result
 abbrev pub exit_status : Result (Unit {0}) RangeFault → ℕ
@@ -36,6 +39,16 @@ make_fault_of (Input input_memory) = Memory
 make_fault_of (Input read_failed) = Read
 make_fault_of (Answer refusal) = Memory
 make_fault_of write_failed = Write
+
+-- the fault for the reason that an input of pairs has no range proof
+abbrev pub prove_fault_of : AnswerFault PairFault NoChunks → RangeFault
+prove_fault_of (Input (Line number bad_pair)) = BadLine number
+prove_fault_of (Input (Line number pair_sizes)) = Sizes number
+prove_fault_of (Input input_memory) = Memory
+prove_fault_of (Input read_failed) = Read
+prove_fault_of (Answer (Faulty lacking)) = chunks_lacking
+prove_fault_of (Answer out_of_memory) = Memory
+prove_fault_of write_failed = Write
 
 -- the fault for the reason that an input of ranges has no answer
 abbrev pub range_fault_of : {T : Type 0} → AnswerFault LineFault T → RangeFault

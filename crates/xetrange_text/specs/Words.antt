@@ -1,9 +1,38 @@
--- What the words of the program's arguments request.
-use Rattle.std.specs.Prelude.{◌≡◌, ℕ, ◌⊎◌, List, [], ◌∷◌, codes}
-use Rattle.line_io.specs.Requests.{AskForHelp, AskForVersion}
+-- What the words of the program's arguments request, and what it then does.
+use Rattle.std.specs.Prelude.{◌≡◌, ℕ, ◌^◌, ◌<◌, ◌⊎◌, List, [], ◌∷◌, Result, IsOkAnd, codes, decimal}
+use Rattle.std.specs.declared.string.String.{String}
+use Rattle.std.specs.declared.vec.IntoIter.{IntoIter}
+use Rattle.line_io.specs.Requests.{AskForHelp, AskForVersion, words_of}
+use Rattle.xetrange_text.specs.declared.command.Command.{Command}
+use Rattle.xetrange_text.specs.declared.command.Command.TheVariants.{Make, Join, Root, Prove}
+use Rattle.xetrange_text.specs.declared.fault.RangeFault.{RangeFault}
+use Rattle.xetrange_text.specs.Answers.{IsMadeOf, IsMakeFaultOf, IsJoinedOf, IsRangeFaultOf, IsRootOf, IsProvedOf, IsProveFaultOf}
 
--- there is one word, and the program knows it
+-- some words request a command
+abbrev pub AskFor : List (List ℕ) → Command → Type 0
+AskFor words Make = words ≡ codes "make" ∷ []
+AskFor words Join = words ≡ codes "join" ∷ []
+AskFor words Root = words ≡ codes "root" ∷ []
+AskFor words (Prove first end) = (words ≡ codes "prove" ∷ decimal first ∷ decimal end ∷ []) × (first < 2 ^ 64) × (end < 2 ^ 64)
+
+-- some arguments could be read, and request a command
+abbrev pub HasCommand : {A E : Type 0} → Result (IntoIter (String A) A) E → Command → Type 0
+HasCommand args command = IsOkAnd args (λ args. AskFor (words_of args) command)
+
+-- the program knows some words
 abbrev pub AreKnown : List (List ℕ) → Type 0
-AreKnown words =
-    (words ≡ codes "make" ∷ []) ⊎ ((words ≡ codes "join" ∷ []) ⊎ ((words ≡ codes "root" ∷ [])
-    ⊎ (AskForHelp words ⊎ AskForVersion words)))
+AreKnown words = ((command : Command) × AskFor words command) ⊎ (AskForHelp words ⊎ AskForVersion words)
+
+-- the answer of a command to an input
+abbrev pub IsAnswerOf : Command → List ℕ → List ℕ → Type 0
+IsAnswerOf Make = IsMadeOf
+IsAnswerOf Join = IsJoinedOf
+IsAnswerOf Root = IsRootOf
+IsAnswerOf (Prove first end) = IsProvedOf first end
+
+-- a fault of a command with an input
+abbrev pub IsFaultOf : Command → List ℕ → RangeFault → Type 0
+IsFaultOf Make = IsMakeFaultOf
+IsFaultOf Join = IsRangeFaultOf
+IsFaultOf Root = IsRangeFaultOf
+IsFaultOf (Prove first end) = IsProveFaultOf first end

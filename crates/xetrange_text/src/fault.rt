@@ -1,11 +1,11 @@
 //! Why a call ends without an answer.
 
 ghost use Rattle.std.specs.Prelude.{◌≡◌};
-ghost use Rattle.xetrange_text.specs.Status.{make_fault_of, range_fault_of, status_of};
+ghost use Rattle.xetrange_text.specs.Status.{make_fault_of, prove_fault_of, range_fault_of, status_of};
 ghost use Rattle.xetrange_text.specs.declared.fault.RangeFault.TheVariants.{Memory, Write};
 
 use line_io::devices::WriteFailed;
-use line_io::fault::{AnswerFault, InputFault};
+use line_io::fault::{AnswerFault, InputFault, Refusal};
 use pair_text::pair_fault::PairFault;
 use std::alloc::AllocError;
 use std::convert::Infallible;
@@ -22,12 +22,15 @@ pub enum LineFault {
     NoRange(Option<u8>),
 }
 
-/// Why [`make`](crate::make::make), [`join`](crate::join::join) or [`root`](crate::join::root) failed. Line numbers
-/// count from 1, and are those of the first faulty line.
+/// The lines have no such chunks: the range is empty, or ends after the last chunk.
+#[derive(Clone, Copy, Debug, PartialEq, Eq)]
+pub struct NoChunks;
+
+/// Why a command failed. Line numbers count from 1, and are those of the first faulty line.
 #[derive(Clone, Copy, Debug, PartialEq, Eq)]
 pub enum RangeFault {
-    /// The line is bad: it contains byte number 2^40 + 1 of the input, or, for `make`, it isn't a pair, a chunk or a
-    /// separator.
+    /// The line is bad: it contains byte number 2^40 + 1 of the input, or, for `make` and `prove`, it isn't a pair, a
+    /// chunk or a separator.
     BadLine(u64),
     /// The line isn't bad. With it, the sizes add up to more than `u64::MAX`.
     Sizes(u64),
@@ -41,10 +44,12 @@ pub enum RangeFault {
     /// 1 to 13 of [`from_json`](xet_merkle::merkle_hash_subtree::MerkleHashSubtree::from_json), that its value breaks.
     /// It is `None` if the line isn't JSON text, or if its subtree has a mark.
     BadRange(u64, Option<u8>),
+    /// No line is faulty. The lines don't have the chunks that `prove` was to prove.
+    NoChunks,
 }
 
 impl RangeFault {
-    /// Returns the number of the fault, from 1 to 5 or 8. It is the program's exit status.
+    /// Returns the number of the fault: 1 to 5, 8 or 9. It is the program's exit status.
     pub fn status(&self) -> u8
         ensures { result ≡ status_of self.now }
     {
@@ -55,6 +60,7 @@ impl RangeFault {
             RangeFault::Read => 4,
             RangeFault::Write => 5,
             RangeFault::BadRange(..) => 8,
+            RangeFault::NoChunks => 9,
         }
     }
 }
@@ -71,7 +77,7 @@ impl fmt::Display for RangeFault {
             RangeFault::BadRange(line, Some(rule)) => {
                 write!(f, "xetrange: fault {status} at line {line}: rule {rule}")
             }
-            RangeFault::Memory | RangeFault::Read | RangeFault::Write => {
+            RangeFault::Memory | RangeFault::Read | RangeFault::Write | RangeFault::NoChunks => {
                 write!(f, "xetrange: fault {status}")
             }
         }
@@ -94,6 +100,23 @@ impl From<AnswerFault<PairFault, Infallible>> for RangeFault {
             AnswerFault::Input(InputFault::Line(line, PairFault::Bad)) => RangeFault::BadLine(line),
             AnswerFault::Input(InputFault::Line(line, PairFault::Sizes)) => RangeFault::Sizes(line),
             AnswerFault::Input(InputFault::Memory) | AnswerFault::Answer(_) => RangeFault::Memory,
+            AnswerFault::Input(InputFault::Read) => RangeFault::Read,
+            AnswerFault::Write => RangeFault::Write,
+        }
+    }
+}
+
+impl From<AnswerFault<PairFault, NoChunks>> for RangeFault {
+    ghost from_gives = { λ of fault. fault ≡ prove_fault_of of };
+
+    fn from(of: AnswerFault<PairFault, NoChunks>) -> RangeFault {
+        match of {
+            AnswerFault::Input(InputFault::Line(line, PairFault::Bad)) => RangeFault::BadLine(line),
+            AnswerFault::Input(InputFault::Line(line, PairFault::Sizes)) => RangeFault::Sizes(line),
+            AnswerFault::Answer(Refusal::Faulty(NoChunks)) => RangeFault::NoChunks,
+            AnswerFault::Input(InputFault::Memory) | AnswerFault::Answer(Refusal::Memory) => {
+                RangeFault::Memory
+            }
             AnswerFault::Input(InputFault::Read) => RangeFault::Read,
             AnswerFault::Write => RangeFault::Write,
         }

@@ -72,9 +72,9 @@ impl<A: Allocator + Clone> AnswerLines<MergedLines<A>> for JoinedRange {
 
     type Fault = Infallible;
 
-    ghost is_answer = { IsJoinedOf };
+    ghost is_answer = { λ _. IsJoinedOf };
 
-    ghost is_fault = { λ _ _. ⊥ };
+    ghost is_fault = { λ _ _ _. ⊥ };
 
     fn answer(self, lines: MergedLines<A>) -> Result<Vec<u8>, Refusal<Infallible>> {
         Ok(write_range(self.json, &lines.merged)?)
@@ -92,9 +92,9 @@ impl<A: Allocator + Clone> AnswerLines<MergedLines<A>> for RootAndFile<A> {
 
     type Fault = Infallible;
 
-    ghost is_answer = { IsRootOf };
+    ghost is_answer = { λ _. IsRootOf };
 
-    ghost is_fault = { λ _ _. ⊥ };
+    ghost is_fault = { λ _ _ _. ⊥ };
 
     fn answer(
         self,

@@ -3,10 +3,13 @@
 #![tactic(auto)]
 
 mod chunks;
+pub mod command;
 pub mod fault;
 pub mod join;
 pub mod laws;
 pub mod make;
 mod merged_lines;
 pub mod program;
+mod proof_line;
+pub mod prove;
 mod range_line;

@@ -61,9 +61,9 @@ impl<A: Allocator + Clone> AnswerLines<SaidLines<Chunks<MerkleHashSubtree<A>>>> 
 
     type Fault = Infallible;
 
-    ghost is_answer = { IsMadeOf };
+    ghost is_answer = { λ _. IsMadeOf };
 
-    ghost is_fault = { λ _ _. ⊥ };
+    ghost is_fault = { λ _ _ _. ⊥ };
 
     fn answer(
         self,

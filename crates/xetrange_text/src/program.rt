@@ -1,18 +1,17 @@
 //! The program `xetrange`, given its arguments and devices.
 
-ghost use Rattle.std.specs.Prelude.{◌≡◌, ◌≢◌, [], ◌∷◌, codes, IfErr, IfNone, IfSome, IsNone, IsOkAnd, IsSomeAnd};
+ghost use Rattle.std.specs.Prelude.{◌≡◌, ◌≢◌, IfErr, IfNone, IfSome, IsNone, IsOkAnd, IsSomeAnd};
 ghost use Rattle.std.specs.Io.KnownBytes.{Keeps};
 ghost use Rattle.std.specs.IoError.{error_kind};
 ghost use Rattle.line_io.specs.Answers.{AnswersInput, WritesOut};
-ghost use Rattle.line_io.specs.Requests.{AskForHelp, AskForVersion, HasWords, words_of};
-ghost use Rattle.xetrange_text.specs.Answers.{IsJoinedOf, IsMadeOf, IsMakeFaultOf, IsRangeFaultOf, IsRootOf};
+ghost use Rattle.line_io.specs.Requests.{AskForHelp, AskForVersion, words_of};
 ghost use Rattle.xetrange_text.specs.Status.{IsStatusOf, status_of};
-ghost use Rattle.xetrange_text.specs.Words.{AreKnown};
+ghost use Rattle.xetrange_text.specs.Words.{AreKnown, HasCommand, IsAnswerOf, IsFaultOf};
+ghost use Rattle.xetrange_text.specs.declared.command.Command.{Command};
 ghost use Rattle.xetrange_text.specs.declared.fault.RangeFault.{RangeFault};
 
+use crate::command::Command;
 use crate::fault::RangeFault;
-use crate::join::{join, root};
-use crate::make::make;
 use line_io::devices::write_all;
 use line_io::request::{Request, WRONG_ARGUMENT, print_line};
 use std::alloc::{Allocator, Global};
@@ -21,6 +20,7 @@ use std::io::{self, ErrorKind, Read, Write};
 
 const HELP: &str = "\
 Usage: xetrange make|join|root
+       xetrange prove FIRST END
 
 Hashes ranges of a file's chunks separately, and merges them without their chunks.
 Each command reads standard input and writes standard output.
@@ -28,10 +28,13 @@ Each command reads standard input and writes standard output.
   make    reads pairs, chunks and `--`, as xetroot does; writes the line of their range
   join    reads lines of ranges, in order; writes the line of the merged range
   root    reads lines of ranges, in order; writes what xetroot writes for the whole
+  prove   reads what make reads; writes the line of the range proof of the chunks from
+          number FIRST up to, but without, number END; chunks count from 0
 
 A fault goes to standard error with its number, which is the exit status: 1 a bad
 line, 2 sizes that pass 2^64 - 1, 3 out of memory, 4 a failed read, 5 a failed
-write, 8 a line that isn't a range. The status is 64 after a wrong argument.
+write, 8 a line that isn't a range, 9 chunks that the input doesn't have. The status
+is 64 after a wrong argument.
 
   -h, --help    prints this text
   --version     prints the versions of xetrange and of xet-core-structures
@@ -41,9 +44,9 @@ const VERSION: &str = "xetrange 1.1.0 (hashes of xet-core-structures 1.5.2)\n";
 
 /// Does what the arguments request. Returns the exit status: 0, the number of a fault, or 64 after a wrong argument.
 ///
-/// With the one argument `make`, `join` or `root` it does what the call of that name does. With `--help` or `--version`
-/// it writes a text to `w`. Unless the argument is one of the first three, it reads nothing of `r`. If the status isn't
-/// 0, it writes the reason to `errors` as one line.
+/// With the words of a [`Command`] it does what [`Command::run`] does. With `--help` or `--version` it writes a text to
+/// `w`. Unless the words are those of a command, it reads nothing of `r`. If the status isn't 0, it writes the reason to
+/// `errors` as one line.
 pub fn program<R: Read, W: Write, E: Write>(
     alloc: impl Allocator,
     json: Global,
@@ -52,13 +55,9 @@ pub fn program<R: Read, W: Write, E: Write>(
     w: &mut W,
     errors: &mut E,
 ) -> u8
-    // With one of these words it does what the call of that name does, and the status shows how that ended.
-    ensures make { HasWords args (codes "make" ∷ []) → IsStatusOf result (AnswersInput IsMadeOf IsMakeFaultOf
-        RangeFault.Write (R.remaining r.old) (R.remaining r.new) (W.contents w.old) (W.contents w.new)) }
-    ensures join { HasWords args (codes "join" ∷ []) → IsStatusOf result (AnswersInput IsJoinedOf IsRangeFaultOf
-        RangeFault.Write (R.remaining r.old) (R.remaining r.new) (W.contents w.old) (W.contents w.new)) }
-    ensures root { HasWords args (codes "root" ∷ []) → IsStatusOf result (AnswersInput IsRootOf IsRangeFaultOf
-        RangeFault.Write (R.remaining r.old) (R.remaining r.new) (W.contents w.old) (W.contents w.new)) }
+    // With the words of a command it does what the command does, and the status shows how that ended.
+    ensures command { (command : Command) → HasCommand args command → IsStatusOf result (AnswersInput (IsAnswerOf command)
+        (IsFaultOf command) RangeFault.Write (R.remaining r.old) (R.remaining r.new) (W.contents w.old) (W.contents w.new)) }
     ensures help { IsOkAnd args (λ args. AskForHelp (words_of args)) → IsStatusOf result (
         WritesOut HELP.now RangeFault.Write (W.contents w.old) (W.contents w.new)) }
     ensures version { IsOkAnd args (λ args. AskForVersion (words_of args)) → IsStatusOf result (
@@ -68,14 +67,13 @@ pub fn program<R: Read, W: Write, E: Write>(
         × (error_kind error ≢ ErrorKind.OutOfMemory → result ≡ WRONG_ARGUMENT)) }
     ensures status { result ≢ 0 → result ≢ WRONG_ARGUMENT → (fault : RangeFault) × (result ≡ status_of fault) }
     ensures unwritten { result ≢ 0 → result ≢ 5 → Keeps (W.contents w.old) (W.contents w.new) }
-    ensures unread { ¬ HasWords args (codes "make" ∷ []) → ¬ HasWords args (codes "join" ∷ []) →
-        ¬ HasWords args (codes "root" ∷ []) → Keeps (R.remaining r.old) (R.remaining r.new) }
+    ensures unread { ((command : Command) → ¬ HasCommand args command) → Keeps (R.remaining r.old) (R.remaining r.new) }
     ensures silent { result ≡ 0 → Keeps (E.contents errors.old) (E.contents errors.new) }
 {
     let Some(result) = perform(alloc, json, args, r, w) else {
         print_line(
             errors,
-            "xetrange: expected make, join, root, --help or --version",
+            "xetrange: expected make, join, root, prove FIRST END, --help or --version",
         );
         return WRONG_ARGUMENT;
     };
@@ -96,12 +94,8 @@ fn perform<R: Read, W: Write>(
     r: &mut R,
     w: &mut W,
 ) -> Option<Result<(), RangeFault>>
-    ensures make { HasWords args (codes "make" ∷ []) → IsSomeAnd result (AnswersInput IsMadeOf IsMakeFaultOf
-        RangeFault.Write (R.remaining r.old) (R.remaining r.new) (W.contents w.old) (W.contents w.new)) }
-    ensures join { HasWords args (codes "join" ∷ []) → IsSomeAnd result (AnswersInput IsJoinedOf IsRangeFaultOf
-        RangeFault.Write (R.remaining r.old) (R.remaining r.new) (W.contents w.old) (W.contents w.new)) }
-    ensures root { HasWords args (codes "root" ∷ []) → IsSomeAnd result (AnswersInput IsRootOf IsRangeFaultOf
-        RangeFault.Write (R.remaining r.old) (R.remaining r.new) (W.contents w.old) (W.contents w.new)) }
+    ensures command { (command : Command) → HasCommand args command → IsSomeAnd result (AnswersInput (IsAnswerOf command)
+        (IsFaultOf command) RangeFault.Write (R.remaining r.old) (R.remaining r.new) (W.contents w.old) (W.contents w.new)) }
     ensures help { IsOkAnd args (λ args. AskForHelp (words_of args)) → IsSomeAnd result (
         WritesOut HELP.now RangeFault.Write (W.contents w.old) (W.contents w.new)) }
     ensures version { IsOkAnd args (λ args. AskForVersion (words_of args)) → IsSomeAnd result (
@@ -110,22 +104,19 @@ fn perform<R: Read, W: Write>(
     ensures unreadable { IfErr args (λ error.
         (error_kind error ≡ ErrorKind.OutOfMemory → result ≡ Some (Err RangeFault.Memory))
         × (error_kind error ≢ ErrorKind.OutOfMemory → IsNone result)) }
-    ensures unread { ¬ HasWords args (codes "make" ∷ []) → ¬ HasWords args (codes "join" ∷ []) →
-        ¬ HasWords args (codes "root" ∷ []) → Keeps (R.remaining r.old) (R.remaining r.new) }
+    ensures unread { ((command : Command) → ¬ HasCommand args command) → Keeps (R.remaining r.old) (R.remaining r.new) }
     ensures none { IfNone result (Keeps (W.contents w.old) (W.contents w.new)) }
     ensures unwritten { IfSome result (λ done. IfErr done (λ fault. fault ≢ RangeFault.Write →
         Keeps (W.contents w.old) (W.contents w.new))) }
 {
     match Request::read(args) {
-        Ok(Request::Word(word)) => match word.as_str() {
-            "make" => Some(make(alloc, json, r, w)),
-            "join" => Some(join(alloc, json, r, w)),
-            "root" => Some(root(alloc, json, r, w)),
-            _ => None,
-        },
+        Ok(Request::Command(word, rest)) => {
+            let command = Command::read(&word, rest)?;
+            Some(command.run(alloc, json, r, w))
+        }
         Ok(Request::Help) => Some(write_text(w, HELP)),
         Ok(Request::Version) => Some(write_text(w, VERSION)),
-        Ok(Request::Nothing | Request::Unknown) => None,
+        Ok(Request::Nothing | Request::Unreadable) => None,
         Err(_) => Some(Err(RangeFault::Memory)),
     }
 }

@@ -107,7 +107,7 @@ fn perform<C: ChunkRange, R: Read, W: Write>(
         Ok(Request::Nothing) => Some(run::<C, R, W>(alloc, r, w)),
         Ok(Request::Help) => Some(write_text(w, HELP)),
         Ok(Request::Version) => Some(write_text(w, VERSION)),
-        Ok(Request::Word(_) | Request::Unknown) => None,
+        Ok(Request::Command(..) | Request::Unreadable) => None,
         Err(_) => Some(Err(Fault::Memory)),
     }
 }

@@ -50,9 +50,9 @@ impl<C: ChunkRange> AnswerLines<SaidLines<PlacedPairs<C>>> for RootAndFile {
 
     type Fault = Gap;
 
-    ghost is_answer = { IsAnswer };
+    ghost is_answer = { λ _. IsAnswer };
 
-    ghost is_fault = { λ text _. HasGap text };
+    ghost is_fault = { λ _ text _. HasGap text };
 
     fn answer(
         self,

@@ -1,6 +1,7 @@
 //! The calls that answer lines. If one is refused a request, it writes nothing. JSON values use another allocator.
 
 use super::{Outcome, Refusing, outcome_of};
+use range_proof::RangeProof;
 use std::alloc::Global;
 use std::fmt::Write as _;
 use std::io::Write;
@@ -13,6 +14,7 @@ use xet_merkle::merkle_hash_subtree::MerkleHashSubtree;
 use xet_merkle::plain_range::PlainRange;
 use xetrange_text::join::{join, root};
 use xetrange_text::make::make;
+use xetrange_text::prove::prove;
 use xetroot_text::run::run;
 
 /// Calls that answer lines. Each has its lines if these are pairs and chunks. The commands of `xetrange` use those of
@@ -27,7 +29,8 @@ run over plain ranges|@2;h3 300;@0;h1 100;@1;h2 200;
 run over plain ranges|+abc
 make|
 join|
-root|";
+root|
+prove|";
 
 /// Returns the two lines of a list of nodes.
 pub fn answer_to(memory: Global, nodes: &[Node]) -> Result<String, Fail> {
@@ -39,6 +42,14 @@ pub fn answer_to(memory: Global, nodes: &[Node]) -> Result<String, Fail> {
 pub fn range_of(memory: Global, nodes: &[Node]) -> Result<String, Fail> {
     let range = MerkleHashSubtree::from_chunks(memory, false, nodes, false)?;
     let mut line = range.to_json(memory)?.to_string(memory)?;
+    line.push('\n')?;
+    Ok(line)
+}
+
+// Returns the line of the proof of the chunks 10 to 21 of some nodes.
+fn proof_of(memory: Global, nodes: &[Node]) -> Result<String, Fail> {
+    let proof = RangeProof::from_chunks(memory, nodes, 10, 22)?;
+    let mut line = proof.to_json(memory)?.to_string(memory)?;
     line.push('\n')?;
     Ok(line)
 }
@@ -75,6 +86,7 @@ fn of_command(memory: Global, call: &str) -> Result<(String, String), Fail> {
             let answer = range_of(memory, &twice(memory, &nodes)?)?;
             Ok((two_ranges_of(memory, &nodes)?, answer))
         }
+        "prove" => Ok((pairs_of(memory, &nodes)?, proof_of(memory, &nodes)?)),
         _ => {
             let answer = answer_to(memory, &twice(memory, &nodes)?)?;
             Ok((two_ranges_of(memory, &nodes)?, answer))
@@ -110,6 +122,7 @@ pub fn status_of<W: Write>(
         "make" => make(alloc, memory, r, output).map_err(|fault| fault.status()),
         "join" => join(alloc, memory, r, output).map_err(|fault| fault.status()),
         "root" => root(alloc, memory, r, output).map_err(|fault| fault.status()),
+        "prove" => prove(alloc, memory, 10, 22, r, output).map_err(|fault| fault.status()),
         _ => run::<PlainRange<&Refusing>, _, _>(alloc, r, output).map_err(|fault| fault.status()),
     };
     result.err().unwrap_or(0)

@@ -1,21 +1,31 @@
-use Rattle.std.proofs.Common.{◌≢◌, ℕ, List, [], ◌∷◌, codes, inl, inr}
-use Rattle.line_io.specs.Requests.{AskForHelp}
-use Rattle.line_io.proofs.Requests.{words-ask_for_help}
+use Rattle.std.proofs.Common.{List, ℕ, ◌∷◌, sym, subst, ◌∙◌, IfErr}
+use Rattle.std.proofs.lemmas.Result.{IfErr-weaker}
+use Rattle.std.specs.String.{string_bytes}
+use Rattle.line_io.specs.Answers.{AnswersInput}
+use Rattle.line_io.specs.Requests.{words_left}
+use Rattle.xetrange_text.specs.declared.command.Command.{Command}
+use Rattle.xetrange_text.specs.declared.fault.RangeFault.TheVariants.{Write}
+use Rattle.xetrange_text.specs.Words.{AskFor, IsAnswerOf, IsFaultOf}
+use Rattle.xetrange_text.proofs.Words.{help-no_command, the_command, has_command}
 use Rattle.xetrange_text.proofs.program.perform.Goals as goal
 
--- another word asks for no help
-other_word-asks_for_no_help : (word : List ℕ) → word ≢ codes "-h" → word ≢ codes "--help" → AskForHelp (word ∷ []) → ⊥
-other_word-asks_for_no_help word not_short not_long (inl is) = not_short (cc is)
-other_word-asks_for_no_help word not_short not_long (inr is) = not_long (cc is)
+pub returns-in-Ok-Help-clause-command : goal.returns-in-Ok-Help-clause-command
+returns-in-Ok-Help-clause-command g c = λ command has.
+    absurd (help-no_command c.args.args command (rw c.in-Ok-Help.field-0-is at c.in-Ok-Help.ensures.words) has)
 
-pub returns-in-Ok-Help-clause-make : goal.returns-in-Ok-Help-clause-make
-returns-in-Ok-Help-clause-make g c = λ make. absurd (other_word-asks_for_no_help (codes "make") (λ is. cc is) (λ is. cc is) (
-    words-ask_for_help c.args.args _ (rw c.in-Ok-Help.field-0-is at c.in-Ok-Help.ensures.words) make))
+pub returns-in_ok-command-in-Ok-Command-clause-command : goal.returns-in_ok-command-in-Ok-Command-clause-command
+returns-in_ok-command-in-Ok-Command-clause-command g c = λ command has.
+    let rest = words_left c.in-Ok-Command.rest in
+    let found = c.in_ok-command-in-Ok-Command.command in
+    let asks = subst (λ (word : List ℕ). AskFor (word ∷ rest) found) c.deref.ensures c.in_ok-command-in-Ok-Command.ensures.command in
+    let same = the_command c.args.args (string_bytes c.in-Ok-Command.word ∷ rest) found command (rw c.in-Ok-Command.field-0-is at c.in-Ok-Command.ensures.words) asks has in
+    subst (λ (of : Command). AnswersInput (IsAnswerOf of) (IsFaultOf of) Write (g.R.Read.remaining c.args.r.now) (g.R.Read.remaining c.run.new.r)
+    (g.W.Write.contents c.args.w.now) (g.W.Write.contents c.run.new.w) c.run.result) same c.run.ensures
 
-pub returns-in-Ok-Help-clause-join : goal.returns-in-Ok-Help-clause-join
-returns-in-Ok-Help-clause-join g c = λ join. absurd (other_word-asks_for_no_help (codes "join") (λ is. cc is) (λ is. cc is) (
-    words-ask_for_help c.args.args _ (rw c.in-Ok-Help.field-0-is at c.in-Ok-Help.ensures.words) join))
-
-pub returns-in-Ok-Help-clause-root : goal.returns-in-Ok-Help-clause-root
-returns-in-Ok-Help-clause-root g c = λ root. absurd (other_word-asks_for_no_help (codes "root") (λ is. cc is) (λ is. cc is) (
-    words-ask_for_help c.args.args _ (rw c.in-Ok-Help.field-0-is at c.in-Ok-Help.ensures.words) root))
+pub returns-in_ok-command-in-Ok-Command-clause-unread : goal.returns-in_ok-command-in-Ok-Command-clause-unread
+returns-in_ok-command-in-Ok-Command-clause-unread g c = λ none.
+    let rest = words_left c.in-Ok-Command.rest in
+    let found = c.in_ok-command-in-Ok-Command.command in
+    let asks = subst (λ (word : List ℕ). AskFor (word ∷ rest) found) c.deref.ensures c.in_ok-command-in-Ok-Command.ensures.command in
+    let readable : IfErr c.args.args (λ _. ⊥) = IfErr-weaker c.args.args _ _ (λ error is. let clash : ⊥ = cc (sym c.in-Ok-Command.field-0-is ∙ is) in clash) c.in-Ok-Command.ensures.unreadable in
+    absurd (none found (has_command c.args.args (string_bytes c.in-Ok-Command.word ∷ rest) found (rw c.in-Ok-Command.field-0-is at c.in-Ok-Command.ensures.words) readable asks))

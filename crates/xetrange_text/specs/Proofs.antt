@@ -1,0 +1,17 @@
+-- Lines of range proofs.
+use Rattle.std.specs.Prelude.{◌≡◌, ℕ, List, [], ◌∷◌, ◌++◌}
+use Rattle.serde_json.specs.Data.{Data}
+use Rattle.serde_json.specs.Written.{compact_text}
+use Rattle.line_io.specs.Lines.{newline}
+use Rattle.range_proof.specs.RangeProof.{Proof}
+use Rattle.range_proof.specs.ProofJson.{proof_json, Reads}
+use Rattle.xetrange_text.specs.Ranges.{IsTextOf}
+
+-- some bytes are the JSON text of a range proof
+abbrev pub SaysProof : List ℕ → Proof → Type 0
+SaysProof text proof = (json : Data) × IsTextOf text json × Reads json proof
+
+-- the line of a range proof: its compact JSON text, which describes it, and a newline
+pub record IsProofLine (line : List ℕ) (proof : Proof) : Type 0 where
+  pub text : line ≡ compact_text (proof_json proof) ++ newline ∷ []
+  pub says : SaysProof (compact_text (proof_json proof)) proof
