@@ -1,5 +1,5 @@
 /* Yurewha 1.1.0 for x86-64: the proved library, as the toolchain compiles it. Made by dist/make, not by hand.
-   The sum of its sources: cc17126b06d5f281e942833e00f09a6ef50a250c51651d496cebdae081f69142 */
+   The sum of its sources: b331c60c80290bca5e2948aa8cb6aa5cd57c2fed7ca9d79ece0e32cf1ea02c72 */
 	.section	.note.gnu.property,"a",@note
 	.p2align	3, 0x0
 	.long	4, 16, 5
