@@ -1,4 +1,4 @@
-use Rattle.std.proofs.Common.{◌≡◌, ◌∷◌, List, drop, refl, subst, sym, ap, ◌∙◌, arith}
+use Rattle.std.proofs.Common.{◌≡◌, ◌+◌, ◌∷◌, List, length, drop, refl, subst, sym, ap, ◌∙◌, arith}
 use Rattle.std.proofs.lemmas.List.{drop_more, drop_all}
 use Rattle.subtree_levels.specs.Subtree.{Subtree}
 use Rattle.xet_merkle.specs.Steps.SubtreeMerging.{MergesTo}
@@ -37,3 +37,6 @@ pub returns-clause-merges : goal.returns-clause-merges
 returns-clause-merges g c =
     subst (λ (left : List Subtree). MergesTo (c.args.self ∷ c.args.others.now) (c.others.merged ∷ left))
     (drop_all c.others.other-index c.args.others.now c.others-test.false) c.others.invariant.merges
+
+pub returns-clause-copy : goal.returns-clause-copy
+returns-clause-copy g c = λ none. c.others.invariant.copy (let few = ap length none in let last = c.others-test.false in omega arith)

@@ -4,6 +4,6 @@ use Rattle.xet_merkle.proofs.merkle_hash_subtree.subtree.MerkleHashSubtree.merge
 
 abbrev pub invariant-others : goal.invariant-others
 invariant-others g l = record {
-  merges : MergesTo (l.fn.self ∷ l.fn.others.now) (l.merged ∷ drop l.other-index l.others);
+  merges : MergesTo (l.fn.self ∷ l.fn.others) (l.merged ∷ drop l.other-index l.others);
   copy : l.other-index ≡ 0 → l.merged ≡ l.fn.self;
 }
