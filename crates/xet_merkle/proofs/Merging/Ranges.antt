@@ -1,6 +1,7 @@
 -- Subtrees of ranges, merged one after another, and in any order.
-use Rattle.std.proofs.Common.{◌≡◌, ℕ, ◌+◌, ◌^◌, ◌<◌, Bool, false, Option, Some, None, List, [], ◌∷◌, ◌++◌, flat_map, refl, sym, ap, subst, ◌∙◌, arith, append_assoc, append-nil}
+use Rattle.std.proofs.Common.{◌≡◌, ℕ, ◌+◌, ◌-◌, ◌^◌, ◌<◌, ◌≤◌, Bool, false, Option, Some, None, List, [], ◌∷◌, ◌++◌, length, get_or, take, drop, flat_map, refl, sym, ap, ap₂, subst, ◌∙◌, arith, append_assoc, append-nil}
 use Rattle.std.specs.Prelude.{Err}
+use Rattle.std.proofs.lemmas.List.{take_all}
 use Rattle.std.proofs.lemmas.List.Sums.{sum_by-cons}
 use Rattle.xet_roots.specs.Groups.{Node}
 use Rattle.xet_roots.specs.Roots.{parent}
@@ -53,6 +54,16 @@ can_merge_first ranges rest front back h fits =
 pub MergesTo-first : (ranges rest : List Subtree) (front back merged : Subtree) → MergesTo ranges (front ∷ back ∷ rest) → IsMerged front back merged → MergesTo ranges (merged ∷ rest)
 MergesTo-first ranges rest front back merged so_far h =
     JoinsTo-join IsCanonical start_of end_of size_of front back merged h.spans.start h.spans.end h.spans.size h.canonical ranges [] rest so_far
+
+-- what merges to one range together with a copy of the first
+first_and_others : (ranges : List Subtree) (first copy : Subtree) → 1 ≤ length ranges → first ≡ get_or ranges 0 first → copy ≡ first → ranges ≡ copy ∷ take (length ranges - 1) (drop 1 ranges)
+first_and_others [] first copy some is same = absurd (omega arith)
+first_and_others (range ∷ ranges) first copy some is same = ap₂ ◌∷◌ (sym is ∙ sym same) (sym (take_all _ ranges (omega arith)))
+
+pub MergesTo-copied : (ranges : List Subtree) (first copy merged : Subtree) → 1 ≤ length ranges → first ≡ get_or ranges 0 first → copy ≡ first →
+    MergesTo (copy ∷ take (length ranges - 1) (drop 1 ranges)) (merged ∷ []) → MergesTo ranges (merged ∷ [])
+MergesTo-copied ranges first copy merged some is same h =
+    subst (λ (list : List Subtree). MergesTo list (merged ∷ [])) (sym (first_and_others ranges first copy some is same)) h
 
 pub MergesTo-one : (ranges : List Subtree) (merged : Subtree) → MergesTo ranges (merged ∷ []) → (lists : List (List Node)) → AreCanonical ranges lists →
     IsCanonical merged (flat_map (λ (list : List Node). list) lists)
