@@ -46,6 +46,7 @@ const FEW: u64 = 60;
 //
 // - An append makes the range of a chunk. A prepend also copies its node.
 // - A merge copies the nodes in sight, collapses them to a third or less, and copies those of a side.
+// - Ranges that are merged together are added to a copy of the first.
 // - A put of a chunk makes its range, an empty range, a place in the map of runs, and a copy of the shorter neighbour.
 // - In random order the neighbours are long. A node is copied four times, with twice the room, each time the range that
 //   holds it doubles its nodes. For 7200 nodes that is 13 times.
@@ -67,6 +68,7 @@ merge|0|4
 merge before|0|5
 merge of cuts|0|4
 merge before of cuts|0|4
+ranges merged together|0|4
 put falling|6|13
 put even, then odd|6|13
 put even, then odd falling|6|13
@@ -167,6 +169,17 @@ fn change_range(
     } else {
         range.prepend(other)?;
     }
+    Ok(alloc.granted())
+}
+
+// Merges `count` ranges of one chunk each. Returns what that asks for.
+fn merge_ranges(alloc: &Counting, memory: Global, count: u64) -> Result<Granted, Fail> {
+    let mut ranges = Vec::new(memory);
+    for chunk in &chunks(memory, count, Cuts::Nowhere)? {
+        ranges.push(MerkleHashSubtree::from_chunks(alloc, false, &[*chunk], false)?)?;
+    }
+    alloc.grant(u32::MAX);
+    MerkleHashSubtree::merge(alloc, &ranges)?;
     Ok(alloc.granted())
 }
 
@@ -298,6 +311,7 @@ fn asked(memory: Global, change: &str, count: u64) -> Result<Granted, Fail> {
         Some("put") => change_session::<NoHashes>(&alloc, memory, change, count),
         Some("push" | "keep") => restore(&alloc, memory, change, count),
         Some("copy" | "list") => save(&alloc, memory, change, count),
+        Some("ranges") => merge_ranges(&alloc, memory, count),
         Some("room") => make_room(&alloc, count),
         _ => change_range(&alloc, memory, change, count),
     }

@@ -1,7 +1,8 @@
 -- Subtrees of ranges, merged one after another, and in any order.
-use Rattle.std.proofs.Common.{◌≡◌, ℕ, ◌+◌, ◌^◌, ◌<◌, Bool, false, Option, Some, None, List, [], ◌∷◌, ◌++◌, flat_map, refl, sym, ap, subst, ◌∙◌, arith, append_assoc, append-nil}
+use Rattle.std.proofs.Common.{◌≡◌, ℕ, ◌+◌, ◌-◌, ◌^◌, ◌<◌, ◌≤◌, Bool, false, Option, Some, None, List, [], ◌∷◌, ◌++◌, length, get_or, take, drop, flat_map, refl, sym, ap₂, subst, ◌∙◌, arith, append_assoc, append-nil}
 use Rattle.std.specs.Prelude.{Err}
-use Rattle.std.proofs.lemmas.List.Sums.{sum_by-append, sum_by-cons}
+use Rattle.std.proofs.lemmas.List.{take_all}
+use Rattle.std.proofs.lemmas.List.Sums.{sum_by-cons}
 use Rattle.xet_roots.specs.Groups.{Node}
 use Rattle.xet_roots.specs.Roots.{parent}
 use Rattle.xet_roots.specs.declared.error.CoreError.{CoreError}
@@ -12,7 +13,7 @@ use Rattle.subtree_levels.proofs.Canonical.OneSubtree.{IsCanonicalBy-unique}
 use Rattle.chunk_ranges.specs.Ranges.{Refusals}
 use Rattle.chunk_ranges.specs.Steps.RangeMerging.{end_of_last}
 use Rattle.chunk_ranges.proofs.Ranges.Adjacent.{allowed_ranges, refused}
-use Rattle.chunk_ranges.proofs.Ranges.Joining.{JoinsTo-all, JoinsTo-join, JoinsTo-one, JoinsTo-both, unmarked_parts}
+use Rattle.chunk_ranges.proofs.Ranges.Joining.{JoinsTo-all, JoinsTo-join, JoinsTo-one, total_at}
 use Rattle.xet_merkle.specs.Merging.{IsMerged, NoMarkBetweenSubtrees, start_mark, end_mark, ranges_size, AreCanonical}
 use Rattle.xet_merkle.specs.Steps.SubtreeMerging.{MergesTo, RefusalOf}
 
@@ -38,24 +39,31 @@ end_of range = range.at_end
 abbrev size_of : Subtree → ℕ
 size_of range = levels_size range.levels
 
-pub parts_unmarked : (front back : List Subtree) → NoMarkBetweenSubtrees (front ++ back) → NoMarkBetweenSubtrees front × NoMarkBetweenSubtrees back
-parts_unmarked front back = unmarked_parts IsCanonical start_of end_of size_of front back
+pub MergesTo-all : (ranges : List Subtree) → NoMarkBetweenSubtrees ranges → MergesTo ranges ranges
+MergesTo-all = JoinsTo-all IsCanonical start_of end_of size_of
 
-pub parts_size : (front back : List Subtree) → ranges_size (front ++ back) ≡ ranges_size front + ranges_size back
-parts_size front back = sum_by-append size_of front back
+-- the first two can be merged
+pub can_merge_first : (ranges rest : List Subtree) (front back : Subtree) → MergesTo ranges (front ∷ back ∷ rest) → ranges_size ranges < 2 ^ 64 →
+    ((front.at_end ≡ false) × (back.at_start ≡ false)) × (levels_size front.levels + levels_size back.levels < 2 ^ 64)
+can_merge_first ranges rest front back h fits =
+    let sum = h.sum in
+    let most = total_at IsCanonical start_of end_of size_of [] rest front back in
+    ((h.marks.0, h.marks.1), omega arith)
 
-pub size_of_one : (range : Subtree) → ranges_size (range ∷ []) ≡ levels_size range.levels
-size_of_one range = omega (arith, sum_by-cons size_of range [])
+-- the first two are merged
+pub MergesTo-first : (ranges rest : List Subtree) (front back merged : Subtree) → MergesTo ranges (front ∷ back ∷ rest) → IsMerged front back merged → MergesTo ranges (merged ∷ rest)
+MergesTo-first ranges rest front back merged so_far h =
+    JoinsTo-join IsCanonical start_of end_of size_of front back merged h.spans.start h.spans.end h.spans.size h.canonical ranges [] rest so_far
 
-pub MergesTo-all : (range : Subtree) → MergesTo (range ∷ []) (range ∷ [])
-MergesTo-all range = JoinsTo-all IsCanonical start_of end_of size_of (range ∷ []) tt
+-- what merges to one range together with a copy of the first
+first_and_others : (ranges : List Subtree) (first copy : Subtree) → 1 ≤ length ranges → first ≡ get_or ranges 0 first → copy ≡ first → ranges ≡ copy ∷ take (length ranges - 1) (drop 1 ranges)
+first_and_others [] first copy some is same = absurd (omega arith)
+first_and_others (range ∷ ranges) first copy some is same = ap₂ ◌∷◌ (sym is ∙ sym same) (sym (take_all _ ranges (omega arith)))
 
-pub MergesTo-both : (front back : List Subtree) (a b : Subtree) → NoMarkBetweenSubtrees (front ++ back) → MergesTo front (a ∷ []) → MergesTo back (b ∷ []) → MergesTo (front ++ back) (a ∷ b ∷ [])
-MergesTo-both front back a b marks x y = JoinsTo-both IsCanonical start_of end_of size_of front back a b marks x y
-
-pub MergesTo-merged : (ranges : List Subtree) (front back merged : Subtree) → MergesTo ranges (front ∷ back ∷ []) → IsMerged front back merged → MergesTo ranges (merged ∷ [])
-MergesTo-merged ranges front back merged so_far h =
-    JoinsTo-join IsCanonical start_of end_of size_of front back merged h.spans.start h.spans.end h.spans.size h.canonical ranges [] [] so_far
+pub MergesTo-copied : (ranges : List Subtree) (first copy merged : Subtree) → 1 ≤ length ranges → first ≡ get_or ranges 0 first → copy ≡ first →
+    MergesTo (copy ∷ take (length ranges - 1) (drop 1 ranges)) (merged ∷ []) → MergesTo ranges (merged ∷ [])
+MergesTo-copied ranges first copy merged some is same h =
+    subst (λ (list : List Subtree). MergesTo list (merged ∷ [])) (sym (first_and_others ranges first copy some is same)) h
 
 pub MergesTo-one : (ranges : List Subtree) (merged : Subtree) → MergesTo ranges (merged ∷ []) → (lists : List (List Node)) → AreCanonical ranges lists →
     IsCanonical merged (flat_map (λ (list : List Node). list) lists)
@@ -77,7 +85,7 @@ MergesTo-start [] merged h = let first = h.first in let clash : ⊥ = cc in absu
 MergesTo-start (range ∷ ranges) merged h = let first : Some merged.at_start ≡ Some range.at_start = h.first in cc
 
 pub MergesTo-size : (ranges : List Subtree) (merged : Subtree) → MergesTo ranges (merged ∷ []) → levels_size merged.levels ≡ ranges_size ranges
-MergesTo-size ranges merged h = sym (size_of_one merged) ∙ h.sum
+MergesTo-size ranges merged h = let sum = h.sum in omega (arith, sum_by-cons size_of merged [])
 
 -- ---- in any order
 

@@ -169,25 +169,22 @@ impl<A: Allocator + Clone> MerkleHashSubtree<A> {
         }
         match ranges {
             [] => Self::from_chunks(alloc, true, &[], true),
-            [range] => Ok(range.copy(alloc)?),
-            _ => Ok(Self::merge_halves(alloc, ranges)?),
+            [first, others @ ..] => Ok(first.copy(alloc)?.merged_with(others)?),
         }
     }
 
-    // Merges adjacent ranges: the first half and the second half separately, and then the two results.
-    fn merge_halves(alloc: A, ranges: &[MerkleHashSubtree<A>]) -> Result<Self, CoreError>
-        requires some { 0 < length ranges.now }
-        requires marks { NoMarkBetweenSubtrees ranges.now }
-        requires fits { ranges_size ranges.now < 2 ^ 64 }
-        ensures merges { IfOk result (λ merged. MergesTo ranges.now (merged ∷ [])) }
+    // Merges ranges that follow into this one, one after another, so that each node is copied once.
+    fn merged_with(self, others: &[MerkleHashSubtree<A>]) -> Result<Self, CoreError>
+        requires marks { NoMarkBetweenSubtrees (self ∷ others.now) }
+        requires fits { ranges_size (self ∷ others.now) < 2 ^ 64 }
+        ensures merges { IfOk result (λ merged. MergesTo (self ∷ others.now) (merged ∷ [])) }
+        ensures copy { IfOk result (λ merged. others.now ≡ [] → merged ≡ self) }
         ensures errors { IfErr result (λ e. e ≡ CoreError.OutOfMemory) }
     {
-        if ranges.len() < 2 {
-            return Ok(ranges[0].copy(alloc)?);
+        let mut merged = self;
+        'others: for other in others {
+            merged.merge_into(other)?;
         }
-        let (front, back) = ranges.split_at(ranges.len().div_ceil(2));
-        let mut merged = Self::merge_halves(alloc.clone()?, front)?;
-        merged.merge_into(&Self::merge_halves(alloc, back)?)?;
         Ok(merged)
     }
 }
