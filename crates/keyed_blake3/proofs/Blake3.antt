@@ -9,3 +9,4 @@ pub mod Merging
 pub mod Rows
 pub mod Subtrees
 pub mod Waiting
+pub mod Turned
