@@ -1,11 +1,13 @@
 /*
- * Chooses which of the proved libraries beside this file runs. For x86-64 there are three, one for each of the levels that the
- * psABI of x86-64 defines. The first call chooses the library for the highest level that the processor has, or the loading of the
- * library does if that comes first. Each later call reads the choice and jumps. For other processors there is one library, whose
- * calls have the names of the header, so that there is nothing to choose.
+ * Chooses which of the libraries beside this file runs. For x86-64 there are four, one for each of the levels that the psABI of
+ * x86-64 defines. The first call chooses the library for the highest level up to x86-64-v3 that the processor has, or the loading
+ * of the library does if that comes first. Each later call reads the choice and jumps. For other processors there is one library,
+ * whose calls have the names of the header, so that there is nothing to choose.
  *
- * The environment variable YUREWHA_LEVEL may name a lower level, for tests. If the processor lacks the level that it names, or
- * there is no such level, a line on standard error says so, and the choice is the one without the variable.
+ * The environment variable YUREWHA_LEVEL may name another level: a lower one, for tests, or x86-64-v4, which runs only if it is
+ * named. That library is translated from the proved module after the proof, which the others aren't, by a compiler whose authors
+ * warn of its AVX-512. If the processor lacks the level that is named, or there is no such level, a line on standard error says so,
+ * and the choice is the one without the variable.
  *
  * This file isn't proved. With heap.c it is all that lies between a caller, the proved code and the C library.
  */
@@ -173,6 +175,7 @@ struct library {
 CALLS(DECLARE, x86_64)
 CALLS(DECLARE, x86_64_v2)
 CALLS(DECLARE, x86_64_v3)
+CALLS(DECLARE, x86_64_v4)
 
 static bool has_all(unsigned value, unsigned bits)
 {
@@ -193,29 +196,40 @@ static bool is_x86_64_v2(void)
            __get_cpuid(0x80000001, &eax, &ebx, &ecx, &edx) && has_all(ecx, bit_LAHF_LM);
 }
 
-/* Whether the system saves the registers of SSE and AVX. */
-static bool saves_vectors(void)
+/* The registers that the system may save, as bits of XCR0: those of SSE and AVX, and those that AVX-512 adds. */
+#define SAVES_AVX (1u << 1 | 1u << 2)
+#define SAVES_AVX512 (1u << 5 | 1u << 6 | 1u << 7)
+
+static bool saves(unsigned registers)
 {
     unsigned low, high;
     __asm__ volatile("xgetbv" : "=a"(low), "=d"(high) : "c"(0));
-    return has_all(low, 1u << 1 | 1u << 2);
+    return has_all(low, registers);
 }
 
 static bool is_x86_64_v3(void)
 {
     unsigned eax, ebx, ecx, edx;
     return is_x86_64_v2() && __get_cpuid(1, &eax, &ebx, &ecx, &edx) &&
-           has_all(ecx, bit_FMA | bit_MOVBE | bit_OSXSAVE | bit_AVX | bit_F16C) && saves_vectors() &&
+           has_all(ecx, bit_FMA | bit_MOVBE | bit_OSXSAVE | bit_AVX | bit_F16C) && saves(SAVES_AVX) &&
            __get_cpuid_count(7, 0, &eax, &ebx, &ecx, &edx) && has_all(ebx, bit_BMI | bit_AVX2 | bit_BMI2) &&
            __get_cpuid(0x80000001, &eax, &ebx, &ecx, &edx) && has_all(ecx, bit_LZCNT);
 }
 
-/* The highest level first; the processor has the last one. */
+static bool is_x86_64_v4(void)
+{
+    unsigned eax, ebx, ecx, edx;
+    return is_x86_64_v3() && saves(SAVES_AVX512) && __get_cpuid_count(7, 0, &eax, &ebx, &ecx, &edx) &&
+           has_all(ebx, bit_AVX512F | bit_AVX512DQ | bit_AVX512CD | bit_AVX512BW | bit_AVX512VL);
+}
+
+/* The highest level first. Every processor has x86-64, so what stands after it is found by its name alone. */
 #define ADDRESS(level, type, hand_back, name, parameters, arguments) .name = yurewha_##level##_##name,
 static const struct library libraries[] = {
     {.level = "x86-64-v3", .is_supported = is_x86_64_v3, CALLS(ADDRESS, x86_64_v3)},
     {.level = "x86-64-v2", .is_supported = is_x86_64_v2, CALLS(ADDRESS, x86_64_v2)},
     {.level = "x86-64", .is_supported = is_x86_64, CALLS(ADDRESS, x86_64)},
+    {.level = "x86-64-v4", .is_supported = is_x86_64_v4, CALLS(ADDRESS, x86_64_v4)},
 };
 #define LIBRARIES (sizeof libraries / sizeof *libraries)
 

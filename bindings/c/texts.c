@@ -80,7 +80,7 @@ static void version(void)
 /* The level is one of those that the header names, and stays. */
 static void level(void)
 {
-    static const char *const names[] = {"x86-64", "x86-64-v2", "x86-64-v3", "aarch64"};
+    static const char *const names[] = {"x86-64", "x86-64-v2", "x86-64-v3", "x86-64-v4", "aarch64"};
     const char *found = yurewha_processor_level();
     size_t same = 0;
     row("processor_level");

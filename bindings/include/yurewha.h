@@ -179,13 +179,14 @@ yurewha_status yurewha_version(char *text, size_t room, size_t *length);
 YUREWHA_NODISCARD YUREWHA_NONNULL(4)
 yurewha_status yurewha_status_text(yurewha_status status, char *text, size_t room, size_t *length);
 
-/* Returns the level of processors that the library runs for: "x86-64", "x86-64-v2", "x86-64-v3" or "aarch64". The text ends with
- * a 0 byte, and lasts as long as the program.
+/* Returns the level of processors that the library runs for: "x86-64", "x86-64-v2", "x86-64-v3", "x86-64-v4" or "aarch64". The text
+ * ends with a 0 byte, and lasts as long as the program.
  *
- * On x86-64, the library holds code for each of three levels, and chooses the highest that the processor and the system have. The
- * choice is made once, before any call of the library does anything else. The environment variable YUREWHA_LEVEL may name a lower
- * level, for tests. If this processor has no level of that name, the library says so on standard error, and chooses as it does
- * without the variable. All levels give the same results. */
+ * On x86-64, the library holds code for each of four levels. It chooses the highest that the processor and the system have, but
+ * none above x86-64-v3. The choice is made once, before any call of the library does anything else. The environment variable
+ * YUREWHA_LEVEL may name a lower level, for tests, or x86-64-v4, whose code is made of the proved code after the proof (TRUST says
+ * how). If this processor has no level of that name, the library says so on standard error, and chooses as it does without the
+ * variable. All levels give the same results. */
 YUREWHA_NODISCARD
 const char *yurewha_processor_level(void);
 

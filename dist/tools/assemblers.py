@@ -3,6 +3,11 @@
 from __future__ import annotations
 
 from dataclasses import dataclass
+from pathlib import Path
+
+from avx512 import fault_of
+from levels import ROOT, Level
+from proving import Fault, run
 
 
 @dataclass(frozen=True)
@@ -21,3 +26,13 @@ ASSEMBLERS = {
         ["aarch64-linux-gnu-gcc"], ["clang", "--target=aarch64-linux-gnu"], "aarch64-linux-gnu-objdump",
         ("gcc-aarch64-linux-gnu", "clang")),
 }
+
+
+def refuse_other_avx512(level: Level, work: Path) -> None:
+    """Refuses the file of a translated level that has AVX-512 where it may not."""
+    tools = ASSEMBLERS[level.processor]
+    run(ROOT / "bindings/install_packages", *tools.packages)
+    for assembler in (tools.gcc, tools.clang):
+        run(*assembler, "-c", level.assembly, "-o", work / "whole.o")
+        if found := fault_of(tools.objdump, work / "whole.o"):
+            raise Fault(f"{level.assembly.name} by {assembler[0]} has AVX-512 where it may not: {found}")

@@ -6,6 +6,7 @@ import re
 import tempfile
 from pathlib import Path
 
+from avx512 import with_avx512
 from levels import Level, version
 from proving import Fault, run, tool
 
@@ -44,13 +45,14 @@ def with_unwind_tables(text: str) -> str:
 def compiled(level: Level, work: Path) -> str:
     """The assembly that the toolchain's clang makes of the level's module, by the words with which it makes the object.
 
-    For x86-64 there are unwind tables, too. On aarch64 they would change instructions; there, frame pointers lead a debugger on.
+    A level that is translated gets AVX-512 for some functions. For x86-64 there are unwind tables, too. On aarch64 they would change instructions; there, frame pointers lead a debugger on.
     """
     clang, module = tool("clang"), level.folder / "module"
     if level.processor == "x86_64":
         run(clang, "-x", "ir", module, "-S", "-emit-llvm", "-Xclang", "-disable-llvm-passes", "-o", work / "module.ll")
         module = work / "module.ll"
-        module.write_text(with_unwind_tables(module.read_text()))
+        text = with_unwind_tables(module.read_text())
+        module.write_text(with_avx512(text) if level.is_translated else text)
     words = [word for word in (level.folder / "words").read_text().split("\0")[:-1] if not word.startswith("--sysroot")]
     try:
         words[words.index("-c")] = "-S"

@@ -14,6 +14,8 @@ ROOT = DIST.parent
 OUT = DIST / "out"
 #: The WebAssembly module, which is part of the JavaScript package.
 WASM = ROOT / "bindings/wasm/yurewha/yurewha.wasm"
+#: The level whose module is translated after the proof.
+TRANSLATED = "x86-64-v4"
 
 
 @dataclass(frozen=True)
@@ -36,6 +38,11 @@ class Level:
     def folder(self) -> Path:
         """Where what the toolchain makes for the level is kept."""
         return OUT / self.name
+
+    @property
+    def is_translated(self) -> bool:
+        """Whether its functions differ from those of the object that the toolchain builds."""
+        return self.name == TRANSLATED
 
     @property
     def prefix(self) -> str:

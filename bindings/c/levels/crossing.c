@@ -27,19 +27,22 @@ struct calls {
     CALLS(MEMBER)
 };
 
-#define DECLARE(name) __typeof__(yurewha_##name) yurewha_x86_64_##name, yurewha_x86_64_v2_##name, yurewha_x86_64_v3_##name;
+#define DECLARE(name) \
+    __typeof__(yurewha_##name) yurewha_x86_64_##name, yurewha_x86_64_v2_##name, yurewha_x86_64_v3_##name, yurewha_x86_64_v4_##name;
 CALLS(DECLARE)
 
 #define BASELINE(name) yurewha_x86_64_##name,
 #define V2(name) yurewha_x86_64_v2_##name,
 #define V3(name) yurewha_x86_64_v3_##name,
+#define V4(name) yurewha_x86_64_v4_##name,
 static const struct calls levels[] = {
     {"x86-64", CALLS(BASELINE)},
     {"x86-64-v2", CALLS(V2)},
     {"x86-64-v3", CALLS(V3)},
+    {"x86-64-v4", CALLS(V4)},
 };
 
-enum { LEVELS = 3, LENGTH = 100000, PIECE = 9000, CHUNKS = 3000, PART = 700 };
+enum { LEVELS = 4, LENGTH = 100000, PIECE = 9000, CHUNKS = 3000, PART = 700 };
 static uint8_t message[LENGTH];
 static yurewha_chunk chunks[CHUNKS];
 /* The levels that take turns. */

@@ -147,7 +147,7 @@ def test_where_the_library_is_found(tmp_path):
     assert found({**place, "YUREWHA_LIB_DIR": str(loader)}, tmp_path) == str(own / _library.NAME)
 
 
-LEVELS = {"x86_64": ("x86-64", "x86-64-v2", "x86-64-v3"), "aarch64": ("aarch64",)}
+LEVELS = {"x86_64": ("x86-64", "x86-64-v2", "x86-64-v3", "x86-64-v4"), "aarch64": ("aarch64",)}
 
 
 def installed(folder):
@@ -212,7 +212,7 @@ def test_a_lower_level_can_be_forced():
 @pytest.mark.skipif(not shutil.which("qemu-x86_64"), reason="there is no qemu-x86_64")
 @pytest.mark.parametrize("processor, level", [("qemu64", "x86-64"), ("Nehalem", "x86-64-v2"), ("Haswell", "x86-64-v3")])
 def test_emulated_processors(processor, level):
-    """On each the library runs the highest level that the processor has."""
+    """On each the library runs the highest level that the processor has and that nobody has to ask for."""
     assert on("", "qemu-x86_64", "-cpu", processor) == (["a8803506f7aff014", level], [])
 
 

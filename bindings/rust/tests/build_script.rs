@@ -106,7 +106,8 @@ fn compiled(output: &Output) -> Vec<String> {
 #[test]
 fn all_levels_of_the_targets_processor_are_compiled() {
     let unproved = ["processor_level.c", "heap.c"];
-    let x86_64 = [&unproved[..], &["x86-64.s", "x86-64-v2.s", "x86-64-v3.s"]].concat();
+    let assembly = ["x86-64.s", "x86-64-v2.s", "x86-64-v3.s", "x86-64-v4.s"];
+    let x86_64 = [&unproved[..], &assembly].concat();
     let aarch64 = [&unproved[..], &["aarch64.s"]].concat();
     for (target, files) in [
         ("x86_64-unknown-linux-gnu", &x86_64),

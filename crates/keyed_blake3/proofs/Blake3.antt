@@ -11,3 +11,4 @@ pub mod Rows
 pub mod Subtrees
 pub mod TwoRows
 pub mod Waiting
+pub mod Turned

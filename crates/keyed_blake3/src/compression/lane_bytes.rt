@@ -63,6 +63,30 @@ impl ByteRotations for u8x32 {
     }
 }
 
+impl ByteRotations for u8x64 {
+    #[inline(always)]
+    fn rotated_by_16(self) -> u8x64
+        ensures { words_of_bytes 16 result ≡ map (λ y. rotate_right w32 y 16) (words_of_bytes 16 self) }
+    {
+        self.swizzle([
+            2, 3, 0, 1, 6, 7, 4, 5, 10, 11, 8, 9, 14, 15, 12, 13, 18, 19, 16, 17, 22, 23, 20, 21,
+            26, 27, 24, 25, 30, 31, 28, 29, 34, 35, 32, 33, 38, 39, 36, 37, 42, 43, 40, 41, 46, 47,
+            44, 45, 50, 51, 48, 49, 54, 55, 52, 53, 58, 59, 56, 57, 62, 63, 60, 61,
+        ])
+    }
+
+    #[inline(always)]
+    fn rotated_by_8(self) -> u8x64
+        ensures { words_of_bytes 16 result ≡ map (λ y. rotate_right w32 y 8) (words_of_bytes 16 self) }
+    {
+        self.swizzle([
+            1, 2, 3, 0, 5, 6, 7, 4, 9, 10, 11, 8, 13, 14, 15, 12, 17, 18, 19, 16, 21, 22, 23, 20,
+            25, 26, 27, 24, 29, 30, 31, 28, 33, 34, 35, 32, 37, 38, 39, 36, 41, 42, 43, 40, 45, 46,
+            47, 44, 49, 50, 51, 48, 53, 54, 55, 52, 57, 58, 59, 56, 61, 62, 63, 60,
+        ])
+    }
+}
+
 #[inline(always)]
 pub(crate) fn bytes_of(x: Lanes) -> LaneBytes
     ensures { words_of_bytes LANES result ≡ x }

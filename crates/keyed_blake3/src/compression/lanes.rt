@@ -11,8 +11,8 @@ use crate::compression::in_step::{byte_row, round, row, word_row, xor};
 use crate::compression::lane_rows::LaneRows;
 use std::simd::prelude::*;
 
-// How many blocks are compressed side by side: the words that a vector register holds. The proofs hold for 8, too,
-// with which a build for x86-64-v3 is faster.
+// How many blocks are compressed side by side: the words that a vector register holds. The proofs hold for 8 and 16, too,
+// with which builds for x86-64-v3 and x86-64-v4 are faster.
 pub(crate) const LANES: usize = 4;
 
 // One word of each block.
