@@ -1,11 +1,12 @@
 /* Prints how the time of a hash depends on where the stack stands, as a line of a table. One message of 64 KiB is hashed with the
- * stack pointer at each of the 256 places of a page that are a multiple of 16 bytes: the least time of the turns of each, the worst
+ * stack pointer at each of the 256 places of a page that are a multiple of 16 bytes: the median time of the turns of each, the worst
  * place over the best, and how many places take more than 1.05 of the best. */
 #define _POSIX_C_SOURCE 200809L
 #include "yurewha.h"
 
 #include <alloca.h>
 #include <stdio.h>
+#include <stdlib.h>
 #include <time.h>
 
 enum { PLACES = 256, STEP = 16, TURNS = 40, LENGTH = 64 * 1024 };
@@ -30,24 +31,30 @@ __attribute__((noinline)) static double time_at(size_t moved)
     return now() - begun;
 }
 
+static int by_size(const void *first, const void *second)
+{
+    const double one = *(const double *)first, other = *(const double *)second;
+    return (one > other) - (one < other);
+}
+
 int main(void)
 {
-    double least[PLACES], best = 1e12, worst = 0;
+    static double times[PLACES][TURNS];
+    double best = 1e12, worst = 0;
     int slow = 0;
     for (int i = 0; i < LENGTH; i++)
         message[i] = (uint8_t)(i % 251);
     for (int turn = 0; turn < TURNS; turn++)
-        for (int place = 0; place < PLACES; place++) {
-            const double time = time_at((size_t)place * STEP);
-            if (turn == 0 || time < least[place])
-                least[place] = time;
-        }
+        for (int place = 0; place < PLACES; place++)
+            times[place][turn] = time_at((size_t)place * STEP);
     for (int place = 0; place < PLACES; place++) {
-        best = least[place] < best ? least[place] : best;
-        worst = least[place] > worst ? least[place] : worst;
+        qsort(times[place], TURNS, sizeof(double), by_size);
+        const double median = times[place][TURNS / 2];
+        best = median < best ? median : best;
+        worst = median > worst ? median : worst;
     }
     for (int place = 0; place < PLACES; place++)
-        slow += least[place] > 1.05 * best;
+        slow += times[place][TURNS / 2] > 1.05 * best;
     printf("| %s | %.1f µs | %.1f µs | %.3f | %d of %d |\n", yurewha_processor_level(), best / 1000, worst / 1000, worst / best, slow,
            PLACES);
     return 0;

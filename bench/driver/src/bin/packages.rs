@@ -1,6 +1,5 @@
 //! Prints the processor time of calls of the crate `yurewha` and, after them, of the crate `blake3` in nanoseconds: the least of
-//! some turns.
-//! `bench/packages/calls.c` does the same.
+//! some turns. `bench/packages/calls.c` does the same for C.
 
 use driver::drawn::{self, Cuts};
 use driver::plain;
