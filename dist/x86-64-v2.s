@@ -1,5 +1,5 @@
 /* Yurewha 1.1.0 for x86-64-v2: the proved library, as the toolchain compiles it. Made by dist/make, not by hand.
-   The sum of its sources: 3aa889c3c230240a0a1821a4342e94d5eab1d608a31a64215789164a20e9b184 */
+   The sum of its sources: 05470bc58418fae5d2de3a1b719ef695318b186b036f1704724e822bcea34cd7 */
 	.section	.note.gnu.property,"a",@note
 	.p2align	3, 0x0
 	.long	4, 16, 5

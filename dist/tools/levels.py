@@ -65,20 +65,36 @@ def version() -> str:
     return (ROOT / "VERSION").read_text().strip()
 
 
+def library_crates() -> dict[str, str]:
+    """The crates that the library is made of, each with its line of crates.txt: `yurewha_c`, and what stands below it."""
+    lines = [line for line in (ROOT / "crates.txt").read_text().splitlines() if line and not line.startswith("#")]
+    by_name = {line.split(":")[0].split()[0]: line for line in lines}
+    found: dict[str, str] = {}
+    open_names = ["yurewha_c"]
+    while open_names:
+        name = open_names.pop()
+        if name in by_name and name not in found:
+            found[name] = by_name[name]
+            open_names += by_name[name].split(":")[1].split()
+    return found
+
+
 def source_files() -> Iterator[Path]:
-    """The files that decide what the library is: the crates' code and definitions, and the list of what each crate uses."""
-    yield ROOT / "crates.txt"
-    for folder in (*ROOT.glob("crates/*/src"), *ROOT.glob("crates/*/specs")):
-        for place, _, names in os.walk(folder):
-            yield from (Path(place, name) for name in names)
+    """The files that decide what the library is: the code and the definitions of its crates."""
+    for crate in library_crates():
+        for folder in (ROOT / "crates" / crate / "src", ROOT / "crates" / crate / "specs"):
+            for place, _, names in os.walk(folder):
+                yield from (Path(place, name) for name in names)
 
 
 def sources_sum() -> str:
-    """A SHA-256 sum over the names and contents of these files."""
+    """A SHA-256 sum over the names and contents of these files, and the lines of crates.txt of their crates."""
     total = hashlib.sha256()
     for path in sorted(source_files()):
         of_file = hashlib.sha256(path.read_bytes()).hexdigest()
         total.update(f"{of_file}  {path.relative_to(ROOT)}\n".encode())
+    for line in sorted(library_crates().values()):
+        total.update(f"{line}\n".encode())
     return total.hexdigest()
 
 
