@@ -1,6 +1,6 @@
 /* Prints how the time of a hash depends on where the stack stands, as a line of a table. One message of 64 KiB is hashed with the
- * stack pointer at each of the 256 places of a page that are a multiple of 16 bytes: the median time of the turns of each, the worst
- * place over the best, and how many places take more than 1.05 of the best. */
+ * stack pointer at each of the 256 places of a page that are a multiple of 16 bytes: the lower quartile of each place's turns (so that
+ * a processor that is slower for a while doesn't count), the worst place over the best, and how many take more than 1.05 of the best. */
 #define _POSIX_C_SOURCE 200809L
 #include "yurewha.h"
 
@@ -9,7 +9,7 @@
 #include <stdlib.h>
 #include <time.h>
 
-enum { PLACES = 256, STEP = 16, TURNS = 40, LENGTH = 64 * 1024 };
+enum { PLACES = 256, STEP = 16, TURNS = 100, LENGTH = 64 * 1024 };
 
 static uint8_t message[LENGTH];
 
@@ -49,12 +49,12 @@ int main(void)
             times[place][turn] = time_at((size_t)place * STEP);
     for (int place = 0; place < PLACES; place++) {
         qsort(times[place], TURNS, sizeof(double), by_size);
-        const double median = times[place][TURNS / 2];
-        best = median < best ? median : best;
-        worst = median > worst ? median : worst;
+        const double time = times[place][TURNS / 4];
+        best = time < best ? time : best;
+        worst = time > worst ? time : worst;
     }
     for (int place = 0; place < PLACES; place++)
-        slow += times[place][TURNS / 2] > 1.05 * best;
+        slow += times[place][TURNS / 4] > 1.05 * best;
     printf("| %s | %.1f µs | %.1f µs | %.3f | %d of %d |\n", yurewha_processor_level(), best / 1000, worst / 1000, worst / best, slow,
            PLACES);
     return 0;
