@@ -18,6 +18,7 @@ use xetrange_text::fault::RangeFault;
 use xetrange_text::join::{join, root};
 use xetrange_text::make::make;
 use xetrange_text::prove::prove;
+use xetrange_text::verify::verify;
 
 // Returns three chunks, each with its seed.
 fn chunks() -> [Node; 3] {
@@ -107,10 +108,25 @@ const RANGES: &[u8] =
 {"at_end":false,"at_start":false,"levels":[[1,0]],"nodes":[{"hash":"c3e67584b5c4fc2a89837ec39e40f2c8a6bb0b2987ac94cd4b31e5fbdd210a72","size":200}]}
 "#;
 
+// The file hash of the chunks `a chunk`, `another` and `and a third`, and the proof and the data of the second one.
+const FILE_HASH: &str = "0497c2ffdb9b034977074a6a2fe7c2a9dcfc7cc0a4f98777ed580f0b8444090f";
+
+const PART: &[u8] =
+    br#"{"chunks":[{"hash":"3481034b52254c2f1e0143ae20ce9e2459685799a774f5764bf5585211c865c1","size":7}],"levels":[{"left":[{"hash":"fc2d9e764137e94a0c4d7bdc0b584e73a34945fbf4efeef155acc8927c1399ff","size":7}],"right":[{"hash":"b5d2de3673ccda688a6ae4c470f097787aa87b128f134b1f5a7d33379b2f66e9","size":11}]}]}
+another"#;
+
+// Verifies the bytes 8 and 9 of these chunks.
+fn verify_part<W: io::Write>(alloc: Global, writer: &mut W) -> Result<(), RangeFault> {
+    match DataHash::from_hex(FILE_HASH) {
+        Ok(file_hash) => verify(alloc, alloc, &file_hash, 8, 10, &mut &*PART, writer),
+        Err(_) => Err(RangeFault::Mismatch),
+    }
+}
+
 #[test]
-fn ranges_are_made_joined_and_proved(rt: HostRuntime) -> Result<(), Fail> {
+fn ranges_are_made_joined_proved_and_verified(rt: HostRuntime) -> Result<(), Fail> {
     let alloc = rt.alloc();
-    for command in 0..4 {
+    for command in 0..5 {
         let mut writer = HashedWrite::new(Nowhere);
         let (unwritten, mut ranges) = (writer.hash(), RANGES);
         let result = match command {
@@ -124,6 +140,7 @@ fn ranges_are_made_joined_and_proved(rt: HostRuntime) -> Result<(), Fail> {
                 &mut b"+a\n--\n+b".as_slice(),
                 &mut writer,
             ),
+            3 => verify_part(alloc, &mut writer),
             _ => root(alloc, alloc, &mut ranges, &mut writer),
         };
         if result == Err(RangeFault::Memory) {

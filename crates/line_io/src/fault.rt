@@ -3,6 +3,7 @@
 ghost use Rattle.std.specs.Prelude.{◌≡◌};
 ghost use Rattle.line_io.specs.Steps.Taken.{fault_at};
 ghost use Rattle.line_io.specs.declared.fault.AnswerFault.TheVariants.{Answer, Input, Write};
+ghost use Rattle.line_io.specs.declared.fault.InputFault.TheVariants.{Memory as input_memory};
 ghost use Rattle.line_io.specs.declared.fault.Refusal.TheVariants.{Memory};
 
 use crate::devices::WriteFailed;
@@ -42,6 +43,14 @@ pub enum InputFault<F> {
     Memory,
     /// A read failed.
     Read,
+}
+
+impl<F> From<AllocError> for InputFault<F> {
+    ghost from_gives = { λ _ fault. fault ≡ input_memory };
+
+    fn from(_error: AllocError) -> InputFault<F> {
+        InputFault::Memory
+    }
 }
 
 impl<F> InputFault<F> {

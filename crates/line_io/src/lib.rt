@@ -5,6 +5,7 @@
 pub mod answer_lines;
 pub mod devices;
 pub mod fault;
+pub mod line_and_data;
 mod reading;
 pub mod request;
 pub mod take_lines;

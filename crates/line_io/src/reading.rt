@@ -12,10 +12,10 @@ use memchr::memchr;
 use std::io::Read;
 
 // The most bytes of an input.
-const BYTE_LIMIT: u64 = 1 << 40;
+pub(crate) const BYTE_LIMIT: u64 = 1 << 40;
 
 // The most bytes requested by one read.
-const BUFFER_LEN: usize = 65536;
+pub(crate) const BUFFER_LEN: usize = 65536;
 
 /// Passes all lines of the input to `lines`, each with its newline, in pieces of at most 65536 bytes. An input has at
 /// most 2^40 bytes. If it has more, the line with the next byte is faulty.
@@ -155,7 +155,7 @@ impl<L: TakeLines> Reading<L> {
 }
 
 // Splits some bytes at their first newline.
-fn split_line(bytes: &[u8]) -> Option<(&[u8], &[u8])>
+pub(crate) fn split_line(bytes: &[u8]) -> Option<(&[u8], &[u8])>
     ensures found { IfSome result (λ parts.
         (bytes.now ≡ parts.0.now ++ newline ∷ parts.1.now) × NoNewline parts.0.now) }
     ensures none { IfNone result (NoNewline bytes.now) }

@@ -73,7 +73,11 @@ fn end_of_range(fault: RangeFault) -> End {
         RangeFault::BadLine(line) | RangeFault::Sizes(line) | RangeFault::BadRange(line, _) => {
             Some(line)
         }
-        RangeFault::Memory | RangeFault::Read | RangeFault::Write | RangeFault::NoChunks => None,
+        RangeFault::Memory
+        | RangeFault::Read
+        | RangeFault::Write
+        | RangeFault::NoChunks
+        | RangeFault::Mismatch => None,
     };
     End {
         status: fault.status(),

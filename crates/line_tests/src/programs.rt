@@ -64,25 +64,68 @@ xetrange prove 0 1|nothing|h1 18446744073709551615;h2 1|2||xetrange: fault 2 at 
 xetrange prove 0 1|memory|h1 100|3||xetrange: fault 3;
 xetrange prove 0 1|input|h1 100|4||xetrange: fault 4;
 xetrange prove 0 1|output|h1 100|5||xetrange: fault 5;
+xetrange verify 0497c2ffdb9b034977074a6a2fe7c2a9dcfc7cc0a4f98777ed580f0b8444090f 8 10|nothing|{"chunks":[{"hash":"3481034b52254c2f1e0143ae20ce9e2459685799a774f5764bf5585211c865c1","size":7}],"levels":[{"left":[{"hash":"fc2d9e764137e94a0c4d7bdc0b584e73a34945fbf4efeef155acc8927c1399ff","size":7}],"right":[{"hash":"b5d2de3673ccda688a6ae4c470f097787aa87b128f134b1f5a7d33379b2f66e9","size":11}]}]};another|0|no|
+xetrange verify 0497c2ffdb9b034977074a6a2fe7c2a9dcfc7cc0a4f98777ed580f0b8444090f 7 14|nothing|{"chunks":[{"hash":"3481034b52254c2f1e0143ae20ce9e2459685799a774f5764bf5585211c865c1","size":7}],"levels":[{"left":[{"hash":"fc2d9e764137e94a0c4d7bdc0b584e73a34945fbf4efeef155acc8927c1399ff","size":7}],"right":[{"hash":"b5d2de3673ccda688a6ae4c470f097787aa87b128f134b1f5a7d33379b2f66e9","size":11}]}]};another|0|another|
+xetrange verify 0497c2ffdb9b034977074a6a2fe7c2a9dcfc7cc0a4f98777ed580f0b8444090f 7 7|nothing|{"chunks":[{"hash":"3481034b52254c2f1e0143ae20ce9e2459685799a774f5764bf5585211c865c1","size":7}],"levels":[{"left":[{"hash":"fc2d9e764137e94a0c4d7bdc0b584e73a34945fbf4efeef155acc8927c1399ff","size":7}],"right":[{"hash":"b5d2de3673ccda688a6ae4c470f097787aa87b128f134b1f5a7d33379b2f66e9","size":11}]}]};another|0||
+xetrange verify 0497c2ffdb9b034977074a6a2fe7c2a9dcfc7cc0a4f98777ed580f0b8444090f 14 14|nothing|{"chunks":[{"hash":"3481034b52254c2f1e0143ae20ce9e2459685799a774f5764bf5585211c865c1","size":7}],"levels":[{"left":[{"hash":"fc2d9e764137e94a0c4d7bdc0b584e73a34945fbf4efeef155acc8927c1399ff","size":7}],"right":[{"hash":"b5d2de3673ccda688a6ae4c470f097787aa87b128f134b1f5a7d33379b2f66e9","size":11}]}]};another|0||
+xetrange verify 0497C2FFDB9B034977074A6A2FE7C2A9DCFC7CC0A4F98777ED580F0B8444090F 8 10|nothing|{"chunks":[{"hash":"3481034b52254c2f1e0143ae20ce9e2459685799a774f5764bf5585211c865c1","size":7}],"levels":[{"left":[{"hash":"fc2d9e764137e94a0c4d7bdc0b584e73a34945fbf4efeef155acc8927c1399ff","size":7}],"right":[{"hash":"b5d2de3673ccda688a6ae4c470f097787aa87b128f134b1f5a7d33379b2f66e9","size":11}]}]};another|0|no|
+xetrange verify 0497c2ffdb9b034977074a6a2fe7c2a9dcfc7cc0a4f98777ed580f0b8444090f 8 17|nothing|{"chunks":[{"hash":"3481034b52254c2f1e0143ae20ce9e2459685799a774f5764bf5585211c865c1","size":7},{"hash":"b5d2de3673ccda688a6ae4c470f097787aa87b128f134b1f5a7d33379b2f66e9","size":11}],"levels":[{"left":[{"hash":"fc2d9e764137e94a0c4d7bdc0b584e73a34945fbf4efeef155acc8927c1399ff","size":7}],"right":[]}]};anotherand a third|0|notherand|
+xetrange verify 0497c2ffdb9b034977074a6a2fe7c2a9dcfc7cc0a4f98777ed580f0b8444090f 0 25|nothing|{"chunks":[{"hash":"fc2d9e764137e94a0c4d7bdc0b584e73a34945fbf4efeef155acc8927c1399ff","size":7},{"hash":"3481034b52254c2f1e0143ae20ce9e2459685799a774f5764bf5585211c865c1","size":7},{"hash":"b5d2de3673ccda688a6ae4c470f097787aa87b128f134b1f5a7d33379b2f66e9","size":11}],"levels":[{"left":[],"right":[]}]};a chunkanotherand a third|0|a chunkanotherand a third|
+xetrange verify 0497c2ffdb9b034977074a6a2fe7c2a9dcfc7cc0a4f98777ed580f0b8444090f 8 10|nothing|{"chunks":[{"hash":"3481034b52254c2f1e0143ae20ce9e2459685799a774f5764bf5585211c865c1","size":7}],"levels":[{"left":[{"hash":"fc2d9e764137e94a0c4d7bdc0b584e73a34945fbf4efeef155acc8927c1399ff","size":7}],"right":[{"hash":"b5d2de3673ccda688a6ae4c470f097787aa87b128f134b1f5a7d33379b2f66e9","size":11}]}]};a chunk|10||xetrange: fault 10;
+xetrange verify 0497c2ffdb9b034977074a6a2fe7c2a9dcfc7cc0a4f98777ed580f0b8444090f 8 10|nothing|{"chunks":[{"hash":"3481034b52254c2f1e0143ae20ce9e2459685799a774f5764bf5585211c865c1","size":7}],"levels":[{"left":[{"hash":"fc2d9e764137e94a0c4d7bdc0b584e73a34945fbf4efeef155acc8927c1399ff","size":7}],"right":[{"hash":"b5d2de3673ccda688a6ae4c470f097787aa87b128f134b1f5a7d33379b2f66e9","size":11}]}]};anothe|10||xetrange: fault 10;
+xetrange verify 0497c2ffdb9b034977074a6a2fe7c2a9dcfc7cc0a4f98777ed580f0b8444090f 8 10|nothing|{"chunks":[{"hash":"3481034b52254c2f1e0143ae20ce9e2459685799a774f5764bf5585211c865c1","size":7}],"levels":[{"left":[{"hash":"fc2d9e764137e94a0c4d7bdc0b584e73a34945fbf4efeef155acc8927c1399ff","size":7}],"right":[{"hash":"b5d2de3673ccda688a6ae4c470f097787aa87b128f134b1f5a7d33379b2f66e9","size":11}]}]};another!|10||xetrange: fault 10;
+xetrange verify 0497c2ffdb9b034977074a6a2fe7c2a9dcfc7cc0a4f98777ed580f0b8444090f 8 10|nothing|{"chunks":[{"hash":"3481034b52254c2f1e0143ae20ce9e2459685799a774f5764bf5585211c865c1","size":7}],"levels":[{"left":[{"hash":"fc2d9e764137e94a0c4d7bdc0b584e73a34945fbf4efeef155acc8927c1399ff","size":7}],"right":[{"hash":"b5d2de3673ccda688a6ae4c470f097787aa87b128f134b1f5a7d33379b2f66e9","size":11}]}]};another;|10||xetrange: fault 10;
+xetrange verify 0497c2ffdb9b034977074a6a2fe7c2a9dcfc7cc0a4f98777ed580f0b8444090f 8 10|nothing|{"chunks":[{"hash":"3481034b52254c2f1e0143ae20ce9e2459685799a774f5764bf5585211c865c1","size":7}],"levels":[{"left":[{"hash":"fc2d9e764137e94a0c4d7bdc0b584e73a34945fbf4efeef155acc8927c1399ff","size":7}],"right":[{"hash":"b5d2de3673ccda688a6ae4c470f097787aa87b128f134b1f5a7d33379b2f66e9","size":11}]}]};|10||xetrange: fault 10;
+xetrange verify 0497c2ffdb9b034977074a6a2fe7c2a9dcfc7cc0a4f98777ed580f0b8444090f 8 10|nothing|{"chunks":[{"hash":"3481034b52254c2f1e0143ae20ce9e2459685799a774f5764bf5585211c865c1","size":7}],"levels":[{"left":[{"hash":"fc2d9e764137e94a0c4d7bdc0b584e73a34945fbf4efeef155acc8927c1399ff","size":7}],"right":[{"hash":"b5d2de3673ccda688a6ae4c470f097787aa87b128f134b1f5a7d33379b2f66e9","size":11}]}]}|10||xetrange: fault 10;
+xetrange verify 0497c2ffdb9b034977074a6a2fe7c2a9dcfc7cc0a4f98777ed580f0b8444090f 8 10|nothing|{"chunks":[{"hash":"3481034b52254c2f1e0143ae20ce9e2459685799a774f5764bf5585211c865c1","size":7}],"levels":[{"left":[{"hash":"fc2d9e764137e94a0c4d7bdc0b584e73a34945fbf4efeef155acc8927c1399ff","size":7}],"right":[{"hash":"b5d2de3673ccda688a6ae4c470f097787aa87b128f134b1f5a7d33379b2f66e9","size":11}]}]};Another|10||xetrange: fault 10;
+xetrange verify 0497c2ffdb9b034977074a6a2fe7c2a9dcfc7cc0a4f98777ed580f0b8444090f 8 10|nothing|{"chunks":[{"hash":"3481034b52254c2f1e0143ae20ce9e2459685799a774f5764bf5585211c865c1","size":7}],"levels":[{"left":[{"hash":"fc2d9e764137e94a0c4d7bdc0b584e73a34945fbf4efeef155acc8927c1399ff","size":7}],"right":[{"hash":"b5d2de3673ccda688a6ae4c470f097787aa87b128f134b1f5a7d33379b2f66e9","size":11}]}]};another;;|10||xetrange: fault 10;
+xetrange verify 0497c2ffdb9b034977074a6a2fe7c2a9dcfc7cc0a4f98777ed580f0b8444090f 0 2|nothing|{"chunks":[{"hash":"3481034b52254c2f1e0143ae20ce9e2459685799a774f5764bf5585211c865c1","size":7}],"levels":[{"left":[{"hash":"fc2d9e764137e94a0c4d7bdc0b584e73a34945fbf4efeef155acc8927c1399ff","size":7}],"right":[{"hash":"b5d2de3673ccda688a6ae4c470f097787aa87b128f134b1f5a7d33379b2f66e9","size":11}]}]};another|10||xetrange: fault 10;
+xetrange verify 0497c2ffdb9b034977074a6a2fe7c2a9dcfc7cc0a4f98777ed580f0b8444090f 6 8|nothing|{"chunks":[{"hash":"3481034b52254c2f1e0143ae20ce9e2459685799a774f5764bf5585211c865c1","size":7}],"levels":[{"left":[{"hash":"fc2d9e764137e94a0c4d7bdc0b584e73a34945fbf4efeef155acc8927c1399ff","size":7}],"right":[{"hash":"b5d2de3673ccda688a6ae4c470f097787aa87b128f134b1f5a7d33379b2f66e9","size":11}]}]};another|10||xetrange: fault 10;
+xetrange verify 0497c2ffdb9b034977074a6a2fe7c2a9dcfc7cc0a4f98777ed580f0b8444090f 13 15|nothing|{"chunks":[{"hash":"3481034b52254c2f1e0143ae20ce9e2459685799a774f5764bf5585211c865c1","size":7}],"levels":[{"left":[{"hash":"fc2d9e764137e94a0c4d7bdc0b584e73a34945fbf4efeef155acc8927c1399ff","size":7}],"right":[{"hash":"b5d2de3673ccda688a6ae4c470f097787aa87b128f134b1f5a7d33379b2f66e9","size":11}]}]};another|10||xetrange: fault 10;
+xetrange verify 0497c2ffdb9b034977074a6a2fe7c2a9dcfc7cc0a4f98777ed580f0b8444090f 10 8|nothing|{"chunks":[{"hash":"3481034b52254c2f1e0143ae20ce9e2459685799a774f5764bf5585211c865c1","size":7}],"levels":[{"left":[{"hash":"fc2d9e764137e94a0c4d7bdc0b584e73a34945fbf4efeef155acc8927c1399ff","size":7}],"right":[{"hash":"b5d2de3673ccda688a6ae4c470f097787aa87b128f134b1f5a7d33379b2f66e9","size":11}]}]};another|10||xetrange: fault 10;
+xetrange verify 0497c2ffdb9b034977074a6a2fe7c2a9dcfc7cc0a4f98777ed580f0b8444090f 14 25|nothing|{"chunks":[{"hash":"3481034b52254c2f1e0143ae20ce9e2459685799a774f5764bf5585211c865c1","size":7}],"levels":[{"left":[{"hash":"fc2d9e764137e94a0c4d7bdc0b584e73a34945fbf4efeef155acc8927c1399ff","size":7}],"right":[{"hash":"b5d2de3673ccda688a6ae4c470f097787aa87b128f134b1f5a7d33379b2f66e9","size":11}]}]};another|10||xetrange: fault 10;
+xetrange verify 0497c2ffdb9b034977074a6a2fe7c2a9dcfc7cc0a4f98777ed580f0b8444090f 8 17|nothing|{"chunks":[{"hash":"3481034b52254c2f1e0143ae20ce9e2459685799a774f5764bf5585211c865c1","size":7},{"hash":"b5d2de3673ccda688a6ae4c470f097787aa87b128f134b1f5a7d33379b2f66e9","size":11}],"levels":[{"left":[{"hash":"fc2d9e764137e94a0c4d7bdc0b584e73a34945fbf4efeef155acc8927c1399ff","size":7}],"right":[]}]};anotherand a thirD|10||xetrange: fault 10;
+xetrange verify 5f5df6327d4bfe5fc6a4a47bab97d7457b550e0d38f3b44a43d6eaef6618f60e 8 10|nothing|{"chunks":[{"hash":"3481034b52254c2f1e0143ae20ce9e2459685799a774f5764bf5585211c865c1","size":7}],"levels":[{"left":[{"hash":"fc2d9e764137e94a0c4d7bdc0b584e73a34945fbf4efeef155acc8927c1399ff","size":7}],"right":[{"hash":"b5d2de3673ccda688a6ae4c470f097787aa87b128f134b1f5a7d33379b2f66e9","size":11}]}]};another|10||xetrange: fault 10;
+xetrange verify 0000000000000000000000000000000000000000000000000000000000000000 8 10|nothing|{"chunks":[{"hash":"3481034b52254c2f1e0143ae20ce9e2459685799a774f5764bf5585211c865c1","size":7}],"levels":[{"left":[{"hash":"fc2d9e764137e94a0c4d7bdc0b584e73a34945fbf4efeef155acc8927c1399ff","size":7}],"right":[{"hash":"b5d2de3673ccda688a6ae4c470f097787aa87b128f134b1f5a7d33379b2f66e9","size":11}]}]};another|10||xetrange: fault 10;
+xetrange verify 0497c2ffdb9b034977074a6a2fe7c2a9dcfc7cc0a4f98777ed580f0b8444090f 8 10|nothing|;another|8||xetrange: fault 8 at line 1;
+xetrange verify 0497c2ffdb9b034977074a6a2fe7c2a9dcfc7cc0a4f98777ed580f0b8444090f 8 10|nothing|zz;another|8||xetrange: fault 8 at line 1;
+xetrange verify 0497c2ffdb9b034977074a6a2fe7c2a9dcfc7cc0a4f98777ed580f0b8444090f 8 10|nothing|[];another|8||xetrange: fault 8 at line 1: rule 1;
+xetrange verify 0497c2ffdb9b034977074a6a2fe7c2a9dcfc7cc0a4f98777ed580f0b8444090f 8 10|nothing|{};another|8||xetrange: fault 8 at line 1: rule 2;
+xetrange verify 0497c2ffdb9b034977074a6a2fe7c2a9dcfc7cc0a4f98777ed580f0b8444090f 8 10|nothing|{"chunks":[],"levels":[1]};another|8||xetrange: fault 8 at line 1: rule 3;
+xetrange verify 0497c2ffdb9b034977074a6a2fe7c2a9dcfc7cc0a4f98777ed580f0b8444090f 8 10|nothing|{"chunks":[{"hash":"h1","size":-1}],"levels":[]};another|8||xetrange: fault 8 at line 1: rule 4;
+xetrange verify 0497c2ffdb9b034977074a6a2fe7c2a9dcfc7cc0a4f98777ed580f0b8444090f 8 10|nothing|{"chunks":[],"levels":[]};another|8||xetrange: fault 8 at line 1: rule 5;
+xetrange verify 0497c2ffdb9b034977074a6a2fe7c2a9dcfc7cc0a4f98777ed580f0b8444090f 8 10|nothing|{"chunks":[{"hash":"h1","size":18446744073709551615},{"hash":"h2","size":1}],"levels":[]};another|8||xetrange: fault 8 at line 1: rule 8;
+xetrange verify 0497c2ffdb9b034977074a6a2fe7c2a9dcfc7cc0a4f98777ed580f0b8444090f 8 10|memory|{"chunks":[{"hash":"3481034b52254c2f1e0143ae20ce9e2459685799a774f5764bf5585211c865c1","size":7}],"levels":[{"left":[{"hash":"fc2d9e764137e94a0c4d7bdc0b584e73a34945fbf4efeef155acc8927c1399ff","size":7}],"right":[{"hash":"b5d2de3673ccda688a6ae4c470f097787aa87b128f134b1f5a7d33379b2f66e9","size":11}]}]};another|3||xetrange: fault 3;
+xetrange verify 0497c2ffdb9b034977074a6a2fe7c2a9dcfc7cc0a4f98777ed580f0b8444090f 8 10|input|{"chunks":[{"hash":"3481034b52254c2f1e0143ae20ce9e2459685799a774f5764bf5585211c865c1","size":7}],"levels":[{"left":[{"hash":"fc2d9e764137e94a0c4d7bdc0b584e73a34945fbf4efeef155acc8927c1399ff","size":7}],"right":[{"hash":"b5d2de3673ccda688a6ae4c470f097787aa87b128f134b1f5a7d33379b2f66e9","size":11}]}]};another|4||xetrange: fault 4;
+xetrange verify 0497c2ffdb9b034977074a6a2fe7c2a9dcfc7cc0a4f98777ed580f0b8444090f 8 10|output|{"chunks":[{"hash":"3481034b52254c2f1e0143ae20ce9e2459685799a774f5764bf5585211c865c1","size":7}],"levels":[{"left":[{"hash":"fc2d9e764137e94a0c4d7bdc0b584e73a34945fbf4efeef155acc8927c1399ff","size":7}],"right":[{"hash":"b5d2de3673ccda688a6ae4c470f097787aa87b128f134b1f5a7d33379b2f66e9","size":11}]}]};another|5||xetrange: fault 5;
 xetrange join|nothing|{}|8||xetrange: fault 8 at line 1: rule 2;
 xetrange root|nothing|zz|8||xetrange: fault 8 at line 1;
 xetrange root|errors|zz|8||
-xetrange|nothing||64||xetrange: expected make, join, root, prove FIRST END, --help or --version;
-xetrange |nothing||64||xetrange: expected make, join, root, prove FIRST END, --help or --version;
-xetrange unmake|nothing||64||xetrange: expected make, join, root, prove FIRST END, --help or --version;
-xetrange make join|nothing||64||xetrange: expected make, join, root, prove FIRST END, --help or --version;
-xetrange make |nothing||64||xetrange: expected make, join, root, prove FIRST END, --help or --version;
-xetrange  make|nothing||64||xetrange: expected make, join, root, prove FIRST END, --help or --version;
-xetrange prove|nothing|h1 100|64||xetrange: expected make, join, root, prove FIRST END, --help or --version;
-xetrange prove 0|nothing|h1 100|64||xetrange: expected make, join, root, prove FIRST END, --help or --version;
-xetrange prove 0 1 2|nothing|h1 100|64||xetrange: expected make, join, root, prove FIRST END, --help or --version;
-xetrange prove  0 1|nothing|h1 100|64||xetrange: expected make, join, root, prove FIRST END, --help or --version;
-xetrange prove 00 1|nothing|h1 100|64||xetrange: expected make, join, root, prove FIRST END, --help or --version;
-xetrange prove +0 1|nothing|h1 100|64||xetrange: expected make, join, root, prove FIRST END, --help or --version;
-xetrange prove -1 1|nothing|h1 100|64||xetrange: expected make, join, root, prove FIRST END, --help or --version;
-xetrange prove 0 0x1|nothing|h1 100|64||xetrange: expected make, join, root, prove FIRST END, --help or --version;
-xetrange prove 0 18446744073709551616|nothing|h1 100|64||xetrange: expected make, join, root, prove FIRST END, --help or --version;
-xetrange make|text of arguments||64||xetrange: expected make, join, root, prove FIRST END, --help or --version;
+xetrange|nothing||64||xetrange: expected make, join, root, prove FIRST END, verify HASH FROM TO, --help or --version;
+xetrange |nothing||64||xetrange: expected make, join, root, prove FIRST END, verify HASH FROM TO, --help or --version;
+xetrange unmake|nothing||64||xetrange: expected make, join, root, prove FIRST END, verify HASH FROM TO, --help or --version;
+xetrange make join|nothing||64||xetrange: expected make, join, root, prove FIRST END, verify HASH FROM TO, --help or --version;
+xetrange make |nothing||64||xetrange: expected make, join, root, prove FIRST END, verify HASH FROM TO, --help or --version;
+xetrange  make|nothing||64||xetrange: expected make, join, root, prove FIRST END, verify HASH FROM TO, --help or --version;
+xetrange prove|nothing|h1 100|64||xetrange: expected make, join, root, prove FIRST END, verify HASH FROM TO, --help or --version;
+xetrange prove 0|nothing|h1 100|64||xetrange: expected make, join, root, prove FIRST END, verify HASH FROM TO, --help or --version;
+xetrange prove 0 1 2|nothing|h1 100|64||xetrange: expected make, join, root, prove FIRST END, verify HASH FROM TO, --help or --version;
+xetrange prove  0 1|nothing|h1 100|64||xetrange: expected make, join, root, prove FIRST END, verify HASH FROM TO, --help or --version;
+xetrange prove 00 1|nothing|h1 100|64||xetrange: expected make, join, root, prove FIRST END, verify HASH FROM TO, --help or --version;
+xetrange prove +0 1|nothing|h1 100|64||xetrange: expected make, join, root, prove FIRST END, verify HASH FROM TO, --help or --version;
+xetrange prove -1 1|nothing|h1 100|64||xetrange: expected make, join, root, prove FIRST END, verify HASH FROM TO, --help or --version;
+xetrange prove 0 0x1|nothing|h1 100|64||xetrange: expected make, join, root, prove FIRST END, verify HASH FROM TO, --help or --version;
+xetrange prove 0 18446744073709551616|nothing|h1 100|64||xetrange: expected make, join, root, prove FIRST END, verify HASH FROM TO, --help or --version;
+xetrange verify|nothing|zz|64||xetrange: expected make, join, root, prove FIRST END, verify HASH FROM TO, --help or --version;
+xetrange verify 0497c2ffdb9b034977074a6a2fe7c2a9dcfc7cc0a4f98777ed580f0b8444090f|nothing|zz|64||xetrange: expected make, join, root, prove FIRST END, verify HASH FROM TO, --help or --version;
+xetrange verify 0497c2ffdb9b034977074a6a2fe7c2a9dcfc7cc0a4f98777ed580f0b8444090f 8|nothing|zz|64||xetrange: expected make, join, root, prove FIRST END, verify HASH FROM TO, --help or --version;
+xetrange verify 0497c2ffdb9b034977074a6a2fe7c2a9dcfc7cc0a4f98777ed580f0b8444090f 8 10 12|nothing|zz|64||xetrange: expected make, join, root, prove FIRST END, verify HASH FROM TO, --help or --version;
+xetrange verify 497c2ffdb9b034977074a6a2fe7c2a9dcfc7cc0a4f98777ed580f0b8444090f 8 10|nothing|zz|64||xetrange: expected make, join, root, prove FIRST END, verify HASH FROM TO, --help or --version;
+xetrange verify 0497c2ffdb9b034977074a6a2fe7c2a9dcfc7cc0a4f98777ed580f0b8444090f0 8 10|nothing|zz|64||xetrange: expected make, join, root, prove FIRST END, verify HASH FROM TO, --help or --version;
+xetrange verify 0497c2ffdb9b034977074a6a2fe7c2a9dcfc7cc0a4f98777ed580f0b8444090g 8 10|nothing|zz|64||xetrange: expected make, join, root, prove FIRST END, verify HASH FROM TO, --help or --version;
+xetrange verify 0497c2ffdb9b034977074a6a2fe7c2a9dcfc7cc0a4f98777ed580f0b8444090f 08 10|nothing|zz|64||xetrange: expected make, join, root, prove FIRST END, verify HASH FROM TO, --help or --version;
+xetrange verify 0497c2ffdb9b034977074a6a2fe7c2a9dcfc7cc0a4f98777ed580f0b8444090f 8 18446744073709551616|nothing|zz|64||xetrange: expected make, join, root, prove FIRST END, verify HASH FROM TO, --help or --version;
+xetrange make|text of arguments||64||xetrange: expected make, join, root, prove FIRST END, verify HASH FROM TO, --help or --version;
 xetrange --version|nothing|zz|0|xetrange 1.1.0 (hashes of xet-core-structures 1.5.2);|
 xetrange --help|output|zz|5||xetrange: fault 5;"#;
 
@@ -210,20 +253,26 @@ line, 2 sizes that pass 2^64 - 1, 3 out of memory, 4 a failed read, 5 a failed w
 const XETRANGE_HELP: &str = "\
 Usage: xetrange make|join|root
        xetrange prove FIRST END
+       xetrange verify HASH FROM TO
 
 Hashes ranges of a file's chunks separately, and merges them without their chunks.
-Each command reads standard input and writes standard output.
+Proves ranges of chunks, and verifies parts of a file with these proofs. Each command
+reads standard input and writes standard output.
 
   make    reads pairs, chunks and `--`, as xetroot does; writes the line of their range
   join    reads lines of ranges, in order; writes the line of the merged range
   root    reads lines of ranges, in order; writes what xetroot writes for the whole
   prove   reads what make reads; writes the line of the range proof of the chunks from
           number FIRST up to, but without, number END; chunks count from 0
+  verify  reads the line of a range proof, and after it the data of its chunks and
+          nothing else; writes the bytes of the file with this file hash from the place
+          FROM up to, but without, the place TO; writes nothing unless all is right
 
 A fault goes to standard error with its number, which is the exit status: 1 a bad
 line, 2 sizes that pass 2^64 - 1, 3 out of memory, 4 a failed read, 5 a failed
-write, 8 a line that isn't a range, 9 chunks that the input doesn't have. The status
-is 64 after a wrong argument.
+write, 8 a line that isn't a range or a range proof, 9 chunks that the input doesn't
+have, 10 a proof, data or places that don't match. The status is 64 after a wrong
+argument.
 
   -h, --help    prints this text
   --version     prints the versions of xetrange and of xet-core-structures
@@ -264,7 +313,7 @@ fn wrong_words_are_refused_by_both_programs(rt: HostRuntime) -> Result<(), Fail>
                 rt.alloc(),
                 "xetrange",
                 words,
-                "make, join, root, prove FIRST END"
+                "make, join, root, prove FIRST END, verify HASH FROM TO"
             )?,
             "{words}"
         );

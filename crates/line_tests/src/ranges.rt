@@ -320,6 +320,7 @@ fn faults_print_their_status_line_and_rule(rt: HostRuntime) -> Result<(), Fail> 
     assert!(rt; prints(rt.alloc(), RangeFault::Read, 4, "")?);
     assert!(rt; prints(rt.alloc(), RangeFault::Write, 5, "")?);
     assert!(rt; prints(rt.alloc(), RangeFault::NoChunks, 9, "")?);
+    assert!(rt; prints(rt.alloc(), RangeFault::Mismatch, 10, "")?);
     for line in LINES {
         assert!(rt; print_line(rt.alloc(), line)?, "{line}");
         for rule in 1..=13 {

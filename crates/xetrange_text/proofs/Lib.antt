@@ -4,4 +4,5 @@ pub mod OneLine
 pub mod MergedRanges
 pub mod Faults
 pub mod Words
+pub mod Verifying
 pub mod Cutting

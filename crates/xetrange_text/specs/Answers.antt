@@ -15,7 +15,7 @@ use Rattle.pair_text.specs.PairText as pair_text
 use Rattle.pair_text.specs.PairText.{AreGood}
 use Rattle.pair_text.specs.declared.pair_fault.PairFault.TheVariants.{Bad as bad_pair, Sizes as pair_sizes}
 use Rattle.xetrange_text.specs.declared.fault.RangeFault.{RangeFault}
-use Rattle.xetrange_text.specs.declared.fault.RangeFault.TheVariants.{BadLine, Sizes, Memory, Read, Write, BadRange, NoChunks}
+use Rattle.xetrange_text.specs.declared.fault.RangeFault.TheVariants.{BadLine, Sizes, Memory, Read, Write, BadRange, NoChunks, Mismatch}
 use Rattle.xetrange_text.specs.declared.fault.LineFault.{LineFault}
 use Rattle.xetrange_text.specs.declared.fault.LineFault.TheVariants.{Bad, Sizes as passes_sizes, NoRange}
 use Rattle.xetrange_text.specs.Ranges.{IsOpen, SaysRange, SaysNoRange, AreRanges, AreMerged, IsRangeLine}
@@ -33,6 +33,7 @@ IsMakeFaultOf text (BadLine number) = HasFault pair_text.IsLineFault text number
 IsMakeFaultOf text (Sizes number) = HasFault pair_text.IsLineFault text number pair_sizes
 IsMakeFaultOf text (BadRange number rule) = ⊥
 IsMakeFaultOf text NoChunks = ⊥
+IsMakeFaultOf text Mismatch = ⊥
 IsMakeFaultOf text Memory = Unit {0}
 IsMakeFaultOf text Read = Unit {0}
 IsMakeFaultOf text Write = Unit {0}
@@ -75,6 +76,7 @@ IsRangeFaultOf text (BadLine number) = HasFault IsLineFault text number Bad
 IsRangeFaultOf text (BadRange number rule) = HasFault IsLineFault text number (NoRange rule)
 IsRangeFaultOf text (Sizes number) = HasFault IsLineFault text number passes_sizes
 IsRangeFaultOf text NoChunks = ⊥
+IsRangeFaultOf text Mismatch = ⊥
 IsRangeFaultOf text Memory = Unit {0}
 IsRangeFaultOf text Read = Unit {0}
 IsRangeFaultOf text Write = Unit {0}
@@ -95,6 +97,7 @@ IsProveFaultOf first end text (BadLine number) = HasFault pair_text.IsLineFault 
 IsProveFaultOf first end text (Sizes number) = HasFault pair_text.IsLineFault text number pair_sizes
 IsProveFaultOf first end text (BadRange number rule) = ⊥
 IsProveFaultOf first end text NoChunks = LacksChunks first end text
+IsProveFaultOf first end text Mismatch = ⊥
 IsProveFaultOf first end text Memory = Unit {0}
 IsProveFaultOf first end text Read = Unit {0}
 IsProveFaultOf first end text Write = Unit {0}

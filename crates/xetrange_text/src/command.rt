@@ -3,7 +3,7 @@
 ghost use Rattle.std.specs.Prelude.{◌≡◌, ℕ, ◌^◌, ◌<◌, List, [], ◌∷◌, codes, decimal, IfNone, IfSome};
 ghost use Rattle.line_io.specs.Answers.{AnswersInput};
 ghost use Rattle.line_io.specs.Requests.{words_left};
-ghost use Rattle.xetrange_text.specs.Words.{AskFor, IsAnswerOf, IsFaultOf};
+ghost use Rattle.xetrange_text.specs.Words.{AskFor, IsAnswerOf, IsFaultOf, IsHexOf};
 ghost use Rattle.xetrange_text.specs.declared.command.Command.{Command};
 ghost use Rattle.xetrange_text.specs.declared.fault.RangeFault.{RangeFault};
 
@@ -11,11 +11,13 @@ use crate::fault::RangeFault;
 use crate::join::{join, root};
 use crate::make::make;
 use crate::prove::prove;
+use crate::verify::verify;
 use line_io::request::next_word;
 use pair_text::line::parse_decimal;
 use std::alloc::{Allocator, Global};
 use std::env::Args;
 use std::io::{Read, Write};
+use xet_hash::data_hash::{DataHash, MerkleHash};
 
 /// What the words of a command request.
 #[derive(Clone, Copy, Debug, PartialEq, Eq)]
@@ -27,7 +29,16 @@ pub enum Command {
     /// `root`
     Root,
     /// `prove FIRST END`, with both numbers in decimal.
-    Prove { first: usize, end: usize },
+    Prove {
+        first: usize,
+        end: usize,
+    },
+    /// `verify HASH FROM TO`, with a file hash in hex and both places in decimal.
+    Verify {
+        file_hash: MerkleHash,
+        from: u64,
+        to: u64,
+    },
 }
 
 impl Command {
@@ -41,6 +52,7 @@ impl Command {
             "join" => ended(rest, Command::Join),
             "root" => ended(rest, Command::Root),
             "prove" => read_range(rest),
+            "verify" => read_part(rest),
             _ => None,
         }
     }
@@ -61,6 +73,11 @@ impl Command {
             Command::Join => join(alloc, json, r, w),
             Command::Root => root(alloc, json, r, w),
             Command::Prove { first, end } => prove(alloc, json, first, end, r, w),
+            Command::Verify {
+                file_hash,
+                from,
+                to,
+            } => verify(alloc, json, &file_hash, from, to, r, w),
         }
     }
 }
@@ -94,4 +111,35 @@ fn read_range(mut rest: Args) -> Option<Command>
     let first = next_number(&mut rest)? as usize;
     let end = next_number(&mut rest)? as usize;
     ended(rest, Command::Prove { first, end })
+}
+
+// Returns the next word as a hash in hex.
+fn next_hash(rest: &mut Args) -> Option<MerkleHash>
+    ensures some { IfSome result (λ hash. (digits : List ℕ) × (words_left rest.old ≡ digits ∷ words_left rest.new) × IsHexOf digits hash) }
+    ensures none { IfNone result ((digits hash : List ℕ) (more : List (List ℕ)) → IsHexOf digits hash →
+        ¬ (words_left rest.old ≡ digits ∷ more)) }
+{
+    match DataHash::from_hex_digits(next_word(rest)?.as_bytes()) {
+        Ok(hash) => Some(hash),
+        Err(_) => None,
+    }
+}
+
+// Returns the command `verify` of the hash and the places in its words.
+fn read_part(mut rest: Args) -> Option<Command>
+    ensures some { IfSome result (AskFor (codes "verify" ∷ words_left rest)) }
+    ensures none { IfNone result ((digits file_hash : List ℕ) (from to : ℕ) → IsHexOf digits file_hash → from < 2 ^ 64 → to < 2 ^ 64 →
+        ¬ (words_left rest ≡ digits ∷ decimal from ∷ decimal to ∷ [])) }
+{
+    let file_hash = next_hash(&mut rest)?;
+    let from = next_number(&mut rest)?;
+    let to = next_number(&mut rest)?;
+    ended(
+        rest,
+        Command::Verify {
+            file_hash,
+            from,
+            to,
+        },
+    )
 }

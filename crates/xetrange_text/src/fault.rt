@@ -1,11 +1,12 @@
 //! Why a call ends without an answer.
 
 ghost use Rattle.std.specs.Prelude.{◌≡◌};
-ghost use Rattle.xetrange_text.specs.Status.{make_fault_of, prove_fault_of, range_fault_of, status_of};
+ghost use Rattle.xetrange_text.specs.Status.{line_fault_of, make_fault_of, prove_fault_of, range_fault_of, status_of};
 ghost use Rattle.xetrange_text.specs.declared.fault.RangeFault.TheVariants.{Memory, Write};
 
 use line_io::devices::WriteFailed;
 use line_io::fault::{AnswerFault, InputFault, Refusal};
+use line_io::line_and_data::LongLine;
 use pair_text::pair_fault::PairFault;
 use std::alloc::AllocError;
 use std::convert::Infallible;
@@ -46,10 +47,13 @@ pub enum RangeFault {
     BadRange(u64, Option<u8>),
     /// No line is faulty. The lines don't have the chunks that `prove` was to prove.
     NoChunks,
+    /// The proof in the line that `verify` read doesn't show the file hash, or the bytes after the line aren't the data
+    /// of its chunks, or its chunks don't hold the bytes between the two places.
+    Mismatch,
 }
 
 impl RangeFault {
-    /// Returns the number of the fault: 1 to 5, 8 or 9. It is the program's exit status.
+    /// Returns the number of the fault: 1 to 5, or 8 to 10. It is the program's exit status.
     pub fn status(&self) -> u8
         ensures { result ≡ status_of self.now }
     {
@@ -61,6 +65,7 @@ impl RangeFault {
             RangeFault::Write => 5,
             RangeFault::BadRange(..) => 8,
             RangeFault::NoChunks => 9,
+            RangeFault::Mismatch => 10,
         }
     }
 }
@@ -77,9 +82,11 @@ impl fmt::Display for RangeFault {
             RangeFault::BadRange(line, Some(rule)) => {
                 write!(f, "xetrange: fault {status} at line {line}: rule {rule}")
             }
-            RangeFault::Memory | RangeFault::Read | RangeFault::Write | RangeFault::NoChunks => {
-                write!(f, "xetrange: fault {status}")
-            }
+            RangeFault::Memory
+            | RangeFault::Read
+            | RangeFault::Write
+            | RangeFault::NoChunks
+            | RangeFault::Mismatch => { write!(f, "xetrange: fault {status}") }
         }
     }
 }
@@ -89,6 +96,18 @@ impl From<AllocError> for RangeFault {
 
     fn from(_error: AllocError) -> RangeFault {
         RangeFault::Memory
+    }
+}
+
+impl From<InputFault<LongLine>> for RangeFault {
+    ghost from_gives = { λ of fault. fault ≡ line_fault_of of };
+
+    fn from(of: InputFault<LongLine>) -> RangeFault {
+        match of {
+            InputFault::Line(line, LongLine) => RangeFault::BadLine(line),
+            InputFault::Memory => RangeFault::Memory,
+            InputFault::Read => RangeFault::Read,
+        }
     }
 }
 

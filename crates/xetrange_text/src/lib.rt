@@ -13,3 +13,4 @@ pub mod program;
 mod proof_line;
 pub mod prove;
 mod range_line;
+pub mod verify;

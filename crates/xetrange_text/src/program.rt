@@ -21,20 +21,26 @@ use std::io::{self, ErrorKind, Read, Write};
 const HELP: &str = "\
 Usage: xetrange make|join|root
        xetrange prove FIRST END
+       xetrange verify HASH FROM TO
 
 Hashes ranges of a file's chunks separately, and merges them without their chunks.
-Each command reads standard input and writes standard output.
+Proves ranges of chunks, and verifies parts of a file with these proofs. Each command
+reads standard input and writes standard output.
 
   make    reads pairs, chunks and `--`, as xetroot does; writes the line of their range
   join    reads lines of ranges, in order; writes the line of the merged range
   root    reads lines of ranges, in order; writes what xetroot writes for the whole
   prove   reads what make reads; writes the line of the range proof of the chunks from
           number FIRST up to, but without, number END; chunks count from 0
+  verify  reads the line of a range proof, and after it the data of its chunks and
+          nothing else; writes the bytes of the file with this file hash from the place
+          FROM up to, but without, the place TO; writes nothing unless all is right
 
 A fault goes to standard error with its number, which is the exit status: 1 a bad
 line, 2 sizes that pass 2^64 - 1, 3 out of memory, 4 a failed read, 5 a failed
-write, 8 a line that isn't a range, 9 chunks that the input doesn't have. The status
-is 64 after a wrong argument.
+write, 8 a line that isn't a range or a range proof, 9 chunks that the input doesn't
+have, 10 a proof, data or places that don't match. The status is 64 after a wrong
+argument.
 
   -h, --help    prints this text
   --version     prints the versions of xetrange and of xet-core-structures
@@ -73,7 +79,7 @@ pub fn program<R: Read, W: Write, E: Write>(
     let Some(result) = perform(alloc, json, args, r, w) else {
         print_line(
             errors,
-            "xetrange: expected make, join, root, prove FIRST END, --help or --version",
+            "xetrange: expected make, join, root, prove FIRST END, verify HASH FROM TO, --help or --version",
         );
         return WRONG_ARGUMENT;
     };

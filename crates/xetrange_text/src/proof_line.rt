@@ -1,10 +1,14 @@
 //! The line of a range proof.
 
-ghost use Rattle.std.specs.Prelude.{IfOk};
-ghost use Rattle.xetrange_text.specs.Proofs.{IsProofLine};
+ghost use Rattle.std.specs.Prelude.{IfErr, IfOk};
+ghost use Rattle.line_io.specs.Faults.{IfFaulty};
+ghost use Rattle.xetrange_text.specs.Proofs.{IsProofLine, SaysNoProof, SaysProof};
 
+use line_io::fault::Refusal;
 use range_proof::RangeProof;
+use serde_json::Value;
 use std::alloc::{AllocError, Allocator, Global};
+use xet_merkle::error::CoreError;
 
 /// Returns the line of a range proof: its compact JSON text and a newline.
 ///
@@ -18,4 +22,28 @@ pub fn write_proof<A: Allocator>(json: Global, proof: &RangeProof<A>) -> Result<
     let mut line = value.to_vec(json)?;
     line.push(b'\n')?;
     Ok(line)
+}
+
+/// Returns the range proof that a line says. The line comes without its newline.
+///
+/// Fails with the lowest rule that its value breaks, or with `None` if it isn't JSON text. Fails with
+/// [`Refusal::Memory`] if an allocation fails; this may be returned instead of a rule.
+pub fn read_proof<A: Allocator + Clone>(
+    alloc: A,
+    json: Global,
+    line: &[u8],
+) -> Result<RangeProof<A>, Refusal<Option<u8>>>
+    ensures says { IfOk result (SaysProof line.now) }
+    ensures fault { IfErr result (λ refusal. IfFaulty refusal (SaysNoProof line.now)) }
+{
+    let value = match Value::from_slice(json, line) {
+        Ok(value) => value,
+        Err(error) if error.is_memory() => return Err(Refusal::Memory),
+        Err(_) => return Err(Refusal::Faulty(None)),
+    };
+    match RangeProof::from_json(alloc, &value) {
+        Ok(proof) => Ok(proof),
+        Err(CoreError::InvalidJson(rule)) => Err(Refusal::Faulty(Some(rule))),
+        Err(_) => Err(Refusal::Memory),
+    }
 }
