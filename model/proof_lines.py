@@ -127,13 +127,14 @@ def read_again(text: str) -> str:
 
 
 def fronts(text: str) -> str:
-    return str(sum(is_read(text[:end]) for end in range(len(text))))
+    return str(sum(is_json(text[:end]) for end in range(len(text))))
 
 
-def is_read(text: str) -> bool:
+def is_json(text: str) -> bool:
     try:
-        return bool(r.from_json_text(text))
-    except (m.NotJson, m.InvalidJson):
+        m.parse_json_text(text)
+        return True
+    except m.NotJson:
         return False
 
 
@@ -154,7 +155,7 @@ def bytes_of(text: str) -> str:
 
 CALLS = {
     "prove": prove, "prove_data": lambda text: r.to_json_text(of_data(text)[0]), "check": check, "read": read, "open": opened,
-    "open_root": opened_root, "proof_from_json": read_again, "proof_fronts": fronts, "tree_hashes": tree_hashes,
+    "open_root": opened_root, "proof_from_json": read_again, "json_fronts": fronts, "tree_hashes": tree_hashes,
     "chunks_at": chunks_at, "bytes_of": bytes_of,
 }
 

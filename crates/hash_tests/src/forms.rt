@@ -1,6 +1,5 @@
-//! Texts, bytes and JSON of a hash in allocated memory, and back.
+//! Texts of a hash in allocated memory, and back.
 
-use serde_json::Value;
 use std::alloc::Global;
 use std::fmt;
 use std::test::Fail;
@@ -24,26 +23,6 @@ impl fmt::Display for LowerHexOf {
     fn fmt<W: fmt::Write>(&self, f: &mut fmt::Formatter<W>) -> fmt::Result {
         fmt::LowerHex::fmt(&self.0, f)
     }
-}
-
-#[test]
-fn takes_32_bytes(rt: HostRuntime) -> Result<(), Fail> {
-    let hash = DataHash::from_hex(HEX)?;
-    let found = [
-        Some(DataHash::from(BYTES)),
-        DataHash::from_slice(&BYTES).ok(),
-        DataHash::try_from(&BYTES[..]).ok(),
-    ];
-    assert!(rt; found == [Some(hash); 3]);
-    assert!(rt; hash.to_vec(rt.alloc())?.as_slice() == BYTES.as_slice());
-    for bytes in [&BYTES[..31], &[0; 33], &[]] {
-        let found = [
-            DataHash::from_slice(bytes).ok(),
-            DataHash::try_from(bytes).ok(),
-        ];
-        assert!(rt; found == [None; 2]);
-    }
-    Ok(())
 }
 
 #[test]
@@ -106,33 +85,6 @@ fn reads_what_base64_writes(rt: HostRuntime) -> Result<(), Fail> {
     }
     for seed in 0..512 {
         assert!(rt; texts_agree(rt.alloc(), seed)?, "{seed}");
-    }
-    Ok(())
-}
-
-// Returns the hash that a JSON text describes, or `None` if it describes none.
-fn read_json(alloc: Global, text: &str) -> Result<Option<DataHash>, Fail> {
-    let value = Value::from_str(alloc, text)?;
-    Ok(DataHash::from_json(&value).ok())
-}
-
-#[test]
-fn reads_a_json_string(rt: HostRuntime) -> Result<(), Fail> {
-    let hash = DataHash::random_from_seed(1);
-    let text = hash.to_json(rt.alloc())?.to_string(rt.alloc())?;
-    let expected = "\"cfc5d07f6f03c29bbf424132963fe08d19a37d5757aaf520bf08119f05cd56d6\"";
-    assert!(rt; text.as_str() == expected);
-    for (text, read) in [
-        (expected, Some(hash)),
-        ("null", None),
-        ("1", None),
-        ("[]", None),
-        (
-            "\"cfc5d07f6f03c29bbf424132963fe08d19a37d5757aaf520bf08119f05cd56d\"",
-            None,
-        ),
-    ] {
-        assert!(rt; read_json(rt.alloc(), text)? == read, "{text}");
     }
     Ok(())
 }

@@ -1,5 +1,5 @@
-//! Calls of the map for deduplication, on an empty map or one of two pairs. The keys are hashes, numbers, or of a type
-//! that is defined here. `refusal_tests` makes the other calls.
+//! Calls of the map for deduplication whose keys are hashes, numbers, or of a type that is defined here, and the entries of
+//! its keys. More calls are in the worked examples, and `refusal_tests` has those that fill a map.
 
 ghost use Rattle.std.specs.Prelude.{◌≡◌, Some, IfSome, OnErr, OnOk, nat_eq};
 ghost use Rattle.xet_hash.specs.FiniteMap.{value_at};
@@ -53,213 +53,112 @@ const NAMES: [ChunkName; 3] = [
     },
 ];
 
-fn hashes() -> [DataHash; 3] {
-    let [first, second, lacking] = HASHES;
-    [
-        DataHash::from(first),
-        DataHash::from(second),
-        DataHash::from(lacking),
-    ]
-}
+type Names = PassThroughHashMap<ChunkName, u32>;
 
-// Returns whether look-ups of a key find nothing.
-fn lacks<K: U64HashExtractable + Hash + Copy>(map: &PassThroughHashMap<K, u32>, key: &K) -> bool {
-    map.get(key).is_none() && !map.contains_key(key)
-}
-
-// Returns whether look-ups of a key find a value.
-fn finds<K: U64HashExtractable + Hash + Copy>(
-    map: &PassThroughHashMap<K, u32>,
-    key: &K,
-    value: &u32,
-) -> bool {
-    map.get(key) == Some(value)
-        && matches!(map.get_key_value(key), Some((found, of_key)) if found == key && of_key == value)
-        && map.contains_key(key)
-        && map.as_map().get(key) == Some(value)
-}
-
-// Returns whether each iteration over a map gives two entries, with the values 10 and 20.
-fn walks<K: U64HashExtractable + Hash + Copy>(map: &PassThroughHashMap<K, u32>) -> bool {
+// Returns whether each call that reads a map finds two keys, with the values 10 and 20, and not a third one.
+fn reads(map: &Names) -> bool {
+    let [first, second, lacking] = NAMES;
     let mut sum = 0u32;
     for (key, value) in map {
         if map.get(key) == Some(value) {
             sum = sum.saturating_add(*value);
         }
     }
-    let count = map.len();
     sum == 30
-        && map.iter().count() == count
-        && map.keys().count() == count
+        && map.len() == 2
+        && !map.is_empty()
+        && map.get(&first) == Some(&10)
+        && map.get_key_value(&second) == Some((&second, &20))
+        && map.as_map().get(&second) == Some(&20)
+        && map.contains_key(&first)
+        && !map.contains_key(&lacking)
+        && map.get(&lacking).is_none()
+        && map.iter().count() == 2
+        && map.keys().count() == 2
         && map.values().copied().max() == Some(20)
 }
 
-// Returns whether a map has two keys, with the values 10 and 20, and not a third one.
-fn reads<K: U64HashExtractable + Hash + Copy>(
-    map: &PassThroughHashMap<K, u32>,
-    keys: &[K; 3],
-) -> bool {
-    let [first, second, lacking] = keys;
-    map.len() == 2
-        && !map.is_empty()
-        && finds(map, first, &10)
-        && finds(map, second, &20)
-        && lacks(map, lacking)
-        && walks(map)
+// Adds a value at the entry of a new key, and then changes it.
+fn enters<K: U64HashExtractable + Hash + Copy>(
+    map: &mut PassThroughHashMap<K, u32>,
+    key: K,
+) -> Result<bool, AllocError> {
+    let is_filled = *map.entry(key).or_insert(20)? == 20;
+    map.entry(key)
+        .and_modify(|value| *value = 21)
+        .or_insert_with(|| 22)?;
+    Ok(is_filled && map.get(&key) == Some(&21))
 }
 
-// Returns whether a map and a standard map keep their entries when each is converted to the other. They have two keys,
-// with the values 10 and 20.
-fn converts<K: U64HashExtractable + Hash + Copy>(
-    map: PassThroughHashMap<K, u32>,
-    keys: &[K; 3],
+// Returns whether inserting two keys into an empty map, and changing the values there, does what it should.
+fn inserts<K: U64HashExtractable + Hash + Copy>(
+    map: &mut PassThroughHashMap<K, u32>,
+    [first, second, lacking]: &[K; 3],
 ) -> bool {
-    let [first, second, _] = keys;
-    let mut inner: HashMap<K, u32> = map.into();
-    let had_both = inner.len() == 2 && inner.remove(first) == Some(10);
+    let are_inserted = map.is_empty()
+        && matches!(map.insert(*first, 10), Ok(None))
+        && matches!(map.insert(*first, 30), Ok(Some(10)))
+        && enters(map, *second) == Ok(true);
+    if let Some(value) = map.get_mut(first) {
+        *value = 40;
+    }
+    are_inserted && map.get(first) == Some(&40) && map.get_mut(lacking).is_none()
+}
+
+// Returns whether removing those keys does what it should. In the end the map is empty.
+fn removes<K: U64HashExtractable + Hash + Copy>(
+    map: &mut PassThroughHashMap<K, u32>,
+    [first, second, lacking]: &[K; 3],
+) -> bool {
+    let are_removed = map.len() == 2
+        && map.remove(lacking).is_none()
+        && map.remove(first) == Some(40)
+        && matches!(map.remove_entry(second), Some((key, 21)) if key == *second)
+        && map.remove_entry(second).is_none()
+        && map.is_empty();
+    let is_inside = matches!(map.as_map_mut().insert(*second, 50), Ok(None))
+        && map.get(second) == Some(&50);
+    map.clear();
+    are_removed && is_inside && map.is_empty()
+}
+
+// Returns whether a map of the two keys keeps its entries when it is converted to a standard map and back.
+fn converts(map: Names) -> bool {
+    let [first, second, _] = NAMES;
+    let mut inner: HashMap<ChunkName, u32> = map.into();
+    let had_both = inner.len() == 2 && inner.remove(&first) == Some(10);
     let map = PassThroughHashMap::from(inner);
     let has_one = map.len() == 1;
     for (key, value) in map {
-        if key != *second || value != 20 {
+        if key != second || value != 20 {
             return false;
         }
     }
     had_both && has_one
 }
 
-// Returns a map of two keys, with the values 10 and 20.
-fn two_entries<K: U64HashExtractable + Hash + Copy>(
-    alloc: Global,
-    [first, second, _]: [K; 3],
-) -> Result<PassThroughHashMap<K, u32>, AllocError> {
-    let mut map = PassThroughHashMap::new(alloc);
-    map.insert(first, 10)?;
-    map.insert(second, 20)?;
-    Ok(map)
-}
-
-// Returns whether a map of two keys finds both, and keeps its entries when it is converted.
-fn is_kept<K: U64HashExtractable + Hash + Copy>(
-    map: PassThroughHashMap<K, u32>,
-    keys: [K; 3],
-) -> bool {
-    reads(&map, &keys) && converts(map, &keys)
-}
-
-#[test]
-fn finds_hashes(rt: HostRuntime) -> Result<(), Fail> {
-    let [first, second, _] = hashes();
-    let map = two_entries(rt.alloc(), hashes())?;
-    let copy = map.try_clone()?;
-    let of_pairs = PassThroughHashMap::from_pairs(rt.alloc(), [(first, 10), (second, 20)])?;
-    assert!(rt; is_kept(map, hashes()));
-    assert!(rt; is_kept(copy, hashes()));
-    assert!(rt; is_kept(of_pairs, hashes()));
-    Ok(())
-}
-
-#[test]
-fn finds_numbers(rt: HostRuntime) -> Result<(), Fail> {
-    let [first, second, _] = NUMBERS;
-    let map = two_entries(rt.alloc(), NUMBERS)?;
-    let copy = map.try_clone()?;
-    let of_pairs = PassThroughHashMap::from_pairs(rt.alloc(), [(first, 10), (second, 20)])?;
-    assert!(rt; is_kept(map, NUMBERS));
-    assert!(rt; is_kept(copy, NUMBERS));
-    assert!(rt; is_kept(of_pairs, NUMBERS));
-    Ok(())
-}
-
-// A map whose values are texts.
-type Texts<K> = PassThroughHashMap<K, &'static str>;
-
-// Inserts two values at a key, one after another.
-fn inserts<K: U64HashExtractable + Hash + Copy>(
-    map: &mut Texts<K>,
-    key: K,
-) -> Result<bool, AllocError> {
-    let before = map.insert(key, "value1")?;
-    let replaced = map.insert(key, "value2")?;
-    Ok(before.is_none() && replaced == Some("value1") && map.get(&key) == Some(&"value2"))
-}
-
-// Writes to a value that exists, and looks for one that doesn't.
-fn writes<K: U64HashExtractable + Hash + Copy>(map: &mut Texts<K>, key: &K, lacking: &K) -> bool {
-    if let Some(value) = map.get_mut(key) {
-        *value = "value3";
-    }
-    map.get(key) == Some(&"value3") && map.get_mut(lacking).is_none()
-}
-
-// Adds a value at the entry of a new key, and then changes it.
-fn enters<K: U64HashExtractable + Hash + Copy>(
-    map: &mut Texts<K>,
-    key: K,
-) -> Result<bool, AllocError> {
-    let is_filled = *map.entry(key).or_insert("value4")? == "value4";
-    map.entry(key)
-        .and_modify(|value| *value = "value5")
-        .or_insert_with(|| "value6")?;
-    Ok(is_filled && map.get(&key) == Some(&"value5"))
-}
-
-// Removes a key that isn't in the map, and the two that are.
-fn removes<K: U64HashExtractable + Hash + Copy>(map: &mut Texts<K>, keys: &[K; 3]) -> bool {
-    let [first, second, lacking] = keys;
-    map.remove(lacking).is_none()
-        && map.len() == 2
-        && map.remove(first) == Some("value3")
-        && matches!(map.remove_entry(second), Some((key, "value5")) if key == *second)
-        && map.remove_entry(second).is_none()
-        && map.is_empty()
-}
-
-// Inserts a value through the inner map, and removes all.
-fn clears<K: U64HashExtractable + Hash + Copy>(
-    map: &mut Texts<K>,
-    key: K,
-) -> Result<bool, AllocError> {
-    map.as_map_mut().insert(key, "value7")?;
-    let has_value = map.get(&key) == Some(&"value7");
-    map.clear();
-    Ok(has_value && map.len() == 0)
-}
-
-// Makes the changes to an empty map, one after another.
-fn changes<K: U64HashExtractable + Hash + Copy>(
-    mut map: Texts<K>,
-    keys: &[K; 3],
-) -> Result<bool, AllocError> {
-    let [first, second, _] = keys;
-    Ok(
-        map.is_empty()
-            && inserts(&mut map, *first)?
-            && writes(&mut map, first, second)
-            && enters(&mut map, *second)?
-            && removes(&mut map, keys)
-            && clears(&mut map, *first)?,
-    )
-}
-
 #[test]
 fn keys_of_another_type_are_found(rt: HostRuntime) -> Result<(), Fail> {
-    let [first, _, lacking] = NAMES;
+    let [first, second, lacking] = NAMES;
     let same = ChunkName { ..first };
     assert!(rt; first == same && first.u64_hash_value() == same.u64_hash_value());
     assert!(rt; first != lacking && first.u64_hash_value() == lacking.u64_hash_value());
-    assert!(rt; is_kept(two_entries(rt.alloc(), NAMES)?, NAMES));
-    assert!(rt; changes(PassThroughHashMap::new(rt.alloc()), &NAMES)?);
+    let map = PassThroughHashMap::from_pairs(rt.alloc(), [(first, 10), (second, 20)])?;
+    let copy = map.try_clone()?;
+    assert!(rt; reads(&map) && reads(&copy));
+    assert!(rt; converts(copy));
+    let mut map = PassThroughHashMap::new(rt.alloc());
+    assert!(rt; inserts(&mut map, &NAMES) && removes(&mut map, &NAMES));
     Ok(())
 }
 
 #[test]
 fn changes_at_hashes_and_numbers(rt: HostRuntime) -> Result<(), Fail> {
-    assert!(rt; changes(PassThroughHashMap::new(rt.alloc()), &hashes())?);
-    assert!(rt; changes(PassThroughHashMap::new(rt.alloc()), &NUMBERS)?);
-    let with_room = PassThroughHashMap::with_capacity(rt.alloc(), 100)?;
-    assert!(rt; changes(with_room, &hashes())?);
-    let with_room = PassThroughHashMap::with_capacity(rt.alloc(), 100)?;
-    assert!(rt; changes(with_room, &NUMBERS)?);
+    let hashes = HASHES.map(|words| DataHash::from(words));
+    let mut of_hashes = PassThroughHashMap::new(rt.alloc());
+    assert!(rt; inserts(&mut of_hashes, &hashes) && removes(&mut of_hashes, &hashes));
+    let mut of_numbers = PassThroughHashMap::with_capacity(rt.alloc(), 100)?;
+    assert!(rt; inserts(&mut of_numbers, &NUMBERS) && removes(&mut of_numbers, &NUMBERS));
     Ok(())
 }
 
@@ -308,7 +207,7 @@ fn write_one_at_place(map: &mut PassThroughHashMap<u64, u64>, key: u64) -> Resul
 }
 
 // Adds a value at the vacant entry of a key, and then one to it.
-fn fills(map: &mut PassThroughHashMap<ChunkName, u32>, key: ChunkName) -> Result<bool, AllocError> {
+fn fills(map: &mut Names, key: ChunkName) -> Result<bool, AllocError> {
     match map.entry(key) {
         Entry::Occupied(_) => Ok(false),
         Entry::Vacant(place) => {
@@ -320,7 +219,7 @@ fn fills(map: &mut PassThroughHashMap<ChunkName, u32>, key: ChunkName) -> Result
 }
 
 // Reads the value 2 at the occupied entry of a key, and writes to it three times.
-fn overwrites(map: &mut PassThroughHashMap<ChunkName, u32>, key: ChunkName) -> bool {
+fn overwrites(map: &mut Names, key: ChunkName) -> bool {
     match map.entry(key) {
         Entry::Occupied(mut place) => {
             let was_two = *place.key() == key && *place.get() == 2 && place.insert(3) == 2;
@@ -334,10 +233,7 @@ fn overwrites(map: &mut PassThroughHashMap<ChunkName, u32>, key: ChunkName) -> b
 }
 
 // Removes the entry of a key. Returns the key and the value, or only the key if the entry is vacant.
-fn emptied(
-    map: &mut PassThroughHashMap<ChunkName, u32>,
-    key: ChunkName,
-) -> (ChunkName, Option<u32>) {
+fn emptied(map: &mut Names, key: ChunkName) -> (ChunkName, Option<u32>) {
     match map.entry(key) {
         Entry::Occupied(place) => {
             let (key, value) = place.remove_entry();
@@ -347,22 +243,14 @@ fn emptied(
     }
 }
 
-// Makes the calls of an occupied entry and of a vacant one.
-fn changes_at_places(
-    alloc: Global,
-    [first, second, _]: [ChunkName; 3],
-) -> Result<bool, AllocError> {
-    let mut map = PassThroughHashMap::new(alloc);
-    let is_filled = fills(&mut map, first)? && overwrites(&mut map, first);
-    let are_emptied = emptied(&mut map, second) == (second, None)
-        && emptied(&mut map, first) == (first, Some(4));
-    Ok(is_filled && are_emptied && map.is_empty())
-}
-
 #[test]
-fn places_are_read_filled_and_emptied(rt: HostRuntime) -> Result<(), Fail> {
-    assert!(rt; changes_at_places(rt.alloc(), NAMES)?);
-    Ok(())
+fn places_are_read_filled_and_emptied(rt: HostRuntime) {
+    let [first, second, _] = NAMES;
+    let mut map = PassThroughHashMap::new(rt.alloc());
+    assert!(rt; fills(&mut map, first) == Ok(true) && overwrites(&mut map, first));
+    assert!(rt; emptied(&mut map, second) == (second, None));
+    assert!(rt; emptied(&mut map, first) == (first, Some(4)));
+    assert!(rt; map.is_empty());
 }
 
 #[test]

@@ -1,14 +1,15 @@
 //! Tests of `xet_merkle` with values that were computed without this code: the hashes of the crate
-//! `xet-core-structures`, and worked examples.
+//! `xet-core-structures`, and worked examples. Tests of `upload_session`: worked examples, random sessions compared with a
+//! simple model, and the hashes that are kept.
 #![tactic(auto)]
 
-#[cfg(test)]
-mod aggregated_hashes;
 #[cfg(test)]
 mod error;
 #[cfg(test)]
 mod merge_tree;
 #[cfg(test)]
 mod merkle_hash_subtree;
+#[cfg(test)]
+mod sessions;
 #[cfg(test)]
 mod upstream;

@@ -78,12 +78,13 @@ fn run<R: ChunkRange<Alloc = Global>>(alloc: Global, bracketing: &str) -> Result
     }
 }
 
-// Returns the root of four ranges of a kind, merged under a bracketing.
-fn root<R: ChunkRange<Alloc = Global>>(
+// Returns whether four ranges of a kind have a root, merged under a bracketing.
+fn has_root<R: ChunkRange<Alloc = Global>>(
     alloc: Global,
     bracketing: &str,
-) -> Result<Option<MerkleHash>, CoreError> {
-    run::<R>(alloc, bracketing)?.root()
+    root: MerkleHash,
+) -> Result<bool, CoreError> {
+    Ok(run::<R>(alloc, bracketing)?.root() == Ok(Some(root)))
 }
 
 // Returns how many merges make four ranges one under a bracketing, and how deep they go.
@@ -92,36 +93,15 @@ fn merges_and_depth(alloc: Global, bracketing: &str) -> Result<(u32, u32), CoreE
     Ok((counted.merges, counted.depth))
 }
 
-// The text of the closed subtree of the 28 nodes.
-const CLOSED: &str =
-    r#"{"at_end":true,"at_start":true,"levels":[[0,0],[0,0],[0,0],[1,0]],"nodes":[{"hash":"b1026a806e25e14a5a9d00c9400b8b5b92e81027e1c574046edb37f500fcdeae","size":28}]}"#;
-
-#[test]
-fn bracketings_give_one_subtree_and_one_text(rt: HostRuntime) -> Result<(), Fail> {
-    let nodes = with_cuts::<28>(&EACH_FOURTH);
-    let whole = MerkleHashSubtree::from_chunks(rt.alloc(), true, &nodes, true)?;
-    for (bracketing, _) in BRACKETINGS {
-        let merged: MerkleHashSubtree = run(rt.alloc(), bracketing)?;
-        let text = merged.to_json(rt.alloc())?.to_string(rt.alloc())?;
-        assert!(rt; merged == whole && text.as_str() == CLOSED, "{bracketing}");
-    }
-    Ok(())
-}
-
 #[test]
 fn ranges_of_each_kind_have_the_root(rt: HostRuntime) -> Result<(), Fail> {
-    let expected = Some(xorb_hash(rt.alloc(), &with_cuts::<28>(&EACH_FOURTH))?);
+    let root = xorb_hash(rt.alloc(), &with_cuts::<28>(&EACH_FOURTH))?;
     for (bracketing, depth) in BRACKETINGS {
-        let roots = [
-            root::<CountedRange>(rt.alloc(), bracketing)?,
-            root::<PlainRange>(rt.alloc(), bracketing)?,
-            root::<MerkleHashSubtree>(rt.alloc(), bracketing)?,
-        ];
-        assert!(rt; roots == [expected; 3], "{bracketing}");
-        assert!(rt;
-            merges_and_depth(rt.alloc(), bracketing)? == (3, depth),
-            "{bracketing}"
-        );
+        let have_root = has_root::<CountedRange>(rt.alloc(), bracketing, root) == Ok(true)
+            && has_root::<PlainRange>(rt.alloc(), bracketing, root) == Ok(true)
+            && has_root::<MerkleHashSubtree>(rt.alloc(), bracketing, root) == Ok(true);
+        let found = merges_and_depth(rt.alloc(), bracketing);
+        assert!(rt; have_root && found == Ok((3, depth)), "{bracketing}");
     }
     Ok(())
 }

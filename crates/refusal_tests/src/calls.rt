@@ -9,6 +9,7 @@ mod large;
 mod lines;
 mod maps;
 mod no_memory;
+mod range_proofs;
 mod ranges;
 mod sessions;
 
@@ -16,6 +17,7 @@ use examples::EXAMPLES;
 use lines::OF_LINES;
 use rand_core::SeedableRng;
 use rand_xoshiro::Xoshiro256PlusPlus;
+use range_proofs::OF_PROOFS;
 use ranges::BROKEN_JSON;
 use refusing_allocator::RefusingAllocator;
 use sessions::OF_SESSIONS;
@@ -146,6 +148,15 @@ pub enum Call {
     RunPlain,
     FromJson,
     FromFlat,
+    HashTree,
+    TreeProof,
+    ProofFromChunks,
+    ProofTryClone,
+    Open,
+    OpenRoot,
+    ProofFromJson,
+    ProofFromFlat,
+    ProofToFlat,
     // Merges the chunks from a place on into those before it.
     MergeAt(usize),
     // Each has its row: that of an example, that of a JSON text that is no subtree, that of a session, or that of a
@@ -246,6 +257,15 @@ fn attempt(
             sessions::attempt::<PlainRange<&Refusing>>(alloc, granted, memory, row)
         }
         Call::OfLines(row) => lines::attempt(alloc, granted, memory, row),
+        Call::HashTree
+        | Call::TreeProof
+        | Call::ProofFromChunks
+        | Call::ProofTryClone
+        | Call::Open
+        | Call::OpenRoot
+        | Call::ProofFromJson
+        | Call::ProofFromFlat
+        | Call::ProofToFlat => range_proofs::attempt(call, alloc, granted, chunks),
         _ => ranges::attempt(call, alloc, granted, chunks),
     }
 }
@@ -301,6 +321,24 @@ fn calls_on_values_of_their_own_are_refused_with_each_request(rt: HostRuntime) -
                 calls.len()
             );
         }
+    }
+    Ok(())
+}
+
+#[test]
+fn calls_of_range_proofs_are_refused_with_each_request(rt: HostRuntime) -> Result<(), Fail> {
+    let nodes = drawn_list(&mut Xoshiro256PlusPlus::seed_from_u64(28), rt.alloc(), 200)?;
+    let chunks = Chunks {
+        alloc: rt.alloc(),
+        at_start: false,
+        nodes: nodes.as_slice(),
+        at_end: false,
+    };
+    for (number, call) in OF_PROOFS.iter().enumerate() {
+        assert!(rt;
+            is_refused_with_each_request(*call, &chunks)?,
+            "call {number} of the table"
+        );
     }
     Ok(())
 }

@@ -267,21 +267,6 @@ pub fn told_nodes(alloc: Global, text: &str) -> Result<Vec<Node>, AllocError> {
     Ok(nodes)
 }
 
-/// Returns whether each level of a subtree has the numbers of left and right nodes that a text gives. It has a word for
-/// each level, two numbers with a comma between them.
-pub fn has_told_counts(
-    alloc: Global,
-    subtree: &MerkleHashSubtree,
-    text: &str,
-) -> Result<bool, Fail> {
-    let mut counts = Vec::new(alloc);
-    for word in text.split(' ') {
-        let (left, right) = word.split_once(',').ok_or("no two counts")?;
-        counts.push((left.parse()?, right.parse()?))?;
-    }
-    Ok(has_counts(subtree, counts.as_slice()))
-}
-
 /// Merges the range at a place into the one before it.
 pub fn merge_into_previous(
     ranges: &mut Vec<MerkleHashSubtree>,

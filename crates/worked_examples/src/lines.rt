@@ -1,7 +1,10 @@
 //! The lines of worked examples. A line is a call, an arrow, and what the call returns. Lines that begin with `#`, and
 //! empty ones, are headings and comments.
 
-use crate::{groups, hashes, maps, merges, messages, programs, roots, sessions, subtrees};
+use crate::{
+    groups, hash_trees, hashes, maps, merges, messages, openings, programs, range_proofs, roots,
+    sessions, subtrees,
+};
 use anyhow::{Context, Result};
 use std::alloc::{AllocError, Global};
 
@@ -32,6 +35,9 @@ fn answered_line(alloc: Global, line: &str) -> Result<String, AllocError> {
 fn answer(alloc: Global, call: &str) -> Result<String> {
     let (name, arguments) = call.split_once(' ').unwrap_or((call, ""));
     if let Some(text) = answer_on_values(alloc, name, arguments)? {
+        return Ok(text);
+    }
+    if let Some(text) = answer_on_proofs(alloc, name, arguments)? {
         return Ok(text);
     }
     answer_on_lists(alloc, name, arguments)?.context("no such call")
@@ -66,4 +72,15 @@ fn answer_on_lists(alloc: Global, name: &str, arguments: &str) -> Result<Option<
         return Ok(Some(text));
     }
     merges::answer(alloc, name, arguments)
+}
+
+// Makes a call on range proofs or hash trees.
+fn answer_on_proofs(alloc: Global, name: &str, arguments: &str) -> Result<Option<String>> {
+    if let Some(text) = range_proofs::answer(alloc, name, arguments)? {
+        return Ok(Some(text));
+    }
+    if let Some(text) = openings::answer(alloc, name, arguments)? {
+        return Ok(Some(text));
+    }
+    hash_trees::answer(alloc, name, arguments)
 }

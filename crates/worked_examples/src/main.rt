@@ -3,12 +3,15 @@
 #![tactic(auto)]
 
 mod groups;
+mod hash_trees;
 mod hashes;
 mod lines;
 mod maps;
 mod merges;
 mod messages;
+mod openings;
 mod programs;
+mod range_proofs;
 mod ranges;
 mod read;
 mod roots;

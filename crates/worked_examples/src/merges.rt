@@ -89,8 +89,11 @@ fn told_count(
 
 fn merge_counted(alloc: Global, arguments: &str) -> Result<String> {
     let (mut front, back) = operands(alloc, arguments)?;
-    let count = front.merge_into_counted(&back)?;
-    told_count(alloc, arguments, &front, count)
+    let old = front.try_clone()?;
+    match front.merge_into_counted(&back) {
+        Ok(count) => told_count(alloc, arguments, &front, count),
+        Err(error) => refused(alloc, error, &old, &front),
+    }
 }
 
 // Gives a group a hash that depends only on its length.

@@ -10,6 +10,7 @@ use xetrange_text::fault::RangeFault;
 use xetrange_text::join::{join, root};
 use xetrange_text::make::make;
 use xetrange_text::prove::prove;
+use xetrange_text::verify::verify;
 use xetroot_text::fault::Fault;
 use xetroot_text::run::run;
 
@@ -82,8 +83,8 @@ fn xetroot(alloc: Global, input: &[u8]) -> Result<String> {
 // Runs a command of `xetrange`. With `of` it first runs `make` for pieces of the input, which have bars between them.
 fn xetrange(alloc: Global, arguments: &str) -> Result<String> {
     let (command, input) = arguments.split_once(' ').context("no input")?;
-    if command == "prove" {
-        return xetrange_prove(alloc, input);
+    if command == "prove" || command == "verify" {
+        return xetrange_of_part(alloc, command, input);
     }
     let input = match input.strip_prefix("of ") {
         Some(pieces) => made(alloc, pieces)?,
@@ -93,13 +94,22 @@ fn xetrange(alloc: Global, arguments: &str) -> Result<String> {
     told(alloc, end, output)
 }
 
-// Runs `prove FIRST END`.
-fn xetrange_prove(alloc: Global, arguments: &str) -> Result<String> {
-    let (first, rest) = arguments.split_once(' ').context("no first number")?;
-    let (end, input) = rest.split_once(' ').context("no second number")?;
-    let (first, end) = (first.parse()?, end.parse()?);
-    let (text, mut output) = (lines(alloc, input)?, Vec::new(alloc));
-    let done = prove(alloc, alloc, first, end, &mut text.as_bytes(), &mut output);
+// Runs `prove FIRST END` or `verify HASH FROM TO`.
+fn xetrange_of_part(alloc: Global, command: &str, arguments: &str) -> Result<String> {
+    let (first, rest) = arguments.split_once(' ').context("no second word")?;
+    let (second, rest) = rest.split_once(' ').context("no input")?;
+    let mut output = Vec::new(alloc);
+    if command == "prove" {
+        let text = lines(alloc, rest)?;
+        let (first, end) = (first.parse()?, second.parse()?);
+        let done = prove(alloc, alloc, first, end, &mut text.as_bytes(), &mut output);
+        return told(alloc, done, output);
+    }
+    let (third, input) = rest.split_once(' ').context("no input")?;
+    let text = lines(alloc, input)?;
+    let (file_hash, from, to) = (hash(first)?, second.parse()?, third.parse()?);
+    let mut reader = text.as_bytes();
+    let done = verify(alloc, alloc, &file_hash, from, to, &mut reader, &mut output);
     told(alloc, done, output)
 }
 

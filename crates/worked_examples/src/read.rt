@@ -2,7 +2,7 @@
 
 use anyhow::{Context, Result, bail};
 use std::alloc::Global;
-use xet_hash::data_hash::MerkleHash;
+use xet_hash::data_hash::{MerkleHash, compute_data_hash};
 use xet_merkle::aggregated_hashes::Node;
 
 /// Reads a number below 2^64. The greatest one may be written `2^64-1`, and the one before it `2^64-2`.
@@ -12,6 +12,12 @@ pub fn number(text: &str) -> Result<u64> {
         "2^64-2" => Ok(u64::MAX - 1),
         _ => Ok(text.parse()?),
     }
+}
+
+/// Reads two numbers with a space between them.
+pub fn two_numbers(text: &str) -> Result<(u64, u64)> {
+    let (first, second) = text.split_once(' ').context("no second number")?;
+    Ok((first.parse()?, second.parse()?))
 }
 
 /// Reads the text between quotes. `\n` in it is a newline.
@@ -117,4 +123,19 @@ fn push_numbered(nodes: &mut Vec<Node>, first: &str, last: &str, size: u64) -> R
         nodes.push((hash, size))?;
     }
     Ok(())
+}
+
+/// Reads two numbers, `of` and a list of chunks.
+pub fn range_of_list(alloc: Global, text: &str) -> Result<((u64, u64), Vec<Node>)> {
+    let (range, chunks) = text.split_once(" of ").context("no list")?;
+    Ok((two_numbers(range)?, list(alloc, chunks)?))
+}
+
+/// Reads the data of chunks with `|` between them, and returns their nodes.
+pub fn nodes_of_data(alloc: Global, text: &str) -> Result<Vec<Node>> {
+    let mut nodes = Vec::new(alloc);
+    for data in text.split('|') {
+        nodes.push((compute_data_hash(data.as_bytes()), data.len() as u64))?;
+    }
+    Ok(nodes)
 }

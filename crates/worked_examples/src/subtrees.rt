@@ -22,6 +22,7 @@ pub fn answer(alloc: Global, name: &str, arguments: &str) -> Result<Option<Strin
         "right" => side(alloc, arguments, true)?,
         "to_json" => json(alloc, &merged(alloc, arguments)?)?,
         "from_json" => from_json(alloc, arguments)?,
+        "json_fronts" => fronts(alloc, arguments)?,
         _ => return Ok(None),
     };
     Ok(Some(text))
@@ -88,7 +89,7 @@ pub fn json(alloc: Global, subtree: &MerkleHashSubtree) -> Result<String> {
 
 // Reads a subtree from a JSON text, or from the JSON form of a range that is said by its levels.
 fn from_json(alloc: Global, arguments: &str) -> Result<String> {
-    if !arguments.starts_with(|letter: char| letter.is_ascii_lowercase()) {
+    if arguments == "null" || !arguments.starts_with(|letter: char| letter.is_ascii_lowercase()) {
         return read_again(alloc, arguments);
     }
     let text = text_of(alloc, &range(alloc, arguments)?)?;
@@ -137,4 +138,16 @@ fn text_of(alloc: Global, range: &SaidRange) -> Result<String> {
     }
     text.push_str("]}")?;
     Ok(text)
+}
+
+// Returns how many fronts of a text are JSON texts. The whole text isn't counted.
+fn fronts(alloc: Global, text: &str) -> Result<String> {
+    let mut count = 0u64;
+    for (end, _) in text.char_indices() {
+        let (front, _) = text.split_at_checked(end).context("no place in the text")?;
+        if Value::from_str(alloc, front).is_ok() {
+            count = count.saturating_add(1);
+        }
+    }
+    Ok(count.to_string(alloc)?)
 }

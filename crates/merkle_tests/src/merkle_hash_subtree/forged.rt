@@ -2,9 +2,7 @@
 
 use std::alloc::Global;
 use std::test::Fail;
-use test_support::{has_counts, read_json};
-use xet_hash::data_hash::DataHash;
-use xet_merkle::CoreError;
+use test_support::read_json;
 use xet_merkle::merkle_hash_subtree::MerkleHashSubtree;
 
 // Reads a subtree from a text.
@@ -29,36 +27,6 @@ fn subtrees_of_no_list_merge_from_their_nodes(rt: HostRuntime) -> Result<(), Fai
         assert!(rt; merge_to(rt.alloc(), front, back, merged)?, "{number}");
     }
     assert!(rt; texts.next().is_none());
-    Ok(())
-}
-
-// Nine nodes in two levels, marked at the end. No list has this subtree.
-const FORGED: &str =
-    r#"{"at_end":true,"at_start":false,"levels":[[4,0],[5,0]],"nodes":[{"hash":"0000000000000000000000000000000000000000000000000000000000000000","size":1},{"hash":"0000000000000001000000000000000000000000000000000000000000000001","size":1},{"hash":"0000000000000002000000000000000000000000000000000000000000000001","size":1},{"hash":"0000000000000003000000000000000000000000000000000000000000000000","size":1},{"hash":"0000000000000004000000000000000000000000000000000000000000000001","size":1},{"hash":"0000000000000005000000000000000000000000000000000000000000000001","size":1},{"hash":"0000000000000006000000000000000000000000000000000000000000000001","size":1},{"hash":"0000000000000007000000000000000000000000000000000000000000000001","size":1},{"hash":"0000000000000008000000000000000000000000000000000000000000000001","size":1}]}"#;
-
-// Returns the forged subtree closed at its start, and how many parents that hashes.
-fn closed(alloc: Global) -> Result<(MerkleHashSubtree, u128), Fail> {
-    let mut begun = MerkleHashSubtree::from_chunks(alloc, true, &[], false)?;
-    let count = begun.merge_into_counted(&read(alloc, FORGED)?)?;
-    Ok((begun, count))
-}
-
-#[test]
-fn a_subtree_of_no_list_is_closed_within_the_bound(rt: HostRuntime) -> Result<(), Fail> {
-    let root = "84bfec9db0352b08ae1df914f0e58a707deb858e107751964f57889bfc82f41d";
-    let root = DataHash::from_hex(root)?;
-    let (closed, count) = closed(rt.alloc())?;
-    // Twice the count is at most the nine nodes plus twice the three levels.
-    assert!(rt; (count, closed.final_hash()) == (2, Some(root)));
-    assert!(rt; has_counts(&closed, &[(0, 0), (0, 0), (1, 0)]));
-    // What it keeps is read again, so it keeps the rules.
-    let text = closed.to_json(rt.alloc())?.to_string(rt.alloc())?;
-    assert!(rt; read(rt.alloc(), &text)? == closed);
-    // It is marked at its end, so nothing follows it.
-    let mut forged = read(rt.alloc(), FORGED)?;
-    let none = MerkleHashSubtree::from_chunks(rt.alloc(), false, &[], false)?;
-    assert!(rt; forged.merge_into(&none) == Err(CoreError::InvalidArguments));
-    assert!(rt; forged == read(rt.alloc(), FORGED)?);
     Ok(())
 }
 

@@ -1,16 +1,11 @@
-//! Merges the subtrees of adjacent ranges: the roots of reference lists and of random lists that are split, and ranges
-//! that can't be merged.
+//! Merges the subtrees of adjacent ranges: the roots of reference lists and of random lists that are split.
 
 use rand_core::{Rng, SeedableRng};
 use rand_xoshiro::Xoshiro256PlusPlus;
 use std::alloc::Global;
 use std::test::Fail;
-use test_support::texts::{three_fields, two_fields};
-use test_support::trees::tree;
-use test_support::{
-    EACH_FOURTH, drawn_lengths, drawn_list, ranges, reference_chunk, reference_list, told_ranges,
-    with_cuts,
-};
+use test_support::texts::two_fields;
+use test_support::{EACH_FOURTH, drawn_lengths, drawn_list, ranges, reference_list, with_cuts};
 use xet_hash::data_hash::{DataHash, MerkleHash};
 use xet_merkle::CoreError;
 use xet_merkle::aggregated_hashes::{Node, xorb_hash};
@@ -25,17 +20,6 @@ fn ranges_are_merged_to_the_root_of_the_whole(rt: HostRuntime) -> Result<(), Fai
     file.merge_into(&MerkleHashSubtree::from_chunks(alloc, false, second, false)?)?;
     file.merge_into(&MerkleHashSubtree::from_chunks(alloc, false, &[], true)?)?;
     assert!(rt; file.final_hash() == Some(xorb_hash(alloc, &all)?));
-    Ok(())
-}
-
-#[test]
-fn no_ranges_are_the_closed_empty_list_and_one_is_copied(rt: HostRuntime) -> Result<(), Fail> {
-    let merged = MerkleHashSubtree::merge(rt.alloc(), &[])?;
-    assert!(rt; merged.final_hash() == Some(MerkleHash::default()));
-    let chunk = reference_chunk("1")?;
-    let range = [MerkleHashSubtree::from_chunks(rt.alloc(), true, &[chunk], true)?];
-    let merged = MerkleHashSubtree::merge(rt.alloc(), &range)?;
-    assert!(rt; merged.final_hash() == Some(chunk.0) && range == [merged]);
     Ok(())
 }
 
@@ -147,53 +131,5 @@ fn drawn_lists_merge_to_their_root_at_stable_points(rt: HostRuntime) -> Result<(
         }
     }
     assert!(rt; count == 98);
-    Ok(())
-}
-
-// Each row has two adjacent ranges, and whether the marks or the sizes forbid to merge them.
-const REFUSED: &str = "[.] (.) marks
-[] () marks
-[.] (] marks
-(.) [) marks
-() [) marks
-(+) [.] marks
-(+) (.) sizes
-[.) (+] sizes
-";
-
-// Returns the range of a text.
-fn one_range(alloc: Global, text: &str) -> Result<MerkleHashSubtree, Fail> {
-    Ok(told_ranges(alloc, text)?.pop().ok_or("no range")?)
-}
-
-/// Returns whether each call that merges refuses two ranges for the same reason. The first range has to stay as it is.
-pub fn refuse(alloc: Global, front: &str, back: &str, refusal: CoreError) -> Result<bool, Fail> {
-    let (front, back) = (one_range(alloc, front)?, one_range(alloc, back)?);
-    let mut merged = front.try_clone()?;
-    let answer = merged.merge_into(&back).err();
-    let counted = merged.merge_into_counted(&back).err();
-    let is_unchanged = merged == front;
-    let mut pair = Vec::new(alloc);
-    pair.push(front)?;
-    pair.push(back)?;
-    let of_both = MerkleHashSubtree::merge(alloc, &pair).err();
-    let Some(tree) = tree(alloc, "..+", pair)? else {
-        return Ok(false);
-    };
-    let refusals = [answer, counted, of_both, tree.run().err()];
-    Ok(is_unchanged && refusals == [Some(refusal); 4])
-}
-
-#[test]
-fn marks_and_sizes_forbid_merges(rt: HostRuntime) -> Result<(), Fail> {
-    for row in REFUSED.lines() {
-        let (front, back, reason) = three_fields(row, ' ')?;
-        let refusal = if reason == "marks" {
-            CoreError::InvalidArguments
-        } else {
-            CoreError::SizeOverflow
-        };
-        assert!(rt; refuse(rt.alloc(), front, back, refusal)?, "{row}");
-    }
     Ok(())
 }

@@ -8,13 +8,16 @@ use std::io::Write;
 use std::test::Fail;
 use test_support::texts::{ABC, THREE_PAIRS, lines_of_row, two_fields};
 use test_support::{EACH_FOURTH, with_cuts};
+use xet_hash::data_hash::DataHash;
 use xet_merkle::CoreError;
 use xet_merkle::aggregated_hashes::{Node, file_hash, xorb_hash};
 use xet_merkle::merkle_hash_subtree::MerkleHashSubtree;
 use xet_merkle::plain_range::PlainRange;
+use xetrange_text::fault::RangeFault;
 use xetrange_text::join::{join, root};
 use xetrange_text::make::make;
 use xetrange_text::prove::prove;
+use xetrange_text::verify::verify;
 use xetroot_text::run::run;
 
 /// Calls that answer lines. Each has its lines if these are pairs and chunks. The commands of `xetrange` use those of
@@ -30,7 +33,8 @@ run over plain ranges|+abc
 make|
 join|
 root|
-prove|";
+prove|
+verify|";
 
 /// Returns the two lines of a list of nodes.
 pub fn answer_to(memory: Global, nodes: &[Node]) -> Result<String, Fail> {
@@ -52,6 +56,25 @@ fn proof_of(memory: Global, nodes: &[Node]) -> Result<String, Fail> {
     let mut line = proof.to_json(memory)?.to_string(memory)?;
     line.push('\n')?;
     Ok(line)
+}
+
+// The file hash of the chunks `a chunk`, `another` and `and a third`, and the proof of the second one.
+const FILE_HASH: &str = "0497c2ffdb9b034977074a6a2fe7c2a9dcfc7cc0a4f98777ed580f0b8444090f";
+
+const PROOF: &str =
+    r#"{"chunks":[{"hash":"3481034b52254c2f1e0143ae20ce9e2459685799a774f5764bf5585211c865c1","size":7}],"levels":[{"left":[{"hash":"fc2d9e764137e94a0c4d7bdc0b584e73a34945fbf4efeef155acc8927c1399ff","size":7}],"right":[{"hash":"b5d2de3673ccda688a6ae4c470f097787aa87b128f134b1f5a7d33379b2f66e9","size":11}]}]}"#;
+
+// Verifies the bytes 8 and 9 of these chunks.
+fn verify_part<W: Write>(
+    alloc: &Refusing,
+    memory: Global,
+    input: &mut &[u8],
+    output: &mut W,
+) -> Result<(), RangeFault> {
+    let Ok(file_hash) = DataHash::from_hex(FILE_HASH) else {
+        return Err(RangeFault::Mismatch);
+    };
+    verify(alloc, memory, &file_hash, 8, 10, input, output)
 }
 
 // Returns the lines of some pairs.
@@ -87,6 +110,10 @@ fn of_command(memory: Global, call: &str) -> Result<(String, String), Fail> {
             Ok((two_ranges_of(memory, &nodes)?, answer))
         }
         "prove" => Ok((pairs_of(memory, &nodes)?, proof_of(memory, &nodes)?)),
+        "verify" => Ok((
+            format!(in memory; "{PROOF}\nanother")?,
+            String::from_str(memory, "no")?,
+        )),
         _ => {
             let answer = answer_to(memory, &twice(memory, &nodes)?)?;
             Ok((two_ranges_of(memory, &nodes)?, answer))
@@ -123,6 +150,7 @@ pub fn status_of<W: Write>(
         "join" => join(alloc, memory, r, output).map_err(|fault| fault.status()),
         "root" => root(alloc, memory, r, output).map_err(|fault| fault.status()),
         "prove" => prove(alloc, memory, 10, 22, r, output).map_err(|fault| fault.status()),
+        "verify" => verify_part(alloc, memory, r, output).map_err(|fault| fault.status()),
         _ => run::<PlainRange<&Refusing>, _, _>(alloc, r, output).map_err(|fault| fault.status()),
     };
     result.err().unwrap_or(0)

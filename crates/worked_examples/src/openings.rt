@@ -14,7 +14,6 @@ pub fn answer(alloc: Global, name: &str, arguments: &str) -> Result<Option<Strin
         "open" => opened(alloc, arguments)?,
         "open_root" => opened_with_root(alloc, arguments)?,
         "proof_from_json" => read_again(alloc, arguments)?,
-        "proof_fronts" => fronts(alloc, arguments)?,
         _ => return Ok(None),
     };
     Ok(Some(text))
@@ -89,16 +88,4 @@ fn read_again(alloc: Global, text: &str) -> Result<String> {
         "another text"
     };
     Ok(String::from_str(alloc, told)?)
-}
-
-// Returns how many fronts of the JSON text of a proof read as a proof. The whole text isn't counted.
-fn fronts(alloc: Global, text: &str) -> Result<String> {
-    let mut read = 0u64;
-    for (end, _) in text.char_indices() {
-        let (front, _) = text.split_at_checked(end).context("no place in the text")?;
-        if matches!(read_proof(alloc, front), Ok(Ok(_))) {
-            read = read.saturating_add(1);
-        }
-    }
-    Ok(read.to_string(alloc)?)
 }
