@@ -52,22 +52,22 @@ write_all 10000 5000 Other None it is full
 > write 10000 5000
 > write 5000 code:4
 > write 5000 other
-write 131072 0 Interrupted Some(4) Interrupted system call (os error 4)
-> write 131072 code:4
-write 131072 0 Other None it is full
-> write 131072 other
-write 131072 65537 65537
-> write 131072 65537
+write 1048576 0 Interrupted Some(4) Interrupted system call (os error 4)
+> write 1048576 code:4
+write 1048576 0 Other None it is full
+> write 1048576 other
+write 1048576 65537 65537
+> write 1048576 65537
 flush 0 0 Interrupted Some(4) Interrupted system call (os error 4)
 > flush 0 code:4
 write 6 4 4
 > write 6 4
-write 131072 131072 131072
-> write 131072 131072
+write 1048576 1048576 1048576
+> write 1048576 1048576
 flush 0 0 0
 > flush 0 0
-write_all 131072 131072 0
-> write 131072 131072
+write_all 1048576 1048576 0
+> write 1048576 1048576
 ";
 
 // Returns the result that a row gives to an inner call.
@@ -195,7 +195,7 @@ fn are_handed_on(alloc: Global, message: &[u8]) -> Result<bool, Fail> {
 
 #[test]
 fn calls_are_handed_on_and_what_is_taken_is_hashed(rt: HostRuntime) -> Result<(), Fail> {
-    let mut message = Vec::from_elem(rt.alloc(), 0u8, 1 << 17)?;
+    let mut message = Vec::from_elem(rt.alloc(), 0u8, 1 << 20)?;
     Xoshiro256PlusPlus::seed_from_u64(14).fill_bytes(message.as_mut_slice());
     assert!(rt; are_handed_on(rt.alloc(), &message)?);
     Ok(())

@@ -1,6 +1,5 @@
 //! Tests of `xet_merkle` with values that were computed without this code: the hashes of the crate
-//! `xet-core-structures`, and worked examples. Tests of `upload_session`: worked examples, random sessions compared with a
-//! simple model, and the hashes that are kept.
+//! `xet-core-structures`, and worked examples.
 #![tactic(auto)]
 
 #[cfg(test)]
@@ -9,7 +8,5 @@ mod error;
 mod merge_tree;
 #[cfg(test)]
 mod merkle_hash_subtree;
-#[cfg(test)]
-mod sessions;
 #[cfg(test)]
 mod upstream;

@@ -67,9 +67,9 @@ fn calls_on_long_lists_are_answered(rt: HostRuntime) -> Result<(), Fail> {
     Ok(())
 }
 
-// Returns the subtree of a list's first half, merged with that of the second.
+// Returns the subtree of a list's beginning, merged with that of the others.
 fn merged(alloc: Global, nodes: &[Node]) -> Result<MerkleHashSubtree, CoreError> {
-    let (front, back) = nodes.split_at(nodes.len() / 2);
+    let (front, back) = nodes.split_at(MOST.min(nodes.len()));
     let mut merged = MerkleHashSubtree::from_chunks(alloc, true, front, false)?;
     merged.merge_into(&MerkleHashSubtree::from_chunks(alloc, false, back, false)?)?;
     Ok(merged)
@@ -88,12 +88,14 @@ fn is_copied(
 
 #[test]
 fn the_longest_lists_are_answered(rt: HostRuntime) -> Result<(), Fail> {
-    let nodes = uncut(rt.alloc(), MOST)?;
-    let mut merged = merged(rt.alloc(), &nodes)?;
-    assert!(rt; merged.num_nodes() == MOST && merged.left(0) == nodes.as_slice());
+    let nodes = uncut(rt.alloc(), MOST * 2)?;
+    let merged = merged(rt.alloc(), &nodes)?;
+    assert!(rt; merged.num_nodes() == MOST * 2 && merged.left(0) == nodes.as_slice());
     assert!(rt; is_copied(rt.alloc(), &merged, &nodes)?);
-    merged.merge_into(&MerkleHashSubtree::from_chunks(rt.alloc(), false, &[], true)?)?;
-    assert!(rt; merged.final_hash() == Some(xorb_hash(rt.alloc(), &nodes)?));
+    let (front, _) = nodes.split_at(MOST.min(nodes.len()));
+    let mut ended = MerkleHashSubtree::from_chunks(rt.alloc(), true, front, false)?;
+    ended.merge_into(&MerkleHashSubtree::from_chunks(rt.alloc(), false, &[], true)?)?;
+    assert!(rt; ended.final_hash() == Some(xorb_hash(rt.alloc(), front)?));
     Ok(())
 }
 

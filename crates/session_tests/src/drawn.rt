@@ -135,7 +135,7 @@ fn is_as_the_model<C: ChunkRange<Alloc = Global>>(alloc: Global, seed: u64) -> R
 
 #[test]
 fn drawn_sessions_answer_as_a_plain_model_does(rt: HostRuntime) -> Result<(), Fail> {
-    for seed in 0..25 {
+    for seed in 0..100 {
         let agree = (
             is_as_the_model::<MerkleHashSubtree>(rt.alloc(), seed)?,
             is_as_the_model::<PlainRange>(rt.alloc(), seed)?,

@@ -1,9 +1,6 @@
 //! Sessions that test what no contract says: worked examples with the results of other implementations, many runs and
 //! positions, and printed texts.
 
-mod drawn;
-mod kept_hashes;
-
 use std::alloc::{AllocError, Global};
 use std::fmt::Display;
 use std::test::Fail;
@@ -302,7 +299,7 @@ fn a_saved_session_is_restored(rt: HostRuntime) -> Result<(), Fail> {
 }
 
 // How many runs of one chunk a session has. A free position is left after each.
-const RUNS: u64 = 20_001;
+const RUNS: u64 = 50_001;
 
 // Returns the chunk of a number. Each has another hash.
 fn numbered(number: u64) -> Node {

@@ -49,7 +49,7 @@ const FEW: u64 = 60;
 // - Ranges that are merged together are added to a copy of the first.
 // - A put of a chunk makes its range, an empty range, a place in the map of runs, and a copy of the shorter neighbour.
 // - In random order the neighbours are long. A node is copied four times, with twice the room, each time the range that
-//   holds it doubles its nodes. For 3600 nodes that is 12 times.
+//   holds it doubles its nodes. For 7200 nodes that is 13 times.
 // - Chunks that are all natural cuts make no stable point, since three in a row are too near to each other. So nothing
 //   is collapsed, as without cuts.
 // - A session that keeps hashes also lists the new ones of a put, in room for four, and adds them to its map.
@@ -73,7 +73,7 @@ put falling|6|13
 put even, then odd|6|13
 put even, then odd falling|6|13
 put blocks before cuts|6|13
-put drawn|6|109
+put drawn|6|117
 put falling, hashes kept|7|22
 push runs|3|7
 keep hashes one by one|1|9
@@ -325,7 +325,7 @@ fn is_within(asked: Granted, count: u64, requests: u64, nodes: u64) -> bool {
 }
 
 // Numbers of chunks: multiples of 9, a block and the chunk after it.
-const COUNTS: [u64; 2] = [900, 3_600];
+const COUNTS: [u64; 2] = [900, 7_200];
 
 #[test]
 fn changes_ask_for_memory_in_proportion_to_the_chunks(rt: HostRuntime) -> Result<(), Fail> {

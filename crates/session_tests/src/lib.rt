@@ -1,0 +1,10 @@
+//! Tests of `upload_session`: worked examples, random sessions compared with a simple model, and the hashes that are
+//! kept.
+#![tactic(auto)]
+
+#[cfg(test)]
+mod drawn;
+#[cfg(test)]
+mod kept_hashes;
+#[cfg(test)]
+mod sessions;
