@@ -1,15 +1,17 @@
 /* Prints how the time of a hash depends on where the stack stands, as a line of a table. One message of 64 KiB is hashed with the
- * stack pointer at each of the 256 places of a page that are a multiple of 16 bytes: the lower quartile of each place's turns (so that
- * a processor that is slower for a while doesn't count), the worst place over the best, and how many take more than 1.05 of the best. */
+ * stack pointer at each of the 256 places of a page that are a multiple of 16 bytes. A place's time is its median over all turns, each
+ * divided by the median of its turn, since the processor's clock changes from turn to turn. The line has the median of all times in
+ * the first turn, the best and the worst place beside it, the worst over the best, and how many take more than 1.05 of the best. */
 #define _POSIX_C_SOURCE 200809L
 #include "yurewha.h"
 
 #include <alloca.h>
 #include <stdio.h>
 #include <stdlib.h>
+#include <string.h>
 #include <time.h>
 
-enum { PLACES = 256, STEP = 16, TURNS = 100, LENGTH = 64 * 1024 };
+enum { PLACES = 256, STEP = 16, TURNS = 200, LENGTH = 64 * 1024 };
 
 static uint8_t message[LENGTH];
 
@@ -37,25 +39,37 @@ static int by_size(const void *first, const void *second)
     return (one > other) - (one < other);
 }
 
+static double median(const double *times, size_t count)
+{
+    static double sorted[TURNS > PLACES ? TURNS : PLACES];
+    memcpy(sorted, times, count * sizeof *times);
+    qsort(sorted, count, sizeof *sorted, by_size);
+    return sorted[count / 2];
+}
+
 int main(void)
 {
-    static double times[PLACES][TURNS];
-    double best = 1e12, worst = 0;
+    static double of_place[PLACES][TURNS];
+    double in_turn[PLACES], first = 0, ratios[PLACES], best = 1e12, worst = 0;
     int slow = 0;
     for (int i = 0; i < LENGTH; i++)
         message[i] = (uint8_t)(i % 251);
-    for (int turn = 0; turn < TURNS; turn++)
+    for (int turn = 0; turn < TURNS; turn++) {
         for (int place = 0; place < PLACES; place++)
-            times[place][turn] = time_at((size_t)place * STEP);
+            in_turn[place] = time_at((size_t)place * STEP);
+        const double middle = median(in_turn, PLACES);
+        first = turn == 0 ? middle : first;
+        for (int place = 0; place < PLACES; place++)
+            of_place[place][turn] = in_turn[place] / middle;
+    }
     for (int place = 0; place < PLACES; place++) {
-        qsort(times[place], TURNS, sizeof(double), by_size);
-        const double time = times[place][TURNS / 4];
-        best = time < best ? time : best;
-        worst = time > worst ? time : worst;
+        ratios[place] = median(of_place[place], TURNS);
+        best = ratios[place] < best ? ratios[place] : best;
+        worst = ratios[place] > worst ? ratios[place] : worst;
     }
     for (int place = 0; place < PLACES; place++)
-        slow += times[place][TURNS / 4] > 1.05 * best;
-    printf("| %s | %.1f µs | %.1f µs | %.3f | %d of %d |\n", yurewha_processor_level(), best / 1000, worst / 1000, worst / best, slow,
+        slow += ratios[place] > 1.05 * best;
+    printf("| %s | %.1f µs | %.3f | %.3f | %.3f | %d of %d |\n", yurewha_processor_level(), first / 1000, best, worst, worst / best, slow,
            PLACES);
     return 0;
 }
