@@ -117,12 +117,12 @@ module _ (one_range_proof : (json : Data) (a b : Proof) → Reads json a → Rea
 -- ---- answers
 
 -- the input is at its end where its data was read
-pub ended : (left : Option (List ℕ)) (from to : ℕ) (bytes output : List ℕ) (proof : Proof) → IsAtEnd left ⊎ (total_size proof.chunks < length bytes)
+ended : (left : Option (List ℕ)) (from to : ℕ) (bytes output : List ℕ) (proof : Proof) → IsAtEnd left ⊎ (total_size proof.chunks < length bytes)
     → IsRead proof from to bytes output → IsAtEnd left
 ended left from to bytes output proof (inl is) read = is
 ended left from to bytes output proof (inr more) read = absurd (omega (arith, more, size-of proof from to bytes output read))
 
-pub verified : (file_hash : List ℕ) (from to : ℕ) (input left : Option (List ℕ)) (line bytes output : List ℕ) (proof : Proof) → HasRead line bytes input left
+verified : (file_hash : List ℕ) (from to : ℕ) (input left : Option (List ℕ)) (line bytes output : List ℕ) (proof : Proof) → HasRead line bytes input left
     → SaysProof line proof → Shows proof file_hash (replicate 32 0) → IsAtEnd left → IsRead proof from to bytes output
     → IfSome input (λ text. IsVerifiedOf file_hash from to text output)
 verified file_hash from to None left line bytes output proof held says shows end read = tt
@@ -144,6 +144,18 @@ pub same_line : (input mid left : Option (List ℕ)) (line same bytes more : Lis
     → HasRead line more input left
 same_line None mid left line same bytes more held also = tt
 same_line (Some text) mid left line same bytes more (before, was, first, begun) (rest, is, other, after) = (rest, is, first, after)
+
+-- all data that follows the line, of which the calls speak by other names: `said` is the line, `given` the data, and `size` what the chunks have
+pub verified-to-the-end : (file_hash : List ℕ) (from to : ℕ) (input mid left : Option (List ℕ)) (line same begun bytes output said given : List ℕ) (size : ℕ)
+    (proof : Proof) → HasRead line begun input mid → HasRead same bytes input left → said ≡ line → SaysProof said proof
+    → Shows proof file_hash (replicate 32 0) → given ≡ bytes → IsRead proof from to given output → size ≡ total_size proof.chunks
+    → IsAtEnd left ⊎ (size < length bytes) → IfSome input (λ text. IsVerifiedOf file_hash from to text output) × IsAtEnd left
+verified-to-the-end file_hash from to input mid left line same begun bytes output said given size proof held more is_line says shows is_data read is_size enough =
+    let found : IsRead proof from to bytes output = subst (λ (b : List ℕ). IsRead proof from to b output) is_data read in
+    let end = ended left from to bytes output proof (subst (λ (n : ℕ). IsAtEnd left ⊎ (n < length bytes)) is_size enough) found in
+    let text : SaysProof line proof = subst (λ (l : List ℕ). SaysProof l proof) is_line says in
+    let all = same_line input mid left line same begun bytes held more in
+    (verified file_hash from to input left line bytes output proof all text shows end found, end)
 
 module _ (file_hash : List ℕ) (from to : ℕ) (input left before after : Option (List ℕ)) where
   pub answered : (output : List ℕ) → IfSome input (λ text. IsVerifiedOf file_hash from to text output) → IsAtEnd left → Appends before after output

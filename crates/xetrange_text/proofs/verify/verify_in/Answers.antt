@@ -5,7 +5,7 @@ use Rattle.xet_merkle.specs.Roots.{total_size}
 use Rattle.range_proof.specs.Reading.{IsRead}
 use Rattle.xetrange_text.specs.Proofs.{SaysProof}
 use Rattle.xetrange_text.specs.Verifying.{IsOpenFaultOf}
-use Rattle.xetrange_text.proofs.Verifying.{refused, open-fault, open-not-write, read-fault, ended, verified, same_line, answered, cut_short}
+use Rattle.xetrange_text.proofs.Verifying.{refused, open-fault, open-not-write, read-fault, verified-to-the-end, same_line, answered, cut_short}
 use Rattle.xetrange_text.proofs.verify.verify_in.Goals as goal
 
 pub returns-in_err-range : goal.returns-in_err-range
@@ -22,39 +22,22 @@ returns-in_err-range g c =
 pub returns-in_err-write_all-in-Some : goal.returns-in_err-write_all-in-Some
 returns-in_err-write_all-in-Some g c =
     let p = err_from_is_err_and c.from_residual-in_err-write_all-in-Some.result c.from_residual-in_err-write_all-in-Some.ensures.1 in
-    let line = c.in_ok-input.input.line.items in
     let hash = c.args.file_hash.now in
-    let bytes = c.read_data.new.self.data.items in
-    let proof = c.in_ok-range.range in
     let output = c.in-Some.bytes.now in
-    let held = same_line _ _ _ line _ _ bytes c.in_ok-input.ensures.read (c.in_ok-read_data.ensures.read _ c.in_ok-input.ensures.read) in
-    let says : SaysProof line proof = subst (λ (l : List ℕ). SaysProof l proof) c.deref.ensures.value c.in_ok-range.ensures.says in
-    let read : IsRead proof c.args.from c.args.to bytes output =
-    subst (λ (given : List ℕ). IsRead proof c.args.from c.args.to given output) c.deref-2.ensures.value c.in-Some.ensures.read in
-    let enough : IsAtEnd (g.R.Read.remaining c.read_data.new.r) ⊎ (total_size proof.chunks < length bytes) =
-    subst (λ (n : ℕ). IsAtEnd (g.R.Read.remaining c.read_data.new.r) ⊎ (n < length bytes)) c.size_of_chunks.ensures c.in_ok-read_data.ensures.enough in
-    let end = ended _ c.args.from c.args.to bytes output proof enough read in
+    let read = verified-to-the-end hash c.args.from c.args.to _ _ _ _ _ _ _ output _ _ _ _ c.in_ok-input.ensures.read
+    (c.in_ok-read_data.ensures.read _ c.in_ok-input.ensures.read) c.deref.ensures.value c.in_ok-range.ensures.says c.in_ok-range.ensures.shows
+    c.deref-2.ensures.value c.in-Some.ensures.read c.size_of_chunks.ensures c.in_ok-read_data.ensures.enough in
     let begun = c.in_err-write_all-in-Some.ensures.begun in
-    rw (p.1, p.2) (cut_short hash c.args.from c.args.to _ _ _ _ output begun.0 begun.1
-    (verified hash c.args.from c.args.to _ _ line bytes output proof held says c.in_ok-range.ensures.shows end read) begun.2 begun.3)
+    rw (p.1, p.2) (cut_short hash c.args.from c.args.to _ _ _ _ output begun.0 begun.1 read.0 begun.2 begun.3)
 
 pub returns-in-Some : goal.returns-in-Some
 returns-in-Some g c =
-    let line = c.in_ok-input.input.line.items in
     let hash = c.args.file_hash.now in
-    let bytes = c.read_data.new.self.data.items in
-    let proof = c.in_ok-range.range in
     let output = c.in-Some.bytes.now in
-    let held = same_line _ _ _ line _ _ bytes c.in_ok-input.ensures.read (c.in_ok-read_data.ensures.read _ c.in_ok-input.ensures.read) in
-    let says : SaysProof line proof = subst (λ (l : List ℕ). SaysProof l proof) c.deref.ensures.value c.in_ok-range.ensures.says in
-    let read : IsRead proof c.args.from c.args.to bytes output =
-    subst (λ (given : List ℕ). IsRead proof c.args.from c.args.to given output) c.deref-2.ensures.value c.in-Some.ensures.read in
-    let enough : IsAtEnd (g.R.Read.remaining c.read_data.new.r) ⊎ (total_size proof.chunks < length bytes) =
-    subst (λ (n : ℕ). IsAtEnd (g.R.Read.remaining c.read_data.new.r) ⊎ (n < length bytes)) c.size_of_chunks.ensures c.in_ok-read_data.ensures.enough in
-    let end = ended _ c.args.from c.args.to bytes output proof enough read in
-    answered hash c.args.from c.args.to _ _ _ _ output
-    (verified hash c.args.from c.args.to _ _ line bytes output proof held says c.in_ok-range.ensures.shows end read) end
-    c.in_ok-write_all-in-Some.ensures.written
+    let read = verified-to-the-end hash c.args.from c.args.to _ _ _ _ _ _ _ output _ _ _ _ c.in_ok-input.ensures.read
+    (c.in_ok-read_data.ensures.read _ c.in_ok-input.ensures.read) c.deref.ensures.value c.in_ok-range.ensures.says c.in_ok-range.ensures.shows
+    c.deref-2.ensures.value c.in-Some.ensures.read c.size_of_chunks.ensures c.in_ok-read_data.ensures.enough in
+    answered hash c.args.from c.args.to _ _ _ _ output read.0 read.1 c.in_ok-write_all-in-Some.ensures.written
 
 pub returns : goal.returns
 returns g c =
