@@ -1,6 +1,6 @@
 //! Compares keyed BLAKE3 with known hashes, whole and in pieces.
 
-use std::test::Fail;
+use std::process::Abort;
 use xet_hash::blake3::{Hasher, keyed_hash};
 
 // Returns the bytes from 0 to 250, repeated.
@@ -121,21 +121,20 @@ fn has_hash(key: &[u8; 32], message: &[u8], hash: &[u8; 32]) -> bool {
 }
 
 // Returns the length of a row's message, and its hash.
-fn read_row(row: &str) -> Result<(usize, [u8; 32]), Fail> {
-    let (length, text) = row.split_once(' ').ok_or("no hash")?;
+fn read_row(rt: &impl Abort, row: &str) -> (usize, [u8; 32]) {
+    let (length, text) = row.split_once(' ').expect(rt, "a hash");
     let mut hash = [0; 32];
-    hex::decode_to_slice(text, &mut hash)?;
-    Ok((length.parse()?, hash))
+    hex::decode_to_slice(text, &mut hash).expect(rt, "hex digits");
+    (length.parse().expect(rt, "a number"), hash)
 }
 
 #[test]
-fn has_the_known_hashes(rt: HostRuntime) -> Result<(), Fail> {
+fn has_the_known_hashes(rt: HostRuntime) {
     let (key, message) = (message::<32>(), message::<131073>());
     for row in HASHES.lines() {
-        let (length, hash) = read_row(row)?;
-        let message = message.get(..length).ok_or("too long")?;
+        let (length, hash) = read_row(&rt, row);
+        let message = message.get(..length).expect(&rt, "a message");
         assert!(rt; has_hash(&key, message, &hash), "{length}");
     }
     assert!(rt; HASHES.lines().count() == 45);
-    Ok(())
 }

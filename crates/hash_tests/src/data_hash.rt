@@ -2,7 +2,6 @@
 
 use std::cmp::Ordering;
 use std::hash::{DefaultHasher, Hash, Hasher};
-use std::test::Fail;
 use xet_hash::data_hash::{DataHash, MerkleHash};
 
 // A hash as its 32 bytes, as its words and as its text.
@@ -44,27 +43,27 @@ d6834b04843aaf16f29903e2428a99be635099f9ea5056cc4e95e7ec8a41509f0 false
 ";
 
 #[test]
-fn reads_64_hex_digits(rt: HostRuntime) -> Result<(), Fail> {
+fn reads_64_hex_digits(rt: HostRuntime) {
     let hash = DataHash::from(BYTES);
     for row in READ_TEXTS.lines() {
-        let (text, is_read) = row.split_once(' ').ok_or("no answer")?;
+        let (text, is_read) = row.split_once(' ').expect(&rt, "an answer");
         let expected = if is_read == "true" { Some(hash) } else { None };
         assert!(rt; DataHash::from_hex(text).ok() == expected, "{text}");
         let of_bytes = DataHash::from_hex_digits(text.as_bytes()).ok();
         assert!(rt; of_bytes == expected, "{text}");
     }
     assert!(rt; DataHash::from_hex_digits(&[0xFF; 64]).is_err());
-    Ok(())
 }
 
 #[test]
-fn prints_the_text_whatever_the_flags(rt: HostRuntime) -> Result<(), Fail> {
+fn prints_the_text_whatever_the_flags(rt: HostRuntime) {
     let hash = DataHash::from(BYTES);
-    let printed = format!(in rt.alloc(); "{hash} {hash:*^80.3} {hash:?} {hash:#080?}")?;
+    let printed = format!(in rt.alloc(); "{hash} {hash:*^80.3} {hash:?} {hash:#080?}").expect(
+        &rt, "memory",
+    );
     for word in printed.split(' ') {
         assert!(rt; word == TEXT);
     }
-    Ok(())
 }
 
 #[test]

@@ -2,7 +2,7 @@
 
 use std::alloc::Global;
 use std::fmt;
-use std::test::Fail;
+use std::process::Abort;
 use xet_hash::data_hash::{
     DataHash, DataHashBytesParseError, DataHashHexParseError, HashTextError,
 };
@@ -26,15 +26,14 @@ impl fmt::Display for LowerHexOf {
 }
 
 #[test]
-fn writes_hex_whatever_the_flags(rt: HostRuntime) -> Result<(), Fail> {
+fn writes_hex_whatever_the_flags(rt: HostRuntime) {
     let hash = DataHash::from(BYTES);
-    assert!(rt; hash.hex(rt.alloc())?.as_str() == HEX);
+    assert!(rt; hash.hex(rt.alloc()).expect(&rt, "memory").as_str() == HEX);
     let hex = LowerHexOf(hash);
-    let printed = format!(in rt.alloc(); "{hex} {hex:#80.3}")?;
+    let printed = format!(in rt.alloc(); "{hex} {hex:#80.3}").expect(&rt, "memory");
     for word in printed.split(' ') {
         assert!(rt; word == HEX);
     }
-    Ok(())
 }
 
 // Each row has a base64 text and the hex text of its hash, or a dash if no hash has the text.
@@ -51,53 +50,52 @@ AAAAAAAAAAAAAAAAAAAAAAAAAAAAAAAAAAAAAAAAAAAAAA -
  -
 ";
 
-// Returns the hex text of the hash with a base64 text, or a dash if there is none. A failed allocation is an error.
-fn read_base64(alloc: Global, text: &str) -> Result<String, Fail> {
+// Returns the hex text of the hash with a base64 text, or a dash if there is none. A failed allocation ends the process.
+fn read_base64(rt: &impl Abort, alloc: Global, text: &str) -> String {
     match DataHash::from_base64(alloc, text) {
-        Ok(hash) => Ok(hash.hex(alloc)?),
-        Err(HashTextError::Bytes(_)) => Ok(format!(in alloc; "-")?),
-        Err(HashTextError::OutOfMemory) => Err("out of memory")?,
+        Ok(hash) => hash.hex(alloc).expect(rt, "memory"),
+        Err(HashTextError::Bytes(_)) => format!(in alloc; "-").expect(rt, "memory"),
+        Err(HashTextError::OutOfMemory) => panic!(rt; "out of memory"),
     }
 }
 
 // Returns whether a base64 text reads as the hash of a hex text, and this hash writes the base64 text back. If `hex` is
 // a dash, returns whether the base64 text is that of no hash.
-fn reads_back(alloc: Global, text: &str, hex: &str) -> Result<bool, Fail> {
-    let is_read = read_base64(alloc, text)?.as_str() == hex;
+fn reads_back(rt: &impl Abort, alloc: Global, text: &str, hex: &str) -> bool {
+    let is_read = read_base64(rt, alloc, text).as_str() == hex;
     match DataHash::from_hex(hex) {
-        Ok(hash) => Ok(is_read && hash.base64(alloc)?.as_str() == text),
-        Err(_) => Ok(is_read),
+        Ok(hash) => is_read && hash.base64(alloc).expect(rt, "memory").as_str() == text,
+        Err(_) => is_read,
     }
 }
 
 // Returns whether the texts of a random hash are those of one hash.
-fn texts_agree(alloc: Global, seed: u64) -> Result<bool, Fail> {
+fn texts_agree(rt: &impl Abort, alloc: Global, seed: u64) -> bool {
     let hash = DataHash::random_from_seed(seed);
-    let (text, hex) = (hash.base64(alloc)?, hash.hex(alloc)?);
-    reads_back(alloc, text.as_str(), hex.as_str())
+    let text = hash.base64(alloc).expect(rt, "memory");
+    let hex = hash.hex(alloc).expect(rt, "memory");
+    reads_back(rt, alloc, text.as_str(), hex.as_str())
 }
 
 #[test]
-fn reads_what_base64_writes(rt: HostRuntime) -> Result<(), Fail> {
+fn reads_what_base64_writes(rt: HostRuntime) {
     for row in BASE64_TEXTS.lines() {
-        let (text, hex) = row.split_once(' ').ok_or("no hash")?;
-        assert!(rt; reads_back(rt.alloc(), text, hex)?, "{row}");
+        let (text, hex) = row.split_once(' ').expect(&rt, "a hash");
+        assert!(rt; reads_back(&rt, rt.alloc(), text, hex), "{row}");
     }
     for seed in 0..512 {
-        assert!(rt; texts_agree(rt.alloc(), seed)?, "{seed}");
+        assert!(rt; texts_agree(&rt, rt.alloc(), seed), "{seed}");
     }
-    Ok(())
 }
 
 #[test]
-fn errors_speak(rt: HostRuntime) -> Result<(), Fail> {
+fn errors_speak(rt: HostRuntime) {
     let bytes = HashTextError::Bytes(DataHashBytesParseError);
     let memory = HashTextError::OutOfMemory;
     let printed = format!(in rt.alloc();
         "{DataHashHexParseError}; {DataHashBytesParseError}; {bytes}; {memory}"
-    )?;
+    ).expect(&rt, "memory");
     let expected =
         "Invalid hex input for DataHash; Invalid bytes input for DataHash; Invalid bytes input for DataHash; out of memory";
     assert!(rt; printed.as_str() == expected);
-    Ok(())
 }

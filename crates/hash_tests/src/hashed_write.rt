@@ -3,11 +3,11 @@
 
 use rand_core::{Rng, SeedableRng};
 use rand_xoshiro::Xoshiro256PlusPlus;
-use std::alloc::{AllocError, Global};
+use std::alloc::Global;
 use std::fmt::Write as _;
 use std::io::{self, ErrorKind, Write};
+use std::process::Abort;
 use std::str::Lines;
-use std::test::Fail;
 use xet_hash::data_hash::{DataHash, HashedWrite, compute_data_hash};
 
 // Calls of one writer in turn. Each row has the length of its slice, how many bytes are taken, and the result. An error
@@ -129,46 +129,51 @@ fn called(writer: &mut HashedWrite<Recorder>, name: &str, slice: &[u8]) -> io::R
 }
 
 // Returns a result as a row has it.
-fn printed(alloc: Global, answer: io::Result<usize>) -> Result<String, AllocError> {
+fn printed(rt: &impl Abort, alloc: Global, answer: io::Result<usize>) -> String {
     match answer {
         Ok(taken) => format!(in alloc; "{taken}"),
         Err(error) => format!(in alloc; "{:?} {:?} {error}", error.kind(), error.raw_os_error()),
     }
+    .expect(rt, "memory")
 }
 
 // Returns the columns of a row. An error in the last one has spaces.
-fn columns(row: &str) -> Result<(&str, &str, &str, &str), Fail> {
-    let (first, rest) = row.split_once(' ').ok_or("no second column")?;
-    let (second, rest) = rest.split_once(' ').ok_or("no third column")?;
-    let (third, last) = rest.split_once(' ').ok_or("no last column")?;
-    Ok((first, second, third, last))
+fn columns<'a>(rt: &impl Abort, row: &'a str) -> (&'a str, &'a str, &'a str, &'a str) {
+    let (first, rest) = row.split_once(' ').expect(rt, "a second column");
+    let (second, rest) = rest.split_once(' ').expect(rt, "a third column");
+    let (third, last) = rest.split_once(' ').expect(rt, "a last column");
+    (first, second, third, last)
 }
 
 // Returns the rows of the inner calls.
-fn inner_calls(alloc: Global) -> Result<String, Fail> {
+fn inner_calls(rt: &impl Abort, alloc: Global) -> String {
     let mut calls = String::new(alloc);
     for row in CALLS.lines() {
         if row.starts_with('>') {
-            writeln!(calls, "{row}")?;
+            writeln!(calls, "{row}").expect(rt, "memory");
         }
     }
-    Ok(calls)
+    calls
 }
 
 // Makes the call of a row. Returns whether it has the row's result, and the hash is that of all bytes that were taken.
 fn is_answered(
+    rt: &impl Abort,
     alloc: Global,
     writer: &mut HashedWrite<Recorder>,
     message: &[u8],
     taken: &mut Vec<u8>,
     row: &str,
-) -> Result<bool, Fail> {
-    let (name, length, count, expected) = columns(row)?;
-    let slice = message.get(..length.parse()?).ok_or("no such slice")?;
+) -> bool {
+    let (name, length, count, expected) = columns(rt, row);
+    let length = length.parse().expect(rt, "a number");
+    let slice = message.get(..length).expect(rt, "a slice");
     let answer = called(writer, name, slice);
-    taken.extend_from_slice(slice.get(..count.parse()?).ok_or("too many")?)?;
+    let count = count.parse().expect(rt, "a number");
+    let front = slice.get(..count).expect(rt, "a slice");
+    taken.extend_from_slice(front).expect(rt, "memory");
     let is_hashed = writer.hash() == compute_data_hash(taken.as_slice());
-    Ok(is_hashed && printed(alloc, answer)?.as_str() == expected)
+    is_hashed && printed(rt, alloc, answer).as_str() == expected
 }
 
 // Returns a writer that records what it gets.
@@ -181,40 +186,40 @@ fn recording(alloc: Global) -> HashedWrite<Recorder> {
 }
 
 // Makes the calls in turn. Returns whether the inner writer was called as the rows say, and took the same bytes.
-fn are_handed_on(alloc: Global, message: &[u8]) -> Result<bool, Fail> {
+fn are_handed_on(rt: &impl Abort, alloc: Global, message: &[u8]) -> bool {
     let mut writer = recording(alloc);
     let mut taken = Vec::new(alloc);
     for row in CALLS.lines() {
-        if !row.starts_with('>') && !is_answered(alloc, &mut writer, message, &mut taken, row)? {
-            return Err(format!(in alloc; "{row}")?)?;
+        if !row.starts_with('>') {
+            let is_right = is_answered(rt, alloc, &mut writer, message, &mut taken, row);
+            assert!(rt; is_right, "{row}");
         }
     }
     let recorder = writer.into_inner();
-    Ok(recorder.taken == taken && recorder.calls == inner_calls(alloc)?)
+    recorder.taken == taken && recorder.calls == inner_calls(rt, alloc)
 }
 
 #[test]
-fn calls_are_handed_on_and_what_is_taken_is_hashed(rt: HostRuntime) -> Result<(), Fail> {
-    let mut message = Vec::from_elem(rt.alloc(), 0u8, 1 << 20)?;
+fn calls_are_handed_on_and_what_is_taken_is_hashed(rt: HostRuntime) {
+    let mut message = Vec::from_elem(rt.alloc(), 0u8, 1 << 20).expect(&rt, "memory");
     Xoshiro256PlusPlus::seed_from_u64(14).fill_bytes(message.as_mut_slice());
-    assert!(rt; are_handed_on(rt.alloc(), &message)?);
-    Ok(())
+    assert!(rt; are_handed_on(&rt, rt.alloc(), &message));
 }
 
 // The hash was computed without this code.
 #[test]
-fn drawn_bytes_are_hashed_and_handed_on(rt: HostRuntime) -> Result<(), Fail> {
+fn drawn_bytes_are_hashed_and_handed_on(rt: HostRuntime) {
     let mut message = [0u8; 300];
     Xoshiro256PlusPlus::seed_from_u64(13).fill_bytes(&mut message);
     let hash = "bbd96a1fac984cb7e9dba7f6755195d59d9bb115e45cff0f96c3cd211560b0fc";
-    assert!(rt; compute_data_hash(&message) == DataHash::from_hex(hash)?);
+    let hash = DataHash::from_hex(hash).expect(&rt, "a hash");
+    assert!(rt; compute_data_hash(&message) == hash);
     let mut writer = HashedWrite::new(Vec::new(rt.alloc()));
     for piece in message.chunks(10) {
-        writer.write_all(piece)?;
+        writer.write_all(piece).expect(&rt, "memory");
     }
     assert!(rt; writer.hash() == compute_data_hash(&message));
     assert!(rt; writer.into_inner().as_slice() == message.as_slice());
-    Ok(())
 }
 
 // A writer that takes at most three bytes a call and `room` bytes in all, and then fails.

@@ -7,7 +7,7 @@ ghost use Rattle.xet_hash.specs.FiniteMap.{value_at};
 use std::alloc::{AllocError, Global};
 use std::collections::HashMap;
 use std::hash::Hash;
-use std::test::Fail;
+use std::process::Abort;
 use xet_hash::data_hash::DataHash;
 use xet_hash::laws::written_value_is_found;
 use xet_hash::passthrough_hasher::U64HashExtractable;
@@ -80,25 +80,28 @@ fn reads(map: &Names) -> bool {
 
 // Adds a value at the entry of a new key, and then changes it.
 fn enters<K: U64HashExtractable + Hash + Copy>(
+    rt: &impl Abort,
     map: &mut PassThroughHashMap<K, u32>,
     key: K,
-) -> Result<bool, AllocError> {
-    let is_filled = *map.entry(key).or_insert(20)? == 20;
+) -> bool {
+    let is_filled = *map.entry(key).or_insert(20).expect(rt, "memory") == 20;
     map.entry(key)
         .and_modify(|value| *value = 21)
-        .or_insert_with(|| 22)?;
-    Ok(is_filled && map.get(&key) == Some(&21))
+        .or_insert_with(|| 22)
+        .expect(rt, "memory");
+    is_filled && map.get(&key) == Some(&21)
 }
 
 // Returns whether inserting two keys into an empty map, and changing the values there, does what it should.
 fn inserts<K: U64HashExtractable + Hash + Copy>(
+    rt: &impl Abort,
     map: &mut PassThroughHashMap<K, u32>,
     [first, second, lacking]: &[K; 3],
 ) -> bool {
     let are_inserted = map.is_empty()
         && matches!(map.insert(*first, 10), Ok(None))
         && matches!(map.insert(*first, 30), Ok(Some(10)))
-        && enters(map, *second) == Ok(true);
+        && enters(rt, map, *second);
     if let Some(value) = map.get_mut(first) {
         *value = 40;
     }
@@ -138,47 +141,46 @@ fn converts(map: Names) -> bool {
 }
 
 #[test]
-fn keys_of_another_type_are_found(rt: HostRuntime) -> Result<(), Fail> {
+fn keys_of_another_type_are_found(rt: HostRuntime) {
     let [first, second, lacking] = NAMES;
     let same = ChunkName { ..first };
     assert!(rt; first == same && first.u64_hash_value() == same.u64_hash_value());
     assert!(rt; first != lacking && first.u64_hash_value() == lacking.u64_hash_value());
-    let map = PassThroughHashMap::from_pairs(rt.alloc(), [(first, 10), (second, 20)])?;
-    let copy = map.try_clone()?;
+    let pairs = [(first, 10), (second, 20)];
+    let map = PassThroughHashMap::from_pairs(rt.alloc(), pairs).expect(&rt, "memory");
+    let copy = map.try_clone().expect(&rt, "memory");
     assert!(rt; reads(&map) && reads(&copy));
     assert!(rt; converts(copy));
     let mut map = PassThroughHashMap::new(rt.alloc());
-    assert!(rt; inserts(&mut map, &NAMES) && removes(&mut map, &NAMES));
-    Ok(())
+    assert!(rt; inserts(&rt, &mut map, &NAMES) && removes(&mut map, &NAMES));
 }
 
 #[test]
-fn changes_at_hashes_and_numbers(rt: HostRuntime) -> Result<(), Fail> {
+fn changes_at_hashes_and_numbers(rt: HostRuntime) {
     let hashes = HASHES.map(|words| DataHash::from(words));
     let mut of_hashes = PassThroughHashMap::new(rt.alloc());
-    assert!(rt; inserts(&mut of_hashes, &hashes) && removes(&mut of_hashes, &hashes));
-    let mut of_numbers = PassThroughHashMap::with_capacity(rt.alloc(), 100)?;
-    assert!(rt; inserts(&mut of_numbers, &NUMBERS) && removes(&mut of_numbers, &NUMBERS));
-    Ok(())
+    assert!(rt; inserts(&rt, &mut of_hashes, &hashes) && removes(&mut of_hashes, &hashes));
+    let mut of_numbers = PassThroughHashMap::with_capacity(rt.alloc(), 100).expect(&rt, "memory");
+    assert!(rt; inserts(&rt, &mut of_numbers, &NUMBERS) && removes(&mut of_numbers, &NUMBERS));
 }
 
 #[test]
-fn a_map_of_pairs_has_each_of_them(rt: HostRuntime) -> Result<(), Fail> {
-    let map = PassThroughHashMap::from_pairs(rt.alloc(), [(12345u64, "first"), (67890, "second")])?;
+fn a_map_of_pairs_has_each_of_them(rt: HostRuntime) {
+    let pairs = [(12345u64, "first"), (67890, "second")];
+    let map = PassThroughHashMap::from_pairs(rt.alloc(), pairs).expect(&rt, "memory");
     assert!(rt; map.len() == 2);
     assert!(rt; map.get(&12345) == Some(&"first"));
     assert!(rt; map.get(&67890) == Some(&"second"));
     assert!(rt; map.get(&1).is_none());
-    Ok(())
 }
 
 #[test]
-fn the_last_value_of_equal_keys_stays(rt: HostRuntime) -> Result<(), Fail> {
-    let map = PassThroughHashMap::from_array(rt.alloc(), [(1u64, 10), (2, 20), (1, 30)])?;
+fn the_last_value_of_equal_keys_stays(rt: HostRuntime) {
+    let pairs = [(1u64, 10), (2, 20), (1, 30)];
+    let map = PassThroughHashMap::from_array(rt.alloc(), pairs).expect(&rt, "memory");
     assert!(rt; map.len() == 2);
     assert!(rt; map.get(&1) == Some(&30));
     assert!(rt; map.get(&2) == Some(&20));
-    Ok(())
 }
 
 // Writes through a reference into a map. The contract says that the map has what was written.
@@ -207,13 +209,13 @@ fn write_one_at_place(map: &mut PassThroughHashMap<u64, u64>, key: u64) -> Resul
 }
 
 // Adds a value at the vacant entry of a key, and then one to it.
-fn fills(map: &mut Names, key: ChunkName) -> Result<bool, AllocError> {
+fn fills(rt: &impl Abort, map: &mut Names, key: ChunkName) -> bool {
     match map.entry(key) {
-        Entry::Occupied(_) => Ok(false),
+        Entry::Occupied(_) => false,
         Entry::Vacant(place) => {
             let is_of_key = *place.key() == key;
-            *place.insert(1)? += 1;
-            Ok(is_of_key)
+            *place.insert(1).expect(rt, "memory") += 1;
+            is_of_key
         }
     }
 }
@@ -247,20 +249,19 @@ fn emptied(map: &mut Names, key: ChunkName) -> (ChunkName, Option<u32>) {
 fn places_are_read_filled_and_emptied(rt: HostRuntime) {
     let [first, second, _] = NAMES;
     let mut map = PassThroughHashMap::new(rt.alloc());
-    assert!(rt; fills(&mut map, first) == Ok(true) && overwrites(&mut map, first));
+    assert!(rt; fills(&rt, &mut map, first) && overwrites(&mut map, first));
     assert!(rt; emptied(&mut map, second) == (second, None));
     assert!(rt; emptied(&mut map, first) == (first, Some(4)));
     assert!(rt; map.is_empty());
 }
 
 #[test]
-fn has_what_was_written_through_references(rt: HostRuntime) -> Result<(), Fail> {
-    let mut map = PassThroughHashMap::from_array(rt.alloc(), [(12345, 7)])?;
+fn has_what_was_written_through_references(rt: HostRuntime) {
+    let mut map = PassThroughHashMap::from_array(rt.alloc(), [(12345, 7)]).expect(&rt, "memory");
     write_one(&mut map, 12345);
-    write_one_inside(&mut map, 67890)?;
-    write_one_at_place(&mut map, 1)?;
+    write_one_inside(&mut map, 67890).expect(&rt, "memory");
+    write_one_at_place(&mut map, 1).expect(&rt, "memory");
     for key in NUMBERS {
         assert!(rt; map.get(&key) == Some(&1));
     }
-    Ok(())
 }
