@@ -4,7 +4,7 @@ ghost use Rattle.std.specs.Prelude.{◌≡◌};
 ghost use Rattle.xet_merkle.specs.Roots.{total_size};
 
 use std::alloc::Global;
-use std::test::Fail;
+use std::process::Abort;
 use test_support::trees::{BRACKETINGS, four_ranges, merge, tree};
 use test_support::{EACH_FOURTH, with_cuts};
 use xet_hash::data_hash::MerkleHash;
@@ -71,67 +71,66 @@ impl ChunkRange for CountedRange {
     }
 }
 
-fn run<R: ChunkRange<Alloc = Global>>(alloc: Global, bracketing: &str) -> Result<R, CoreError> {
-    match tree(alloc, bracketing, four_ranges(alloc)?)? {
-        Some(tree) => Ok(tree.run()?),
-        None => Err(CoreError::InvalidArguments),
-    }
+fn run<R: ChunkRange<Alloc = Global>>(rt: &impl Abort, alloc: Global, bracketing: &str) -> R {
+    let ranges = four_ranges(alloc).expect(rt, "four ranges");
+    let tree = tree(alloc, bracketing, ranges).expect(rt, "memory");
+    tree.expect(rt, "a tree").run().expect(rt, "a range")
 }
 
 // Returns whether four ranges of a kind have a root, merged under a bracketing.
 fn has_root<R: ChunkRange<Alloc = Global>>(
+    rt: &impl Abort,
     alloc: Global,
     bracketing: &str,
     root: MerkleHash,
-) -> Result<bool, CoreError> {
-    Ok(run::<R>(alloc, bracketing)?.root() == Ok(Some(root)))
+) -> bool {
+    let range: R = run(rt, alloc, bracketing);
+    range.root() == Ok(Some(root))
 }
 
 // Returns how many merges make four ranges one under a bracketing, and how deep they go.
-fn merges_and_depth(alloc: Global, bracketing: &str) -> Result<(u32, u32), CoreError> {
-    let counted: CountedRange = run(alloc, bracketing)?;
-    Ok((counted.merges, counted.depth))
+fn merges_and_depth(rt: &impl Abort, alloc: Global, bracketing: &str) -> (u32, u32) {
+    let counted: CountedRange = run(rt, alloc, bracketing);
+    (counted.merges, counted.depth)
 }
 
 #[test]
-fn ranges_of_each_kind_have_the_root(rt: HostRuntime) -> Result<(), Fail> {
-    let root = xorb_hash(rt.alloc(), &with_cuts::<28>(&EACH_FOURTH))?;
+fn ranges_of_each_kind_have_the_root(rt: HostRuntime) {
+    let root = xorb_hash(rt.alloc(), &with_cuts::<28>(&EACH_FOURTH)).expect(&rt, "a root");
     for (bracketing, depth) in BRACKETINGS {
-        let have_root = has_root::<CountedRange>(rt.alloc(), bracketing, root) == Ok(true)
-            && has_root::<PlainRange>(rt.alloc(), bracketing, root) == Ok(true)
-            && has_root::<MerkleHashSubtree>(rt.alloc(), bracketing, root) == Ok(true);
-        let found = merges_and_depth(rt.alloc(), bracketing);
-        assert!(rt; have_root && found == Ok((3, depth)), "{bracketing}");
+        let have_root = has_root::<CountedRange>(&rt, rt.alloc(), bracketing, root)
+            && has_root::<PlainRange>(&rt, rt.alloc(), bracketing, root)
+            && has_root::<MerkleHashSubtree>(&rt, rt.alloc(), bracketing, root);
+        let found = merges_and_depth(&rt, rt.alloc(), bracketing);
+        assert!(rt; have_root && found == (3, depth), "{bracketing}");
     }
-    Ok(())
 }
 
 // Returns a tree of `merges` merges of empty ranges. Each is the front of the next one, or its back.
-fn leaning(
-    alloc: Global,
-    merges: u32,
-    is_front: bool,
-) -> Result<MergeTree<CountedRange>, CoreError> {
-    let mut tree = MergeTree::Leaf(CountedRange::from_chunks(alloc, false, &[], false)?);
+fn leaning(rt: &impl Abort, alloc: Global, merges: u32, is_front: bool) -> MergeTree<CountedRange> {
+    let range = CountedRange::from_chunks(alloc, false, &[], false).expect(rt, "a range");
+    let mut tree = MergeTree::Leaf(range);
     for _ in 0..merges {
-        let leaf = MergeTree::Leaf(CountedRange::from_chunks(alloc, false, &[], false)?);
-        tree = if is_front {
-            merge(alloc, tree, leaf)?
+        let range = CountedRange::from_chunks(alloc, false, &[], false).expect(rt, "a range");
+        let leaf = MergeTree::Leaf(range);
+        let merged = if is_front {
+            merge(alloc, tree, leaf)
         } else {
-            merge(alloc, leaf, tree)?
+            merge(alloc, leaf, tree)
         };
+        tree = merged.expect(rt, "memory");
     }
-    Ok(tree)
+    tree
 }
 
 #[test]
-fn trees_of_great_depth_are_run(rt: HostRuntime) -> Result<(), Fail> {
+fn trees_of_great_depth_are_run(rt: HostRuntime) {
     for is_front in [true, false] {
-        let range = leaning(rt.alloc(), 100_000, is_front)?.run()?;
+        let tree = leaning(&rt, rt.alloc(), 100_000, is_front);
+        let range = tree.run().expect(&rt, "a range");
         assert!(rt;
             (range.merges, range.depth) == (100_000, 100_000),
             "{is_front}"
         );
     }
-    Ok(())
 }

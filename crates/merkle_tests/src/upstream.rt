@@ -1,24 +1,25 @@
 //! Roots, file hashes and canonical subtrees that the crate `xet-core-structures` 1.5.2 itself computed.
 
-use std::alloc::{AllocError, Global};
-use std::test::Fail;
+use std::alloc::Global;
+use std::process::Abort;
 use test_support::texts::four_fields;
 use xet_hash::data_hash::{DataHash, MerkleHash, compute_data_hash};
 use xet_merkle::aggregated_hashes::{Node, file_hash, xorb_hash};
 use xet_merkle::merkle_hash_subtree::MerkleHashSubtree;
 
 // Returns nodes with the hashes of the seeds from `first` on.
-fn drawn_from(alloc: Global, first: u64, count: u64) -> Result<Vec<Node>, AllocError> {
+fn drawn_from(rt: &impl Abort, alloc: Global, first: u64, count: u64) -> Vec<Node> {
     let mut nodes = Vec::new(alloc);
     for i in 0..count {
         let hash = DataHash::random_from_seed(first.saturating_add(i));
-        nodes.push((hash, i.saturating_mul(977) % 9901 + 100))?;
+        let size = i.saturating_mul(977) % 9901 + 100;
+        nodes.push((hash, size)).expect(rt, "memory");
     }
-    Ok(nodes)
+    nodes
 }
 
 // Returns the nodes of a pattern, in which `|` is a natural cut.
-fn patterned(alloc: Global, pattern: &str) -> Result<Vec<Node>, AllocError> {
+fn patterned(rt: &impl Abort, alloc: Global, pattern: &str) -> Vec<Node> {
     let mut nodes = Vec::new(alloc);
     let mut size = 7u64;
     let mut number = 0u64;
@@ -28,45 +29,60 @@ fn patterned(alloc: Global, pattern: &str) -> Result<Vec<Node>, AllocError> {
         let last = number
             .saturating_mul(4)
             .saturating_add(u64::from(letter != '|'));
-        nodes.push((MerkleHash::from([number, twice, thrice, last]), size))?;
+        let hash = MerkleHash::from([number, twice, thrice, last]);
+        nodes.push((hash, size)).expect(rt, "memory");
         size = size.saturating_add(100);
     }
-    Ok(nodes)
+    nodes
 }
 
 // Returns the list of a row: a first seed, a comma and a count, or a pattern.
-fn list(alloc: Global, text: &str) -> Result<Vec<Node>, Fail> {
+fn list(rt: &impl Abort, alloc: Global, text: &str) -> Vec<Node> {
     match text.split_once(',') {
-        Some((first, count)) => Ok(drawn_from(alloc, first.parse()?, count.parse()?)?),
-        None => Ok(patterned(alloc, text)?),
+        Some((first, count)) => {
+            let first = first.parse().expect(rt, "a number");
+            let count = count.parse().expect(rt, "a number");
+            drawn_from(rt, alloc, first, count)
+        }
+        None => patterned(rt, alloc, text),
     }
 }
 
 // Returns the data hash of the JSON text of a list's subtree, which is open at both ends.
-fn hash_of_json(alloc: Global, nodes: &[Node]) -> Result<MerkleHash, Fail> {
-    let subtree = MerkleHashSubtree::from_chunks(alloc, false, nodes, false)?;
-    let text = subtree.to_json(alloc)?.to_string(alloc)?;
-    Ok(compute_data_hash(text.as_str().as_bytes()))
+fn hash_of_json(rt: &impl Abort, alloc: Global, nodes: &[Node]) -> MerkleHash {
+    let subtree = MerkleHashSubtree::from_chunks(alloc, false, nodes, false);
+    let json = subtree.expect(rt, "a subtree").to_json(alloc);
+    let text = json
+        .expect(rt, "memory")
+        .to_string(alloc)
+        .expect(rt, "memory");
+    compute_data_hash(text.as_str().as_bytes())
+}
+
+// Returns the hash with a text.
+fn hash(rt: &impl Abort, text: &str) -> MerkleHash {
+    DataHash::from_hex(text).expect(rt, "a hash")
 }
 
 // Returns whether the list of a row has its hashes.
-fn agrees(alloc: Global, row: &str) -> Result<bool, Fail> {
-    let (text, root, file, json) = four_fields(row, ' ')?;
-    let nodes = list(alloc, text)?;
-    let found = (xorb_hash(alloc, &nodes)?, file_hash(alloc, &nodes)?);
-    Ok(
-        found == (DataHash::from_hex(root)?, DataHash::from_hex(file)?)
-            && hash_of_json(alloc, &nodes)? == DataHash::from_hex(json)?,
-    )
+fn agrees(rt: &impl Abort, alloc: Global, row: &str) -> bool {
+    let (text, root, file, json) = match four_fields(row, ' ') {
+        Ok(fields) => fields,
+        Err(_) => panic!(rt; "a row without its fields"),
+    };
+    let nodes = list(rt, alloc, text);
+    let found_root = xorb_hash(alloc, &nodes).expect(rt, "a root");
+    let found_file = file_hash(alloc, &nodes).expect(rt, "a file hash");
+    (found_root, found_file) == (hash(rt, root), hash(rt, file))
+        && hash_of_json(rt, alloc, &nodes) == hash(rt, json)
 }
 
 #[test]
-fn lists_have_the_hashes_of_the_rust_crate(rt: HostRuntime) -> Result<(), Fail> {
+fn lists_have_the_hashes_of_the_rust_crate(rt: HostRuntime) {
     for row in LISTS.lines() {
-        assert!(rt; agrees(rt.alloc(), row)?, "{row}");
+        assert!(rt; agrees(&rt, rt.alloc(), row), "{row}");
     }
     assert!(rt; LISTS.lines().count() == 30);
-    Ok(())
 }
 
 // Each row has a list and what the Rust crate computes for it: the root, the file hash, and the data hash of the JSON text

@@ -2,8 +2,8 @@
 
 use rand_core::{Rng, SeedableRng};
 use rand_xoshiro::Xoshiro256PlusPlus;
-use std::alloc::{AllocError, Global};
-use std::test::Fail;
+use std::alloc::Global;
+use std::process::Abort;
 use test_support::drawn_list;
 use xet_merkle::aggregated_hashes::Node;
 use xet_merkle::merkle_hash_subtree::{find_stable_end, find_stable_start};
@@ -28,16 +28,18 @@ fn has_group_end(first: &[Node], second: &[Node], place: usize) -> bool {
 
 // Returns 20 random lists of each length from 1 to 20.
 fn drawn_lists(
+    rt: &impl Abort,
     generator: &mut Xoshiro256PlusPlus,
     alloc: Global,
-) -> Result<Vec<Vec<Node>>, AllocError> {
+) -> Vec<Vec<Node>> {
     let mut lists = Vec::new(alloc);
     for length in 1..21 {
         for _ in 0..20 {
-            lists.push(drawn_list(generator, alloc, length)?)?;
+            let list = drawn_list(generator, alloc, length).expect(rt, "memory");
+            lists.push(list).expect(rt, "memory");
         }
     }
-    Ok(lists)
+    lists
 }
 
 // Returns whether a group still ends at the first stable point of some nodes after each of some lists, and at the last
@@ -51,13 +53,13 @@ fn stay_group_ends(nodes: &[Node], start: usize, end: usize, others: &[Vec<Node>
 
 // How many of the 1000 lists have a stable point was computed without this code.
 #[test]
-fn stable_points_end_groups_among_drawn_nodes(rt: HostRuntime) -> Result<(), Fail> {
+fn stable_points_end_groups_among_drawn_nodes(rt: HostRuntime) {
     let mut generator = Xoshiro256PlusPlus::seed_from_u64(1);
-    let others = drawn_lists(&mut Xoshiro256PlusPlus::seed_from_u64(2), rt.alloc())?;
+    let others = drawn_lists(&rt, &mut Xoshiro256PlusPlus::seed_from_u64(2), rt.alloc());
     let mut count = 0usize;
     for number in 0..1000 {
         let length = generator.next_u64() % 85 + 15;
-        let nodes = drawn_list(&mut generator, rt.alloc(), length)?;
+        let nodes = drawn_list(&mut generator, rt.alloc(), length).expect(&rt, "memory");
         let nodes = nodes.as_slice();
         if let (Some(start), Some(end)) = (find_stable_start(nodes), find_stable_end(nodes)) {
             assert!(rt;
@@ -68,5 +70,4 @@ fn stable_points_end_groups_among_drawn_nodes(rt: HostRuntime) -> Result<(), Fai
         }
     }
     assert!(rt; count == 765);
-    Ok(())
 }

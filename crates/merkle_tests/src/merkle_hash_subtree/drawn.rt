@@ -1,11 +1,11 @@
 //! The subtrees of random lists: their roots, how much they keep, and what is read back from their JSON texts.
 
+use super::{read, written};
 use rand_core::{Rng, SeedableRng};
 use rand_xoshiro::Xoshiro256PlusPlus;
-use std::alloc::{AllocError, Global};
-use std::test::Fail;
-use test_support::{MARKS, drawn_list, ranges, read_json};
-use xet_merkle::CoreError;
+use std::alloc::Global;
+use std::process::Abort;
+use test_support::{MARKS, drawn_list, ranges};
 use xet_merkle::aggregated_hashes::{Node, xorb_hash};
 use xet_merkle::merkle_hash_subtree::MerkleHashSubtree;
 
@@ -26,114 +26,112 @@ fn is_within_bounds(subtree: &MerkleHashSubtree, chunks: usize) -> bool {
 }
 
 // Returns a subtree as it is read back from its JSON text.
-fn read_back(alloc: Global, subtree: &MerkleHashSubtree) -> Result<MerkleHashSubtree, Fail> {
-    let text = subtree.to_json(alloc)?.to_string(alloc)?;
-    Ok(read_json(alloc, text.as_str())??)
+fn read_back(rt: &impl Abort, alloc: Global, subtree: &MerkleHashSubtree) -> MerkleHashSubtree {
+    read(rt, alloc, written(rt, alloc, subtree).as_str())
 }
 
 // Returns whether the subtree of a list has its root, keeps no more than it may, and is read back.
 fn is_as_told(
+    rt: &impl Abort,
     alloc: Global,
     nodes: &[Node],
     (at_start, at_end): (bool, bool),
-) -> Result<bool, Fail> {
-    let subtree = MerkleHashSubtree::from_chunks(alloc, at_start, nodes, at_end)?;
-    let root = xorb_hash(alloc, nodes)?;
+) -> bool {
+    let subtree = MerkleHashSubtree::from_chunks(alloc, at_start, nodes, at_end);
+    let subtree = subtree.expect(rt, "a subtree");
+    let root = xorb_hash(alloc, nodes).expect(rt, "a root");
     let has_root = subtree.final_hash() == (at_start && at_end).then_some(root);
-    let is_read = read_back(alloc, &subtree)? == subtree;
-    Ok(has_root && is_read && is_within_bounds(&subtree, nodes.len()))
+    let is_read = read_back(rt, alloc, &subtree) == subtree;
+    has_root && is_read && is_within_bounds(&subtree, nodes.len())
 }
 
 #[test]
-fn subtrees_of_drawn_lists_are_small_and_read_back(rt: HostRuntime) -> Result<(), Fail> {
+fn subtrees_of_drawn_lists_are_small_and_read_back(rt: HostRuntime) {
     let mut generator = Xoshiro256PlusPlus::seed_from_u64(3);
     for length in (0..=30).chain([50, 100, 200, 500, 1000, 5000]) {
-        let nodes = drawn_list(&mut generator, rt.alloc(), length)?;
+        let nodes = drawn_list(&mut generator, rt.alloc(), length).expect(&rt, "memory");
         for marks in MARKS {
             assert!(rt;
-                is_as_told(rt.alloc(), &nodes, marks)?,
+                is_as_told(&rt, rt.alloc(), &nodes, marks),
                 "{length} {marks:?}"
             );
         }
     }
-    Ok(())
 }
 
 // Returns whether the ranges of a list, merged from the left, stay within the bounds on nodes, levels and parents.
 // The ranges have the given lengths.
-fn merge_within_bounds(
-    alloc: Global,
-    nodes: &[Node],
-    lengths: &[usize],
-) -> Result<bool, CoreError> {
-    let ranges = ranges(alloc, nodes, lengths, (false, false))?;
-    let mut merged = MerkleHashSubtree::from_chunks(alloc, false, &[], false)?;
+fn merge_within_bounds(rt: &impl Abort, alloc: Global, nodes: &[Node], lengths: &[usize]) -> bool {
+    let ranges = ranges(alloc, nodes, lengths, (false, false)).expect(rt, "ranges");
+    let empty = MerkleHashSubtree::from_chunks(alloc, false, &[], false);
+    let mut merged = empty.expect(rt, "a subtree");
     let mut chunks = 0usize;
     for (range, length) in ranges.iter().zip(lengths.iter()) {
         let of_both = merged.num_nodes().saturating_add(range.num_nodes());
-        let parents = merged.merge_into_counted(range)?;
+        let parents = merged.merge_into_counted(range).expect(rt, "a subtree");
         let most = of_both.saturating_add(merged.num_levels().saturating_mul(2));
         chunks = chunks.saturating_add(*length).min(nodes.len());
         if parents.saturating_mul(2) > most as u128 || !is_within_bounds(&merged, chunks) {
-            return Ok(false);
+            return false;
         }
     }
-    Ok(chunks == nodes.len())
+    chunks == nodes.len()
 }
 
 // Returns random lengths from 10 to 49 that add up to at least `count`.
 fn short_lengths(
+    rt: &impl Abort,
     generator: &mut Xoshiro256PlusPlus,
     alloc: Global,
     count: u64,
-) -> Result<Vec<usize>, AllocError> {
+) -> Vec<usize> {
     let mut lengths = Vec::new(alloc);
     for _ in 0..count / 10 {
-        lengths.push((generator.next_u64() % 40 + 10) as usize)?;
+        let length = (generator.next_u64() % 40 + 10) as usize;
+        lengths.push(length).expect(rt, "memory");
     }
-    Ok(lengths)
+    lengths
 }
 
 #[test]
-fn merges_of_drawn_ranges_stay_within_the_bounds(rt: HostRuntime) -> Result<(), Fail> {
+fn merges_of_drawn_ranges_stay_within_the_bounds(rt: HostRuntime) {
     let mut generator = Xoshiro256PlusPlus::seed_from_u64(4);
     for length in [100, 200, 500, 1000, 2000] {
-        let nodes = drawn_list(&mut generator, rt.alloc(), length)?;
+        let nodes = drawn_list(&mut generator, rt.alloc(), length).expect(&rt, "memory");
         let halves = [nodes.len() / 2, nodes.len() / 2];
         assert!(rt;
-            merge_within_bounds(rt.alloc(), &nodes, &halves)?,
+            merge_within_bounds(&rt, rt.alloc(), &nodes, &halves),
             "{length}"
         );
-        let lengths = short_lengths(&mut generator, rt.alloc(), length)?;
+        let lengths = short_lengths(&rt, &mut generator, rt.alloc(), length);
         assert!(rt;
-            merge_within_bounds(rt.alloc(), &nodes, &lengths)?,
+            merge_within_bounds(&rt, rt.alloc(), &nodes, &lengths),
             "{length}"
         );
     }
-    Ok(())
 }
 
 // Returns whether the first nodes of a closed list and the others merge to one subtree, whether or not all three are
 // written and read in between.
-fn merge_when_read(alloc: Global, nodes: &[Node], first: usize) -> Result<bool, Fail> {
-    let ranges = ranges(alloc, nodes, &[first], (true, true))?;
+fn merge_when_read(rt: &impl Abort, alloc: Global, nodes: &[Node], first: usize) -> bool {
+    let ranges = ranges(alloc, nodes, &[first], (true, true)).expect(rt, "ranges");
     let [front, back] = ranges.as_slice() else {
-        return Ok(false);
+        return false;
     };
-    let mut merged = front.try_clone()?;
-    merged.merge_into(back)?;
-    let mut read = read_back(alloc, front)?;
-    read.merge_into(&read_back(alloc, back)?)?;
-    let root = read_back(alloc, &merged)?.final_hash();
-    Ok(read == merged && root == Some(xorb_hash(alloc, nodes)?))
+    let mut merged = front.try_clone().expect(rt, "memory");
+    merged.merge_into(back).expect(rt, "a subtree");
+    let mut read = read_back(rt, alloc, front);
+    read.merge_into(&read_back(rt, alloc, back))
+        .expect(rt, "a subtree");
+    let root = read_back(rt, alloc, &merged).final_hash();
+    read == merged && root == Some(xorb_hash(alloc, nodes).expect(rt, "a root"))
 }
 
 #[test]
-fn subtrees_that_were_read_merge_as_those_that_were_not(rt: HostRuntime) -> Result<(), Fail> {
+fn subtrees_that_were_read_merge_as_those_that_were_not(rt: HostRuntime) {
     let mut generator = Xoshiro256PlusPlus::seed_from_u64(5);
-    let nodes = drawn_list(&mut generator, rt.alloc(), 50)?;
+    let nodes = drawn_list(&mut generator, rt.alloc(), 50).expect(&rt, "memory");
     for first in 0..=nodes.len() {
-        assert!(rt; merge_when_read(rt.alloc(), &nodes, first)?, "{first}");
+        assert!(rt; merge_when_read(&rt, rt.alloc(), &nodes, first), "{first}");
     }
-    Ok(())
 }

@@ -1,33 +1,28 @@
 //! Merges subtrees that were read from JSON and come from no list. The expected texts were computed without this code.
 
+use super::{read, written};
 use std::alloc::Global;
-use std::test::Fail;
-use test_support::read_json;
-use xet_merkle::merkle_hash_subtree::MerkleHashSubtree;
-
-// Reads a subtree from a text.
-fn read(alloc: Global, text: &str) -> Result<MerkleHashSubtree, Fail> {
-    Ok(read_json(alloc, text)??)
-}
+use std::process::Abort;
 
 // Returns whether the subtrees of two texts merge to that of a third.
-fn merge_to(alloc: Global, front: &str, back: &str, expected: &str) -> Result<bool, Fail> {
-    let mut merged = read(alloc, front)?;
-    merged.merge_into(&read(alloc, back)?)?;
-    Ok(merged.to_json(alloc)?.to_string(alloc)?.as_str() == expected)
+fn merge_to(rt: &impl Abort, alloc: Global, front: &str, back: &str, expected: &str) -> bool {
+    let mut merged = read(rt, alloc, front);
+    merged
+        .merge_into(&read(rt, alloc, back))
+        .expect(rt, "a subtree");
+    written(rt, alloc, &merged).as_str() == expected
 }
 
 #[test]
-fn subtrees_of_no_list_merge_from_their_nodes(rt: HostRuntime) -> Result<(), Fail> {
+fn subtrees_of_no_list_merge_from_their_nodes(rt: HostRuntime) {
     let mut texts = TEXTS.lines();
     for number in 0..6 {
         let front = texts.next().unwrap_or("");
         let back = texts.next().unwrap_or("");
         let merged = texts.next().unwrap_or("");
-        assert!(rt; merge_to(rt.alloc(), front, back, merged)?, "{number}");
+        assert!(rt; merge_to(&rt, rt.alloc(), front, back, merged), "{number}");
     }
     assert!(rt; texts.next().is_none());
-    Ok(())
 }
 
 // For each merge the texts of a front and a back subtree, and the text of the merged one.

@@ -2,7 +2,7 @@
 
 use serde_json::Value;
 use std::alloc::Global;
-use std::test::Fail;
+use std::process::Abort;
 use test_support::NO_PAIRS;
 use xet_merkle::merkle_hash_subtree::MerkleHashSubtree;
 
@@ -15,23 +15,25 @@ fn is_refused(alloc: Global, text: &str) -> bool {
 }
 
 // Returns a text with a front and an end that are repeated.
-fn nested(alloc: Global, front: &str, end: &str) -> Result<String, Fail> {
-    let mut text = front.repeat(alloc, 100_000)?;
+fn nested(rt: &impl Abort, alloc: Global, front: &str, end: &str) -> String {
+    let mut text = front.repeat(alloc, 100_000).expect(rt, "memory");
     for _ in 0..100_000 {
-        text.push_str(end)?;
+        text.push_str(end).expect(rt, "memory");
     }
-    Ok(text)
+    text
 }
 
 #[test]
-fn texts_nested_deep_are_refused(rt: HostRuntime) -> Result<(), Fail> {
+fn texts_nested_deep_are_refused(rt: HostRuntime) {
     for (front, end) in [("[", ""), ("[", "]"), ("{\"levels\":", "")] {
         assert!(rt;
-            is_refused(rt.alloc(), &nested(rt.alloc(), front, end)?),
+            is_refused(rt.alloc(), &nested(&rt, rt.alloc(), front, end)),
             "{front}{end}"
         );
     }
-    let inside = NO_PAIRS.replace(rt.alloc(), "[]", &nested(rt.alloc(), "[", "]")?)?;
+    let list = nested(&rt, rt.alloc(), "[", "]");
+    let inside = NO_PAIRS
+        .replace(rt.alloc(), "[]", &list)
+        .expect(&rt, "memory");
     assert!(rt; is_refused(rt.alloc(), &inside));
-    Ok(())
 }

@@ -1,12 +1,13 @@
 //! The JSON values of 300 random subtrees, changed at random places, and the lowest rule that each of them breaks. The
 //! rules were computed without this code.
 
+use super::written;
 use rand_core::{Rng, SeedableRng};
 use rand_xoshiro::Xoshiro256PlusPlus;
 use serde_json::Value;
-use std::alloc::{AllocError, Global};
+use std::alloc::Global;
 use std::fmt::Write;
-use std::test::Fail;
+use std::process::Abort;
 use test_support::{MARKS, numbered_list, with_cut};
 use xet_merkle::CoreError;
 use xet_merkle::aggregated_hashes::Node;
@@ -46,34 +47,36 @@ fn place(generator: &mut Xoshiro256PlusPlus, len: usize) -> usize {
 }
 
 impl Parts {
-    fn of(alloc: Global, subtree: &MerkleHashSubtree) -> Result<Parts, AllocError> {
+    fn of(rt: &impl Abort, alloc: Global, subtree: &MerkleHashSubtree) -> Parts {
         let mut counts = Vec::new(alloc);
         let mut nodes = Vec::new(alloc);
         for level in 0..subtree.num_levels() {
-            counts.push((subtree.left(level).len(), subtree.right(level).len()))?;
-            nodes.extend_from_slice(subtree.left(level))?;
+            let (left, right) = (subtree.left(level), subtree.right(level));
+            counts.push((left.len(), right.len())).expect(rt, "memory");
+            nodes.extend_from_slice(left).expect(rt, "memory");
         }
         for level in (0..subtree.num_levels()).rev() {
-            nodes.extend_from_slice(subtree.right(level))?;
+            nodes
+                .extend_from_slice(subtree.right(level))
+                .expect(rt, "memory");
         }
-        Ok(Parts {
+        Parts {
             at_start: subtree.at_start(),
             at_end: subtree.at_end(),
             counts,
             nodes,
-        })
+        }
     }
 
     // Adds one more left node to a level: a copy of the node at a place.
-    fn add_node(&mut self, level: usize, place: usize) -> Result<(), AllocError> {
+    fn add_node(&mut self, rt: &impl Abort, level: usize, place: usize) {
         if let Some(count) = self.counts.get_mut(level)
             && let Some(node) = self.nodes.get(place)
         {
             count.0 = count.0.saturating_add(1);
             let node = *node;
-            self.nodes.insert(place, node)?;
+            self.nodes.insert(place, node).expect(rt, "memory");
         }
-        Ok(())
     }
 
     // Removes the node at a place from the left nodes of a level.
@@ -97,13 +100,13 @@ impl Parts {
     }
 
     // Changes something at a random place.
-    fn change(&mut self, generator: &mut Xoshiro256PlusPlus) -> Result<(), AllocError> {
+    fn change(&mut self, rt: &impl Abort, generator: &mut Xoshiro256PlusPlus) {
         let level = place(generator, self.counts.len());
         let place = place(generator, self.nodes.len());
         match generator.next_u64() % 10 {
             0 => self.at_start = !self.at_start,
             1 => self.at_end = !self.at_end,
-            2 => self.counts.push((0, 0))?,
+            2 => self.counts.push((0, 0)).expect(rt, "memory"),
             3 => {
                 self.counts.pop();
             }
@@ -113,7 +116,7 @@ impl Parts {
                 }
             }
             5 => self.move_node(level),
-            6 => self.add_node(level, place)?,
+            6 => self.add_node(rt, level, place),
             7 => self.remove_node(level, place),
             8 => {
                 if let Some(node) = self.nodes.get_mut(place) {
@@ -126,79 +129,81 @@ impl Parts {
                 }
             }
         }
-        Ok(())
     }
 
-    fn text(&self, alloc: Global) -> Result<String, Fail> {
+    fn text(&self, rt: &impl Abort, alloc: Global) -> String {
         let mut text = format!(in alloc;
             "{{\"at_end\":{},\"at_start\":{},\"levels\":[",
             self.at_end, self.at_start
-        )?;
+        )
+        .expect(rt, "memory");
         let mut comma = "";
         for (left, right) in &self.counts {
-            write!(text, "{comma}[{left},{right}]")?;
+            write!(text, "{comma}[{left},{right}]").expect(rt, "memory");
             comma = ",";
         }
-        write!(text, "],\"nodes\":[")?;
+        write!(text, "],\"nodes\":[").expect(rt, "memory");
         comma = "";
         for (hash, size) in &self.nodes {
-            write!(text, "{comma}{{\"hash\":\"{hash}\",\"size\":{size}}}")?;
+            write!(text, "{comma}{{\"hash\":\"{hash}\",\"size\":{size}}}").expect(rt, "memory");
             comma = ",";
         }
-        write!(text, "]}}")?;
-        Ok(text)
+        write!(text, "]}}").expect(rt, "memory");
+        text
     }
 }
 
 // Returns what the JSON value of the random subtree of a number says, with up to two changes.
 fn drawn_parts(
+    rt: &impl Abort,
     generator: &mut Xoshiro256PlusPlus,
     alloc: Global,
     number: u64,
-) -> Result<Parts, Fail> {
+) -> Parts {
     let (at_start, at_end) = MARKS[(generator.next_u64() % 4) as usize];
-    let chunks = numbered_list(alloc, number)?;
-    let subtree = MerkleHashSubtree::from_chunks(alloc, at_start, &chunks, at_end)?;
-    let mut parts = Parts::of(alloc, &subtree)?;
+    let chunks = numbered_list(alloc, number).expect(rt, "memory");
+    let subtree = MerkleHashSubtree::from_chunks(alloc, at_start, &chunks, at_end);
+    let mut parts = Parts::of(rt, alloc, &subtree.expect(rt, "a subtree"));
     for _ in 0..generator.next_u64() % 3 {
-        parts.change(generator)?;
+        parts.change(rt, generator);
     }
-    Ok(parts)
+    parts
 }
 
 // Returns the text of a number, and how it should print.
-fn drawn_texts(alloc: Global, number: u64) -> Result<(String, String), Fail> {
+fn drawn_texts(rt: &impl Abort, alloc: Global, number: u64) -> (String, String) {
     let mut generator = Xoshiro256PlusPlus::seed_from_u64(number.saturating_add(2000));
-    let printed = drawn_parts(&mut generator, alloc, number)?.text(alloc)?;
+    let printed = drawn_parts(rt, &mut generator, alloc, number).text(rt, alloc);
     let text = match SPELLINGS.get((generator.next_u64() % 24) as usize) {
-        Some((from, to)) => printed.replace(alloc, *from, to)?,
-        None => printed.clone()?,
+        Some((from, to)) => printed.replace(alloc, *from, to).expect(rt, "memory"),
+        None => printed.clone().expect(rt, "memory"),
     };
-    Ok((text, printed))
+    (text, printed)
 }
 
 // Returns the lowest rule that a text breaks, or 0 if reading it gives the subtree that prints as given.
-fn broken_rule(alloc: Global, text: &str, printed: &str) -> Result<Option<u8>, Fail> {
-    match MerkleHashSubtree::from_json(alloc, &Value::from_str(alloc, text)?) {
-        Ok(subtree) if subtree.to_json(alloc)?.to_string(alloc)?.as_str() == printed => Ok(Some(0)),
-        Err(CoreError::InvalidJson(rule)) => Ok(Some(rule)),
-        _ => Ok(None),
+fn broken_rule(rt: &impl Abort, alloc: Global, text: &str, printed: &str) -> Option<u8> {
+    let value = Value::from_str(alloc, text).expect(rt, "a JSON value");
+    match MerkleHashSubtree::from_json(alloc, &value) {
+        Ok(subtree) if written(rt, alloc, &subtree).as_str() == printed => Some(0),
+        Err(CoreError::InvalidJson(rule)) => Some(rule),
+        _ => None,
     }
 }
 
 // Returns whether the text of a number breaks a rule.
-fn breaks(alloc: Global, number: u64, rule: &str) -> Result<bool, Fail> {
-    let (text, printed) = drawn_texts(alloc, number)?;
-    Ok(broken_rule(alloc, &text, &printed)? == Some(rule.parse()?))
+fn breaks(rt: &impl Abort, alloc: Global, number: u64, rule: &str) -> bool {
+    let (text, printed) = drawn_texts(rt, alloc, number);
+    let rule = rule.parse().expect(rt, "a number");
+    broken_rule(rt, alloc, &text, &printed) == Some(rule)
 }
 
 #[test]
-fn changed_values_break_the_rules_that_they_should(rt: HostRuntime) -> Result<(), Fail> {
+fn changed_values_break_the_rules_that_they_should(rt: HostRuntime) {
     for (number, rule) in RULES.split_whitespace().enumerate() {
-        assert!(rt; breaks(rt.alloc(), number as u64, rule)?, "{number}");
+        assert!(rt; breaks(&rt, rt.alloc(), number as u64, rule), "{number}");
     }
     assert!(rt; RULES.split_whitespace().count() == 300);
-    Ok(())
 }
 
 // The expected rules, from number 0 on. 0 means that no rule is broken.

@@ -2,26 +2,25 @@
 //! at every level, as the definition says.
 
 use std::alloc::Global;
-use std::test::Fail;
+use std::process::Abort;
 use test_support::{MARKS, numbered_list, summary};
-use xet_merkle::CoreError;
 use xet_merkle::merkle_hash_subtree::MerkleHashSubtree;
 
 // Returns whether the subtree of a number's list has a summary.
-fn has_summary(alloc: Global, number: usize, expected: &str) -> Result<bool, CoreError> {
+fn has_summary(rt: &impl Abort, alloc: Global, number: usize, expected: &str) -> bool {
     let (at_start, at_end) = MARKS[number % 4];
-    let chunks = numbered_list(alloc, number as u64)?;
-    let subtree = MerkleHashSubtree::from_chunks(alloc, at_start, &chunks, at_end)?;
-    Ok(summary(alloc, &subtree)?.as_str() == expected)
+    let chunks = numbered_list(alloc, number as u64).expect(rt, "memory");
+    let subtree = MerkleHashSubtree::from_chunks(alloc, at_start, &chunks, at_end);
+    let summary = summary(alloc, &subtree.expect(rt, "a subtree"));
+    summary.expect(rt, "memory").as_str() == expected
 }
 
 #[test]
-fn levels_are_those_of_whole_lists(rt: HostRuntime) -> Result<(), Fail> {
+fn levels_are_those_of_whole_lists(rt: HostRuntime) {
     for (number, expected) in SUMMARIES.lines().enumerate() {
-        assert!(rt; has_summary(rt.alloc(), number, expected)?, "{number}");
+        assert!(rt; has_summary(&rt, rt.alloc(), number, expected), "{number}");
     }
     assert!(rt; SUMMARIES.lines().count() == 300);
-    Ok(())
 }
 
 // The expected summaries, one per line, from list 0 on.

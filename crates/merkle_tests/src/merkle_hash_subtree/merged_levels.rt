@@ -4,56 +4,56 @@
 use rand_core::{Rng, SeedableRng};
 use rand_xoshiro::Xoshiro256PlusPlus;
 use std::alloc::Global;
-use std::test::Fail;
+use std::process::Abort;
 use test_support::{MARKS, drawn_lengths, merge_into_previous, numbered_list, ranges, summary};
-use xet_merkle::CoreError;
 use xet_merkle::merkle_hash_subtree::MerkleHashSubtree;
 
 // Merges two neighbouring ranges at a random place until one range is left.
 fn merge_at_drawn_places(
+    rt: &impl Abort,
     generator: &mut Xoshiro256PlusPlus,
     ranges: &mut Vec<MerkleHashSubtree>,
-) -> Result<(), CoreError> {
+) {
     for others in (1..ranges.len()).rev() {
         let place = (generator.next_u64() % others as u64).saturating_add(1) as usize;
-        merge_into_previous(ranges, place)?;
+        merge_into_previous(ranges, place).expect(rt, "a subtree");
     }
-    Ok(())
 }
 
 // Returns random ranges of the list of a number.
 fn drawn_ranges(
+    rt: &impl Abort,
     generator: &mut Xoshiro256PlusPlus,
     alloc: Global,
     number: u64,
-) -> Result<Vec<MerkleHashSubtree>, Fail> {
-    let chunks = numbered_list(alloc, number.saturating_add(300))?;
+) -> Vec<MerkleHashSubtree> {
+    let chunks = numbered_list(alloc, number.saturating_add(300)).expect(rt, "memory");
     let marks = MARKS[(generator.next_u64() % 4) as usize];
-    let lengths = drawn_lengths(generator, alloc, chunks.len() as u64)?;
-    Ok(ranges(alloc, &chunks, &lengths, marks)?)
+    let lengths = drawn_lengths(generator, alloc, chunks.len() as u64).expect(rt, "memory");
+    ranges(alloc, &chunks, &lengths, marks).expect(rt, "ranges")
 }
 
 // Returns whether the ranges of a number are merged to a subtree with these outer marks and this summary.
-fn are_merged_to(alloc: Global, number: u64, expected: &str) -> Result<bool, Fail> {
+fn are_merged_to(rt: &impl Abort, alloc: Global, number: u64, expected: &str) -> bool {
     let mut generator = Xoshiro256PlusPlus::seed_from_u64(number.saturating_add(1000));
-    let mut ranges = drawn_ranges(&mut generator, alloc, number)?;
-    merge_at_drawn_places(&mut generator, &mut ranges)?;
-    let merged = ranges.first().ok_or("no range")?;
+    let mut ranges = drawn_ranges(rt, &mut generator, alloc, number);
+    merge_at_drawn_places(rt, &mut generator, &mut ranges);
+    let merged = ranges.first().expect(rt, "a range");
     let (at_start, at_end) = (merged.at_start(), merged.at_end());
-    let summary = summary(alloc, merged)?;
-    Ok(format!(in alloc; "{at_start},{at_end} {summary}")?.as_str() == expected)
+    let summary = summary(alloc, merged).expect(rt, "memory");
+    let found = format!(in alloc; "{at_start},{at_end} {summary}");
+    found.expect(rt, "memory").as_str() == expected
 }
 
 #[test]
-fn merged_levels_are_those_of_whole_lists(rt: HostRuntime) -> Result<(), Fail> {
+fn merged_levels_are_those_of_whole_lists(rt: HostRuntime) {
     for (number, expected) in SUMMARIES.lines().enumerate() {
         assert!(rt;
-            are_merged_to(rt.alloc(), number as u64, expected)?,
+            are_merged_to(&rt, rt.alloc(), number as u64, expected),
             "{number}"
         );
     }
     assert!(rt; SUMMARIES.lines().count() == 300);
-    Ok(())
 }
 
 // The expected summaries, one per line, from number 0 on.

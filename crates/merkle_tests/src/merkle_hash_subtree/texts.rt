@@ -1,39 +1,42 @@
 //! The compact JSON texts of canonical and merged subtrees, for lists with given natural cuts. The expected texts were
 //! made without this code.
 
+use super::{read, written};
 use std::alloc::Global;
-use std::test::Fail;
+use std::process::Abort;
 use test_support::texts::three_fields;
-use test_support::{merge_into_previous, read_json, told_ranges};
+use test_support::{merge_into_previous, told_ranges};
 use xet_merkle::merkle_hash_subtree::MerkleHashSubtree;
 
 // Merges ranges at places, one after another.
-fn merge_at(ranges: &mut Vec<MerkleHashSubtree>, places: &str) -> Result<(), Fail> {
+fn merge_at(rt: &impl Abort, ranges: &mut Vec<MerkleHashSubtree>, places: &str) {
     for place in places.split(',') {
         if place != "-" {
-            merge_into_previous(ranges, place.parse()?)?;
+            let place = place.parse().expect(rt, "a number");
+            merge_into_previous(ranges, place).expect(rt, "a subtree");
         }
     }
-    Ok(())
 }
 
 // Returns whether the subtree that a row's ranges are merged to has its text, and is read from it.
-fn has_text(alloc: Global, row: &str) -> Result<bool, Fail> {
-    let (ranges, places, expected) = three_fields(row, ' ')?;
-    let mut ranges = told_ranges(alloc, ranges)?;
-    merge_at(&mut ranges, places)?;
-    let merged = ranges.first().ok_or("no range")?;
-    let is_read = read_json(alloc, expected)?? == *merged;
-    Ok(is_read && merged.to_json(alloc)?.to_string(alloc)?.as_str() == expected)
+fn has_text(rt: &impl Abort, alloc: Global, row: &str) -> bool {
+    let (ranges, places, expected) = match three_fields(row, ' ') {
+        Ok(fields) => fields,
+        Err(_) => panic!(rt; "a row without its fields"),
+    };
+    let mut ranges = told_ranges(alloc, ranges).expect(rt, "ranges");
+    merge_at(rt, &mut ranges, places);
+    let merged = ranges.first().expect(rt, "a range");
+    let is_read = read(rt, alloc, expected) == *merged;
+    is_read && written(rt, alloc, merged).as_str() == expected
 }
 
 #[test]
-fn subtrees_have_the_texts_of_the_definition(rt: HostRuntime) -> Result<(), Fail> {
+fn subtrees_have_the_texts_of_the_definition(rt: HostRuntime) {
     for row in ROWS.lines() {
-        assert!(rt; has_text(rt.alloc(), row)?, "{row}");
+        assert!(rt; has_text(&rt, rt.alloc(), row), "{row}");
     }
     assert!(rt; ROWS.lines().count() == 13);
-    Ok(())
 }
 
 // Each row has ranges, the places at which two of them are merged, one after another, and the text of the resulting
