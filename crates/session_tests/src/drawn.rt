@@ -3,7 +3,7 @@
 use rand_core::{Rng, SeedableRng};
 use rand_xoshiro::Xoshiro256PlusPlus;
 use std::alloc::Global;
-use std::test::Fail;
+use std::process::Abort;
 use upload_session::session::SessionOf;
 use upload_session::session_fault::SessionFault;
 use xet_hash::data_hash::DataHash;
@@ -123,24 +123,27 @@ fn are_put<C: ChunkRange<Alloc = Global>>(
 }
 
 // Returns whether a random session returns what the model does, and in the end the file hash of the list.
-fn is_as_the_model<C: ChunkRange<Alloc = Global>>(alloc: Global, seed: u64) -> Result<bool, Fail> {
+fn is_as_the_model<C: ChunkRange<Alloc = Global>>(
+    rt: &impl Abort,
+    alloc: Global,
+    seed: u64,
+) -> bool {
     let mut generator = Xoshiro256PlusPlus::seed_from_u64(seed);
     let mut plain = Plain::drawn(&mut generator);
     let chunks = plain.chunks();
-    let file = file_hash(alloc, &chunks)?;
+    let file = file_hash(alloc, &chunks).expect(rt, "a file hash");
     let mut session: SessionOf<C> = SessionOf::new(alloc);
     let agree = are_put(&mut generator, &mut session, &mut plain, &chunks);
-    Ok(agree && session.finish(POSITIONS as u64) == Ok(file))
+    agree && session.finish(POSITIONS as u64) == Ok(file)
 }
 
 #[test]
-fn drawn_sessions_answer_as_a_plain_model_does(rt: HostRuntime) -> Result<(), Fail> {
+fn drawn_sessions_answer_as_a_plain_model_does(rt: HostRuntime) {
     for seed in 0..100 {
         let agree = (
-            is_as_the_model::<MerkleHashSubtree>(rt.alloc(), seed)?,
-            is_as_the_model::<PlainRange>(rt.alloc(), seed)?,
+            is_as_the_model::<MerkleHashSubtree>(&rt, rt.alloc(), seed),
+            is_as_the_model::<PlainRange>(&rt, rt.alloc(), seed),
         );
         assert!(rt; agree == (true, true), "{seed}");
     }
-    Ok(())
 }

@@ -1,17 +1,16 @@
 //! Sessions that test what no contract says: worked examples with the results of other implementations, many runs and
 //! positions, and printed texts.
 
-use std::alloc::{AllocError, Global};
+use std::alloc::Global;
 use std::fmt::Display;
-use std::test::Fail;
+use std::process::Abort;
 use std::vec::Vec;
 use subtree_sessions::session::Session;
-use test_support::texts::{four_fields, two_fields};
+use test_support::texts::four_fields;
 use upload_session::kept_hashes::{KeptHashes, NoHashes, SeenHashes};
 use upload_session::session::SessionOf;
 use upload_session::session_fault::SessionFault;
 use xet_hash::data_hash::{DataHash, MerkleHash};
-use xet_merkle::CoreError;
 use xet_merkle::aggregated_hashes::{Node, file_hash};
 use xet_merkle::chunk_range::ChunkRange;
 use xet_merkle::merkle_hash_subtree::MerkleHashSubtree;
@@ -43,74 +42,90 @@ fn node(seed: u64, size: u64) -> Node {
     (DataHash::random_from_seed(seed), size)
 }
 
+// Returns the number with a text.
+fn to_number(rt: &impl Abort, text: &str) -> u64 {
+    text.parse().expect(rt, "a number")
+}
+
 // Returns the chunks of a call. `-` is none.
-fn nodes(alloc: Global, chunks: &str) -> Result<Vec<Node>, Fail> {
+fn nodes(rt: &impl Abort, alloc: Global, chunks: &str) -> Vec<Node> {
     let mut nodes = Vec::new(alloc);
     for chunk in chunks.split(',') {
         if chunk != "-" {
-            let (seed, size) = two_fields(chunk, ':')?;
-            nodes.push(node(seed.parse()?, size.parse()?))?;
+            let (seed, size) = chunk.split_once(':').expect(rt, "a size");
+            let node = node(to_number(rt, seed), to_number(rt, size));
+            nodes.push(node).expect(rt, "memory");
         }
     }
-    Ok(nodes)
+    nodes
 }
 
 // Returns a result as text, or the name of a fault.
 fn text_of<T: Display + Drop>(
+    rt: &impl Abort,
     alloc: Global,
     answer: Result<T, SessionFault>,
-) -> Result<String, Fail> {
-    match answer {
-        Ok(value) => Ok(format!(in alloc; "{value}")?),
-        Err(fault) => Ok(format!(in alloc; "{fault:?}")?),
-    }
+) -> String {
+    let text = match answer {
+        Ok(value) => format!(in alloc; "{value}"),
+        Err(fault) => format!(in alloc; "{fault:?}"),
+    };
+    text.expect(rt, "memory")
 }
 
 // Pushes a run with its first and its last position. Its range is of these chunks, however many positions there are.
 fn push<C: ChunkRange<Alloc = Global>, H: KeptHashes<Global>>(
+    rt: &impl Abort,
     alloc: Global,
     session: &mut SessionOf<C, H>,
     positions: &str,
     chunks: &[Node],
-) -> Result<String, Fail> {
-    let (first, last) = two_fields(positions, '-')?;
-    let end = last.parse::<u64>()?.saturating_add(1);
-    let range = C::from_chunks(alloc, false, chunks, false)?;
-    session.push_run(first.parse()?, end, range)?;
-    Ok(format!(in alloc; "pushed")?)
+) -> String {
+    let (first, last) = positions.split_once('-').expect(rt, "a last position");
+    let end = to_number(rt, last).saturating_add(1);
+    let range = C::from_chunks(alloc, false, chunks, false).expect(rt, "a range");
+    session
+        .push_run(to_number(rt, first), end, range)
+        .expect(rt, "a run");
+    format!(in alloc; "pushed").expect(rt, "memory")
 }
 
 // Makes a call, and returns its result as text.
 fn answer<C: ChunkRange<Alloc = Global>, H: KeptHashes<Global>>(
+    rt: &impl Abort,
     alloc: Global,
     session: &mut SessionOf<C, H>,
     (word, number, chunks): (&str, &str, &str),
-) -> Result<String, Fail> {
-    let chunks = nodes(alloc, chunks)?;
+) -> String {
+    let chunks = nodes(rt, alloc, chunks);
     match word {
-        "put" => text_of(alloc, session.put(number.parse()?, &chunks)),
-        "push" => push(alloc, session, number, &chunks),
+        "put" => text_of(rt, alloc, session.put(to_number(rt, number), &chunks)),
+        "push" => push(rt, alloc, session, number, &chunks),
         "keep" => {
-            session.keep_hashes(&chunks)?;
-            Ok(format!(in alloc; "kept")?)
+            session.keep_hashes(&chunks).expect(rt, "memory");
+            format!(in alloc; "kept").expect(rt, "memory")
         }
-        "taken" => text_of(alloc, Ok(session.taken(number.parse()?))),
-        "finish" => text_of(alloc, session.finish(number.parse()?)),
-        _ => text_of(alloc, session.root(number.parse()?)),
+        "taken" => text_of(rt, alloc, Ok(session.taken(to_number(rt, number)))),
+        "finish" => text_of(rt, alloc, session.finish(to_number(rt, number))),
+        _ => text_of(rt, alloc, session.root(to_number(rt, number))),
     }
 }
 
 // Returns whether a call returns what it should. `counts` says whether the number of new hashes is compared.
 fn is_answered<C: ChunkRange<Alloc = Global>, H: KeptHashes<Global>>(
+    rt: &impl Abort,
     alloc: Global,
     session: &mut SessionOf<C, H>,
     call: &str,
     counts: bool,
-) -> Result<bool, Fail> {
-    let (word, number, chunks, expected) = four_fields(call, ' ')?;
-    let answer = answer(alloc, session, (word, number, chunks))?;
+) -> bool {
+    let (word, number, chunks, expected) = match four_fields(call, ' ') {
+        Ok(fields) => fields,
+        Err(_) => panic!(rt; "a call without its fields"),
+    };
+    let answer = answer(rt, alloc, session, (word, number, chunks));
     let is_any = !counts && word == "put" && is_number(&answer) && is_number(expected);
-    Ok(is_any || answer.as_str() == expected)
+    is_any || answer.as_str() == expected
 }
 
 fn is_number(text: &str) -> bool {
@@ -119,45 +134,46 @@ fn is_number(text: &str) -> bool {
 
 // Returns whether the calls of a row return what they should.
 fn answers<C: ChunkRange<Alloc = Global>, H: KeptHashes<Global>>(
+    rt: &impl Abort,
     alloc: Global,
     session: &mut SessionOf<C, H>,
     row: &str,
     counts: bool,
-) -> Result<bool, Fail> {
+) -> bool {
     for call in row.split(';') {
-        if !is_answered(alloc, session, call, counts)? {
-            return Ok(false);
+        if !is_answered(rt, alloc, session, call, counts) {
+            return false;
         }
     }
-    Ok(true)
+    true
 }
 
 // Returns whether the calls of a row return what they should in a new session.
 fn new_session_answers<C: ChunkRange<Alloc = Global>, H: KeptHashes<Global>>(
+    rt: &impl Abort,
     alloc: Global,
     row: &str,
     counts: bool,
-) -> Result<bool, Fail> {
+) -> bool {
     let mut session: SessionOf<C, H> = SessionOf::new(alloc);
-    answers(alloc, &mut session, row, counts)
+    answers(rt, alloc, &mut session, row, counts)
 }
 
 #[test]
-fn sessions_answer_as_other_implementations_do(rt: HostRuntime) -> Result<(), Fail> {
+fn sessions_answer_as_other_implementations_do(rt: HostRuntime) {
     let alloc = rt.alloc();
     for row in SESSIONS.lines() {
         let are_right = [
-            new_session_answers::<MerkleHashSubtree, SeenHashes>(alloc, row, true)?,
-            new_session_answers::<PlainRange, SeenHashes>(alloc, row, true)?,
-            new_session_answers::<MerkleHashSubtree, NoHashes>(alloc, row, false)?,
+            new_session_answers::<MerkleHashSubtree, SeenHashes>(&rt, alloc, row, true),
+            new_session_answers::<PlainRange, SeenHashes>(&rt, alloc, row, true),
+            new_session_answers::<MerkleHashSubtree, NoHashes>(&rt, alloc, row, false),
         ];
         assert!(rt; are_right == [true; 3], "{row}");
     }
-    Ok(())
 }
 
 #[test]
-fn chunks_are_put_in_any_order(rt: HostRuntime) -> Result<(), Fail> {
+fn chunks_are_put_in_any_order(rt: HostRuntime) {
     let (first, second, third) = (node(1, 100), node(2, 200), node(3, 300));
     let mut session: Session = SessionOf::new(rt.alloc());
     let early = [
@@ -170,34 +186,38 @@ fn chunks_are_put_in_any_order(rt: HostRuntime) -> Result<(), Fail> {
     assert!(rt; session.taken(2) && !session.taken(3));
     assert!(rt; session.finish(4) == Err(SessionFault::Gap));
     assert!(rt; session.put(3, &[first]) == Ok(0));
-    let file = file_hash(rt.alloc(), &[first, second, third, first, third])?;
+    let chunks = [first, second, third, first, third];
+    let file = file_hash(rt.alloc(), &chunks).expect(&rt, "a file hash");
     assert!(rt; session.finish(5) == Ok(file));
-    Ok(())
 }
 
 // Returns whether a range of a session is the subtree of some chunks, from a position on.
 fn lends(
+    rt: &impl Abort,
     alloc: Global,
     session: &Session,
     i: usize,
     first: u64,
     chunks: &str,
-) -> Result<bool, Fail> {
-    let chunks = nodes(alloc, chunks)?;
-    let subtree = MerkleHashSubtree::from_chunks(alloc, false, &chunks, false)?;
-    Ok(match session.range(i) {
+) -> bool {
+    let chunks = nodes(rt, alloc, chunks);
+    let subtree = MerkleHashSubtree::from_chunks(alloc, false, &chunks, false);
+    let subtree = subtree.expect(rt, "a subtree");
+    match session.range(i) {
         Some((position, range)) => position == first && *range == subtree,
         None => false,
-    })
+    }
 }
 
 // Returns a session with two runs, of three chunks and of one.
-fn of_two_runs(alloc: Global) -> Result<Session, SessionFault> {
+fn of_two_runs(rt: &impl Abort, alloc: Global) -> Session {
     let mut session: Session = SessionOf::new(alloc);
-    session.put(2, &[node(3, 300)])?;
-    session.put(7, &[node(4, 400)])?;
-    session.put(0, &[node(1, 100), node(2, 200)])?;
-    Ok(session)
+    session.put(2, &[node(3, 300)]).expect(rt, "a number");
+    session.put(7, &[node(4, 400)]).expect(rt, "a number");
+    session
+        .put(0, &[node(1, 100), node(2, 200)])
+        .expect(rt, "a number");
+    session
 }
 
 // Returns where the first run begins and ends that ends after a position.
@@ -225,46 +245,45 @@ fn has_two_runs(session: &Session) -> bool {
 }
 
 #[test]
-fn a_session_lends_the_ranges_of_its_runs(rt: HostRuntime) -> Result<(), Fail> {
-    let session = of_two_runs(rt.alloc())?;
+fn a_session_lends_the_ranges_of_its_runs(rt: HostRuntime) {
+    let session = of_two_runs(&rt, rt.alloc());
     assert!(rt; has_two_runs(&session));
-    assert!(rt; lends(rt.alloc(), &session, 0, 0, "1:100,2:200,3:300")?);
-    assert!(rt; lends(rt.alloc(), &session, 1, 7, "4:400")?);
+    assert!(rt; lends(&rt, rt.alloc(), &session, 0, 0, "1:100,2:200,3:300"));
+    assert!(rt; lends(&rt, rt.alloc(), &session, 1, 7, "4:400"));
     let mut joined: Session = SessionOf::new(rt.alloc());
     assert!(rt; joined.put(2, &[node(3, 300)]) == Ok(1));
     assert!(rt; joined.put(0, &[node(1, 100), node(2, 200)]) == Ok(2));
-    assert!(rt; lends(rt.alloc(), &joined, 0, 0, "1:100,2:200,3:300")?);
+    assert!(rt; lends(&rt, rt.alloc(), &joined, 0, 0, "1:100,2:200,3:300"));
     assert!(rt; joined.range(1).is_none());
-    Ok(())
 }
 
 // Adds the runs of a session to another one.
-fn push_runs(restored: &mut Session, session: &Session) -> Result<(), CoreError> {
+fn push_runs(rt: &impl Abort, restored: &mut Session, session: &Session) {
     let mut position = 0;
     for _ in 0..session.num_runs() {
         if let Some((first, end, range)) = session.run_from(position) {
-            restored.push_run(first, end, range.try_clone()?)?;
+            let range = range.try_clone().expect(rt, "memory");
+            restored.push_run(first, end, range).expect(rt, "a run");
             position = end;
         }
     }
-    Ok(())
 }
 
 // Keeps the hashes that a session knows in another one.
-fn keep_known(alloc: Global, restored: &mut Session, session: &Session) -> Result<(), AllocError> {
+fn keep_known(rt: &impl Abort, alloc: Global, restored: &mut Session, session: &Session) {
     let mut known = Vec::new(alloc);
-    for hash in &session.known_hashes()? {
-        known.push((*hash, 0))?;
+    for hash in &session.known_hashes().expect(rt, "memory") {
+        known.push((*hash, 0)).expect(rt, "memory");
     }
-    restored.keep_hashes(&known)
+    restored.keep_hashes(&known).expect(rt, "memory");
 }
 
 // Returns a session with the runs and the hashes of another one.
-fn restored(alloc: Global, session: &Session) -> Result<Session, CoreError> {
+fn restored(rt: &impl Abort, alloc: Global, session: &Session) -> Session {
     let mut restored: Session = SessionOf::new(alloc);
-    push_runs(&mut restored, session)?;
-    keep_known(alloc, &mut restored, session)?;
-    Ok(restored)
+    push_runs(rt, &mut restored, session);
+    keep_known(rt, alloc, &mut restored, session);
+    restored
 }
 
 // More positions than 2^20.
@@ -272,30 +291,29 @@ const POSITIONS: u64 = 1_048_577;
 
 // Returns whether a session answers for so many positions. It takes the caller's word for the number of chunks of a
 // pushed run, so one chunk is enough.
-fn answers_for_many_positions(alloc: Global) -> Result<bool, Fail> {
-    let chunk = node(1, 100);
-    let range = MerkleHashSubtree::from_chunks(alloc, false, &[chunk], false)?;
+fn answers_for_many_positions(rt: &impl Abort, alloc: Global) -> bool {
+    let chunks = [node(1, 100)];
+    let range = MerkleHashSubtree::from_chunks(alloc, false, &chunks, false);
     let mut session: Session = SessionOf::new(alloc);
-    session.push_run(0, POSITIONS, range)?;
-    let file = file_hash(alloc, &[chunk])?;
-    Ok(
-        session.hashes(POSITIONS) == Ok((chunk.0, file))
-            && session.root(POSITIONS) == Ok(chunk.0)
-            && session.finish(POSITIONS) == Ok(file),
-    )
+    let range = range.expect(rt, "a subtree");
+    session.push_run(0, POSITIONS, range).expect(rt, "a run");
+    let file = file_hash(alloc, &chunks).expect(rt, "a file hash");
+    let [(root, _)] = chunks;
+    session.hashes(POSITIONS) == Ok((root, file))
+        && session.root(POSITIONS) == Ok(root)
+        && session.finish(POSITIONS) == Ok(file)
 }
 
 #[test]
-fn a_saved_session_is_restored(rt: HostRuntime) -> Result<(), Fail> {
-    let mut session = of_two_runs(rt.alloc())?;
-    let mut restored = restored(rt.alloc(), &session)?;
+fn a_saved_session_is_restored(rt: HostRuntime) {
+    let mut session = of_two_runs(&rt, rt.alloc());
+    let mut restored = restored(&rt, rt.alloc(), &session);
     assert!(rt; session.num_known_hashes() == 4 && restored.num_known_hashes() == 4);
     let rest = "put 3 4:400,5:500,1:100,6:600 2";
-    assert!(rt; answers(rt.alloc(), &mut session, rest, true)?);
-    assert!(rt; answers(rt.alloc(), &mut restored, rest, true)?);
+    assert!(rt; answers(&rt, rt.alloc(), &mut session, rest, true));
+    assert!(rt; answers(&rt, rt.alloc(), &mut restored, rest, true));
     assert!(rt; restored.finish(8) == session.finish(8) && restored.finish(8).is_ok());
-    assert!(rt; answers_for_many_positions(rt.alloc())?);
-    Ok(())
+    assert!(rt; answers_for_many_positions(&rt, rt.alloc()));
 }
 
 // How many runs of one chunk a session has. A free position is left after each.
@@ -307,12 +325,15 @@ fn numbered(number: u64) -> Node {
 }
 
 // Returns a session of so many runs.
-fn of_many_runs(alloc: Global) -> Result<Session, SessionFault> {
+fn of_many_runs(rt: &impl Abort, alloc: Global) -> Session {
     let mut session: Session = SessionOf::new(alloc);
     for number in 0..RUNS {
-        session.put(number.saturating_mul(2), &[numbered(number)])?;
+        let chunks = [numbered(number)];
+        session
+            .put(number.saturating_mul(2), &chunks)
+            .expect(rt, "a number");
     }
-    Ok(session)
+    session
 }
 
 // Returns whether two sessions have the same run from a position on, or the next one after it.
@@ -340,15 +361,14 @@ fn goes_on(session: &Session, mut other: Session) -> bool {
 }
 
 #[test]
-fn a_session_of_many_runs_is_saved_restored_and_copied(rt: HostRuntime) -> Result<(), Fail> {
-    let session = of_many_runs(rt.alloc())?;
-    assert!(rt; goes_on(&session, restored(rt.alloc(), &session)?));
-    assert!(rt; goes_on(&session, session.try_clone()?));
-    Ok(())
+fn a_session_of_many_runs_is_saved_restored_and_copied(rt: HostRuntime) {
+    let session = of_many_runs(&rt, rt.alloc());
+    assert!(rt; goes_on(&session, restored(&rt, rt.alloc(), &session)));
+    assert!(rt; goes_on(&session, session.try_clone().expect(&rt, "memory")));
 }
 
 #[test]
-fn faults_print_what_was_wrong(rt: HostRuntime) -> Result<(), Fail> {
+fn faults_print_what_was_wrong(rt: HostRuntime) {
     let texts = [
         (SessionFault::Overlap, "a position is taken"),
         (SessionFault::Positions, "positions past 2^64 - 1"),
@@ -360,7 +380,7 @@ fn faults_print_what_was_wrong(rt: HostRuntime) -> Result<(), Fail> {
         ),
     ];
     for (fault, text) in &texts {
-        assert!(rt; format!(in rt.alloc(); "{fault}")?.as_str() == *text);
+        let printed = format!(in rt.alloc(); "{fault}").expect(&rt, "memory");
+        assert!(rt; printed.as_str() == *text);
     }
-    Ok(())
 }
