@@ -4,7 +4,7 @@
 //! this process runs out. The sanitizer of `rt try` grants small blocks without end, so these tests fail there.
 
 use std::alloc::Global;
-use std::test::Fail;
+use std::process::Abort;
 
 type Blocks = Vec<Vec<u8>>;
 
@@ -34,51 +34,50 @@ pub(crate) struct Memory {
 }
 
 // Takes blocks of a size for as long as they are granted.
-fn take(alloc: Global, size: usize, blocks: &mut Blocks) -> Result<(), Fail> {
+fn take(rt: &impl Abort, alloc: Global, size: usize, blocks: &mut Blocks) {
     for _ in 0..MOST_BLOCKS {
         let Ok(block) = Vec::with_capacity(alloc, size) else {
-            return Ok(());
+            return;
         };
         if blocks.len() >= MOST_BLOCKS {
             break;
         }
-        blocks.push(block)?;
+        blocks.push(block).expect(rt, "room for a block");
     }
-    Err("this memory can't be used up")?
+    panic!(rt; "this memory can't be used up")
 }
 
 // Takes all that is left in small blocks.
-fn take_rest(alloc: Global, blocks: &mut Blocks) -> Result<(), Fail> {
+fn take_rest(rt: &impl Abort, alloc: Global, blocks: &mut Blocks) {
     for steps in 0..SMALL {
-        take(alloc, STEP * (SMALL - steps), blocks)?;
+        take(rt, alloc, STEP * (SMALL - steps), blocks);
     }
-    Ok(())
 }
 
 impl Memory {
     /// Takes all memory.
-    pub(crate) fn use_up(alloc: Global) -> Result<Memory, Fail> {
-        let mut blocks = Vec::with_capacity(alloc, MOST_BLOCKS)?;
-        let mut rooms: Blocks = Vec::with_capacity(alloc, STEPS)?;
+    pub(crate) fn use_up(rt: &impl Abort, alloc: Global) -> Memory {
+        let mut blocks = Vec::with_capacity(alloc, MOST_BLOCKS).expect(rt, "memory");
+        let mut rooms: Blocks = Vec::with_capacity(alloc, STEPS).expect(rt, "memory");
         for step in 0..STEPS {
-            rooms.push(Vec::with_capacity(alloc, ROOM + STEP * (STEPS - 1 - step))?)?;
+            let room = Vec::with_capacity(alloc, ROOM + STEP * (STEPS - 1 - step));
+            rooms.push(room.expect(rt, "memory")).expect(rt, "memory");
         }
         for halvings in 0..34u32 {
-            take(alloc, LARGEST >> halvings, &mut blocks)?;
+            take(rt, alloc, LARGEST >> halvings, &mut blocks);
         }
-        Ok(Memory {
+        Memory {
             alloc,
             blocks,
             rooms,
-        })
+        }
     }
 
     /// Takes what is left, and leaves 16 bytes more than the last time. The first time it leaves none.
-    pub(crate) fn leave_more(&mut self) -> Result<(), Fail> {
-        take_rest(self.alloc, &mut self.blocks)?;
+    pub(crate) fn leave_more(&mut self, rt: &impl Abort) {
+        take_rest(rt, self.alloc, &mut self.blocks);
         drop(self.rooms.pop());
-        let block = Vec::with_capacity(self.alloc, ROOM)?;
-        self.blocks.push(block)?;
-        Ok(())
+        let block = Vec::with_capacity(self.alloc, ROOM).expect(rt, "memory");
+        self.blocks.push(block).expect(rt, "room for a block");
     }
 }
