@@ -12,8 +12,9 @@
 use rand_core::{Rng, SeedableRng};
 use rand_xoshiro::Xoshiro256PlusPlus;
 use refusing_allocator::{Granted, RefusingAllocator};
-use std::alloc::{AllocError, Global};
+use std::alloc::Global;
 use std::collections::BTreeMap;
+use std::process::Abort;
 use std::test::Fail;
 use subtree_sessions::session::Session;
 use test_support::texts::three_fields;
@@ -22,10 +23,17 @@ use upload_session::session::SessionOf;
 use upload_session::session_fault::SessionFault;
 use xet_hash::data_hash::MerkleHash;
 use xet_hash::passthrough_hashmap::PassThroughHashMap;
-use xet_merkle::CoreError;
 use xet_merkle::aggregated_hashes::Node;
 use xet_merkle::chunk_range::ChunkRange;
 use xet_merkle::merkle_hash_subtree::MerkleHashSubtree;
+
+// Returns what a call of `test_support` returned, if it didn't fail.
+fn unfailing<T>(rt: &impl Abort, answer: Result<T, Fail>, expected: &str) -> T {
+    match answer {
+        Ok(value) => value,
+        Err(_) => panic!(rt; "{expected}"),
+    }
+}
 
 type Counting = RefusingAllocator<Global>;
 
@@ -92,7 +100,7 @@ enum Cuts {
 }
 
 // Returns `count` chunks with natural cuts.
-fn chunks(memory: Global, count: u64, cuts: Cuts) -> Result<Vec<Node>, AllocError> {
+fn chunks(rt: &impl Abort, memory: Global, count: u64, cuts: Cuts) -> Vec<Node> {
     let middle = count / 2..(count / 2).saturating_add(28);
     let mut chunks = Vec::new(memory);
     for number in 0..count {
@@ -101,9 +109,10 @@ fn chunks(memory: Global, count: u64, cuts: Cuts) -> Result<Vec<Node>, AllocErro
             Cuts::InTheMiddle => middle.contains(&number) && number % 4 == 3,
             Cuts::Everywhere => true,
         };
-        chunks.push((MerkleHash::from([number, 0, 0, u64::from(!is_cut)]), 1))?;
+        let chunk = (MerkleHash::from([number, 0, 0, u64::from(!is_cut)]), 1);
+        chunks.push(chunk).expect(rt, "memory");
     }
-    Ok(chunks)
+    chunks
 }
 
 // Returns the cuts among the chunks that a range or a session has before a change.
@@ -124,33 +133,39 @@ fn cuts_added(change: &str) -> Cuts {
     }
 }
 
+// Returns the subtree of some chunks, with neither mark.
+fn subtree<'a>(rt: &impl Abort, alloc: &'a Counting, chunks: &[Node]) -> Subtree<'a> {
+    MerkleHashSubtree::from_chunks(alloc, false, chunks, false).expect(rt, "a subtree")
+}
+
 // Puts chunks one by one after a range, or before it.
 fn extend<'a>(
+    rt: &impl Abort,
     alloc: &'a Counting,
     range: &mut Subtree<'a>,
     chunks: &[Node],
     is_after: bool,
-) -> Result<(), CoreError> {
+) {
     for chunk in chunks {
-        let one = MerkleHashSubtree::from_chunks(alloc, false, &[*chunk], false)?;
+        let one = subtree(rt, alloc, &[*chunk]);
         if is_after {
-            range.join(&one)?;
+            range.join(&one).expect(rt, "a merge");
         } else {
-            range.prepend(one)?;
+            range.prepend(one).expect(rt, "a merge");
         }
     }
-    Ok(())
 }
 
 // Adds `count` chunks to a range of some chunks, or of none. Returns what that asks for.
 fn change_range(
+    rt: &impl Abort,
     alloc: &Counting,
     memory: Global,
     change: &str,
     count: u64,
-) -> Result<Granted, Fail> {
+) -> Granted {
     let cuts = cuts_before(change);
-    let chunks = chunks(memory, count, cuts)?;
+    let chunks = chunks(rt, memory, count, cuts);
     let is_after = !change.contains("before") && !change.starts_with("prepend");
     let is_merge = change.starts_with("merge");
     let begun = if is_merge || matches!(cuts, Cuts::InTheMiddle) {
@@ -158,29 +173,31 @@ fn change_range(
     } else {
         &[]
     };
-    let mut range = MerkleHashSubtree::from_chunks(alloc, false, begun, false)?;
-    let other = MerkleHashSubtree::from_chunks(alloc, false, &chunks, false)?;
+    let mut range = subtree(rt, alloc, begun);
+    let other = subtree(rt, alloc, &chunks);
     alloc.grant(u32::MAX);
     if !is_merge {
-        let added = self::chunks(memory, count, cuts_added(change))?;
-        extend(alloc, &mut range, &added, is_after)?;
+        let added = self::chunks(rt, memory, count, cuts_added(change));
+        extend(rt, alloc, &mut range, &added, is_after);
     } else if is_after {
-        range.join(&other)?;
+        range.join(&other).expect(rt, "a merge");
     } else {
-        range.prepend(other)?;
+        range.prepend(other).expect(rt, "a merge");
     }
-    Ok(alloc.granted())
+    alloc.granted()
 }
 
 // Merges `count` ranges of one chunk each. Returns what that asks for.
-fn merge_ranges(alloc: &Counting, memory: Global, count: u64) -> Result<Granted, Fail> {
+fn merge_ranges(rt: &impl Abort, alloc: &Counting, memory: Global, count: u64) -> Granted {
     let mut ranges = Vec::new(memory);
-    for chunk in &chunks(memory, count, Cuts::Nowhere)? {
-        ranges.push(MerkleHashSubtree::from_chunks(alloc, false, &[*chunk], false)?)?;
+    for chunk in &chunks(rt, memory, count, Cuts::Nowhere) {
+        ranges
+            .push(subtree(rt, alloc, &[*chunk]))
+            .expect(rt, "memory");
     }
     alloc.grant(u32::MAX);
-    MerkleHashSubtree::merge(alloc, &ranges)?;
-    Ok(alloc.granted())
+    MerkleHashSubtree::merge(alloc, &ranges).expect(rt, "a merge");
+    alloc.granted()
 }
 
 // The length of a block of chunks. It keeps more nodes than the top of a range with cuts.
@@ -205,115 +222,117 @@ fn order_of(change: &str, count: u64, position: u64, drawn: u64) -> (u64, u64) {
 }
 
 // Returns the puts at the positions below a count in order. Each has its first position and its number of chunks.
-fn puts(memory: Global, change: &str, count: u64) -> Result<BTreeMap<u64, (u64, u64)>, AllocError> {
+fn puts(rt: &impl Abort, memory: Global, change: &str, count: u64) -> BTreeMap<u64, (u64, u64)> {
     let mut generator = Xoshiro256PlusPlus::seed_from_u64(22);
     let mut puts = BTreeMap::new(memory);
     for position in 0..count {
         let (order, len) = order_of(change, count, position, generator.next_u64());
         if len > 0 {
-            puts.insert(order, (position, len))?;
+            let inserted: Result<_, _> = puts.insert(order, (position, len));
+            inserted.expect(rt, "memory");
         }
     }
-    Ok(puts)
+    puts
 }
 
 // Puts chunks one by one or in blocks. Returns what that asks for. With cuts, a run that has them comes after these
 // chunks.
 fn change_session<'a, H: KeptHashes<&'a Counting>>(
+    rt: &impl Abort,
     alloc: &'a Counting,
     memory: Global,
     change: &str,
     count: u64,
-) -> Result<Granted, Fail> {
-    let mut session: SessionOf<Subtree<'a>, H> = SessionOf::new_in(alloc)?;
+) -> Granted {
+    let mut session: SessionOf<Subtree<'a>, H> = SessionOf::new_in(alloc).expect(rt, "a session");
     if change.ends_with("cuts") {
-        session.put(count, &chunks(memory, count, Cuts::InTheMiddle)?)?;
+        let with_cuts = chunks(rt, memory, count, Cuts::InTheMiddle);
+        session.put(count, &with_cuts).expect(rt, "a put");
     }
-    let chunks = chunks(memory, count, Cuts::Nowhere)?;
+    let chunks = chunks(rt, memory, count, Cuts::Nowhere);
     alloc.grant(u32::MAX);
-    for (first, len) in puts(memory, change, count)?.values() {
+    for (first, len) in puts(rt, memory, change, count).values() {
         let end = first.saturating_add(*len) as usize;
-        session.put(*first, chunks.get(*first as usize..end).unwrap_or_default())?;
+        let put = chunks.get(*first as usize..end).unwrap_or_default();
+        session.put(*first, put).expect(rt, "a put");
     }
     let asked = alloc.granted();
-    if session.num_runs() != 1 {
-        return Err("more than one run")?;
-    }
-    Ok(asked)
+    assert!(rt; session.num_runs() == 1, "more than one run");
+    asked
 }
 
 // Adds runs of one chunk each to a session. A free position is left after each.
 fn push_runs<'a>(
+    rt: &impl Abort,
     alloc: &'a Counting,
     session: &mut Session<&'a Counting>,
     chunks: &[Node],
-) -> Result<(), CoreError> {
+) {
     let mut first = 0u64;
     for chunk in chunks {
-        let range = MerkleHashSubtree::from_chunks(alloc, false, &[*chunk], false)?;
-        session.push_run(first, first.saturating_add(1), range)?;
+        let range = subtree(rt, alloc, &[*chunk]);
+        session
+            .push_run(first, first.saturating_add(1), range)
+            .expect(rt, "a push");
         first = first.saturating_add(2);
     }
-    Ok(())
 }
 
 // Restores a part of a session, of `count` chunks. Returns what that asks for.
-fn restore(alloc: &Counting, memory: Global, change: &str, count: u64) -> Result<Granted, Fail> {
-    let chunks = chunks(memory, count, Cuts::Nowhere)?;
-    let mut session: Session<&Counting> = SessionOf::new_in(alloc)?;
+fn restore(rt: &impl Abort, alloc: &Counting, memory: Global, change: &str, count: u64) -> Granted {
+    let chunks = chunks(rt, memory, count, Cuts::Nowhere);
+    let mut session: Session<&Counting> = SessionOf::new_in(alloc).expect(rt, "a session");
     alloc.grant(u32::MAX);
     if change == "push runs" {
-        push_runs(alloc, &mut session, &chunks)?;
+        push_runs(rt, alloc, &mut session, &chunks);
     } else if change == "keep hashes at once" {
-        session.keep_hashes(&chunks)?;
+        session.keep_hashes(&chunks).expect(rt, "memory");
     } else {
         for chunk in &chunks {
-            session.keep_hashes(&[*chunk])?;
+            session.keep_hashes(&[*chunk]).expect(rt, "memory");
         }
     }
-    Ok(alloc.granted())
+    alloc.granted()
 }
 
 // Copies a session of `count` runs that knows as many hashes, or lists these. Returns what that asks for.
-fn save(alloc: &Counting, memory: Global, change: &str, count: u64) -> Result<Granted, Fail> {
-    let chunks = chunks(memory, count, Cuts::Nowhere)?;
-    let mut session: Session<&Counting> = SessionOf::new_in(alloc)?;
-    push_runs(alloc, &mut session, &chunks)?;
-    session.keep_hashes(&chunks)?;
+fn save(rt: &impl Abort, alloc: &Counting, memory: Global, change: &str, count: u64) -> Granted {
+    let chunks = chunks(rt, memory, count, Cuts::Nowhere);
+    let mut session: Session<&Counting> = SessionOf::new_in(alloc).expect(rt, "a session");
+    push_runs(rt, alloc, &mut session, &chunks);
+    session.keep_hashes(&chunks).expect(rt, "memory");
     alloc.grant(u32::MAX);
     if change == "copy runs and hashes" {
-        session.try_clone()?;
+        session.try_clone().expect(rt, "memory");
     } else {
-        session.known_hashes()?;
+        session.known_hashes().expect(rt, "memory");
     }
-    Ok(alloc.granted())
+    alloc.granted()
 }
 
 // Makes a map with room for `count` numbers. Returns what that asks for.
-fn make_room(alloc: &Counting, count: u64) -> Result<Granted, Fail> {
+fn make_room(rt: &impl Abort, alloc: &Counting, count: u64) -> Granted {
     let map: PassThroughHashMap<u64, u64, &Counting> = PassThroughHashMap::with_capacity(
         alloc,
         count as usize,
-    )?;
-    if !map.is_empty() {
-        return Err("a map that isn't empty")?;
-    }
-    Ok(alloc.granted())
+    ).expect(rt, "memory");
+    assert!(rt; map.is_empty(), "a map that isn't empty");
+    alloc.granted()
 }
 
 // Returns what a change by `count` chunks asks for.
-fn asked(memory: Global, change: &str, count: u64) -> Result<Granted, Fail> {
+fn asked(rt: &impl Abort, memory: Global, change: &str, count: u64) -> Granted {
     let alloc = counting(memory);
     if change.ends_with("hashes kept") {
-        return change_session::<SeenHashes<&Counting>>(&alloc, memory, change, count);
+        return change_session::<SeenHashes<&Counting>>(rt, &alloc, memory, change, count);
     }
     match change.split(' ').next() {
-        Some("put") => change_session::<NoHashes>(&alloc, memory, change, count),
-        Some("push" | "keep") => restore(&alloc, memory, change, count),
-        Some("copy" | "list") => save(&alloc, memory, change, count),
-        Some("ranges") => merge_ranges(&alloc, memory, count),
-        Some("room") => make_room(&alloc, count),
-        _ => change_range(&alloc, memory, change, count),
+        Some("put") => change_session::<NoHashes>(rt, &alloc, memory, change, count),
+        Some("push" | "keep") => restore(rt, &alloc, memory, change, count),
+        Some("copy" | "list") => save(rt, &alloc, memory, change, count),
+        Some("ranges") => merge_ranges(rt, &alloc, memory, count),
+        Some("room") => make_room(rt, &alloc, count),
+        _ => change_range(rt, &alloc, memory, change, count),
     }
 }
 
@@ -328,35 +347,32 @@ fn is_within(asked: Granted, count: u64, requests: u64, nodes: u64) -> bool {
 const COUNTS: [u64; 2] = [900, 7_200];
 
 #[test]
-fn changes_ask_for_memory_in_proportion_to_the_chunks(rt: HostRuntime) -> Result<(), Fail> {
+fn changes_ask_for_memory_in_proportion_to_the_chunks(rt: HostRuntime) {
     for row in CHANGES.lines() {
-        let (change, requests, nodes) = three_fields(row, '|')?;
-        let (requests, nodes) = (requests.parse()?, nodes.parse()?);
+        let (change, requests, nodes) = unfailing(&rt, three_fields(row, '|'), "three fields");
+        let requests = requests.parse().expect(&rt, "a number");
+        let nodes = nodes.parse().expect(&rt, "a number");
         for count in COUNTS {
-            let asked = asked(rt.alloc(), change, count)?;
+            let asked = asked(&rt, rt.alloc(), change, count);
             assert!(rt;
                 is_within(asked, count, requests, nodes),
                 "{change}, {count}: {asked:?}"
             );
         }
     }
-    Ok(())
 }
 
 // Twice as many puts in random order, in which each node is copied several times for each doubling.
 const DRAWN: u64 = 1_800;
 
 #[test]
-fn twice_as_many_puts_ask_for_little_more_than_twice_the_bytes(
-    rt: HostRuntime,
-) -> Result<(), Fail> {
-    let once = asked(rt.alloc(), "put drawn", DRAWN)?;
-    let twice = asked(rt.alloc(), "put drawn", DRAWN * 2)?;
+fn twice_as_many_puts_ask_for_little_more_than_twice_the_bytes(rt: HostRuntime) {
+    let once = asked(&rt, rt.alloc(), "put drawn", DRAWN);
+    let twice = asked(&rt, rt.alloc(), "put drawn", DRAWN * 2);
     assert!(rt;
         twice.bytes.saturating_mul(10) <= once.bytes.saturating_mul(23),
         "{once:?}, {twice:?}"
     );
-    Ok(())
 }
 
 // More than a thousand runs.
@@ -368,12 +384,17 @@ fn begins_at(session: &SessionOf<Subtree<'_>, NoHashes>, position: u64) -> bool 
 }
 
 #[test]
-fn sessions_of_many_runs_tell_what_is_taken_without_memory(rt: HostRuntime) -> Result<(), Fail> {
+fn sessions_of_many_runs_tell_what_is_taken_without_memory(rt: HostRuntime) {
     let alloc = counting(rt.alloc());
-    let mut session: SessionOf<Subtree<'_>, NoHashes> = SessionOf::new_in(&alloc)?;
+    let mut session: SessionOf<Subtree<'_>, NoHashes> = SessionOf::new_in(&alloc).expect(
+        &rt,
+        "a session",
+    );
     let chunk = [(MerkleHash::default(), 1)];
     for number in 0..RUNS {
-        session.put(number.saturating_mul(2), &chunk)?;
+        session
+            .put(number.saturating_mul(2), &chunk)
+            .expect(&rt, "a put");
     }
     alloc.grant(0);
     for number in 0..RUNS {
@@ -385,5 +406,4 @@ fn sessions_of_many_runs_tell_what_is_taken_without_memory(rt: HostRuntime) -> R
     assert!(rt; session.num_runs() as u64 == RUNS && session.range(1_001).is_some());
     assert!(rt; session.finish(RUNS) == Err(SessionFault::Gap));
     assert!(rt; !alloc.has_refused());
-    Ok(())
 }

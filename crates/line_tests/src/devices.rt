@@ -2,9 +2,10 @@
 
 mod lines_of_pairs;
 
+use super::lines::unfailing;
 use std::alloc::Global;
 use std::io::{self, ErrorKind, Read, Write};
-use std::test::Fail;
+use std::process::Abort;
 use test_support::texts::{NO_CHUNK, lines_of_row, two_fields};
 use xet_merkle::merkle_hash_subtree::MerkleHashSubtree;
 use xet_merkle::plain_range::PlainRange;
@@ -494,9 +495,9 @@ fn a_failed_write_leaves_a_beginning(rt: HostRuntime) {
 }
 
 // Returns whether a run ends after the first of three lines if the second read gives nothing. A read gives one line.
-fn ends_at_the_first_end(alloc: Global, call: Call) -> Result<bool, Fail> {
+fn ends_at_the_first_end(rt: &impl Abort, alloc: Global, call: Call) -> bool {
     let line = line_of(call);
-    let lines = format!(in alloc; "{line}\n{line}\n{line}\n")?;
+    let lines = format!(in alloc; "{line}\n{line}\n{line}\n").expect(rt, "memory");
     let mut manner = odd(2, 1, None);
     manner.most = line.len().saturating_add(1);
     let run = Run {
@@ -506,15 +507,14 @@ fn ends_at_the_first_end(alloc: Global, call: Call) -> Result<bool, Fail> {
     };
     let ended = outcome_of(run, manners_with(Place::Read, manner));
     let single = outcome_of(run_of(alloc, call), ALL_EVEN);
-    Ok(ended.end == DONE && ended.calls.0 == 2 && ended.written == single.written)
+    ended.end == DONE && ended.calls.0 == 2 && ended.written == single.written
 }
 
 #[test]
-fn the_first_end_of_the_input_is_its_end(rt: HostRuntime) -> Result<(), Fail> {
+fn the_first_end_of_the_input_is_its_end(rt: HostRuntime) {
     for call in CALLS {
-        assert!(rt; ends_at_the_first_end(rt.alloc(), call)?, "{call:?}");
+        assert!(rt; ends_at_the_first_end(&rt, rt.alloc(), call), "{call:?}");
     }
-    Ok(())
 }
 
 // Lines before a read that fails, each after the status of the run.
@@ -538,25 +538,25 @@ fn has_status(run: Run<'_>, status: u8) -> bool {
 }
 
 // Returns whether a call has the status of a row.
-fn has_status_of_row(alloc: Global, call: Call, row: &str) -> Result<bool, Fail> {
-    let (status, lines) = two_fields(row, '|')?;
-    let input = lines_of_row(alloc, lines)?;
+fn has_status_of_row(rt: &impl Abort, alloc: Global, call: Call, row: &str) -> bool {
+    let (status, lines) = unfailing(rt, two_fields(row, '|'), "two fields");
+    let status = status.parse().expect(rt, "a number");
+    let input = unfailing(rt, lines_of_row(alloc, lines), "memory");
     let run = Run {
         alloc,
         call,
         text: input.as_bytes(),
     };
-    Ok(has_status(run, status.parse()?))
+    has_status(run, status)
 }
 
 #[test]
-fn a_failed_read_is_a_fault_unless_a_line_before_it_is_faulty(rt: HostRuntime) -> Result<(), Fail> {
+fn a_failed_read_is_a_fault_unless_a_line_before_it_is_faulty(rt: HostRuntime) {
     for row in BEFORE_A_FAILURE.lines() {
-        assert!(rt; has_status_of_row(rt.alloc(), Call::Run, row)?, "{row}");
+        assert!(rt; has_status_of_row(&rt, rt.alloc(), Call::Run, row), "{row}");
         assert!(rt;
-            has_status_of_row(rt.alloc(), Call::RunOverPlainRanges, row)?,
+            has_status_of_row(&rt, rt.alloc(), Call::RunOverPlainRanges, row),
             "{row}"
         );
     }
-    Ok(())
 }

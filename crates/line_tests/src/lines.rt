@@ -3,6 +3,7 @@
 use std::alloc::Global;
 use std::io::{Read, Write};
 use std::ops::Range;
+use std::process::Abort;
 use std::test::Fail;
 use test_support::texts::{ABC, H1, NO_PAIR, THREE_PAIRS, lines_of_row, two_fields, with_hashes};
 use xet_hash::data_hash::DataHash;
@@ -26,6 +27,14 @@ const TWO_PAIRS_TWICE: &str = "xorb 90f8313ef12df385d237a067aded02562c35ded12116
 file 284ea045e5a579e99c21ec597c20de1fc0c09e7168162aac00db8f61b3d82dbb
 ";
 
+// Returns what a call of `test_support` returned, if it didn't fail.
+pub(crate) fn unfailing<T>(rt: &impl Abort, answer: Result<T, Fail>, expected: &str) -> T {
+    match answer {
+        Ok(value) => value,
+        Err(_) => panic!(rt; "{expected}"),
+    }
+}
+
 // The kind of range that a run keeps.
 #[derive(Clone, Copy)]
 enum Kind {
@@ -47,22 +56,23 @@ fn run_over<R: Read, W: Write>(
 }
 
 // Returns what a run writes, and after it the text of its fault.
-fn output_of(alloc: Global, kind: Kind, input: &[u8]) -> Result<Vec<u8>, Fail> {
+fn output_of(rt: &impl Abort, alloc: Global, kind: Kind, input: &[u8]) -> Vec<u8> {
     let (mut reader, mut output) = (input, Vec::new(alloc));
     if let Err(fault) = run_over(alloc, kind, &mut reader, &mut output) {
-        output.extend_from_slice(fault.to_string(alloc)?.as_bytes())?;
+        let text = fault.to_string(alloc).expect(rt, "memory");
+        output
+            .extend_from_slice(text.as_bytes())
+            .expect(rt, "memory");
     }
-    Ok(output)
+    output
 }
 
 // Returns whether a run writes a text and nothing else, or has the fault of a text and writes nothing, over both kinds
 // of range.
-fn answers(alloc: Global, input: &[u8], expected: &str) -> Result<bool, Fail> {
+fn answers(rt: &impl Abort, alloc: Global, input: &[u8], expected: &str) -> bool {
     let expected = expected.as_bytes();
-    Ok(
-        output_of(alloc, Kind::Subtree, input)?.as_slice() == expected
-            && output_of(alloc, Kind::Plain, input)?.as_slice() == expected,
-    )
+    output_of(rt, alloc, Kind::Subtree, input).as_slice() == expected
+        && output_of(rt, alloc, Kind::Plain, input).as_slice() == expected
 }
 
 // Returns the answer of a name, or the fault of a text.
@@ -78,23 +88,17 @@ fn answer_of(expected: &str) -> &str {
 }
 
 // Returns whether the lines of a row give the answer or the fault at its end.
-fn is_answered(alloc: Global, row: &str) -> Result<bool, Fail> {
-    let (lines, expected) = two_fields(row, '|')?;
-    answers(
-        alloc,
-        lines_of_row(alloc, lines)?.as_bytes(),
-        answer_of(expected),
-    )
+fn is_answered(rt: &impl Abort, alloc: Global, row: &str) -> bool {
+    let (lines, expected) = unfailing(rt, two_fields(row, '|'), "two fields");
+    let lines = unfailing(rt, lines_of_row(alloc, lines), "memory");
+    answers(rt, alloc, lines.as_bytes(), answer_of(expected))
 }
 
 // Fails unless the lines of each row give the answer or the fault at its end.
-fn are_answered(alloc: Global, rows: &str) -> Result<(), Fail> {
+fn are_answered(rt: &impl Abort, alloc: Global, rows: &str) {
     for row in rows.lines() {
-        if !is_answered(alloc, row)? {
-            return Err(String::from_str(alloc, row)?)?;
-        }
+        assert!(rt; is_answered(rt, alloc, row), "{row}");
     }
-    Ok(())
 }
 
 const PAIRS: &str = "|no pair
@@ -106,12 +110,14 @@ h1 100;h2 200;h3 300;|three pairs
 --;--;h1 100;--;h2 200;h3 300;--|three pairs";
 
 #[test]
-fn answers_pairs_in_lines(rt: HostRuntime) -> Result<(), Fail> {
-    let upper = with_hashes(rt.alloc(), "h1 100")?
+fn answers_pairs_in_lines(rt: HostRuntime) {
+    let lower = unfailing(&rt, with_hashes(rt.alloc(), "h1 100"), "memory");
+    let upper = lower
         .as_str()
-        .to_ascii_uppercase(rt.alloc())?;
-    assert!(rt; answers(rt.alloc(), upper.as_bytes(), ONE_PAIR)?);
-    are_answered(rt.alloc(), PAIRS)
+        .to_ascii_uppercase(rt.alloc())
+        .expect(&rt, "memory");
+    assert!(rt; answers(&rt, rt.alloc(), upper.as_bytes(), ONE_PAIR));
+    are_answered(&rt, rt.alloc(), PAIRS);
 }
 
 const POSITIONS: &str = "@2;h3 300;@0;h1 100;h2 200|three pairs
@@ -135,8 +141,8 @@ h1 18446744073709551615;@7;h2 1|xetroot: fault 2 at line 3
 @1;h1 100;!|xetroot: fault 1 at line 3";
 
 #[test]
-fn position_lines_place_the_pairs_after_them(rt: HostRuntime) -> Result<(), Fail> {
-    are_answered(rt.alloc(), POSITIONS)
+fn position_lines_place_the_pairs_after_them(rt: HostRuntime) {
+    are_answered(&rt, rt.alloc(), POSITIONS);
 }
 
 // Three pairs, or two, with a separator at each place where one may be.
@@ -169,11 +175,11 @@ h1 100;--;h2 200;--;h3 300;--;--|three pairs
 const MOST_LINES: usize = 1_048_577;
 
 #[test]
-fn separators_change_nothing(rt: HostRuntime) -> Result<(), Fail> {
-    let many = "--\n".repeat(rt.alloc(), MOST_LINES)?;
-    let output = output_of(rt.alloc(), Kind::Subtree, many.as_bytes())?;
+fn separators_change_nothing(rt: HostRuntime) {
+    let many = "--\n".repeat(rt.alloc(), MOST_LINES).expect(&rt, "memory");
+    let output = output_of(&rt, rt.alloc(), Kind::Subtree, many.as_bytes());
     assert!(rt; output.as_slice() == NO_PAIR.as_bytes());
-    are_answered(rt.alloc(), SEPARATED)
+    are_answered(&rt, rt.alloc(), SEPARATED);
 }
 
 // The answer to 20,000 pairs of size 1, whose hashes have the words i, 0, 0 and i modulo 4.
@@ -183,12 +189,11 @@ file c5b91c43e27f1d0785ce40a29b7baee822db7f5136611cbc2eaf04a3ac6d4004
 ";
 
 // Appends the lines of the pairs of this kind with these numbers.
-pub(crate) fn push_lines(lines: &mut String, numbers: Range<u64>) -> Result<(), Fail> {
+pub(crate) fn push_lines(rt: &impl Abort, lines: &mut String, numbers: Range<u64>) {
     for i in numbers {
         let hash = DataHash::from([i, 0, 0, i % 4]);
-        writeln!(lines, "{hash} 1")?;
+        writeln!(lines, "{hash} 1").expect(rt, "memory");
     }
-    Ok(())
 }
 
 // The answer to the first 9000 of them.
@@ -197,38 +202,37 @@ file 05fe8458ce220b994314c014b404ea97b6b86ef0ed06b74ab4c4b60cf2bc1beb
 ";
 
 // Returns the lines of 9000 pairs, the last half first.
-fn halves_in_reverse(alloc: Global) -> Result<String, Fail> {
+fn halves_in_reverse(rt: &impl Abort, alloc: Global) -> String {
     let mut lines = String::new(alloc);
-    writeln!(lines, "@4500")?;
-    push_lines(&mut lines, 4500..9000)?;
-    writeln!(lines, "@0")?;
-    push_lines(&mut lines, 0..4500)?;
-    Ok(lines)
+    writeln!(lines, "@4500").expect(rt, "memory");
+    push_lines(rt, &mut lines, 4500..9000);
+    writeln!(lines, "@0").expect(rt, "memory");
+    push_lines(rt, &mut lines, 0..4500);
+    lines
 }
 
 // Returns the lines of the same pairs, those at even positions first.
-fn even_then_odd(alloc: Global) -> Result<String, Fail> {
+fn even_then_odd(rt: &impl Abort, alloc: Global) -> String {
     let mut lines = String::new(alloc);
     for odd in [0, 1] {
         for i in 0..4500u64 {
             let position = i.saturating_mul(2).saturating_add(odd);
-            writeln!(lines, "@{position}")?;
-            push_lines(&mut lines, position..position.saturating_add(1))?;
+            writeln!(lines, "@{position}").expect(rt, "memory");
+            push_lines(rt, &mut lines, position..position.saturating_add(1));
         }
     }
-    Ok(lines)
+    lines
 }
 
 #[test]
-fn long_ranges_are_answered_as_a_whole(rt: HostRuntime) -> Result<(), Fail> {
+fn long_ranges_are_answered_as_a_whole(rt: HostRuntime) {
     let mut in_order = String::new(rt.alloc());
-    push_lines(&mut in_order, 0..20_000)?;
-    assert!(rt; answers(rt.alloc(), in_order.as_bytes(), MANY_PAIRS)?);
-    let in_reverse = halves_in_reverse(rt.alloc())?;
-    assert!(rt; answers(rt.alloc(), in_reverse.as_bytes(), FEWER_PAIRS)?);
-    let odd_last = even_then_odd(rt.alloc())?;
-    assert!(rt; answers(rt.alloc(), odd_last.as_bytes(), FEWER_PAIRS)?);
-    Ok(())
+    push_lines(&rt, &mut in_order, 0..20_000);
+    assert!(rt; answers(&rt, rt.alloc(), in_order.as_bytes(), MANY_PAIRS));
+    let in_reverse = halves_in_reverse(&rt, rt.alloc());
+    assert!(rt; answers(&rt, rt.alloc(), in_reverse.as_bytes(), FEWER_PAIRS));
+    let odd_last = even_then_odd(&rt, rt.alloc());
+    assert!(rt; answers(&rt, rt.alloc(), odd_last.as_bytes(), FEWER_PAIRS));
 }
 
 const NO_BYTES: &str = "xorb e0f2cf784e7e5f10c34f84af150e9a5ff9664216debad915364d741049870f67
@@ -246,10 +250,10 @@ file f51f13f534f02922122f84c1c3cb040392afd49ff95185d599d31942e1fcc597
 ";
 
 #[test]
-fn answers_chunks_in_lines(rt: HostRuntime) -> Result<(), Fail> {
-    let mixed = format!(in rt.alloc(); "{H1} 100\n+\n--\n++a\0\r\n+--\n")?;
-    let faulty = "a".repeat(rt.alloc(), 1_000_000)?;
-    let long = format!(in rt.alloc(); "+{faulty}")?;
+fn answers_chunks_in_lines(rt: HostRuntime) {
+    let mixed = format!(in rt.alloc(); "{H1} 100\n+\n--\n++a\0\r\n+--\n").expect(&rt, "memory");
+    let faulty = "a".repeat(rt.alloc(), 1_000_000).expect(&rt, "memory");
+    let long = format!(in rt.alloc(); "+{faulty}").expect(&rt, "memory");
     for (input, want) in [
         ("+abc", ABC),
         ("+", NO_BYTES),
@@ -257,9 +261,8 @@ fn answers_chunks_in_lines(rt: HostRuntime) -> Result<(), Fail> {
         (long.as_str(), LONG_CHUNK),
         (faulty.as_str(), "xetroot: fault 1 at line 1"),
     ] {
-        assert!(rt; answers(rt.alloc(), input.as_bytes(), want)?);
+        assert!(rt; answers(&rt, rt.alloc(), input.as_bytes(), want));
     }
-    Ok(())
 }
 
 const FAULTY: &str = "h1 0100|xetroot: fault 1 at line 1
@@ -278,33 +281,31 @@ h1 18446744073709551615;h2 1|xetroot: fault 2 at line 2
 h1 18446744073709551615;--;h2 1;!|xetroot: fault 2 at line 3";
 
 #[test]
-fn names_the_first_faulty_line(rt: HostRuntime) -> Result<(), Fail> {
-    are_answered(rt.alloc(), FAULTY)
+fn names_the_first_faulty_line(rt: HostRuntime) {
+    are_answered(&rt, rt.alloc(), FAULTY);
 }
 
 // The line numbers that faults are printed with.
 pub(crate) const LINES: [u64; 9] = [1, 9, 10, 99, 100, 101, 1000, 65536, u64::MAX];
 
 // Returns whether a fault has a status, and prints as it should.
-fn prints(alloc: Global, fault: Fault, status: u8, end: &str) -> Result<bool, Fail> {
-    let text = format!(in alloc; "xetroot: fault {status}{end}")?;
-    Ok(fault.status() == status && fault.to_string(alloc)? == text)
+fn prints(rt: &impl Abort, alloc: Global, fault: Fault, status: u8, end: &str) -> bool {
+    let text = format!(in alloc; "xetroot: fault {status}{end}").expect(rt, "memory");
+    fault.status() == status && fault.to_string(alloc).expect(rt, "memory") == text
 }
 
 // Returns whether the faults of a line print it.
-fn print_line(alloc: Global, line: u64) -> Result<bool, Fail> {
-    let end = format!(in alloc; " at line {line}")?;
-    Ok(
-        prints(alloc, Fault::BadLine(line), 1, &end)?
-            && prints(alloc, Fault::Sizes(line), 2, &end)?
-            && prints(alloc, Fault::Overlap(line), 6, &end)?,
-    )
+fn print_line(rt: &impl Abort, alloc: Global, line: u64) -> bool {
+    let end = format!(in alloc; " at line {line}").expect(rt, "memory");
+    prints(rt, alloc, Fault::BadLine(line), 1, &end)
+        && prints(rt, alloc, Fault::Sizes(line), 2, &end)
+        && prints(rt, alloc, Fault::Overlap(line), 6, &end)
 }
 
 #[test]
-fn faults_print_their_status_and_line(rt: HostRuntime) -> Result<(), Fail> {
+fn faults_print_their_status_and_line(rt: HostRuntime) {
     for line in LINES {
-        assert!(rt; print_line(rt.alloc(), line)?, "{line}");
+        assert!(rt; print_line(&rt, rt.alloc(), line), "{line}");
     }
     for (fault, status) in [
         (Fault::Memory, 3),
@@ -312,7 +313,6 @@ fn faults_print_their_status_and_line(rt: HostRuntime) -> Result<(), Fail> {
         (Fault::Write, 5),
         (Fault::Gap, 7),
     ] {
-        assert!(rt; prints(rt.alloc(), fault, status, "")?, "{status}");
+        assert!(rt; prints(&rt, rt.alloc(), fault, status, ""), "{status}");
     }
-    Ok(())
 }

@@ -1,13 +1,14 @@
 //! Runs of both programs with arguments and devices: the status, and the text on each stream.
 
 use super::devices::{EVEN, FAILING, Input, Manner, Output};
+use super::lines::unfailing;
 use line_io::request::print_line;
 use refusing_allocator::RefusingAllocator;
 use std::alloc::Global;
 use std::env::Args;
 use std::fmt;
 use std::io::{self, ErrorKind};
-use std::test::Fail;
+use std::process::Abort;
 use test_support::texts::{four_fields, with_hashes};
 use xet_merkle::merkle_hash_subtree::MerkleHashSubtree;
 
@@ -161,18 +162,19 @@ root root root root
 -h -h -h";
 
 // Returns what the runtime gives for the words of a command.
-fn arguments(alloc: Global, command: &str, failing: &str) -> Result<io::Result<Args>, Fail> {
+fn arguments(rt: &impl Abort, alloc: Global, command: &str, failing: &str) -> io::Result<Args> {
     if failing == "list of arguments" {
-        return Ok(Err(io::Error::from(ErrorKind::OutOfMemory)));
+        return Err(io::Error::from(ErrorKind::OutOfMemory));
     }
     if failing == "text of arguments" {
-        return Ok(Err(io::Error::from(ErrorKind::InvalidData)));
+        return Err(io::Error::from(ErrorKind::InvalidData));
     }
     let mut words = Vec::new(alloc);
     for word in command.split(' ') {
-        words.push(String::from_str(alloc, word)?)?;
+        let word = String::from_str(alloc, word).expect(rt, "memory");
+        words.push(word).expect(rt, "memory");
     }
-    Ok(Ok(words.into_iter()))
+    Ok(words.into_iter())
 }
 
 fn manner(is_failing: bool) -> Manner {
@@ -208,26 +210,31 @@ fn run(
 }
 
 // Returns the status of a run, and what it wrote to standard output and standard error, in the form of a row of `RUNS`.
-fn outcome(alloc: Global, command: &str, failing: &str, input: &str) -> Result<String, Fail> {
-    let text = input.replace(alloc, ";", "\n")?;
-    let args = arguments(alloc, command, failing)?;
+fn outcome(rt: &impl Abort, alloc: Global, command: &str, failing: &str, input: &str) -> String {
+    let text = input.replace(alloc, ";", "\n").expect(rt, "memory");
+    let args = arguments(rt, alloc, command, failing);
     let (status, output, errors) = run(alloc, command, failing, args, text.as_bytes());
-    let (output, errors) = (String::from_utf8(output)?, String::from_utf8(errors)?);
-    let row = format!(in alloc; "{status}|{output}|{errors}")?;
-    Ok(row.as_str().replace(alloc, "\n", ";")?)
+    let output = String::from_utf8(output).expect(rt, "a text");
+    let errors = String::from_utf8(errors).expect(rt, "a text");
+    let row = format!(in alloc; "{status}|{output}|{errors}").expect(rt, "memory");
+    row.as_str().replace(alloc, "\n", ";").expect(rt, "memory")
 }
 
 #[test]
-fn runs_end_with_their_status_and_write_to_their_stream(rt: HostRuntime) -> Result<(), Fail> {
-    for run in with_hashes(rt.alloc(), RUNS)?.as_str().lines() {
-        let (command, failing, input, expected) = four_fields(run, '|')?;
-        let found = outcome(rt.alloc(), command, failing, input)?;
+fn runs_end_with_their_status_and_write_to_their_stream(rt: HostRuntime) {
+    let runs = unfailing(&rt, with_hashes(rt.alloc(), RUNS), "memory");
+    for run in runs.as_str().lines() {
+        let (command, failing, input, expected) = unfailing(
+            &rt,
+            four_fields(run, '|'),
+            "four fields",
+        );
+        let found = outcome(&rt, rt.alloc(), command, failing, input);
         assert!(rt;
             found.as_str() == expected,
             "{command}, {failing}, {input}: {found}"
         );
     }
-    Ok(())
 }
 
 // What each program prints for `--help`.
@@ -279,46 +286,47 @@ argument.
 ";
 
 #[test]
-fn help_goes_to_standard_output(rt: HostRuntime) -> Result<(), Fail> {
+fn help_goes_to_standard_output(rt: HostRuntime) {
     for (command, text) in [
         ("xetroot -h", XETROOT_HELP),
         ("xetroot --help", XETROOT_HELP),
         ("xetrange -h", XETRANGE_HELP),
         ("xetrange --help", XETRANGE_HELP),
     ] {
-        let found = outcome(rt.alloc(), command, "nothing", "zz")?;
-        let lines = text.replace(rt.alloc(), "\n", ";")?;
-        let expected = format!(in rt.alloc(); "0|{lines}|")?;
+        let found = outcome(&rt, rt.alloc(), command, "nothing", "zz");
+        let lines = text.replace(rt.alloc(), "\n", ";").expect(&rt, "memory");
+        let expected = format!(in rt.alloc(); "0|{lines}|").expect(&rt, "memory");
         assert!(rt; found == expected, "{command}: {found}");
     }
-    Ok(())
 }
 
 // Returns whether a program refuses some words.
-fn is_refused(alloc: Global, program: &str, words: &str, known: &str) -> Result<bool, Fail> {
-    let command = format!(in alloc; "{program} {words}")?;
-    let expected = format!(in alloc; "64||{program}: expected {known}, --help or --version;")?;
-    Ok(outcome(alloc, &command, "nothing", "")? == expected)
+fn is_refused(rt: &impl Abort, alloc: Global, program: &str, words: &str, known: &str) -> bool {
+    let command = format!(in alloc; "{program} {words}").expect(rt, "memory");
+    let expected = format!(in alloc;
+        "64||{program}: expected {known}, --help or --version;"
+    ).expect(rt, "memory");
+    outcome(rt, alloc, &command, "nothing", "") == expected
 }
 
 #[test]
-fn wrong_words_are_refused_by_both_programs(rt: HostRuntime) -> Result<(), Fail> {
+fn wrong_words_are_refused_by_both_programs(rt: HostRuntime) {
     for words in WRONG_WORDS.lines() {
         assert!(rt;
-            is_refused(rt.alloc(), "xetroot", words, "no argument")?,
+            is_refused(&rt, rt.alloc(), "xetroot", words, "no argument"),
             "{words}"
         );
         assert!(rt;
             is_refused(
+                &rt,
                 rt.alloc(),
                 "xetrange",
                 words,
                 "make, join, root, prove FIRST END, verify HASH FROM TO"
-            )?,
+            ),
             "{words}"
         );
     }
-    Ok(())
 }
 
 // A text of two pieces of letters.
@@ -326,9 +334,10 @@ fn wrong_words_are_refused_by_both_programs(rt: HostRuntime) -> Result<(), Fail>
 struct TwoPieces(String, String);
 
 impl TwoPieces {
-    fn new(alloc: Global, front: usize, back: usize) -> Result<Self, Fail> {
-        let (front, back) = ("a".repeat(alloc, front)?, "b".repeat(alloc, back)?);
-        Ok(TwoPieces(front, back))
+    fn new(rt: &impl Abort, alloc: Global, front: usize, back: usize) -> Self {
+        let front = "a".repeat(alloc, front).expect(rt, "memory");
+        let back = "b".repeat(alloc, back).expect(rt, "memory");
+        TwoPieces(front, back)
     }
 }
 
@@ -354,27 +363,27 @@ const LINES: [(usize, usize, bool); 9] = [
 
 // Returns whether a text of two pieces is printed as a line, by one write or more.
 fn is_printed(
+    rt: &impl Abort,
     alloc: Global,
     (front, back): (usize, usize),
     is_one_write: bool,
-) -> Result<bool, Fail> {
-    let text = TwoPieces::new(alloc, front, back)?;
-    let expected = format!(in alloc; "{text}\n")?;
+) -> bool {
+    let text = TwoPieces::new(rt, alloc, front, back);
+    let expected = format!(in alloc; "{text}\n").expect(rt, "memory");
     let mut whole = EVEN;
     whole.most = usize::MAX;
     let mut printed = Output::new(alloc, whole, EVEN);
     print_line(&mut printed, text);
     let is_right = printed.device.calls == 1 || !is_one_write;
-    Ok(is_right && printed.bytes.as_slice() == expected.as_bytes())
+    is_right && printed.bytes.as_slice() == expected.as_bytes()
 }
 
 #[test]
-fn a_line_is_printed_whole_however_long(rt: HostRuntime) -> Result<(), Fail> {
+fn a_line_is_printed_whole_however_long(rt: HostRuntime) {
     for (front, back, is_one_write) in LINES {
         assert!(rt;
-            is_printed(rt.alloc(), (front, back), is_one_write)?,
+            is_printed(&rt, rt.alloc(), (front, back), is_one_write),
             "{front} {back}"
         );
     }
-    Ok(())
 }

@@ -22,6 +22,7 @@ use ranges::BROKEN_JSON;
 use refusing_allocator::RefusingAllocator;
 use sessions::OF_SESSIONS;
 use std::alloc::Global;
+use std::process::Abort;
 use std::test::Fail;
 use test_support::{MARKS, drawn_list, drawn_nodes};
 use xet_merkle::CoreError;
@@ -35,6 +36,14 @@ pub type Refusing = RefusingAllocator<Global>;
 /// Makes such an allocator without a limit. A test later limits the requests that it grants to a call.
 pub fn refusing(alloc: Global) -> Refusing {
     RefusingAllocator::new(alloc, u32::MAX)
+}
+
+/// Returns what a call of `test_support` returned, if it didn't fail.
+pub fn unfailing<T>(rt: &impl Abort, answer: Result<T, Fail>, expected: &str) -> T {
+    match answer {
+        Ok(value) => value,
+        Err(_) => panic!(rt; "{expected}"),
+    }
 }
 
 /// A list of chunks and the marks of its ends, and an allocator that refuses nothing.
@@ -223,19 +232,20 @@ const FILLING_MAPS: [Call; 8] = [
 
 // Makes a call that is granted some requests. Returns how it ends.
 fn attempt(
+    rt: &impl Abort,
     call: Call,
     alloc: &Refusing,
     granted: u32,
     chunks: &Chunks<'_>,
-) -> Result<Outcome, Fail> {
+) -> Outcome {
     let memory = chunks.alloc;
     match call {
         Call::Hex | Call::Base64 | Call::ToVec | Call::FromBase64 | Call::FromBase64Characters =>
-            hashes::attempt(call, alloc, granted),
+            hashes::attempt(rt, call, alloc, granted),
         Call::MapWithCapacity | Call::MapFromPairs | Call::MapFromArray | Call::MapTryClone => {
-            maps::make(call, alloc, granted)
+            maps::make(rt, call, alloc, granted)
         }
-        Call::MapReplace => Ok(maps::replace(alloc, granted)),
+        Call::MapReplace => maps::replace(alloc, granted),
         Call::MapInsert
         | Call::OrInsert
         | Call::OrInsertWith
@@ -243,20 +253,22 @@ fn attempt(
         | Call::OrDefault
         | Call::InsertEntry
         | Call::VacantInsert
-        | Call::VacantInsertEntry => Ok(maps::fill(call, alloc, granted, 100)),
-        Call::SessionTryClone | Call::KnownHashes => sessions::copy(call, alloc, granted, memory),
+        | Call::VacantInsertEntry => maps::fill(call, alloc, granted, 100),
+        Call::SessionTryClone | Call::KnownHashes => sessions::copy(
+            rt, call, alloc, granted, memory,
+        ),
         Call::XorbHash | Call::FileHash | Call::FileHashWithSalt => {
-            hashes::of_chunks(call, alloc, granted, chunks)
+            hashes::of_chunks(rt, call, alloc, granted, chunks)
         }
-        Call::Example(row) => examples::attempt(alloc, granted, memory, row),
-        Call::FromBrokenJson(row) => ranges::from_broken_json(alloc, granted, memory, row),
+        Call::Example(row) => examples::attempt(rt, alloc, granted, memory, row),
+        Call::FromBrokenJson(row) => ranges::from_broken_json(rt, alloc, granted, memory, row),
         Call::SessionOfSubtrees(row) => {
-            sessions::attempt::<MerkleHashSubtree<&Refusing>>(alloc, granted, memory, row)
+            sessions::attempt::<MerkleHashSubtree<&Refusing>>(rt, alloc, granted, memory, row)
         }
         Call::SessionOfPlainRanges(row) => {
-            sessions::attempt::<PlainRange<&Refusing>>(alloc, granted, memory, row)
+            sessions::attempt::<PlainRange<&Refusing>>(rt, alloc, granted, memory, row)
         }
-        Call::OfLines(row) => lines::attempt(alloc, granted, memory, row),
+        Call::OfLines(row) => lines::attempt(rt, alloc, granted, memory, row),
         Call::HashTree
         | Call::TreeProof
         | Call::ProofFromChunks
@@ -265,8 +277,8 @@ fn attempt(
         | Call::OpenRoot
         | Call::ProofFromJson
         | Call::ProofFromFlat
-        | Call::ProofToFlat => range_proofs::attempt(call, alloc, granted, chunks),
-        _ => ranges::attempt(call, alloc, granted, chunks),
+        | Call::ProofToFlat => range_proofs::attempt(rt, call, alloc, granted, chunks),
+        _ => ranges::attempt(rt, call, alloc, granted, chunks),
     }
 }
 
@@ -275,22 +287,22 @@ const MOST_REQUESTS: u32 = 500;
 
 // Returns whether a call is out of memory if and only if one of its requests is refused, and is otherwise right. At
 // least one request must be refused.
-fn is_refused_with_each_request(call: Call, chunks: &Chunks<'_>) -> Result<bool, Fail> {
+fn is_refused_with_each_request(rt: &impl Abort, call: Call, chunks: &Chunks<'_>) -> bool {
     for granted in 0..MOST_REQUESTS {
-        match attempt(call, &refusing(chunks.alloc), granted, chunks)? {
+        match attempt(rt, call, &refusing(chunks.alloc), granted, chunks) {
             Outcome::Refused => {}
-            Outcome::Answered => return Ok(0 < granted),
-            Outcome::Wrong => return Ok(false),
+            Outcome::Answered => return 0 < granted,
+            Outcome::Wrong => return false,
         }
     }
-    Ok(false)
+    false
 }
 
 #[test]
-fn calls_on_chunks_are_refused_with_each_request(rt: HostRuntime) -> Result<(), Fail> {
+fn calls_on_chunks_are_refused_with_each_request(rt: HostRuntime) {
     for (number, (call, seed)) in OF_CHUNKS.iter().enumerate() {
         let mut generator = Xoshiro256PlusPlus::seed_from_u64(*seed);
-        let nodes = drawn_list(&mut generator, rt.alloc(), 200)?;
+        let nodes = drawn_list(&mut generator, rt.alloc(), 200).expect(&rt, "memory");
         for (at_start, at_end) in MARKS {
             // Only a range with both marks has a root.
             if matches!(call, Call::RootOfPlain) && !(at_start && at_end) {
@@ -303,31 +315,31 @@ fn calls_on_chunks_are_refused_with_each_request(rt: HostRuntime) -> Result<(), 
                 at_end,
             };
             assert!(rt;
-                is_refused_with_each_request(*call, &chunks)?,
+                is_refused_with_each_request(&rt, *call, &chunks),
                 "call {number} of the table, {at_start}, {at_end}"
             );
         }
     }
-    Ok(())
 }
 
 #[test]
-fn calls_on_values_of_their_own_are_refused_with_each_request(rt: HostRuntime) -> Result<(), Fail> {
+fn calls_on_values_of_their_own_are_refused_with_each_request(rt: HostRuntime) {
     for calls in [OF_OWN_VALUES.as_slice(), FILLING_MAPS.as_slice()] {
         for (number, call) in calls.iter().enumerate() {
             assert!(rt;
-                is_refused_with_each_request(*call, &Chunks::none(rt.alloc()))?,
+                is_refused_with_each_request(&rt, *call, &Chunks::none(rt.alloc())),
                 "call {number} of {}",
                 calls.len()
             );
         }
     }
-    Ok(())
 }
 
 #[test]
-fn calls_of_range_proofs_are_refused_with_each_request(rt: HostRuntime) -> Result<(), Fail> {
-    let nodes = drawn_list(&mut Xoshiro256PlusPlus::seed_from_u64(28), rt.alloc(), 200)?;
+fn calls_of_range_proofs_are_refused_with_each_request(rt: HostRuntime) {
+    let nodes = drawn_list(&mut Xoshiro256PlusPlus::seed_from_u64(28), rt.alloc(), 200).expect(
+        &rt, "memory",
+    );
     let chunks = Chunks {
         alloc: rt.alloc(),
         at_start: false,
@@ -336,67 +348,62 @@ fn calls_of_range_proofs_are_refused_with_each_request(rt: HostRuntime) -> Resul
     };
     for (number, call) in OF_PROOFS.iter().enumerate() {
         assert!(rt;
-            is_refused_with_each_request(*call, &chunks)?,
+            is_refused_with_each_request(&rt, *call, &chunks),
             "call {number} of the table"
         );
     }
-    Ok(())
 }
 
 #[test]
-fn worked_examples_are_refused_with_each_request(rt: HostRuntime) -> Result<(), Fail> {
+fn worked_examples_are_refused_with_each_request(rt: HostRuntime) {
     for row in EXAMPLES.lines() {
         assert!(rt;
-            is_refused_with_each_request(Call::Example(row), &Chunks::none(rt.alloc()))?,
+            is_refused_with_each_request(&rt, Call::Example(row), &Chunks::none(rt.alloc())),
             "{row}"
         );
     }
-    Ok(())
 }
 
 #[test]
-fn json_of_no_subtree_is_refused_with_each_request(rt: HostRuntime) -> Result<(), Fail> {
+fn json_of_no_subtree_is_refused_with_each_request(rt: HostRuntime) {
     for row in BROKEN_JSON.lines() {
         assert!(rt;
-            is_refused_with_each_request(Call::FromBrokenJson(row), &Chunks::none(rt.alloc()))?,
+            is_refused_with_each_request(&rt, Call::FromBrokenJson(row), &Chunks::none(rt.alloc())),
             "{row}"
         );
     }
-    Ok(())
 }
 
 #[test]
-fn calls_of_sessions_are_refused_with_each_request(rt: HostRuntime) -> Result<(), Fail> {
+fn calls_of_sessions_are_refused_with_each_request(rt: HostRuntime) {
     for row in OF_SESSIONS.lines() {
         for call in [
             Call::SessionOfSubtrees(row),
             Call::SessionOfPlainRanges(row),
         ] {
             assert!(rt;
-                is_refused_with_each_request(call, &Chunks::none(rt.alloc()))?,
+                is_refused_with_each_request(&rt, call, &Chunks::none(rt.alloc())),
                 "{row}"
             );
         }
     }
-    Ok(())
 }
 
 #[test]
-fn calls_that_answer_lines_are_refused_with_each_request(rt: HostRuntime) -> Result<(), Fail> {
+fn calls_that_answer_lines_are_refused_with_each_request(rt: HostRuntime) {
     for row in OF_LINES.lines() {
         assert!(rt;
-            is_refused_with_each_request(Call::OfLines(row), &Chunks::none(rt.alloc()))?,
+            is_refused_with_each_request(&rt, Call::OfLines(row), &Chunks::none(rt.alloc())),
             "{row}"
         );
     }
-    Ok(())
 }
 
 #[test]
-fn appending_changes_nothing_where_a_request_is_refused(rt: HostRuntime) -> Result<(), Fail> {
+fn appending_changes_nothing_where_a_request_is_refused(rt: HostRuntime) {
     let mut generator = Xoshiro256PlusPlus::seed_from_u64(18);
     for (cuts_in_four, at_start) in [(0, true), (1, false), (1, true), (2, false), (4, false)] {
-        let nodes = drawn_nodes(&mut generator, rt.alloc(), 60, cuts_in_four)?;
+        let nodes = drawn_nodes(&mut generator, rt.alloc(), 60, cuts_in_four).expect(&rt, "memory");
         for count in 1..nodes.len() {
             let (front, _) = nodes.split_at(count);
             let chunks = Chunks {
@@ -406,10 +413,9 @@ fn appending_changes_nothing_where_a_request_is_refused(rt: HostRuntime) -> Resu
                 at_end: false,
             };
             assert!(rt;
-                is_refused_with_each_request(Call::MergeAt(count.saturating_sub(1)), &chunks)?,
+                is_refused_with_each_request(&rt, Call::MergeAt(count.saturating_sub(1)), &chunks),
                 "{count}"
             );
         }
     }
-    Ok(())
 }

@@ -4,9 +4,10 @@ use super::{
     ALL_EVEN, ALL_SLOW, Call, DONE, End, Manner, Outcome, Place, Run, SLOW, bears, fails,
     manners_with, odd, outcome_of,
 };
+use crate::lines::unfailing;
 use std::alloc::Global;
 use std::io::ErrorKind;
-use std::test::Fail;
+use std::process::Abort;
 use test_support::texts::{THREE_PAIRS, four_fields, lines_of_row, with_hashes};
 
 // The calls that read lines of pairs.
@@ -98,12 +99,10 @@ fn fails_where_nothing_is_taken(run: Run<'_>) -> bool {
 }
 
 #[test]
-fn three_pairs_are_answered_though_any_call_of_a_device_is_interrupted(
-    rt: HostRuntime,
-) -> Result<(), Fail> {
-    let input = lines_of_row(rt.alloc(), THREE_LINES)?;
+fn three_pairs_are_answered_though_any_call_of_a_device_is_interrupted(rt: HostRuntime) {
+    let input = unfailing(&rt, lines_of_row(rt.alloc(), THREE_LINES), "memory");
     for call in CALLS {
-        let expected = with_hashes(rt.alloc(), answer(call))?;
+        let expected = unfailing(&rt, with_hashes(rt.alloc(), answer(call)), "memory");
         let run = Run {
             alloc: rt.alloc(),
             call,
@@ -115,7 +114,6 @@ fn three_pairs_are_answered_though_any_call_of_a_device_is_interrupted(
         assert!(rt; is_answered_bytewise(run, &expected), "{call:?}");
         assert!(rt; fails_where_nothing_is_taken(run), "{call:?}");
     }
-    Ok(())
 }
 
 // Each row has the status of a fault and its line number, the lines up to the faulty one, and the lines after it.
@@ -151,37 +149,38 @@ fn has_fault(run: Run<'_>, front: usize, fault: End) -> bool {
 }
 
 // Returns the lines of two fields, and how many bytes those of the first have.
-fn input_of(alloc: Global, front: &str, rest: &str) -> Result<(String, usize), Fail> {
-    let mut input = lines_of_row(alloc, front)?;
+fn input_of(rt: &impl Abort, alloc: Global, front: &str, rest: &str) -> (String, usize) {
+    let mut input = unfailing(rt, lines_of_row(alloc, front), "memory");
     let length = input.len();
-    input.push_str(&lines_of_row(alloc, rest)?)?;
-    Ok((input, length))
+    let rest = unfailing(rt, lines_of_row(alloc, rest), "memory");
+    input.push_str(&rest).expect(rt, "memory");
+    (input, length)
 }
 
 // Returns whether a call has the fault of a row, though any read is interrupted or fails.
-fn has_fault_of_row(alloc: Global, call: Call, row: &str) -> Result<bool, Fail> {
-    let (status, line, front, rest) = four_fields(row, '|')?;
+fn has_fault_of_row(rt: &impl Abort, alloc: Global, call: Call, row: &str) -> bool {
+    let (status, line, front, rest) = unfailing(rt, four_fields(row, '|'), "four fields");
     let fault = End {
-        status: status.parse()?,
-        line: Some(line.parse()?),
+        status: status.parse().expect(rt, "a number"),
+        line: Some(line.parse().expect(rt, "a number")),
     };
-    let (input, front) = input_of(alloc, front, rest)?;
+    let (input, front) = input_of(rt, alloc, front, rest);
     let run = Run {
         alloc,
         call,
         text: input.as_bytes(),
     };
-    Ok(has_fault(run, front, fault))
+    has_fault(run, front, fault)
 }
 
 #[test]
-fn a_fault_names_its_line_though_any_read_is_interrupted_or_fails(
-    rt: HostRuntime,
-) -> Result<(), Fail> {
+fn a_fault_names_its_line_though_any_read_is_interrupted_or_fails(rt: HostRuntime) {
     for row in FAULTY.lines() {
         for call in CALLS {
-            assert!(rt; has_fault_of_row(rt.alloc(), call, row)?, "{call:?} {row}");
+            assert!(rt;
+                has_fault_of_row(&rt, rt.alloc(), call, row),
+                "{call:?} {row}"
+            );
         }
     }
-    Ok(())
 }

@@ -1,7 +1,7 @@
 //! The forms of a hash, and the hashes of a list.
 
 use super::{Call, Chunks, Outcome, Refusing, outcome_of};
-use std::test::Fail;
+use std::process::Abort;
 use xet_hash::data_hash::{DataHash, HashTextError};
 use xet_merkle::CoreError;
 use xet_merkle::aggregated_hashes::{Node, file_hash, file_hash_with_salt, xorb_hash};
@@ -58,16 +58,16 @@ fn have_forms(call: Call, alloc: &Refusing, hashes: &[DataHash; 3]) -> Result<bo
 }
 
 /// Tries a form of three hashes, one after another.
-pub fn attempt(call: Call, alloc: &Refusing, granted: u32) -> Result<Outcome, Fail> {
+pub fn attempt(rt: &impl Abort, call: Call, alloc: &Refusing, granted: u32) -> Outcome {
     let hashes = [
-        DataHash::from_slice(&BYTES)?,
+        DataHash::from_slice(&BYTES).expect(rt, "a hash"),
         DataHash::default(),
         DataHash::marker(),
     ];
     let before = hashes;
     alloc.grant(granted);
     let answer = have_forms(call, alloc, &hashes);
-    Ok(outcome_of(alloc, answer, hashes == before))
+    outcome_of(alloc, answer, hashes == before)
 }
 
 const SALT: [u8; 32] = [7; 32];
@@ -82,15 +82,16 @@ fn hash(call: Call, alloc: &Refusing, nodes: &[Node]) -> Result<DataHash, CoreEr
 
 /// Tries a hash of a list.
 pub fn of_chunks(
+    rt: &impl Abort,
     call: Call,
     alloc: &Refusing,
     granted: u32,
     chunks: &Chunks<'_>,
-) -> Result<Outcome, Fail> {
-    let expected = hash(call, alloc, chunks.nodes)?;
-    let before = chunks.nodes.to_vec(chunks.alloc)?;
+) -> Outcome {
+    let expected = hash(call, alloc, chunks.nodes).expect(rt, "a hash");
+    let before = chunks.nodes.to_vec(chunks.alloc).expect(rt, "memory");
     alloc.grant(granted);
     let answer = hash(call, alloc, chunks.nodes);
     let is_same = chunks.nodes == before.as_slice();
-    Ok(outcome_of(alloc, answer.map(|hash| hash == expected), is_same))
+    outcome_of(alloc, answer.map(|hash| hash == expected), is_same)
 }

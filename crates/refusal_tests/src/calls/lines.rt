@@ -1,11 +1,11 @@
 //! The calls that answer lines. If one is refused a request, it writes nothing. JSON values use another allocator.
 
-use super::{Outcome, Refusing, outcome_of};
+use super::{Outcome, Refusing, outcome_of, unfailing};
 use range_proof::RangeProof;
 use std::alloc::Global;
 use std::fmt::Write as _;
 use std::io::Write;
-use std::test::Fail;
+use std::process::Abort;
 use test_support::texts::{ABC, THREE_PAIRS, lines_of_row, two_fields};
 use test_support::{EACH_FOURTH, with_cuts};
 use xet_hash::data_hash::DataHash;
@@ -37,25 +37,28 @@ prove|
 verify|";
 
 /// Returns the two lines of a list of nodes.
-pub fn answer_to(memory: Global, nodes: &[Node]) -> Result<String, Fail> {
-    let (root, file) = (xorb_hash(memory, nodes)?, file_hash(memory, nodes)?);
-    Ok(format!(in memory; "xorb {root}\nfile {file}\n")?)
+pub fn answer_to(rt: &impl Abort, memory: Global, nodes: &[Node]) -> String {
+    let root = xorb_hash(memory, nodes).expect(rt, "a hash");
+    let file = file_hash(memory, nodes).expect(rt, "a hash");
+    format!(in memory; "xorb {root}\nfile {file}\n").expect(rt, "memory")
 }
 
 /// Returns the line of the range of some nodes.
-pub fn range_of(memory: Global, nodes: &[Node]) -> Result<String, Fail> {
-    let range = MerkleHashSubtree::from_chunks(memory, false, nodes, false)?;
-    let mut line = range.to_json(memory)?.to_string(memory)?;
-    line.push('\n')?;
-    Ok(line)
+pub fn range_of(rt: &impl Abort, memory: Global, nodes: &[Node]) -> String {
+    let range = MerkleHashSubtree::from_chunks(memory, false, nodes, false).expect(rt, "a subtree");
+    let value = range.to_json(memory).expect(rt, "memory");
+    let mut line = value.to_string(memory).expect(rt, "memory");
+    line.push('\n').expect(rt, "memory");
+    line
 }
 
 // Returns the line of the proof of the chunks 10 to 21 of some nodes.
-fn proof_of(memory: Global, nodes: &[Node]) -> Result<String, Fail> {
-    let proof = RangeProof::from_chunks(memory, nodes, 10, 22)?;
-    let mut line = proof.to_json(memory)?.to_string(memory)?;
-    line.push('\n')?;
-    Ok(line)
+fn proof_of(rt: &impl Abort, memory: Global, nodes: &[Node]) -> String {
+    let proof = RangeProof::from_chunks(memory, nodes, 10, 22).expect(rt, "a proof");
+    let value = proof.to_json(memory).expect(rt, "memory");
+    let mut line = value.to_string(memory).expect(rt, "memory");
+    line.push('\n').expect(rt, "memory");
+    line
 }
 
 // The file hash of the chunks `a chunk`, `another` and `and a third`, and the proof of the second one.
@@ -78,59 +81,59 @@ fn verify_part<W: Write>(
 }
 
 // Returns the lines of some pairs.
-fn pairs_of(memory: Global, nodes: &[Node]) -> Result<String, Fail> {
+fn pairs_of(rt: &impl Abort, memory: Global, nodes: &[Node]) -> String {
     let mut pairs = String::new(memory);
     for (hash, size) in nodes {
-        writeln!(pairs, "{hash} {size}")?;
+        writeln!(pairs, "{hash} {size}").expect(rt, "memory");
     }
-    Ok(pairs)
+    pairs
 }
 
 // Returns some nodes twice.
-fn twice(memory: Global, nodes: &[Node]) -> Result<Vec<Node>, Fail> {
+fn twice(rt: &impl Abort, memory: Global, nodes: &[Node]) -> Vec<Node> {
     let mut twice = Vec::new(memory);
-    twice.extend_from_slice(nodes)?;
-    twice.extend_from_slice(nodes)?;
-    Ok(twice)
+    twice.extend_from_slice(nodes).expect(rt, "memory");
+    twice.extend_from_slice(nodes).expect(rt, "memory");
+    twice
 }
 
 // Returns what `join` and `root` read: the range of some nodes, twice.
-fn two_ranges_of(memory: Global, nodes: &[Node]) -> Result<String, Fail> {
-    let range = range_of(memory, nodes)?;
-    Ok(format!(in memory; "{range}{range}")?)
+fn two_ranges_of(rt: &impl Abort, memory: Global, nodes: &[Node]) -> String {
+    let range = range_of(rt, memory, nodes);
+    format!(in memory; "{range}{range}").expect(rt, "memory")
 }
 
 // Returns what a command of `xetrange` reads, and what it should write.
-fn of_command(memory: Global, call: &str) -> Result<(String, String), Fail> {
+fn of_command(rt: &impl Abort, memory: Global, call: &str) -> (String, String) {
     let nodes = with_cuts::<28>(&EACH_FOURTH);
     match call {
-        "make" => Ok((pairs_of(memory, &nodes)?, range_of(memory, &nodes)?)),
+        "make" => (pairs_of(rt, memory, &nodes), range_of(rt, memory, &nodes)),
         "join" => {
-            let answer = range_of(memory, &twice(memory, &nodes)?)?;
-            Ok((two_ranges_of(memory, &nodes)?, answer))
+            let answer = range_of(rt, memory, &twice(rt, memory, &nodes));
+            (two_ranges_of(rt, memory, &nodes), answer)
         }
-        "prove" => Ok((pairs_of(memory, &nodes)?, proof_of(memory, &nodes)?)),
-        "verify" => Ok((
-            format!(in memory; "{PROOF}\nanother")?,
-            String::from_str(memory, "no")?,
-        )),
+        "prove" => (pairs_of(rt, memory, &nodes), proof_of(rt, memory, &nodes)),
+        "verify" => (
+            format!(in memory; "{PROOF}\nanother").expect(rt, "memory"),
+            String::from_str(memory, "no").expect(rt, "memory"),
+        ),
         _ => {
-            let answer = answer_to(memory, &twice(memory, &nodes)?)?;
-            Ok((two_ranges_of(memory, &nodes)?, answer))
+            let answer = answer_to(rt, memory, &twice(rt, memory, &nodes));
+            (two_ranges_of(rt, memory, &nodes), answer)
         }
     }
 }
 
 // Returns what a call reads, and what it should write.
-fn input_and_answer(memory: Global, call: &str, lines: &str) -> Result<(String, String), Fail> {
+fn input_and_answer(rt: &impl Abort, memory: Global, call: &str, lines: &str) -> (String, String) {
     if !call.starts_with("run") {
-        return of_command(memory, call);
+        return of_command(rt, memory, call);
     }
     let answer = if lines == "+abc" { ABC } else { THREE_PAIRS };
-    Ok((
-        lines_of_row(memory, lines)?,
-        String::from_str(memory, answer)?,
-    ))
+    (
+        unfailing(rt, lines_of_row(memory, lines), "memory"),
+        String::from_str(memory, answer).expect(rt, "memory"),
+    )
 }
 
 /// Makes a call, and returns its status, or 0 if it succeeds.
@@ -157,9 +160,15 @@ pub fn status_of<W: Write>(
 }
 
 /// Tries a call that answers lines. It writes into an array, which takes no memory.
-pub fn attempt(alloc: &Refusing, granted: u32, memory: Global, row: &str) -> Result<Outcome, Fail> {
-    let (call, lines) = two_fields(row, '|')?;
-    let (input, expected) = input_and_answer(memory, call, lines)?;
+pub fn attempt(
+    rt: &impl Abort,
+    alloc: &Refusing,
+    granted: u32,
+    memory: Global,
+    row: &str,
+) -> Outcome {
+    let (call, lines) = unfailing(rt, two_fields(row, '|'), "two fields");
+    let (input, expected) = input_and_answer(rt, memory, call, lines);
     let mut array = [0; 4096];
     let mut room = array.as_mut_slice();
     alloc.grant(granted);
@@ -171,5 +180,5 @@ pub fn attempt(alloc: &Refusing, granted: u32, memory: Global, row: &str) -> Res
         3 => Err(CoreError::OutOfMemory),
         _ => Ok(false),
     };
-    Ok(outcome_of(alloc, answer, written.is_empty()))
+    outcome_of(alloc, answer, written.is_empty())
 }

@@ -2,7 +2,7 @@
 
 use super::{Call, Outcome, Refusing, outcome_of};
 use std::alloc::AllocError;
-use std::test::Fail;
+use std::process::Abort;
 use xet_hash::data_hash::DataHash;
 use xet_hash::passthrough_hashmap::{Entry, PassThroughHashMap};
 use xet_merkle::CoreError;
@@ -43,11 +43,11 @@ fn is_made(call: Call, alloc: &Refusing, eight: &Numbers<'_>) -> Result<bool, Co
 }
 
 /// Tries a call that makes a map.
-pub fn make(call: Call, alloc: &Refusing, granted: u32) -> Result<Outcome, Fail> {
-    let eight = PassThroughHashMap::from_array(alloc, EIGHT)?;
+pub fn make(rt: &impl Abort, call: Call, alloc: &Refusing, granted: u32) -> Outcome {
+    let eight = PassThroughHashMap::from_array(alloc, EIGHT).expect(rt, "memory");
     alloc.grant(granted);
     let answer = is_made(call, alloc, &eight);
-    Ok(outcome_of(alloc, answer, has_numbers(&eight, 8)))
+    outcome_of(alloc, answer, has_numbers(&eight, 8))
 }
 
 // Puts a new number into a map, at its vacant entry. Returns the value there.

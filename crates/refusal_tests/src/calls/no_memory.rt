@@ -2,9 +2,9 @@
 //! has none to use. All others are called here.
 
 use super::maps::{EIGHT, Numbers, has_numbers};
-use super::{Refusing, refusing};
+use super::{Refusing, refusing, unfailing};
 use std::collections::HashMap;
-use std::test::Fail;
+use std::process::Abort;
 use test_support::{EACH_FOURTH, has_counts, reference_chunk, with_cuts};
 use upload_session::session::SessionOf;
 use upload_session::session_fault::SessionFault;
@@ -26,18 +26,18 @@ fn hashes(alloc: &Refusing, pairs: &[Node]) -> Result<[MerkleHash; 3], CoreError
 }
 
 #[test]
-fn hashes_of_at_most_one_pair_take_no_memory(rt: HostRuntime) -> Result<(), Fail> {
+fn hashes_of_at_most_one_pair_take_no_memory(rt: HostRuntime) {
     let root = "cfc5d07f6f03c29bbf424132963fe08d19a37d5757aaf520bf08119f05cd56d6";
-    let root = DataHash::from_hex(root)?;
+    let root = DataHash::from_hex(root).expect(&rt, "a hash");
     let file = "8e16257caa3fe079d484d872a8975264b2ff683b0d6db9028cc7c0f968a45661";
-    let file = DataHash::from_hex(file)?;
+    let file = DataHash::from_hex(file).expect(&rt, "a hash");
     let zero = [(DataHash::default(), 0)];
     let of_zero = "638a6bc391964a85939d48f008e8bdbae6a7975e7ca2d87a3ce2492f4e4d8a4c";
-    let of_zero = DataHash::from_hex(of_zero)?;
+    let of_zero = DataHash::from_hex(of_zero).expect(&rt, "a hash");
     let salt = "f4aa7219b7bc6145df344b930c1cf63680037e13236f4b3b8f439aba1520d443";
-    let salt = DataHash::from_hex(salt)?.as_bytes();
+    let salt = DataHash::from_hex(salt).expect(&rt, "a hash").as_bytes();
     let salted = "3e44e4a200e05a69afc979eb2e0507817e4f0ddff128a97e563c0e05fed3bd25";
-    let salted = DataHash::from_hex(salted)?;
+    let salted = DataHash::from_hex(salted).expect(&rt, "a hash");
     let alloc = refusing(rt.alloc());
     alloc.grant(0);
     assert!(rt; hashes(&alloc, &[]) == Ok([DataHash::default(); 3]));
@@ -45,7 +45,6 @@ fn hashes_of_at_most_one_pair_take_no_memory(rt: HostRuntime) -> Result<(), Fail
     assert!(rt; file_hash(&alloc, &zero) == Ok(of_zero));
     assert!(rt; file_hash_with_salt(&alloc, &zero, &salt) == Ok(salted));
     assert!(rt; !alloc.has_refused());
-    Ok(())
 }
 
 // Returns whether a subtree has both marks or none, this size, and this root as its final hash.
@@ -89,15 +88,24 @@ fn has_stable_point(nodes: &[Node], place: Option<usize>) -> bool {
 }
 
 #[test]
-fn looking_at_ranges_takes_no_memory(rt: HostRuntime) -> Result<(), Fail> {
+fn looking_at_ranges_takes_no_memory(rt: HostRuntime) {
     let nodes = with_cuts::<28>(&EACH_FOURTH);
-    let root = xorb_hash(rt.alloc(), &nodes)?;
+    let root = xorb_hash(rt.alloc(), &nodes).expect(&rt, "a hash");
     let alloc = refusing(rt.alloc());
-    let mut range = MerkleHashSubtree::from_chunks(&alloc, false, &nodes[..24], false)?;
-    let marked = MerkleHashSubtree::from_chunks(&alloc, true, &[], false)?;
-    let open = MerkleHashSubtree::from_chunks(&alloc, false, &nodes[..24], false)?;
-    let closed = MerkleHashSubtree::from_chunks(&alloc, true, &nodes, true)?;
-    let plain = PlainRange::from_chunks(&alloc, true, &nodes, false)?;
+    let mut range = MerkleHashSubtree::from_chunks(&alloc, false, &nodes[..24], false).expect(
+        &rt,
+        "a subtree",
+    );
+    let marked = MerkleHashSubtree::from_chunks(&alloc, true, &[], false).expect(&rt, "a subtree");
+    let open = MerkleHashSubtree::from_chunks(&alloc, false, &nodes[..24], false).expect(
+        &rt,
+        "a subtree",
+    );
+    let closed = MerkleHashSubtree::from_chunks(&alloc, true, &nodes, true).expect(
+        &rt,
+        "a subtree",
+    );
+    let plain = PlainRange::from_chunks(&alloc, true, &nodes, false).expect(&rt, "a range");
     alloc.grant(0);
     assert!(rt; show_what_they_are(&open, &closed, root));
     assert!(rt; is_refused(&mut range, &marked, &open));
@@ -113,7 +121,6 @@ fn looking_at_ranges_takes_no_memory(rt: HostRuntime) -> Result<(), Fail> {
     assert!(rt; has_stable_point(&with_cuts::<17>(&[0, 8, 16]), None));
     assert!(rt; has_stable_point(&with_cuts::<5>(&[0, 2, 4]), None));
     assert!(rt; !alloc.has_refused());
-    Ok(())
 }
 
 // Returns whether look-ups in a map of eight numbers and iterations over it find them.
@@ -155,9 +162,9 @@ fn is_changed(map: &mut Numbers<'_>) -> bool {
 }
 
 #[test]
-fn maps_are_read_and_emptied_without_memory(rt: HostRuntime) -> Result<(), Fail> {
+fn maps_are_read_and_emptied_without_memory(rt: HostRuntime) {
     let alloc = refusing(rt.alloc());
-    let mut map: Numbers<'_> = PassThroughHashMap::from_array(&alloc, EIGHT)?;
+    let mut map: Numbers<'_> = PassThroughHashMap::from_array(&alloc, EIGHT).expect(&rt, "memory");
     alloc.grant(0);
     let none: Numbers<'_> = PassThroughHashMap::new(&alloc);
     assert!(rt; none.is_empty());
@@ -171,17 +178,17 @@ fn maps_are_read_and_emptied_without_memory(rt: HostRuntime) -> Result<(), Fail>
     assert!(rt; map.is_empty());
     assert!(rt; map.into_iter().count() == 0);
     assert!(rt; !alloc.has_refused());
-    Ok(())
 }
 
 // Returns whether the calls of a session that allocate nothing succeed while each request is refused, without a chunk
 // and with one.
 fn answers_without_memory<'a, R: ChunkRange<Alloc = &'a Refusing>>(
+    rt: &impl Abort,
     alloc: &'a Refusing,
-) -> Result<bool, Fail> {
-    let chunk = [reference_chunk("1")?];
+) -> bool {
+    let chunk = [unfailing(rt, reference_chunk("1"), "a chunk")];
     alloc.grant(0);
-    let mut session: SessionOf<R> = SessionOf::new_in(alloc)?;
+    let mut session: SessionOf<R> = SessionOf::new_in(alloc).expect(rt, "a session");
     let is_empty = session.put(2, &[]) == Ok(0) && session.range(0).is_none() && !session.taken(2);
     let has_asked = alloc.has_refused();
     alloc.grant(u32::MAX);
@@ -193,13 +200,12 @@ fn answers_without_memory<'a, R: ChunkRange<Alloc = &'a Refusing>>(
         && session.root(1) == Err(SessionFault::Gap)
         && session.finish(1) == Err(SessionFault::Gap);
     let is_right = is_empty && is_put && has_chunk && has_range && is_refused;
-    Ok(is_right && !has_asked && !alloc.has_refused())
+    is_right && !has_asked && !alloc.has_refused()
 }
 
 #[test]
-fn sessions_answer_what_takes_no_memory_without_it(rt: HostRuntime) -> Result<(), Fail> {
+fn sessions_answer_what_takes_no_memory_without_it(rt: HostRuntime) {
     let alloc = refusing(rt.alloc());
-    assert!(rt; answers_without_memory::<MerkleHashSubtree<&Refusing>>(&alloc)?);
-    assert!(rt; answers_without_memory::<PlainRange<&Refusing>>(&alloc)?);
-    Ok(())
+    assert!(rt; answers_without_memory::<MerkleHashSubtree<&Refusing>>(&rt, &alloc));
+    assert!(rt; answers_without_memory::<PlainRange<&Refusing>>(&rt, &alloc));
 }

@@ -2,7 +2,7 @@
 
 use super::{Call, Chunks, Outcome, Refusing, outcome_of};
 use range_proof::{HashTree, OpenError, OpenFault, OpenedRange, RangeProof};
-use std::test::Fail;
+use std::process::Abort;
 use xet_merkle::CoreError;
 use xet_merkle::aggregated_hashes::{file_hash, xorb_hash};
 
@@ -63,83 +63,102 @@ fn opening_outcome<'a>(
 }
 
 // Tries to make the hash tree of some chunks.
-fn make_tree(alloc: &Refusing, granted: u32, chunks: &Chunks<'_>) -> Result<Outcome, Fail> {
-    let root = xorb_hash(alloc, chunks.nodes)?;
+fn make_tree(rt: &impl Abort, alloc: &Refusing, granted: u32, chunks: &Chunks<'_>) -> Outcome {
+    let root = xorb_hash(alloc, chunks.nodes).expect(rt, "a hash");
     alloc.grant(granted);
     match HashTree::from_chunks(alloc, chunks.nodes) {
-        Ok(tree) => Ok(outcome_of(alloc, Ok(tree.root() == root), true)),
-        Err(error) => Ok(outcome_of(alloc, Err(error), true)),
+        Ok(tree) => outcome_of(alloc, Ok(tree.root() == root), true),
+        Err(error) => outcome_of(alloc, Err(error), true),
     }
 }
 
 // Tries to open a proof with the file hash of some chunks, or with their root.
-fn open(call: Call, alloc: &Refusing, granted: u32, chunks: &Chunks<'_>) -> Result<Outcome, Fail> {
+fn open(
+    rt: &impl Abort,
+    call: Call,
+    alloc: &Refusing,
+    granted: u32,
+    chunks: &Chunks<'_>,
+) -> Outcome {
     let (file, root) = (
-        file_hash(alloc, chunks.nodes)?,
-        xorb_hash(alloc, chunks.nodes)?,
+        file_hash(alloc, chunks.nodes).expect(rt, "a hash"),
+        xorb_hash(alloc, chunks.nodes).expect(rt, "a hash"),
     );
-    let given = proof(alloc, chunks)?;
-    let expected = given.try_clone()?;
+    let given = proof(alloc, chunks).expect(rt, "a proof");
+    let expected = given.try_clone().expect(rt, "memory");
     alloc.grant(granted);
     let answer = match call {
         Call::Open => given.open(&file, &[0; 32]),
         _ => given.open_root(&root),
     };
-    Ok(opening_outcome(alloc, answer, &expected))
+    opening_outcome(alloc, answer, &expected)
 }
 
 // Tries to read a proof from its JSON value, or from its flat lists.
-fn read(call: Call, alloc: &Refusing, granted: u32, chunks: &Chunks<'_>) -> Result<Outcome, Fail> {
-    let expected = proof(alloc, chunks)?;
-    let value = expected.to_json(chunks.alloc)?;
-    let (counts, nodes) = expected.to_flat()?;
+fn read(
+    rt: &impl Abort,
+    call: Call,
+    alloc: &Refusing,
+    granted: u32,
+    chunks: &Chunks<'_>,
+) -> Outcome {
+    let expected = proof(alloc, chunks).expect(rt, "a proof");
+    let value = expected.to_json(chunks.alloc).expect(rt, "memory");
+    let (counts, nodes) = expected.to_flat().expect(rt, "memory");
     alloc.grant(granted);
     let answer = match call {
         Call::ProofFromJson => RangeProof::from_json(alloc, &value),
         _ => RangeProof::from_flat(alloc, &counts, &nodes),
     };
-    Ok(proof_outcome(alloc, answer, &expected))
+    proof_outcome(alloc, answer, &expected)
 }
 
 // Tries to return the flat lists of a proof.
-fn to_flat(alloc: &Refusing, granted: u32, chunks: &Chunks<'_>) -> Result<Outcome, Fail> {
-    let given = proof(alloc, chunks)?;
-    let (counts, nodes) = given.to_flat()?;
+fn to_flat(rt: &impl Abort, alloc: &Refusing, granted: u32, chunks: &Chunks<'_>) -> Outcome {
+    let given = proof(alloc, chunks).expect(rt, "a proof");
+    let (counts, nodes) = given.to_flat().expect(rt, "memory");
     alloc.grant(granted);
     match given.to_flat() {
         Ok(lists) => {
             let is_right = lists.0 == counts && lists.1 == nodes;
-            Ok(outcome_of(alloc, Ok(is_right), true))
+            outcome_of(alloc, Ok(is_right), true)
         }
-        Err(error) => Ok(outcome_of(alloc, Err(error), true)),
+        Err(error) => outcome_of(alloc, Err(error), true),
     }
 }
 
 // Tries to make a proof, or to copy it.
-fn make(call: Call, alloc: &Refusing, granted: u32, chunks: &Chunks<'_>) -> Result<Outcome, Fail> {
-    let expected = proof(alloc, chunks)?;
-    let tree = HashTree::from_chunks(alloc, chunks.nodes)?;
+fn make(
+    rt: &impl Abort,
+    call: Call,
+    alloc: &Refusing,
+    granted: u32,
+    chunks: &Chunks<'_>,
+) -> Outcome {
+    let expected = proof(alloc, chunks).expect(rt, "a proof");
+    let tree = HashTree::from_chunks(alloc, chunks.nodes).expect(rt, "a tree");
     alloc.grant(granted);
     let answer = match call {
         Call::TreeProof => tree.proof(alloc, FIRST, END),
         Call::ProofTryClone => expected.try_clone(),
         _ => proof(alloc, chunks),
     };
-    Ok(proof_outcome(alloc, answer, &expected))
+    proof_outcome(alloc, answer, &expected)
 }
 
 /// Tries a call on the proof of a range of some chunks.
 pub fn attempt(
+    rt: &impl Abort,
     call: Call,
     alloc: &Refusing,
     granted: u32,
     chunks: &Chunks<'_>,
-) -> Result<Outcome, Fail> {
+) -> Outcome {
     match call {
-        Call::HashTree => make_tree(alloc, granted, chunks),
-        Call::Open | Call::OpenRoot => open(call, alloc, granted, chunks),
-        Call::ProofFromJson | Call::ProofFromFlat => read(call, alloc, granted, chunks),
-        Call::ProofToFlat => to_flat(alloc, granted, chunks),
-        _ => make(call, alloc, granted, chunks),
+        Call::HashTree => make_tree(rt, alloc, granted, chunks),
+        Call::Open | Call::OpenRoot => open(rt, call, alloc, granted, chunks),
+        Call::ProofFromJson | Call::ProofFromFlat => read(rt, call, alloc, granted, chunks),
+        Call::ProofToFlat => to_flat(rt, alloc, granted, chunks),
+        _ => make(rt, call, alloc, granted, chunks),
     }
 }

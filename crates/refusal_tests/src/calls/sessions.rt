@@ -1,9 +1,9 @@
 //! Sessions over each kind of range.
 
 use super::ranges::Kind;
-use super::{Call, Outcome, Refusing, outcome_of};
+use super::{Call, Outcome, Refusing, outcome_of, unfailing};
 use std::alloc::Global;
-use std::test::Fail;
+use std::process::Abort;
 use subtree_sessions::session::Session;
 use test_support::reference_list;
 use test_support::texts::{four_fields, three_fields, two_fields};
@@ -50,28 +50,29 @@ struct Put {
 }
 
 // Reads a put from a text.
-fn read(memory: Global, text: &str) -> Result<Put, Fail> {
-    let (first, chunks, new) = three_fields(text, ':')?;
-    Ok(Put {
-        first: first.parse()?,
-        chunks: reference_list(memory, chunks)?,
-        new: new.parse()?,
-    })
+fn read(rt: &impl Abort, memory: Global, text: &str) -> Put {
+    let (first, chunks, new) = unfailing(rt, three_fields(text, ':'), "three fields");
+    Put {
+        first: first.parse().expect(rt, "a position"),
+        chunks: unfailing(rt, reference_list(memory, chunks), "chunks"),
+        new: new.parse().expect(rt, "a number"),
+    }
 }
 
 // Returns whether puts return what they should.
 fn are_put<'a, R: Kind<Alloc = &'a Refusing>>(
+    rt: &impl Abort,
     memory: Global,
     session: &mut SessionOf<R>,
     puts: &str,
-) -> Result<bool, Fail> {
+) -> bool {
     for text in puts.split_whitespace() {
-        let put = read(memory, text)?;
+        let put = read(rt, memory, text);
         if session.put(put.first, &put.chunks) != Ok(put.new) {
-            return Ok(false);
+            return false;
         }
     }
-    Ok(true)
+    true
 }
 
 // Returns whether two sessions have the same ranges and, among the first positions, the same taken ones.
@@ -103,13 +104,13 @@ struct End {
 }
 
 // Returns the end of a session of some reference chunks.
-fn end_of(memory: Global, numbers: &str) -> Result<End, Fail> {
-    let chunks = reference_list(memory, numbers)?;
-    Ok(End {
+fn end_of(rt: &impl Abort, memory: Global, numbers: &str) -> End {
+    let chunks = unfailing(rt, reference_list(memory, numbers), "chunks");
+    End {
         total: chunks.len() as u64,
-        root: xorb_hash(memory, &chunks)?,
-        file: file_hash(memory, &chunks)?,
-    })
+        root: xorb_hash(memory, &chunks).expect(rt, "a hash"),
+        file: file_hash(memory, &chunks).expect(rt, "a hash"),
+    }
 }
 
 // Makes a call with the chunks of a put. Returns whether it returns what it should.
@@ -149,34 +150,37 @@ fn ends<'a, R: Kind<Alloc = &'a Refusing>>(
 
 // Returns a session after some puts.
 fn begun<'a, R: Kind<Alloc = &'a Refusing>>(
+    rt: &impl Abort,
     alloc: &'a Refusing,
     memory: Global,
     puts: &str,
-) -> Result<SessionOf<R>, Fail> {
-    let mut session = SessionOf::new_in(alloc)?;
-    if !are_put(memory, &mut session, puts)? {
-        return Err("a put before the call")?;
-    }
-    Ok(session)
+) -> SessionOf<R> {
+    let mut session = SessionOf::new_in(alloc).expect(rt, "a session");
+    assert!(rt;
+        are_put(rt, memory, &mut session, puts),
+        "a put before the call"
+    );
+    session
 }
 
 // Returns the first of some puts.
-fn first_put(memory: Global, puts: &str) -> Result<Option<Put>, Fail> {
+fn first_put(rt: &impl Abort, memory: Global, puts: &str) -> Option<Put> {
     match puts.split_whitespace().next() {
-        Some(text) => Ok(Some(read(memory, text)?)),
-        None => Ok(None),
+        Some(text) => Some(read(rt, memory, text)),
+        None => None,
     }
 }
 
 // Tries a call with the chunks of a put, if there is one. The session is that after the puts before.
 fn tried<'a, R: Kind<Alloc = &'a Refusing>>(
+    rt: &impl Abort,
     (alloc, granted, memory): (&'a Refusing, u32, Global),
     session: &mut SessionOf<R>,
     (call, before): (&str, &str),
     put: &Option<Put>,
     end: &End,
-) -> Result<Outcome, Fail> {
-    let other: SessionOf<R> = begun(alloc, memory, before)?;
+) -> Outcome {
+    let other: SessionOf<R> = begun(rt, alloc, memory, before);
     alloc.grant(granted);
     let answer = match put {
         Some(put) => takes(alloc, session, call, put),
@@ -184,40 +188,44 @@ fn tried<'a, R: Kind<Alloc = &'a Refusing>>(
     };
     let outcome = outcome_of(alloc, answer, are_same(session, &other));
     alloc.grant(u32::MAX);
-    Ok(outcome)
+    outcome
 }
 
 // Returns whether a session takes some more puts and then has the right root and file hash.
 fn goes_on<'a, R: Kind<Alloc = &'a Refusing>>(
+    rt: &impl Abort,
     memory: Global,
     session: &mut SessionOf<R>,
     puts: &str,
     end: &End,
-) -> Result<bool, Fail> {
-    Ok(are_put(memory, session, puts)? && ends(session, "root", end)? && ends(session, "", end)?)
+) -> bool {
+    are_put(rt, memory, session, puts)
+        && ends(session, "root", end).expect(rt, "memory")
+        && ends(session, "", end).expect(rt, "memory")
 }
 
 /// Tries a call of a session. After a refusal it goes on from the session as it was.
 pub fn attempt<'a, R: Kind<Alloc = &'a Refusing>>(
+    rt: &impl Abort,
     alloc: &'a Refusing,
     granted: u32,
     memory: Global,
     row: &str,
-) -> Result<Outcome, Fail> {
-    let (call, chunks, before, puts) = four_fields(row, '|')?;
-    let (after_refusal, others) = two_fields(puts, '|')?;
-    let end = end_of(memory, chunks)?;
-    let put = first_put(memory, after_refusal)?;
-    let mut session: SessionOf<R> = begun(alloc, memory, before)?;
+) -> Outcome {
+    let (call, chunks, before, puts) = unfailing(rt, four_fields(row, '|'), "four fields");
+    let (after_refusal, others) = unfailing(rt, two_fields(puts, '|'), "two fields");
+    let end = end_of(rt, memory, chunks);
+    let put = first_put(rt, memory, after_refusal);
+    let mut session: SessionOf<R> = begun(rt, alloc, memory, before);
     let granted = (alloc, granted, memory);
-    let outcome = tried(granted, &mut session, (call, before), &put, &end)?;
-    let is_same = put == first_put(memory, after_refusal)?;
+    let outcome = tried(rt, granted, &mut session, (call, before), &put, &end);
+    let is_same = put == first_put(rt, memory, after_refusal);
     let remaining = if matches!(outcome, Outcome::Refused) {
         after_refusal
     } else {
         others
     };
-    Ok(outcome.if_so(is_same && goes_on(memory, &mut session, remaining, &end)?))
+    outcome.if_so(is_same && goes_on(rt, memory, &mut session, remaining, &end))
 }
 
 // Returns whether a session of two runs, or the list of the three hashes that it knows, is copied.
@@ -232,9 +240,15 @@ fn is_copied<'a>(call: Call, session: &Session<&'a Refusing>) -> Result<bool, Co
 }
 
 /// Tries a call that copies a session, or the hashes that it knows.
-pub fn copy(call: Call, alloc: &Refusing, granted: u32, memory: Global) -> Result<Outcome, Fail> {
-    let session: Session<&Refusing> = begun(alloc, memory, "0:0,1:2 3:2:1")?;
+pub fn copy(
+    rt: &impl Abort,
+    call: Call,
+    alloc: &Refusing,
+    granted: u32,
+    memory: Global,
+) -> Outcome {
+    let session: Session<&Refusing> = begun(rt, alloc, memory, "0:0,1:2 3:2:1");
     alloc.grant(granted);
     let answer = is_copied(call, &session);
-    Ok(outcome_of(alloc, answer, true))
+    outcome_of(alloc, answer, true)
 }
