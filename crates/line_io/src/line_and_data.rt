@@ -54,12 +54,16 @@ impl<A: Allocator + Clone> LineAndData<A> {
 
 impl<A: Allocator> LineAndData<A> {
     /// Reads on until more than `len` bytes of data are held, or the input ends. At most 65,535 bytes more are held.
+    /// The line, and the data that was held, stay as they are, even if a read or an allocation fails. The bytes of a
+    /// read are lost if there is no memory for them.
     pub fn read_data<R: Read>(&mut self, r: &mut R, len: u64) -> Result<(), InputFault<LongLine>>
         ensures read { OnOk result ((input : Option (List ℕ)) →
             HasRead self.old.line.items self.old.data.items input (R.remaining r.old) →
             HasRead self.new.line.items self.new.data.items input (R.remaining r.new)) }
         ensures enough { OnOk result (IsAtEnd (R.remaining r.new) ⊎ (len < length self.new.data.items)) }
         ensures fault { IfErr result (λ fault. IfLine fault (λ _ _. ⊥)) }
+        ensures line { self.new.line.items ≡ self.old.line.items }
+        ensures held { (more : List ℕ) × (self.new.data.items ≡ self.old.data.items ++ more) }
     {
         let mut buffer = [0; BUFFER_LEN];
         'pieces: while self.data.len() as u64 <= len {
