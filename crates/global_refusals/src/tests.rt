@@ -166,8 +166,8 @@ impl fmt::Display for LowerHexOf {
 const ABC: &str = "a8803506f7aff014f19aa9e9b79dc6455c49672570f96156071329698dd0284e";
 
 #[test]
-fn forms_of_hashes_take_no_memory(rt: HostRuntime) -> Result<(), Fail> {
-    let hash = DataHash::from_hex(ABC)?;
+fn forms_of_hashes_take_no_memory(rt: HostRuntime) {
+    let hash = DataHash::from_hex(ABC).expect(&rt, "a hash");
     assert!(rt; DataHash::from_hex_digits(&hash.hex_digits()).ok() == Some(hash));
     let bytes = hash.as_bytes();
     assert!(rt; DataHash::from_slice(&bytes).ok() == Some(hash));
@@ -177,14 +177,13 @@ fn forms_of_hashes_take_no_memory(rt: HostRuntime) -> Result<(), Fail> {
     assert!(rt; DataHash::default() < hash && hash < DataHash::marker());
     assert!(rt; DataHash::marker() % 4 == 3);
     let hex = LowerHexOf(hash);
-    write!(Unread, "{hash} {hash:?} {hex}")?;
-    Ok(())
+    write!(Unread, "{hash} {hash:?} {hex}").expect(&rt, "a text");
 }
 
 #[test]
-fn hashes_take_no_memory(rt: HostRuntime) -> Result<(), Fail> {
+fn hashes_take_no_memory(rt: HostRuntime) {
     let hash = compute_data_hash(b"abc");
-    assert!(rt; hash == DataHash::from_hex(ABC)?);
+    assert!(rt; hash == DataHash::from_hex(ABC).expect(&rt, "a hash"));
     assert!(rt; DataHash::from(keyed_hash(&DATA_KEY, b"abc")) == hash);
     assert_ne!(rt; compute_internal_node_hash(b"abc"), hash);
     assert_ne!(rt; hash.hmac(hash), DataHash::random_from_seed(1));
@@ -194,21 +193,19 @@ fn hashes_take_no_memory(rt: HostRuntime) -> Result<(), Fail> {
     assert!(rt; state.build_hasher().finish() == 0);
     assert!(rt; find_stable_start(&chunks()).is_none());
     assert!(rt; find_stable_end(&chunks()).is_none());
-    Ok(())
 }
 
 #[test]
-fn messages_take_no_memory(rt: HostRuntime) -> Result<(), Fail> {
-    let hash = DataHash::from_hex(ABC)?;
+fn messages_take_no_memory(rt: HostRuntime) {
+    let hash = DataHash::from_hex(ABC).expect(&rt, "a hash");
     let mut hasher = Hasher::new_keyed(&DATA_KEY);
     hasher.update(b"abc");
     assert!(rt; hasher.has_room(1) && hasher.count() == 3);
     assert!(rt; DataHash::from(hasher.finalize()) == hash);
     let mut writer = HashedWrite::new(Nowhere);
-    io::Write::write_all(&mut writer, b"ab")?;
-    assert!(rt; io::Write::write(&mut writer, b"c")? == 1);
-    io::Write::flush(&mut writer)?;
+    io::Write::write_all(&mut writer, b"ab").expect(&rt, "a write");
+    assert!(rt; io::Write::write(&mut writer, b"c").expect(&rt, "a write") == 1);
+    io::Write::flush(&mut writer).expect(&rt, "a flush");
     assert!(rt; writer.hash() == hash);
     let Nowhere = writer.into_inner();
-    Ok(())
 }
