@@ -298,27 +298,38 @@ fn is_refused_with_each_request(rt: &impl Abort, call: Call, chunks: &Chunks<'_>
     false
 }
 
+// Makes a call on chunks with each request refused, and with each pair of marks.
+fn refuse_with_each_pair_of_marks(
+    rt: &impl Abort,
+    alloc: Global,
+    number: usize,
+    call: Call,
+    nodes: &[Node],
+) {
+    for (at_start, at_end) in MARKS {
+        // Only a range with both marks has a root.
+        if matches!(call, Call::RootOfPlain) && !(at_start && at_end) {
+            continue;
+        }
+        let chunks = Chunks {
+            alloc,
+            at_start,
+            nodes,
+            at_end,
+        };
+        assert!(rt;
+            is_refused_with_each_request(rt, call, &chunks),
+            "call {number} of the table, {at_start}, {at_end}"
+        );
+    }
+}
+
 #[test]
 fn calls_on_chunks_are_refused_with_each_request(rt: HostRuntime) {
     for (number, (call, seed)) in OF_CHUNKS.iter().enumerate() {
         let mut generator = Xoshiro256PlusPlus::seed_from_u64(*seed);
         let nodes = drawn_list(&mut generator, rt.alloc(), 200).expect(&rt, "memory");
-        for (at_start, at_end) in MARKS {
-            // Only a range with both marks has a root.
-            if matches!(call, Call::RootOfPlain) && !(at_start && at_end) {
-                continue;
-            }
-            let chunks = Chunks {
-                alloc: rt.alloc(),
-                at_start,
-                nodes: nodes.as_slice(),
-                at_end,
-            };
-            assert!(rt;
-                is_refused_with_each_request(&rt, *call, &chunks),
-                "call {number} of the table, {at_start}, {at_end}"
-            );
-        }
+        refuse_with_each_pair_of_marks(&rt, rt.alloc(), number, *call, &nodes);
     }
 }
 

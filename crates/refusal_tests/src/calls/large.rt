@@ -90,6 +90,17 @@ fn is_copied(rt: &impl Abort, alloc: Global, subtree: &MerkleHashSubtree, nodes:
     made == *subtree && subtree.try_clone().expect(rt, "memory") == *subtree
 }
 
+// Returns the final hash of the subtree of a file's chunks, if the file's end is merged after them.
+fn hash_of_ended(rt: &impl Abort, alloc: Global, chunks: &[Node]) -> Option<MerkleHash> {
+    let mut ended = MerkleHashSubtree::from_chunks(alloc, true, chunks, false).expect(
+        rt,
+        "a subtree",
+    );
+    let end = MerkleHashSubtree::from_chunks(alloc, false, &[], true).expect(rt, "a subtree");
+    ended.merge_into(&end).expect(rt, "a merge");
+    ended.final_hash()
+}
+
 #[test]
 fn the_longest_lists_are_answered(rt: HostRuntime) {
     let nodes = uncut(&rt, rt.alloc(), MOST * 2);
@@ -97,14 +108,8 @@ fn the_longest_lists_are_answered(rt: HostRuntime) {
     assert!(rt; merged.num_nodes() == MOST * 2 && merged.left(0) == nodes.as_slice());
     assert!(rt; is_copied(&rt, rt.alloc(), &merged, &nodes));
     let (front, _) = nodes.split_at(MOST.min(nodes.len()));
-    let mut ended = MerkleHashSubtree::from_chunks(rt.alloc(), true, front, false).expect(
-        &rt,
-        "a subtree",
-    );
-    let end = MerkleHashSubtree::from_chunks(rt.alloc(), false, &[], true).expect(&rt, "a subtree");
-    ended.merge_into(&end).expect(&rt, "a merge");
     let root = xorb_hash(rt.alloc(), front).expect(&rt, "a hash");
-    assert!(rt; ended.final_hash() == Some(root));
+    assert!(rt; hash_of_ended(&rt, rt.alloc(), front) == Some(root));
 }
 
 // Returns whether the range of some chunks equals an empty range with these chunks appended.

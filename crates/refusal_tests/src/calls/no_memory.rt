@@ -87,32 +87,10 @@ fn has_stable_point(nodes: &[Node], place: Option<usize>) -> bool {
     find_stable_start(nodes) == place && find_stable_end(nodes) == place
 }
 
-#[test]
-fn looking_at_ranges_takes_no_memory(rt: HostRuntime) {
-    let nodes = with_cuts::<28>(&EACH_FOURTH);
-    let root = xorb_hash(rt.alloc(), &nodes).expect(&rt, "a hash");
-    let alloc = refusing(rt.alloc());
-    let mut range = MerkleHashSubtree::from_chunks(&alloc, false, &nodes[..24], false).expect(
-        &rt,
-        "a subtree",
-    );
-    let marked = MerkleHashSubtree::from_chunks(&alloc, true, &[], false).expect(&rt, "a subtree");
-    let open = MerkleHashSubtree::from_chunks(&alloc, false, &nodes[..24], false).expect(
-        &rt,
-        "a subtree",
-    );
-    let closed = MerkleHashSubtree::from_chunks(&alloc, true, &nodes, true).expect(
-        &rt,
-        "a subtree",
-    );
-    let plain = PlainRange::from_chunks(&alloc, true, &nodes, false).expect(&rt, "a range");
-    alloc.grant(0);
-    assert!(rt; show_what_they_are(&open, &closed, root));
-    assert!(rt; is_refused(&mut range, &marked, &open));
-    assert!(rt; plain.root() == Ok(None));
-    assert!(rt; plain.at_start() && !plain.at_end() && plain.chunks() == nodes.as_slice());
-    assert!(rt; find_stable_start(open.left(0)).is_none());
-    assert!(rt; find_stable_end(&nodes) == Some(24));
+// Looks for stable points in lists of nodes and among the left nodes of an open subtree.
+fn stable_points_are_found(rt: &impl Abort, nodes: &[Node; 28], left: &[Node]) {
+    assert!(rt; find_stable_start(left).is_none());
+    assert!(rt; find_stable_end(nodes) == Some(24));
     assert!(rt;
         find_stable_start(&nodes[..20]) == Some(8) && find_stable_end(&nodes[..20]) == Some(16)
     );
@@ -120,6 +98,38 @@ fn looking_at_ranges_takes_no_memory(rt: HostRuntime) {
     assert!(rt; has_stable_point(&with_cuts::<15>(&[0, 7, 14]), Some(8)));
     assert!(rt; has_stable_point(&with_cuts::<17>(&[0, 8, 16]), None));
     assert!(rt; has_stable_point(&with_cuts::<5>(&[0, 2, 4]), None));
+}
+
+// Returns a subtree of some nodes, both of whose marks are `is_marked`.
+fn subtree<'a>(
+    rt: &impl Abort,
+    alloc: &'a Refusing,
+    nodes: &[Node],
+    is_marked: bool,
+) -> MerkleHashSubtree<&'a Refusing> {
+    MerkleHashSubtree::from_chunks(alloc, is_marked, nodes, is_marked).expect(rt, "a subtree")
+}
+
+// Returns whether a plain range from a file's start on shows its chunks, and has no root.
+fn shows_its_chunks<'a>(plain: &PlainRange<&'a Refusing>, nodes: &[Node]) -> bool {
+    plain.root() == Ok(None) && plain.at_start() && !plain.at_end() && plain.chunks() == nodes
+}
+
+#[test]
+fn looking_at_ranges_takes_no_memory(rt: HostRuntime) {
+    let nodes = with_cuts::<28>(&EACH_FOURTH);
+    let root = xorb_hash(rt.alloc(), &nodes).expect(&rt, "a hash");
+    let alloc = refusing(rt.alloc());
+    let mut range = subtree(&rt, &alloc, &nodes[..24], false);
+    let marked = MerkleHashSubtree::from_chunks(&alloc, true, &[], false).expect(&rt, "a subtree");
+    let open = subtree(&rt, &alloc, &nodes[..24], false);
+    let closed = subtree(&rt, &alloc, &nodes, true);
+    let plain = PlainRange::from_chunks(&alloc, true, &nodes, false).expect(&rt, "a range");
+    alloc.grant(0);
+    assert!(rt; show_what_they_are(&open, &closed, root));
+    assert!(rt; is_refused(&mut range, &marked, &open));
+    assert!(rt; shows_its_chunks(&plain, &nodes));
+    stable_points_are_found(&rt, &nodes, open.left(0));
     assert!(rt; !alloc.has_refused());
 }
 
@@ -180,6 +190,19 @@ fn maps_are_read_and_emptied_without_memory(rt: HostRuntime) {
     assert!(rt; !alloc.has_refused());
 }
 
+// Returns whether calls of a session, whose only chunk is at position 2, are answered or refused as they should be.
+fn has_one_chunk<'a, R: ChunkRange<Alloc = &'a Refusing>>(
+    session: &mut SessionOf<R>,
+    chunk: &[Node],
+) -> bool {
+    let has_chunk = session.put(2, &[]) == Ok(0) && session.taken(2) && !session.taken(3);
+    let has_range = matches!(session.range(0), Some((2, _))) && session.range(1).is_none();
+    let is_refused = session.put(2, chunk) == Err(SessionFault::Overlap)
+        && session.root(1) == Err(SessionFault::Gap)
+        && session.finish(1) == Err(SessionFault::Gap);
+    has_chunk && has_range && is_refused
+}
+
 // Returns whether the calls of a session that allocate nothing succeed while each request is refused, without a chunk
 // and with one.
 fn answers_without_memory<'a, R: ChunkRange<Alloc = &'a Refusing>>(
@@ -194,12 +217,7 @@ fn answers_without_memory<'a, R: ChunkRange<Alloc = &'a Refusing>>(
     alloc.grant(u32::MAX);
     let is_put = session.put(2, &chunk) == Ok(1);
     alloc.grant(0);
-    let has_chunk = session.put(2, &[]) == Ok(0) && session.taken(2) && !session.taken(3);
-    let has_range = matches!(session.range(0), Some((2, _))) && session.range(1).is_none();
-    let is_refused = session.put(2, &chunk) == Err(SessionFault::Overlap)
-        && session.root(1) == Err(SessionFault::Gap)
-        && session.finish(1) == Err(SessionFault::Gap);
-    let is_right = is_empty && is_put && has_chunk && has_range && is_refused;
+    let is_right = is_empty && is_put && has_one_chunk(&mut session, &chunk);
     is_right && !has_asked && !alloc.has_refused()
 }
 

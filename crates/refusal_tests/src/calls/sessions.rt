@@ -171,24 +171,24 @@ fn first_put(rt: &impl Abort, memory: Global, puts: &str) -> Option<Put> {
     }
 }
 
-// Tries a call with the chunks of a put, if there is one. The session is that after the puts before.
+// Tries a call with the chunks of the first of some puts, if there is one. The session is that after the puts before.
 fn tried<'a, R: Kind<Alloc = &'a Refusing>>(
     rt: &impl Abort,
     (alloc, granted, memory): (&'a Refusing, u32, Global),
     session: &mut SessionOf<R>,
-    (call, before): (&str, &str),
-    put: &Option<Put>,
+    (call, before, puts): (&str, &str, &str),
     end: &End,
 ) -> Outcome {
+    let put = first_put(rt, memory, puts);
     let other: SessionOf<R> = begun(rt, alloc, memory, before);
     alloc.grant(granted);
-    let answer = match put {
+    let answer = match &put {
         Some(put) => takes(alloc, session, call, put),
         None => ends(session, call, end),
     };
     let outcome = outcome_of(alloc, answer, are_same(session, &other));
     alloc.grant(u32::MAX);
-    outcome
+    outcome.if_so(put == first_put(rt, memory, puts))
 }
 
 // Returns whether a session takes some more puts and then has the right root and file hash.
@@ -215,17 +215,21 @@ pub fn attempt<'a, R: Kind<Alloc = &'a Refusing>>(
     let (call, chunks, before, puts) = unfailing(rt, four_fields(row, '|'), "four fields");
     let (after_refusal, others) = unfailing(rt, two_fields(puts, '|'), "two fields");
     let end = end_of(rt, memory, chunks);
-    let put = first_put(rt, memory, after_refusal);
     let mut session: SessionOf<R> = begun(rt, alloc, memory, before);
     let granted = (alloc, granted, memory);
-    let outcome = tried(rt, granted, &mut session, (call, before), &put, &end);
-    let is_same = put == first_put(rt, memory, after_refusal);
+    let outcome = tried(
+        rt,
+        granted,
+        &mut session,
+        (call, before, after_refusal),
+        &end,
+    );
     let remaining = if matches!(outcome, Outcome::Refused) {
         after_refusal
     } else {
         others
     };
-    outcome.if_so(is_same && goes_on(rt, memory, &mut session, remaining, &end))
+    outcome.if_so(goes_on(rt, memory, &mut session, remaining, &end))
 }
 
 // Returns whether a session of two runs, or the list of the three hashes that it knows, is copied.
