@@ -244,17 +244,27 @@ fn has_two_runs(session: &Session) -> bool {
     is_right
 }
 
+// Looks at the runs of a session of two runs.
+fn two_runs_are_lent(rt: &impl Abort, alloc: Global) {
+    let session = of_two_runs(rt, alloc);
+    assert!(rt; has_two_runs(&session));
+    assert!(rt; lends(rt, alloc, &session, 0, 0, "1:100,2:200,3:300"));
+    assert!(rt; lends(rt, alloc, &session, 1, 7, "4:400"));
+}
+
+// Looks at the run that a put joins with the run after it.
+fn joined_puts_are_lent(rt: &impl Abort, alloc: Global) {
+    let mut session: Session = SessionOf::new(alloc);
+    assert!(rt; session.put(2, &[node(3, 300)]) == Ok(1));
+    assert!(rt; session.put(0, &[node(1, 100), node(2, 200)]) == Ok(2));
+    assert!(rt; lends(rt, alloc, &session, 0, 0, "1:100,2:200,3:300"));
+    assert!(rt; session.range(1).is_none());
+}
+
 #[test]
 fn a_session_lends_the_ranges_of_its_runs(rt: HostRuntime) {
-    let session = of_two_runs(&rt, rt.alloc());
-    assert!(rt; has_two_runs(&session));
-    assert!(rt; lends(&rt, rt.alloc(), &session, 0, 0, "1:100,2:200,3:300"));
-    assert!(rt; lends(&rt, rt.alloc(), &session, 1, 7, "4:400"));
-    let mut joined: Session = SessionOf::new(rt.alloc());
-    assert!(rt; joined.put(2, &[node(3, 300)]) == Ok(1));
-    assert!(rt; joined.put(0, &[node(1, 100), node(2, 200)]) == Ok(2));
-    assert!(rt; lends(&rt, rt.alloc(), &joined, 0, 0, "1:100,2:200,3:300"));
-    assert!(rt; joined.range(1).is_none());
+    two_runs_are_lent(&rt, rt.alloc());
+    joined_puts_are_lent(&rt, rt.alloc());
 }
 
 // Adds the runs of a session to another one.
@@ -304,15 +314,20 @@ fn answers_for_many_positions(rt: &impl Abort, alloc: Global) -> bool {
         && session.finish(POSITIONS) == Ok(file)
 }
 
+// Puts the chunks that a session of two runs lacks, and returns the file hash.
+fn finished(rt: &impl Abort, alloc: Global, mut session: Session) -> MerkleHash {
+    assert!(rt; session.num_known_hashes() == 4);
+    let rest = "put 3 4:400,5:500,1:100,6:600 2";
+    assert!(rt; answers(rt, alloc, &mut session, rest, true));
+    session.finish(8).expect(rt, "a file hash")
+}
+
 #[test]
 fn a_saved_session_is_restored(rt: HostRuntime) {
-    let mut session = of_two_runs(&rt, rt.alloc());
-    let mut restored = restored(&rt, rt.alloc(), &session);
-    assert!(rt; session.num_known_hashes() == 4 && restored.num_known_hashes() == 4);
-    let rest = "put 3 4:400,5:500,1:100,6:600 2";
-    assert!(rt; answers(&rt, rt.alloc(), &mut session, rest, true));
-    assert!(rt; answers(&rt, rt.alloc(), &mut restored, rest, true));
-    assert!(rt; restored.finish(8) == session.finish(8) && restored.finish(8).is_ok());
+    let session = of_two_runs(&rt, rt.alloc());
+    let restored = restored(&rt, rt.alloc(), &session);
+    let file_hash = finished(&rt, rt.alloc(), restored);
+    assert!(rt; file_hash == finished(&rt, rt.alloc(), session));
     assert!(rt; answers_for_many_positions(&rt, rt.alloc()));
 }
 
