@@ -15,7 +15,6 @@ use refusing_allocator::{Granted, RefusingAllocator};
 use std::alloc::Global;
 use std::collections::BTreeMap;
 use std::process::Abort;
-use std::test::Fail;
 use subtree_sessions::session::Session;
 use test_support::texts::three_fields;
 use upload_session::kept_hashes::{KeptHashes, NoHashes, SeenHashes};
@@ -26,14 +25,6 @@ use xet_hash::passthrough_hashmap::PassThroughHashMap;
 use xet_merkle::aggregated_hashes::Node;
 use xet_merkle::chunk_range::ChunkRange;
 use xet_merkle::merkle_hash_subtree::MerkleHashSubtree;
-
-// Returns what a call of `test_support` returned, if it didn't fail.
-fn unfailing<T>(rt: &impl Abort, answer: Result<T, Fail>, expected: &str) -> T {
-    match answer {
-        Ok(value) => value,
-        Err(_) => panic!(rt; "{expected}"),
-    }
-}
 
 type Counting = RefusingAllocator<Global>;
 
@@ -349,7 +340,7 @@ const COUNTS: [u64; 2] = [900, 7_200];
 #[test]
 fn changes_ask_for_memory_in_proportion_to_the_chunks(rt: HostRuntime) {
     for row in CHANGES.lines() {
-        let (change, requests, nodes) = unfailing(&rt, three_fields(row, '|'), "three fields");
+        let (change, requests, nodes) = three_fields(row, '|').expect(&rt, "three fields");
         let requests = requests.parse().expect(&rt, "a number");
         let nodes = nodes.parse().expect(&rt, "a number");
         for count in COUNTS {

@@ -2,11 +2,10 @@
 
 mod lines_of_pairs;
 
-use super::lines::unfailing;
 use std::alloc::Global;
 use std::io::{self, ErrorKind, Read, Write};
 use std::process::Abort;
-use test_support::texts::{NO_CHUNK, lines_of_row, two_fields};
+use test_support::texts::{NO_CHUNK, lines_of_row};
 use xet_merkle::merkle_hash_subtree::MerkleHashSubtree;
 use xet_merkle::plain_range::PlainRange;
 use xetrange_text::fault::RangeFault;
@@ -539,9 +538,9 @@ fn has_status(run: Run<'_>, status: u8) -> bool {
 
 // Returns whether a call has the status of a row.
 fn has_status_of_row(rt: &impl Abort, alloc: Global, call: Call, row: &str) -> bool {
-    let (status, lines) = unfailing(rt, two_fields(row, '|'), "two fields");
+    let (status, lines) = row.split_once('|').expect(rt, "two fields");
     let status = status.parse().expect(rt, "a number");
-    let input = unfailing(rt, lines_of_row(alloc, lines), "memory");
+    let input = lines_of_row(alloc, lines).expect(rt, "memory");
     let run = Run {
         alloc,
         call,

@@ -4,8 +4,7 @@ use std::alloc::Global;
 use std::io::{Read, Write};
 use std::ops::Range;
 use std::process::Abort;
-use std::test::Fail;
-use test_support::texts::{ABC, H1, NO_PAIR, THREE_PAIRS, lines_of_row, two_fields, with_hashes};
+use test_support::texts::{ABC, H1, NO_PAIR, THREE_PAIRS, lines_of_row, with_hashes};
 use xet_hash::data_hash::DataHash;
 use xet_merkle::merkle_hash_subtree::MerkleHashSubtree;
 use xet_merkle::plain_range::PlainRange;
@@ -26,14 +25,6 @@ file 2cdba690d0e09563596e0cda626d43eb4c96ef1e994fe72d9b2f5a83cfcd36dd
 const TWO_PAIRS_TWICE: &str = "xorb 90f8313ef12df385d237a067aded02562c35ded12116e32eba401dbc86c38031
 file 284ea045e5a579e99c21ec597c20de1fc0c09e7168162aac00db8f61b3d82dbb
 ";
-
-// Returns what a call of `test_support` returned, if it didn't fail.
-pub(crate) fn unfailing<T>(rt: &impl Abort, answer: Result<T, Fail>, expected: &str) -> T {
-    match answer {
-        Ok(value) => value,
-        Err(_) => panic!(rt; "{expected}"),
-    }
-}
 
 // The kind of range that a run keeps.
 #[derive(Clone, Copy)]
@@ -89,8 +80,8 @@ fn answer_of(expected: &str) -> &str {
 
 // Returns whether the lines of a row give the answer or the fault at its end.
 fn is_answered(rt: &impl Abort, alloc: Global, row: &str) -> bool {
-    let (lines, expected) = unfailing(rt, two_fields(row, '|'), "two fields");
-    let lines = unfailing(rt, lines_of_row(alloc, lines), "memory");
+    let (lines, expected) = row.split_once('|').expect(rt, "two fields");
+    let lines = lines_of_row(alloc, lines).expect(rt, "memory");
     answers(rt, alloc, lines.as_bytes(), answer_of(expected))
 }
 
@@ -111,7 +102,7 @@ h1 100;h2 200;h3 300;|three pairs
 
 #[test]
 fn answers_pairs_in_lines(rt: HostRuntime) {
-    let lower = unfailing(&rt, with_hashes(rt.alloc(), "h1 100"), "memory");
+    let lower = with_hashes(rt.alloc(), "h1 100").expect(&rt, "memory");
     let upper = lower
         .as_str()
         .to_ascii_uppercase(rt.alloc())

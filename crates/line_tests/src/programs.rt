@@ -1,7 +1,6 @@
 //! Runs of both programs with arguments and devices: the status, and the text on each stream.
 
 use super::devices::{EVEN, FAILING, Input, Manner, Output};
-use super::lines::unfailing;
 use line_io::request::print_line;
 use refusing_allocator::RefusingAllocator;
 use std::alloc::Global;
@@ -222,13 +221,9 @@ fn outcome(rt: &impl Abort, alloc: Global, command: &str, failing: &str, input: 
 
 #[test]
 fn runs_end_with_their_status_and_write_to_their_stream(rt: HostRuntime) {
-    let runs = unfailing(&rt, with_hashes(rt.alloc(), RUNS), "memory");
+    let runs = with_hashes(rt.alloc(), RUNS).expect(&rt, "memory");
     for run in runs.as_str().lines() {
-        let (command, failing, input, expected) = unfailing(
-            &rt,
-            four_fields(run, '|'),
-            "four fields",
-        );
+        let (command, failing, input, expected) = four_fields(run, '|').expect(&rt, "four fields");
         let found = outcome(&rt, rt.alloc(), command, failing, input);
         assert!(rt;
             found.as_str() == expected,

@@ -1,11 +1,11 @@
 //! What `make`, `join` and `root` write, and how they print faults.
 
-use super::lines::{LINES, MANY_PAIRS, push_lines, unfailing};
+use super::lines::{LINES, MANY_PAIRS, push_lines};
 use super::memory;
 use std::alloc::{Allocator, Global};
 use std::io::{Read, Write};
 use std::process::Abort;
-use test_support::texts::{NO_CHUNK, NO_PAIR, THREE_PAIRS, lines_of_row, two_fields, with_hashes};
+use test_support::texts::{NO_CHUNK, NO_PAIR, THREE_PAIRS, lines_of_row, with_hashes};
 use xet_hash::data_hash::DataHash;
 use xet_merkle::merkle_hash_subtree::MerkleHashSubtree;
 use xetrange_text::fault::RangeFault;
@@ -52,10 +52,10 @@ h1 100;--;h2 200;|{"at_end":false,"at_start":false,"levels":[[2,0]],"nodes":[{"h
 
 // Returns whether `make` writes the range of a row for its lines.
 fn is_made(rt: &impl Abort, alloc: Global, row: &str) -> bool {
-    let (lines, json) = unfailing(rt, two_fields(row, '|'), "two fields");
-    let lines = unfailing(rt, lines_of_row(alloc, lines), "memory");
+    let (lines, json) = row.split_once('|').expect(rt, "two fields");
+    let lines = lines_of_row(alloc, lines).expect(rt, "memory");
     let output = output_of(rt, alloc, Command::Make, lines.as_bytes());
-    let expected = unfailing(rt, with_hashes(alloc, json), "memory");
+    let expected = with_hashes(alloc, json).expect(rt, "memory");
     output.as_str().strip_suffix('\n') == Some(expected.as_str())
 }
 
@@ -127,24 +127,20 @@ h1 100;+;+abc;";
 #[test]
 fn the_root_of_pieces_is_that_of_the_whole(rt: HostRuntime) {
     for row in TEXTS.lines() {
-        let text = unfailing(&rt, lines_of_row(rt.alloc(), row), "memory");
+        let text = lines_of_row(rt.alloc(), row).expect(&rt, "memory");
         assert!(rt;
             agrees_at_each_cut(&rt, rt.alloc(), text.as_bytes()),
             "{row}"
         );
     }
-    let whole = unfailing(
-        &rt,
-        with_hashes(rt.alloc(), "h1 100\nh2 200\nh3 300\n"),
-        "memory",
-    );
+    let whole = with_hashes(rt.alloc(), "h1 100\nh2 200\nh3 300\n").expect(&rt, "memory");
     let made = output_of(&rt, rt.alloc(), Command::Make, whole.as_bytes());
     assert!(rt; output_of(&rt, rt.alloc(), Command::Root, made.as_bytes()).as_str() == THREE_PAIRS);
 }
 
 // Returns how a command prints its fault for some lines. It is empty if there is none, and ends with what was written.
 fn fault_of(rt: &impl Abort, alloc: Global, command: Command, lines: &str) -> String {
-    let input = unfailing(rt, lines_of_row(alloc, lines), "memory");
+    let input = lines_of_row(alloc, lines).expect(rt, "memory");
     let (mut reader, mut output) = (input.as_bytes(), Vec::new(alloc));
     let result = run_command(command, alloc, alloc, &mut reader, &mut output);
     let mut text = match result {
@@ -159,7 +155,7 @@ fn fault_of(rt: &impl Abort, alloc: Global, command: Command, lines: &str) -> St
 // Fails unless a command gives the fault at the end of each row for its lines, and writes nothing.
 fn are_refused(rt: &impl Abort, alloc: Global, command: Command, rows: &str) {
     for row in rows.lines() {
-        let (lines, fault) = unfailing(rt, two_fields(row, '|'), "two fields");
+        let (lines, fault) = row.split_once('|').expect(rt, "two fields");
         assert!(rt;
             fault_of(rt, alloc, command, lines).as_str() == fault,
             "{row}"
@@ -218,7 +214,7 @@ fn refuses_bytes(alloc: Global, command: Command) -> bool {
 #[test]
 fn lines_from_strangers_are_refused_by_their_least_rule(rt: HostRuntime) {
     for row in FORGED.lines() {
-        let (rule, line) = unfailing(&rt, two_fields(row, '|'), "two fields");
+        let (rule, line) = row.split_once('|').expect(&rt, "two fields");
         let row = format!(in rt.alloc();
             "{NO_CHUNK};{line};{NO_CHUNK};|xetrange: fault 8 at line 2{rule}"
         ).expect(&rt, "memory");

@@ -22,10 +22,8 @@ use xet_merkle::plain_range::PlainRange;
 
 // Reads a subtree from a text.
 fn read(rt: &impl Abort, alloc: Global, text: &str) -> MerkleHashSubtree {
-    match read_json(alloc, text) {
-        Ok(answer) => answer.expect(rt, "a subtree"),
-        Err(_) => panic!(rt; "no JSON text"),
-    }
+    let read = read_json(alloc, text).expect(rt, "a JSON text");
+    read.expect(rt, "a subtree")
 }
 
 // Returns the JSON text of a subtree.

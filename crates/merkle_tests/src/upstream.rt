@@ -66,10 +66,7 @@ fn hash(rt: &impl Abort, text: &str) -> MerkleHash {
 
 // Returns whether the list of a row has its hashes.
 fn agrees(rt: &impl Abort, alloc: Global, row: &str) -> bool {
-    let (text, root, file, json) = match four_fields(row, ' ') {
-        Ok(fields) => fields,
-        Err(_) => panic!(rt; "a row without its fields"),
-    };
+    let (text, root, file, json) = four_fields(row, ' ').expect(rt, "four fields");
     let nodes = list(rt, alloc, text);
     let found_root = xorb_hash(alloc, &nodes).expect(rt, "a root");
     let found_file = file_hash(alloc, &nodes).expect(rt, "a file hash");

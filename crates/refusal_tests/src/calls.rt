@@ -23,7 +23,6 @@ use refusing_allocator::RefusingAllocator;
 use sessions::OF_SESSIONS;
 use std::alloc::Global;
 use std::process::Abort;
-use std::test::Fail;
 use test_support::{MARKS, drawn_list, drawn_nodes};
 use xet_merkle::CoreError;
 use xet_merkle::aggregated_hashes::Node;
@@ -36,14 +35,6 @@ pub type Refusing = RefusingAllocator<Global>;
 /// Makes such an allocator without a limit. A test later limits the requests that it grants to a call.
 pub fn refusing(alloc: Global) -> Refusing {
     RefusingAllocator::new(alloc, u32::MAX)
-}
-
-/// Returns what a call of `test_support` returned, if it didn't fail.
-pub fn unfailing<T>(rt: &impl Abort, answer: Result<T, Fail>, expected: &str) -> T {
-    match answer {
-        Ok(value) => value,
-        Err(_) => panic!(rt; "{expected}"),
-    }
 }
 
 /// A list of chunks and the marks of its ends, and an allocator that refuses nothing.

@@ -119,10 +119,7 @@ fn is_answered<C: ChunkRange<Alloc = Global>, H: KeptHashes<Global>>(
     call: &str,
     counts: bool,
 ) -> bool {
-    let (word, number, chunks, expected) = match four_fields(call, ' ') {
-        Ok(fields) => fields,
-        Err(_) => panic!(rt; "a call without its fields"),
-    };
+    let (word, number, chunks, expected) = four_fields(call, ' ').expect(rt, "four fields");
     let answer = answer(rt, alloc, session, (word, number, chunks));
     let is_any = !counts && word == "put" && is_number(&answer) && is_number(expected);
     is_any || answer.as_str() == expected

@@ -10,7 +10,6 @@ use rand_xoshiro::Xoshiro256PlusPlus;
 use serde_json::Value;
 use std::alloc::{AllocError, Allocator, Global};
 use std::fmt::Write;
-use std::test::Fail;
 use xet_hash::data_hash::{DataHash, MerkleHash, compute_data_hash};
 use xet_merkle::CoreError;
 use xet_merkle::aggregated_hashes::Node;
@@ -145,27 +144,28 @@ const CHUNKS: &str = "0 00000000000000000000000000000000000000000000000000000000
 7 0e2c1a002aae913d2c0fc8ddfa4e9e14b7b311b3b0d458726d5d9f6a6318013c 700
 ";
 
-/// Returns the reference chunk of a number.
-pub fn reference_chunk(number: &str) -> Result<Node, Fail> {
+/// Returns the reference chunk of a number, if there is one.
+pub fn reference_chunk(number: &str) -> Option<Node> {
     for row in CHUNKS.lines() {
         let mut columns = row.split(' ');
         if columns.next() == Some(number) {
-            let hash = DataHash::from_hex(columns.next().ok_or("no hash")?)?;
-            return Ok((hash, columns.next().ok_or("no size")?.parse()?));
+            let hash = DataHash::from_hex(columns.next()?).ok()?;
+            return Some((hash, columns.next()?.parse().ok()?));
         }
     }
-    Err("no such chunk")?
+    None
 }
 
-/// Returns the reference chunks whose numbers are in a word, separated by commas. `-` is no chunk.
-pub fn reference_list(alloc: Global, numbers: &str) -> Result<Vec<Node>, Fail> {
+/// Returns the reference chunks whose numbers are in a word, separated by commas, if there are such chunks and memory
+/// for them. `-` is no chunk.
+pub fn reference_list(alloc: Global, numbers: &str) -> Option<Vec<Node>> {
     let mut nodes = Vec::new(alloc);
     for number in numbers.split(',') {
         if number != "-" {
-            nodes.push(reference_chunk(number)?)?;
+            nodes.push(reference_chunk(number)?).ok()?;
         }
     }
-    Ok(nodes)
+    Some(nodes)
 }
 
 // Appends the 32 bytes of each node's hash, and the 8 of its size, lowest first.
@@ -297,7 +297,8 @@ pub fn drawn_lengths(
     Ok(lengths)
 }
 
-/// Reads a subtree from the JSON value of a text.
-pub fn read_json(alloc: Global, text: &str) -> Result<Result<MerkleHashSubtree, CoreError>, Fail> {
-    Ok(MerkleHashSubtree::from_json(alloc, &Value::from_str(alloc, text)?))
+/// Reads a subtree from the JSON value of a text, if it is one.
+pub fn read_json(alloc: Global, text: &str) -> Option<Result<MerkleHashSubtree, CoreError>> {
+    let value = Value::from_str(alloc, text).ok()?;
+    Some(MerkleHashSubtree::from_json(alloc, &value))
 }

@@ -1,7 +1,6 @@
 //! Texts of inputs and answers that several tests use, and the rows of tables that are texts.
 
-use std::alloc::Global;
-use std::test::Fail;
+use std::alloc::{AllocError, Global};
 
 /// The hash of the seed 1, as hex text.
 pub const H1: &str = "cfc5d07f6f03c29bbf424132963fe08d19a37d5757aaf520bf08119f05cd56d6";
@@ -31,32 +30,27 @@ file 55b9df318a7c45f470d57b04d8ca79a15b0637ffe94b25041a58d00c3528afff
 pub const NO_CHUNK: &str = r#"{"at_end":false,"at_start":false,"levels":[[0,0]],"nodes":[]}"#;
 
 /// Returns lines with h1, h2 and h3 replaced by the hashes of these names.
-pub fn with_hashes(alloc: Global, lines: &str) -> Result<String, Fail> {
+pub fn with_hashes(alloc: Global, lines: &str) -> Result<String, AllocError> {
     let first = lines.replace(alloc, "h1", H1)?;
     let second = first.as_str().replace(alloc, "h2", H2)?;
-    Ok(second.as_str().replace(alloc, "h3", H3)?)
+    second.as_str().replace(alloc, "h3", H3)
 }
 
 /// Returns the lines of a row. `;` stands for a newline, and h1, h2 and h3 are as in [`with_hashes`].
-pub fn lines_of_row(alloc: Global, text: &str) -> Result<String, Fail> {
+pub fn lines_of_row(alloc: Global, text: &str) -> Result<String, AllocError> {
     with_hashes(alloc, text.replace(alloc, ";", "\n")?.as_str())
 }
 
-/// Returns the first field of a row and the rest. `mark` separates two fields.
-pub fn two_fields(row: &str, mark: char) -> Result<(&str, &str), Fail> {
-    Ok(row.split_once(mark).ok_or("a row without its fields")?)
+/// Returns the first two fields of a row and the rest, unless it has fewer. `mark` separates two fields.
+pub fn three_fields(row: &str, mark: char) -> Option<(&str, &str, &str)> {
+    let (first, rest) = row.split_once(mark)?;
+    let (second, last) = rest.split_once(mark)?;
+    Some((first, second, last))
 }
 
-/// Returns the first two fields of a row and the rest.
-pub fn three_fields(row: &str, mark: char) -> Result<(&str, &str, &str), Fail> {
-    let (first, rest) = two_fields(row, mark)?;
-    let (second, last) = two_fields(rest, mark)?;
-    Ok((first, second, last))
-}
-
-/// Returns the first three fields of a row and the rest.
-pub fn four_fields(row: &str, mark: char) -> Result<(&str, &str, &str, &str), Fail> {
+/// Returns the first three fields of a row and the rest, unless it has fewer.
+pub fn four_fields(row: &str, mark: char) -> Option<(&str, &str, &str, &str)> {
     let (first, second, rest) = three_fields(row, mark)?;
-    let (third, last) = two_fields(rest, mark)?;
-    Ok((first, second, third, last))
+    let (third, last) = rest.split_once(mark)?;
+    Some((first, second, third, last))
 }

@@ -4,7 +4,6 @@ use super::{
     ALL_EVEN, ALL_SLOW, Call, DONE, End, Manner, Outcome, Place, Run, SLOW, bears, fails,
     manners_with, odd, outcome_of,
 };
-use crate::lines::unfailing;
 use std::alloc::Global;
 use std::io::ErrorKind;
 use std::process::Abort;
@@ -100,9 +99,9 @@ fn fails_where_nothing_is_taken(run: Run<'_>) -> bool {
 
 #[test]
 fn three_pairs_are_answered_though_any_call_of_a_device_is_interrupted(rt: HostRuntime) {
-    let input = unfailing(&rt, lines_of_row(rt.alloc(), THREE_LINES), "memory");
+    let input = lines_of_row(rt.alloc(), THREE_LINES).expect(&rt, "memory");
     for call in CALLS {
-        let expected = unfailing(&rt, with_hashes(rt.alloc(), answer(call)), "memory");
+        let expected = with_hashes(rt.alloc(), answer(call)).expect(&rt, "memory");
         let run = Run {
             alloc: rt.alloc(),
             call,
@@ -150,16 +149,16 @@ fn has_fault(run: Run<'_>, front: usize, fault: End) -> bool {
 
 // Returns the lines of two fields, and how many bytes those of the first have.
 fn input_of(rt: &impl Abort, alloc: Global, front: &str, rest: &str) -> (String, usize) {
-    let mut input = unfailing(rt, lines_of_row(alloc, front), "memory");
+    let mut input = lines_of_row(alloc, front).expect(rt, "memory");
     let length = input.len();
-    let rest = unfailing(rt, lines_of_row(alloc, rest), "memory");
+    let rest = lines_of_row(alloc, rest).expect(rt, "memory");
     input.push_str(&rest).expect(rt, "memory");
     (input, length)
 }
 
 // Returns whether a call has the fault of a row, though any read is interrupted or fails.
 fn has_fault_of_row(rt: &impl Abort, alloc: Global, call: Call, row: &str) -> bool {
-    let (status, line, front, rest) = unfailing(rt, four_fields(row, '|'), "four fields");
+    let (status, line, front, rest) = four_fields(row, '|').expect(rt, "four fields");
     let fault = End {
         status: status.parse().expect(rt, "a number"),
         line: Some(line.parse().expect(rt, "a number")),

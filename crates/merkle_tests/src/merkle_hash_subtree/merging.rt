@@ -80,10 +80,7 @@ fn merges_at_each_two_splits(rt: &impl Abort, alloc: Global, nodes: &[Node]) -> 
 // Returns whether the list of a row has its root, and merges to it at each split.
 fn merges_to_root(rt: &impl Abort, alloc: Global, row: &str) -> bool {
     let (numbers, root) = row.split_once(' ').expect(rt, "a root");
-    let nodes = match reference_list(alloc, numbers) {
-        Ok(nodes) => nodes,
-        Err(_) => panic!(rt; "no such chunks"),
-    };
+    let nodes = reference_list(alloc, numbers).expect(rt, "chunks");
     let found = xorb_hash(alloc, &nodes).expect(rt, "a root");
     let has_root = found == DataHash::from_hex(root).expect(rt, "a hash");
     has_root && merges_at_splits(rt, alloc, &nodes, (0, nodes.len()))

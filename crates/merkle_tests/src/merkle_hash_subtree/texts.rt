@@ -20,10 +20,7 @@ fn merge_at(rt: &impl Abort, ranges: &mut Vec<MerkleHashSubtree>, places: &str) 
 
 // Returns whether the subtree that a row's ranges are merged to has its text, and is read from it.
 fn has_text(rt: &impl Abort, alloc: Global, row: &str) -> bool {
-    let (ranges, places, expected) = match three_fields(row, ' ') {
-        Ok(fields) => fields,
-        Err(_) => panic!(rt; "a row without its fields"),
-    };
+    let (ranges, places, expected) = three_fields(row, ' ').expect(rt, "three fields");
     let mut ranges = told_ranges(alloc, ranges).expect(rt, "ranges");
     merge_at(rt, &mut ranges, places);
     let merged = ranges.first().expect(rt, "a range");

@@ -1,9 +1,9 @@
 //! Worked examples over nodes of size 1, with the answers that they have.
 
-use super::{Chunks, Outcome, Refusing, outcome_of, unfailing};
+use super::{Chunks, Outcome, Refusing, outcome_of};
 use std::alloc::Global;
 use std::process::Abort;
-use test_support::texts::{four_fields, two_fields};
+use test_support::texts::four_fields;
 use test_support::trees::tree;
 use test_support::{has_counts, told_nodes};
 use xet_merkle::CoreError;
@@ -61,7 +61,7 @@ fn json_of(rt: &impl Abort, chunks: &Chunks<'_>) -> String {
 fn has_told_counts(rt: &impl Abort, memory: Global, subtree: &Subtree<'_>, text: &str) -> bool {
     let mut counts = Vec::new(memory);
     for word in text.split(' ') {
-        let (left, right) = unfailing(rt, two_fields(word, ','), "two fields");
+        let (left, right) = word.split_once(',').expect(rt, "two fields");
         let (left, right) = (
             left.parse().expect(rt, "a number"),
             right.parse().expect(rt, "a number"),
@@ -171,7 +171,7 @@ fn merge(
     counts: &str,
     how: &str,
 ) -> Outcome {
-    let (place, count) = unfailing(rt, two_fields(how, ':'), "two fields");
+    let (place, count) = how.split_once(':').expect(rt, "two fields");
     let place = place.parse().expect(rt, "a place");
     let count = count.parse().expect(rt, "a number");
     let (front_before, back_before) = parts(rt, alloc, chunks, place);
@@ -246,7 +246,7 @@ pub fn attempt(
     memory: Global,
     row: &str,
 ) -> Outcome {
-    let (call, list, how, counts) = unfailing(rt, four_fields(row, ' '), "four fields");
+    let (call, list, how, counts) = four_fields(row, ' ').expect(rt, "four fields");
     let nodes = told_nodes(memory, list).expect(rt, "memory");
     let chunks = Chunks {
         alloc: memory,

@@ -1,12 +1,12 @@
 //! The calls that answer lines. If one is refused a request, it writes nothing. JSON values use another allocator.
 
-use super::{Outcome, Refusing, outcome_of, unfailing};
+use super::{Outcome, Refusing, outcome_of};
 use range_proof::RangeProof;
 use std::alloc::Global;
 use std::fmt::Write as _;
 use std::io::Write;
 use std::process::Abort;
-use test_support::texts::{ABC, THREE_PAIRS, lines_of_row, two_fields};
+use test_support::texts::{ABC, THREE_PAIRS, lines_of_row};
 use test_support::{EACH_FOURTH, with_cuts};
 use xet_hash::data_hash::DataHash;
 use xet_merkle::CoreError;
@@ -131,7 +131,7 @@ fn input_and_answer(rt: &impl Abort, memory: Global, call: &str, lines: &str) ->
     }
     let answer = if lines == "+abc" { ABC } else { THREE_PAIRS };
     (
-        unfailing(rt, lines_of_row(memory, lines), "memory"),
+        lines_of_row(memory, lines).expect(rt, "memory"),
         String::from_str(memory, answer).expect(rt, "memory"),
     )
 }
@@ -167,7 +167,7 @@ pub fn attempt(
     memory: Global,
     row: &str,
 ) -> Outcome {
-    let (call, lines) = unfailing(rt, two_fields(row, '|'), "two fields");
+    let (call, lines) = row.split_once('|').expect(rt, "two fields");
     let (input, expected) = input_and_answer(rt, memory, call, lines);
     let mut array = [0; 4096];
     let mut room = array.as_mut_slice();

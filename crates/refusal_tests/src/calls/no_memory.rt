@@ -2,7 +2,7 @@
 //! has none to use. All others are called here.
 
 use super::maps::{EIGHT, Numbers, has_numbers};
-use super::{Refusing, refusing, unfailing};
+use super::{Refusing, refusing};
 use std::collections::HashMap;
 use std::process::Abort;
 use test_support::{EACH_FOURTH, has_counts, reference_chunk, with_cuts};
@@ -209,7 +209,7 @@ fn answers_without_memory<'a, R: ChunkRange<Alloc = &'a Refusing>>(
     rt: &impl Abort,
     alloc: &'a Refusing,
 ) -> bool {
-    let chunk = [unfailing(rt, reference_chunk("1"), "a chunk")];
+    let chunk = [reference_chunk("1").expect(rt, "a chunk")];
     alloc.grant(0);
     let mut session: SessionOf<R> = SessionOf::new_in(alloc).expect(rt, "a session");
     let is_empty = session.put(2, &[]) == Ok(0) && session.range(0).is_none() && !session.taken(2);

@@ -1,10 +1,10 @@
 //! Ranges of chunks of each kind, their merges and trees.
 
-use super::{Call, Chunks, Outcome, Refusing, outcome_of, unfailing};
+use super::{Call, Chunks, Outcome, Refusing, outcome_of};
 use serde_json::Value;
 use std::alloc::Global;
 use std::process::Abort;
-use test_support::texts::{two_fields, with_hashes};
+use test_support::texts::with_hashes;
 use xet_merkle::CoreError;
 use xet_merkle::aggregated_hashes::{Node, file_hash, xorb_hash};
 use xet_merkle::chunk_range::{ChunkRange, hashes_of_open};
@@ -403,7 +403,7 @@ pub const BROKEN_JSON: &str =
 
 // Returns the JSON value of a text in which h1 and h2 stand for hashes.
 fn json_value(rt: &impl Abort, memory: Global, text: &str) -> Value {
-    let text = unfailing(rt, with_hashes(memory, text), "memory");
+    let text = with_hashes(memory, text).expect(rt, "memory");
     Value::from_str(memory, &text).expect(rt, "a value")
 }
 
@@ -415,7 +415,7 @@ pub fn from_broken_json(
     memory: Global,
     row: &str,
 ) -> Outcome {
-    let (rule, text) = unfailing(rt, two_fields(row, '|'), "two fields");
+    let (rule, text) = row.split_once('|').expect(rt, "two fields");
     let refusal = CoreError::InvalidJson(rule.parse().expect(rt, "a number"));
     let (value, before) = (json_value(rt, memory, text), json_value(rt, memory, text));
     alloc.grant(granted);

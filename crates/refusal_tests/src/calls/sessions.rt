@@ -1,12 +1,12 @@
 //! Sessions over each kind of range.
 
 use super::ranges::Kind;
-use super::{Call, Outcome, Refusing, outcome_of, unfailing};
+use super::{Call, Outcome, Refusing, outcome_of};
 use std::alloc::Global;
 use std::process::Abort;
 use subtree_sessions::session::Session;
 use test_support::reference_list;
-use test_support::texts::{four_fields, three_fields, two_fields};
+use test_support::texts::{four_fields, three_fields};
 use upload_session::session::SessionOf;
 use upload_session::session_fault::SessionFault;
 use xet_hash::data_hash::MerkleHash;
@@ -51,10 +51,10 @@ struct Put {
 
 // Reads a put from a text.
 fn read(rt: &impl Abort, memory: Global, text: &str) -> Put {
-    let (first, chunks, new) = unfailing(rt, three_fields(text, ':'), "three fields");
+    let (first, chunks, new) = three_fields(text, ':').expect(rt, "three fields");
     Put {
         first: first.parse().expect(rt, "a position"),
-        chunks: unfailing(rt, reference_list(memory, chunks), "chunks"),
+        chunks: reference_list(memory, chunks).expect(rt, "chunks"),
         new: new.parse().expect(rt, "a number"),
     }
 }
@@ -105,7 +105,7 @@ struct End {
 
 // Returns the end of a session of some reference chunks.
 fn end_of(rt: &impl Abort, memory: Global, numbers: &str) -> End {
-    let chunks = unfailing(rt, reference_list(memory, numbers), "chunks");
+    let chunks = reference_list(memory, numbers).expect(rt, "chunks");
     End {
         total: chunks.len() as u64,
         root: xorb_hash(memory, &chunks).expect(rt, "a hash"),
@@ -212,8 +212,8 @@ pub fn attempt<'a, R: Kind<Alloc = &'a Refusing>>(
     memory: Global,
     row: &str,
 ) -> Outcome {
-    let (call, chunks, before, puts) = unfailing(rt, four_fields(row, '|'), "four fields");
-    let (after_refusal, others) = unfailing(rt, two_fields(puts, '|'), "two fields");
+    let (call, chunks, before, puts) = four_fields(row, '|').expect(rt, "four fields");
+    let (after_refusal, others) = puts.split_once('|').expect(rt, "two fields");
     let end = end_of(rt, memory, chunks);
     let mut session: SessionOf<R> = begun(rt, alloc, memory, before);
     let granted = (alloc, granted, memory);
