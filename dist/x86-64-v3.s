@@ -4,7 +4,7 @@
 	.p2align	3, 0x0
 	.long	4, 16, 5
 	.asciz	"GNU"
-	.long	0xc0000002, 4, 1
+	.long	0xc0000002, 4, 3
 	.p2align	3, 0x0
 	.section	".text.core::str::utf8::from_utf8","ax",@progbits
 	.p2align	4

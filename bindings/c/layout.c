@@ -44,6 +44,8 @@ void test_layout(void)
         size_t found;
         size_t wanted;
     } rows[] = {
+        {"bool", sizeof(bool), 1},
+        {"size_t", sizeof(size_t), 8},
         {"status", sizeof(yurewha_status), 4},
         {"hash", sizeof(yurewha_hash), 32},
         {"hash's alignment", _Alignof(yurewha_hash), 8},
@@ -51,8 +53,8 @@ void test_layout(void)
         {"bytes' alignment", _Alignof(yurewha_bytes), 1},
         {"chunk", sizeof(yurewha_chunk), 40},
         {"chunk's size", offsetof(yurewha_chunk, size), 32},
-        {"level", sizeof(yurewha_level), 2 * sizeof(size_t)},
-        {"level's right", offsetof(yurewha_level, right), sizeof(size_t)},
+        {"level", sizeof(yurewha_level), 16},
+        {"level's right", offsetof(yurewha_level, right), 8},
         {"hasher", sizeof(yurewha_hasher), 2048},
         {"hasher's alignment", _Alignof(yurewha_hasher), 8},
         {"subtree", sizeof(yurewha_subtree), sizeof(void *)},

@@ -17,6 +17,7 @@
  *   must be two objects; only yurewha_subtree_equal may get one handle twice, and finds it equal to itself. No call reads the
  *   old value of an out parameter, unless it is a handle.
  * - A text is an array of bytes with a length. It needs no 0 byte at its end, and the library writes none.
+ * - For callers in other languages: a `bool` is one byte, which is 0 or 1, and a `size_t` has 8 bytes.
  *
  * Handles
  *
@@ -238,7 +239,8 @@ YUREWHA_NODISCARD YUREWHA_NONNULL(1, 3)
 yurewha_status yurewha_remainder(const yurewha_hash *hash, uint64_t divisor, uint64_t *remainder);
 
 /* Writes the hex text of a hash to the beginning of `text`, which has room for `room` bytes. The text is 64 lower-case
- * digits. `length` always becomes 64.
+ * digits: 16 for each word in order, its highest digit first. So it isn't the hex of the 32 bytes of the hash, in which each
+ * word is little-endian. `length` always becomes 64.
  *   DONE  `room` is at least 64
  *   ROOM  `room` is less than 64; nothing is written to `text` */
 YUREWHA_NODISCARD YUREWHA_NONNULL(1, 4)

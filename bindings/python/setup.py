@@ -71,6 +71,10 @@ class BuildLibrary(build_ext):
         copy_files(folder)
         extension.sources = sources(processor if system == "linux" else self.plat_name, folder)
         extension.include_dirs = [str(folder)]
+        if processor == "x86_64":
+            # As in bindings/Makefile: the library has both marks of the program's protection, which start files may lack.
+            extension.extra_compile_args.append("-fcf-protection=full")
+            extension.extra_link_args.append("-nostartfiles")
         self.compiler.src_extensions.append(".s")
         super().build_extension(extension)
 

@@ -14,13 +14,14 @@ HEAD = """\
 /* Yurewha {version} for {level}: the proved library, as the toolchain compiles it. Made by dist/make, not by hand.
    The sum of its sources: {sources} */
 """
-#: A section that says, on x86-64, that indirect calls and jumps arrive at `endbr64` alone.
-BRANCH_NOTE = """\
+#: A section that says two things of code for x86-64: that indirect calls and jumps arrive at `endbr64` alone (1, IBT), and that
+#: functions return to where they were called from (2, SHSTK), as a shadow stack requires. The linker keeps what all objects say.
+PROTECTION_NOTE = """\
 	.section	.note.gnu.property,"a",@note
 	.p2align	3, 0x0
 	.long	4, 16, 5
 	.asciz	"GNU"
-	.long	0xc0000002, 4, 1
+	.long	0xc0000002, 4, 3
 	.p2align	3, 0x0
 """
 #: A function of the heap, which dist/heap.c has under a name that is nobody else's.
@@ -28,6 +29,10 @@ HEAP = re.compile(r"\brattle_(alloc|realloc|dealloc)\b")
 #: What only names the compiler and its input.
 NEEDLESS = re.compile(r"(?m)^\t\.(?:file|ident)\t.*\n")
 INDIRECT_JUMP = re.compile(r"(?m)^\tjmpq\t\*")
+#: An instruction that sets the stack pointer, but for those that make a frame or leave it; and a return to an address that was pushed.
+OTHER_FRAME = re.compile(
+    r"(?m)^\t(?!(?:add|sub|and)q\t\$-?\d+, %rsp$|leaq\t-?\d+\(%rbp\), %rsp$|movq\t%rbp, %rsp$).*[ \t]%rsp$"
+    r"|^\txchg.*%rsp|^\tpush.*\n(?:\t\.cfi_.*\n)*\tret")
 #: What isn't among the instructions of the proved library: lines of tables, and marks of targets of indirect jumps.
 ADDED = re.compile(r"(?m)^\t(?:\.cfi_.*|endbr64)\n|(?<=^\t)notrack (?=jmpq)")
 
@@ -76,7 +81,7 @@ def assembly(level: Level, sources: str) -> str:
         is_hidden = level.is_one_of_several
         text = text.replace(f"\t.globl\t{name}\n", f"\t.globl\t{name}\n" + f"\t.hidden\t{name}\n" * is_hidden)
     if level.processor == "x86_64":
-        text = BRANCH_NOTE + with_branch_targets(text, exports)
+        text = PROTECTION_NOTE + with_branch_targets(text, exports)
     text = re.sub(rf"(?<![\w:])({'|'.join(exports)})(?!\w|::)", lambda found: found[1].replace("yurewha_", level.prefix, 1), text)
     return HEAD.format(version=version(), level=level.name, sources=sources) + text
 
@@ -84,10 +89,13 @@ def assembly(level: Level, sources: str) -> str:
 def with_branch_targets(text: str, exports: list[str]) -> str:
     """Assembly for x86-64 with `endbr64` at each export, for processors that let indirect calls arrive nowhere else.
 
-    The library takes no function's address, so its other indirect jumps go to tables of its own, and say so by `notrack`.
+    The library takes no function's address, so its other indirect jumps go to tables of its own, and say so by `notrack`. Assembly of
+    which PROTECTION_NOTE would be false is refused.
     """
     if re.search(r"(?m)^\tcallq\t\*", text):
         raise Fault("the library calls functions by their addresses")
+    if other := OTHER_FRAME.search(text):
+        raise Fault(f"the library may return elsewhere than to where it was called from: {other[0].strip()}")
     for name in exports:
         text = re.sub(rf"(?m)^({name}:\n(?:\t\.cfi_startproc\n)?)", r"\1\tendbr64\n", text)
     return INDIRECT_JUMP.sub("\tnotrack jmpq\t*", text)
@@ -95,4 +103,4 @@ def with_branch_targets(text: str, exports: list[str]) -> str:
 
 def instructions_alone(text: str) -> str:
     """Assembly without what is beside the instructions of the proved library, so that each has the address that it has there."""
-    return ADDED.sub("", text.replace(BRANCH_NOTE, ""))
+    return ADDED.sub("", text.replace(PROTECTION_NOTE, ""))
