@@ -51,7 +51,7 @@ test("an error has its name in a minified bundle too", async () => {
     const kinds = Object.keys(errors).filter((name) => name !== "load");
     assert.equal(kinds.length, 14);
     for (const name of kinds) {
-        const error = name === "InvalidJson" ? new made[name](1) : new made[name]("a message");
+        const error = name === "InvalidJson" ? new made[name](1, "a message") : new made[name]("a message");
         assert.deepEqual([error.name, `${error}`], [name, `${name}: ${error.message}`]);
         assert.ok(error.stack.startsWith(`${name}: ${error.message}\n`), error.stack);
         assert.deepEqual(Object.keys(error), name === "InvalidJson" ? ["rule"] : []);

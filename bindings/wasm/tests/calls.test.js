@@ -7,9 +7,9 @@ import { Readable } from "node:stream";
 import { test } from "node:test";
 import { fileURLToPath } from "node:url";
 import * as errors from "../yurewha/index.js";
-import { PROOF_RULES, STATUS, errorOf } from "../yurewha/errors.js";
+import { STATUS, errorOf } from "../yurewha/errors.js";
 import { AREA } from "../yurewha/library.js";
-import { BYTES, ROOT, chunksOf, loadAll } from "./support.js";
+import { BYTES, ROOT, chunksOf, loadAll, wrapped } from "./support.js";
 
 const MAX = 2n ** 64n - 1n;
 const all = await loadAll();
@@ -148,22 +148,41 @@ test("each status of the header has its error", () => {
         SESSION_GAP: "SessionGap",
     };
     for (const [name, kind] of Object.entries(wanted)) {
-        const error = errorOf(STATUS[name], "a message");
+        const error = errorOf(STATUS[name], "a text", "a message");
         assert.equal(error.name, kind);
         assert.ok(error instanceof errors[kind] && error instanceof errors.YurewhaError && error.message.length > 0);
         assert.equal(error instanceof errors.SessionError, /^SESSION_/.test(name));
     }
-    for (let rule = 1; rule <= 13; rule++) {
-        const error = errorOf(STATUS.RULE + rule);
-        assert.ok(error instanceof errors.InvalidJson && error.rule === rule && error.message.startsWith(`rule ${rule}: `));
-    }
-    for (let rule = 1; rule <= PROOF_RULES.length; rule++) {
-        const error = errorOf(STATUS.PROOF_RULE + rule);
-        assert.ok(error instanceof errors.InvalidJson && error.rule === rule && error.message === `rule ${rule}: ${PROOF_RULES[rule - 1]}`);
-    }
     for (const status of [99, STATUS.RULE, STATUS.RULE + 14, STATUS.PROOF_RULE, STATUS.PROOF_RULE + 9]) {
         assert.equal(errorOf(status).name, "YurewhaError");
     }
+});
+
+test("an error says what the library says of its status", async () => {
+    const rules = (first, count) => Array.from({ length: count }, (_, k) => [first + k + 1, "InvalidJson", k + 1]);
+    const table = [
+        [STATUS.SIZES, "SizeOverflow"],
+        [STATUS.SESSION_OVERLAP, "SessionOverlap"],
+        [STATUS.SESSION_POSITIONS, "SessionPositions"],
+        [STATUS.SESSION_GAP, "SessionGap"],
+        ...rules(STATUS.RULE, 13),
+        ...rules(STATUS.PROOF_RULE, 8),
+    ];
+    for (const [module, bytes] of Object.entries(BYTES)) {
+        let status;
+        const { exports, yurewha } = await wrapped(bytes, (it) => ({ ...it, yurewha_subtree_from_json: () => status }));
+        const room = exports.allocate(104n);
+        const out = typeof room === "bigint" ? room + 96n : room + 96;
+        for (const [given, name, rule] of table) {
+            assert.equal(exports.yurewha_status_text(given, room, 96n, out), STATUS.DONE);
+            const [length] = new Uint32Array(exports.memory.buffer, Number(out), 1);
+            const message = Buffer.from(exports.memory.buffer, Number(room), length).toString();
+            status = given;
+            assert.throws(() => yurewha.Subtree.fromJSON("{}"), { name, message, ...(rule && { rule }) }, `${module}: ${given}`);
+        }
+    }
+    assert.throws(() => y.Subtree.fromJSON("[]"), { message: "rule 1: the value isn't an object" });
+    assert.throws(() => y.RangeProof.fromFlat({ levels: [], nodes: [] }), { message: "rule 5: there is no chunk" });
 });
 
 test("a hash has its texts, also in JSON, and doesn't change", () => {

@@ -160,7 +160,7 @@ test("packed bytes and lists that are none of a proof are refused", () => {
     const great = [[new y.Hash(), MAX], [new y.Hash(), 1]];
     assert.throws(() => y.RangeProof.fromFlat({ levels: [], nodes: great }), broken(8));
     assert.throws(() => y.RangeProof.fromFlat({ levels: [[MAX, 1]], nodes: great }), broken(5));
-    assert.throws(() => y.RangeProof.fromJSON('{"chunks":[],"levels":[]}'), new errors.InvalidJson(5, [, , , , "there is at least one chunk"]));
+    assert.throws(() => y.RangeProof.fromJSON('{"chunks":[],"levels":[]}'), new errors.InvalidJson(5, "rule 5: there is no chunk"));
     assert.throws(() => y.RangeProof.fromJSON("{"), new errors.InvalidText("the text is no JSON text"));
 });
 

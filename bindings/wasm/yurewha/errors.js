@@ -1,34 +1,5 @@
 // The errors. They have the names of the library's.
 
-/** What each of the rules 1 to 13 requires of the JSON form of a subtree. */
-const RULES = [
-    "the value is an object",
-    "`nodes` and `levels` are arrays, and `at_start` and `at_end` are booleans",
-    "a node is an object with `hash`, 64 hex digits, and `size`, a whole number below 2^64",
-    "a level is an array of two whole numbers below 2^64",
-    "there is at least one level",
-    "the counts of all levels add up to the number of nodes",
-    "the sizes of all nodes add up to at most 2^64 - 1",
-    "the top level has no right nodes; with `at_end`, no level has any",
-    "with `at_start`, no level below the top has left nodes",
-    "with both marks, the top level has at most one node",
-    "if there are several levels, the top level has a node",
-    "without `at_start`, left nodes below the top end like the nodes before a first stable point",
-    "without `at_end`, right nodes below the top begin like the nodes after a last stable point",
-];
-
-/** What each of the eight rules requires of the JSON form of a range proof. */
-export const PROOF_RULES = [
-    "the value is an object",
-    "`chunks` and `levels` are arrays",
-    "a level is an object, and its `left` and `right` are arrays",
-    "a node is an object with `hash`, 64 hex digits, and `size`, a whole number below 2^64",
-    "there is at least one chunk",
-    "there are at most 64 levels",
-    "a side of a level has at most 8 nodes",
-    "the sizes of all nodes add up to at most 2^64 - 1",
-];
-
 export class YurewhaError extends Error {}
 export class InvalidArguments extends YurewhaError {}
 export class SizeOverflow extends YurewhaError {}
@@ -44,8 +15,8 @@ export class SessionSizes extends SessionError {}
 export class SessionGap extends SessionError {}
 
 export class InvalidJson extends YurewhaError {
-    constructor(rule, rules = RULES) {
-        super(`rule ${rule}: ${rules[rule - 1]}`);
+    constructor(rule, message) {
+        super(message);
         this.rule = rule;
     }
 }
@@ -88,39 +59,35 @@ export const STATUS = {
     PROOF_RULE: 48,
 };
 
-const SIZES = "the sizes add up to more than 2^64 - 1";
-const MEMORY = "an allocation failed";
+/** How many rules a subtree and a range proof have. Their statuses are `RULE` and `PROOF_RULE` plus the number of the rule. */
+const RULES = 13;
+const PROOF_RULES = 8;
+export const LAST_STATUS = STATUS.PROOF_RULE + PROOF_RULES;
+
 const ERRORS = new Map([
-    [STATUS.ARGUMENTS, (what) => new InvalidArguments(what)],
-    [STATUS.SIZES, () => new SizeOverflow(SIZES)],
-    [STATUS.MEMORY, () => new OutOfMemory(MEMORY)],
-    [STATUS.TEXT, (what) => new InvalidText(what)],
-    [STATUS.EMPTY_HANDLE, () => new EmptyHandle("the object was freed")],
+    [STATUS.ARGUMENTS, (text, what) => new InvalidArguments(what)],
+    [STATUS.SIZES, (text) => new SizeOverflow(text)],
+    [STATUS.MEMORY, () => outOfMemory()],
+    [STATUS.TEXT, (text, what) => new InvalidText(what)],
+    [STATUS.EMPTY_HANDLE, () => emptyHandle()],
     [STATUS.MISMATCH, () => new ProofMismatch("the proof doesn't show this hash")],
-    [STATUS.SESSION_OVERLAP, () => new SessionOverlap("a position is taken")],
-    [STATUS.SESSION_POSITIONS, () => new SessionPositions("the first position plus the number of chunks is more than 2^64 - 1")],
-    [STATUS.SESSION_GAP, () => new SessionGap("the taken positions aren't exactly those below the total")],
+    [STATUS.SESSION_OVERLAP, (text) => new SessionOverlap(text)],
+    [STATUS.SESSION_POSITIONS, (text) => new SessionPositions(text)],
+    [STATUS.SESSION_GAP, (text) => new SessionGap(text)],
 ]);
 
-/** The error of a status other than 0. `what` is the message of InvalidArguments and InvalidText. */
-export function errorOf(status, what) {
+/**
+ * The error of a status other than 0. `text` is what the status means, in the module's words, and `what` the message of
+ * InvalidArguments and InvalidText.
+ */
+export function errorOf(status, text, what) {
     const make = ERRORS.get(status);
-    return make ? make(what) : (brokenRule(status, STATUS.RULE, RULES) ?? brokenRule(status, STATUS.PROOF_RULE, PROOF_RULES) ?? unknown(status));
+    if (make) return make(text, what);
+    const broken = [[STATUS.RULE, RULES], [STATUS.PROOF_RULE, PROOF_RULES]].find(([first, count]) => status > first && status <= first + count);
+    if (broken) return new InvalidJson(status - broken[0], text);
+    return new YurewhaError(`the library returned status ${status}`);
 }
 
-/** The error of a status that is that of one of the rules, whose statuses come after `first`. */
-function brokenRule(status, first, rules) {
-    const rule = status - first;
-    return rule >= 1 && rule <= rules.length ? new InvalidJson(rule, rules) : null;
-}
-
-const unknown = (status) => new YurewhaError(`the library returned status ${status}`);
-
-/** Throws the error of a status, unless it is 0. */
-export function check(status, what = "the arguments don't fit together") {
-    if (status !== STATUS.DONE) throw errorOf(status, what);
-}
-
-export const outOfMemory = () => errorOf(STATUS.MEMORY);
-export const emptyHandle = () => errorOf(STATUS.EMPTY_HANDLE);
-export const sessionSizes = () => new SessionSizes(SIZES);
+export const outOfMemory = () => new OutOfMemory("an allocation failed");
+export const emptyHandle = () => new EmptyHandle("the object was freed");
+export const sessionSizes = () => new SessionSizes("the sizes of all chunks add up to more than 2^64 - 1");

@@ -1,7 +1,7 @@
 // Hashes: values of 32 bytes.
 
 import { bytes, text, u64 } from "./arguments.js";
-import { InvalidArguments, check } from "./errors.js";
+import { InvalidArguments } from "./errors.js";
 import { inspected, showing } from "./shown.js";
 
 export const HASH_LENGTH = 32;
@@ -73,7 +73,7 @@ export function makeHash(library) {
         remainder(divisor) {
             const number = u64(divisor, "a divisor");
             return library.over([this.#raw, 8], (hash, out) => {
-                check(library.call("yurewha_remainder", hash, number, out), "the divisor is 0");
+                library.check(library.call("yurewha_remainder", hash, number, out), "the divisor is 0");
                 return library.u64(out);
             });
         }
@@ -110,10 +110,10 @@ export function makeHash(library) {
     /** The keyed hash of 32 bytes under 32 bytes. */
     const hmac = (raw, key) => result([raw, key], (...pointers) => library.call("yurewha_hmac", ...pointers));
     const parsed = (name, given, what) =>
-        result([given], (at, out) => check(library.call(name, at, BigInt(given.length), out), what));
+        result([given], (at, out) => library.check(library.call(name, at, BigInt(given.length), out), what));
     const written = (name, raw, length) =>
         library.over([raw, length, 8], (hash, room, out) => {
-            check(library.call(name, hash, room, BigInt(length), out));
+            library.check(library.call(name, hash, room, BigInt(length), out));
             return decoder.decode(library.read(room, length));
         });
     return { Hash, rawOf, result, unpacked, hmac };

@@ -2,7 +2,7 @@
 
 import { u64 } from "./arguments.js";
 import { CHUNK_LENGTH } from "./chunks.js";
-import { STATUS, check } from "./errors.js";
+import { STATUS } from "./errors.js";
 import { Handle, Handles, disposable } from "./handle.js";
 import { HASH_LENGTH, thirtyTwo } from "./hash.js";
 import { MOST_BESIDE, NO_RANGE } from "./range_proof.js";
@@ -26,19 +26,19 @@ export function makeHashTree(library, { result }, { packedOf }, written) {
             const packed = packedOf(chunks);
             return library.over([packed], (at) => {
                 const count = BigInt(packed.length / CHUNK_LENGTH);
-                return new HashTree(handles.make((made) => check(library.call("yurewha_hash_tree_from_chunks", at, count, made))));
+                return new HashTree(handles.make((made) => library.check(library.call("yurewha_hash_tree_from_chunks", at, count, made))));
             });
         }
 
         get root() {
             const { pointer } = this.#handle;
-            return result([], (out) => check(library.call("yurewha_hash_tree_root", pointer, out)));
+            return result([], (out) => library.check(library.call("yurewha_hash_tree_root", pointer, out)));
         }
 
         fileHash(salt) {
             const key = salt === undefined ? new Uint8Array(HASH_LENGTH) : thirtyTwo(salt, "a salt");
             const { pointer } = this.#handle;
-            return result([key], (...pointers) => check(library.call("yurewha_hash_tree_file_hash", pointer, ...pointers)));
+            return result([key], (...pointers) => library.check(library.call("yurewha_hash_tree_file_hash", pointer, ...pointers)));
         }
 
         get numChunks() {
@@ -63,7 +63,7 @@ export function makeHashTree(library, { result }, { packedOf }, written) {
             const most = from < to ? Math.min(this.numChunks, Number(to - from)) : 0;
             const { pointer } = this.#handle;
             return written(most + MOST_BESIDE, [], (rooms) => {
-                check(library.call("yurewha_hash_tree_proof", pointer, from, to, ...rooms), NO_RANGE);
+                library.check(library.call("yurewha_hash_tree_proof", pointer, from, to, ...rooms), NO_RANGE);
             });
         }
 
@@ -75,7 +75,7 @@ export function makeHashTree(library, { result }, { packedOf }, written) {
         #told(name) {
             const { pointer } = this.#handle;
             return library.over([8], (out) => {
-                check(library.call(name, pointer, out));
+                library.check(library.call(name, pointer, out));
                 return library.u64(out);
             });
         }
@@ -86,7 +86,7 @@ export function makeHashTree(library, { result }, { packedOf }, written) {
             return library.over([8, 8], (...out) => {
                 const status = library.call(name, pointer, ...given, ...out);
                 if (status === STATUS.ARGUMENTS) return null;
-                check(status);
+                library.check(status);
                 return out.map((at) => library.u64(at));
             });
         }

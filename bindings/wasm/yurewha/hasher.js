@@ -1,7 +1,7 @@
 // What hashes bytes.
 
 import { bytes, u64 } from "./arguments.js";
-import { InvalidArguments, check } from "./errors.js";
+import { InvalidArguments } from "./errors.js";
 import { HASH_LENGTH, thirtyTwo } from "./hash.js";
 import { AREA } from "./library.js";
 import { inspected, showing } from "./shown.js";
@@ -70,7 +70,7 @@ function makeHasher(library, { result }) {
 
     function updated(before, piece) {
         return library.over([before, piece], (state, at) => {
-            check(library.call("yurewha_hasher_update", state, at, BigInt(piece.length)));
+            library.check(library.call("yurewha_hasher_update", state, at, BigInt(piece.length)));
             return library.read(state, STATE_LENGTH);
         });
     }
@@ -134,7 +134,7 @@ export function makeHashing(library, hashes) {
         const offsets = new Uint8Array(BigUint64Array.from(places, (place) => BigInt(place - places[0])).buffer);
         return library.over([part, offsets, HASH_LENGTH * count], (at, offsetsAt, out) => {
             const given = [at, BigInt(part.length), offsetsAt, BigInt(places.length), out, BigInt(count)];
-            check(library.call("yurewha_data_hashes", ...given));
+            library.check(library.call("yurewha_data_hashes", ...given));
             return hashes.unpacked(library.read(out, HASH_LENGTH * count));
         });
     }

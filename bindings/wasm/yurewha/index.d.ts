@@ -596,6 +596,8 @@ export class InvalidText extends YurewhaError {}
 export class InvalidJson extends YurewhaError {
     /** The lowest rule that they break: from 1 to 13 for a subtree, from 1 to 8 for a range proof. */
     readonly rule: number;
+
+    constructor(rule: number, message?: string);
 }
 
 /** A range proof doesn't show a hash, or data isn't that of the range. */

@@ -1,10 +1,12 @@
 // The module's exports and its memory.
 
-import { Trapped, outOfMemory } from "./errors.js";
+import { LAST_STATUS, STATUS, Trapped, errorOf, outOfMemory } from "./errors.js";
 
 /** So many bytes are kept for the arguments and results of a call. */
 export const AREA = 1 << 20;
 const ALIGNMENT = 16;
+const STATUS_TEXT_LENGTH = 96;
+const decoder = new TextDecoder();
 
 /** Up to the next multiple of the alignment. */
 const aligned = (size) => Math.ceil(size / ALIGNMENT) * ALIGNMENT;
@@ -16,11 +18,14 @@ const aligned = (size) => Math.ceil(size / ALIGNMENT) * ALIGNMENT;
 export class Library {
     #exports;
     #area;
+    /** What each status means, read in advance, since a call that failed may leave no room for it. */
+    #texts;
     #trap = null;
 
     constructor(exports) {
         this.#exports = exports;
         this.#area = this.allocate(AREA);
+        this.#texts = Array.from({ length: LAST_STATUS + 1 }, (_, status) => this.#textOf(status));
     }
 
     /** Why the instance is never called again, or null. */
@@ -37,6 +42,11 @@ export class Library {
             this.#trap = error;
             throw new Trapped(`the module trapped in ${name}; load() a new one`, { cause: error });
         }
+    }
+
+    /** Throws the error of a status, unless it is 0. `what` is the message of InvalidArguments and InvalidText. */
+    check(status, what = "the arguments don't fit together") {
+        if (status !== STATUS.DONE) throw errorOf(status, this.#texts[status], what);
     }
 
     /** A pointer to a block of memory. */
@@ -71,6 +81,14 @@ export class Library {
         } finally {
             if (!inArea) this.release(block);
         }
+    }
+
+    /** What a status means, in the module's words. */
+    #textOf(status) {
+        return this.over([STATUS_TEXT_LENGTH, 8], (room, out) => {
+            this.call("yurewha_status_text", status, room, BigInt(STATUS_TEXT_LENGTH), out);
+            return decoder.decode(this.read(room, this.count(out)));
+        });
     }
 
     #view(pointer, length) {

@@ -1,7 +1,7 @@
 // Opened ranges: chunks of a file, whose data is checked.
 
 import { bytes, u64 } from "./arguments.js";
-import { ProofMismatch, STATUS, check } from "./errors.js";
+import { ProofMismatch, STATUS } from "./errors.js";
 import { Handle, Handles, disposable } from "./handle.js";
 import { inspected, showing } from "./shown.js";
 
@@ -40,7 +40,7 @@ export function makeOpenedRange(library) {
     /** What a call of a check has written, or null if it refused the data. */
     const accepted = (status, out) => {
         if (status === STATUS.MISMATCH) return null;
-        check(status);
+        library.check(status);
         return library.u64(out);
     };
 
@@ -136,7 +136,7 @@ export function makeOpenedRange(library) {
         #told(name) {
             const { pointer } = this.#handle;
             return library.over([8], (out) => {
-                check(library.call(name, pointer, out));
+                library.check(library.call(name, pointer, out));
                 return library.u64(out);
             });
         }
@@ -148,7 +148,7 @@ export function makeOpenedRange(library) {
             return library.over([8, 8], (...out) => {
                 const status = library.call("yurewha_opened_range_bytes_of", pointer, number, ...out);
                 if (status === STATUS.ARGUMENTS) return null;
-                check(status);
+                library.check(status);
                 return out.map((at) => library.u64(at));
             });
         }

@@ -2,7 +2,7 @@
 
 import { bytes, text, u64 } from "./arguments.js";
 import { CHUNK_LENGTH } from "./chunks.js";
-import { InvalidArguments, STATUS, check } from "./errors.js";
+import { InvalidArguments, STATUS } from "./errors.js";
 import { HASH_LENGTH, thirtyTwo } from "./hash.js";
 import { LEVEL_LENGTH, packedLevels, unpackedLevels } from "./levels.js";
 import { inspected, showing } from "./shown.js";
@@ -70,7 +70,7 @@ export function makeRangeProof(library, { rawOf }, { Chunks, packedOf }, { opene
             const given = typeof json === "string" ? text(json, "JSON") : bytes(json, "JSON");
             const what = "the text is no JSON text";
             return written(Math.floor(given.length / NODE_TEXT), [given], (rooms, at) => {
-                check(library.call("yurewha_range_proof_from_json", at, BigInt(given.length), ...rooms), what);
+                library.check(library.call("yurewha_range_proof_from_json", at, BigInt(given.length), ...rooms), what);
             });
         }
 
@@ -132,7 +132,7 @@ export function makeRangeProof(library, { rawOf }, { Chunks, packedOf }, { opene
         toJSON() {
             const length = jsonLength(this.#lists);
             return over(this.#lists, [length, 8], (lists, room, out) => {
-                check(library.call("yurewha_range_proof_to_json", ...lists, room, BigInt(length), out));
+                library.check(library.call("yurewha_range_proof_to_json", ...lists, room, BigInt(length), out));
                 return decoder.decode(library.read(room, length));
             });
         }
@@ -143,7 +143,7 @@ export function makeRangeProof(library, { rawOf }, { Chunks, packedOf }, { opene
 
         #opened(name, ...given) {
             return over(this.#lists, given, (lists, ...pointers) =>
-                opened(this, (made) => check(library.call(name, ...lists, ...pointers, made))),
+                opened(this, (made) => library.check(library.call(name, ...lists, ...pointers, made))),
             );
         }
 
@@ -167,7 +167,7 @@ export function makeRangeProof(library, { rawOf }, { Chunks, packedOf }, { opene
     const jsonLength = (lists) =>
         over(lists, [0, 8], (given, room, out) => {
             const status = library.call("yurewha_range_proof_to_json", ...given, room, 0n, out);
-            if (status !== STATUS.ROOM) check(status);
+            if (status !== STATUS.ROOM) library.check(status);
             return library.count(out);
         });
 

@@ -1,6 +1,6 @@
 // Roots, file hashes and stable points of lists of chunks.
 
-import { STATUS, check } from "./errors.js";
+import { STATUS } from "./errors.js";
 import { CHUNK_LENGTH } from "./chunks.js";
 import { thirtyTwo } from "./hash.js";
 
@@ -8,12 +8,12 @@ export function makeRoots(library, { result }, { packedOf }) {
     const count = (packed) => BigInt(packed.length / CHUNK_LENGTH);
     const root = (name) => (chunks) => {
         const packed = packedOf(chunks);
-        return result([packed], (at, out) => check(library.call(name, at, count(packed), out)));
+        return result([packed], (at, out) => library.check(library.call(name, at, count(packed), out)));
     };
     const salted = (chunks, salt) => {
         const packed = packedOf(chunks);
         const name = "yurewha_file_hash_with_salt";
-        return result([packed, thirtyTwo(salt, "a salt")], (at, ...rest) => check(library.call(name, at, count(packed), ...rest)));
+        return result([packed, thirtyTwo(salt, "a salt")], (at, ...rest) => library.check(library.call(name, at, count(packed), ...rest)));
     };
     const unsalted = root("yurewha_file_hash");
     const stablePoint = (name) => (nodes) => {
@@ -21,7 +21,7 @@ export function makeRoots(library, { result }, { packedOf }) {
         return library.over([packed, 8], (at, out) => {
             const status = library.call(name, at, count(packed), out);
             if (status === STATUS.ARGUMENTS) return null;
-            check(status);
+            library.check(status);
             return library.count(out);
         });
     };

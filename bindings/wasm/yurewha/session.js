@@ -2,7 +2,7 @@
 
 import { decimal, u64 } from "./arguments.js";
 import { CHUNK_LENGTH, sizeOf } from "./chunks.js";
-import { STATUS, check, sessionSizes } from "./errors.js";
+import { STATUS, sessionSizes } from "./errors.js";
 import { Handle, Handles, disposable } from "./handle.js";
 import { HASH_LENGTH, thirtyTwo } from "./hash.js";
 import { inspected, showing } from "./shown.js";
@@ -20,7 +20,8 @@ export function makeSession(library, { Hash, rawOf, result, unpacked, hmac }, { 
         #totalSize = 0n;
 
         constructor(handle) {
-            this.#handle = handle instanceof Handle ? handle : handles.make((made) => check(library.call("yurewha_session_new", made)));
+            const fresh = (made) => library.check(library.call("yurewha_session_new", made));
+            this.#handle = handle instanceof Handle ? handle : handles.make(fresh);
             handles.watch(this, this.#handle);
             show(this);
         }
@@ -41,7 +42,7 @@ export function makeSession(library, { Hash, rawOf, result, unpacked, hmac }, { 
 
         clone() {
             const { pointer } = this.#handle;
-            const copy = new Session(handles.make((made) => check(library.call("yurewha_session_copy", pointer, made))));
+            const copy = new Session(handles.make((made) => library.check(library.call("yurewha_session_copy", pointer, made))));
             copy.#numChunks = this.#numChunks;
             copy.#totalSize = this.#totalSize;
             return copy;
@@ -55,7 +56,7 @@ export function makeSession(library, { Hash, rawOf, result, unpacked, hmac }, { 
             const fresh = library.over([packed, 8], (at, out) => {
                 const status = library.call("yurewha_session_put", pointer, position, at, count, out);
                 if (status === STATUS.SIZES) throw sessionSizes();
-                check(status);
+                library.check(status);
                 return library.count(out);
             });
             this.#numChunks += count;
@@ -67,7 +68,7 @@ export function makeSession(library, { Hash, rawOf, result, unpacked, hmac }, { 
             const number = u64(position, "a position");
             const { pointer } = this.#handle;
             return library.over([1], (out) => {
-                check(library.call("yurewha_session_taken", pointer, number, out));
+                library.check(library.call("yurewha_session_taken", pointer, number, out));
                 return library.truth(out);
             });
         }
@@ -85,7 +86,7 @@ export function makeSession(library, { Hash, rawOf, result, unpacked, hmac }, { 
         get numRuns() {
             const { pointer } = this.#handle;
             return library.over([8], (out) => {
-                check(library.call("yurewha_session_num_runs", pointer, out));
+                library.check(library.call("yurewha_session_num_runs", pointer, out));
                 return library.count(out);
             });
         }
@@ -94,7 +95,8 @@ export function makeSession(library, { Hash, rawOf, result, unpacked, hmac }, { 
             const number = u64(place, "the place of a run");
             const { pointer } = this.#handle;
             const first = library.over([8], (out) => {
-                owned((made) => check(library.call("yurewha_session_run", pointer, number, out, made), "there is no such run")).free();
+                const written = (made) => library.check(library.call("yurewha_session_run", pointer, number, out, made), "there is no such run");
+                owned(written).free();
                 return library.u64(out);
             });
             return this.runFrom(first);
@@ -107,7 +109,7 @@ export function makeSession(library, { Hash, rawOf, result, unpacked, hmac }, { 
                 let status;
                 const subtree = owned((made) => {
                     status = library.call("yurewha_session_run_from", pointer, number, first, end, made);
-                    if (status !== STATUS.ARGUMENTS) check(status);
+                    if (status !== STATUS.ARGUMENTS) library.check(status);
                 });
                 if (status === STATUS.DONE) return [library.u64(first), library.u64(end), subtree];
                 subtree.free();
@@ -137,7 +139,7 @@ export function makeSession(library, { Hash, rawOf, result, unpacked, hmac }, { 
             const [from, to] = [u64(first, "a position"), u64(end, "a position")];
             const size = totalSizeOf(range);
             const { pointer } = this.#handle;
-            check(library.call("yurewha_session_push_run", pointer, from, to, pointerOf(range)), unfit);
+            library.check(library.call("yurewha_session_push_run", pointer, from, to, pointerOf(range)), unfit);
             this.#numChunks += to - from;
             this.#totalSize += size;
         }
@@ -148,18 +150,18 @@ export function makeSession(library, { Hash, rawOf, result, unpacked, hmac }, { 
             listed.forEach((hash, k) => packed.set(rawOf(hash, `hash ${k}`), HASH_LENGTH * k));
             const { pointer } = this.#handle;
             library.over([packed], (at) => {
-                check(library.call("yurewha_session_keep_hashes", pointer, at, BigInt(listed.length)));
+                library.check(library.call("yurewha_session_keep_hashes", pointer, at, BigInt(listed.length)));
             });
         }
 
         knownHashes() {
             const { pointer } = this.#handle;
             const count = library.over([8], (out) => {
-                check(library.call("yurewha_session_num_known_hashes", pointer, out));
+                library.check(library.call("yurewha_session_num_known_hashes", pointer, out));
                 return library.count(out);
             });
             const packed = library.over([HASH_LENGTH * count], (at) => {
-                check(library.call("yurewha_session_known_hashes", pointer, at, BigInt(count)));
+                library.check(library.call("yurewha_session_known_hashes", pointer, at, BigInt(count)));
                 return library.read(at, HASH_LENGTH * count);
             });
             return unpacked(packed);
@@ -193,7 +195,7 @@ export function makeSession(library, { Hash, rawOf, result, unpacked, hmac }, { 
         #ofAll(name, total) {
             const number = u64(total, "the total");
             const { pointer } = this.#handle;
-            return result([], (out) => check(library.call(name, pointer, number, out)));
+            return result([], (out) => library.check(library.call(name, pointer, number, out)));
         }
 
         /** All runs by rising position: each is the first that ends after the one before it. */

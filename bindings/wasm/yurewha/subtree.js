@@ -2,7 +2,7 @@
 
 import { bytes, text, truth } from "./arguments.js";
 import { CHUNK_LENGTH } from "./chunks.js";
-import { STATUS, check } from "./errors.js";
+import { STATUS } from "./errors.js";
 import { HANDLE_LENGTH, Handle, Handles, disposable } from "./handle.js";
 import { thirtyTwo } from "./hash.js";
 import { LEVEL_LENGTH, packedLevels, unpackedLevels } from "./levels.js";
@@ -43,7 +43,7 @@ export function makeSubtree(library, { Hash, rawOf, result, hmac }, { Chunks, pa
             return library.over([packed], (at) =>
                 owned((made) => {
                     const count = BigInt(packed.length / CHUNK_LENGTH);
-                    check(library.call("yurewha_subtree_from_chunks", marks[0], at, count, marks[1], made));
+                    library.check(library.call("yurewha_subtree_from_chunks", marks[0], at, count, marks[1], made));
                 }),
             );
         }
@@ -71,7 +71,7 @@ export function makeSubtree(library, { Hash, rawOf, result, hmac }, { Chunks, pa
             const given = typeof json === "string" ? text(json, "JSON") : bytes(json, "JSON");
             return library.over([given], (at) =>
                 owned((made) => {
-                    check(library.call("yurewha_subtree_from_json", at, BigInt(given.length), made), "the text is no JSON text");
+                    library.check(library.call("yurewha_subtree_from_json", at, BigInt(given.length), made), "the text is no JSON text");
                 }),
             );
         }
@@ -83,7 +83,7 @@ export function makeSubtree(library, { Hash, rawOf, result, hmac }, { Chunks, pa
             return library.over([counts, packed], (levelsAt, nodesAt) =>
                 owned((made) => {
                     const lists = [levelsAt, BigInt(counts.length / LEVEL_LENGTH), nodesAt, BigInt(packed.length / CHUNK_LENGTH)];
-                    check(library.call("yurewha_subtree_from_flat", marks[0], ...lists, marks[1], made));
+                    library.check(library.call("yurewha_subtree_from_flat", marks[0], ...lists, marks[1], made));
                 }),
             );
         }
@@ -144,7 +144,7 @@ export function makeSubtree(library, { Hash, rawOf, result, hmac }, { Chunks, pa
             const pointers = [pointerOf(this), pointerOf(other)];
             if (other === this) return true;
             return library.over([1], (out) => {
-                check(library.call("yurewha_subtree_equal", ...pointers, out));
+                library.check(library.call("yurewha_subtree_equal", ...pointers, out));
                 return library.truth(out);
             });
         }
@@ -152,7 +152,7 @@ export function makeSubtree(library, { Hash, rawOf, result, hmac }, { Chunks, pa
         toJSON() {
             const length = jsonLength(this);
             return library.over([length, 8], (room, out) => {
-                check(library.call("yurewha_subtree_to_json", pointerOf(this), room, BigInt(length), out));
+                library.check(library.call("yurewha_subtree_to_json", pointerOf(this), room, BigInt(length), out));
                 return decoder.decode(library.read(room, length));
             });
         }
@@ -174,7 +174,7 @@ export function makeSubtree(library, { Hash, rawOf, result, hmac }, { Chunks, pa
     const told = (name, subtree) => {
         const pointer = pointerOf(subtree);
         return library.over([8], (out) => {
-            check(library.call(name, pointer, out));
+            library.check(library.call(name, pointer, out));
             return library.u64(out);
         });
     };
@@ -186,7 +186,7 @@ export function makeSubtree(library, { Hash, rawOf, result, hmac }, { Chunks, pa
     const marksOf = (subtree) => {
         const pointer = pointerOf(subtree);
         return library.over([1, 1], (...marks) => {
-            check(library.call("yurewha_subtree_marks", pointer, ...marks));
+            library.check(library.call("yurewha_subtree_marks", pointer, ...marks));
             return marks.map((mark) => library.truth(mark));
         });
     };
@@ -196,21 +196,21 @@ export function makeSubtree(library, { Hash, rawOf, result, hmac }, { Chunks, pa
         const pointer = pointerOf(subtree);
         return library.over([0, 8], (room, out) => {
             const status = library.call("yurewha_subtree_to_json", pointer, room, 0n, out);
-            if (status !== STATUS.ROOM) check(status);
+            if (status !== STATUS.ROOM) library.check(status);
             return library.count(out);
         });
     };
 
     const cloned = (subtree) => {
         const pointer = pointerOf(subtree);
-        return owned((copy) => check(library.call("yurewha_subtree_clone", pointer, copy)));
+        return owned((copy) => library.check(library.call("yurewha_subtree_clone", pointer, copy)));
     };
 
     /** The root, or null if an end isn't marked. */
     function finalHashOf(subtree) {
         const pointer = pointerOf(subtree);
         if (marksOf(subtree).includes(false)) return null;
-        return result([], (out) => check(library.call("yurewha_subtree_final_hash", pointer, out)));
+        return result([], (out) => library.check(library.call("yurewha_subtree_final_hash", pointer, out)));
     }
 
     function flatOf(subtree) {
@@ -220,7 +220,7 @@ export function makeSubtree(library, { Hash, rawOf, result, hmac }, { Chunks, pa
         const parts = [LEVEL_LENGTH * levelCount, CHUNK_LENGTH * nodeCount, 8, 8];
         return library.over(parts, (levels, nodes, ...counts) => {
             const rooms = [levels, BigInt(levelCount), nodes, BigInt(nodeCount)];
-            check(library.call("yurewha_subtree_to_flat", pointer, ...rooms, ...counts));
+            library.check(library.call("yurewha_subtree_to_flat", pointer, ...rooms, ...counts));
             const packed = library.read(nodes, parts[1]);
             return { atStart, levels: unpackedLevels(library.read(levels, parts[0])), nodes: new Chunks(packed), atEnd };
         });
@@ -230,7 +230,7 @@ export function makeSubtree(library, { Hash, rawOf, result, hmac }, { Chunks, pa
     function merged(front, back) {
         const pointers = [pointerOf(front), pointerOf(back)];
         return library.over([8], (parents) => {
-            check(library.call("yurewha_subtree_merge_into_counted", ...pointers, parents), misplaced);
+            library.check(library.call("yurewha_subtree_merge_into_counted", ...pointers, parents), misplaced);
             return library.count(parents);
         });
     }
@@ -240,7 +240,7 @@ export function makeSubtree(library, { Hash, rawOf, result, hmac }, { Chunks, pa
         const block = new Uint8Array(HANDLE_LENGTH * ranges.length);
         ranges.forEach((range, k) => block.set(library.read(pointerOf(range), HANDLE_LENGTH), HANDLE_LENGTH * k));
         return library.over([block], (at) =>
-            owned((made) => check(library.call("yurewha_subtree_merge", at, BigInt(ranges.length), made), misplaced)),
+            owned((made) => library.check(library.call("yurewha_subtree_merge", at, BigInt(ranges.length), made), misplaced)),
         );
     }
 
