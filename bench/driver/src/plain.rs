@@ -17,19 +17,48 @@ const INTERNAL_KEY: [u8; 32] = [
     99, 82, 230, 74, 83, 113, 63,
 ];
 
-/// Adds the hex text of a hash to the text of a group.
-pub type WriteHex = fn(&mut String, &Hash);
+/// Adds a node's line to the text of a group.
+pub type WriteLine = fn(&mut String, &Node);
 
-/// By the standard library's formatter, as `xet-core-structures` does it.
+/// Adds the hex text of a hash, by the standard library's formatter.
 pub fn write_formatted(text: &mut String, hash: &Hash) {
     for word in hash {
         write!(text, "{word:016x}").expect("a string takes what is written");
     }
 }
 
-/// By the crate `hex`.
-pub fn write_encoded(text: &mut String, hash: &Hash) {
-    text.push_str(std::str::from_utf8(&hex_digits(hash)).expect("hex digits are ASCII"));
+/// By the standard library's formatter.
+pub fn formatted_line(text: &mut String, (hash, size): &Node) {
+    write_formatted(text, hash);
+    writeln!(text, " : {size}").expect("a string takes what is written");
+}
+
+/// The hash by the crate `hex`, and the size by the standard library's formatter.
+pub fn encoded_line(text: &mut String, (hash, size): &Node) {
+    text.push_str(as_text(&hex_digits(hash)));
+    writeln!(text, " : {size}").expect("a string takes what is written");
+}
+
+/// The hash by a table of digits into a fixed buffer, as `xet-core-structures` 1.5.2 writes it, and the size by the crate `itoa`.
+pub fn table_line(text: &mut String, (hash, size): &Node) {
+    text.push_str(as_text(&table_digits(hash)));
+    text.push_str(" : ");
+    text.push_str(itoa::Buffer::new().format(*size));
+    text.push('\n');
+}
+
+fn as_text(digits: &[u8; 64]) -> &str {
+    std::str::from_utf8(digits).expect("hex digits are ASCII")
+}
+
+fn table_digits(hash: &Hash) -> [u8; 64] {
+    let mut digits = [0; 64];
+    for (digits, word) in digits.chunks_exact_mut(16).zip(hash) {
+        for (i, digit) in digits.iter_mut().enumerate() {
+            *digit = b"0123456789abcdef"[(word >> (60 - 4 * i) & 15) as usize];
+        }
+    }
+    digits
 }
 
 /// The hex text: each word from its highest digit down.
@@ -95,17 +124,16 @@ fn split_group(nodes: &[Node]) -> (&[Node], &[Node]) {
     nodes.split_at(cut.map_or(longest, |i| i + 1))
 }
 
-fn parents(mut nodes: &[Node], write_hex: WriteHex) -> Vec<Node> {
+fn parents(mut nodes: &[Node], write_line: WriteLine) -> Vec<Node> {
     let mut parents = Vec::with_capacity(nodes.len() / 3 + 1);
     let mut text = String::new();
     while !nodes.is_empty() {
         let (group, after) = split_group(nodes);
         text.clear();
         let mut total = 0;
-        for (hash, size) in group {
-            write_hex(&mut text, hash);
-            writeln!(text, " : {size}").expect("a string takes what is written");
-            total += size;
+        for node in group {
+            write_line(&mut text, node);
+            total += node.1;
         }
         parents.push((keyed(&INTERNAL_KEY, text.as_bytes()), total));
         nodes = after;
@@ -114,11 +142,11 @@ fn parents(mut nodes: &[Node], write_hex: WriteHex) -> Vec<Node> {
 }
 
 /// The root of a list of chunks.
-pub fn xorb_hash(nodes: &[Node], write_hex: WriteHex) -> Hash {
+pub fn xorb_hash(nodes: &[Node], write_line: WriteLine) -> Hash {
     let mut nodes = nodes;
     let mut level;
     while nodes.len() > 1 {
-        level = parents(nodes, write_hex);
+        level = parents(nodes, write_line);
         nodes = &level;
     }
     nodes.first().map_or([0; 4], |node| node.0)

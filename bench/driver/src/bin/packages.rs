@@ -40,6 +40,6 @@ fn main() {
     print("peer_hot", MESSAGES, || hot().for_each(theirs));
     print("peer_cold", MESSAGES, || cold().for_each(theirs));
     print("peer_root", 1, || {
-        black_box(plain::xorb_hash(black_box(&plain_chunks), plain::write_encoded));
+        black_box(plain::xorb_hash(black_box(&plain_chunks), plain::encoded_line));
     });
 }

@@ -63,7 +63,7 @@ fn read(input: impl Read) -> Result<Vec<Node>, Box<dyn Error>> {
 
 fn main() -> Result<(), Box<dyn Error>> {
     let chunks = read(io::stdin().lock())?;
-    let root = plain::xorb_hash(&chunks, plain::write_encoded);
+    let root = plain::xorb_hash(&chunks, plain::encoded_line);
     let file = plain::file_hash(root, chunks.is_empty());
     let mut output = io::stdout().lock();
     for (name, hash) in [("xorb", root), ("file", file)] {

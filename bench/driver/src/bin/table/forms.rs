@@ -1,5 +1,5 @@
 //! What a Rust client does with hashes and subtrees without the library, or by serde: beside plain structs with derives,
-//! and texts by `format!` and `from_str_radix`, as `xet-core-structures` has them.
+//! and texts by `format!` and `from_str_radix`.
 
 use driver::drawn::Cuts;
 use driver::plain::Hash;

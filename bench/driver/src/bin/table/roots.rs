@@ -1,7 +1,7 @@
 //! Roots and subtrees of whole lists.
 
 use driver::drawn::{self, Cuts};
-use driver::plain::{self, WriteHex};
+use driver::plain::{self, WriteLine};
 use driver::rows::{Row, Task, HEAD};
 use std::hint::black_box;
 use yurewha::merklehash::{xorb_hash, MerkleHashSubtree};
@@ -17,20 +17,22 @@ pub fn print() {
     println!("{HEAD}");
     for (name, count) in SIZES {
         let theirs = &plain_chunks[..count];
-        let peer = |write_hex: WriteHex| Task::call(move || plain::xorb_hash(black_box(theirs), write_hex));
+        let peer = |write_line: WriteLine| Task::call(move || plain::xorb_hash(black_box(theirs), write_line));
         let ours = |count: usize| {
             let chunks = chunks.get(..count)?;
             Some(Task::call(move || xorb_hash(black_box(chunks))))
         };
         let root = xorb_hash(&chunks[..count]);
-        assert_eq!(*root, plain::xorb_hash(theirs, plain::write_encoded));
-        assert_eq!(*root, plain::xorb_hash(theirs, plain::write_formatted));
+        for write_line in [plain::formatted_line, plain::encoded_line, plain::table_line] {
+            assert_eq!(*root, plain::xorb_hash(theirs, write_line));
+        }
         let row = Row {
             name: format!("`xorb_hash`, {name} chunks"),
             ours: ours(count).expect("so many chunks"),
             peers: vec![
-                ("a loop, `write!`", peer(plain::write_formatted)),
-                ("a loop, the crate `hex`", peer(plain::write_encoded)),
+                ("a loop, `write!`", peer(plain::formatted_line)),
+                ("a loop, the crate `hex`", peer(plain::encoded_line)),
+                ("a loop, a table of digits and `itoa`", peer(plain::table_line)),
             ],
             tenfold: ours(10 * count),
         };
