@@ -39,7 +39,7 @@ pub fn encoded_line(text: &mut String, (hash, size): &Node) {
     writeln!(text, " : {size}").expect("a string takes what is written");
 }
 
-/// The hash by a table of digits into a fixed buffer, as `xet-core-structures` 1.5.2 writes it, and the size by the crate `itoa`.
+/// The hash by a table of digits, and the size by the crate `itoa`.
 pub fn table_line(text: &mut String, (hash, size): &Node) {
     text.push_str(as_text(&table_digits(hash)));
     text.push_str(" : ");
@@ -51,7 +51,8 @@ fn as_text(digits: &[u8; 64]) -> &str {
     std::str::from_utf8(digits).expect("hex digits are ASCII")
 }
 
-fn table_digits(hash: &Hash) -> [u8; 64] {
+/// The hex text by a table of digits into a fixed buffer, as `xet-core-structures` 1.5.2 writes it.
+pub fn table_digits(hash: &Hash) -> [u8; 64] {
     let mut digits = [0; 64];
     for (digits, word) in digits.chunks_exact_mut(16).zip(hash) {
         for (i, digit) in digits.iter_mut().enumerate() {

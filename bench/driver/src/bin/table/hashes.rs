@@ -110,12 +110,17 @@ fn encoded(hash: &MerkleHash) -> String {
     std::str::from_utf8(&plain::hex_digits(hash)).expect("hex digits are ASCII").to_owned()
 }
 
+fn from_table(hash: &MerkleHash) -> String {
+    std::str::from_utf8(&plain::table_digits(hash)).expect("hex digits are ASCII").to_owned()
+}
+
 /// Hex texts of a thousand hashes both ways, each text a `String` of its own.
 pub fn print_hex() {
     let hashes: Vec<MerkleHash> = crate::chunks(1, Cuts::Drawn, 10_000).into_iter().map(|(hash, _)| hash).collect();
     let texts: Vec<String> = hashes.iter().map(MerkleHash::hex).collect();
     assert!(hashes.iter().map(formatted).eq(texts.iter().cloned()));
     assert!(hashes.iter().map(encoded).eq(texts.iter().cloned()));
+    assert!(hashes.iter().map(from_table).eq(texts.iter().cloned()));
     let is_read = |(text, hash): (&String, &MerkleHash)| {
         plain::decoded(text) == Some(**hash) && plain::parsed(text) == Some(**hash)
     };
@@ -128,7 +133,11 @@ pub fn print_hex() {
     let row = Row {
         name: "`hex` of 1000 hashes".into(),
         ours: writing(1000, MerkleHash::hex),
-        peers: vec![("the crate `hex`", writing(1000, encoded)), ("`format!`", writing(1000, formatted))],
+        peers: vec![
+            ("the crate `hex`", writing(1000, encoded)),
+            ("a table of digits", writing(1000, from_table)),
+            ("`format!`", writing(1000, formatted)),
+        ],
         tenfold: Some(writing(10_000, MerkleHash::hex)),
     };
     row.print();
