@@ -90,17 +90,22 @@ def contents(crate: Path) -> dict[str, bytes]:
     }
 
 
+def with_lanes(level: Level) -> str:
+    """The text of the file with the number of lanes, where that is the level's."""
+    text, count = re.subn(r"(?m)^(pub\(crate\) const LANES: usize =) \d+;$", rf"\1 {level.lanes};", (ROOT / LANES).read_text())
+    if count != 1:
+        raise Fault(f"{LANES} has another line for the number of lanes")
+    return text
+
+
 def crates_for(level: Level) -> Path:
     """A folder with the crates, whose number of lanes is the level's: the repository, or a copy.
 
     A crate that has changed since an earlier run comes into the copy with the proofs that the repository has kept. So `rt` proves
     again there what the number of lanes reaches, and takes the rest from what is kept.
     """
-    number = re.compile(r"(?m)^(pub\(crate\) const LANES: usize =) (\d+);$")
-    found = number.search((ROOT / LANES).read_text())
-    if not found:
-        raise Fault(f"{LANES} has another line for the number of lanes")
-    if int(found[2]) == level.lanes:
+    lanes = with_lanes(level)
+    if lanes == (ROOT / LANES).read_text():
         return ROOT
     copy = OUT / f"lanes-{level.lanes}"
     (copy / "crates").mkdir(parents=True, exist_ok=True)
@@ -113,7 +118,7 @@ def crates_for(level: Level) -> Path:
                 run("cp", "-a", source, place)
     for name in ("crates.txt", "HANDLES"):
         shutil.copy(ROOT / name, copy / name)
-    (copy / LANES).write_text(number.sub(rf"\1 {level.lanes};", (ROOT / LANES).read_text()))
+    (copy / LANES).write_text(lanes)
     return copy
 
 
