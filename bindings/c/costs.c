@@ -9,7 +9,8 @@
  * - A hash has 32 bytes. A list of hashes, and the two parts of a map of hashes, double their room when it is used up. A list
  *   that is as long as it will be is made by one request.
  * - A node of the map of runs has room for several runs, and is made for each sixth or eleventh of them.
- * - A put copies its chunks, lists the new hashes, keeps them, and makes a subtree.
+ * - A put copies its chunks, lists the new hashes, keeps them, and makes a subtree. One right before a run makes an entry, and an
+ *   empty subtree for it, too.
  */
 #include "harness.h"
 
@@ -74,6 +75,40 @@ static void puts_between(struct runs *it)
         put(&it->full, 2 * i + 1, &it->chunks[i]);
 }
 
+/* Each put is right after or right before the one before it, so that there is one run, whose nodes are all kept. */
+static void puts_rising(struct runs *it)
+{
+    for (size_t i = 0; i < it->count; i++)
+        put(&it->other, i, &it->chunks[i]);
+}
+
+static void puts_falling(struct runs *it)
+{
+    for (size_t i = it->count; i > 0; i--)
+        put(&it->other, i - 1, &it->chunks[i - 1]);
+}
+
+/* One run of all chunks, and then puts on one side of it. */
+static void one_run(struct runs *it)
+{
+    uint64_t fresh = 0;
+    EXPECT_STATUS(YUREWHA_DONE, yurewha_session_put(&it->other, it->count, it->chunks, it->count, &fresh));
+}
+
+static void puts_after(struct runs *it)
+{
+    one_run(it);
+    for (size_t i = 0; i < it->count; i++)
+        put(&it->other, 2 * it->count + i, &it->chunks[i]);
+}
+
+static void puts_before(struct runs *it)
+{
+    one_run(it);
+    for (size_t i = it->count; i > 0; i--)
+        put(&it->other, i - 1, &it->chunks[i - 1]);
+}
+
 static void push_runs(struct runs *it)
 {
     for (size_t i = 0; i < it->count; i++)
@@ -126,6 +161,10 @@ static const struct {
 } rows[] = {
     {"put apart", puts_apart, 5, 750},
     {"put between two runs", puts_between, 5, 750},
+    {"put rising", puts_rising, 5, 750},
+    {"put falling", puts_falling, 7, 900},
+    {"put after a run", puts_after, 5, 750},
+    {"put before a run", puts_before, 6, 900},
     {"push_run", push_runs, 3, 330},
     {"run", runs_by_index, 3, 200},
     {"run_from", runs_from, 3, 200},

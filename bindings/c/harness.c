@@ -241,8 +241,9 @@ int main(int count, char **names)
         {"sessions", test_sessions},   {"range_proofs", test_range_proofs},
         {"handles", test_handles},     {"rooms", test_rooms},
         {"empty_slices", test_empty_slices}, {"refusals", test_refusals},
-        {"costs", test_costs},         {"large", test_large},
-        {"threads", test_threads},     {"vectors", test_vectors},
+        {"costs", test_costs},         {"growth", test_growth},
+        {"large", test_large},         {"threads", test_threads},
+        {"vectors", test_vectors},
     };
     for (size_t i = 0; i < LENGTH(tests); i++) {
         bool wanted = count < 2;

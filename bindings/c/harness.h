@@ -108,6 +108,7 @@ void test_rooms(void);
 void test_empty_slices(void);
 void test_refusals(void);
 void test_costs(void);
+void test_growth(void);
 void test_large(void);
 void test_threads(void);
 void test_vectors(void);

@@ -1,8 +1,11 @@
 /*
  * The same bytes, hashed in different ways: as messages of one length, by one call each or by one call for all, and as messages
- * of 64 KiB by a hasher that takes pieces. bindings/c/test counts the instructions of each way.
+ * of 64 KiB by a hasher that takes pieces. And the root of a list, by calls that hash the texts of two groups at once, and by a call
+ * for each text. bindings/c/test counts the instructions of each way.
  */
 #include "harness.h"
+
+#include <inttypes.h>
 
 enum { KIB = 1024, LONG = 64 * KIB, ALL = 4 * LONG, MOST = ALL / KIB };
 
@@ -40,6 +43,7 @@ static const struct way {
     size_t length; /* of a message, or of a piece */
 } ways[] = {
     {"messages of 1 KiB", by_one_call_each, KIB},
+    {"messages of 2 KiB", by_one_call_each, 2 * KIB},
     {"messages of 4 KiB", by_one_call_each, 4 * KIB},
     {"messages of 8 KiB", by_one_call_each, 8 * KIB},
     {"messages of 32 KiB", by_one_call_each, 32 * KIB},
@@ -73,8 +77,71 @@ static yurewha_hash hash_otherwise(const struct way *it, const uint8_t *message,
     return hash;
 }
 
+enum { CHUNKS = 1000, LEAST_OF_GROUP = 3, MOST_OF_GROUP = 9, LINE = 90 };
+
+/* The length of the first group: up to a natural cut from the third node on, and of at most nine nodes. */
+static size_t group_of(const yurewha_chunk *nodes, size_t count)
+{
+    const size_t most = count < MOST_OF_GROUP ? count : MOST_OF_GROUP;
+    for (size_t length = LEAST_OF_GROUP; length <= most; length++)
+        if (nodes[length - 1].hash.words[3] % 4 == 0)
+            return length;
+    return most;
+}
+
+static yurewha_chunk parent_of(const yurewha_chunk *nodes, size_t count)
+{
+    yurewha_chunk parent = {.size = 0};
+    char text[MOST_OF_GROUP * LINE];
+    size_t length = 0;
+    for (size_t i = 0; i < count; i++) {
+        const uint64_t *words = nodes[i].hash.words;
+        length += (size_t)sprintf(text + length, "%016" PRIx64 "%016" PRIx64 "%016" PRIx64 "%016" PRIx64 " : %" PRIu64 "\n", words[0],
+                                  words[1], words[2], words[3], nodes[i].size);
+        parent.size += nodes[i].size;
+    }
+    yurewha_internal_node_hash((const uint8_t *)text, length, &parent.hash);
+    return parent;
+}
+
+/* The root of a list, whose nodes it replaces by their parents, level by level. */
+static yurewha_hash root_by_texts(yurewha_chunk *nodes, size_t count)
+{
+    while (count > 1) {
+        size_t made = 0;
+        for (size_t at = 0, length; at < count; at += length) {
+            length = group_of(nodes + at, count - at);
+            nodes[made++] = parent_of(nodes + at, length);
+        }
+        count = made;
+    }
+    return nodes[0].hash;
+}
+
+/* One root by several calls. */
+static void roots(void)
+{
+    yurewha_chunk *chunks = list_of(NULL, CHUNKS);
+    yurewha_hash root, of_tree, of_subtree;
+    yurewha_hash_tree tree = {0};
+    yurewha_subtree subtree = range_of(chunks, 0, CHUNKS, true, true);
+    row("root of 1,000 chunks");
+    if (is_wanted()) {
+        EXPECT_STATUS(YUREWHA_DONE, yurewha_xorb_hash(chunks, CHUNKS, &root));
+        EXPECT_STATUS(YUREWHA_DONE, yurewha_hash_tree_from_chunks(chunks, CHUNKS, &tree));
+        EXPECT_STATUS(YUREWHA_DONE, yurewha_hash_tree_root(&tree, &of_tree));
+        EXPECT_STATUS(YUREWHA_DONE, yurewha_subtree_final_hash(&subtree, &of_subtree));
+        const yurewha_hash by_texts = root_by_texts(chunks, CHUNKS);
+        EXPECT(same_hash(&root, &by_texts) && same_hash(&of_tree, &by_texts) && same_hash(&of_subtree, &by_texts));
+    }
+    yurewha_hash_tree_free(&tree);
+    yurewha_subtree_free(&subtree);
+    free(chunks);
+}
+
 void test_lanes(void)
 {
+    roots();
     uint8_t *bytes = block(ALL);
     yurewha_hash *hashes = block(MOST * sizeof *hashes);
     for (size_t i = 0; i < ALL; i++)

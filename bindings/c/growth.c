@@ -1,0 +1,318 @@
+/*
+ * What calls over lists ask of malloc. Each row of `rows` is made with few chunks and with many. It may make so many requests, and
+ * ask for so many bytes, for each chunk, and some more whatever their number. bindings/c/test counts instructions of both sizes.
+ *
+ * The bounds are half as much again as is asked for, but for roots, where the parents alone may take half as much again:
+ *
+ * - A node has 40 bytes. Calls copy the list that they get. The parents of n nodes are at most n / 3, and those of parents are made
+ *   in their place.
+ * - A subtree of random chunks keeps a few nodes a level. Without natural cuts it keeps all.
+ * - A hash tree keeps all nodes of all levels.
+ * - JSON is read and written by way of a tree of values, with four requests for each node.
+ */
+#include "harness.h"
+
+enum { FEW = 1000, MANY = 10000, CHUNK = 10, LEVELS = 64, ROOM = MANY + 1024 };
+static const size_t sizes[] = {FEW, MANY};
+
+/* The requests and bytes that may be asked for whatever the number of chunks. */
+enum { FEW_REQUESTS = 60, FEW_BYTES = 20000 };
+
+/* A list, and what calls are made on. Chunk i has the bytes from 10 * i on. */
+static struct list {
+    size_t count;
+    uint8_t *bytes;
+    yurewha_chunk *chunks;
+    yurewha_chunk *plain; /* without a natural cut */
+    yurewha_hash root;
+    yurewha_subtree front, back, *ranges;
+    yurewha_hash_tree tree;
+    yurewha_opened_range opened;
+    yurewha_level levels[LEVELS];
+    yurewha_chunk nodes[ROOM];
+    size_t level_count, node_count, length;
+    char *text;
+} it;
+
+static void make(size_t count)
+{
+    memset(&it, 0, sizeof it);
+    it.count = count;
+    it.bytes = message_of(count * CHUNK);
+    it.chunks = block(count * sizeof *it.chunks);
+    it.plain = list_of(".", count);
+    for (size_t i = 0; i < count; i++) {
+        memcpy(it.bytes + i * CHUNK, &i, sizeof i);
+        yurewha_data_hash(it.bytes + i * CHUNK, CHUNK, &it.chunks[i].hash);
+        it.chunks[i].size = CHUNK;
+    }
+}
+
+static void unmake(void)
+{
+    for (size_t i = 0; it.ranges != NULL && i < it.count; i++)
+        yurewha_subtree_free(&it.ranges[i]);
+    yurewha_subtree_free(&it.front);
+    yurewha_subtree_free(&it.back);
+    yurewha_hash_tree_free(&it.tree);
+    yurewha_opened_range_free(&it.opened);
+    free(it.ranges);
+    free(it.text);
+    free(it.bytes);
+    free(it.chunks);
+    free(it.plain);
+}
+
+/* ---- What is made before a call */
+
+static void nothing(void) {}
+
+static void two_halves(void)
+{
+    const size_t half = it.count / 2;
+    it.front = range_of(it.chunks, 0, half, false, false);
+    it.back = range_of(it.chunks, half, it.count, false, false);
+}
+
+static void plain_halves(void)
+{
+    const size_t half = it.count / 2;
+    it.front = range_of(it.plain, 0, half, false, false);
+    it.back = range_of(it.plain, half, it.count, false, false);
+}
+
+static void singles(void)
+{
+    it.ranges = block(it.count * sizeof *it.ranges);
+    for (size_t i = 0; i < it.count; i++)
+        it.ranges[i] = range_of(it.chunks, i, i + 1, false, false);
+}
+
+/* A range of the plain list, and one that has its last chunk alone. */
+static void plain_and_one(void)
+{
+    it.front = range_of(it.plain, 0, it.count, false, false);
+    it.back = range_of(it.plain, it.count - 1, it.count, false, false);
+}
+
+/* The same, where the one chunk is a natural cut. */
+static void plain_and_cut(void)
+{
+    const yurewha_chunk cut = {{{1, 0, 0, 0}}, 1};
+    it.front = range_of(it.plain, 0, it.count, false, false);
+    it.back = range_of(&cut, 0, 1, false, false);
+}
+
+static void tree(void)
+{
+    EXPECT_STATUS(YUREWHA_DONE, yurewha_hash_tree_from_chunks(it.chunks, it.count, &it.tree));
+    EXPECT_STATUS(YUREWHA_DONE, yurewha_hash_tree_root(&it.tree, &it.root));
+}
+
+static void proof(size_t first, size_t end)
+{
+    EXPECT_STATUS(YUREWHA_DONE, yurewha_hash_tree_proof(&it.tree, first, end, it.levels, LEVELS, it.nodes, ROOM, &it.level_count,
+                                                        &it.node_count));
+}
+
+static void open(void)
+{
+    EXPECT_STATUS(YUREWHA_DONE, yurewha_range_proof_open_root(it.levels, it.level_count, it.nodes, it.node_count, &it.root,
+                                                              &it.opened));
+}
+
+static void proof_of_one(void)
+{
+    tree();
+    proof(it.count / 2, it.count / 2 + 1);
+}
+
+static void proof_of_all(void)
+{
+    tree();
+    proof(0, it.count);
+}
+
+static void opened_one(void)
+{
+    proof_of_one();
+    open();
+}
+
+static void opened_all(void)
+{
+    proof_of_all();
+    open();
+}
+
+static void text(void)
+{
+    it.front = range_of(it.plain, 0, it.count, false, false);
+    EXPECT_STATUS(YUREWHA_ROOM, yurewha_subtree_to_json(&it.front, NULL, 0, &it.length));
+    it.text = block(it.length);
+    EXPECT_STATUS(YUREWHA_DONE, yurewha_subtree_to_json(&it.front, it.text, it.length, &it.length));
+}
+
+static void flat(void)
+{
+    it.front = range_of(it.plain, 0, it.count, false, false);
+    EXPECT_STATUS(YUREWHA_DONE, yurewha_subtree_to_flat(&it.front, it.levels, LEVELS, it.nodes, ROOM, &it.level_count,
+                                                        &it.node_count));
+}
+
+static void text_of_proof(void)
+{
+    proof_of_all();
+    EXPECT_STATUS(YUREWHA_ROOM, yurewha_range_proof_to_json(it.levels, it.level_count, it.nodes, it.node_count, NULL, 0, &it.length));
+    it.text = block(it.length);
+    EXPECT_STATUS(YUREWHA_DONE, yurewha_range_proof_to_json(it.levels, it.level_count, it.nodes, it.node_count, it.text, it.length,
+                                                            &it.length));
+}
+
+/* ---- The calls */
+
+static void xorb_hash(void) { EXPECT_STATUS(YUREWHA_DONE, yurewha_xorb_hash(it.chunks, it.count, &it.root)); }
+static void file_hash(void) { EXPECT_STATUS(YUREWHA_DONE, yurewha_file_hash(it.chunks, it.count, &it.root)); }
+
+static void from_chunks(void)
+{
+    EXPECT_STATUS(YUREWHA_DONE, yurewha_subtree_from_chunks(false, it.chunks, it.count, false, &it.front));
+}
+
+static void from_plain_chunks(void)
+{
+    EXPECT_STATUS(YUREWHA_DONE, yurewha_subtree_from_chunks(false, it.plain, it.count, false, &it.front));
+}
+
+static void merge_into(void) { EXPECT_STATUS(YUREWHA_DONE, yurewha_subtree_merge_into(&it.front, &it.back)); }
+
+/* The first one may copy all nodes, to have room for more. */
+static void merge_into_often(void)
+{
+    for (size_t i = 0; i < 100; i++)
+        merge_into();
+}
+
+/* So few times that there is no other cut near. */
+static void merge_into_twice(void)
+{
+    merge_into();
+    merge_into();
+}
+
+static void merge(void) { EXPECT_STATUS(YUREWHA_DONE, yurewha_subtree_merge(it.ranges, it.count, &it.front)); }
+static void to_json(void) { EXPECT_STATUS(YUREWHA_DONE, yurewha_subtree_to_json(&it.front, it.text, it.length, &it.length)); }
+static void from_json(void) { EXPECT_STATUS(YUREWHA_DONE, yurewha_subtree_from_json(it.text, it.length, &it.back)); }
+
+static void from_flat(void)
+{
+    EXPECT_STATUS(YUREWHA_DONE, yurewha_subtree_from_flat(false, it.levels, it.level_count, it.nodes, it.node_count, false, &it.back));
+}
+
+static void stable_points(void)
+{
+    size_t point = 0;
+    EXPECT_STATUS(YUREWHA_DONE, yurewha_find_stable_start(it.chunks, it.count, &point));
+    EXPECT_STATUS(YUREWHA_DONE, yurewha_find_stable_end(it.chunks, it.count, &point));
+}
+
+static void proof_of_one_again(void) { proof(it.count / 2, it.count / 2 + 1); }
+static void proof_of_all_again(void) { proof(0, it.count); }
+
+static void chunks_at(void)
+{
+    size_t first = 0, end = 0;
+    const uint64_t middle = it.count / 2 * CHUNK;
+    EXPECT_STATUS(YUREWHA_DONE, yurewha_hash_tree_chunks_at(&it.tree, middle, middle + CHUNK, &first, &end));
+    EXPECT(first == it.count / 2 && end == first + 1);
+}
+
+static void check_one(void)
+{
+    uint64_t place = 0;
+    EXPECT_STATUS(YUREWHA_DONE, yurewha_opened_range_check(&it.opened, it.count / 2, it.bytes + it.count / 2 * CHUNK, CHUNK, &place));
+}
+
+static void read_one(void)
+{
+    size_t start = 0;
+    const uint64_t from = it.count / 2 * CHUNK;
+    EXPECT_STATUS(YUREWHA_DONE, yurewha_opened_range_read(&it.opened, from, from + 1, it.bytes + from, CHUNK, &start));
+}
+
+static void read_all(void)
+{
+    size_t start = 0;
+    EXPECT_STATUS(YUREWHA_DONE, yurewha_opened_range_read(&it.opened, 0, it.count * CHUNK, it.bytes, it.count * CHUNK, &start));
+}
+
+static void proof_to_json(void)
+{
+    EXPECT_STATUS(YUREWHA_DONE, yurewha_range_proof_to_json(it.levels, it.level_count, it.nodes, it.node_count, it.text, it.length,
+                                                            &it.length));
+}
+
+static void proof_from_json(void)
+{
+    EXPECT_STATUS(YUREWHA_DONE, yurewha_range_proof_from_json(it.text, it.length, it.levels, LEVELS, it.nodes, ROOM, &it.level_count,
+                                                              &it.node_count));
+}
+
+static const struct {
+    const char *name;
+    void (*prepare)(void);
+    void (*call)(void);
+    size_t requests; /* for each chunk */
+    size_t bytes;    /* for each chunk */
+} rows[] = {
+    {"xorb_hash", nothing, xorb_hash, 0, 60},
+    {"file_hash", nothing, file_hash, 0, 60},
+    {"subtree_from_chunks", nothing, from_chunks, 0, 75},
+    {"subtree_from_chunks without cuts", nothing, from_plain_chunks, 0, 100},
+    {"stable points", nothing, stable_points, 0, 100},
+    {"merge_into", two_halves, merge_into, 0, 0},
+    {"merge_into without cuts", plain_halves, merge_into, 0, 60},
+    {"merge_into of one chunk", plain_and_one, merge_into_often, 0, 120},
+    {"merge_into of one cut", plain_and_cut, merge_into_twice, 0, 120},
+    {"merge", singles, merge, 3, 540},
+    {"to_json", text, to_json, 5, 1900},
+    {"from_json", text, from_json, 5, 1800},
+    {"from_flat", flat, from_flat, 0, 120},
+    {"hash_tree_from_chunks", nothing, tree, 0, 160},
+    {"hash_tree_proof of one chunk", tree, proof_of_one_again, 0, 0},
+    {"hash_tree_proof of all", tree, proof_of_all_again, 0, 120},
+    {"hash_tree_chunks_at", tree, chunks_at, 0, 0},
+    {"range_proof_open of one chunk", proof_of_one, open, 0, 0},
+    {"range_proof_open of all", proof_of_all, open, 0, 290},
+    {"range_proof_to_json", text_of_proof, proof_to_json, 5, 2000},
+    {"range_proof_from_json", text_of_proof, proof_from_json, 5, 1800},
+    {"opened_range_check", opened_all, check_one, 0, 0},
+    {"opened_range_read of one chunk", opened_one, read_one, 0, 0},
+    {"opened_range_read of all", opened_all, read_all, 0, 0},
+};
+
+static void expect_cost(size_t place, size_t count)
+{
+    make(count);
+    rows[place].prepare();
+    refuse(0, false);
+    rows[place].call();
+    const size_t asked = requests(), bytes = granted();
+    EXPECT(asked <= rows[place].requests * count + FEW_REQUESTS);
+    EXPECT(bytes <= rows[place].bytes * count + FEW_BYTES);
+    unmake();
+}
+
+void test_growth(void)
+{
+    if (!sees_requests()) {
+        printf("growth: left out, as no request of the library comes by here\n");
+        return;
+    }
+    for (size_t i = 0; i < LENGTH(rows) * LENGTH(sizes); i++) {
+        const size_t count = sizes[i % LENGTH(sizes)], place = i / LENGTH(sizes);
+        row("%s, %zu chunks", rows[place].name, count);
+        if (is_wanted() && count <= largest())
+            expect_cost(place, count);
+    }
+}
