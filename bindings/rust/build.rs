@@ -1,16 +1,15 @@
-//! Compiles the library from C and assembly, by the C compiler that the crate `cc` finds, and links it statically. These files are in
-//! `native/` of the packed crate, and in `dist/` of the repository.
+//! Compiles the library from the C and assembly of `dist/`, by the C compiler that the crate `cc` finds, and links it statically.
 
 use std::env;
 use std::fs;
-use std::path::Path;
 use std::process::exit;
 
 // Set where only pages are made, as on docs.rs: they need no library.
 const PAGES_ONLY: &str = "DOCS_RS";
+const HEADERS: &str = "bindings/include";
 
 fn main() {
-    println!("cargo:rerun-if-changed=build.rs");
+    println!("cargo:rerun-if-changed=bindings/rust/build.rs");
     println!("cargo:rerun-if-env-changed={PAGES_ONLY}");
     if env::var_os(PAGES_ONLY).is_some() {
         return;
@@ -23,28 +22,21 @@ fn main() {
     // Also if the crate is built for debugging, since each call goes through this C.
     build.opt_level(2).flag("-std=c11");
     for name in ["processor_level.c", "heap.c"] {
-        build.file(native(name));
+        build.file(of_library(name));
     }
     for level in levels {
-        build.file(native(&format!("{level}.s")));
+        build.file(of_library(&format!("{level}.s")));
     }
-    let include = if is_packed() { "native" } else { "../include" };
-    println!("cargo:rerun-if-changed={include}/yurewha.h");
-    if let Err(error) = build.include(include).try_compile("yurewha") {
+    println!("cargo:rerun-if-changed={HEADERS}/yurewha.h");
+    if let Err(error) = build.include(HEADERS).try_compile("yurewha") {
         eprintln!("yurewha: the C compiler can't compile the files of the library: {error}");
         exit(1);
     }
 }
 
-// Whether this is the packed crate.
-fn is_packed() -> bool {
-    Path::new("native").exists()
-}
-
 // The path of a file of the library. A change of it is seen.
-fn native(name: &str) -> String {
-    let folder = if is_packed() { "native" } else { "../../dist" };
-    let path = format!("{folder}/{name}");
+fn of_library(name: &str) -> String {
+    let path = format!("dist/{name}");
     println!("cargo:rerun-if-changed={path}");
     path
 }
@@ -54,8 +46,8 @@ fn levels() -> Result<Vec<String>, String> {
     let of_target = |name| env::var(format!("CARGO_CFG_TARGET_{name}")).unwrap_or_default();
     let arch = of_target("ARCH");
     let kind = ["OS", "POINTER_WIDTH", "ENDIAN"].map(of_target);
-    let list = native("targets.txt");
-    let text = fs::read_to_string(Path::new(&list)).map_err(|error| format!("{list}: {error}"))?;
+    let list = of_library("targets.txt");
+    let text = fs::read_to_string(&list).map_err(|error| format!("{list}: {error}"))?;
     let lines = text.lines().filter(|line| !line.starts_with('#'));
     let lines = lines.map(|line| line.split_whitespace().collect::<Vec<_>>());
     let levels: Vec<_> = lines

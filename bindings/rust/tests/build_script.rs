@@ -63,7 +63,7 @@ fn script() -> &'static Path {
         rustc(&["--crate-type=lib", "--crate-name=cc"], &source, &library);
         let program = folder.join(format!("build_script{EXE_SUFFIX}"));
         let extern_cc = format!("cc={}", library.display());
-        let build = Path::new(env!("CARGO_MANIFEST_DIR")).join("build.rs");
+        let build = Path::new(env!("CARGO_MANIFEST_DIR")).join("bindings/rust/build.rs");
         rustc(&["--extern", &extern_cc], &build, &program);
         program
     })

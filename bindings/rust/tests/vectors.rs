@@ -596,7 +596,7 @@ fn check(group: &Value, it: &Value) {
 
 // All tests of a file. Where one fails, it is named before.
 fn check_file(name: &str) {
-    let folder = Path::new(env!("CARGO_MANIFEST_DIR")).join("../../vectors");
+    let folder = Path::new(env!("CARGO_MANIFEST_DIR")).join("vectors");
     let value: Value = serde_json::from_slice(&fs::read(folder.join(name)).unwrap()).unwrap();
     let mut done = 0;
     for group in array(&value, "testGroups") {
