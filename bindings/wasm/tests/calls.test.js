@@ -2,10 +2,13 @@
 
 import assert from "node:assert/strict";
 import { execFileSync } from "node:child_process";
+import { once } from "node:events";
 import { readFileSync } from "node:fs";
+import { createServer } from "node:http";
 import { Readable } from "node:stream";
 import { test } from "node:test";
 import { fileURLToPath } from "node:url";
+import { runInNewContext } from "node:vm";
 import * as errors from "../yurewha/index.js";
 import { STATUS, errorOf } from "../yurewha/errors.js";
 import { AREA } from "../yurewha/library.js";
@@ -44,6 +47,12 @@ test("a number is a BigInt or a safe integer, and of 64 bits", () => {
         for (const value of [-1, -1n, MAX + 1n]) assert.throws(() => call(value), RangeError);
     }
     assert.equal(y.Hash.randomFromSeed(5).hex(), y.Hash.randomFromSeed(5n).hex());
+    // A number that is 0 or 1 in 32 bits is another number.
+    const [turn, flat] = [2n ** 32n, { atStart: true, nodes: [[hash, 1]], atEnd: true }];
+    for (const levels of [[[turn + 1n, 0]], [[1, turn]]]) assert.throws(() => y.Subtree.fromFlat({ ...flat, levels }), errors.InvalidJson);
+    session.put(turn, [[hash, turn]]);
+    assert.deepEqual([session.taken(turn), session.taken(0), session.totalSize, session.runFrom(0)[0]], [true, false, turn, turn]);
+    assert.throws(() => session.run(turn), errors.InvalidArguments);
     assert.throws(() => session.put("0", []), TypeError);
     assert.throws(() => session.finish(1.5), TypeError);
     assert.throws(() => session.gaps("1"), TypeError);
@@ -70,6 +79,9 @@ test("bytes are a Uint8Array", () => {
             assert.throws(() => call(value), TypeError);
         }
     }
+    // A Uint8Array of another realm is one.
+    const foreign = runInNewContext("Uint8Array.of(97, 98, 99)");
+    assert.ok(!(foreign instanceof Uint8Array) && y.dataHash(foreign).equals(y.dataHash(Buffer.from("abc"))));
     assert.ok(y.dataHash(Buffer.from("abc")).equals(y.dataHash(new TextEncoder().encode("abc"))));
     assert.throws(() => y.dataHash("abc"), TypeError);
 });
@@ -226,7 +238,8 @@ test("long messages and lists go through every module alike", () => {
     const hashes = all.map(([, it]) => {
         const pieces = new it.Hasher();
         for (let at = 0; at < data.length; at += 100_000) pieces.update(data.subarray(at, at + 100_000));
-        return [it.dataHash(data), it.internalNodeHash(data), new it.Hasher().update(data).digest(), pieces.digest()].map(String);
+        const internal = it.Hasher.internalNode().update(data);
+        return [it.dataHash(data), it.internalNodeHash(data), new it.Hasher().update(data).digest(), pieces.digest(), internal.digest()].map(String);
     });
     const roots = all.map(([, it]) => {
         const chunks = it.Chunks.from(chunksOf(it, { drawn: { firstSeed: "9", count: 60_000 } }));
@@ -237,12 +250,32 @@ test("long messages and lists go through every module alike", () => {
     });
     for (const found of hashes) assert.deepEqual(found, hashes[0]);
     for (const found of roots) assert.deepEqual(found, roots[0]);
-    assert.deepEqual([hashes[0][2], hashes[0][3]], [hashes[0][0], hashes[0][0]]);
+    const [data1, internal1, data2, data3, internal2] = hashes[0];
+    assert.deepEqual([data2, data3, internal2], [data1, data1, internal1]);
 });
 
 test("the model gives the same hash of a message that goes to the module in two pieces", () => {
     const length = AREA / 2 + 1025;
     assert.deepEqual([y.dataHash(counting(length)).hex()], hashesOfModel([[0, length]]));
+});
+
+test("a hasher keeps all bytes of the state that the header has", async () => {
+    const header = readFileSync(new URL("bindings/include/yurewha.h", ROOT), "utf8");
+    const [, words] = /struct yurewha_hasher \{\s*uint64_t state\[(\d+)\];/.exec(header);
+    const written = counting(8 * Number(words));
+    const seen = [];
+    const { yurewha } = await wrapped(BYTES.wasm32, (exports) => {
+        const stateAt = (at) => new Uint8Array(exports.memory.buffer, at, written.length);
+        return {
+            ...exports,
+            yurewha_hasher_begin_data: (at) => stateAt(at).set(written),
+            yurewha_hasher_finalize: (at) => seen.push(stateAt(at).slice()),
+        };
+    });
+    const hasher = new yurewha.Hasher();
+    yurewha.dataHash(new Uint8Array(AREA / 2));
+    hasher.digest();
+    assert.deepEqual(seen, [written]);
 });
 
 test("a hasher goes on after it was asked, and its copies are apart", () => {
@@ -261,8 +294,9 @@ test("a stream is hashed by its pieces, and cancelled at a piece that is none", 
     assert.ok((await y.hashStream(new Blob([data]).stream())).equals(y.dataHash(data)));
     assert.ok((await y.hashStream(ReadableStream.from([]))).equals(y.dataHash(new Uint8Array())));
     let reason;
+    let left = 9;
     const odd = new ReadableStream({
-        pull: (controller) => controller.enqueue("text"),
+        pull: (controller) => (left-- > 0 ? controller.enqueue("text") : controller.close()),
         cancel: (why) => (reason = why),
     });
     await assert.rejects(y.hashStream(odd), TypeError);
@@ -328,6 +362,21 @@ test("a subtree says what it keeps, and reads back from JSON and flat lists", ()
     }
 });
 
+test("ranges are equal only if their marks and nodes are", () => {
+    const [[one, size], [two]] = list(2);
+    const flat = { atStart: false, levels: [[2, 0]], nodes: [[one, size], [two, size]], atEnd: false };
+    const changes = [
+        { atStart: true }, { atEnd: true }, { levels: [[1, 0]], nodes: [[one, 2 * size]] },
+        { nodes: [[one, size + 1], [two, size - 1]] }, { nodes: [[one, size], [one, size]] }, { nodes: [[two, size], [one, size]] },
+    ];
+    const range = y.Subtree.fromFlat(flat);
+    assert.ok(range.equals(y.Subtree.fromFlat(flat)));
+    for (const change of changes) {
+        const other = y.Subtree.fromFlat({ ...flat, ...change });
+        assert.deepEqual([range.equals(other), other.equals(range)], [false, false]);
+    }
+});
+
 test("deep and long texts are refused, and thousands of levels merged, without a trap", () => {
     for (const [name, it] of all) {
         for (const text of ["[".repeat(1e6), '{"a":'.repeat(1e6), "[".repeat(1e6) + "]".repeat(1e6)]) {
@@ -344,6 +393,12 @@ test("deep and long texts are refused, and thousands of levels merged, without a
         assert.equal(front.totalSize, BigInt(nodes.length + 1));
         assert.ok(it.Subtree.fromJSON(front.toJSON()).equals(front));
     }
+});
+
+test("a thousand ranges are merged at once", () => {
+    const chunks = list(1000);
+    const ranges = chunks.map((chunk, k) => y.Subtree.fromChunks(k === 0, [chunk], k === 999));
+    assert.ok(y.Subtree.merge(ranges).finalHash().equals(y.xorbHash(chunks)));
 });
 
 test("a range merged with itself is the list twice", () => {
@@ -449,6 +504,16 @@ test("a session is restored by its runs and the hashes that it knows", () => {
     }
 });
 
+test("a session knows as many hashes as it was given", () => {
+    const chunks = list(70_000);
+    const session = new y.Session();
+    assert.equal(session.put(0, chunks), 70_000);
+    assert.deepEqual(new Set(session.knownHashes().map(String)), new Set(chunks.map(([hash]) => hash.hex())));
+    const restored = new y.Session();
+    restored.keepHashes(session.knownHashes());
+    assert.equal(restored.put(0, chunks), 0);
+});
+
 test("a run that doesn't fit is refused", () => {
     const session = new y.Session();
     const run = (atStart, atEnd) => y.Subtree.fromChunks(atStart, [[new y.Hash(), 1]], atEnd);
@@ -475,6 +540,24 @@ test("load takes an address, bytes, a compiled module and a response", async () 
     for (const source of sources) assert.ok((await errors.load(source)).dataHash(bytesOf(9)).hex() === y.dataHash(bytesOf(9)).hex());
     await assert.rejects(errors.load(new Uint8Array(8)), WebAssembly.CompileError);
     await assert.rejects(errors.load(new URL("none.wasm", file)));
+});
+
+test("load fetches a module, but not out of a response of failure", async () => {
+    const server = createServer((request, response) => response.writeHead(request.url === "/found" ? 200 : 404).end(BYTES.wasm32));
+    await once(server.listen(0, "127.0.0.1"), "listening");
+    const address = `http://127.0.0.1:${server.address().port}`;
+    try {
+        assert.equal((await errors.load(`${address}/found`)).dataHash(bytesOf(9)).hex(), y.dataHash(bytesOf(9)).hex());
+        await assert.rejects(errors.load(`${address}/lost`), { message: `${address}/lost: status 404` });
+    } finally {
+        server.close();
+        server.closeAllConnections();
+    }
+});
+
+test("a name of an instance can't be replaced", () => {
+    assert.throws(() => (y.xorbHash = y.fileHash), TypeError);
+    assert.throws(() => delete y.Hash, TypeError);
 });
 
 test("each declared name is there, and each that is there is declared", () => {

@@ -4,6 +4,7 @@ import assert from "node:assert/strict";
 import { test } from "node:test";
 import { setTimeout } from "node:timers/promises";
 import { EmptyHandle, Trapped } from "../yurewha/index.js";
+import { AREA } from "../yurewha/library.js";
 import { BYTES, chunksOf, wrapped } from "./support.js";
 
 /** An instance that counts the blocks it has given out, and the calls of its exports. No call may get a block that was given back. */
@@ -165,7 +166,7 @@ test("every block goes back", async () => {
     run.mergeInto(run);
     assert.throws(() => front.mergeInto(back));
     assert.throws(() => y.Subtree.merge([run, front, run]));
-    assert.throws(() => y.Subtree.fromJSON("{}"));
+    for (const text of ["{}", " ".repeat(2 * AREA)]) assert.throws(() => y.Subtree.fromJSON(text));
     assert.throws(() => session.run(1));
     const tree = y.HashTree.fromChunks(chunks);
     const proof = tree.proof(3, 90);

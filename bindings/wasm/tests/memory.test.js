@@ -3,6 +3,7 @@
 import assert from "node:assert/strict";
 import { test } from "node:test";
 import { OutOfMemory, load } from "../yurewha/index.js";
+import { AREA } from "../yurewha/library.js";
 import { BYTES, capped, chunksOf, pagesOf, wrapped } from "./support.js";
 
 const COUNT = 300;
@@ -141,6 +142,39 @@ for (const [name, bytes] of Object.entries(BYTES)) {
             assert.deepEqual(plain(kept), before);
             assert.equal(kept.mergeInto(kept.clone()) >= 0, true);
             assert.ok(pagesOf(exports) <= pages);
+        }
+    });
+
+    test(`${name}: no call writes where another block is`, async () => {
+        const { exports, yurewha: y } = await wrapped(bytes, (it) => it);
+        // The area of calls is the last block so far, so this one stands behind it.
+        const room = 4 * AREA;
+        const place = Number(exports.allocate(BigInt(room)));
+        const block = () => Buffer.from(exports.memory.buffer, place, room);
+        block().fill(7);
+        const root = y.dataHash(new Uint8Array(AREA + 500));
+        const range = y.RangeProof.fromChunks([[root, AREA + 500]], 0, 1).openRoot(root);
+        for (const length of [AREA - 40, AREA, AREA + 500, 2 * AREA]) {
+            y.xorbHash(new y.Chunks(new Uint8Array(40 * Math.floor(length / 40))));
+            range.read(0, length, new Uint8Array(length));
+            assert.throws(() => y.Subtree.fromJSON(" ".repeat(length)));
+        }
+        assert.ok(block().equals(Buffer.alloc(room, 7)));
+    });
+
+    test(`${name}: what an object held is used again after it was freed`, async () => {
+        const { exports, yurewha: y } = await wrapped(bytes, (it) => it);
+        const chunks = y.Chunks.from(chunksOf(y, { drawn: { firstSeed: "1", count: 5000 } }));
+        const put = (session) => session.put(0, chunks) && session;
+        const proof = y.RangeProof.fromChunks(chunks, 0, 5000);
+        const root = y.xorbHash(chunks);
+        const makers = [
+            () => y.Subtree.fromChunks(false, chunks, false), () => put(new y.Session()), () => y.HashTree.fromChunks(chunks), () => proof.openRoot(root),
+        ];
+        for (const make of makers) {
+            const before = pagesOf(exports);
+            for (let k = 0; k < 100; k++) make().free();
+            assert.ok(pagesOf(exports) <= before + 64, `${make}: ${pagesOf(exports) - before} pages`);
         }
     });
 

@@ -3,9 +3,12 @@
 import assert from "node:assert/strict";
 import { test } from "node:test";
 import * as errors from "../yurewha/index.js";
-import { chunksOf, dataOf, loadAll } from "./support.js";
+import { AREA } from "../yurewha/library.js";
+import { BYTES, chunksOf, dataOf, loadAll, wrapped } from "./support.js";
 
 const MAX = 2n ** 64n - 1n;
+/** A number that is 0 in 32 bits. */
+const TURN = 2n ** 32n;
 const all = await loadAll();
 const [[, y]] = all;
 const FILE_HASH = "0497c2ffdb9b034977074a6a2fe7c2a9dcfc7cc0a4f98777ed580f0b8444090f";
@@ -76,17 +79,96 @@ test("a stream passes on nothing that wasn't checked", async () => {
     assert.ok(freed instanceof errors.EmptyHandle);
 });
 
+test("data of any length is refused if a byte of it is wrong", async () => {
+    for (const length of [1, 1024, 16_384, 65_535, 65_536, 65_537, AREA, 3_000_000]) {
+        const right = Uint8Array.from({ length }, (_, k) => k % 251);
+        const root = y.dataHash(right);
+        const range = y.RangeProof.fromChunks([[root, length]], 0, 1).openRoot(root);
+        assert.equal(range.check(0, right), 0n);
+        assert.deepEqual(range.read(0, length, right), right);
+        for (const at of new Set([0, length >> 1, length - 1])) {
+            const wrong = right.slice();
+            wrong[at] ^= 1;
+            assert.deepEqual([range.check(0, wrong), range.read(0, length, wrong)], [null, null], `byte ${at} of ${length}`);
+            const [found, error] = await passed(range, [wrong]);
+            assert.ok(found.length === 0 && error instanceof errors.ProofMismatch, `byte ${at} of ${length}`);
+        }
+    }
+});
+
+test("each of many chunks of a stream is checked", async () => {
+    const many = Array.from({ length: 3000 }, (_, k) => Buffer.from(`${k} `));
+    const proof = y.RangeProof.fromChunks(many.map((chunk) => [y.dataHash(chunk), chunk.length]), 0, many.length);
+    const range = proof.openRoot(y.xorbHash(proof.chunks));
+    const whole = Buffer.concat(many);
+    assert.deepEqual(await passed(range, [whole]), [whole, null]);
+    for (const chunk of [255, 256, 1000, 2999]) {
+        const place = Number(range.begins(chunk));
+        const wrong = Buffer.from(whole);
+        wrong[place] ^= 1;
+        const [found, error] = await passed(range, [wrong]);
+        assert.ok(error instanceof errors.ProofMismatch && found.length <= place, `${chunk}`);
+        assert.ok(found.equals(whole.subarray(0, found.length)));
+        assert.equal(range.read(0, whole.length, wrong), null);
+    }
+});
+
+test("a root as the node of an empty chunk shows nothing", async () => {
+    const forged = y.RangeProof.fromFlat({ levels: [], nodes: [[tree.root, 0]] });
+    for (const range of [forged.openRoot(tree.root), forged.open(tree.fileHash())]) {
+        assert.deepEqual([range.check(0, new Uint8Array()), range.read(0, 0, new Uint8Array())], [null, null]);
+        for (const pieces of [[], [new Uint8Array()]]) assert.ok((await passed(range, pieces))[1] instanceof errors.ProofMismatch);
+    }
+});
+
+test("chunks that came out of a stream are the reader's own", async () => {
+    const whole = Buffer.concat(DATA.slice(1));
+    for (const lengths of [[whole.length], [DATA[1].length, DATA[2].length], [3]]) {
+        const pieces = [...cut(whole, lengths)].map((piece) => Uint8Array.from(piece));
+        const found = [];
+        for await (const chunk of ReadableStream.from(pieces).pipeThrough(opened(1, 3).checking())) found.push(chunk);
+        pieces.forEach((piece) => piece.fill(0));
+        assert.deepEqual(found.map((chunk) => `${Buffer.from(chunk)}`), ["another", "and a third"], `${lengths}`);
+    }
+});
+
+test("bytes that were read are the caller's own", () => {
+    const both = Buffer.concat(DATA.slice(1));
+    const found = opened(1, 3).read(7, 25, both);
+    both.fill(0);
+    y.dataHash(new Uint8Array(AREA / 4).fill(1));
+    assert.deepEqual([`${Buffer.from(found)}`, found.buffer.byteLength], ["anotherand a third", 18]);
+});
+
+test("bytes are read of the data that was checked, not of what the caller has by then", async () => {
+    const both = Buffer.concat(DATA.slice(1));
+    // Another thread may change shared memory as soon as the module has checked its copy.
+    const { yurewha: it } = await wrapped(BYTES.wasm32, (exports) => ({
+        ...exports,
+        yurewha_opened_range_read: (...given) => {
+            const status = exports.yurewha_opened_range_read(...given);
+            both.fill(0);
+            return status;
+        },
+    }));
+    const range = it.RangeProof.fromChunks(chunks(it), 1, 3).open(it.Hash.fromHex(FILE_HASH));
+    assert.equal(`${Buffer.from(range.read(12, 17, both))}`, "erand");
+});
+
 test("data is checked chunk by chunk, and bytes are read of all of it", () => {
     for (const [name, it] of all) {
         const range = it.RangeProof.fromChunks(chunks(it), 1, 3).open(it.Hash.fromHex(FILE_HASH));
         assert.deepEqual([range.check(0, DATA[1]), range.check(1, DATA[2]), range.fileSize, range.numChunks], [7n, 14n, 25n, 2], name);
-        for (const [chunk, given] of [[0, DATA[0]], [1, DATA[1]], [0, DATA[1].subarray(1)], [2, DATA[2]], [MAX, DATA[2]], [0, new Uint8Array()]]) {
+        for (const [chunk, given] of [[0, DATA[0]], [1, DATA[1]], [0, DATA[1].subarray(1)], [2, DATA[2]], [MAX, DATA[2]], [TURN, DATA[1]], [0, new Uint8Array()]]) {
             assert.equal(range.check(chunk, given), null);
         }
-        assert.deepEqual([0, 1, 2, MAX].map((chunk) => [range.begins(chunk), range.ends(chunk)]), [[7n, 14n], [14n, 25n], [null, null], [null, null]]);
+        assert.deepEqual([0, 1].map((chunk) => [range.begins(chunk), range.ends(chunk)]), [[7n, 14n], [14n, 25n]]);
+        for (const chunk of [2, TURN, TURN + 1n, MAX]) assert.deepEqual([range.begins(chunk), range.ends(chunk)], [null, null]);
         const both = Buffer.concat(DATA.slice(1));
         assert.equal(`${Buffer.from(range.read(12, 17, both))}`, "erand");
-        const reads = [[0, 2, both], [8, 26, both], [10, 8, both], [8, MAX, both], [8, 10, both.subarray(1)], [8, 10, Buffer.concat([both, both])], [8, 10, new Uint8Array()]];
+        const places = [[0, 2], [8, 26], [10, 8], [8, MAX], [8, TURN + 10n], [TURN + 8n, TURN + 10n]];
+        const others = [both.subarray(1), Buffer.concat([both, both]), new Uint8Array()];
+        const reads = [...places.map(([from, to]) => [from, to, both]), ...others.map((other) => [8, 10, other])];
         for (const [from, to, given] of reads) assert.equal(range.read(from, to, given), null);
         assert.deepEqual(range.read(25, 25, both), new Uint8Array());
         const copy = range.read(7, 14, both);
@@ -142,10 +224,31 @@ test("a proof reads back from its forms, and tells its parts", () => {
     }
     const [one, two] = [[5, 6], [5, 7]].map((range) => y.RangeProof.fromChunks(list, ...range));
     assert.ok(!one.equals(two));
+    const { levels, nodes: [[hash, size], ...rest] } = one.toFlat();
+    for (const first of [[hash, size + 1n], [new y.Hash(), size]]) assert.ok(!one.equals(y.RangeProof.fromFlat({ levels, nodes: [first, ...rest] })));
     const bytes = one.bytes;
     const copied = new y.RangeProof(bytes);
     bytes.fill(0);
     assert.ok(copied.equals(one));
+});
+
+test("a proof of many chunks is made, written and read back", () => {
+    const count = 20_000;
+    const list = y.Chunks.from(nodes(count));
+    const proof = y.RangeProof.fromChunks(list, 3, count - 2);
+    assert.deepEqual(proof.chunks.bytes, list.slice(3, -2).bytes);
+    assert.ok(y.RangeProof.fromJSON(proof.toJSON()).equals(proof) && new y.RangeProof(proof.bytes).equals(proof));
+    const range = proof.openRoot(y.xorbHash(list));
+    assert.deepEqual([range.numChunks, range.begins(0), range.ends(count - 6)], [count - 5, 3n, BigInt(count - 2)]);
+});
+
+test("a proof of 64 levels with 8 nodes on each side is written and read back", () => {
+    const levels = Array(64).fill([8, 8]);
+    const proof = y.RangeProof.fromFlat({ levels, nodes: nodes(64 * 16 + 1) });
+    for (const other of [y.RangeProof.fromJSON(proof.toJSON()), new y.RangeProof(proof.bytes)]) {
+        assert.ok(other.equals(proof));
+        assert.deepEqual([other.toFlat().levels, other.chunks.length, other.left(63).length, other.right(63).length], [levels, 1, 8, 8]);
+    }
 });
 
 test("packed bytes and lists that are none of a proof are refused", () => {
@@ -158,8 +261,10 @@ test("packed bytes and lists that are none of a proof are refused", () => {
     const table = [[5, [0]], [5, [1, 1, 0, ...node]], [5, [1, 255, 255, ...node]], [6, [65, ...Array(130).fill(0), ...node]], [7, [1, 9, 0, ...Array(400).fill(0)]]];
     for (const [rule, given] of table) assert.throws(() => new y.RangeProof(Uint8Array.from(given)), broken(rule));
     const great = [[new y.Hash(), MAX], [new y.Hash(), 1]];
-    assert.throws(() => y.RangeProof.fromFlat({ levels: [], nodes: great }), broken(8));
-    assert.throws(() => y.RangeProof.fromFlat({ levels: [[MAX, 1]], nodes: great }), broken(5));
+    const many = [...nodes(100_000), ...great];
+    for (const list of [great, many]) assert.throws(() => y.RangeProof.fromFlat({ levels: [], nodes: list }), broken(8));
+    assert.throws(() => new y.RangeProof(Uint8Array.from([0, ...y.Chunks.from(many).bytes])), broken(8));
+    for (const levels of [[[MAX, 1]], [[TURN, 0]]]) assert.throws(() => y.RangeProof.fromFlat({ levels, nodes: great }), broken(5));
     assert.throws(() => y.RangeProof.fromJSON('{"chunks":[],"levels":[]}'), new errors.InvalidJson(5, "rule 5: there is no chunk"));
     assert.throws(() => y.RangeProof.fromJSON("{"), new errors.InvalidText("the text is no JSON text"));
 });
@@ -208,6 +313,8 @@ test("arguments have their types", async () => {
         if (typeof value !== "string") assert.throws(() => y.RangeProof.fromJSON(value), TypeError);
         assert.throws(() => new y.RangeProof(value), TypeError);
         assert.throws(() => proof.open(value), TypeError);
+        assert.throws(() => proof.open(y.Hash.fromHex(FILE_HASH), value), TypeError);
+        assert.throws(() => tree.fileHash(value), TypeError);
         assert.throws(() => proof.openRoot(value), TypeError);
         assert.throws(() => proof.equals(value), TypeError);
     }

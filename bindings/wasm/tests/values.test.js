@@ -47,6 +47,26 @@ for (const [kind, makers] of Object.entries(KINDS)) {
     });
 }
 
+test("a comparison sees what an object has become", () => {
+    const [front, back] = [list(60).slice(0, 30), list(60).slice(30)].map((chunks) => y.Subtree.fromChunks(false, chunks, false));
+    front.mergeInto(back);
+    assert.deepStrictEqual(front, y.Subtree.fromChunks(false, list(60), false));
+    const session = sessionOf([0, 3]);
+    session.put(7, list(2));
+    assert.deepStrictEqual(session, sessionOf([0, 3], [7, 2]));
+});
+
+test("a session is saved alike, in whatever order its chunks were put", () => {
+    const chunks = list(60);
+    const [one, two] = [[0, 20, 40], [40, 0, 20]].map((places) => {
+        const session = new y.Session();
+        places.forEach((place) => session.put(place, chunks.slice(place, place + 20)));
+        return session;
+    });
+    assert.deepStrictEqual(one, two);
+    assert.deepEqual(one.saved.knownHashes, chunks.map(([hash]) => hash.hex()).sort());
+});
+
 test("an object doesn't change through its own properties", () => {
     const hash = y.Hash.randomFromSeed(1);
     const range = y.Subtree.fromChunks(false, list(30), false);

@@ -2,7 +2,7 @@
  * Computes the hashes by which the Hugging Face Xet store names chunks and files. Also merges the subtrees of adjacent ranges
  * of chunks without the chunks. It doesn't cut files into chunks.
  *
- * The algorithm is proved. Its translation to WebAssembly is only tested.
+ * The algorithm is proved. Its translation to WebAssembly and this package around it are only tested.
  *
  * Objects keep their bytes in private members. What comparisons need is an own property of each, so `deepStrictEqual` of two
  * objects compares their values. A structured clone is a plain object with these properties, and no call takes it. To hand an
