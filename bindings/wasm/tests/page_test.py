@@ -144,7 +144,7 @@ def draw_paste_and_play(browser: Browser, photo: Callable[[str], None]) -> None:
     browser.run("document.getElementById('pairs').value = arguments[0]", lines)
     browser.click("#paste button")
     same(text(browser, "root-at-once"), m.to_hex(m.root(pasted, maker)))
-    for bad, said in (("", "Line 1 is no pair"), (lines + "x\n", "Line 13 is no pair"), (lines + lines, "The sizes add up to more than")):
+    for bad, said in (("", "Line 1 is no pair"), (lines + "x\n", "Line 13 is no pair"), (lines + lines, "Sizes or lengths add up to more than")):
         browser.run("document.getElementById('pairs').value = arguments[0]", bad)
         browser.click("#paste button")
         same(text(browser, "error").startswith(said) and not browser.run("return document.getElementById('error').hidden"), True)
