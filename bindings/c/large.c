@@ -355,6 +355,125 @@ static void hash_texts(struct list *it)
     free(text);
 }
 
+/* ---- Hash trees and range proofs */
+
+/* Chunks of four bytes each, of which chunk i has the number i. */
+struct file {
+    uint32_t *bytes;
+    yurewha_chunk *chunks;
+    yurewha_hash *hashes;
+    size_t *offsets;
+};
+
+static struct file file_of(size_t count)
+{
+    struct file file = {block(count * sizeof *file.bytes), block(count * sizeof *file.chunks), block(count * sizeof *file.hashes),
+                        block((count + 1) * sizeof *file.offsets)};
+    for (size_t i = 0; i <= count; i++)
+        file.offsets[i] = i * sizeof *file.bytes;
+    for (size_t i = 0; i < count; i++)
+        file.bytes[i] = (uint32_t)i;
+    EXPECT_STATUS(YUREWHA_DONE, yurewha_data_hashes((const uint8_t *)file.bytes, count * sizeof *file.bytes, file.offsets, count + 1,
+                                                    file.hashes, count));
+    for (size_t i = 0; i < count; i++)
+        file.chunks[i] = (yurewha_chunk){file.hashes[i], sizeof *file.bytes};
+    return file;
+}
+
+static void free_file(struct file *file)
+{
+    free(file->bytes);
+    free(file->chunks);
+    free(file->hashes);
+    free(file->offsets);
+}
+
+/* The proof of all chunks, of one, and of none but the last; each is opened, and reads what it shows. */
+static void proofs(struct list *it)
+{
+    const size_t parts[][2] = {{0, it->count}, {it->count / 2, it->count / 2 + 1}, {it->count - 1, it->count}};
+    struct file file = file_of(it->count);
+    yurewha_hash_tree tree = {0};
+    yurewha_opened_range range = {0};
+    yurewha_level levels[64];
+    yurewha_chunk *nodes = block((it->count + 1024) * sizeof *nodes);
+    yurewha_hash root, of_tree;
+    size_t level_count = 0, node_count = 0, start = 1, count = 0;
+    EXPECT_STATUS(YUREWHA_DONE, yurewha_xorb_hash(file.chunks, it->count, &root));
+    EXPECT_STATUS(YUREWHA_DONE, yurewha_hash_tree_from_chunks(file.chunks, it->count, &tree));
+    EXPECT_STATUS(YUREWHA_DONE, yurewha_hash_tree_root(&tree, &of_tree));
+    EXPECT(same_hash(&root, &of_tree));
+    for (size_t i = 0; i < LENGTH(parts); i++) {
+        const size_t first = parts[i][0], end = parts[i][1], bytes = sizeof *file.bytes;
+        EXPECT_STATUS(YUREWHA_DONE, yurewha_hash_tree_proof(&tree, first, end, levels, LENGTH(levels), nodes, it->count + 1024,
+                                                            &level_count, &node_count));
+        EXPECT_STATUS(YUREWHA_DONE, yurewha_range_proof_open_root(levels, level_count, nodes, node_count, &root, &range));
+        EXPECT_STATUS(YUREWHA_DONE, yurewha_opened_range_num_chunks(&range, &count));
+        EXPECT_STATUS(YUREWHA_DONE, yurewha_opened_range_read(&range, first * bytes, end * bytes, (const uint8_t *)(file.bytes + first),
+                                                              (end - first) * bytes, &start));
+        EXPECT(count == end - first && start == 0);
+    }
+    yurewha_opened_range_free(&range);
+    yurewha_hash_tree_free(&tree);
+    free_file(&file);
+    free(nodes);
+}
+
+/* The JSON text of the proof of all chunks, both ways. */
+static void proof_texts(struct list *it)
+{
+    yurewha_hash_tree tree = {0};
+    yurewha_level levels[64];
+    yurewha_chunk *nodes = block((it->count + 1024) * sizeof *nodes), *read = block((it->count + 1024) * sizeof *nodes);
+    size_t level_count = 0, node_count = 0, length = 0, read_count = 0;
+    EXPECT_STATUS(YUREWHA_DONE, yurewha_hash_tree_from_chunks(it->chunks, it->count, &tree));
+    EXPECT_STATUS(YUREWHA_DONE, yurewha_hash_tree_proof(&tree, 0, it->count, levels, LENGTH(levels), nodes, it->count + 1024,
+                                                        &level_count, &node_count));
+    EXPECT_STATUS(YUREWHA_ROOM, yurewha_range_proof_to_json(levels, level_count, nodes, node_count, NULL, 0, &length));
+    char *text = block(length);
+    EXPECT_STATUS(YUREWHA_DONE, yurewha_range_proof_to_json(levels, level_count, nodes, node_count, text, length, &length));
+    EXPECT_STATUS(YUREWHA_DONE, yurewha_range_proof_from_json(text, length, levels, LENGTH(levels), read, it->count + 1024,
+                                                              &level_count, &read_count));
+    EXPECT(read_count == node_count && memcmp(read, nodes, node_count * sizeof *nodes) == 0);
+    yurewha_hash_tree_free(&tree);
+    free(nodes);
+    free(read);
+    free(text);
+}
+
+/* ---- Hashes and runs of a session, without its chunks */
+
+static void known(struct list *it)
+{
+    struct file file = file_of(it->count);
+    yurewha_session session = {0};
+    size_t count = 0;
+    uint64_t fresh = 1;
+    EXPECT_STATUS(YUREWHA_DONE, yurewha_session_new(&session));
+    EXPECT_STATUS(YUREWHA_DONE, yurewha_session_keep_hashes(&session, file.hashes, it->count));
+    yurewha_hash *hashes = known_hashes(&session, &count);
+    EXPECT(count == it->count);
+    EXPECT_STATUS(YUREWHA_DONE, yurewha_session_put(&session, 0, file.chunks, it->count, &fresh));
+    EXPECT(fresh == 0);
+    yurewha_session_free(&session);
+    free_file(&file);
+    free(hashes);
+}
+
+static void pushed(struct list *it)
+{
+    yurewha_session session = {0};
+    size_t runs = 0;
+    yurewha_subtree one = range_of(it->chunks, 0, 1, false, false);
+    EXPECT_STATUS(YUREWHA_DONE, yurewha_session_new(&session));
+    for (size_t i = 0; i < it->count; i++)
+        EXPECT_STATUS(YUREWHA_DONE, yurewha_session_push_run(&session, 2 * i, 2 * i + 1, &one));
+    EXPECT_STATUS(YUREWHA_DONE, yurewha_session_num_runs(&session, &runs));
+    EXPECT(runs == it->count);
+    yurewha_subtree_free(&one);
+    yurewha_session_free(&session);
+}
+
 static const struct check {
     const char *name;
     void (*make)(struct list *);
@@ -365,17 +484,31 @@ static const struct check {
     {"flat lists", flat_lists}, {"one put", one_put},
     {"puts in order", puts_in_order}, {"runs", runs},
     {"saved", saved},           {"far positions", far_positions},
-    {"hash texts", hash_texts},
+    {"hash texts", hash_texts}, {"proofs", proofs},
+    {"known", known},           {"pushed", pushed},
 };
 
-/* Lists that are too long for all checks: subtrees of 200,000 nodes are merged, and a session of more than 2^20 chunks ends. */
+/* Each list that a call takes, of more than 2^20 elements; of JSON, with more than 2^20 bytes. */
+#define LONGEST (((size_t)1 << 20) + 1)
 static const struct {
     const char *pattern;
     size_t count;
     struct check check;
 } longer[] = {
-    {".", 200001, {"parts", parts}},
-    {NULL, ((size_t)1 << 20) + 1, {"one put", one_put}},
+    {NULL, 200001, {"json", json}},
+    {".", 200001, {"json", json}},
+    {NULL, 200001, {"proof texts", proof_texts}},
+    {NULL, LONGEST, {"roots", roots}},
+    {"...|", LONGEST, {"points", points}},
+    {".", LONGEST, {"parts", parts}},
+    {"|", LONGEST, {"ranges", ranges}},
+    {NULL, LONGEST, {"texts by length", texts_by_length}},
+    {".", LONGEST, {"flat lists", flat_lists}},
+    {NULL, LONGEST, {"one put", one_put}},
+    {NULL, LONGEST, {"far positions", far_positions}},
+    {NULL, LONGEST, {"proofs", proofs}},
+    {NULL, LONGEST, {"known", known}},
+    {NULL, LONGEST, {"pushed", pushed}},
 };
 
 /* Makes some checks of a list. */
