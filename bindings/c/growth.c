@@ -246,6 +246,20 @@ static void read_all(void)
     EXPECT_STATUS(YUREWHA_DONE, yurewha_opened_range_read(&it.opened, 0, it.count * CHUNK, it.bytes, it.count * CHUNK, &start));
 }
 
+/* Of data that is too long, no more is hashed than the chunk has. */
+static void check_too_long(void)
+{
+    uint64_t place = 0;
+    EXPECT_STATUS(YUREWHA_MISMATCH, yurewha_opened_range_check(&it.opened, 0, it.bytes, it.count * CHUNK, &place));
+}
+
+static void read_too_long(void)
+{
+    size_t start = 0;
+    EXPECT_STATUS(YUREWHA_MISMATCH, yurewha_opened_range_read(&it.opened, it.count / 2 * CHUNK, it.count / 2 * CHUNK + 1, it.bytes,
+                                                              it.count * CHUNK, &start));
+}
+
 static void proof_to_json(void)
 {
     EXPECT_STATUS(YUREWHA_DONE, yurewha_range_proof_to_json(it.levels, it.level_count, it.nodes, it.node_count, it.text, it.length,
@@ -287,6 +301,8 @@ static const struct {
     {"range_proof_to_json", text_of_proof, proof_to_json, 5, 2000},
     {"range_proof_from_json", text_of_proof, proof_from_json, 5, 1800},
     {"opened_range_check", opened_all, check_one, 0, 0},
+    {"opened_range_check of too long data", opened_one, check_too_long, 0, 0},
+    {"opened_range_read of too long data", opened_one, read_too_long, 0, 0},
     {"opened_range_read of one chunk", opened_one, read_one, 0, 0},
     {"opened_range_read of all", opened_all, read_all, 0, 0},
 };
