@@ -164,7 +164,8 @@ for (const [name, bytes] of Object.entries(BYTES)) {
 
     test(`${name}: what an object held is used again after it was freed`, async () => {
         const { exports, yurewha: y } = await wrapped(bytes, (it) => it);
-        const chunks = y.Chunks.from(chunksOf(y, { drawn: { firstSeed: "1", count: 5000 } }));
+        // Without a natural cut every node is kept.
+        const chunks = y.Chunks.from(chunksOf(y, { counted: { count: 5000, cutEvery: 0 } }));
         const put = (session) => session.put(0, chunks) && session;
         const proof = y.RangeProof.fromChunks(chunks, 0, 5000);
         const root = y.xorbHash(chunks);
@@ -172,9 +173,10 @@ for (const [name, bytes] of Object.entries(BYTES)) {
             () => y.Subtree.fromChunks(false, chunks, false), () => put(new y.Session()), () => y.HashTree.fromChunks(chunks), () => proof.openRoot(root),
         ];
         for (const make of makers) {
+            make().free();
             const before = pagesOf(exports);
             for (let k = 0; k < 100; k++) make().free();
-            assert.ok(pagesOf(exports) <= before + 64, `${make}: ${pagesOf(exports) - before} pages`);
+            assert.ok(pagesOf(exports) <= before + 16, `${make}: ${pagesOf(exports) - before} pages`);
         }
     });
 
