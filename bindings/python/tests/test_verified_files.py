@@ -1,8 +1,10 @@
 """Files that are read in parts: places, what is fetched, what is refused, and readers over them."""
 
+import contextlib
 import io
 import os
 import random
+import sys
 import tarfile
 import threading
 import zipfile
@@ -97,12 +99,59 @@ def test_the_size_is_known_after_a_chunk_is_checked():
     assert source.fetched == []
     assert file.seek(-3, os.SEEK_END) == len(source.data) - 3 and source.fetched == [(0, source.cuts[1])]
     assert file.read(100) == source.data[-3:] and file.read(100) == file.read() == b"" and file.readinto(bytearray(7)) == 0
-    unknown = source.open()
-    unknown.seek(len(source.data) + 5)
-    with pytest.raises(y.InvalidArguments, match="the file has no bytes from"):
-        unknown.read(1)
-    assert unknown.size == len(source.data) and unknown.read(1) == b""
-    assert unknown.seek(2**70) == 2**70 and unknown.read(1) == source.open().read(0) == b""
+    assert file.seek(2**70) == 2**70 and file.read(1) == source.open().read(0) == b""
+
+
+@pytest.mark.parametrize("beyond", [0, 1, 5, 2**63])
+def test_reading_at_the_end_while_the_size_is_unknown(beyond):
+    """There is no proof of such bytes. So the first chunk is fetched, once, and its proof shows where the file ends."""
+    source = drawn(4, 50)
+    file, end = source.open(), len(source.data) + beyond
+    assert file.seek(end) == end and source.fetched == []
+    assert file.read(7) == b"" and file.readinto(bytearray(7)) == 0 and file.read() == b"" and file.tell() == end
+    assert source.fetched == [(0, source.cuts[1])] and source.proved == [(end, end + 7), (0, 1)]
+    assert file.size == len(source.data)
+
+
+def test_an_error_of_prove_is_not_the_end_of_the_file():
+    """A server that has no proof of bytes which the file has doesn't make a reader believe that it ends there."""
+    source = drawn(4, 50)
+
+    def prove(start, stop):
+        if start > 0:
+            raise ConnectionError("mine")
+        return source.prove(start, stop)
+
+    for known in (False, True):
+        file = y.VerifiedFile(source.tree.file_hash(), source.fetch, prove, cache_size=0)
+        if known:
+            assert file.size == len(source.data)
+        for place in (source.cuts[1], 700, len(source.data) - 1):
+            file.seek(place)
+            for read in (lambda: file.read(7), lambda: file.readinto(bytearray(7)), file.read):
+                with pytest.raises(ConnectionError, match="mine"):
+                    read()
+            assert file.tell() == place
+        assert file.seek(0, os.SEEK_END) == len(source.data) and file.read(7) == b""
+
+
+def test_the_first_chunk_that_shows_the_end_is_checked():
+    """What a server says of the size isn't believed before data was checked."""
+    source = drawn(4, 50)
+    end = len(source.data)
+    parent = y.RangeProof.from_flat([], [(source.tree.root, 9)])
+    for fetch, prove, said in (
+        (lambda a, b: bytes(b - a), source.prove, "this isn't the data of the range"),
+        (lambda a, b: bytes(b - a), lambda a, b: parent if a == 0 else source.prove(a, b), "this isn't the data of the range"),
+        (source.fetch, lambda a, b: OTHER.prove(0, 1) if a == 0 else source.prove(a, b), "the proof doesn't show this file hash"),
+    ):
+        file = y.VerifiedFile(source.tree.file_hash(), fetch, prove)
+        for place in (end, end + 1):
+            file.seek(place)
+            for look in (lambda: file.read(1), lambda: file.size, lambda: file.seek(0, os.SEEK_END)):
+                with pytest.raises(y.ProofMismatch, match=said):
+                    look()
+            assert file.tell() == place
 
 
 def test_an_empty_file_needs_no_proof():
@@ -118,12 +167,34 @@ def test_the_cache_is_bounded():
         place = rng.randrange(len(source.data))
         file.seek(place)
         assert file.read(5) == source.data[place:place + 5]
-        assert sum(map(len, file._checked.values())) <= 1000
+        assert file._kept.total <= 1000
     file.seek(0)
-    assert file.read(5000) == source.data[:5000] and all(len(data) <= 1000 for data in file._checked.values())
+    assert file.read(5000) == source.data[:5000] and file._kept.total <= 1000
+
+
+def test_a_part_that_is_read_stays_longer_than_others():
+    source = Source(bytes(600), range(0, 601, 100))
+    file = source.open(cache_size=300)
+    for place in (0, 100, 200, 50, 300, 60, 400, 70):
+        file.seek(place)
+        assert len(file.read(1)) == 1
+    assert source.fetched == [(0, 100), (100, 200), (200, 300), (300, 400), (400, 500)]
+
+
+def test_a_part_is_kept_unless_something_else_is_said():
+    source = Source(bytes(3 << 20), range(0, (3 << 20) + 1, 1 << 16))
+    file = source.open()
+    for _ in range(2):
+        for place in range(0, 3 << 20, 1 << 16):
+            file.seek(place)
+            assert len(file.read(1)) == 1
+    assert len(source.fetched) == 48
 
 
 def test_long_reads_are_fetched_by_pieces(monkeypatch):
+    great = Source(bytes(40 << 20), range(0, (40 << 20) + 1, 1 << 20))
+    assert len(great.open().read()) == 40 << 20
+    assert all(stop - start <= 17 << 20 for start, stop in great.fetched) and len(great.fetched) <= 5
     monkeypatch.setattr("yurewha._verified_file.PIECE", 500)
     source = drawn(7, 100)
     assert source.open().read() == source.data
@@ -140,6 +211,13 @@ def test_a_salt():
                   y.VerifiedFile(source.tree.root, source.fetch, source.prove)):
         with pytest.raises(y.ProofMismatch, match="the proof doesn't show this file hash under this salt"):
             wrong.read(1)
+
+
+def test_a_salt_that_is_changed_afterwards():
+    source, room = drawn(8, 20), bytearray(range(32))
+    file = y.VerifiedFile(source.tree.file_hash(bytes(range(32))), source.fetch, source.prove, room)
+    room[:] = bytes(32)
+    assert file.read() == source.data
 
 
 def changed(data, at):
@@ -188,10 +266,82 @@ def test_dishonest_servers(name):
         assert file.seek(2000) == 2000
         with pytest.raises(y.ProofMismatch, match=said):
             read()
-    assert room == bytes(300) and file._checked == {}
+    assert room == bytes(300) and not (file._kept and file._kept.total)
     file = y.VerifiedFile(source.tree.file_hash(), fetch, prove, chunk_limit=2500)
     with pytest.raises(y.ProofMismatch):
         zipfile.ZipFile(file)
+
+
+@pytest.mark.parametrize("options", [{}, {"cache_size": 0}, {"cache_size": 1000}], ids=str)
+@pytest.mark.parametrize("length", [5, 1500])
+@pytest.mark.parametrize("at", [0, 3000, -1])
+def test_a_server_that_turns_bad(options, at, length):
+    """Each part is checked, also if it has been fetched before, is at the end of the file, or isn't kept."""
+    source = drawn(21, 150)
+    end = len(source.data)
+    at %= end
+    place, sent = min(max(at - 3, 0), end - length), [source.data]
+    file = y.VerifiedFile(source.tree.file_hash(), lambda a, b: sent[0][a:b], source.prove, **options)
+    file.seek(place)
+    assert file.read(length) == source.data[place:place + length]
+    file._kept = None
+    sent[0] = changed(source.data, at)
+    for read in (lambda: file.read(length), lambda: file.readinto(bytearray(length)), file.read):
+        file.seek(place)
+        with pytest.raises(y.ProofMismatch):
+            read()
+
+
+@pytest.mark.parametrize("chunk", range(0, 20, 3))
+def test_each_chunk_of_a_part_is_checked(chunk):
+    source = drawn(26, 20)
+    bad = changed(source.data, source.cuts[chunk])
+    file = y.VerifiedFile(source.tree.file_hash(), lambda a, b: bad[a:b], source.prove)
+    with pytest.raises(y.ProofMismatch):
+        file.read(len(source.data))
+    assert file.seek(source.cuts[chunk + 1]) and file.read(5) == source.data[source.cuts[chunk + 1]:][:5]
+
+
+def test_a_buffer_that_is_used_again():
+    """What was checked is a copy, so what `fetch` does with its buffer later changes nothing."""
+    source, room = drawn(22, 20), bytearray()
+    shown = [lambda: room, lambda: memoryview(room), lambda: memoryview(room).toreadonly()]
+    for show in shown:
+        def fetch(start, stop):
+            nonlocal room
+            room = bytearray(source.data[start:stop])
+            return show()
+
+        file = y.VerifiedFile(source.tree.file_hash(), fetch, source.prove)
+        assert file.read(5) == source.data[:5]
+        room[:] = bytes(len(room))
+        file.seek(0)
+        assert file.read(5) == source.data[:5]
+
+
+def test_no_size_of_a_refused_proof():
+    source = drawn(23, 150)
+    parent = y.RangeProof.from_flat([], [(source.tree.root, 9)])
+    file = y.VerifiedFile(source.tree.file_hash(), lambda a, b: bytes(b - a), lambda a, b: parent)
+    for look in (lambda: file.read(1), lambda: file.size, lambda: file.seek(0, os.SEEK_END), lambda: file.read()):
+        with pytest.raises(y.ProofMismatch):
+            look()
+    assert file.tell() == 0
+
+
+def test_a_proof_that_goes_too_far_is_refused_before_anything_is_fetched():
+    source = drawn(24, 150)
+    for prove, options in (
+        (lambda a, b: source.tree.proof(0, source.tree.chunks_at(a, b)[1]), {"chunk_limit": 1000}),
+        (lambda a, b: source.tree.proof(source.tree.chunks_at(a, b)[0], 150), {"chunk_limit": 1000}),
+        (lambda a, b: y.RangeProof.from_flat([], [(source.tree.root, 3 << 20)]), {}),
+        (lambda a, b: y.RangeProof.from_flat([], [(source.tree.root, 2**64 - 1)]), {}),
+    ):
+        file = y.VerifiedFile(source.tree.file_hash(), source.fetch, prove, **options)
+        file.seek(2000)
+        with pytest.raises(y.ProofMismatch, match="see chunk_limit"):
+            file.read(1)
+        assert source.fetched == []
 
 
 def test_a_mismatch_later_returns_nothing_and_leaves_the_position(monkeypatch):
@@ -305,6 +455,122 @@ def test_tarfile_and_text_read_through_it():
     with tarfile.open(fileobj=source.open()) as archive:
         lines = io.TextIOWrapper(archive.extractfile("17.txt")).read().splitlines()
     assert lines == 600 * ["  17"]
+
+
+READS = {
+    "read": lambda file: file.read(700), "read to the end": lambda file: file.read(), "readall": lambda file: file.readall(),
+    "readinto": lambda file: file.readinto(bytearray(700)), "size": lambda file: file.size,
+    "seek from the end": lambda file: file.seek(-3, os.SEEK_END),
+}
+
+
+@pytest.mark.parametrize("name", READS)
+def test_the_lock_is_held_while_something_is_fetched(name):
+    source, held = drawn(25, 50), []
+
+    def fetch(start, stop):
+        held.append(file._guarded._lock._is_owned())
+        return source.fetch(start, stop)
+
+    def prove(start, stop):
+        held.append(file._guarded._lock._is_owned())
+        return source.prove(start, stop)
+
+    file = y.VerifiedFile(source.tree.file_hash(), fetch, prove)
+    READS[name](file)
+    assert len(held) >= 2 and all(held) and not file._guarded._lock._is_owned()
+
+
+@pytest.mark.parametrize("name", READS)
+def test_the_lock_is_taken_also_when_nothing_is_fetched(name):
+    file, taken = drawn(25, 50).open(), []
+    assert file.read() and file.seek(0) == 0
+
+    class Spied:
+        """Notes that the lock was taken."""
+
+        def _locked(self):
+            taken.append(name)
+            return contextlib.nullcontext()
+
+    file._guarded = Spied()
+    READS[name](file)
+    assert taken
+    taken.clear()
+    assert file.seek(7) == 7 and taken
+
+
+def at_each_line(modules, work, act):
+    """Does the work again and again. Each time something is done at one line further in these modules, until there is none."""
+    for step in range(10_000):
+        steps = [step]
+
+        def trace(frame, event, argument):
+            if not frame.f_code.co_filename.endswith(modules):
+                return None
+            if event == "line":
+                steps[0] -= 1
+                if steps[0] == -1:
+                    sys.settrace(None)
+                    act()
+            return trace
+
+        before = sys.gettrace()
+        sys.settrace(trace)
+        try:
+            work()
+        finally:
+            sys.settrace(before)
+        if steps[0] >= 0:
+            return step
+    raise AssertionError("the work doesn't end")
+
+
+class Ended(Exception):
+    """What a signal handler raises."""
+
+
+MODULES = ("_verified_file.py", "_kept_parts.py")
+
+
+@pytest.mark.parametrize("cache_size", [0, 250, 1000])
+def test_a_handler_that_raises_between_any_two_lines(cache_size):
+    """What is read later is right, and no more is kept than was said."""
+    source = Source(random.Random(27).randbytes(1000), range(0, 1001, 50))
+    file = source.open(cache_size=cache_size)
+
+    def act():
+        raise Ended
+
+    def work():
+        for place in (120, 130, 480, 700, 120, 40):
+            with contextlib.suppress(Ended):
+                file.seek(place)
+                assert file.read(70) == source.data[place:place + 70]
+        assert file._kept is None or file._kept.total == sum(map(len, file._kept._data.values())) <= cache_size
+
+    assert at_each_line(MODULES, work, act) > 100
+
+
+@pytest.mark.parametrize("cache_size", [0, 250, 1000])
+def test_a_handler_that_reads_between_any_two_lines(cache_size):
+    source = Source(random.Random(28).randbytes(1000), range(0, 1001, 50))
+    file = source.open(cache_size=cache_size)
+
+    def act():
+        position = file.tell()
+        for place in (140, 700, 330):
+            file.seek(place)
+            assert file.read(60) == source.data[place:place + 60]
+        file.seek(position)
+
+    def work():
+        for place in (120, 480, 700, 120):
+            file.seek(place)
+            assert file.read(70) == source.data[place:place + 70] and file.tell() == place + 70
+        assert file._kept.total == sum(map(len, file._kept._data.values())) <= cache_size
+
+    assert at_each_line(MODULES, work, act) > 100
 
 
 def test_threads_read_one_file():

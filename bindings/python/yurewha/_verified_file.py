@@ -5,11 +5,12 @@ from __future__ import annotations
 import errno
 import io
 import os
-from typing import TYPE_CHECKING, BinaryIO, Callable, Dict, List, NoReturn, Optional, SupportsIndex, Tuple, final
+from typing import TYPE_CHECKING, BinaryIO, Callable, List, NoReturn, Optional, SupportsIndex, final
 
 from ._errors import InvalidArguments, ProofMismatch
 from ._guard import Guarded
 from ._hash import Hash, HashLike, checked_32, checked_u64, own_bytes, raw_of, whole_number
+from ._kept_parts import KeptParts, Part
 from ._lent import bytes_of
 from ._range_proof import RangeProof
 from ._types import BytesLike, Room
@@ -42,9 +43,9 @@ class VerifiedFile(_Raw):
     `zipfile`, `pyarrow`, `fsspec` and others read through it, because it is an `io.RawIOBase` that can seek. A read returns all
     bytes that are asked for, unless the file ends.
 
-    - The size of the file is known once something was checked. So seeking from the end may fetch the first chunk. Until the size is
-      known, reading after the end raises what `prove` raises.
-    - What was checked last is kept, at most `cache_size` bytes of it, so that a reader of small pieces fetches each chunk once.
+    - The size of the file is known once something was checked. So seeking from the end may fetch the first chunk. So does a read for
+      which `prove` raises an error: if it turns out to begin at or after the end, it returns no bytes, else it raises that error.
+    - What was used last is kept, at most `cache_size` bytes of it, so that a reader of small pieces fetches each chunk once.
     - A proof is refused if its chunks go more than `chunk_limit` bytes beyond what is asked for. So a server can't make a reader
       fetch a whole file for one byte.
 
@@ -80,8 +81,8 @@ class VerifiedFile(_Raw):
         self._position = 0
         # The default hash is the hash of the empty file.
         self._size: Optional[int] = 0 if self._hash == Hash() else None
-        # Data that was checked, by its place in the file. The last one used is the last one.
-        self._checked: Dict[int, bytes] = {}
+        # What was checked and is kept, or None while a call uses it.
+        self._kept: Optional[KeptParts] = None
 
     def __init_subclass__(cls) -> None:
         raise TypeError("VerifiedFile can't be subclassed")
@@ -108,10 +109,13 @@ class VerifiedFile(_Raw):
         """
         with self._guarded._locked():
             self._check_open()
-            if self._size is None:
-                self._part(0, 1)
-            assert self._size is not None, "a part was checked"
-            return self._size
+            return self._found_size()
+
+    def _found_size(self) -> int:
+        if self._size is None:
+            self._part(0, 1)
+        assert self._size is not None, "a part was checked"
+        return self._size
 
     # ---- Reading
 
@@ -183,21 +187,41 @@ class VerifiedFile(_Raw):
 
     def _part(self, start: int, most: int) -> memoryview:
         """Returns bytes from a place on: at least one and at most `most`, or none at the end of the file."""
-        if start >= (_MAX_U64 if self._size is None else self._size):
+        limit = _MAX_U64 if self._size is None else self._size
+        if start >= limit:
             return memoryview(b"")
-        for begin, data in list(self._checked.items()):
-            if begin <= start < begin + len(data):
-                self._keep(begin, data)
-                return memoryview(data)[start - begin:start - begin + most]
-        stop = min(start + most, _MAX_U64 if self._size is None else self._size)
-        begin, data = self._fetched(start, stop)
-        return memoryview(data)[start - begin:stop - begin]
+        kept = self._taken()
+        part = kept.at(start)
+        self._kept = kept
+        if part is None:
+            stop = min(start + most, limit)
+            proof = self._proof(start, stop)
+            if proof is None:
+                return memoryview(b"")
+            part = self._fetched(proof, start, stop)
+        begin, data = part
+        return memoryview(data)[start - begin:start - begin + most]
 
-    def _fetched(self, start: int, stop: int) -> Tuple[int, bytes]:
-        """Returns the data of the chunks with the bytes from `start` up to `stop`, once it is checked, and where it begins."""
-        proof = self._prove(start, stop)
+    def _taken(self) -> KeptParts:
+        """Takes what is kept away, until it is put back. So a signal handler that reads meanwhile sees nothing half changed."""
+        kept, self._kept = self._kept, None
+        return KeptParts(self._cache_size) if kept is None else kept
+
+    def _proof(self, start: int, stop: int) -> Optional[RangeProof]:
+        """Returns the proof of the chunks with the bytes from `start` up to `stop`, or None if the file ends before them."""
+        try:
+            proof = self._prove(start, stop)
+        except Exception:
+            # Perhaps there are no such bytes. The first chunk shows where the file ends.
+            if start == 0 or self._size is not None or start < self._found_size():
+                raise
+            return None
         if not isinstance(proof, RangeProof):
             raise TypeError(f"prove returns a RangeProof, not {type(proof).__name__}")
+        return proof
+
+    def _fetched(self, proof: RangeProof, start: int, stop: int) -> Part:
+        """Returns the data of a proof's chunks, once it is checked, and keeps it. They have the bytes from `start` up to `stop`."""
         opened = proof.open(self._hash, self._salt)
         begin, end, size = opened.begins(0), opened.ends(opened.num_chunks - 1), opened.file_size
         if not begin <= start < min(stop, size) <= end:
@@ -207,16 +231,10 @@ class VerifiedFile(_Raw):
         data = own_bytes(self._fetch(begin, end))
         opened.read(begin, end, data)
         self._size = size
-        self._keep(begin, data)
+        kept = self._taken()
+        kept.keep(begin, data)
+        self._kept = kept
         return begin, data
-
-    def _keep(self, begin: int, data: bytes) -> None:
-        """Keeps data that was checked, and forgets what was used longest ago until there is room for it."""
-        self._checked.pop(begin, None)
-        if len(data) <= self._cache_size:
-            self._checked[begin] = data
-            while sum(map(len, self._checked.values())) > self._cache_size:
-                del self._checked[next(iter(self._checked))]
 
     # ---- The position
 
