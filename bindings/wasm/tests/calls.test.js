@@ -48,11 +48,11 @@ test("a number is a BigInt or a safe integer, and of 64 bits", () => {
     }
     assert.equal(y.Hash.randomFromSeed(5).hex(), y.Hash.randomFromSeed(5n).hex());
     // A number that is 0 or 1 in 32 bits is another number.
-    const [turn, flat] = [2n ** 32n, { atStart: true, nodes: [[hash, 1]], atEnd: true }];
-    for (const levels of [[[turn + 1n, 0]], [[1, turn]]]) assert.throws(() => y.Subtree.fromFlat({ ...flat, levels }), errors.InvalidJson);
-    session.put(turn, [[hash, turn]]);
-    assert.deepEqual([session.taken(turn), session.taken(0), session.totalSize, session.runFrom(0)[0]], [true, false, turn, turn]);
-    assert.throws(() => session.run(turn), errors.InvalidArguments);
+    const [twoTo32, flat] = [2n ** 32n, { atStart: true, nodes: [[hash, 1]], atEnd: true }];
+    for (const levels of [[[twoTo32 + 1n, 0]], [[1, twoTo32]]]) assert.throws(() => y.Subtree.fromFlat({ ...flat, levels }), errors.InvalidJson);
+    session.put(twoTo32, [[hash, twoTo32]]);
+    assert.deepEqual([session.taken(twoTo32), session.taken(0), session.totalSize, session.runFrom(0)[0]], [true, false, twoTo32, twoTo32]);
+    assert.throws(() => session.run(twoTo32), errors.InvalidArguments);
     assert.throws(() => session.put("0", []), TypeError);
     assert.throws(() => session.finish(1.5), TypeError);
     assert.throws(() => session.gaps("1"), TypeError);
@@ -250,8 +250,8 @@ test("long messages and lists go through every module alike", () => {
     });
     for (const found of hashes) assert.deepEqual(found, hashes[0]);
     for (const found of roots) assert.deepEqual(found, roots[0]);
-    const [data1, internal1, data2, data3, internal2] = hashes[0];
-    assert.deepEqual([data2, data3, internal2], [data1, data1, internal1]);
+    const [atOnce, internalAtOnce, updated, inPieces, internalUpdated] = hashes[0];
+    assert.deepEqual([updated, inPieces, internalUpdated], [atOnce, atOnce, internalAtOnce]);
 });
 
 test("the model gives the same hash of a message that goes to the module in two pieces", () => {

@@ -8,7 +8,7 @@ import { BYTES, chunksOf, dataOf, loadAll, wrapped } from "./support.js";
 
 const MAX = 2n ** 64n - 1n;
 /** A number that is 0 in 32 bits. */
-const TURN = 2n ** 32n;
+const TWO_TO_32 = 2n ** 32n;
 const all = await loadAll();
 const [[, y]] = all;
 const FILE_HASH = "0497c2ffdb9b034977074a6a2fe7c2a9dcfc7cc0a4f98777ed580f0b8444090f";
@@ -159,14 +159,14 @@ test("data is checked chunk by chunk, and bytes are read of all of it", () => {
     for (const [name, it] of all) {
         const range = it.RangeProof.fromChunks(chunks(it), 1, 3).open(it.Hash.fromHex(FILE_HASH));
         assert.deepEqual([range.check(0, DATA[1]), range.check(1, DATA[2]), range.fileSize, range.numChunks], [7n, 14n, 25n, 2], name);
-        for (const [chunk, given] of [[0, DATA[0]], [1, DATA[1]], [0, DATA[1].subarray(1)], [2, DATA[2]], [MAX, DATA[2]], [TURN, DATA[1]], [0, new Uint8Array()]]) {
+        for (const [chunk, given] of [[0, DATA[0]], [1, DATA[1]], [0, DATA[1].subarray(1)], [2, DATA[2]], [MAX, DATA[2]], [TWO_TO_32, DATA[1]], [0, new Uint8Array()]]) {
             assert.equal(range.check(chunk, given), null);
         }
         assert.deepEqual([0, 1].map((chunk) => [range.begins(chunk), range.ends(chunk)]), [[7n, 14n], [14n, 25n]]);
-        for (const chunk of [2, TURN, TURN + 1n, MAX]) assert.deepEqual([range.begins(chunk), range.ends(chunk)], [null, null]);
+        for (const chunk of [2, TWO_TO_32, TWO_TO_32 + 1n, MAX]) assert.deepEqual([range.begins(chunk), range.ends(chunk)], [null, null]);
         const both = Buffer.concat(DATA.slice(1));
         assert.equal(`${Buffer.from(range.read(12, 17, both))}`, "erand");
-        const places = [[0, 2], [8, 26], [10, 8], [8, MAX], [8, TURN + 10n], [TURN + 8n, TURN + 10n]];
+        const places = [[0, 2], [8, 26], [10, 8], [8, MAX], [8, TWO_TO_32 + 10n], [TWO_TO_32 + 8n, TWO_TO_32 + 10n]];
         const others = [both.subarray(1), Buffer.concat([both, both]), new Uint8Array()];
         const reads = [...places.map(([from, to]) => [from, to, both]), ...others.map((other) => [8, 10, other])];
         for (const [from, to, given] of reads) assert.equal(range.read(from, to, given), null);
@@ -264,7 +264,7 @@ test("packed bytes and lists that are none of a proof are refused", () => {
     const many = [...nodes(100_000), ...great];
     for (const list of [great, many]) assert.throws(() => y.RangeProof.fromFlat({ levels: [], nodes: list }), broken(8));
     assert.throws(() => new y.RangeProof(Uint8Array.from([0, ...y.Chunks.from(many).bytes])), broken(8));
-    for (const levels of [[[MAX, 1]], [[TURN, 0]]]) assert.throws(() => y.RangeProof.fromFlat({ levels, nodes: great }), broken(5));
+    for (const levels of [[[MAX, 1]], [[TWO_TO_32, 0]]]) assert.throws(() => y.RangeProof.fromFlat({ levels, nodes: great }), broken(5));
     assert.throws(() => y.RangeProof.fromJSON('{"chunks":[],"levels":[]}'), new errors.InvalidJson(5, "rule 5: there is no chunk"));
     assert.throws(() => y.RangeProof.fromJSON("{"), new errors.InvalidText("the text is no JSON text"));
 });
