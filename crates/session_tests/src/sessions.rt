@@ -2,13 +2,12 @@
 //! positions, and printed texts.
 
 use std::alloc::Global;
-use std::fmt::Display;
+use std::fmt::{self, Display};
 use std::process::Abort;
 use std::vec::Vec;
-use subtree_sessions::session::Session;
 use test_support::texts::four_fields;
 use upload_session::kept_hashes::{KeptHashes, NoHashes, SeenHashes};
-use upload_session::session::SessionOf;
+use upload_session::session::{Session, SessionOf};
 use upload_session::session_fault::SessionFault;
 use xet_hash::data_hash::{DataHash, MerkleHash};
 use xet_merkle::aggregated_hashes::{Node, file_hash};
@@ -19,8 +18,9 @@ use xet_merkle::plain_range::PlainRange;
 // Sessions, each a row of calls separated by `;`. A call has its word, a position or the total, the seed of the hash and
 // the size of each chunk, and what it should return. A pushed run has its first and its last position. After the first
 // rows, three test that a chunk can leave no room for another's size; that a put of no chunks changes nothing at any
-// position; and that positions are reported before sizes, and a taken position before both. The last rows begin with a
-// hash that no chunk has, and with runs of more positions than their ranges have chunks: none, or two.
+// position; and that positions are reported before sizes, and a taken position before both. Four begin with a hash that no
+// chunk has, and with runs of more positions than their ranges have chunks: none, or two. The last ones ask for both
+// hashes: of no chunks, with a gap in the middle or at the start, and with a total that is too small or too large.
 const SESSIONS: &str =
     "put 2 3:300 1;put 0 1:100,2:200 2;finish 3 - 54e55dccc6653c612bdb5576c5d3cb34bb31bc4e100248abccf4c908b3ef7715;root 3 - 71ec1275fca074724e2dd666921b3277c7cee603e4d025bcab2d4050015be2bc
 put 0 1:100,1:100 1;put 2 1:100,1:100 0;finish 4 - 2cdba690d0e09563596e0cda626d43eb4c96ef1e994fe72d9b2f5a83cfcd36dd
@@ -35,7 +35,11 @@ put 18446744073709551614 1:18446744073709551615 1;put 18446744073709551615 2:1 P
 keep 0 9:900 kept;taken 0 - false;finish 0 - 0000000000000000000000000000000000000000000000000000000000000000;put 0 1:100 1;put 0 2:200 Overlap;finish 1 - 8e16257caa3fe079d484d872a8975264b2ff683b0d6db9028cc7c0f968a45661;finish 2 - Gap;put 1 9:900 0;finish 2 - 1225864990a632f1f27a99ebcc714ab9639545cc6cf778c0c9372195d194d688
 push 100-104 - pushed;put 0 1:100 1;taken 0 - true;taken 104 - true;taken 105 - false;put 102 2:200 Overlap;taken 102 - true;finish 1 - Gap;root 105 - Gap
 push 0-4 - pushed;root 5 - 0000000000000000000000000000000000000000000000000000000000000000;finish 5 - 638a6bc391964a85939d48f008e8bdbae6a7975e7ca2d87a3ce2492f4e4d8a4c
-push 0-4 1:100,2:200 pushed;finish 2 - Gap;root 5 - 1781874dd958989a7f9f227409a704632c65d8aa7121d409d1cca234f7342f7f;finish 5 - 968db6222856ba08edbc73c521d36908f018534c2eee29640ddce3db3608898e;put 4 3:300 Overlap;put 5 3:300 1;finish 6 - 54e55dccc6653c612bdb5576c5d3cb34bb31bc4e100248abccf4c908b3ef7715";
+push 0-4 1:100,2:200 pushed;finish 2 - Gap;root 5 - 1781874dd958989a7f9f227409a704632c65d8aa7121d409d1cca234f7342f7f;finish 5 - 968db6222856ba08edbc73c521d36908f018534c2eee29640ddce3db3608898e;put 4 3:300 Overlap;put 5 3:300 1;finish 6 - 54e55dccc6653c612bdb5576c5d3cb34bb31bc4e100248abccf4c908b3ef7715
+hashes 0 - 0000000000000000000000000000000000000000000000000000000000000000,0000000000000000000000000000000000000000000000000000000000000000;hashes 1 - Gap
+put 0 1:100 1;put 2 3:300 1;hashes 2 - Gap;hashes 3 - Gap;hashes 1 - Gap;put 1 2:200 1;hashes 3 - 71ec1275fca074724e2dd666921b3277c7cee603e4d025bcab2d4050015be2bc,54e55dccc6653c612bdb5576c5d3cb34bb31bc4e100248abccf4c908b3ef7715
+put 1 1:100,2:200 2;hashes 2 - Gap;hashes 3 - Gap
+put 0 1:100,2:200 2;hashes 0 - Gap;hashes 1 - Gap;hashes 3 - Gap;hashes 18446744073709551615 - Gap;hashes 2 - 1781874dd958989a7f9f227409a704632c65d8aa7121d409d1cca234f7342f7f,968db6222856ba08edbc73c521d36908f018534c2eee29640ddce3db3608898e";
 
 // Returns a chunk whose hash comes from a seed.
 fn node(seed: u64, size: u64) -> Node {
@@ -73,6 +77,19 @@ fn text_of<T: Display + Drop>(
     text.expect(rt, "memory")
 }
 
+// A root and a file hash, which are written with a comma between them.
+#[derive(Drop)]
+struct Hashes {
+    root: MerkleHash,
+    file: MerkleHash,
+}
+
+impl Display for Hashes {
+    fn fmt<W: fmt::Write>(&self, f: &mut fmt::Formatter<W>) -> fmt::Result {
+        write!(f, "{},{}", self.root, self.file)
+    }
+}
+
 // Pushes a run with its first and its last position. Its range is of these chunks, however many positions there are.
 fn push<C: ChunkRange<Alloc = Global>, H: KeptHashes<Global>>(
     rt: &impl Abort,
@@ -107,6 +124,10 @@ fn answer<C: ChunkRange<Alloc = Global>, H: KeptHashes<Global>>(
         }
         "taken" => text_of(rt, alloc, Ok(session.taken(to_number(rt, number)))),
         "finish" => text_of(rt, alloc, session.finish(to_number(rt, number))),
+        "hashes" => {
+            let hashes = session.hashes(to_number(rt, number));
+            text_of(rt, alloc, hashes.map(|(root, file)| Hashes { root, file }))
+        }
         _ => text_of(rt, alloc, session.root(to_number(rt, number))),
     }
 }

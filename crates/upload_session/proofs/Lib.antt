@@ -7,5 +7,6 @@ pub mod OpenRuns
 pub mod Placing
 pub mod Positions
 pub mod Refusals
+pub mod Sizes
 pub mod SortedEntries
 pub mod Whole

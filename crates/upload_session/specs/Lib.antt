@@ -1,3 +1,4 @@
 pub mod Hashes
 pub mod Session
+pub mod Sizes
 pub mod Steps

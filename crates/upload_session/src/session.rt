@@ -6,6 +6,7 @@ ghost use Rattle.xet_roots.specs.Roots.{total_size, IsRoot, IsFileHash};
 ghost use Rattle.std.specs.List.{IsDistinct};
 ghost use Rattle.upload_session.specs.Hashes.{Hash, hash_eq, Knows};
 ghost use Rattle.upload_session.specs.Session.{PlacedRun, ends_after, meet, chunks_of, is_taken, overlaps, size_of_runs, with_last, AreApart, AreJoined, CanFollow, CountsNew, Cover, HasNothing, HaveFileHash, HaveRoot, HoldsOfPlaced, IsUnchanged, IsWhole, KeepsKnown, LearnsHashes, PlacesChunks};
+ghost use Rattle.upload_session.specs.Sizes.{HasSizeOf, HaveChunkSizes, PlacesSizes};
 
 use crate::kept_hashes::{KeptHashes, SeenHashes};
 use crate::runs::Runs;
@@ -14,8 +15,12 @@ use chunk_ranges::chunk_range::{ChunkRange, CopyableRange, hashes_of_open};
 use std::alloc::{AllocError, Global};
 use std::marker::Model;
 use xet_hash::data_hash::MerkleHash;
+use xet_merkle::merkle_hash_subtree::MerkleHashSubtree;
 use xet_roots::CoreError;
 use xet_roots::aggregated_hashes::Node;
+
+/// A session over subtrees, which keeps all hashes.
+pub type Session<A = Global> = SessionOf<MerkleHashSubtree<A>>;
 
 /// Chunks by their positions, which come in any order.
 ///
@@ -91,11 +96,13 @@ impl<C: ChunkRange, H: KeptHashes<C::Alloc>> SessionOf<C, H> {
     /// Returns the number of runs of adjacent taken positions. It allocates nothing.
     ///
     /// Whatever calls a session has had, a free position lies between two of its runs, and its size is that of all
-    /// ranges together.
+    /// ranges together. If each range of this kind has the size of its chunks, as subtrees and plain ranges do, then
+    /// the session's size is that of all chunks.
     pub fn num_runs(&self) -> usize
         ensures count { result ≡ length self.now.runs }
         ensures apart { AreApart self.now.runs }
         ensures size { self.now.size ≡ size_of_runs C.ChunkRange self.now.runs }
+        ensures placed { HaveChunkSizes C.ChunkRange → HoldsOfPlaced C.ChunkRange self.now (HasSizeOf self.now) }
     {
         self.runs.len()
     }
@@ -136,6 +143,7 @@ impl<C: ChunkRange, H: KeptHashes<C::Alloc>> SessionOf<C, H> {
         ensures joined { OnOk result (0 < length chunks.now →
             AreJoined C.ChunkRange self.old.runs first chunks.now self.new.runs) }
         ensures placed { OnOk result (PlacesChunks C.ChunkRange self.old first chunks.now self.new) }
+        ensures placed_size { OnOk result (PlacesSizes C.ChunkRange self.old first chunks.now self.new) }
         ensures size { OnOk result (self.new.size ≡ self.old.size + total_size chunks.now) }
         ensures learned { OnOk result (0 < length chunks.now →
             LearnsHashes H.KeptHashes self.old.kept chunks.now self.new.kept) }
@@ -179,6 +187,7 @@ impl<C: ChunkRange, H: KeptHashes<C::Alloc>> SessionOf<C, H> {
         requires sizes { size ≡ self.old.size + total_size chunks.now }
         ensures joined { OnOk result (AreJoined C.ChunkRange self.old.runs first chunks.now self.new.runs) }
         ensures placed { OnOk result (PlacesChunks C.ChunkRange self.old first chunks.now self.new) }
+        ensures placed_size { OnOk result (PlacesSizes C.ChunkRange self.old first chunks.now self.new) }
         ensures size { OnOk result (self.new.size ≡ size) }
         ensures learned { OnOk result (LearnsHashes H.KeptHashes self.old.kept chunks.now self.new.kept) }
         ensures new { IfOk result (CountsNew H.KeptHashes self.old.kept chunks.now) }
@@ -214,6 +223,8 @@ impl<C: ChunkRange, H: KeptHashes<C::Alloc>> SessionOf<C, H> {
     pub fn push_run(&mut self, first: u64, end: u64, range: C) -> Result<(), CoreError>
         ensures pushed { OnOk result (self.new
             ≡ with_last C.ChunkRange self.old (first, record { end = end; range = range })) }
+        ensures placed_size { OnOk result ((chunks : List Node) → C.stands range chunks →
+            self.new.size ≡ self.old.size + total_size chunks) }
         ensures arguments { IsErrOf result CoreError.InvalidArguments
             ↔ ¬ CanFollow C.ChunkRange self.old.runs (first, record { end = end; range = range }) }
         ensures sizes { IsErrOf result CoreError.SizeOverflow

@@ -27,7 +27,9 @@ push of a run|1,2,3||2:3:1 0:1,2:2|0:1,2:2
 hashes to keep|0,1,2,3,4,5,6,7||0:0,1,2,3,4,5,6,7:8|0:0,1,2,3,4,5,6,7:0
 finish|1,2,3|2:3:1 0:1,2:2||
 finish with equal chunks|1,1,1,1|0:1,1:1 2:1,1:0||
-root|1,2,3|2:3:1 0:1,2:2||";
+root|1,2,3|2:3:1 0:1,2:2||
+root and file hash|1,2,3|2:3:1 0:1,2:2||
+root and file hash|1,1,1,1|0:1,1:1 2:1,1:0||";
 
 // Returns whether a call returns what it should.
 fn is_right<T: PartialEq + Drop>(

@@ -2,11 +2,16 @@ use Rattle.std.proofs.Common.{◌++◌, sym, subst, ap, ◌∙◌}
 use Rattle.std.proofs.lemmas.List.Folds.{list_any-append}
 use Rattle.upload_session.specs.Hashes.{hashes_of, hash_eq, AreBoth}
 use Rattle.upload_session.specs.Session.{StandFor}
+use Rattle.upload_session.proofs.Sizes.{placed-more}
 use Rattle.upload_session.proofs.session.SessionOf.place.Goals as goal
 
 pub returns-in-Ok-clause-placed : goal.returns-in-Ok-clause-placed
 returns-in-Ok-clause-placed g c = λ placed stand.
     c.in-Ok.ensures.placed placed (subst (λ session. StandFor g.C.ChunkRange session.runs placed) (sym c.self.view_is) stand)
+
+pub returns-in-Ok-clause-placed_size : goal.returns-in-Ok-clause-placed_size
+returns-in-Ok-clause-placed_size g c = λ placed stand sized.
+    c.requires.sizes ∙ placed-more c.args.self.now.size placed c.args.first c.args.chunks.now sized
 
 pub returns-clause-unchanged : goal.returns-clause-unchanged
 returns-clause-unchanged g c = (

@@ -1,7 +1,8 @@
-use Rattle.std.proofs.Common.{◌≡◌, sym, subst, ap, ◌∙◌}
+use Rattle.std.proofs.Common.{arith, ◌≡◌, sym, subst, ap, ◌∙◌}
 use Rattle.std.proofs.lemmas.List.{nil_from_length}
+use Rattle.xet_roots.specs.Roots.{total_size}
 use Rattle.upload_session.specs.Session.{place, StandFor}
-use Rattle.upload_session.proofs.Placing.{place-none}
+use Rattle.upload_session.proofs.Placing.{place-none, place-size}
 use Rattle.upload_session.proofs.Positions.{stand-rises}
 use Rattle.upload_session.proofs.session.SessionOf.put.Goals as goal
 
@@ -11,3 +12,12 @@ returns-then-count-eq0-clause-placed g c = λ placed stand.
     ap (place placed c.args.first) (nil_from_length c.args.chunks.now c.if-count-eq0.true)
     ∙ place-none placed c.args.first (stand-rises g.C.ChunkRange c.args.self.now.runs placed stand) in
     subst (λ all. StandFor g.C.ChunkRange c.args.self.now.runs all) (sym same) stand
+
+pub returns-then-count-eq0-clause-placed_size : goal.returns-then-count-eq0-clause-placed_size
+returns-then-count-eq0-clause-placed_size g c = λ placed stand sized.
+    omega (
+      arith,
+      sized,
+      place-size placed c.args.first c.args.chunks.now,
+      ap total_size (nil_from_length c.args.chunks.now c.if-count-eq0.true),
+    )

@@ -1,0 +1,9 @@
+use Rattle.std.proofs.Common.{◌≡◌, subst, ◌∙◌}
+use Rattle.upload_session.specs.Session.{size_of_runs}
+use Rattle.upload_session.proofs.Sizes.{sizes-chunks}
+use Rattle.upload_session.proofs.session.SessionOf.num_runs.Goals as goal
+
+pub returns-clause-placed : goal.returns-clause-placed
+returns-clause-placed g c = λ fits placed stand.
+    subst (λ session. session.size ≡ size_of_runs g.C.ChunkRange session.runs) c.self.view_is c.self.invariant.2
+    ∙ sizes-chunks g.C.ChunkRange fits c.args.self.now.runs placed stand
