@@ -95,6 +95,77 @@ def test_the_same_hashes_at_each_length(length):
             assert hasher.hash() == y.data_hash(b"first" + data)
 
 
+class Unknown:
+    """Lends its bytes to NumPy as read-only ones. It has no buffer that says who may write to them."""
+
+    def __init__(self, room):
+        self.room = (ctypes.c_char * len(room)).from_buffer(room)
+        self.__array_interface__ = {
+            "version": 3, "shape": (len(room),), "typestr": "|u1", "data": (ctypes.addressof(self.room), True)}
+
+
+def shown_by_numpy(make):
+    return lambda room: make(pytest.importorskip("numpy"), room)
+
+
+#: What shows the bytes of a bytearray, which somebody may write to.
+SHOWN = {
+    "itself": lambda room: room,
+    "a view": memoryview,
+    "a part of it": lambda room: memoryview(room)[:],
+    "a read-only view": lambda room: memoryview(room).toreadonly(),
+    "a read-only view of a read-only view": lambda room: memoryview(memoryview(room).toreadonly())[:],
+    "an array": shown_by_numpy(lambda numpy, room: numpy.frombuffer(room, dtype="u1")),
+    "an array over a read-only view": shown_by_numpy(
+        lambda numpy, room: numpy.frombuffer(memoryview(room).toreadonly(), dtype="u1")),
+    "an array over what nobody knows": shown_by_numpy(lambda numpy, room: numpy.asarray(Unknown(room))),
+}
+
+#: Calls over bytes, each with what it gives for the bytes that it was given.
+OVER_BYTES = {
+    "data_hash": (lambda data, opened: y.data_hash(data), y.data_hash),
+    "internal_node_hash": (lambda data, opened: y.internal_node_hash(data), y.internal_node_hash),
+    "hasher": (lambda data, opened: y.Hasher(data).hash(), y.data_hash),
+    "data_hashes": (lambda data, opened: y.data_hashes(data, [0, memoryview(data).nbytes])[0], y.data_hash),
+    "check": (lambda data, opened: opened.check(0, data), lambda data: 0),
+    "read": (lambda data, opened: bytes(opened.read(0, 7, data)), lambda data: data[:7]),
+    "what read returns": (lambda data, opened: y.data_hash(opened.read(0, memoryview(data).nbytes, data)), y.data_hash),
+}
+
+#: The calls of the library that hash bytes.
+HASHING = ["yurewha_" + name for name in (
+    "data_hash", "internal_node_hash", "hasher_update", "data_hashes", "opened_range_check", "opened_range_read")]
+
+
+@pytest.mark.parametrize("length", [100, 5000, 50_000, MIB])
+@pytest.mark.parametrize("shown", SHOWN)
+@pytest.mark.parametrize("name", OVER_BYTES)
+def test_what_is_written_during_a_call_is_not_seen(monkeypatch, name, shown, length):
+    """Somebody writes to the bytes at the moment at which the library gets them, so they have to be a copy."""
+    data, (call, of) = DATA[:length], OVER_BYTES[name]
+    room, tree = bytearray(data), y.HashTree([(y.data_hash(data), length)])
+    opened, expected = tree.proof(0, 1).open_root(tree.root), of(data)
+    form = SHOWN[shown](room)
+    for calls in (_library.short, _library.long):
+        for taking in HASHING:
+            def spied(*arguments, call=getattr(calls, taking)):
+                room[:] = bytes(length)
+                return call(*arguments)
+            monkeypatch.setattr(calls, taking, spied)
+    assert call(form, opened) == expected and room == bytes(length)
+
+
+def test_what_read_returns_can_never_be_written_to():
+    tree = y.HashTree([(EXPECTED, len(DATA))])
+    opened = tree.proof(0, 1).open_root(tree.root)
+    for form in (DATA, bytearray(DATA), memoryview(bytearray(DATA)), memoryview(DATA)[::1]):
+        view = opened.read(0, 100, form)
+        assert view.readonly and type(view.obj) is bytes and view == DATA[:100]
+    room = bytearray(DATA)
+    assert len(DATA) <= copied(lambda: opened.read(0, 100, room)) < len(DATA) + MIB // 16
+    assert copied(lambda: opened.read(0, 100, DATA)) < MIB // 16
+
+
 def test_bytes_that_do_not_lie_one_after_the_other():
     view = memoryview(DATA)[::-3]
     for promised in (False, True):

@@ -395,6 +395,12 @@ def test_hex_texts_that_are_none(text):
             y.Hashes.from_hex(texts)
 
 
+@pytest.mark.parametrize("lengths", [(63, 65), (66, 62), (0, 128), (128, 0)])
+def test_hex_texts_that_are_as_long_as_two_together(lengths):
+    with pytest.raises(y.InvalidText, match="^text 1: "):
+        y.Hashes.from_hex([64 * "0", *(length * "0" for length in lengths)])
+
+
 def test_wrong_types_of_hex_texts():
     for value in (None, 7, b"00", 64 * b"0"):
         with pytest.raises(TypeError, match="^text 1: hex is a str"):

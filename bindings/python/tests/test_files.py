@@ -1,6 +1,7 @@
 """Hashing the chunks of a file: what is read, progress, Ctrl-C, and what is refused."""
 
 import array
+import io
 import os
 import pathlib
 import random
@@ -135,6 +136,19 @@ def test_wrong_progress(written):
             y.hash_chunks(written(bytes(3)), [0, 3], progress=progress)
     with pytest.raises(TypeError):
         y.hash_chunks(written(bytes(3)), [0, 3], print)
+
+
+@pytest.mark.parametrize("most", [1, 1000, MIB - 1])
+def test_a_system_that_reads_less_than_it_is_asked_to(written, monkeypatch, most):
+    class Short(io.FileIO):
+        def read(self, size=-1):
+            return super().read(min(size, most))
+
+    monkeypatch.setattr("yurewha._files.open", lambda name, mode, buffering: Short(name, mode), raising=False)
+    length = min(3 * MIB, 3000 * most)
+    data = rng.randbytes(length)
+    for offsets in ([0, 7, length], [0, length], [3, length // 2, length // 2 + 1, length]):
+        assert y.hash_chunks(written(data), offsets) == y.data_hashes(data, offsets)
 
 
 def test_a_file_that_becomes_shorter(written):

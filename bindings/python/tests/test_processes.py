@@ -14,6 +14,7 @@ import time
 import pytest
 
 import yurewha as y
+from yurewha import _guard
 
 
 def block(seed, count):
@@ -140,11 +141,13 @@ def test_a_changed_pickle():
 
 
 def in_child(work):
-    """What the work answers in a forked process, as text."""
+    """What the work answers in a forked process, as text. A child that waits for ever ends after a while, without an answer."""
     out, into = os.pipe()
     child = os.fork()
     if child == 0:
         try:
+            signal.signal(signal.SIGALRM, signal.SIG_DFL)
+            signal.alarm(30)
             os.close(out)
             os.write(into, str(work()).encode())
         finally:
@@ -214,6 +217,26 @@ def test_an_object_in_use_when_a_process_is_forked():
     assert used == piece(1)
 
 
+def test_a_process_that_is_forked_while_a_thread_takes_an_object_over():
+    """The child has a lock of its own for that, since nobody gives the parent's back there."""
+    tree, takes, ends = piece(1), threading.Event(), threading.Event()
+
+    def take():
+        with _guard._process.now[1]:
+            takes.set()
+            ends.wait()
+
+    thread = threading.Thread(target=take)
+    thread.start()
+    takes.wait()
+
+    try:
+        assert in_child(lambda: tree.num_nodes) == str(tree.num_nodes)
+    finally:
+        ends.set()
+        thread.join()
+
+
 def test_forks_under_a_long_call():
     """Processes are forked while a thread is in the library; none hangs, and what isn't in use can be used."""
     chunks = block(9, 300_000)
@@ -278,8 +301,6 @@ def test_a_handler_uses_an_object_first_while_another_is_taken_over(same):
 
     def work():
         counts = []
-        signal.signal(signal.SIGALRM, signal.SIG_DFL)
-        signal.alarm(20)  # a child that waits for ever ends by this
         signal.signal(signal.SIGUSR1, lambda number, frame: counts.append(used.num_nodes))
         tree._lock = Interrupted(tree._lock)
         counts.append(tree.num_nodes)

@@ -11,6 +11,7 @@ from pathlib import Path
 import pytest
 
 import yurewha as y
+from yurewha import _library
 
 MAX = 2**64 - 1
 Z = y.Hash()
@@ -379,8 +380,48 @@ def test_great_data():
         assert opened.read(start + 5, start + 500_000, given) == whole[5:500_000]
     for number in range(30):
         assert opened.check(number, bytearray(data[10 + number])) == opened.begins(number)
+        other = data[10 + number][:-1] + b"x"
+        for given in (other, bytearray(other), memoryview(other), data[11 + number], b""):
+            with pytest.raises(y.ProofMismatch):
+                opened.check(number, given)
     with pytest.raises(y.ProofMismatch):
         opened.read(start, start + 1, whole[:-1] + b"x")
+
+
+def test_many_chunks():
+    """There is room for the text of many nodes with long sizes, for their lists, and for their proof."""
+    count = 6000
+    chunks = y.Chunks([(h(number), MAX // count - number) for number in range(count)])
+    tree = y.HashTree(chunks)
+    proof = tree.proof(0, count)
+    assert proof.chunks == chunks and proof == tree.proof_of_bytes(0, MAX) and tree.chunks_at(0, MAX) == (0, count)
+    text = proof.to_json()
+    assert len(text) > 100 * count - 10 and y.RangeProof.from_json(text) == y.RangeProof.from_bytes(proof.to_bytes()) == proof
+    assert pickle.loads(pickle.dumps(proof)) == proof and pickle.loads(pickle.dumps(tree)).root == tree.root
+    opened = proof.open(tree.file_hash())
+    assert opened.num_chunks == count and opened.ends(count - 1) == opened.file_size == tree.total_size
+
+
+def test_there_is_room_for_the_greatest_proof(monkeypatch):
+    """At most 64 levels have at most 8 nodes on each side. No list of chunks that fits into a memory has such a proof."""
+    def proved(handle, first, end, levels, level_room, nodes, room, level_count, node_count):
+        level_count.value, node_count.value = 64, end - first + 2 * 8 * 64
+        assert level_count.value <= level_room == len(levels) and node_count.value <= room == len(nodes)
+        for level in levels:
+            level.left = level.right = 8
+        return 0
+
+    monkeypatch.setattr(_library.short, "yurewha_hash_tree_proof", proved)
+    for proof in (TREE.proof(1, 3), TREE.proof_of_bytes(8, 25)):
+        assert proof.levels == 64 * ((8, 8),) and len(proof.chunks) == 2
+
+
+def test_proofs_and_lists_have_many_hashes():
+    """So dicts and sets of them aren't slow."""
+    tree = y.HashTree(n(0, 27))
+    proofs = [tree.proof(first, end) for first in range(28) for end in range(first + 1, 29)]
+    for values in (proofs, [proof.chunks for proof in proofs], [proof.chunks.hashes for proof in proofs]):
+        assert len(set(map(hash, values))) == len(set(values)) > 300
 
 
 def test_representations():

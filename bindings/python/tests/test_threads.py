@@ -1,6 +1,8 @@
 """Threads with objects of their own, and with shared ones."""
 
 import contextlib
+import ctypes
+import gc
 import itertools
 import pickle
 import random
@@ -12,7 +14,7 @@ import time
 import pytest
 
 import yurewha as y
-from yurewha import _hash
+from yurewha import _declarations, _guard, _hash, _library
 
 
 def run(*calls):
@@ -155,6 +157,188 @@ def test_one_hash_tree_and_one_opened_range_shared():
             assert opened.read(50_000, 70_000, b"".join(data[50:70]))[:1] == bytes([50])
 
     run(*(lambda thread=thread, call=call: call(thread) for thread in range(8) for call in (prove, check)))
+
+
+class Noted:
+    """A lock that notes how often it was taken, and how often it is held."""
+
+    def __init__(self, lock):
+        self.lock, self.taken, self.held = lock, 0, 0
+
+    def __enter__(self):
+        self.lock.acquire()
+        self.taken, self.held = self.taken + 1, self.held + 1
+
+    def __exit__(self, *_):
+        self.held -= 1
+        self.lock.release()
+
+
+def handle_of(item):
+    return item._state if isinstance(item, y.Hasher) else item._handle
+
+
+def gets(item, arguments):
+    """Whether a call of the library with these arguments gets the object's handle, by itself or in an array of handles."""
+    handle = handle_of(item)
+    return any(
+        argument is handle or (
+            isinstance(argument, ctypes.Array) and argument._type_ is _library.CSubtree
+            and handle.at in [element.at for element in argument])
+        for argument in arguments)
+
+
+def subtrees():
+    return y.Subtree.from_chunks(False, block(1, 40), False), y.Subtree.from_chunks(False, block(2, 2000), False)
+
+
+def sessions():
+    one, other = y.Session(), y.Session()
+    one.put(0, block(1, 20)), one.put(30, block(2, 20)), other.put(60, block(3, 700))
+    return one, other
+
+
+DATA = bytes(20_000)
+CHUNKS_OF_DATA = [(y.data_hash(DATA), len(DATA)), (y.data_hash(b"abc"), 3)]
+
+
+def trees():
+    return (y.HashTree(CHUNKS_OF_DATA),)
+
+
+def ranges():
+    tree = y.HashTree(CHUNKS_OF_DATA)
+    return (tree.proof(0, 2).open_root(tree.root),)
+
+
+def hashers():
+    return (y.Hasher(b"abc"),)
+
+
+#: How the objects of a call are made, and calls with them.
+USES = {
+    subtrees: [
+        lambda one, other: one.at_start, lambda one, other: one.at_end, lambda one, other: one.total_size,
+        lambda one, other: one.num_nodes, lambda one, other: one.num_levels, lambda one, other: one.is_empty,
+        lambda one, other: one.levels, lambda one, other: one.left(0), lambda one, other: one.right(0),
+        lambda one, other: one.final_hash(), lambda one, other: one.file_hash(), lambda one, other: one.merge(other),
+        lambda one, other: other.merge(one), lambda one, other: one.merge_counted(other), lambda one, other: one + other,
+        lambda one, other: y.Subtree.merge_all([one, other]), lambda one, other: one.copy(), lambda one, other: one == other,
+        lambda one, other: one.to_json(), lambda one, other: one.to_flat(), lambda one, other: pickle.dumps(one),
+        lambda one, other: repr(one), lambda one, other: one.svg(), lambda one, other: y.Session().push_run(0, 1, one)],
+    sessions: [
+        lambda one, other: one.put(20, block(3, 3)), lambda one, other: one.taken(3), lambda one, other: one.num_runs,
+        lambda one, other: one.num_chunks, lambda one, other: one.total_size, lambda one, other: one.gaps(70),
+        lambda one, other: one.run(0), lambda one, other: one.runs(), lambda one, other: one.run_from(0),
+        lambda one, other: list(one), lambda one, other: other.copy(), lambda one, other: one.known_hashes(),
+        lambda one, other: one.push_run(*other.run_from(0)), lambda one, other: one.keep_hashes(other.known_hashes()),
+        lambda one, other: one.to_json(), lambda one, other: pickle.dumps(one), lambda one, other: repr(one)],
+    trees: [
+        lambda tree: tree.root, lambda tree: tree.file_hash(), lambda tree: tree.num_chunks, lambda tree: tree.total_size,
+        lambda tree: tree.chunks_at(0, 7), lambda tree: tree.bytes_of(0, 2), lambda tree: tree.proof(0, 2),
+        lambda tree: tree.proof_of_bytes(0, 7), lambda tree: pickle.dumps(tree), repr],
+    ranges: [
+        lambda range_: range_.file_size, lambda range_: range_.num_chunks, lambda range_: range_.begins(1),
+        lambda range_: range_.ends(1), lambda range_: range_.check(0, DATA), lambda range_: range_.check(1, bytearray(b"abc")),
+        lambda range_: range_.read(0, 7, DATA + b"abc"), repr],
+    hashers: [
+        lambda hasher: hasher.update(b"abc"), lambda hasher: hasher.update(DATA), lambda hasher: hasher.update(bytearray(LONG)),
+        lambda hasher: hasher.count, lambda hasher: hasher.hash(), lambda hasher: hasher.hexdigest(), repr],
+}
+
+
+@pytest.mark.parametrize("make, number", [(make, number) for make, calls in USES.items() for number in range(len(calls))])
+def test_each_call_with_a_handle_is_made_under_its_lock(monkeypatch, make, number):
+    """So no two threads use one handle at once."""
+    items, unlocked = make(), []
+    for item in items:
+        item._lock = Noted(item._lock)
+    for calls in (_library.short, _library.long):
+        for name in _declarations.DECLARATIONS:
+            def spied(*arguments, call=getattr(calls, name), told=name):
+                if any(gets(item, arguments) and not item._lock.held for item in items):
+                    unlocked.append(told)
+                return call(*arguments)
+            monkeypatch.setattr(calls, name, spied)
+    USES[make][number](*items)
+    assert unlocked == [] and any(item._lock.taken for item in items) and all(item._lock.held == 0 for item in items)
+
+
+@pytest.mark.parametrize("make", USES)
+def test_a_copy_is_taken_under_the_lock(make):
+    item = make()[0]
+    item._lock = Noted(item._lock)
+    if hasattr(item, "copy"):
+        item.copy()
+        assert item._lock.taken > 0 == item._lock.held
+
+
+@pytest.mark.parametrize("by_hand", [False, True])
+@pytest.mark.parametrize("make", [subtrees, sessions, trees, ranges])
+def test_an_object_is_freed_once_and_under_its_lock(monkeypatch, make, by_hand):
+    item = make()[0]
+    item._lock = lock = Noted(item._lock)
+    kind, freed, plain = type(item), [], type(item)._free
+    monkeypatch.setattr(kind, "_free", staticmethod(
+        lambda handle: (freed.append(lock.held) if handle.at and lock.taken else None, plain(handle))))
+    if by_hand:
+        item.__del__()
+        assert freed == [1] and not item._handle.at
+    else:
+        monkeypatch.setattr(lock, "taken", 1)
+    del item
+    gc.collect()
+    assert freed == [1]
+
+
+def test_threads_take_two_locks_in_one_order():
+    """Whichever object comes first in a call. Else two threads might wait for each other."""
+    one, other = subtrees()
+    assert _guard.both_locked(one, other) == _guard.both_locked(other, one) == tuple(
+        item._lock for item in sorted((one, other), key=id))
+    taken = []
+
+    class Named(Noted):
+        def __init__(self, lock, name):
+            super().__init__(lock)
+            self.name = name
+
+        def __enter__(self):
+            taken.append(self.name)
+            super().__enter__()
+
+    items = [y.Subtree.from_chunks(False, block(seed, 3), False) for seed in range(10)]
+    for item in items:
+        item._lock = Named(item._lock, id(item))
+    for given in (items, items[::-1], items[5:] + items[:5]):
+        taken.clear()
+        with _guard.all_locked(given):
+            assert all(item._lock.held == 1 for item in items)
+        assert taken == sorted(map(id, items)) and all(item._lock.held == 0 for item in items)
+
+
+def test_locks_are_given_back_if_one_of_them_is_refused():
+    *items, last = sorted((y.Subtree.from_chunks(False, block(seed, 3), False) for seed in range(10)), key=id)
+    for item in items:
+        item._lock = Noted(item._lock)
+    holds, ends = threading.Event(), threading.Event()
+
+    def hold():
+        with last._lock:
+            holds.set()
+            ends.wait()
+
+    thread = threading.Thread(target=hold)
+    thread.start()
+    holds.wait()
+    last._generation = -1  # as in a process that was forked while the thread had it
+    try:
+        with pytest.raises(y.InUseAtFork):
+            _guard.all_locked([last, *items])
+    finally:
+        ends.set()
+        thread.join()
+    assert [(item._lock.taken, item._lock.held) for item in items] == 9 * [(1, 0)]
 
 
 def test_a_block_changed_by_another_thread():

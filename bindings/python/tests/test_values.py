@@ -54,6 +54,12 @@ def test_texts_of_a_hash():
     assert repr(it) == f"Hash.from_hex('{it.hex()}')" and f"{it}" == it.hex()
 
 
+def test_a_hash_is_no_bytes_and_has_the_order_of_its_text():
+    hashes = [*map(y.Hash.random_from_seed, range(50)), y.Hash(b"\1" + bytes(31)), y.Hash(bytes(7) + b"\1" + bytes(24))]
+    assert sorted(hashes) == sorted(hashes, key=y.Hash.hex) != sorted(hashes, key=bytes)
+    assert all(it != it.bytes and it != it.hex() and it.bytes not in {it} for it in hashes)
+
+
 def test_formats_of_a_hash():
     it = y.Hash.random_from_seed(1)
     assert f"{it:.8}" == format(it, ".8") == it.hex()[:8] and f"{it!s:>66}" == f"{it:>66}" == "  " + it.hex()
@@ -109,6 +115,17 @@ def test_merging():
     head += y.Subtree.from_chunks(False, [], True)
     assert head.final_hash().hex() == "b1026a806e25e14a5a9d00c9400b8b5b92e81027e1c574046edb37f500fcdeae"
     assert head.final_hash() == y.xorb_hash(numbered(0, 27))
+
+
+def test_the_sides_of_each_level():
+    """The lists have the left nodes by rising level, then the right ones by falling level."""
+    tree = y.Subtree.from_chunks(False, numbered(0, 499), False)
+    flat, levels = tree.to_flat(), range(tree.num_levels)
+    assert tuple((len(tree.left(level)), len(tree.right(level))) for level in levels) == flat.levels == tree.levels
+    assert sum(min(counts) > 0 for counts in flat.levels) > 1
+    assert sum([*map(tree.left, levels), *map(tree.right, reversed(levels))], y.Chunks()) == flat.nodes
+    assert list(tree.left(0)) == numbered(0, 7) and list(tree.right(0)) == numbered(496, 499)
+    assert tree.left(len(levels)) == tree.right(2**64 - 1) == y.Chunks()
 
 
 def test_a_range_twice():
@@ -173,6 +190,14 @@ def test_json_rules():
         assert raised.value.rule == rule
 
 
+def test_the_json_of_many_nodes_with_long_sizes():
+    count = 3000
+    chunks = [(y.Hash(m.to_bytes((i, 0, 0, 1))), (2**64 - 1) // count - i) for i in range(count)]
+    tree = y.Subtree.from_chunks(False, chunks, False)
+    text = tree.to_json()
+    assert tree.num_nodes == count and len(text) > 100 * count - 10 and y.Subtree.from_json(text) == tree
+
+
 def test_the_session():
     session, one, two = y.Session(), seeded(1), seeded(2)
     assert session.put(2, [one, two]) == 2 and session.put(0, [one, two]) == 0
@@ -194,6 +219,23 @@ def test_a_copy_of_a_session():
         assert other.taken(0) and not session.taken(0)
     assert other.put(4, [seeded(1), seeded(2), seeded(3)]) == 0
     assert other.finish(8) == y.file_hash([seeded(k) for k in (1, 2, 3, 4, 1, 2, 3, 1)])
+
+
+@pytest.mark.parametrize("copied", [copy.copy, copy.deepcopy, lambda it: it.copy()], ids=["copy", "deepcopy", "method"])
+def test_what_can_change_is_copied(copied):
+    """The copy changes by itself, and so does what it was copied from."""
+    more = y.Subtree.from_chunks(False, numbered(0, 19), False)
+    for make, look, change in (
+        (lambda: y.Subtree.from_chunks(False, numbered(3, 7), False), y.Subtree.to_json, lambda it: it.merge(more)),
+        (y.Session, y.Session.to_json, lambda it: it.put(3, numbered(0, 19))),
+        (lambda: y.Hasher(b"a"), y.Hasher.hexdigest, lambda it: it.update(b"b")),
+    ):
+        one = make()
+        other, before = copied(one), look(one)
+        change(one)
+        assert look(other) == before != look(one)
+        change(other)
+        assert look(other) == look(one)
 
 
 def by_hand(session):

@@ -142,8 +142,8 @@ def test_the_first_chunk_that_shows_the_end_is_checked():
     parent = y.RangeProof.from_flat([], [(source.tree.root, 9)])
     for fetch, prove, said in (
         (lambda a, b: bytes(b - a), source.prove, "this isn't the data of the range"),
-        (lambda a, b: bytes(b - a), lambda a, b: parent if a == 0 else source.prove(a, b), "this isn't the data of the range"),
-        (source.fetch, lambda a, b: OTHER.prove(0, 1) if a == 0 else source.prove(a, b), "the proof doesn't show this file hash"),
+        (lambda a, b: bytes(b - a), lambda a, b: source.prove(a, b) if a else parent, "this isn't the data of the range"),
+        (source.fetch, lambda a, b: source.prove(a, b) if a else OTHER.prove(0, 1), "the proof doesn't show this file hash"),
     ):
         file = y.VerifiedFile(source.tree.file_hash(), fetch, prove)
         for place in (end, end + 1):
