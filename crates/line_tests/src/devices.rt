@@ -6,14 +6,13 @@ use std::alloc::Global;
 use std::io::{self, ErrorKind, Read, Write};
 use std::process::Abort;
 use test_support::texts::{NO_CHUNK, lines_of_row};
-use xet_merkle::merkle_hash_subtree::MerkleHashSubtree;
 use xet_merkle::plain_range::PlainRange;
 use xetrange_text::fault::RangeFault;
 use xetrange_text::join::{join, root};
 use xetrange_text::make::make;
 use xetrange_text::prove::prove;
 use xetroot_text::fault::Fault;
-use xetroot_text::run::run;
+use xetroot_text::run::{run, run_with};
 
 // A call that reads lines.
 #[derive(Clone, Copy, Debug)]
@@ -88,8 +87,8 @@ fn end_of_range(fault: RangeFault) -> End {
 // Makes a call, and returns how it ends.
 fn end_of_call<R: Read, W: Write>(alloc: Global, call: Call, r: &mut R, w: &mut W) -> End {
     let result = match call {
-        Call::Run => run::<MerkleHashSubtree, _, _>(alloc, r, w).map_err(end_of_run),
-        Call::RunOverPlainRanges => run::<PlainRange, _, _>(alloc, r, w).map_err(end_of_run),
+        Call::Run => run(alloc, r, w).map_err(end_of_run),
+        Call::RunOverPlainRanges => run_with::<PlainRange, _, _>(alloc, r, w).map_err(end_of_run),
         Call::Make => make(alloc, alloc, r, w).map_err(end_of_range),
         Call::Join => join(alloc, alloc, r, w).map_err(end_of_range),
         Call::Root => root(alloc, alloc, r, w).map_err(end_of_range),

@@ -6,7 +6,6 @@ use std::ops::Range;
 use std::process::Abort;
 use test_support::texts::{ABC, H1, NO_PAIR, THREE_PAIRS, lines_of_row, with_hashes};
 use xet_hash::data_hash::DataHash;
-use xet_merkle::merkle_hash_subtree::MerkleHashSubtree;
 use xet_merkle::plain_range::PlainRange;
 use xetroot_text::fault::Fault;
 use xetroot_text::run::{run, run_with};
@@ -41,7 +40,7 @@ fn run_over<R: Read, W: Write>(
     w: &mut W,
 ) -> Result<(), Fault> {
     match kind {
-        Kind::Subtree => run::<MerkleHashSubtree, _, _>(alloc, r, w),
+        Kind::Subtree => run(alloc, r, w),
         Kind::Plain => run_with::<PlainRange, _, _>(alloc, r, w),
     }
 }

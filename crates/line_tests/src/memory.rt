@@ -5,10 +5,9 @@ use std::alloc::Global;
 use std::io::Write;
 use std::process::Abort;
 use xet_hash::data_hash::DataHash;
-use xet_merkle::merkle_hash_subtree::MerkleHashSubtree;
 use xet_merkle::plain_range::PlainRange;
 use xetrange_text::make::make;
-use xetroot_text::run::run;
+use xetroot_text::run::{run, run_with};
 
 // A call that reads pairs.
 #[derive(Clone, Copy, Debug)]
@@ -23,15 +22,9 @@ fn are_enough(alloc: Global, call: Call, mut input: &[u8], granted: u32) -> bool
     let refusing: RefusingAllocator<Global> = RefusingAllocator::new(alloc, granted);
     let mut output = Vec::new(alloc);
     match call {
-        Call::Run => {
-            run::<MerkleHashSubtree<&RefusingAllocator<Global>>, _, _>(
-                &refusing,
-                &mut input,
-                &mut output,
-            ).is_ok()
-        }
+        Call::Run => run(&refusing, &mut input, &mut output).is_ok(),
         Call::RunOverPlainRanges => {
-            run::<PlainRange<&RefusingAllocator<Global>>, _, _>(
+            run_with::<PlainRange<&RefusingAllocator<Global>>, _, _>(
                 &refusing,
                 &mut input,
                 &mut output,

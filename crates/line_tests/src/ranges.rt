@@ -7,7 +7,6 @@ use std::io::{Read, Write};
 use std::process::Abort;
 use test_support::texts::{NO_CHUNK, NO_PAIR, THREE_PAIRS, lines_of_row, with_hashes};
 use xet_hash::data_hash::DataHash;
-use xet_merkle::merkle_hash_subtree::MerkleHashSubtree;
 use xetrange_text::fault::RangeFault;
 use xetrange_text::join::{join, root};
 use xetrange_text::make::make;
@@ -94,7 +93,7 @@ fn root_of_pieces(
 // Returns whether the root of all pieces is what `run` writes for the whole, for each cut at a line end.
 fn agrees_at_each_cut(rt: &impl Abort, alloc: Global, text: &[u8]) -> bool {
     let (mut reader, mut output) = (text, Vec::new(alloc));
-    if run::<MerkleHashSubtree, _, _>(alloc, &mut reader, &mut output).is_err() {
+    if run(alloc, &mut reader, &mut output).is_err() {
         return false;
     }
     for (i, byte) in text.iter().enumerate() {

@@ -4,7 +4,6 @@ use crate::read::hash;
 use anyhow::{Context, Result, bail};
 use std::alloc::Global;
 use std::fmt::Display;
-use xet_merkle::merkle_hash_subtree::MerkleHashSubtree;
 use xet_merkle::plain_range::PlainRange;
 use xetrange_text::fault::RangeFault;
 use xetrange_text::join::{join, root};
@@ -12,7 +11,7 @@ use xetrange_text::make::make;
 use xetrange_text::prove::prove;
 use xetrange_text::verify::verify;
 use xetroot_text::fault::Fault;
-use xetroot_text::run::run;
+use xetroot_text::run::{run, run_with};
 
 /// Runs a program. Returns `None` if there is none of this name.
 pub fn answer(alloc: Global, name: &str, arguments: &str) -> Result<Option<String>> {
@@ -70,10 +69,10 @@ fn told<E: Display + Drop>(alloc: Global, end: Result<(), E>, output: Vec<u8>) -
 // Returns what `xetroot` writes, if that is the same for both kinds of ranges.
 fn xetroot(alloc: Global, input: &[u8]) -> Result<String> {
     let (mut reader, mut output) = (input, Vec::new(alloc));
-    let end: Result<(), Fault> = run::<MerkleHashSubtree, _, _>(alloc, &mut reader, &mut output);
+    let end: Result<(), Fault> = run(alloc, &mut reader, &mut output);
     let over_subtrees = told(alloc, end, output)?;
     let (mut reader, mut output) = (input, Vec::new(alloc));
-    let end = run::<PlainRange, _, _>(alloc, &mut reader, &mut output);
+    let end = run_with::<PlainRange, _, _>(alloc, &mut reader, &mut output);
     if told(alloc, end, output)? != over_subtrees {
         bail!("plain ranges give another answer");
     }

@@ -10,7 +10,7 @@ ghost use Rattle.xetroot_text.specs.Status.{IsStatusOf, status_of};
 ghost use Rattle.xetroot_text.specs.Words.{AreKnown};
 
 use crate::fault::Fault;
-use crate::run::run;
+use crate::run::run_with;
 use chunk_ranges::chunk_range::ChunkRange;
 use line_io::devices::write_all;
 use line_io::request::{Request, WRONG_ARGUMENT, print_line};
@@ -40,7 +40,7 @@ const VERSION: &str = "xetroot 1.1.0 (hashes of xet-core-structures 1.5.2)\n";
 
 /// Does what the arguments request. Returns the exit status: 0, the number of a fault, or 64 after a wrong argument.
 ///
-/// Without arguments it does what [`run`] does. With `--help` or `--version` it writes a text to `w`, and with any
+/// Without arguments it does what [`run_with`] does. With `--help` or `--version` it writes a text to `w`, and with any
 /// arguments it reads nothing of `r`. If the status isn't 0, it writes the reason to `errors` as one line. It keeps each
 /// run of adjacent positions as one `C`.
 pub fn program<C: ChunkRange, R: Read, W: Write, E: Write>(
@@ -50,7 +50,7 @@ pub fn program<C: ChunkRange, R: Read, W: Write, E: Write>(
     w: &mut W,
     errors: &mut E,
 ) -> u8
-    // Without a word it does what `run` does, and the status shows how that ended.
+    // Without a word it does what `run_with` does, and the status shows how that ended.
     ensures run { HasWords args [] → IsStatusOf result (AnswersInput IsAnswer IsFaultOf Fault.Write
         (R.remaining r.old) (R.remaining r.new) (W.contents w.old) (W.contents w.new)) }
     ensures help { IsOkAnd args (λ args. AskForHelp (words_of args)) → IsStatusOf result (
@@ -104,7 +104,7 @@ fn perform<C: ChunkRange, R: Read, W: Write>(
     ensures none { IfNone result (Keeps (W.contents w.old) (W.contents w.new)) }
 {
     match Request::read(args) {
-        Ok(Request::Nothing) => Some(run::<C, R, W>(alloc, r, w)),
+        Ok(Request::Nothing) => Some(run_with::<C, R, W>(alloc, r, w)),
         Ok(Request::Help) => Some(write_text(w, HELP)),
         Ok(Request::Version) => Some(write_text(w, VERSION)),
         Ok(Request::Command(..) | Request::Unreadable) => None,

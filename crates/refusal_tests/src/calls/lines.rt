@@ -18,7 +18,7 @@ use xetrange_text::join::{join, root};
 use xetrange_text::make::make;
 use xetrange_text::prove::prove;
 use xetrange_text::verify::verify;
-use xetroot_text::run::run;
+use xetroot_text::run::{run, run_with};
 
 /// Calls that answer lines. Each has its lines if these are pairs and chunks. The commands of `xetrange` use those of
 /// 28 nodes.
@@ -146,15 +146,15 @@ pub fn status_of<W: Write>(
 ) -> u8 {
     let r = &mut input;
     let result = match call {
-        "run" => run::<MerkleHashSubtree<&Refusing>, _, _>(alloc, r, output).map_err(
-            |fault| fault.status(),
-        ),
+        "run" => run(alloc, r, output).map_err(|fault| fault.status()),
         "make" => make(alloc, memory, r, output).map_err(|fault| fault.status()),
         "join" => join(alloc, memory, r, output).map_err(|fault| fault.status()),
         "root" => root(alloc, memory, r, output).map_err(|fault| fault.status()),
         "prove" => prove(alloc, memory, 10, 22, r, output).map_err(|fault| fault.status()),
         "verify" => verify_part(alloc, memory, r, output).map_err(|fault| fault.status()),
-        _ => run::<PlainRange<&Refusing>, _, _>(alloc, r, output).map_err(|fault| fault.status()),
+        _ => run_with::<PlainRange<&Refusing>, _, _>(alloc, r, output).map_err(
+            |fault| fault.status(),
+        ),
     };
     result.err().unwrap_or(0)
 }

@@ -6,7 +6,7 @@ use Rattle.xetroot_text.specs.Status.{fault_of}
 use Rattle.xetroot_text.specs.Answer.{IsFaultOf}
 use Rattle.xetroot_text.proofs.GoodLines.{AreGood-none}
 use Rattle.xetroot_text.proofs.LineFaults.{IsFaultOf-input, write-only}
-use Rattle.xetroot_text.proofs.run.run.Goals as goal
+use Rattle.xetroot_text.proofs.run.run_with.Goals as goal
 
 pub new-lines-requires : goal.new-lines-requires
 new-lines-requires g c = ([], 0, c.in_ok-new.ensures.none, c.in_ok-new.ensures.counted, AreGood-none)
