@@ -654,6 +654,15 @@ YUREWHA_NODISCARD YUREWHA_NONNULL(7, 8)
 yurewha_status yurewha_range_proof_from_json(const char *text, size_t length, yurewha_level *levels, size_t level_room,
                                              yurewha_chunk *nodes, size_t node_room, size_t *level_count, size_t *node_count);
 
+/* Returns whether flat lists are those of a range proof, or which rule they break. It opens nothing, so DONE doesn't say that
+ * the proof shows any hash. Allocates nothing.
+ *   DONE               if and only if they are those of a range proof
+ *   PROOF_RULE + rule  the lists break this rule, from 5 to 8 of yurewha_range_proof_from_json, and none of these with a lower
+ *                      number */
+YUREWHA_NODISCARD
+yurewha_status yurewha_range_proof_check(const yurewha_level *levels, size_t level_count, const yurewha_chunk *nodes,
+                                         size_t node_count);
+
 /* Opens a range proof with a file hash under a salt, or with a root. The handle owns the opened range. The default hash is
  * never shown, since it is the hash of the empty file.
  *   DONE               the proof shows the hash

@@ -113,6 +113,8 @@ DECLARATIONS: Dict[str, Declaration] = {
     "yurewha_range_proof_from_json": (
         "yurewha_status",
         ("const char *", "size_t", "yurewha_level *", "size_t", "yurewha_chunk *", "size_t", "size_t *", "size_t *")),
+    "yurewha_range_proof_check": (
+        "yurewha_status", ("const yurewha_level *", "size_t", "const yurewha_chunk *", "size_t")),
     "yurewha_range_proof_open": (
         "yurewha_status",
         ("const yurewha_level *", "size_t", "const yurewha_chunk *", "size_t", "const yurewha_hash *", "const yurewha_bytes *", "yurewha_opened_range *")),

@@ -345,6 +345,12 @@ extern "C" {
         level_count: *mut usize,
         node_count: *mut usize,
     ) -> yurewha_status;
+    pub fn yurewha_range_proof_check(
+        levels: *const yurewha_level,
+        level_count: usize,
+        nodes: *const yurewha_chunk,
+        node_count: usize,
+    ) -> yurewha_status;
     pub fn yurewha_range_proof_open(
         levels: *const yurewha_level,
         level_count: usize,

@@ -1,5 +1,6 @@
 -- A JSON value describes at most one proof. The parts of a well-formed proof break no rule, so its object describes it.
-use Rattle.std.proofs.Common.{◌≡◌, ℕ, List, [], ◌∷◌, map, is_some, true, false, codes, refl, sym, subst, ◌∙◌, arith}
+use Rattle.std.proofs.Common.{◌≡◌, ℕ, ◌^◌, ◌<◌, ◌≤◌, List, [], ◌∷◌, length, map, is_some, true, false, codes, inl, inr, refl, sym, subst, ◌∙◌, arith}
+use Rattle.std.proofs.lemmas.Bool.{cases_lt}
 use Rattle.std.specs.Prelude.{All}
 use Rattle.std.specs.List.{AllZip}
 use Rattle.std.specs.Str.{str_to_ascii_lowercase}
@@ -13,7 +14,7 @@ use Rattle.xet_merkle.specs.JsonParts.{ReadsNode}
 use Rattle.xet_merkle.specs.SubtreeJson.{node_json}
 use Rattle.xet_merkle.proofs.Json.Reading.{items_of-injective}
 use Rattle.xet_merkle.proofs.Json.OneMeaning.{no_member, one_list, one_node, reads_nodes}
-use Rattle.range_proof.specs.RangeProof.{Sides, Proof, AreHashes, HasHashes, IsWellFormed}
+use Rattle.range_proof.specs.RangeProof.{Sides, Proof, AreHashes, HasHashes, IsWellFormed, file_size_of}
 use Rattle.range_proof.specs.ProofJson.{HasMembers, HasSides, ReadsSides, ReadsProof, AreLevels, BreaksPartRule, BreaksValueRule, BreaksRule, Reads, sides_json, proof_json}
 use Rattle.range_proof.specs.ProofJson.BreaksPartRule.{no_object, no_arrays, no_levels, no_nodes}
 use Rattle.range_proof.specs.ProofJson.BreaksValueRule.{no_chunk, many_levels, many_beside, sizes_pass}
@@ -46,11 +47,67 @@ are_levels (value ∷ values) (sides ∷ levels) h =
 
 -- ---- the rules of a value
 
-value_kept : (proof : Proof) (rule : ℕ) → IsWellFormed proof → BreaksValueRule proof rule → ⊥
+pub value_kept : (proof : Proof) (rule : ℕ) → IsWellFormed proof → BreaksValueRule proof rule → ⊥
 value_kept proof rule h (no_chunk none) = let some = h.some in omega arith
 value_kept proof rule h (many_levels some many) = let few = h.few_levels in omega arith
 value_kept proof rule h (many_beside some few many) = many (record { left = h.few_left; right = h.few_right })
 value_kept proof rule h (sizes_pass some few beside past) = let fits = h.fits in omega arith
+
+-- a number isn't above one that it can't be above
+at_most : (n most : ℕ) → (most < n → ⊥) → n ≤ most
+at_most n most not_above = elim (cases_lt most n) [ inl above ↦ absurd (not_above above) | inr le ↦ le ]
+
+-- a proof that breaks no rule is well-formed
+pub IsWellFormed-kept : (proof : Proof) → ((rule : ℕ) → BreaksValueRule proof rule → ⊥) → IsWellFormed proof
+IsWellFormed-kept proof kept =
+    let some : 0 < length proof.chunks = elim (cases_lt 0 (length proof.chunks)) [ inl lt ↦ lt | inr le ↦ absurd (kept 5 (no_chunk (omega arith))) ] in
+    let few : length proof.levels ≤ 64 = at_most (length proof.levels) 64 (λ above. kept 6 (many_levels some above)) in
+    let few_left : All (λ sides. length sides.left ≤ 8) proof.levels =
+    (λ i d lt. at_most _ 8 (λ above. kept 7 (many_beside some few (λ h. let le = h.left i d lt in omega arith)))) in
+    let few_right : All (λ sides. length sides.right ≤ 8) proof.levels =
+    (λ i d lt. at_most _ 8 (λ above. kept 7 (many_beside some few (λ h. let le = h.right i d lt in omega arith)))) in
+    record {
+      some = some;
+      few_levels = few;
+      few_left = few_left;
+      few_right = few_right;
+      fits = elim (cases_lt (file_size_of proof) (2 ^ 64)) [
+        | inl fits ↦ fits
+        | inr past ↦ absurd (kept 8 (sizes_pass some few (record { left = few_left; right = few_right }) past))
+      ];
+    }
+
+-- ---- what a value describes
+
+pub IsWellFormed-read : (json : Data) (proof : Proof) → Reads json proof → IsWellFormed proof
+IsWellFormed-read json proof reads = IsWellFormed-kept proof (λ rule broken. reads.kept rule (of_value reads.parts broken))
+
+hashes_read : (values : List Data) (nodes : List Node) → AllZip ReadsNode values nodes → AreHashes nodes
+hashes_read [] [] h = All-nil (λ (node : Node). IsHash node.0)
+hashes_read [] (node ∷ nodes) h = elim h [ ]
+hashes_read (value ∷ values) [] h = elim h [ ]
+hashes_read (value ∷ values) (node ∷ nodes) h = All-cons (λ (node : Node). IsHash node.0) node nodes h.0.is_hash (hashes_read values nodes h.1)
+
+left_hashes_read : (values : List Data) (levels : List Sides) → AllZip ReadsSides values levels → All (λ sides. AreHashes sides.left) levels
+left_hashes_read [] [] h = All-nil (λ (sides : Sides). AreHashes sides.left)
+left_hashes_read [] (sides ∷ levels) h = elim h [ ]
+left_hashes_read (value ∷ values) [] h = elim h [ ]
+left_hashes_read (value ∷ values) (sides ∷ levels) h =
+    All-cons (λ (sides : Sides). AreHashes sides.left) sides levels (hashes_read h.0.left_values sides.left h.0.left_are) (left_hashes_read values levels h.1)
+
+right_hashes_read : (values : List Data) (levels : List Sides) → AllZip ReadsSides values levels → All (λ sides. AreHashes sides.right) levels
+right_hashes_read [] [] h = All-nil (λ (sides : Sides). AreHashes sides.right)
+right_hashes_read [] (sides ∷ levels) h = elim h [ ]
+right_hashes_read (value ∷ values) [] h = elim h [ ]
+right_hashes_read (value ∷ values) (sides ∷ levels) h =
+    All-cons (λ (sides : Sides). AreHashes sides.right) sides levels (hashes_read h.0.right_values sides.right h.0.right_are) (right_hashes_read values levels h.1)
+
+pub HasHashes-read : (json : Data) (proof : Proof) → Reads json proof → HasHashes proof
+HasHashes-read json proof reads = record {
+  chunks = hashes_read reads.parts.chunk_values proof.chunks reads.parts.chunks_are;
+  left = left_hashes_read reads.parts.level_values proof.levels reads.parts.levels_are;
+  right = right_hashes_read reads.parts.level_values proof.levels reads.parts.levels_are;
+}
 
 -- ---- what breaks a rule of the parts
 

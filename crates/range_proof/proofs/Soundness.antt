@@ -2,3 +2,4 @@
 pub mod Descent
 pub mod Checked
 pub mod Shown
+pub mod Reading

@@ -1,3 +1,4 @@
+pub mod Checking
 pub mod FlatProof
 pub mod ProofJson
 pub mod Proving

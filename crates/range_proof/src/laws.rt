@@ -10,6 +10,8 @@ ghost use Rattle.range_proof.specs.RangeProof.{Proof, HasHashes, IsProofOf, Show
 ghost use Rattle.range_proof.specs.ProofJson.{Reads};
 ghost use Rattle.range_proof.specs.FlatProof.{IsFlat};
 ghost use Rattle.range_proof.specs.Soundness.{AreChunksAt, CheckedForRoot, CheckedForFile, HasChunksAt};
+ghost use Rattle.range_proof.specs.Reading.{IsRead};
+ghost use Rattle.range_proof.specs.Checking.{IsSoundRead, IsSoundReadForRoot};
 
 use xet_hash::laws::hex_text_tells_hashes_apart;
 
@@ -34,6 +36,16 @@ pub fn range_proofs_of_file_hashes_are_sound()
         HasHashes proof → file_size_of proof < 2 ^ 64 → Shows proof hash salt →
         0 < length chunks → AreChunksAt proof k chunks → IsFileHash (chunk_nodes file) salt hash →
         HasChunksAt file proof k chunks ⊎ Collision (CheckedForFile proof chunks salt) (HashedForFile file salt) }
+{}
+
+/// Bytes that were read are those of the file. Take a proof from anybody, and the data of all its chunks. Then each file
+/// with a hash that the proof shows has the bytes that are read from this data between the same two places, and is as
+/// long as the proof says. Otherwise there is a collision, as above.
+pub fn bytes_that_are_read_are_those_of_the_file()
+    ensures file_hash { (proof : Proof) (from to : ℕ) (all bytes : List ℕ) →
+        HasHashes proof → IsWellFormed proof → IsRead proof from to all bytes → IsSoundRead proof from to all bytes }
+    ensures root { (proof : Proof) (from to : ℕ) (all bytes : List ℕ) →
+        HasHashes proof → IsWellFormed proof → IsRead proof from to all bytes → IsSoundReadForRoot proof from to all bytes }
 {}
 
 /// The proof of a range shows the root of its list, unless that is the default hash.
@@ -85,6 +97,12 @@ pub fn json_says_one_range_proof()
 {
     hex_text_tells_hashes_apart();
 }
+
+/// A range proof that a JSON value describes keeps the rules of every proof, and the hash of each of its nodes is a hash.
+pub fn json_says_well_formed_range_proofs()
+    ensures well_formed { (json : Data) (proof : Proof) → Reads json proof → IsWellFormed proof }
+    ensures hashes { (json : Data) (proof : Proof) → Reads json proof → HasHashes proof }
+{}
 
 /// Counts and nodes are those of at most one range proof. So making a proof from what `to_flat` returns gives the same
 /// proof, unless an allocation fails.

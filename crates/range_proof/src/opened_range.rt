@@ -1,14 +1,16 @@
 //! A range of a file's chunks that a proof shows.
 
-ghost use Rattle.std.specs.Prelude.{◌≡◌, ℕ, ◌+◌, ◌<◌, ◌⊎◌, ◌↔◌, List, [], ◌∷◌, length, Some, slice_get, IsSome, IsTrue, IfOk, IfErr, IfSome, IfNone, SomeIff};
-ghost use Rattle.binding.specs.Binding.{chunk_node, chunk_nodes, HashedForFile, HashedForRoot, Collision};
-ghost use Rattle.xet_roots.specs.Roots.{IsRoot, IsFileHash};
-ghost use Rattle.range_proof.specs.RangeProof.{file_size_of, begin_of, Shows, ShowsRoot, HasHashes, IsWellFormed};
-ghost use Rattle.range_proof.specs.Reading.{AreChunksOf, IsRead, IsPartOfFile};
-ghost use Rattle.range_proof.specs.Soundness.{HasChunksAt, CheckedForFile, CheckedForRoot};
+ghost use Rattle.std.specs.Prelude.{◌≡◌, ℕ, ◌+◌, ◌<◌, ◌↔◌, List, length, Some, slice_get, IsSome, IsTrue, IfOk, IfErr, IfSome, IfNone, SomeIff};
+ghost use Rattle.binding.specs.Binding.{chunk_node};
+ghost use Rattle.range_proof.specs.RangeProof.{file_size_of, begin_of, HasHashes, IsWellFormed};
+ghost use Rattle.range_proof.specs.Reading.{IsRead};
+ghost use Rattle.range_proof.specs.Checking.{IsSoundCheck, IsSoundCheckForRoot, IsSoundRead, IsSoundReadForRoot};
 ghost use Rattle.range_proof.specs.declared.open_error.OpenFault.TheVariants.{OutOfMemory};
 
-use crate::laws::{range_proofs_of_file_hashes_are_sound, range_proofs_of_roots_are_sound};
+use crate::laws::{
+    bytes_that_are_read_are_those_of_the_file, range_proofs_of_file_hashes_are_sound,
+    range_proofs_of_roots_are_sound,
+};
 use crate::open_error::{OpenError, OpenFault};
 use crate::places::places;
 use crate::proof::RangeProof;
@@ -112,12 +114,8 @@ impl<A: Allocator> OpenedRange<A> {
     /// count from 0. It allocates nothing.
     pub fn check(&self, k: usize, data: &[u8]) -> Option<u64>
         ensures place { SomeIff result (slice_get self.now.chunks k ≡ Some (chunk_node «data».now)) (begin_of self.now k) }
-        ensures sound { IsSome result → (file_hash salt : List ℕ) (file : List (List ℕ)) → Shows self.now file_hash salt →
-            IsFileHash (chunk_nodes file) salt file_hash → HasChunksAt file self.now k («data».now ∷ [])
-            ⊎ Collision (CheckedForFile self.now («data».now ∷ []) salt) (HashedForFile file salt) }
-        ensures sound_for_root { IsSome result → (root : List ℕ) (file : List (List ℕ)) → ShowsRoot self.now root →
-            IsRoot (chunk_nodes file) root → HasChunksAt file self.now k («data».now ∷ [])
-            ⊎ Collision (CheckedForRoot self.now («data».now ∷ [])) (HashedForRoot file) }
+        ensures sound { IsSome result → IsSoundCheck self.now k «data».now }
+        ensures sound_for_root { IsSome result → IsSoundCheckForRoot self.now k «data».now }
     {
         // The laws of soundness, for the last two clauses.
         range_proofs_of_file_hashes_are_sound();
@@ -146,16 +144,11 @@ impl<A: Allocator> OpenedRange<A> {
     pub fn read<'d>(&self, from: u64, to: u64, data: &'d [u8]) -> Option<&'d [u8]>
         ensures read { IfSome result (λ bytes. IsRead self.now from to «data».now bytes.now) }
         ensures none { IfNone result ((bytes : List ℕ) → ¬ (IsRead self.now from to «data».now bytes)) }
-        ensures sound { IfSome result (λ bytes. (file_hash salt : List ℕ) (file : List (List ℕ)) → Shows self.now file_hash salt →
-            IsFileHash (chunk_nodes file) salt file_hash → (chunks : List (List ℕ)) × AreChunksOf self.now.chunks «data».now chunks
-            × (IsPartOfFile file self.now from to bytes.now ⊎ Collision (CheckedForFile self.now chunks salt) (HashedForFile file salt))) }
-        ensures sound_for_root { IfSome result (λ bytes. (root : List ℕ) (file : List (List ℕ)) → ShowsRoot self.now root →
-            IsRoot (chunk_nodes file) root → (chunks : List (List ℕ)) × AreChunksOf self.now.chunks «data».now chunks
-            × (IsPartOfFile file self.now from to bytes.now ⊎ Collision (CheckedForRoot self.now chunks) (HashedForRoot file))) }
+        ensures sound { IfSome result (λ bytes. IsSoundRead self.now from to «data».now bytes.now) }
+        ensures sound_for_root { IfSome result (λ bytes. IsSoundReadForRoot self.now from to «data».now bytes.now) }
     {
-        // The laws of soundness, for the last two clauses.
-        range_proofs_of_file_hashes_are_sound();
-        range_proofs_of_roots_are_sound();
+        // The law of what was read, for the last two clauses.
+        bytes_that_are_read_are_those_of_the_file();
         let begin = self.places[0];
         let end = self.places[self.num_chunks()];
         if from < begin || to < from || end < to || !are_chunks(self.proof.chunks(), data) {

@@ -1,5 +1,5 @@
 -- What a line and the data after it verify, from the part of an input that was read.
-use Rattle.std.proofs.Common.{◌≡◌, ◌≢◌, ◌<◌, ◌⊎◌, ℕ, List, ◌++◌, length, replicate, refl, sym, ap, subst, ◌∙◌, inl, inr, arith, length-append, Option, Some, None, IfSome, Ok, Err}
+use Rattle.std.proofs.Common.{◌≡◌, ◌≢◌, ◌<◌, ◌⊎◌, ℕ, List, ◌++◌, length, replicate, refl, sym, ap, subst, ◌∙◌, inl, inr, arith, length-append, Option, Some, None, IfSome, Result, Ok, Err}
 use Rattle.std.specs.Io.KnownBytes.{Appends, IsAtEnd}
 use Rattle.std.proofs.KnownBytes.{Keeps-refl}
 use Rattle.serde_json.specs.Data.{Data}
@@ -33,6 +33,27 @@ refused input left before fault faulty other = record {
   fault = faulty;
   unwritten = λ _. Keeps-refl before;
   begun = λ is. let same : fault ≡ Write = cc is in absurd (other same);
+}
+
+-- a call gives answers of one relation if it gives those of a narrower one
+pub answers-more : {narrow wide : List ℕ → List ℕ → Type 0} {is_fault : List ℕ → RangeFault → Type 0} (input left before after : Option (List ℕ))
+    (result : Result (Unit {0}) RangeFault) → ((text output : List ℕ) → narrow text output → wide text output)
+    → AnswersInput narrow is_fault Write input left before after result → AnswersInput wide is_fault Write input left before after result
+answers-more None left before after (Ok done) more h = record { answer = tt; read = h.read; fault = h.fault; unwritten = h.unwritten; begun = λ _. tt }
+answers-more None left before after (Err fault) more h = record { answer = tt; read = h.read; fault = h.fault; unwritten = h.unwritten; begun = λ _. tt }
+answers-more (Some text) left before after (Ok done) more h = record {
+  answer = (h.answer.0, more text h.answer.0 h.answer.1, h.answer.2);
+  read = h.read;
+  fault = h.fault;
+  unwritten = h.unwritten;
+  begun = λ is. let begun = h.begun is in (begun.0, begun.1, more text _ begun.2, begun.3);
+}
+answers-more (Some text) left before after (Err fault) more h = record {
+  answer = tt;
+  read = h.read;
+  fault = h.fault;
+  unwritten = h.unwritten;
+  begun = λ is. let begun = h.begun is in (begun.0, begun.1, more text _ begun.2, begun.3);
 }
 
 size-of : (proof : Proof) (from to : ℕ) (bytes output : List ℕ) → IsRead proof from to bytes output → length bytes ≡ total_size proof.chunks

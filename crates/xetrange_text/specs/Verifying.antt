@@ -1,9 +1,11 @@
 -- What `verify` writes for its input: a line with the JSON text of a range proof, and the data of the proof's chunks.
-use Rattle.std.specs.Prelude.{◌≡◌, ℕ, ◌<◌, List, length, replicate}
+use Rattle.std.specs.Prelude.{◌≡◌, ◌⊎◌, ℕ, ◌<◌, List, length, replicate}
 use Rattle.line_io.specs.Lines.{byte_limit}
 use Rattle.line_io.specs.LineAndData.{first_line, after_line}
+use Rattle.binding.specs.Binding.{HashedForFile, Collision}
 use Rattle.range_proof.specs.RangeProof.{Proof, Shows}
-use Rattle.range_proof.specs.Reading.{IsRead}
+use Rattle.range_proof.specs.Reading.{AreChunksOf, IsPartOfFile, IsRead}
+use Rattle.range_proof.specs.Soundness.{CheckedForFile}
 use Rattle.xetrange_text.specs.declared.fault.RangeFault.{RangeFault}
 use Rattle.xetrange_text.specs.declared.fault.RangeFault.TheVariants.{BadLine, Sizes, Memory, Read, Write, BadRange, NoChunks, Mismatch}
 use Rattle.xetrange_text.specs.Proofs.{SaysProof, SaysNoProof}
@@ -15,6 +17,16 @@ pub record IsVerifiedOf (file_hash : List ℕ) (from to : ℕ) (text output : Li
   pub says : SaysProof (first_line text) proof
   pub shows : Shows proof file_hash (replicate 32 0)
   pub is_read : IsRead proof from to (after_line text) output
+
+-- some bytes are those of a file from one place to another, unless two messages collide: one that was hashed to verify the
+-- input, which is the line of a proof and the data of its chunks, and one that is hashed for the file
+pub record IsPartUnlessCollision (file : List (List ℕ)) (from to : ℕ) (text output : List ℕ) : Type 0 where
+  pub proof : Proof
+  pub says : SaysProof (first_line text) proof
+  pub chunks : List (List ℕ)
+  pub are_chunks : AreChunksOf proof.chunks (after_line text) chunks
+  pub part : IsPartOfFile file proof from to output
+      ⊎ Collision (CheckedForFile proof chunks (replicate 32 0)) (HashedForFile file (replicate 32 0))
 
 -- a line doesn't say a proof that shows the file hash
 abbrev pub IsOpenFaultOf : List ℕ → List ℕ → RangeFault → Type 0

@@ -1,13 +1,15 @@
 //! Verifies parts of a file.
 
-ghost use Rattle.std.specs.Prelude.{◌≡◌, replicate, IfErr, IfOk};
+ghost use Rattle.std.specs.Prelude.{◌≡◌, ℕ, List, replicate, IfErr, IfOk};
+ghost use Rattle.binding.specs.Binding.{chunk_nodes};
 ghost use Rattle.line_io.specs.Answers.{AnswersInput};
 ghost use Rattle.range_proof.specs.RangeProof.{Shows};
-ghost use Rattle.xet_merkle.specs.Roots.{total_size};
+ghost use Rattle.xet_merkle.specs.Roots.{IsFileHash, total_size};
 ghost use Rattle.xetrange_text.specs.Proofs.{SaysProof};
-ghost use Rattle.xetrange_text.specs.Verifying.{IsOpenFaultOf, IsVerifiedOf, IsVerifyFaultOf};
+ghost use Rattle.xetrange_text.specs.Verifying.{IsOpenFaultOf, IsPartUnlessCollision, IsVerifiedOf, IsVerifyFaultOf};
 
 use crate::fault::RangeFault;
+use crate::laws::verified_bytes_are_those_of_the_file;
 use crate::proof_line::read_proof;
 use line_io::devices::write_all;
 use line_io::fault::Refusal;
@@ -27,6 +29,9 @@ use xet_roots::groups::total_size;
 /// It keeps the line, which has at most 2^40 bytes, the proof and the data. It stops reading if there is more data than
 /// the proof says. `alloc` allocates these. `json` allocates the JSON value.
 ///
+/// Each file with this file hash has the bytes that it writes between these places, unless a message that was hashed to
+/// verify them and a different one that is hashed for the file have the same BLAKE3 hash.
+///
 /// [`RangeFault`] lists the faults. After `Write` it has written a beginning of the output, and after any other fault
 /// nothing. How much of the input it has read after a fault isn't specified.
 pub fn verify<R: Read, W: Write>(
@@ -38,9 +43,14 @@ pub fn verify<R: Read, W: Write>(
     r: &mut R,
     w: &mut W,
 ) -> Result<(), RangeFault>
-    ensures { AnswersInput (IsVerifiedOf file_hash.now from to) (IsVerifyFaultOf file_hash.now from to) RangeFault.Write
+    ensures answers { AnswersInput (IsVerifiedOf file_hash.now from to) (IsVerifyFaultOf file_hash.now from to) RangeFault.Write
+        (R.remaining r.old) (R.remaining r.new) (W.contents w.old) (W.contents w.new) result }
+    ensures sound { (file : List (List ℕ)) → IsFileHash (chunk_nodes file) (replicate 32 0) file_hash.now →
+        AnswersInput (IsPartUnlessCollision file from to) (IsVerifyFaultOf file_hash.now from to) RangeFault.Write
         (R.remaining r.old) (R.remaining r.new) (W.contents w.old) (W.contents w.new) result }
 {
+    // The law of verified bytes, for the clause `sound`.
+    verified_bytes_are_those_of_the_file();
     verify_in(&alloc, json, file_hash, from, to, r, w)
 }
 

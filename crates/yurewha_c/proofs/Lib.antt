@@ -3,6 +3,7 @@ pub mod NodesOfChunks
 pub mod Offsets
 pub mod RangeReading
 pub mod FlatLevels
+pub mod FlatProofs
 pub mod HandleLists
 pub mod Handles
 pub mod SessionStatuses

@@ -7,7 +7,6 @@ pub mod Order
 pub mod FlatLists
 pub mod Pieces
 pub mod ProofLists
-pub mod OpenedRanges
 pub mod Texts
 pub mod Rows
 pub mod Owned

@@ -1,5 +1,5 @@
 -- Range proofs as flat lists in C.
-use Rattle.std.specs.Prelude.{◌≡◌, ◌⊎◌, ℕ, ◌+◌, ◌<◌, ◌≤◌, List, ◌++◌, drop, length, take}
+use Rattle.std.specs.Prelude.{◌≡◌, ◌⊎◌, ℕ, ◌+◌, ◌<◌, ◌≤◌, All, List, ◌++◌, drop, length, take}
 use Rattle.xet_roots.specs.Groups.{Node}
 use Rattle.range_proof.specs.RangeProof.{Proof, IsWellFormed}
 use Rattle.range_proof.specs.FlatProof.{IsFlat, BreaksFlatRule, left_nodes, right_nodes}
@@ -31,3 +31,8 @@ pub record AreOfProof (levels : List Level) (nodes : List Chunk) (proof : Proof)
 -- a status is that of a rule from 5 to 8 that flat lists break, and they break none of these with a lower number
 abbrev pub IsFlatRule : List Level → List Chunk → ℕ → Type 0
 IsFlatRule levels nodes status = (rule : ℕ) × (status ≡ 48 + rule) × BreaksFlatRule (counts_of levels) (nodes_of nodes) rule
+
+-- each side of each level has at most 8 nodes
+pub record HaveFewBeside (levels : List Level) : Type 0 where
+  pub left : All (λ level. level.left ≤ 8) levels
+  pub right : All (λ level. level.right ≤ 8) levels

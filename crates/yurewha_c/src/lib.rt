@@ -16,6 +16,7 @@ mod kept_session;
 mod opened_range;
 mod opened_range_handle;
 mod parts;
+mod proof_check;
 mod proof_lists;
 mod proof_opening;
 mod proof_text;

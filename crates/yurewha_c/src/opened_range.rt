@@ -4,8 +4,8 @@ ghost use Rattle.std.specs.Prelude.{◌≡◌, ◌≢◌, ◌⊎◌, ◌↔◌, 
 ghost use Rattle.binding.specs.Binding.{chunk_node};
 ghost use Rattle.range_proof.specs.RangeProof.{begin_of, file_size_of};
 ghost use Rattle.range_proof.specs.Reading.{IsRead};
+ghost use Rattle.range_proof.specs.Checking.{IsSoundCheck, IsSoundCheckForRoot, IsSoundRead, IsSoundReadForRoot};
 ghost use Rattle.yurewha_c.specs.Handles.{Reads};
-ghost use Rattle.yurewha_c.specs.OpenedRanges.{IsSoundCheck, IsSoundCheckForRoot, IsSoundRead, IsSoundReadForRoot};
 
 use crate::opened_range_handle::OpenedRangeHandle;
 use crate::status::{ARGUMENTS, DONE, EMPTY_HANDLE, MISMATCH};

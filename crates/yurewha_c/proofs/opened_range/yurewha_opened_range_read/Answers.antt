@@ -2,7 +2,7 @@ use Rattle.std.proofs.Common.{ℕ, ◌+◌, ◌-◌, List, subst}
 use Rattle.std.specs.Prelude.{Option, IsSomeAnd, slice_range}
 use Rattle.range_proof.specs.RangeProof.{Proof}
 use Rattle.range_proof.specs.Reading.{IsRead}
-use Rattle.yurewha_c.specs.OpenedRanges.{IsSoundRead}
+use Rattle.range_proof.specs.Checking.{IsSoundRead}
 use Rattle.yurewha_c.proofs.opened_range.yurewha_opened_range_read.Goals as goal
 
 pub returns-in_default-place-clause-mismatch : goal.returns-in_default-place-clause-mismatch

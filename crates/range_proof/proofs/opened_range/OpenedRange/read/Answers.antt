@@ -1,12 +1,11 @@
-use Rattle.std.proofs.Common.{◌≡◌, ℕ, ◌+◌, ◌-◌, ◌<◌, List, length, take, drop, inl, inr, refl, sym, ap, subst, ◌∙◌, arith}
-use Rattle.std.proofs.lemmas.List.{take_all, length-map}
+use Rattle.std.proofs.Common.{◌≡◌, ◌+◌, ◌-◌, List, length, take, drop, refl, sym, ap, subst, ◌∙◌, arith}
+use Rattle.std.proofs.lemmas.List.{take_all}
 use Rattle.xet_roots.specs.Groups.{Node}
-use Rattle.binding.specs.Binding.{chunk_node}
 use Rattle.xet_roots.specs.Roots.{total_size}
-use Rattle.range_proof.specs.RangeProof.{Proof, offset_of, IsWellFormed}
+use Rattle.range_proof.specs.RangeProof.{Proof, offset_of}
 use Rattle.range_proof.specs.Reading.{AreChunksOf, IsRead}
 use Rattle.range_proof.proofs.PlacesOf.{sum_read}
-use Rattle.range_proof.proofs.ReadingOf.{length-chunks, IsRead-from, AreChunksAt-all, IsPartOfFile-from}
+use Rattle.range_proof.proofs.ReadingOf.{length-chunks, IsRead-from}
 use Rattle.range_proof.proofs.opened_range.OpenedRange.read.Goals as goal
 
 pub slice_bounds-result-end : goal.slice_bounds-result-end
@@ -37,38 +36,12 @@ returns-clause-read g c =
     (omega arith) (omega arith) (omega arith)
     (subst (λ (l : List Node). AreChunksOf l c.args.data.now found.0) c.chunks.ensures.nodes found.1))
 
-some_chunks : (proof : Proof) (all : List ℕ) (chunks : List (List ℕ)) → IsWellFormed proof → AreChunksOf proof.chunks all chunks → 0 < length chunks
-some_chunks proof all chunks formed h =
-    let some = formed.some in
-    let len = ap length h.nodes_are in
-    omega (arith, length-map chunks chunk_node)
-
 pub returns-clause-sound : goal.returns-clause-sound
-returns-clause-sound g c = λ hash salt file shows is_hash.
-    let read = returns-clause-read g c in
-    let formed = c.num_chunks.ensures.well_formed in
-    let hashes = c.num_chunks.ensures.hashes in (
-      read.chunks,
-      read.are_chunks,
-      elim (c.range_proofs_of_file_hashes_are_sound.ensures c.args.self.now hash salt 0 read.chunks file hashes formed.fits shows
-          (some_chunks c.args.self.now c.args.data.now read.chunks formed read.are_chunks)
-          (AreChunksAt-all c.args.self.now c.args.data.now read.chunks read.are_chunks) is_hash) [
-            | inl found ↦ inl (IsPartOfFile-from c.args.self.now c.args.from c.args.to c.args.data.now _ file read found)
-            | inr collision ↦ inr collision
-          ],
-    )
+returns-clause-sound g c =
+    c.bytes_that_are_read_are_those_of_the_file.ensures.file_hash c.args.self.now c.args.from c.args.to c.args.data.now _
+    c.num_chunks.ensures.hashes c.num_chunks.ensures.well_formed (returns-clause-read g c)
 
 pub returns-clause-sound_for_root : goal.returns-clause-sound_for_root
-returns-clause-sound_for_root g c = λ root file shows is_root.
-    let read = returns-clause-read g c in
-    let formed = c.num_chunks.ensures.well_formed in
-    let hashes = c.num_chunks.ensures.hashes in (
-      read.chunks,
-      read.are_chunks,
-      elim (c.range_proofs_of_roots_are_sound.ensures c.args.self.now root 0 read.chunks file hashes formed.fits shows
-          (some_chunks c.args.self.now c.args.data.now read.chunks formed read.are_chunks)
-          (AreChunksAt-all c.args.self.now c.args.data.now read.chunks read.are_chunks) is_root) [
-            | inl found ↦ inl (IsPartOfFile-from c.args.self.now c.args.from c.args.to c.args.data.now _ file read found)
-            | inr collision ↦ inr collision
-          ],
-    )
+returns-clause-sound_for_root g c =
+    c.bytes_that_are_read_are_those_of_the_file.ensures.root c.args.self.now c.args.from c.args.to c.args.data.now _
+    c.num_chunks.ensures.hashes c.num_chunks.ensures.well_formed (returns-clause-read g c)

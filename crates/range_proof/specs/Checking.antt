@@ -1,12 +1,13 @@
--- What it means that an opened range accepted some data, as `check` and `read` of `range_proof` state it.
+-- What it says of a file that data was accepted as that of a proof's chunks.
 use Rattle.std.specs.Prelude.{◌⊎◌, ℕ, List, [], ◌∷◌}
 use Rattle.binding.specs.Binding.{chunk_nodes, HashedForFile, HashedForRoot, Collision}
+use Rattle.xet_roots.specs.Roots.{IsFileHash, IsRoot}
 use Rattle.range_proof.specs.RangeProof.{Proof, Shows, ShowsRoot}
 use Rattle.range_proof.specs.Reading.{AreChunksOf, IsPartOfFile}
 use Rattle.range_proof.specs.Soundness.{CheckedForFile, CheckedForRoot, HasChunksAt}
-use Rattle.xet_roots.specs.Roots.{IsFileHash, IsRoot}
 
--- each file with a file hash that a proof shows has the data of a chunk at that chunk's place, or two hashed messages collide
+-- each file with a file hash that a proof shows has some bytes as the data of a chunk, at that chunk's place, or two hashed
+-- messages collide
 abbrev pub IsSoundCheck : Proof → ℕ → List ℕ → Type 0
 IsSoundCheck proof chunk bytes = (file_hash salt : List ℕ) (file : List (List ℕ)) →
     Shows proof file_hash salt → IsFileHash (chunk_nodes file) salt file_hash →
