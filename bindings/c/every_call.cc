@@ -234,6 +234,7 @@ void ranges(Checks &check)
               == YUREWHA_DONE, "range_proof_to_json");
     check(yurewha_range_proof_from_json(text.data(), text.size(), levels.data(), levels.size(), nodes.data(), nodes.size(),
                                         &level_count, &node_count) == YUREWHA_DONE, "range_proof_from_json");
+    check(yurewha_range_proof_check(levels.data(), level_count, nodes.data(), node_count) == YUREWHA_DONE, "range_proof_check");
 
     OpenedRange range;
     std::size_t start = 0;

@@ -500,6 +500,7 @@ static void empty_ranges(void)
     EXPECT(number == 0);
     EXPECT_STATUS(YUREWHA_ARGUMENTS, yurewha_hash_tree_proof(&tree, 0, 0, NULL, 0, NULL, 0, &counts[0], &counts[1]));
     EXPECT_STATUS(YUREWHA_PROOF_RULE + 5, yurewha_range_proof_to_json(NULL, 0, NULL, 0, NULL, 0, &counts[0]));
+    EXPECT_STATUS(YUREWHA_PROOF_RULE + 5, yurewha_range_proof_check(NULL, 0, NULL, 0));
     EXPECT_STATUS(YUREWHA_PROOF_RULE + 5, yurewha_range_proof_open(NULL, 0, NULL, 0, &zeros, &salt, &range));
     EXPECT_STATUS(YUREWHA_PROOF_RULE + 5, yurewha_range_proof_open_root(NULL, 0, NULL, 0, &zeros, &range));
     EXPECT_STATUS(YUREWHA_TEXT, yurewha_range_proof_from_json(NULL, 0, NULL, 0, NULL, 0, &counts[0], &counts[1]));

@@ -215,12 +215,13 @@ static void reads(yurewha_opened_range *range, const struct file *file, size_t f
     EXPECT(start == 12345);
 }
 
-/* The JSON text of a proof is that of the same lists. */
+/* The lists of a proof are valid, and its JSON text is that of the same lists. */
 static void texts(const struct proof *proof)
 {
     struct proof again;
     size_t length = 0;
     memset(&again, 0, sizeof again);
+    EXPECT_STATUS(YUREWHA_DONE, yurewha_range_proof_check(proof->levels, proof->level_count, proof->nodes, proof->node_count));
     EXPECT_STATUS(YUREWHA_ROOM, yurewha_range_proof_to_json(proof->levels, proof->level_count, proof->nodes, proof->node_count,
                                                             NULL, 0, &length));
     char *text = block(length);
@@ -337,6 +338,7 @@ static void flat_rules(void)
             levels[j] = rows[i].level;
         for (size_t j = 0; j < node_count; j++)
             nodes[j] = (yurewha_chunk){{{j, 1, 2, 3}}, rows[i].size};
+        EXPECT_STATUS(wanted, yurewha_range_proof_check(levels, level_count, nodes, node_count));
         EXPECT_STATUS(wanted, yurewha_range_proof_open(levels, level_count, nodes, node_count, &hash, &salt, &range));
         EXPECT_STATUS(wanted, yurewha_range_proof_open_root(levels, level_count, nodes, node_count, &hash, &range));
         EXPECT(range.at == NULL);

@@ -602,6 +602,9 @@ static void read_ranges_without_memory(struct world *w)
     const size_t length = (size_t)w->chunks[0].size;
     EXPECT_STATUS(YUREWHA_MISMATCH, yurewha_opened_range_check(&w->range, 0, data, length, &w->room.number));
     EXPECT_STATUS(YUREWHA_MISMATCH, yurewha_opened_range_read(&w->range, 0, length, data, length, &w->room.count));
+    EXPECT_STATUS(YUREWHA_DONE, yurewha_range_proof_check(w->proof.levels, w->proof.level_count, w->proof.nodes,
+                                                          w->proof.node_count));
+    EXPECT_STATUS(YUREWHA_PROOF_RULE + 7, yurewha_range_proof_check(&(yurewha_level){9, 0}, 1, w->chunks, 10));
 }
 
 static void takes_no_memory(struct world *w)

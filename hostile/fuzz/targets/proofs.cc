@@ -321,6 +321,7 @@ void compare_lists(const second::Proof &proof, const Given &given, Input &input)
     const second::Nodes flat = second::flat_nodes(proof);
     const unsigned rule = second::read_flat(counts, flat, read);
     const Lists lists(counts, flat);
+    is_done_without_memory(status_of(rule), [&] { return lists.call(yurewha_range_proof_check); });
     compare_to_json(lists, rule, read);
     compare_open(lists, rule, read, given, input);
 }
