@@ -188,6 +188,12 @@ def test_a_library_without_a_call(tmp_path):
     assert told == f"ImportError: yurewha: {tmp_path / _library.NAME} has no yurewha_status_text"
 
 
+def test_a_struct_of_another_size(monkeypatch):
+    monkeypatch.setitem(_declarations.STRUCTS, "yurewha_level", 24)
+    with pytest.raises(ImportError, match="yurewha_level has 16 bytes here"):
+        _library._check_machine()
+
+
 ON_X86_64 = pytest.mark.skipif(os.uname().machine != "x86_64", reason="it is about x86-64")
 STATEMENT = "import yurewha, yurewha._library as l; print(yurewha.data_hash(b'abc').hex()[:16], l.LEVEL)"
 
