@@ -95,9 +95,10 @@ static yurewha_chunk parent_of(const yurewha_chunk *nodes, size_t count)
     char text[MOST_OF_GROUP * LINE];
     size_t length = 0;
     for (size_t i = 0; i < count; i++) {
-        const uint64_t *words = nodes[i].hash.words;
-        length += (size_t)sprintf(text + length, "%016" PRIx64 "%016" PRIx64 "%016" PRIx64 "%016" PRIx64 " : %" PRIu64 "\n", words[0],
-                                  words[1], words[2], words[3], nodes[i].size);
+        size_t digits = 0;
+        EXPECT_STATUS(YUREWHA_DONE, yurewha_hex(&nodes[i].hash, text + length, sizeof text - length, &digits));
+        length += digits;
+        length += (size_t)sprintf(text + length, " : %" PRIu64 "\n", nodes[i].size);
         parent.size += nodes[i].size;
     }
     yurewha_internal_node_hash((const uint8_t *)text, length, &parent.hash);
