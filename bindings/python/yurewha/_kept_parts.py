@@ -11,10 +11,10 @@ Part = Tuple[int, bytes]
 
 
 class KeptParts:
-    """Parts of one file. Together they have at most so many bytes as was said, and what was used longest ago is forgotten first.
+    """Parts of one file, with a limit on the bytes of all of them. The part that was used longest ago is forgotten first.
 
     No part lies within another. So of the parts that begin at a place or before it, the last one also ends last, and no other
-    has to be looked at. Finding a part takes the same time however many there are, but for the steps of a binary search.
+    has to be looked at. A binary search finds it.
 
     >>> kept = KeptParts(10)
     >>> kept.keep(100, b"abcd")

@@ -213,7 +213,7 @@ class VerifiedFile(_Raw):
             proof = self._prove(start, stop)
         except Exception:
             # Perhaps there are no such bytes. The first chunk shows where the file ends.
-            if start == 0 or self._size is not None or start < self._found_size():
+            if start == 0 or start < self._found_size():
                 raise
             return None
         if not isinstance(proof, RangeProof):
