@@ -4,7 +4,8 @@
 //! The module [`merklehash`] has the calls and paths of the module with that name in the crate `xet-core-structures`
 //! 1.5.2. It calls a library in which each function is proved to meet its contract. Most code for that crate needs only
 //! another name in `Cargo.toml` and in its `use` lines. The module [`own`] has what that crate doesn't have.
-//! `README.md` says how the library is found, and what isn't proved.
+//! The crate around the library is only tested. For each thing that it does without the library, the repository has planted
+//! bugs, and each makes a test fail. `README.md` lists what isn't proved, and says how the library is found.
 //!
 //! ```
 //! use yurewha::merklehash::{compute_data_hash, xorb_hash, MerkleHashSubtree};
@@ -59,6 +60,8 @@ mod ffi;
 mod forms;
 mod handle;
 mod in_form;
+#[cfg(doctest)]
+mod lent;
 mod lent_chunks;
 mod status;
 

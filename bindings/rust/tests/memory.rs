@@ -13,7 +13,7 @@ use std::sync::Once;
 use yurewha::error::CoreError;
 use yurewha::merklehash::{
     compute_data_hash, compute_internal_node_hash, file_hash, find_stable_end, find_stable_start, xorb_hash, DataHash,
-    MerkleHashSubtree,
+    MerkleHashSubtree, PassThroughHashMap,
 };
 use yurewha::own::{
     self, try_file_hash, try_file_hash_with_salt, try_find_stable_end, try_find_stable_start, try_xorb_hash,
@@ -31,15 +31,18 @@ thread_local! {
     static BEFORE: Cell<Option<u64>> = const { Cell::new(None) };
     // How many requests of this thread were counted.
     static REQUESTS: Cell<u64> = const { Cell::new(0) };
+    // The size of the greatest request of this thread that was counted.
+    static GREATEST: Cell<usize> = const { Cell::new(0) };
     // How many more blocks this thread took by `malloc` than it freed.
     static BLOCKS: Cell<i64> = const { Cell::new(0) };
     // The file of the last panic of this thread.
     static PLACE: Cell<Option<String>> = const { Cell::new(None) };
 }
 
-// Counts a request, and tells whether it is refused.
-fn is_refused() -> bool {
+// Counts a request of this size, and tells whether it is refused.
+fn is_refused(size: usize) -> bool {
     REQUESTS.set(REQUESTS.get() + 1);
+    GREATEST.set(GREATEST.get().max(size));
     let before = BEFORE.get();
     BEFORE.set(before.and_then(|before| before.checked_sub(1)));
     before == Some(0)
@@ -50,7 +53,7 @@ fn is_refused() -> bool {
 /// As the C library's.
 #[no_mangle]
 pub unsafe extern "C" fn malloc(size: usize) -> *mut c_void {
-    if is_refused() {
+    if is_refused(size) {
         return ptr::null_mut();
     }
     BLOCKS.set(BLOCKS.get() + 1);
@@ -63,7 +66,7 @@ pub unsafe extern "C" fn malloc(size: usize) -> *mut c_void {
 /// As the C library's.
 #[no_mangle]
 pub unsafe extern "C" fn realloc(block: *mut c_void, size: usize) -> *mut c_void {
-    if is_refused() {
+    if is_refused(size) {
         return ptr::null_mut();
     }
     BLOCKS.set(BLOCKS.get() + i64::from(block.is_null()));
@@ -94,6 +97,13 @@ fn requests(call: impl FnOnce()) -> u64 {
     REQUESTS.set(0);
     call();
     REQUESTS.get()
+}
+
+// The size of the greatest request that a call makes.
+fn greatest_request(call: impl FnOnce()) -> usize {
+    GREATEST.set(0);
+    call();
+    GREATEST.get()
 }
 
 // That a call answers this error exactly where one of its requests is refused. It has to make one.
@@ -316,6 +326,30 @@ fn sessions_are_refused() {
     assert_each_refusal(SessionFault::Memory, || session.finish(60));
     assert_each_refusal(SessionFault::Memory, || session.finish_with_salt(60, &[7; 32]));
     assert_eq!(session.finish(60), Ok(file_hash(&nodes)));
+}
+
+// Pairs that announce more than come.
+struct Announced<I>(I);
+
+impl<I: Iterator> Iterator for Announced<I> {
+    type Item = I::Item;
+
+    fn next(&mut self) -> Option<I::Item> {
+        self.0.next()
+    }
+
+    fn size_hint(&self) -> (usize, Option<usize>) {
+        (1 << 24, None)
+    }
+}
+
+#[test]
+fn a_map_takes_room_for_the_keys_that_come() {
+    let greatest = greatest_request(|| {
+        let map: PassThroughHashMap<u64, u64> = Announced((0..1000).map(|key| (key, key))).collect();
+        assert_eq!(map.len(), 1000);
+    });
+    assert!((16_000..1 << 20).contains(&greatest), "{greatest}");
 }
 
 #[test]

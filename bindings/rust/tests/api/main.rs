@@ -8,6 +8,7 @@ mod draws;
 mod forms;
 mod hashed_write;
 mod json;
+mod long;
 mod map;
 mod merging;
 mod own;

@@ -135,6 +135,68 @@ fn data_is_checked_chunk_by_chunk() {
     assert_eq!(range.proof(), &RangeProof::from_chunks(&chunks(), 1..3).unwrap());
 }
 
+// What is wrong about some data: a byte at either end or between, or the length.
+fn altered(data: &[u8]) -> Vec<Vec<u8>> {
+    let bytes = [0, data.len() / 2, data.len() - 1].map(|place| {
+        let mut wrong = data.to_vec();
+        wrong[place] ^= 1;
+        wrong
+    });
+    let lengths = [
+        data[1..].to_vec(),
+        data[..data.len() - 1].to_vec(),
+        [data, b"!"].concat(),
+    ];
+    bytes.into_iter().chain(lengths).collect()
+}
+
+#[test]
+fn data_of_any_length_is_checked_to_its_end() {
+    let lengths = [1, 1023, 16 << 10, 64 << 10, (64 << 10) + 1, 1 << 20, 3 << 20];
+    let data = lengths.map(|length| (0..length).map(|i| (i % 251) as u8).collect::<Vec<_>>());
+    let list: Vec<_> = data
+        .iter()
+        .map(|data| (compute_data_hash(data), data.len() as u64))
+        .collect();
+    let tree = HashTree::from_chunks(&list).unwrap();
+    let whole = tree.proof(0..list.len()).unwrap().open_root(&tree.root()).unwrap();
+    let (mut place, file) = (0, data.concat());
+    for (chunk, data) in data.iter().enumerate() {
+        let one = tree.proof(chunk..chunk + 1).unwrap().open_root(&tree.root()).unwrap();
+        let bytes = place as u64..(place + data.len()) as u64;
+        assert_eq!(whole.check(chunk, data), Some(bytes.start));
+        assert_eq!(one.read(bytes.clone(), data), Some(&data[..]));
+        for wrong in altered(data) {
+            assert_eq!((whole.check(chunk, &wrong), one.check(0, &wrong)), (None, None));
+            assert_eq!(one.read(bytes.clone(), &wrong), None);
+            let fetched = [&file[..place], &wrong, &file[place + data.len()..]].concat();
+            assert_eq!(whole.read(0..1, &fetched), None);
+        }
+        place += data.len();
+    }
+}
+
+// A node shows nothing by itself: a sender may give any node the size 0.
+#[test]
+fn an_empty_chunk_is_checked_too() {
+    let (name, forged) = (compute_data_hash(b""), DataHash::random_from_seed(5));
+    for (hash, accepted) in [(name, true), (forged, false)] {
+        let one = RangeProof::from_chunks(&[(hash, 0)], 0..1).unwrap();
+        let one = one.open_root(&hash).unwrap();
+        assert_eq!(one.check(0, b""), accepted.then_some(0));
+        assert_eq!(one.read(0..0, b""), accepted.then_some(&b""[..]));
+        let list = [
+            (compute_data_hash(b"a chunk"), 7),
+            (hash, 0),
+            (compute_data_hash(b"another"), 7),
+        ];
+        let all = RangeProof::from_chunks(&list, 0..3).unwrap();
+        let all = all.open_root(&xorb_hash(&list)).unwrap();
+        assert_eq!(all.check(1, b""), accepted.then_some(7));
+        assert_eq!(all.read(8..10, b"a chunkanother"), accepted.then_some(&b"no"[..]));
+    }
+}
+
 #[test]
 fn bytes_are_read_only_from_the_data_of_the_range() {
     let range = opened(1..2);
@@ -433,4 +495,22 @@ fn a_clone_is_the_same_proof() {
             assert_ne!(proof, other);
         }
     }
+}
+
+// A range of one chunk after a node, and of one before it: the nodes are the same in the same order. Then one node is another.
+#[test]
+fn proofs_with_other_sides_or_other_nodes_differ() {
+    let list = reference(&[1, 2]);
+    let [first, second] = [0..1, 1..2].map(|range| RangeProof::from_chunks(&list, range).unwrap());
+    assert_eq!(
+        (first.chunks(), first.left(0), first.right(0)),
+        (&list[..1], &[][..], &list[1..])
+    );
+    assert_eq!(
+        (second.chunks(), second.left(0), second.right(0)),
+        (&list[1..], &list[..1], &[][..])
+    );
+    assert_ne!(first, second);
+    let other = RangeProof::from_chunks(&reference(&[1, 3]), 0..1).unwrap();
+    assert_ne!(first, other);
 }

@@ -2,10 +2,14 @@
 
 use crate::draws::Draws;
 use std::future::Future;
+use std::io::{self, Write};
 use std::panic::{RefUnwindSafe, UnwindSafe};
+use std::rc::Rc;
 use std::sync::{Arc, OnceLock};
 use std::thread;
-use yurewha::merklehash::{compute_data_hash, file_hash, xorb_hash, DataHash, MerkleHashSubtree};
+use yurewha::merklehash::{
+    compute_data_hash, file_hash, xorb_hash, DataHash, HashedWrite, MerkleHashSubtree, PassThroughHashMap,
+};
 use yurewha::own::{self, HashTree, OpenedRange, RangeProof, Session, SessionFault};
 
 const fn assert_send_and_sync<T: Send + Sync>() {}
@@ -26,6 +30,36 @@ const _: () = {
     assert_unwind_safe::<RangeProof>();
     assert_unwind_safe::<OpenedRange>();
 };
+
+// Ambiguous, and so no program, for a type that is `Send`.
+trait IsSent<Marker> {
+    const NO: () = ();
+}
+
+impl<T: ?Sized> IsSent<()> for T {}
+
+impl<T: ?Sized + Send> IsSent<u8> for T {}
+
+// What holds a caller's value goes to another thread only if that value does.
+const _: () = {
+    let () = <HashedWrite<OfOneThread>>::NO;
+    let () = <PassThroughHashMap<u64, Rc<u8>>>::NO;
+};
+
+// A writer that is bound to its thread.
+struct OfOneThread {
+    _count: Rc<u8>,
+}
+
+impl Write for OfOneThread {
+    fn write(&mut self, slice: &[u8]) -> io::Result<usize> {
+        Ok(slice.len())
+    }
+
+    fn flush(&mut self) -> io::Result<()> {
+        Ok(())
+    }
+}
 
 #[test]
 fn subtrees_are_made_on_threads_and_merged_on_another() {
@@ -159,6 +193,35 @@ fn threads_look_at_the_same_tree_and_the_same_range() {
                     assert_eq!(range.check(k, &data[100 + k]), Some(4 * (100 + k as u64)));
                     assert_eq!(range.read(500..510, &fetched), Some(&whole[500..510]));
                     assert_eq!(tree.chunks_at(0..5), Some(0..2));
+                }
+            });
+        }
+    });
+}
+
+#[test]
+fn threads_compare_the_same_subtrees_in_both_orders() {
+    let [open, closed] = [false, true].map(|mark| MerkleHashSubtree::from_chunks(mark, &[], mark));
+    thread::scope(|scope| {
+        for (first, second) in [(&open, &closed), (&closed, &open)].repeat(THREADS / 2) {
+            scope.spawn(move || assert!((0..20_000).all(|_| first != second)));
+        }
+    });
+}
+
+// Each check takes so long that others come while it runs.
+#[test]
+fn threads_check_long_data_with_the_same_range() {
+    let data = vec![7; 4 << 20];
+    let chunk = (compute_data_hash(&data), data.len() as u64);
+    let range = RangeProof::from_chunks(&[chunk], 0..1).unwrap();
+    let range = range.open_root(&chunk.0).unwrap();
+    thread::scope(|scope| {
+        for _ in 0..THREADS {
+            scope.spawn(|| {
+                for _ in 0..8 {
+                    assert_eq!((range.check(0, &data), range.begins(0)), (Some(0), Some(0)));
+                    assert_eq!(range.read(1..2, &data), Some(&data[1..2]));
                 }
             });
         }
