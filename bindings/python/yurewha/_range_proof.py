@@ -19,7 +19,6 @@ from typing import (
 
 from ._calls import string_at
 from ._chunks import Chunks, ChunksLike
-from ._declarations import STATUSES
 from ._errors import InvalidArguments, YurewhaError, error_of
 from ._guard import Guarded
 from ._hash import HashLike, Start, checked_32, checked_bool, checked_text, checked_u64, own_bytes, raw_of
@@ -36,7 +35,6 @@ _CHUNK_SIZE = ctypes.sizeof(CChunk)
 MOST_LEVELS = 64
 # The fewest bytes of a node in JSON.
 _LEAST_NODE = len('{"hash":"","size":0}') + 64
-_ROOM = STATUSES["YUREWHA_ROOM"]
 _FromFlat = Callable[[Iterable[Sequence[SupportsIndex]], ChunksLike], "RangeProof"]
 
 
@@ -197,18 +195,15 @@ class RangeProof:
         >>> HashTree([(Hash(), 7)]).proof(0, 1).to_json().replace(64 * "0", "..")
         '{"chunks":[{"hash":"..","size":7}],"levels":[]}'
         """
+        count, length = len(self._nodes), ctypes.c_size_t()
         # As in `Subtree._to_json`: a level's two arrays and its punctuation have less than 64 bytes.
-        room = 128 * len(self._nodes) + 64 * self.num_levels + 128
-        text, length = ctypes.create_string_buffer(room), ctypes.c_size_t()
-        status = self._written(text, room, length)
+        room = 128 * count + 64 * self.num_levels + 128
+        text = ctypes.create_string_buffer(room)
+        status = calls_for(count, LONG_NODES).yurewha_range_proof_to_json(
+            self._levels, self.num_levels, self._nodes.packed, count, text, room, length)
         if status:
             raise error_of(status)
         return string_at(text, length.value).decode("ascii")
-
-    def _written(self, text: ctypes.Array[ctypes.c_char], room: int, length: ctypes.c_size_t) -> int:
-        count = len(self._nodes)
-        return int(calls_for(count, LONG_NODES).yurewha_range_proof_to_json(
-            self._levels, self.num_levels, self._nodes.packed, count, text, room, length))
 
     @staticmethod
     def from_json(text: Union[str, BytesLike]) -> RangeProof:
@@ -253,9 +248,10 @@ class RangeProof:
         return RangeProof._of(packed_levels(levels), Chunks(nodes).packed)._checked()
 
     def _checked(self) -> RangeProof:
-        """Returns the same proof if the library reads it, which it does before it finds that there is no room for a text."""
-        status = self._written(ctypes.create_string_buffer(1), 0, ctypes.c_size_t())
-        if status != _ROOM:
+        """Returns the same proof. Raises `InvalidProof` with the lowest rule, from 5 to 8, that its lists break."""
+        count = len(self._nodes)
+        status = calls_for(count, LONG_NODES).yurewha_range_proof_check(self._levels, self.num_levels, self._nodes.packed, count)
+        if status:
             raise error_of(status)
         return self
 
