@@ -7,9 +7,11 @@ import { AREA } from "../yurewha/library.js";
 import { BYTES, capped, chunksOf, pagesOf, wrapped } from "./support.js";
 
 const COUNT = 300;
+/** The calls of a scene that take no memory. */
+const TAKE_NONE = ["findStableStart", "findStableEnd", "a proof of bytes"];
 const plain = (range) => [range.atStart, range.atEnd, range.levels, Buffer.from(range.toFlat().nodes.bytes).toString("hex")];
 
-/** Objects of an instance, what they are, and the calls on them that take memory, each with what it gives. */
+/** Objects of an instance, what they are, and calls on them, each with what it gives. */
 function scene(y) {
     const chunks = y.Chunks.from(chunksOf(y, { drawn: { firstSeed: "1", count: COUNT } }));
     const front = y.Subtree.fromChunks(true, chunks.slice(0, 140), false);
@@ -109,7 +111,7 @@ for (const [name, bytes] of Object.entries(BYTES)) {
                 }
             }
             assert.deepEqual(found, wanted, call);
-            if (!call.startsWith("findStable")) assert.ok(refused > 0, `${call}: never refused`);
+            if (!TAKE_NONE.includes(call)) assert.ok(refused > 0, `${call}: never refused`);
             refusals += refused;
             blocks.forEach((block) => exports.release(block));
         }

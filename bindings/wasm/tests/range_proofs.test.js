@@ -269,6 +269,17 @@ test("packed bytes and lists that are none of a proof are refused", () => {
     assert.throws(() => y.RangeProof.fromJSON("{"), new errors.InvalidText("the text is no JSON text"));
 });
 
+test("lists of a proof are checked without making JSON of them", async () => {
+    const { yurewha: it } = await wrapped(BYTES.wasm32, (exports) => ({
+        ...exports,
+        yurewha_range_proof_to_json: () => assert.fail("JSON is made"),
+    }));
+    const { bytes } = y.RangeProof.fromChunks(nodes(28), 5, 6);
+    const proof = new it.RangeProof(bytes);
+    assert.deepEqual(it.RangeProof.fromFlat(proof.toFlat()).bytes, bytes);
+    assert.throws(() => it.RangeProof.fromFlat({ levels: [], nodes: [] }), errors.InvalidJson);
+});
+
 test("deep and long texts are refused without a trap", () => {
     for (const [name, it] of all) {
         for (const text of ["[".repeat(1e6), '{"a":'.repeat(1e6)]) assert.throws(() => it.RangeProof.fromJSON(text), errors.InvalidText, name);

@@ -163,7 +163,7 @@ export function makeRangeProof(library, { rawOf }, { Chunks, packedOf }, { opene
             return run(lists, ...pointers);
         });
 
-    /** Without room the call writes how long the text is, if the lists are those of a proof. */
+    /** Without room the call writes how long the text is. */
     const jsonLength = (lists) =>
         over(lists, [0, 8], (given, room, out) => {
             const status = library.call("yurewha_range_proof_to_json", ...given, room, 0n, out);
@@ -173,7 +173,7 @@ export function makeRangeProof(library, { rawOf }, { Chunks, packedOf }, { opene
 
     /** Lists that are those of a proof. */
     function checked(lists) {
-        jsonLength(lists);
+        over(lists, [], (given) => library.check(library.call("yurewha_range_proof_check", ...given)));
         return lists;
     }
 
