@@ -352,6 +352,16 @@ fn a_map_takes_room_for_the_keys_that_come() {
     assert!((16_000..1 << 20).contains(&greatest), "{greatest}");
 }
 
+// Its nodes take 40 bytes each, and twice that while their vector grows; their text would take more than 100.
+#[cfg(feature = "serde")]
+#[test]
+fn a_proof_that_is_read_takes_no_room_for_its_text() {
+    let proof = RangeProof::from_chunks(&nodes(10_000), 0..10_000).unwrap();
+    let bytes = bincode::serialize(&proof).unwrap();
+    let greatest = greatest_request(|| assert!(bincode::deserialize::<RangeProof>(&bytes).unwrap() == proof));
+    assert!((400_000..900_000).contains(&greatest), "{greatest}");
+}
+
 #[test]
 fn a_value_that_is_dropped_frees_its_memory() {
     let nodes = nodes(60);

@@ -414,15 +414,8 @@ impl RangeProof {
     fn of_lists(levels: Vec<ffi::yurewha_level>, nodes: Vec<Node>) -> Result<Self> {
         let lent = lend(&nodes)?;
         let it = Lists::of(&levels, &lent);
-        let (room, mut length) = (ptr::null_mut(), 0);
-        // SAFETY: levels and nodes of their numbers, a room without bytes, and a length to write to.
-        let status = unsafe {
-            ffi::yurewha_range_proof_to_json(it.levels, it.level_count, it.nodes, it.node_count, room, 0, &mut length)
-        };
-        // What has a text keeps the rules.
-        if status != ffi::YUREWHA_ROOM {
-            done(status)?;
-        }
+        // SAFETY: levels and nodes of their numbers.
+        done(unsafe { ffi::yurewha_range_proof_check(it.levels, it.level_count, it.nodes, it.node_count) })?;
         drop(lent);
         Ok(RangeProof { levels, nodes })
     }
@@ -578,6 +571,29 @@ mod tests {
         }
         for status in [ffi::YUREWHA_DONE, ffi::YUREWHA_ARGUMENTS, ffi::YUREWHA_PROOF_RULE + 5] {
             assert_eq!(OpenFault::of(status), None);
+        }
+    }
+
+    // Levels of these numbers of nodes on both sides, and so many nodes of one size.
+    #[cfg(feature = "serde")]
+    #[test]
+    fn lists_of_no_proof_are_refused_by_the_lowest_rule() {
+        let chunks_of = |levels: &[(usize, usize)], count: usize, size: u64| {
+            let levels = levels.iter().map(|&(left, right)| ffi::yurewha_level { left, right });
+            let nodes = vec![(MerkleHash::marker(), size); count];
+            RangeProof::of_lists(levels.collect(), nodes).map(|proof| proof.chunks().len())
+        };
+        assert_eq!(chunks_of(&[], 1, u64::MAX), Ok(1));
+        assert_eq!(chunks_of(&[(8, 8); 64], 1026, 1), Ok(2));
+        for (rule, refused) in [
+            (5, chunks_of(&[], 0, 1)),
+            (5, chunks_of(&[(1, 0); 65], 65, u64::MAX)),
+            (6, chunks_of(&[(9, 9); 65], 1171, u64::MAX)),
+            (7, chunks_of(&[(9, 0)], 10, u64::MAX)),
+            (7, chunks_of(&[(0, 9)], 10, 1)),
+            (8, chunks_of(&[(1, 0)], 2, u64::MAX)),
+        ] {
+            assert_eq!(refused, Err(CoreError::InvalidProofJson(rule)));
         }
     }
 }
