@@ -22,7 +22,7 @@ use upload_session::session::SessionOf;
 use upload_session::session_fault::SessionFault;
 use xet_hash::data_hash::MerkleHash;
 use xet_hash::passthrough_hashmap::PassThroughHashMap;
-use xet_merkle::aggregated_hashes::Node;
+use xet_merkle::aggregated_hashes::{Node, xorb_hash};
 use xet_merkle::chunk_range::ChunkRange;
 use xet_merkle::merkle_hash_subtree::MerkleHashSubtree;
 
@@ -47,6 +47,8 @@ const FEW: u64 = 60;
 // - A merge copies the nodes in sight, collapses them to a third or less, and copies those of a side.
 // - Ranges that are merged together are added to a copy of the first.
 // - A put of a chunk makes its range, an empty range, a place in the map of runs, and a copy of the shorter neighbour.
+//   In order, it makes its range, and adds its node to the range before. A run of 1,000 chunks before or after the puts
+//   doubles its room at the first of them: 2,000 nodes, fewer than three for each of 900 puts.
 // - In random order the neighbours are long. A node is copied four times, with twice the room, each time the range that
 //   holds it doubles its nodes. For 7200 nodes that is 13 times.
 // - Chunks that are all natural cuts make no stable point, since three in a row are too near to each other. So nothing
@@ -68,7 +70,12 @@ merge before|0|5
 merge of cuts|0|4
 merge before of cuts|0|4
 ranges merged together|0|4
+put rising|4|7
+put rising after 10|4|7
+put rising after 1000|4|12
 put falling|6|13
+put falling before 10|6|13
+put falling before 1000|6|18
 put even, then odd|6|13
 put even, then odd falling|6|13
 put blocks before cuts|6|13
@@ -203,6 +210,7 @@ fn order_of(change: &str, count: u64, position: u64, drawn: u64) -> (u64, u64) {
         "put even, then odd" => (position.saturating_add(others), 1),
         "put even, then odd falling" => (falling.saturating_add(others), 1),
         "put drawn" => (drawn, 1),
+        _ if change.starts_with("put rising") => (position, 1),
         "put blocks before cuts" => match position % (BLOCK + 1) {
             0 => (position, BLOCK),
             BLOCK => (falling.saturating_add(count), 1),
@@ -226,8 +234,36 @@ fn puts(rt: &impl Abort, memory: Global, change: &str, count: u64) -> BTreeMap<u
     puts
 }
 
-// Puts chunks one by one or in blocks. Returns what that asks for. With cuts, a run that has them comes after these
-// chunks.
+// Returns the chunks of the run that is there before the puts of a change.
+fn neighbour(rt: &impl Abort, memory: Global, change: &str, count: u64) -> Vec<Node> {
+    if change.ends_with("cuts") {
+        chunks(rt, memory, count, Cuts::InTheMiddle)
+    } else if change.ends_with("1000") {
+        chunks(rt, memory, 1_000, Cuts::Nowhere)
+    } else if change.ends_with("10") {
+        chunks(rt, memory, 10, Cuts::Nowhere)
+    } else {
+        Vec::new(memory)
+    }
+}
+
+// Puts the run that is there before a change: before the puts if they rise, and else after them. Returns the first
+// position of the puts.
+fn put_neighbour<'a, H: KeptHashes<&'a Counting>>(
+    rt: &impl Abort,
+    session: &mut SessionOf<Subtree<'a>, H>,
+    memory: Global,
+    change: &str,
+    count: u64,
+) -> u64 {
+    let neighbour = neighbour(rt, memory, change, count);
+    let is_before = change.starts_with("put rising");
+    let position = if is_before { 0 } else { count };
+    session.put(position, &neighbour).expect(rt, "a put");
+    if is_before { neighbour.len() as u64 } else { 0 }
+}
+
+// Puts chunks one by one or in blocks, beside a run if the change names one. Returns what the puts ask for.
 fn change_session<'a, H: KeptHashes<&'a Counting>>(
     rt: &impl Abort,
     alloc: &'a Counting,
@@ -236,16 +272,15 @@ fn change_session<'a, H: KeptHashes<&'a Counting>>(
     count: u64,
 ) -> Granted {
     let mut session: SessionOf<Subtree<'a>, H> = SessionOf::new_in(alloc).expect(rt, "a session");
-    if change.ends_with("cuts") {
-        let with_cuts = chunks(rt, memory, count, Cuts::InTheMiddle);
-        session.put(count, &with_cuts).expect(rt, "a put");
-    }
+    let begin = put_neighbour(rt, &mut session, memory, change, count);
     let chunks = chunks(rt, memory, count, Cuts::Nowhere);
     alloc.grant(u32::MAX);
     for (first, len) in puts(rt, memory, change, count).values() {
         let end = first.saturating_add(*len) as usize;
         let put = chunks.get(*first as usize..end).unwrap_or_default();
-        session.put(*first, put).expect(rt, "a put");
+        session
+            .put(begin.saturating_add(*first), put)
+            .expect(rt, "a put");
     }
     let asked = alloc.granted();
     assert!(rt; session.num_runs() == 1, "more than one run");
@@ -350,6 +385,20 @@ fn changes_ask_for_memory_in_proportion_to_the_chunks(rt: HostRuntime) {
                 "{change}, {count}: {asked:?}"
             );
         }
+    }
+}
+
+#[test]
+fn a_root_takes_room_for_a_third_of_the_chunks(rt: HostRuntime) {
+    for count in COUNTS {
+        let chunks = chunks(&rt, rt.alloc(), count, Cuts::Nowhere);
+        let alloc = counting(rt.alloc());
+        xorb_hash(&alloc, &chunks).expect(&rt, "a hash");
+        let asked = alloc.granted();
+        assert!(rt;
+            asked.requests == 1 && asked.bytes <= count.div_ceil(3).saturating_mul(NODE),
+            "{count}: {asked:?}"
+        );
     }
 }
 

@@ -1,5 +1,7 @@
-//! Tests of how much calls on ranges and sessions ask of an allocator as these grow.
+//! Tests of how much calls on ranges and sessions ask of an allocator as these grow, and that they take as much as there is.
 #![tactic(auto)]
 
 #[cfg(test)]
 mod costs;
+#[cfg(test)]
+mod largest;
