@@ -1,5 +1,6 @@
 //! Compares keyed BLAKE3 with known hashes, whole and in pieces.
 
+use crate::recursive_reference::{hash_words, words_of};
 use std::process::Abort;
 use xet_hash::blake3::{Hasher, keyed_hash};
 
@@ -27,6 +28,10 @@ fn two_pieces_are_hashed_as_their_whole(rt: HostRuntime) {
         }
         let hash = hasher.finalize();
         assert!(rt; hash == keyed_hash(&key, &message), "{place}");
+        assert!(rt;
+            words_of(&hash) == hash_words(&words_of(&key), &message),
+            "{place}"
+        );
     }
 }
 
@@ -135,6 +140,10 @@ fn has_the_known_hashes(rt: HostRuntime) {
         let (length, hash) = read_row(&rt, row);
         let message = message.get(..length).expect(&rt, "a message");
         assert!(rt; has_hash(&key, message, &hash), "{length}");
+        assert!(rt;
+            length == 0 || hash_words(&words_of(&key), message) == words_of(&hash),
+            "{length}"
+        );
     }
     assert!(rt; HASHES.lines().count() == 45);
 }

@@ -13,3 +13,5 @@ mod hashed_write;
 mod passthrough_hasher;
 #[cfg(test)]
 mod passthrough_hashmap;
+#[cfg(test)]
+mod recursive_reference;
