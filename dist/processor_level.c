@@ -145,6 +145,8 @@ const char *yurewha_processor_level(void)
     CALL(level, yurewha_status, return, range_proof_from_json, (const char *text, size_t length, yurewha_level *levels, \
          size_t level_room, yurewha_chunk *nodes, size_t node_room, size_t *level_count, size_t *node_count), (text, length, \
          levels, level_room, nodes, node_room, level_count, node_count)) \
+    CALL(level, yurewha_status, return, range_proof_check, (const yurewha_level *levels, size_t level_count, \
+         const yurewha_chunk *nodes, size_t node_count), (levels, level_count, nodes, node_count)) \
     CALL(level, yurewha_status, return, range_proof_open, (const yurewha_level *levels, size_t level_count, \
          const yurewha_chunk *nodes, size_t node_count, const yurewha_hash *file_hash, const yurewha_bytes *salt, \
          yurewha_opened_range *range), (levels, level_count, nodes, node_count, file_hash, salt, range)) \
