@@ -1,0 +1,301 @@
+"""Words of 32 bits that are numbers, or expressions over symbols in a normal form.
+
+A word is an int, or a `Node`. Two nodes with the same normal form are one object, so `is` compares expressions. The normal forms:
+
+  in      a symbol
+  add     a sum: a constant, and terms in a fixed order that aren't sums
+  xor     an exclusive or: a constant, and terms (atom, rotation to the right, mask), with one term for each pair of an atom and a
+          rotation. Rotations, shifts, masks, exchanges of bytes, and `or` of words that share no bit are all of this form. So a
+          rotation is the same word, whether it was made by shifts, by bytes or by an instruction of its own.
+  or, and, carry    of two words whose bits aren't known; nothing more is known of these
+
+Each function gives a word that stands for exactly what its name says, for every value of the symbols. So two words that are the same
+object have the same value. Words that differ may still be equal; that would be a false alarm.
+
+A sealed word counts as one atom in the words that are made of it. That keeps sums and exclusive ors short.
+"""
+
+from __future__ import annotations
+
+from typing import Any, Callable, Dict, List, Tuple, Union
+
+M32 = 0xFFFFFFFF
+M64 = 0xFFFFFFFFFFFFFFFF
+
+
+class Node:
+    """An expression: its form, and what it is made of."""
+
+    __slots__ = ("number", "form", "parts", "is_sealed")
+
+    def __init__(self, number: int, form: str, parts: Tuple[Any, ...]) -> None:
+        self.number, self.form, self.parts, self.is_sealed = number, form, parts, False
+
+    def __repr__(self) -> str:
+        return shown(self, 2)
+
+
+Word = Union[int, Node]
+#: A term of an exclusive or: an atom, how far it is rotated to the right, and which of its bits count then.
+Term = Tuple[Node, int, int]
+#: A value of up to 64 bits: a number, a word, or a low and a high word.
+Value = Union[int, Node, Tuple[Word, Word]]
+
+_NODES: Dict[Tuple[Any, ...], Node] = {}
+
+
+def node(form: str, *parts: object) -> Node:
+    """The one node of a form with these parts."""
+    key = (form, *parts)
+    found = _NODES.get(key)
+    if found is None:
+        found = _NODES[key] = Node(len(_NODES), form, parts)
+    return found
+
+
+def forget() -> None:
+    """Forgets all nodes. Words that were made before must not be compared with later ones."""
+    _NODES.clear()
+
+
+def symbol(name: str) -> Node:
+    return node("in", name)
+
+
+def unknown() -> Node:
+    """A new symbol, for a word that nobody has set."""
+    return symbol(f"unknown {len(_NODES)}")
+
+
+def seal(word: Word) -> Word:
+    """The word, which is an atom from now on."""
+    if isinstance(word, Node):
+        word.is_sealed = True
+    return word
+
+
+def add(*words: Word) -> Word:
+    """The sum, without the carry out of the word."""
+    constant = 0
+    terms: List[Node] = []
+    for word in words:
+        if isinstance(word, int):
+            constant += word
+        elif word.form == "add" and not word.is_sealed:
+            constant += word.parts[0]
+            terms += word.parts[1:]
+        else:
+            terms.append(word)
+    constant &= M32
+    if not terms:
+        return constant
+    if len(terms) == 1 and constant == 0:
+        return terms[0]
+    terms.sort(key=lambda term: term.number)
+    return node("add", constant, *terms)
+
+
+def _rotated(number: int, count: int) -> int:
+    return (number >> count | number << (32 - count)) & M32
+
+
+def _split(word: Word) -> Tuple[int, Tuple[Term, ...]]:
+    """A word as an exclusive or: its constant and its terms."""
+    if isinstance(word, int):
+        return word, ()
+    if word.form == "xor" and not word.is_sealed:
+        return word.parts[0], word.parts[1:]
+    return 0, ((word, 0, M32),)
+
+
+def _joined(constant: int, terms: List[Term]) -> Word:
+    """The exclusive or of a constant and of terms with different atoms or rotations."""
+    if not terms:
+        return constant
+    if constant == 0 and len(terms) == 1 and terms[0][1:] == (0, M32):
+        return terms[0][0]
+    return node("xor", constant, *sorted(terms, key=lambda term: (term[0].number, term[1])))
+
+
+def xor(*words: Word) -> Word:
+    constant = 0
+    masks: Dict[Tuple[Node, int], int] = {}
+    for word in words:
+        number, terms = _split(word)
+        constant ^= number
+        for atom, rotation, mask in terms:
+            masks[atom, rotation] = masks.get((atom, rotation), 0) ^ mask
+    return _joined(constant, [(atom, rotation, mask) for (atom, rotation), mask in masks.items() if mask])
+
+
+def ror(word: Word, count: int) -> Word:
+    """The word, rotated to the right."""
+    count &= 31
+    if count == 0:
+        return word
+    constant, terms = _split(word)
+    turned = [(atom, (rotation + count) & 31, _rotated(mask, count)) for atom, rotation, mask in terms]
+    return _joined(_rotated(constant, count), turned)
+
+
+def masked(word: Word, mask: int) -> Word:
+    """The word, of which only some bits are left."""
+    constant, terms = _split(word)
+    return _joined(constant & mask, [(atom, rotation, its & mask) for atom, rotation, its in terms if its & mask])
+
+
+def shl(word: Word, count: int) -> Word:
+    if count > 31:
+        return 0
+    return masked(ror(word, 32 - count), M32 << count & M32) if count else word
+
+
+def shr(word: Word, count: int) -> Word:
+    if count > 31:
+        return 0
+    return masked(ror(word, count), M32 >> count) if count else word
+
+
+def _possible(word: Word) -> int:
+    """The bits that may be set."""
+    if isinstance(word, Node) and word.form == "carry":
+        return 1
+    bits, terms = _split(word)
+    for _, _, mask in terms:
+        bits |= mask
+    return bits
+
+
+def _in_order(x: Word, y: Word) -> Tuple[Word, Word]:
+    """Two words of which at least one is a node, in an order that doesn't depend on which came first."""
+    if isinstance(x, int) or not isinstance(y, int) and x.number > y.number:
+        return y, x
+    return x, y
+
+
+def or_(x: Word, y: Word) -> Word:
+    if x is y:
+        return x
+    if isinstance(x, int) and isinstance(y, int):
+        return x | y
+    return xor(x, y) if _possible(x) & _possible(y) == 0 else node("or", *_in_order(x, y))
+
+
+def and_(x: Word, y: Word) -> Word:
+    if isinstance(x, int):
+        x, y = y, x
+    if isinstance(y, int):
+        return masked(x, y)
+    return x if x is y else node("and", *_in_order(x, y))
+
+
+def carry(x: Word, y: Word) -> Word:
+    """1 if the sum of two words passes 2^32, else 0."""
+    if isinstance(x, int) and isinstance(y, int):
+        return (x + y) >> 32
+    return 0 if x == 0 or y == 0 else node("carry", *_in_order(x, y))
+
+
+def byte(word: Word, k: int) -> Word:
+    """Byte k of a word, the lowest being byte 0."""
+    return word >> 8 * k & 255 if isinstance(word, int) else shr(shl(word, 24 - 8 * k), 24)
+
+
+def from_bytes(four: List[Word]) -> Word:
+    """The word of four bytes, the lowest first."""
+    return xor(four[0], shl(four[1], 8), shl(four[2], 16), shl(four[3], 24))
+
+
+# ---- Values of 64 bits
+
+
+def low(value: Value) -> Word:
+    if isinstance(value, int):
+        return value & M32
+    return value if isinstance(value, Node) else value[0]
+
+
+def high(value: Value) -> Word:
+    if isinstance(value, int):
+        return value >> 32
+    return 0 if isinstance(value, Node) else value[1]
+
+
+def pair(x: Word, y: Word) -> Value:
+    """The value with this low and this high word."""
+    return x | y << 32 if isinstance(x, int) and isinstance(y, int) else (x, y)
+
+
+def add_64(x: Value, y: Value) -> Value:
+    if isinstance(x, int) and isinstance(y, int):
+        return (x + y) & M64
+    return pair(add(low(x), low(y)), add(high(x), high(y), carry(low(x), low(y))))
+
+
+def shl_64(value: Value, count: int) -> Value:
+    if isinstance(value, int):
+        return value << count & M64
+    if count >= 32:
+        return pair(0, shl(low(value), count - 32))
+    return pair(shl(low(value), count), or_(shl(high(value), count), shr(low(value), 32 - count))) if count else value
+
+
+def shr_64(value: Value, count: int) -> Value:
+    if isinstance(value, int):
+        return value >> count if count < 64 else 0
+    if count >= 32:
+        return pair(shr(high(value), count - 32), 0)
+    return pair(or_(shr(low(value), count), shl(high(value), 32 - count)), shr(high(value), count)) if count else value
+
+
+# ---- What a word is, for people and as a number
+
+
+def shown(word: object, depth: int = 3) -> str:
+    """A text of a word, in which deep parts are numbers of nodes."""
+    if isinstance(word, tuple):
+        atom, rotation, mask = word
+        return f"{shown(atom, depth)}>>>{rotation}{'' if mask == M32 else f'&{mask:x}'}"
+    if not isinstance(word, Node):
+        return f"{word:#x}" if isinstance(word, int) else f"{word}"
+    if word.form == "in":
+        return str(word.parts[0])
+    return f"{word.form}({', '.join(shown(it, depth - 1) for it in word.parts)})" if depth else f"#{word.number}"
+
+
+def _number_of(word: Node, known: Callable[[Any], int], of_symbol: Callable[[str], int]) -> int:
+    """The number of a node, all of whose parts are known."""
+    parts = word.parts
+    number: int
+    if word.form == "in":
+        return of_symbol(parts[0])
+    if word.form == "add":
+        return sum(map(known, parts)) & M32
+    if word.form == "xor":
+        number = parts[0]
+        for atom, rotation, mask in parts[1:]:
+            number ^= _rotated(known(atom), rotation) & mask
+        return number
+    x, y = map(known, parts)
+    return {"or": x | y, "and": x & y, "carry": (x + y) >> 32}[word.form]
+
+
+def number_of(word: Word, of_symbol: Callable[[str], int], found: Dict[Node, int]) -> int:
+    """The number that a word is for some numbers of the symbols. `found` keeps those of its parts. (It keeps a list of what is to do,
+    since expressions are deep.)"""
+    todo = [word] if isinstance(word, Node) else []
+
+    def known(part: Any) -> int:
+        return found[part] if isinstance(part, Node) else int(part)
+
+    while todo:
+        last = todo[-1]
+        inner = [part[0] if isinstance(part, tuple) else part for part in last.parts]
+        unknown = [it for it in inner if isinstance(it, Node) and it not in found]
+        if last in found or not unknown:
+            if last not in found:
+                found[last] = _number_of(last, known, of_symbol)
+            todo.pop()
+        else:
+            todo += unknown
+    return known(word)
