@@ -5,3 +5,5 @@
 mod costs;
 #[cfg(test)]
 mod largest;
+#[cfg(test)]
+mod range_proofs;
