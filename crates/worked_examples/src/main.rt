@@ -1,5 +1,5 @@
 //! The program `worked_examples`: it reads worked examples, makes the call of each line, and prints the lines with what
-//! the calls returned.
+//! the calls returned. It fails if that isn't what it read.
 #![tactic(auto)]
 
 mod groups;
@@ -19,12 +19,15 @@ mod sessions;
 mod subtrees;
 mod told;
 
-use anyhow::Result;
+use anyhow::{Context, Result};
 use std::io;
 
 fn main(rt: HostRuntime) -> Result<()> {
     let text = io::read_to_string(rt.alloc(), rt.stdin())?;
     let answered = lines::answered(rt.alloc(), text.as_str())?;
+    let is_right = answered.as_str() == text.as_str();
     rt.print(answered)?;
-    Ok(())
+    is_right
+        .then_some(())
+        .context("a line says something else than its call returned")
 }
