@@ -1,7 +1,6 @@
 /*
  * The choice of a level, on processors that the test makes up: each has all features but one, or lacks what its system saves. This
- * includes processor_level.c, whose questions to the processor come here. The libraries of the levels are stubs that say which of them
- * was called.
+ * includes processor_level.c, whose questions to the processor come here. The tables of the levels have their names alone.
  */
 #define _POSIX_C_SOURCE 200809L
 #include "checks.h"
@@ -68,34 +67,20 @@ static char *variable(const char *name);
 #undef fprintf
 #undef getenv
 
-/* The calls of each level, and which of them was made last. */
-static const char *level_called, *name_called;
-
-static int called(const char *level, const char *name)
-{
-    level_called = level;
-    name_called = name;
-    return 0;
-}
-
-#define STUB(of, type, hand_back, name, parameters, arguments) \
-    type yurewha_##of##_##name parameters \
-    { \
-        hand_back called(#of, #name); \
-    }
-CALLS(STUB, x86_64)
-CALLS(STUB, x86_64_v2)
-CALLS(STUB, x86_64_v3)
-CALLS(STUB, x86_64_v4)
+struct kernels {
+    const char *level;
+};
+const struct kernels yurewha_x86_64_kernels = {"x86-64"}, yurewha_x86_64_v2_kernels = {"x86-64-v2"},
+                     yurewha_x86_64_v3_kernels = {"x86-64-v3"}, yurewha_x86_64_v4_kernels = {"x86-64-v4"};
 
 /* The variable's value, and what another thread has chosen by the time that it is read. */
 static const char *level_variable;
-static const struct library *of_other_thread;
+static const struct level *of_other_thread;
 
 static char *variable(const char *name)
 {
     if (of_other_thread != NULL)
-        atomic_store(&chosen, of_other_thread);
+        chosen = of_other_thread;
     return strcmp(name, "YUREWHA_LEVEL") == 0 ? (char *)level_variable : NULL;
 }
 
@@ -151,11 +136,12 @@ static void expect_choice(const char *value, const char *level, bool says, const
     if (says)
         snprintf(line, sizeof line, "yurewha: YUREWHA_LEVEL is \"%.40s\", which is no level of this processor, so %s is used\n",
                  value, level);
-    atomic_store(&chosen, NULL);
+    chosen = NULL;
     level_variable = value;
     *said = '\0';
     expect(strcmp(yurewha_processor_level(), level) == 0, "the choice is the processor's highest level up to v3, or that named", in);
     expect(strcmp(said, line) == 0, "a line says whether a level was named that the processor lacks", in);
+    expect(strcmp(yurewha_kernels->level, level) == 0, "calls go to the kernels of the level", in);
     processor.asked = 0;
     expect(strcmp(yurewha_processor_level(), level) == 0 && processor.asked == 0, "a choice is made once", in);
 }
@@ -195,47 +181,24 @@ static void levels_are_named(void)
     }
 }
 
-/* The calls of the header, without their parameters, since a stub reads none. */
-#define ENTRY(of, type, hand_back, name, parameters, arguments) {#name, (void (*)(void))yurewha_##name},
-static const struct {
-    const char *name;
-    void (*make)(void);
-} header_calls[] = {CALLS(ENTRY, )};
-
-/* Each call goes to the library of the level. */
-static void calls_go_to_the_level(void)
-{
-    static const char *const rows[][2] = {
-        {"x86-64", "x86_64"}, {"x86-64-v2", "x86_64_v2"}, {"x86-64-v3", "x86_64_v3"}, {"x86-64-v4", "x86_64_v4"}};
-    have("x86-64-v4");
-    for (size_t i = 0; i < sizeof rows / sizeof *rows; i++) {
-        expect_choice(rows[i][0], rows[i][0], false, rows[i][0]);
-        for (size_t j = 0; j < sizeof header_calls / sizeof *header_calls; j++) {
-            header_calls[j].make();
-            expect(strcmp(level_called, rows[i][1]) == 0, "a call goes to the library of the level", rows[i][0]);
-            expect(strcmp(name_called, header_calls[j].name) == 0, "and to the call of its name", header_calls[j].name);
-        }
-    }
-}
-
 /* Another thread's choice that comes first is kept, and nothing is said. */
 static void another_thread_chooses_first(void)
 {
     have("x86-64-v3");
     expect_choice("x86-64-v2", "x86-64-v2", false, "");
-    of_other_thread = library();
+    of_other_thread = chosen;
     level_variable = "no level";
-    atomic_store(&chosen, NULL);
-    expect(library() == of_other_thread && atomic_load(&chosen) == of_other_thread && *said == '\0', "the first choice is kept", "");
+    chosen = NULL;
+    expect(level() == of_other_thread && chosen == of_other_thread && *said == '\0', "the first choice is kept", "");
+    expect(yurewha_kernels == &yurewha_x86_64_v2_kernels, "and calls go to its kernels", "");
     of_other_thread = NULL;
 }
 
 int main(void)
 {
-    expect(atomic_load(&chosen) != NULL, "the choice is made before main", "");
+    expect(chosen != NULL, "the choice is made before main", "");
     features_are_needed();
     levels_are_named();
-    calls_go_to_the_level();
     another_thread_chooses_first();
     return result();
 }

@@ -5,15 +5,19 @@ from __future__ import annotations
 import re
 import tempfile
 from pathlib import Path
+from typing import Iterable
 
 from avx512 import with_avx512
+from kernels import KERNELS, kernels_alone, table, with_stubs, without_stubs
 from levels import Level, version
 from proving import Fault, run, tool
 
 HEAD = """\
-/* Yurewha {version} for {level}: the proved library, as the toolchain compiles it. Made by dist/make, not by hand.
+/* Yurewha {version} for {level}: {what}, as the toolchain compiles it. Made by dist/make, not by hand.
    The sum of its sources: {sources} */
 """
+LIBRARY = "the proved library"
+KERNELS_ALONE = "the kernels of the proved library"
 #: A section that says two things of code for x86-64: that indirect calls and jumps arrive at `endbr64` alone (1, IBT), and that
 #: functions return to where they were called from (2, SHSTK), as a shadow stack requires. The linker keeps what all objects say.
 PROTECTION_NOTE = """\
@@ -70,24 +74,26 @@ def compiled(level: Level, work: Path) -> str:
 
 
 def assembly(level: Level, sources: str) -> str:
-    """The file of a level: what clang made, where exports have the level in their names, if the processor has several levels."""
+    """The file of a level: its library, if it is the first level of its processor, else its kernels."""
     with tempfile.TemporaryDirectory() as work:
-        text = NEEDLESS.sub("", compiled(level, Path(work)))
-    text = HEAP.sub(r"yurewha_heap_\1", text)
+        return finished(level, compiled(level, Path(work)), sources)
+
+
+def finished(level: Level, text: str, sources: str) -> str:
+    """The file of a level, of the assembly that clang made."""
+    text = HEAP.sub(r"yurewha_heap_\1", NEEDLESS.sub("", text))
     exports = re.findall(r"(?m)^\t\.globl\t(.*)$", text)
     if not exports or not all(re.fullmatch(r"yurewha_\w+", name) for name in exports):
         raise Fault(f"the module exports {', '.join(exports) or 'nothing'}")
-    for name in exports:
-        is_hidden = level.is_one_of_several
-        text = text.replace(f"\t.globl\t{name}\n", f"\t.globl\t{name}\n" + f"\t.hidden\t{name}\n" * is_hidden)
-    if level.processor == "x86_64":
-        text = PROTECTION_NOTE + with_branch_targets(text, exports)
-    text = re.sub(rf"(?<![\w:])({'|'.join(exports)})(?!\w|::)", lambda found: found[1].replace("yurewha_", level.prefix, 1), text)
-    return HEAD.format(version=version(), level=level.name, sources=sources) + text
+    if level.has_kernels:
+        text = with_branch_targets(text, [*exports, *KERNELS])
+        text = PROTECTION_NOTE + (with_stubs(text) if level.is_library else kernels_alone(text)) + table(level)
+    what = LIBRARY if level.is_library else KERNELS_ALONE
+    return HEAD.format(version=version(), level=level.name, what=what, sources=sources) + text
 
 
-def with_branch_targets(text: str, exports: list[str]) -> str:
-    """Assembly for x86-64 with `endbr64` at each export, for processors that let indirect calls arrive nowhere else.
+def with_branch_targets(text: str, targets: Iterable[str]) -> str:
+    """Assembly for x86-64 with `endbr64` at each export and kernel, for processors that let indirect calls arrive nowhere else.
 
     The library takes no function's address, so its other indirect jumps go to tables of its own, and say so by `notrack`. Assembly of
     which PROTECTION_NOTE would be false is refused.
@@ -96,11 +102,11 @@ def with_branch_targets(text: str, exports: list[str]) -> str:
         raise Fault("the library calls functions by their addresses")
     if other := OTHER_FRAME.search(text):
         raise Fault(f"the library may return elsewhere than to where it was called from: {other[0].strip()}")
-    for name in exports:
-        text = re.sub(rf"(?m)^({name}:\n(?:\t\.cfi_startproc\n)?)", r"\1\tendbr64\n", text)
+    for name in targets:
+        text = re.sub(rf'(?m)^("?{re.escape(name)}"?:\n(?:\t\.cfi_startproc\n)?)', r"\1\tendbr64\n", text)
     return INDIRECT_JUMP.sub("\tnotrack jmpq\t*", text)
 
 
-def instructions_alone(text: str) -> str:
-    """Assembly without what is beside the instructions of the proved library, so that each has the address that it has there."""
-    return ADDED.sub("", text.replace(PROTECTION_NOTE, ""))
+def instructions_alone(level: Level, text: str) -> str:
+    """A level's file without what dist/make adds to the proved library's instructions, so that each has the address that it has there."""
+    return ADDED.sub("", without_stubs(text.replace(PROTECTION_NOTE, "").replace(table(level), "")))

@@ -15,6 +15,10 @@ NOTHING = re.compile(r"(?:(?:data16|cs) )*(?:nop[wl]?\b|xchg +%ax,%ax$)")
 SYMBOL = re.compile(r"([0-9a-f]{16}) .{7} (\S.*)\t[0-9a-f]{16} (?:\.hidden )?(.+)")
 RELOCATION = re.compile(r"([0-9a-f]+) +(R_\w+) +(.+?)([+-]0x[0-9a-f]+)?")
 INSTRUCTION = re.compile(r" *([0-9a-f]+):\t(.*?) *")
+#: Sections of constants of a size, which ends the name.
+CONSTANTS = ".rodata.cst"
+#: A line of data: where it is, up to 16 bytes, and these as text.
+BYTES = re.compile(r" [0-9a-f]+ ((?:[0-9a-f]+ )+)")
 #: An address in the same section, to which a jump goes, and what objdump says of it.
 TARGET = re.compile(r"\b(?:0x)?([0-9a-f]+) <.*>$")
 #: Two kinds that mean the same, unless the symbol is another library's.
@@ -44,10 +48,12 @@ class Object:
     def __init__(self, objdump: str, path: Path) -> None:
         self.objdump, self.path = objdump, path
         self.data = {name: it for name, it in dumped(objdump, path, "-s").items() if name.startswith(".rodata")}
-        code = {name: self.code(lines) for name, lines in dumped(objdump, path, "-d", "--no-show-raw-insn").items()}
+        lines_of_code = dumped(objdump, path, "-d", "--no-show-raw-insn")
+        self.all_addresses = {name: [int(it[1], 16) for it in map(INSTRUCTION.fullmatch, lines) if it] for name, lines in lines_of_code.items()}
+        code = {name: self.code(lines) for name, lines in lines_of_code.items()}
         self.addresses = {name: [address for address, _ in lines] for name, lines in code.items()}
         self.instructions = {name: [self.numbered(name, text) for _, text in lines] for name, lines in code.items()}
-        raw = self.raw_relocations()
+        self.raw = raw = self.raw_relocations()
         self.tables = self.starts_of_tables(raw)
         self.relocations = {name: sorted(self.placed(name, it) for it in lines) for name, lines in raw.items()}
 
@@ -101,15 +107,51 @@ class Object:
         return relocation
 
 
+    def constant(self, section: str, relocation: Relocation) -> Relocation:
+        """A relocation of code for x86-64. If it points to a constant of a size, the constant stands in the place of where it is.
+
+        Such constants are in one section for each size, of which the linker keeps one of each.
+        """
+        at, kind, target, offset = relocation
+        if not target.startswith(CONSTANTS):
+            return self.placed(section, relocation)
+        # The place is relative to the end of the instruction.
+        addresses = self.all_addresses[section]
+        place = offset + addresses[bisect_right(addresses, at)] - at
+        size, data = int(target.removeprefix(CONSTANTS)), b"".join(bytes.fromhex(BYTES.match(line)[1]) for line in self.data[target])
+        start = place - place % size
+        return bisect_right(self.addresses[section], at) - 1, kind, data[start : start + size].hex(), place - start
+
+
+def first_difference(what: str, here: list, there: list) -> str | None:
+    """The first difference of two lists, or None."""
+    for number, (it, its) in enumerate(zip(here, there)):
+        if it != its:
+            return f"{what}, number {number}: {it} and {its}"
+    return None if len(here) == len(there) else f"{what}: {len(here)} and {len(there)}"
+
+
 def difference(first: Object, second: Object) -> str | None:
     """The first difference of two objects, or None."""
     for what in ("instructions", "relocations", "data"):
         one, other = getattr(first, what), getattr(second, what)
         for section in sorted({*one, *other}):
-            here, there = one.get(section, []), other.get(section, [])
-            for number, (it, its) in enumerate(zip(here, there)):
-                if it != its:
-                    return f"{what} of {section}, number {number}: {it} and {its}"
-            if len(here) != len(there):
-                return f"{what} of {section}: {len(here)} and {len(there)}"
+            if found := first_difference(f"{what} of {section}", one.get(section, []), other.get(section, [])):
+                return found
+    return None
+
+
+def difference_of_kernels(library: Object, kernels: Object) -> str | None:
+    """The first difference of some of a library's functions, and the data that they have, from those of the library, or None."""
+    for section, instructions in kernels.instructions.items():
+        found = first_difference(f"instructions of {section}", library.instructions.get(section, []), instructions)
+        here, there = ([it.constant(section, line) for line in it.raw.get(section, [])] for it in (library, kernels))
+        if found := found or first_difference(f"relocations of {section}", here, there):
+            return found
+    for section in kernels.data:
+        if not section.startswith(CONSTANTS):
+            for what in ("data", "relocations"):
+                here, there = (getattr(it, what).get(section, []) for it in (library, kernels))
+                if found := first_difference(f"{what} of {section}", here, there):
+                    return found
     return None

@@ -26,8 +26,10 @@ class Level:
     processor: str
     lanes: int
     flags: tuple[str, ...]
-    #: Whether the calls of this level have its name in theirs, since the processor has several levels.
-    is_one_of_several: bool
+    #: Whether the level's file has the whole library: it is the first level of its processor. The others' files have kernels alone.
+    is_library: bool
+    #: Whether there are kernels to choose from, since the processor has several levels.
+    has_kernels: bool
 
     @property
     def assembly(self) -> Path:
@@ -44,19 +46,14 @@ class Level:
         """Whether its functions differ from those of the object that the toolchain builds."""
         return self.name == TRANSLATED
 
-    @property
-    def prefix(self) -> str:
-        """How the names of the exported calls begin."""
-        return f"yurewha_{self.name.replace('-', '_')}_" if self.is_one_of_several else "yurewha_"
-
 
 def levels() -> list[Level]:
     """The levels of targets.txt, in its order."""
     lines = [line.split() for line in (DIST / "targets.txt").read_text().splitlines() if not line.startswith("#")]
     processors = [processor for _, processor, *_ in lines]
     return [
-        Level(name, processor, int(lanes), tuple(flags), processors.count(processor) > 1)
-        for name, processor, lanes, *flags in lines
+        Level(name, processor, int(lanes), tuple(flags), processors.index(processor) == at, processors.count(processor) > 1)
+        for at, (name, processor, lanes, *flags) in enumerate(lines)
     ]
 
 

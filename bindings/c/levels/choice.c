@@ -1,6 +1,6 @@
 /*
- * Prints the level that the library runs for, after it was chosen by the first calls that there can be: those of eight threads at
- * once, in a constructor that runs before the library's own.
+ * Prints the level that the library runs for. Eight threads at once make calls before it is chosen, choose it, and make calls after it,
+ * in a constructor that runs before the library's own.
  */
 #define _POSIX_C_SOURCE 200809L
 #include "yurewha.h"
@@ -11,13 +11,17 @@
 enum { THREADS = 8 };
 
 static const char text[] = "abc";
-static yurewha_hash hashes[THREADS];
+static yurewha_hash before[THREADS], after[THREADS];
+static const char *levels[THREADS];
 static pthread_barrier_t barrier;
 
-static void *call(void *hash)
+static void *call(void *number)
 {
+    const size_t i = (size_t)number;
     pthread_barrier_wait(&barrier);
-    yurewha_data_hash((const uint8_t *)text, sizeof text - 1, hash);
+    yurewha_data_hash((const uint8_t *)text, sizeof text - 1, &before[i]);
+    levels[i] = yurewha_processor_level();
+    yurewha_data_hash((const uint8_t *)text, sizeof text - 1, &after[i]);
     return NULL;
 }
 
@@ -26,7 +30,7 @@ __attribute__((constructor(101))) static void call_first(void)
     pthread_t threads[THREADS];
     pthread_barrier_init(&barrier, NULL, THREADS);
     for (size_t i = 0; i < THREADS; i++)
-        pthread_create(&threads[i], NULL, call, &hashes[i]);
+        pthread_create(&threads[i], NULL, call, (void *)i);
     for (size_t i = 0; i < THREADS; i++)
         pthread_join(threads[i], NULL);
     pthread_barrier_destroy(&barrier);
@@ -36,7 +40,8 @@ __attribute__((constructor(101))) static void call_first(void)
 int main(void)
 {
     for (size_t i = 0; i < THREADS; i++)
-        if (hashes[i].words[0] != 0xa8803506f7aff014)
+        if (before[i].words[0] != 0xa8803506f7aff014 || after[i].words[0] != 0xa8803506f7aff014 ||
+            levels[i] != yurewha_processor_level())
             return 1;
     return puts(yurewha_processor_level()) == EOF;
 }
