@@ -3478,7 +3478,6 @@
 	.type	"keyed_blake3::two_chunks::two_chunk_values",@function
 "keyed_blake3::two_chunks::two_chunk_values":
 	.cfi_startproc
-	endbr64
 	pushq	%rbp
 	.cfi_def_cfa_offset 16
 	pushq	%r15
@@ -8137,10 +8136,9 @@
 yurewha_x86_64_v3_kernels:
 	.quad	"keyed_blake3::keyed_hash"
 	.quad	"keyed_blake3::compression::compress"
-	.quad	"keyed_blake3::two_chunks::two_chunk_values"
 	.quad	"keyed_blake3::hasher::Hasher::update"
 	.quad	"keyed_blake3::hasher::Hasher::finalize"
 	.quad	"xet_roots::groups::two_parent_hashes"
 	.quad	"xet_roots::groups::write_text"
-	.size	yurewha_x86_64_v3_kernels, 56
+	.size	yurewha_x86_64_v3_kernels, 48
 

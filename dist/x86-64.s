@@ -4265,7 +4265,6 @@
 	.type	"keyed_blake3::two_chunks::two_chunk_values",@function
 "keyed_blake3::two_chunks::two_chunk_values":
 	.cfi_startproc
-	endbr64
 	pushq	%rbp
 	.cfi_def_cfa_offset 16
 	pushq	%r15
@@ -77306,23 +77305,13 @@ yurewha_stub_of_compress:
 	.cfi_endproc
 	.size	yurewha_stub_of_compress, .-yurewha_stub_of_compress
 
-	.section	.text.yurewha_stub_of_two_chunk_values,"ax",@progbits
-	.p2align	4
-	.type	yurewha_stub_of_two_chunk_values,@function
-yurewha_stub_of_two_chunk_values:
-	.cfi_startproc
-	movq	yurewha_kernels(%rip), %r11
-	jmpq	*16(%r11)
-	.cfi_endproc
-	.size	yurewha_stub_of_two_chunk_values, .-yurewha_stub_of_two_chunk_values
-
 	.section	.text.yurewha_stub_of_update,"ax",@progbits
 	.p2align	4
 	.type	yurewha_stub_of_update,@function
 yurewha_stub_of_update:
 	.cfi_startproc
 	movq	yurewha_kernels(%rip), %r11
-	jmpq	*24(%r11)
+	jmpq	*16(%r11)
 	.cfi_endproc
 	.size	yurewha_stub_of_update, .-yurewha_stub_of_update
 
@@ -77332,7 +77321,7 @@ yurewha_stub_of_update:
 yurewha_stub_of_finalize:
 	.cfi_startproc
 	movq	yurewha_kernels(%rip), %r11
-	jmpq	*32(%r11)
+	jmpq	*24(%r11)
 	.cfi_endproc
 	.size	yurewha_stub_of_finalize, .-yurewha_stub_of_finalize
 
@@ -77342,7 +77331,7 @@ yurewha_stub_of_finalize:
 yurewha_stub_of_two_parent_hashes:
 	.cfi_startproc
 	movq	yurewha_kernels(%rip), %r11
-	jmpq	*40(%r11)
+	jmpq	*32(%r11)
 	.cfi_endproc
 	.size	yurewha_stub_of_two_parent_hashes, .-yurewha_stub_of_two_parent_hashes
 
@@ -77352,7 +77341,7 @@ yurewha_stub_of_two_parent_hashes:
 yurewha_stub_of_write_text:
 	.cfi_startproc
 	movq	yurewha_kernels(%rip), %r11
-	jmpq	*48(%r11)
+	jmpq	*40(%r11)
 	.cfi_endproc
 	.size	yurewha_stub_of_write_text, .-yurewha_stub_of_write_text
 
@@ -77365,10 +77354,9 @@ yurewha_stub_of_write_text:
 yurewha_x86_64_kernels:
 	.quad	"keyed_blake3::keyed_hash"
 	.quad	"keyed_blake3::compression::compress"
-	.quad	"keyed_blake3::two_chunks::two_chunk_values"
 	.quad	"keyed_blake3::hasher::Hasher::update"
 	.quad	"keyed_blake3::hasher::Hasher::finalize"
 	.quad	"xet_roots::groups::two_parent_hashes"
 	.quad	"xet_roots::groups::write_text"
-	.size	yurewha_x86_64_kernels, 56
+	.size	yurewha_x86_64_kernels, 48
 

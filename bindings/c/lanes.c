@@ -1,7 +1,7 @@
 /*
  * The same bytes, hashed in different ways: as messages of one length, by one call each or by one call for all, and as messages
- * of 64 KiB by a hasher that takes pieces. And the root of a list, by calls that hash the texts of two groups at once, and by a call
- * for each text. bindings/c/test counts the instructions of each way.
+ * of 64 KiB by a hasher that takes pieces. The root of a list, by calls that hash the texts of two groups at once, and by a call
+ * for each text. And a single hash under a key. bindings/c/test counts the instructions of each way.
  */
 #include "harness.h"
 
@@ -77,7 +77,26 @@ static yurewha_hash hash_otherwise(const struct way *it, const uint8_t *message,
     return hash;
 }
 
-enum { CHUNKS = 1000, LEAST_OF_GROUP = 3, MOST_OF_GROUP = 9, LINE = 90 };
+/* A hash under a key, by the call for that, and by a hasher. */
+static void keyed(void)
+{
+    const yurewha_hash hash = {{1, 2, 3, 4}}, key = {{5, 6, 7, 8}};
+    yurewha_bytes bytes, of_key;
+    yurewha_hasher hasher;
+    yurewha_hash by_call, by_hasher;
+    row("hmac");
+    if (!is_wanted())
+        return;
+    yurewha_hmac(&hash, &key, &by_call);
+    yurewha_hash_to_bytes(&hash, &bytes);
+    yurewha_hash_to_bytes(&key, &of_key);
+    yurewha_hasher_begin_keyed(&hasher, &of_key);
+    EXPECT_STATUS(YUREWHA_DONE, yurewha_hasher_update(&hasher, bytes.bytes, sizeof bytes.bytes));
+    yurewha_hasher_finalize(&hasher, &by_hasher);
+    EXPECT(same_hash(&by_call, &by_hasher));
+}
+
+enum { LEAST_OF_GROUP = 3, MOST_OF_GROUP = 9, LINE = 90 };
 
 /* The length of the first group: up to a natural cut from the third node on, and of at most nine nodes. */
 static size_t group_of(const yurewha_chunk *nodes, size_t count)
@@ -120,19 +139,19 @@ static yurewha_hash root_by_texts(yurewha_chunk *nodes, size_t count)
 }
 
 /* One root by several calls. */
-static void roots(void)
+static void root_of(size_t count, const char *name)
 {
-    yurewha_chunk *chunks = list_of(NULL, CHUNKS);
+    yurewha_chunk *chunks = list_of(NULL, count);
     yurewha_hash root, of_tree, of_subtree;
     yurewha_hash_tree tree = {0};
-    yurewha_subtree subtree = range_of(chunks, 0, CHUNKS, true, true);
-    row("root of 1,000 chunks");
+    yurewha_subtree subtree = range_of(chunks, 0, count, true, true);
+    row("%s", name);
     if (is_wanted()) {
-        EXPECT_STATUS(YUREWHA_DONE, yurewha_xorb_hash(chunks, CHUNKS, &root));
-        EXPECT_STATUS(YUREWHA_DONE, yurewha_hash_tree_from_chunks(chunks, CHUNKS, &tree));
+        EXPECT_STATUS(YUREWHA_DONE, yurewha_xorb_hash(chunks, count, &root));
+        EXPECT_STATUS(YUREWHA_DONE, yurewha_hash_tree_from_chunks(chunks, count, &tree));
         EXPECT_STATUS(YUREWHA_DONE, yurewha_hash_tree_root(&tree, &of_tree));
         EXPECT_STATUS(YUREWHA_DONE, yurewha_subtree_final_hash(&subtree, &of_subtree));
-        const yurewha_hash by_texts = root_by_texts(chunks, CHUNKS);
+        const yurewha_hash by_texts = root_by_texts(chunks, count);
         EXPECT(same_hash(&root, &by_texts) && same_hash(&of_tree, &by_texts) && same_hash(&of_subtree, &by_texts));
     }
     yurewha_hash_tree_free(&tree);
@@ -142,7 +161,9 @@ static void roots(void)
 
 void test_lanes(void)
 {
-    roots();
+    root_of(1000, "root of 1,000 chunks");
+    root_of(LEAST_OF_GROUP, "root of one group");
+    keyed();
     uint8_t *bytes = block(ALL);
     yurewha_hash *hashes = block(MOST * sizeof *hashes);
     for (size_t i = 0; i < ALL; i++)

@@ -2,14 +2,15 @@
 
 from __future__ import annotations
 
+import functools
 import re
 import tempfile
 from pathlib import Path
 from typing import Iterable
 
 from avx512 import with_avx512
-from kernels import KERNELS, kernels_alone, table, with_stubs, without_stubs
-from levels import Level, version
+from kernels import KERNELS, kernels_alone, refuse_other_calls, table, with_stubs, without_stubs
+from levels import Level, levels, version
 from proving import Fault, run, tool
 
 HEAD = """\
@@ -51,30 +52,57 @@ def with_unwind_tables(text: str) -> str:
     return text
 
 
-def compiled(level: Level, work: Path) -> str:
-    """The assembly that the toolchain's clang makes of the level's module, by the words with which it makes the object.
-
-    A level that is translated gets AVX-512 for some functions. For x86-64 there are unwind tables, too. On aarch64 they would change instructions; there, frame pointers lead a debugger on.
-    """
-    clang, module = tool("clang"), level.folder / "module"
-    if level.processor == "x86_64":
-        run(clang, "-x", "ir", module, "-S", "-emit-llvm", "-Xclang", "-disable-llvm-passes", "-o", work / "module.ll")
-        module = work / "module.ll"
-        text = with_unwind_tables(module.read_text())
-        module.write_text(with_avx512(text) if level.is_translated else text)
+def clang(level: Level, module: Path, to: Path, *more: str) -> None:
+    """Compiles a module by the words with which the toolchain's clang makes the object of a level, to assembly, or as `more` says."""
     words = [word for word in (level.folder / "words").read_text().split("\0")[:-1] if not word.startswith("--sysroot")]
     try:
         words[words.index("-c")] = "-S"
         words[words.index("-x") + 2] = str(module)
-        words[words.index("-o") + 1] = str(work / "module.s")
+        words[words.index("-o") + 1] = str(to)
     except ValueError:
         raise Fault(f"the toolchain calls clang in another way: {' '.join(words)}") from None
-    run(clang, *words, "-fno-addrsig", "-fno-verbose-asm")
-    return (work / "module.s").read_text()
+    run(tool("clang"), *words, "-fno-addrsig", "-fno-verbose-asm", *more)
+
+
+def module_of(level: Level, work: Path) -> Path:
+    """The level's module. For x86-64, its functions ask for unwind tables.
+
+    On aarch64 these would change instructions; there, frame pointers lead a debugger on.
+    """
+    if level.processor != "x86_64":
+        return level.folder / "module"
+    module = work / "module.ll"
+    run(tool("clang"), "-x", "ir", level.folder / "module", "-S", "-emit-llvm", "-Xclang", "-disable-llvm-passes", "-o", module)
+    module.write_text(with_unwind_tables(module.read_text()))
+    return module
+
+
+@functools.lru_cache(maxsize=None)
+def optimized(level: Level) -> str:
+    """The level's module as LLVM has it when it begins to choose instructions."""
+    with tempfile.TemporaryDirectory() as work:
+        made = Path(work, "optimized.ll")
+        clang(level, module_of(level, Path(work)), made, "-emit-llvm")
+        return made.read_text()
+
+
+def compiled(level: Level, work: Path) -> str:
+    """The assembly that the toolchain's clang makes of the level's module. A level that is translated gets AVX-512 for some functions."""
+    made = work / "module.s"
+    if level.is_translated:
+        module = work / "translated.ll"
+        module.write_text(with_avx512(optimized(level)))
+        clang(level, module, made, "-Xclang", "-disable-llvm-passes")
+    else:
+        clang(level, module_of(level, work), made)
+    return made.read_text()
 
 
 def assembly(level: Level, sources: str) -> str:
     """The file of a level: its library, if it is the first level of its processor, else its kernels."""
+    if not level.is_library:
+        library = next(it for it in levels() if it.processor == level.processor)
+        refuse_other_calls(optimized(library), optimized(level), level.name)
     with tempfile.TemporaryDirectory() as work:
         return finished(level, compiled(level, Path(work)), sources)
 

@@ -10,6 +10,7 @@ import re
 import subprocess
 from bisect import bisect_left, bisect_right
 from pathlib import Path
+from typing import Sequence
 
 NOTHING = re.compile(r"(?:(?:data16|cs) )*(?:nop[wl]?\b|xchg +%ax,%ax$)")
 SYMBOL = re.compile(r"([0-9a-f]{16}) .{7} (\S.*)\t[0-9a-f]{16} (?:\.hidden )?(.+)")
@@ -18,7 +19,7 @@ INSTRUCTION = re.compile(r" *([0-9a-f]+):\t(.*?) *")
 #: Sections of constants of a size, which ends the name.
 CONSTANTS = ".rodata.cst"
 #: A line of data: where it is, up to 16 bytes, and these as text.
-BYTES = re.compile(r" [0-9a-f]+ ((?:[0-9a-f]+ )+)")
+BYTES = re.compile(r"(?m)^ [0-9a-f]+ ((?:[0-9a-f]+ )+)")
 #: An address in the same section, to which a jump goes, and what objdump says of it.
 TARGET = re.compile(r"\b(?:0x)?([0-9a-f]+) <.*>$")
 #: Two kinds that mean the same, unless the symbol is another library's.
@@ -118,12 +119,12 @@ class Object:
         # The place is relative to the end of the instruction.
         addresses = self.all_addresses[section]
         place = offset + addresses[bisect_right(addresses, at)] - at
-        size, data = int(target.removeprefix(CONSTANTS)), b"".join(bytes.fromhex(BYTES.match(line)[1]) for line in self.data[target])
+        size, data = int(target.removeprefix(CONSTANTS)), bytes.fromhex("".join(BYTES.findall("\n".join(self.data[target]))))
         start = place - place % size
         return bisect_right(self.addresses[section], at) - 1, kind, data[start : start + size].hex(), place - start
 
 
-def first_difference(what: str, here: list, there: list) -> str | None:
+def first_difference(what: str, here: Sequence[object], there: Sequence[object]) -> str | None:
     """The first difference of two lists, or None."""
     for number, (it, its) in enumerate(zip(here, there)):
         if it != its:

@@ -17,7 +17,6 @@ from proving import Fault
 KERNELS = (
     "keyed_blake3::keyed_hash",
     "keyed_blake3::compression::compress",
-    "keyed_blake3::two_chunks::two_chunk_values",
     "keyed_blake3::hasher::Hasher::update",
     "keyed_blake3::hasher::Hasher::finalize",
     "xet_roots::groups::two_parent_hashes",
@@ -45,11 +44,37 @@ TABLE = """\
 {entries}	.size	{table}, {size}
 
 """
+#: Attributes of a function that say for which processor it is compiled, how its frame is aligned, and that it has an unwind table.
+OF_PROCESSOR = re.compile(r'"(?:target-cpu|target-features|tune-cpu|min-legal-vector-width)"="[^"]*" ?|\b(?:uwtable|alignstack=\d+) ?')
+VECTOR = re.compile(r"<(\d+) x i(\d+)>")
 #: What begins a section, with the line that says of an object that it is one.
 SECTION = re.compile(r"(?m)^(?:\t\.type\t\S+,@object\n)?\t\.section\t(.*)\n")
 LABEL = re.compile(r'(?m)^("[^"\n]*"|[\w.$]+):')
 NAME = re.compile(r'"[^"\n]*"|[A-Za-z_.$][\w.$]*')
 END = '\t.section\t".note.GNU-stack","",@progbits\n'
+
+
+def calls_of_kernels(module: str) -> dict[str, str]:
+    """How each kernel is called in a module that LLVM has optimized: what it says of the result, the parameters and the function."""
+    groups = dict(re.findall(r"(?m)^attributes #(\d+) = \{ (.*) \}$", module))
+    found = {}
+    for kernel in KERNELS:
+        head = re.search(rf'(?m)^define (.*)@"{re.escape(kernel)}"(\(.*)#(\d+) \{{$', module)
+        if not head:
+            raise Fault(f"the module has no function {kernel}")
+        found[kernel] = f"{head[1]}{re.sub(r' %[^ ,()]+', '', head[2])}{OF_PROCESSOR.sub('', groups[head[3]])}"
+    return found
+
+
+def refuse_other_calls(library: str, kernels: str, level: str) -> None:
+    """Refuses kernels of a module that a library, which is of another one, would call in another way."""
+    called, of_level = calls_of_kernels(library), calls_of_kernels(kernels)
+    for kernel in KERNELS:
+        if called[kernel] != of_level[kernel]:
+            raise Fault(f"{kernel} is called as {called[kernel]}, and at {level} as {of_level[kernel]}")
+        # How a longer vector is passed depends on the processor.
+        if any(int(count) * int(bits) > 128 for count, bits in VECTOR.findall(called[kernel])):
+            raise Fault(f"{kernel} is called with long vectors: {called[kernel]}")
 
 
 def stub(kernel: str) -> str:
