@@ -12,12 +12,14 @@ A word is an int, or a `Node`. Two nodes with the same normal form are one objec
 Each function gives a word that stands for exactly what its name says, for every value of the symbols. So two words that are the same
 object have the same value. Words that differ may still be equal; that would be a false alarm.
 
-A sealed word counts as one atom in the words that are made of it. That keeps sums and exclusive ors short.
+A sealed word counts as one atom in the words that are made of it. That keeps sums and exclusive ors short. So words that are made
+while others are sealed may differ in form from those that are made later, and aren't to be compared with them.
 """
 
 from __future__ import annotations
 
-from typing import Any, Callable, Dict, List, Tuple, Union
+from contextlib import contextmanager
+from typing import Any, Callable, Dict, Iterator, List, Tuple, Union
 
 M32 = 0xFFFFFFFF
 M64 = 0xFFFFFFFFFFFFFFFF
@@ -42,6 +44,7 @@ Term = Tuple[Node, int, int]
 Value = Union[int, Node, Tuple[Word, Word]]
 
 _NODES: Dict[Tuple[Any, ...], Node] = {}
+_SEALED: List[Node] = []
 
 
 def node(form: str, *parts: object) -> Node:
@@ -56,6 +59,7 @@ def node(form: str, *parts: object) -> Node:
 def forget() -> None:
     """Forgets all nodes. Words that were made before must not be compared with later ones."""
     _NODES.clear()
+    _SEALED.clear()
 
 
 def symbol(name: str) -> Node:
@@ -69,9 +73,19 @@ def unknown() -> Node:
 
 def seal(word: Word) -> Word:
     """The word, which is an atom from now on."""
-    if isinstance(word, Node):
+    if isinstance(word, Node) and not word.is_sealed:
         word.is_sealed = True
+        _SEALED.append(word)
     return word
+
+
+@contextmanager
+def seals_taken_back() -> Iterator[None]:
+    """Takes back, at its end, the seals that were made within it."""
+    count = len(_SEALED)
+    yield
+    while len(_SEALED) > count:
+        _SEALED.pop().is_sealed = False
 
 
 def add(*words: Word) -> Word:
