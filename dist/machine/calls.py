@@ -9,6 +9,7 @@ from image import Fault
 from layout import Library
 from machine import Machine
 from operands import R8, R9, R12, R13, R14, R15, RAX, RBP, RBX, RCX, RDI, RDX, RSI, RSP
+from wanted import Wanted
 from words import Value, Word, byte, forget, symbol
 
 #: The keys of the hashes of chunks and of texts, as crates/xet_hash/specs/Hash.antt has them.
@@ -66,23 +67,17 @@ class Caller:
         return m.general[RAX]
 
 
-def must_be(found: Sequence[Word], wanted: Sequence[Word], what: str) -> None:
-    """Refuses words that differ from those of the definition."""
-    if wrong := [i for i, (x, y) in enumerate(zip(found, wanted)) if x != y]:
-        raise Fault(f"{what}: {len(wrong)} words differ from the definition, the first of them word {wrong[0]}")
-
-
 def check_hash(library: Library, name: str, length: int, shifts: Tuple[int, int] = PLACES[0]) -> Machine:
     """`data_hash` or `internal_node_hash`, for every message of a length, at places that are shifted. Returns the machine that ran it."""
     forget()
     message, stack = MESSAGE + shifts[0], STACK - shifts[1]
     data = bytes_of("message", length)
-    wanted = keyed_hash(DATA_KEY if name == "data_hash" else INTERNAL_KEY, data)
+    wanted = Wanted(keyed_hash, DATA_KEY if name == "data_hash" else INTERNAL_KEY, data)
     caller = Caller(library, stack)
     caller.m.memory.add_bytes(message, data)
     caller.m.memory.add_region(RESULT, 32, True)
     caller.call(name, message, length, RESULT)
-    must_be(caller.m.memory.load(RESULT, 8), wanted, f"{name} of {length} bytes")
+    wanted.must_be(caller.m.memory.load(RESULT, 8), f"{name} of {length} bytes")
     return caller.m
 
 
@@ -90,11 +85,11 @@ def check_hmac(library: Library) -> Machine:
     """`hmac`, for every hash and every key."""
     forget()
     data, key = bytes_of("hash", 32), bytes_of("key", 32)
-    wanted = keyed_hash(key, data)
+    wanted = Wanted(keyed_hash, key, data)
     caller = Caller(library)
     caller.m.memory.add_bytes(MESSAGE, data)
     caller.m.memory.add_bytes(KEY, key)
     caller.m.memory.add_region(RESULT, 32, True)
     caller.call("hmac", MESSAGE, KEY, RESULT)
-    must_be(caller.m.memory.load(RESULT, 8), wanted, "hmac")
+    wanted.must_be(caller.m.memory.load(RESULT, 8), "hmac")
     return caller.m

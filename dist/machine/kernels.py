@@ -9,9 +9,10 @@ from __future__ import annotations
 from functools import partial
 from typing import Callable, Iterable, Iterator, List, Sequence, Tuple
 
-from calls import Caller, must_be
+from calls import Caller
 from definition import CHUNK_END, CHUNK_START, KEYED_HASH, compress, parent_value
 from layout import Library, inner
+from wanted import Wanted
 from words import Value, Word, add_64, forget, high, low, symbol, unknown
 
 #: Where the checks put what a function reads or writes, each place at an address that isn't a multiple of 32 where it needn't be.
@@ -33,8 +34,14 @@ def upper_unknown(word: Word) -> Value:
     return word, unknown()
 
 
-def flat(rows: Iterable[Iterable[Word]]) -> List[Word]:
-    return [word for row in rows for word in row]
+def side_by_side(values: Iterable[Sequence[Word]]) -> List[Word]:
+    """Values of lanes as vectors have them: the first words of all, then the second ones."""
+    return [word for row in zip(*values) for word in row]
+
+
+def indices(places: Sequence[int]) -> List[Word]:
+    """Numbers of 64 bits as words."""
+    return [word for place in places for word in (place, 0)]
 
 
 class Kernel:
@@ -63,10 +70,10 @@ class Kernel:
             width = widths[blocks - 1]
             self.vectors = [words[i:i + width] for i in range(0, len(words), width)]
 
-    def must_give(self, wanted: Sequence[Word], what: str) -> int:
-        """Runs the function, whose result must be these words. Returns how many instructions it ran."""
+    def must_give(self, wanted: Wanted, what: str) -> int:
+        """Runs the function, whose result must be as wanted. Returns how many instructions it ran."""
         self.caller.run(self.name, self.arguments, self.vectors)
-        must_be(self.memory.load(RESULT, self.size), wanted, f"{self.name}, {what}")
+        wanted.must_be(self.memory.load(RESULT, self.size), f"{self.name}, {what}")
         return self.caller.m.steps
 
 
@@ -74,7 +81,7 @@ def check_compress(library: Library) -> int:
     """One block."""
     forget()
     h, block, counter, length, flags = symbols("h", 8), symbols("m", 16), counter_of("counter"), symbol("length"), symbol("flags")
-    wanted = compress(h, block, counter, length, flags)
+    wanted = Wanted(compress, h, block, counter, length, flags)
     kernel = Kernel(library, "compression::compress", [unknown() for _ in range(8)])
     kernel.give_value(FIRST, h, 1)
     kernel.give_at(SECOND, block)
@@ -87,12 +94,17 @@ def check_compress_two(library: Library) -> int:
     forget()
     values = [symbols(f"h{k}", 8) for k in (0, 1)]
     blocks = [(symbols(f"m{k}", 16), counter_of(f"counter{k}"), symbol(f"length{k}"), symbol(f"flags{k}")) for k in (0, 1)]
-    first, second = (compress(h, *block) for h, block in zip(values, blocks))
+    wanted = Wanted(two_blocks, values, blocks)
     kernel = Kernel(library, "compression::two::compress_two", [unknown() for _ in range(16)])
     kernel.give_value(FIRST, beside(*values), 2)
     for place, (words, counter, length, flags) in zip((SECOND, THIRD), blocks):
         kernel.give_at(place, [*words, low(counter), high(counter), length, flags])
-    return kernel.must_give(beside(first, second), "two blocks")
+    return kernel.must_give(wanted, "two blocks")
+
+
+def two_blocks(values: Sequence[Sequence[Word]], blocks: Sequence[Tuple[Sequence[Word], Value, Word, Word]]) -> List[Word]:
+    first, second = (compress(h, *block) for h, block in zip(values, blocks))
+    return beside(first, second)
 
 
 def beside(first: Sequence[Word], second: Sequence[Word]) -> List[Word]:
@@ -107,16 +119,20 @@ def check_take_block(library: Library, n: int, places: Sequence[int]) -> int:
     h = [symbols(f"h{j}", 8) for j in range(lanes)]
     blocks, counters = [symbols(f"m{j}", 16) for j in range(lanes)], [counter_of(f"counter{j}") for j in range(lanes)]
     flags = symbol("flags")
-    wanted = [compress(h[j], blocks[j], counters[j], 64, flags) for j in range(lanes)]
-    kernel = Kernel(library, "chunks::take_block", flat(zip(*h)))
+    wanted = Wanted(block_of_each, h, blocks, counters, flags)
+    kernel = Kernel(library, "chunks::take_block", side_by_side(h))
     for place, block in zip(places, blocks):
         kernel.memory.add_words(CHUNKS + 1024 * place + 64 * n, block)
     kernel.give(CHUNKS)
-    kernel.give_at(FIRST, flat([place, 0] for place in places))
+    kernel.give_at(FIRST, indices(places))
     kernel.give(n)
     kernel.give_at(SECOND, [*map(low, counters), *map(high, counters)])
     kernel.give(upper_unknown(flags))
-    return kernel.must_give(flat(zip(*wanted)), f"block {n} of chunks at {list(places)}")
+    return kernel.must_give(wanted, f"block {n} of chunks at {list(places)}")
+
+
+def block_of_each(h: Sequence[Sequence[Word]], blocks: Sequence[Sequence[Word]], counters: Sequence[Value], flags: Word) -> List[Word]:
+    return side_by_side(compress(*lane, 64, flags) for lane in zip(h, blocks, counters))
 
 
 def check_chunk_values(library: Library, places: Sequence[int]) -> int:
@@ -124,15 +140,19 @@ def check_chunk_values(library: Library, places: Sequence[int]) -> int:
     forget()
     key, first = symbols("key", 8), counter_of("first")
     chunks = [symbols(f"chunk {j}", 256) for j in range(len(places))]
-    wanted = [value_of_chunk(key, add_64(first, place), chunk) for place, chunk in zip(places, chunks)]
+    wanted = Wanted(chunk_of_each, key, first, places, chunks)
     kernel = Kernel(library, "chunks::chunk_values", [unknown() for _ in range(8 * len(places))])
     for place, chunk in zip(places, chunks):
         kernel.memory.add_words(CHUNKS + 1024 * place, chunk)
     kernel.give_at(FIRST, key)
     kernel.give(CHUNKS)
-    kernel.give_at(SECOND, flat([place, 0] for place in places))
+    kernel.give_at(SECOND, indices(places))
     kernel.give(first)
-    return kernel.must_give(flat(zip(*wanted)), f"chunks at {list(places)}")
+    return kernel.must_give(wanted, f"chunks at {list(places)}")
+
+
+def chunk_of_each(key: Sequence[Word], first: Value, places: Sequence[int], chunks: Sequence[Sequence[Word]]) -> List[Word]:
+    return side_by_side(value_of_chunk(key, add_64(first, place), chunk) for place, chunk in zip(places, chunks))
 
 
 def value_of_chunk(key: Sequence[Word], number: Value, words: Sequence[Word]) -> Sequence[Word]:
@@ -151,12 +171,15 @@ def check_parents(library: Library, name: str) -> int:
     key = symbols("key", 8)
     left, right = ([symbols(f"{side} {j}", 8) for j in range(lanes)] for side in ("left", "right"))
     both = [*left, *right]
-    pairs = list(zip(left, right)) if name == "values_above" else list(zip(both[::2], both[1::2]))
-    wanted = [parent_value(key, *it, 0) for it in pairs]
+    wanted = Wanted(parent_of_each, key, *((left, right) if name == "values_above" else (both[::2], both[1::2])))
     kernel = Kernel(library, f"subtrees::{name}", [unknown() for _ in range(8 * lanes)])
-    for place, words in ((FIRST, key), (SECOND, flat(zip(*left))), (THIRD, flat(zip(*right)))):
+    for place, words in ((FIRST, key), (SECOND, side_by_side(left)), (THIRD, side_by_side(right))):
         kernel.give_at(place, words)
-    return kernel.must_give(flat(zip(*wanted)), "parents")
+    return kernel.must_give(wanted, "parents")
+
+
+def parent_of_each(key: Sequence[Word], left: Sequence[Sequence[Word]], right: Sequence[Sequence[Word]]) -> List[Word]:
+    return side_by_side(parent_value(key, *pair, 0) for pair in zip(left, right))
 
 
 def checks(library: Library) -> Iterator[Tuple[str, Callable[[], int]]]:

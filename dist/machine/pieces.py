@@ -6,11 +6,12 @@ from dataclasses import dataclass
 from itertools import accumulate
 from typing import Dict, Iterator, List, Sequence, Set
 
-from calls import DATA_KEY, INTERNAL_KEY, KEY, MESSAGE, RESULT, Caller, bytes_of, must_be
+from calls import DATA_KEY, INTERNAL_KEY, KEY, MESSAGE, RESULT, Caller, bytes_of
 from definition import keyed_hash
 from image import Fault
 from layout import Library
 from machine import Machine
+from wanted import Wanted
 from words import Word, forget, low, seals_taken_back
 
 #: Where the hasher is, and how many bytes it has.
@@ -100,8 +101,8 @@ def check_pieces(library: Library, pieces: Pieces) -> Machine:
     for start, length in zip(accumulate([0, *pieces.lengths]), [*pieces.lengths, 0]):
         if start in pieces.ends:
             with seals_taken_back():
-                wanted = keyed_hash(key, message[:start])
-                must_be(hasher.hash(), wanted, f"{start} bytes in pieces ({pieces.what}, {pieces.begin})")
+                wanted = Wanted(keyed_hash, key, message[:start])
+                wanted.must_be(hasher.hash(), f"{start} bytes in pieces ({pieces.what}, {pieces.begin})")
         hasher.update(MESSAGE + start, message[start:start + length])
     if hasher.count() != len(message):
         raise Fault(f"a hasher says that it has other than {len(message)} bytes")
