@@ -5,64 +5,91 @@ from __future__ import annotations
 from typing import Dict, List, Sequence, Tuple
 
 from definition import keyed_hash
-from image import Fault, Image
-from machine import Machine, Step
-from operands import R12, R13, R14, R15, RBP, RBX, RDI, RDX, RSI, RSP
-from words import Word, byte, forget, symbol
+from image import Fault
+from layout import Library
+from machine import Machine
+from operands import R8, R9, R12, R13, R14, R15, RAX, RBP, RBX, RCX, RDI, RDX, RSI, RSP
+from wanted import Wanted
+from words import Value, Word, byte, forget, symbol
 
-#: The key of the hashes of chunks, as crates/xet_hash/specs/Hash.antt has it.
+#: The keys of the hashes of chunks and of texts, as crates/xet_hash/specs/Hash.antt has them.
 DATA_KEY = bytes((
     102, 151, 245, 119, 91, 149, 80, 222, 49, 53, 203, 172, 165, 151, 24, 28, 157, 228, 33, 16, 155, 235, 43, 88, 180, 208, 176, 75, 147,
     173, 242, 41,
 ))
-#: The registers that a function gives back as they were.
-KEPT = (RBX, RBP, R12, R13, R14, R15)
-STACK, STACK_SIZE, MESSAGE, RESULT = 0x7FFF0000, 65536, 0x10000000, 0x20000010
+INTERNAL_KEY = bytes((
+    1, 126, 197, 199, 165, 71, 41, 150, 253, 148, 102, 102, 180, 138, 2, 230, 93, 221, 83, 111, 55, 199, 109, 210, 248, 99, 82, 230, 74, 83,
+    113, 63,
+))
+#: The registers of arguments in their order, and those that a function gives back as they were.
+ARGUMENTS, KEPT = (RDI, RSI, RDX, RCX, R8, R9), (RBX, RBP, R12, R13, R14, R15)
+STACK, STACK_SIZE = 0x7FFF00000000, 65536
+#: Where messages, results and keys are, and how far from these places, and from the top of the stack, a call may have its own instead.
+MESSAGE, RESULT, KEY = 0x10000000, 0x20000010, 0x24000008
+PLACES = ((0, 0), (1, 16), (6, 64))
 
-Decoded = Dict[int, Tuple[Step, int]]
 
-
-def message_of(length: int) -> List[Word]:
-    """The bytes of a message of symbols."""
-    words = [symbol(f"message {i}") for i in range((length + 3) // 4)]
+def bytes_of(name: str, length: int) -> List[Word]:
+    """Bytes of symbols."""
+    words = [symbol(f"{name} {i}") for i in range((length + 3) // 4)]
     return [byte(words[i // 4], i % 4) for i in range(length)]
 
 
-def prepared(image: Image, decoded: Decoded, stack: int = STACK) -> Machine:
-    """A machine with a stack, and with symbols in all registers."""
-    m = Machine(image, decoded)
-    m.general[RSP] = stack
-    m.memory.add_region(stack - STACK_SIZE, STACK_SIZE, True)
-    return m
+class Caller:
+    """A machine that calls functions of a library, one after the other."""
+
+    def __init__(self, library: Library, stack: int = STACK) -> None:
+        self.library, self.stack = library, stack
+        self.m = Machine(library.image, library.decoded)
+
+    def call(self, name: str, *arguments: Value) -> Value:
+        """Calls the library by the rules of C. Returns what it returns."""
+        return self.run(self.library.call(name), arguments)
+
+    def run(self, function: str, arguments: Sequence[Value], vectors: Sequence[Sequence[Word]] = ()) -> Value:
+        """Runs a function on a new stack, with values in the registers of arguments and in the first vectors. Everything else is unknown.
+        It has to leave the stack pointer and some registers as they were."""
+        m = self.m
+        m.forget_registers()
+        m.general[RSP] = self.stack
+        for register, value in zip(ARGUMENTS, arguments):
+            m.general[register] = value
+        for i, words in enumerate(vectors):
+            m.vectors[i][:len(words)] = words
+        before = {register: m.general[register] for register in (RSP, *KEPT)}
+        m.memory.add_region(self.stack - STACK_SIZE, STACK_SIZE, True)
+        m.call(m.image.function(function))
+        m.memory.remove_region(self.stack - STACK_SIZE)
+        self.stack -= STACK_SIZE
+        for register, value in before.items():
+            if m.general[register] != value:
+                raise Fault(f"{function} leaves another value in register {register}")
+        return m.general[RAX]
 
 
-def run(m: Machine, function: str) -> None:
-    """Runs a function, which has to leave the stack and some registers as they were."""
-    before = {register: m.general[register] for register in (RSP, *KEPT)}
-    m.call(m.image.function(function))
-    for register, value in before.items():
-        if m.general[register] != value:
-            raise Fault(f"{function} leaves another value in register {register}")
-
-
-def must_be(found: Sequence[Word], wanted: Sequence[Word], what: str) -> None:
-    """Refuses words that differ from those of the definition."""
-    if wrong := [i for i, (x, y) in enumerate(zip(found, wanted)) if x != y]:
-        raise Fault(f"{what}: {len(wrong)} words differ from the definition, the first of them word {wrong[0]}")
-
-
-def check_data_hash(image: Image, function: str, length: int, decoded: Decoded, message: int = MESSAGE, stack: int = STACK) -> Machine:
-    """Shows that `data_hash` computes the definition for every message of a length, at a place in memory, on a stack.
-
-    Returns the machine that ran it.
-    """
+def check_hash(library: Library, name: str, length: int, shifts: Tuple[int, int] = PLACES[0]) -> Machine:
+    """`data_hash` or `internal_node_hash`, for every message of a length, at places that are shifted. Returns the machine that ran it."""
     forget()
-    data = message_of(length)
-    wanted = keyed_hash(DATA_KEY, data)
-    m = prepared(image, decoded, stack)
-    m.memory.add_bytes(message, data)
-    m.memory.add_region(RESULT, 32, True)
-    m.general[RDI], m.general[RSI], m.general[RDX] = message, length, RESULT
-    run(m, function)
-    must_be(m.memory.load(RESULT, 8), wanted, f"{length} bytes")
-    return m
+    message, stack = MESSAGE + shifts[0], STACK - shifts[1]
+    data = bytes_of("message", length)
+    wanted = Wanted(keyed_hash, DATA_KEY if name == "data_hash" else INTERNAL_KEY, data)
+    caller = Caller(library, stack)
+    caller.m.memory.add_bytes(message, data)
+    caller.m.memory.add_region(RESULT, 32, True)
+    caller.call(name, message, length, RESULT)
+    wanted.must_be(caller.m.memory.load(RESULT, 8), f"{name} of {length} bytes")
+    return caller.m
+
+
+def check_hmac(library: Library) -> Machine:
+    """`hmac`, for every hash and every key."""
+    forget()
+    data, key = bytes_of("hash", 32), bytes_of("key", 32)
+    wanted = Wanted(keyed_hash, key, data)
+    caller = Caller(library)
+    caller.m.memory.add_bytes(MESSAGE, data)
+    caller.m.memory.add_bytes(KEY, key)
+    caller.m.memory.add_region(RESULT, 32, True)
+    caller.call("hmac", MESSAGE, KEY, RESULT)
+    wanted.must_be(caller.m.memory.load(RESULT, 8), "hmac")
+    return caller.m

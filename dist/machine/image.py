@@ -1,4 +1,4 @@
-"""A file of dist/, assembled and linked at a fixed address, and its instructions, as objdump reads them."""
+"""Files of dist/, assembled and linked at a fixed address, and their instructions, as objdump reads them."""
 
 from __future__ import annotations
 
@@ -76,11 +76,16 @@ def segments_of(data: bytes) -> List[Segment]:
     return found
 
 
-def linked(assembly: Path, assembler: Sequence[str], work: Path) -> Image:
-    """The image of a file of assembly by a compiler, made in a folder."""
-    subprocess.run([*assembler, "-c", assembly, "-o", work / "part.o"], check=True)
+def linked(texts: Sequence[str], assembler: Sequence[str], work: Path) -> Image:
+    """The image of some files of assembly by a compiler, made in a folder."""
+    parts = []
+    for number, text in enumerate(texts):
+        source, part = work / f"part{number}.s", work / f"part{number}.o"
+        source.write_text(text)
+        subprocess.run([*assembler, "-c", source, "-o", part], check=True)
+        parts.append(part)
     outside = [word for name, place in OUTSIDE.items() for word in ("--defsym", f"{name}={place:#x}")]
-    subprocess.run(["ld", "-o", work / "linked", work / "part.o", "-e", "0x400000", "-Ttext-segment=0x400000", *outside], check=True)
+    subprocess.run(["ld", "-o", work / "linked", *parts, "-e", "0x400000", "-Ttext-segment=0x400000", *outside], check=True)
     return Image(work / "linked")
 
 

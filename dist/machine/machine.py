@@ -39,9 +39,10 @@ class Machine:
         self.image = image
         #: What the instructions do that were met, and where the next one is; shared by the machines of an image.
         self.decoded = decoded
-        self.general: List[Value] = [unknown_value() for _ in range(16)]
-        self.vectors: List[List[Word]] = [[unknown() for _ in range(16)] for _ in range(32)]
+        self.general: List[Value] = []
+        self.vectors: List[List[Word]] = []
         self.flags: Flags = None
+        self.forget_registers()
         self.memory = Memory()
         self.steps = 0
         #: Branches that were run, and whether each was taken.
@@ -51,6 +52,12 @@ class Machine:
             if not segment.is_code:
                 data = segment.data + bytes(-len(segment.data) % 4)
                 self.memory.add_words(segment.start, [int.from_bytes(data[i:i + 4], "little") for i in range(0, len(data), 4)])
+
+    def forget_registers(self) -> None:
+        """Makes all registers and flags unknown."""
+        self.general = [unknown_value() for _ in range(16)]
+        self.vectors = [[unknown() for _ in range(16)] for _ in range(32)]
+        self.flags = None
 
     # ---- Registers and values in memory
 

@@ -17,6 +17,14 @@ class Memory:
     def add_region(self, start: int, size: int, is_writable: bool) -> None:
         self.regions.append((start, start + size, is_writable))
 
+    def remove_region(self, start: int) -> None:
+        """Allows the region that starts here no more."""
+        self.regions = [region for region in self.regions if region[0] != start]
+
+    def words_at(self, start: int, count: int) -> List[Word]:
+        """Words of memory, whether they may be read or not."""
+        return [self._word(start + 4 * i) for i in range(count)]
+
     def add_words(self, start: int, words: List[Word], is_writable: bool = False) -> int:
         """Adds a region with these words, and returns where it starts."""
         self.add_region(start, 4 * len(words), is_writable)

@@ -6,6 +6,8 @@ import re
 from dataclasses import dataclass
 from typing import Dict, List
 
+from layout import part_of
+
 Z = r"%zmm\d+"
 Y = r"%ymm\d+"
 X = r"%xmm\d+"
@@ -24,8 +26,7 @@ class Plant:
 
     def applied_to(self, text: str) -> str:
         """The text of a level with the error, which has to change something."""
-        start = text.index(f'\n"keyed_blake3::{self.function}":\n')
-        end = text.index(".Lfunc_end", start)
+        start, end = part_of(text, self.function)
         found = list(re.finditer(self.pattern, text[start:end]))
         place = found[self.which]
         changed = place.expand(self.by)

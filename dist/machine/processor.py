@@ -8,8 +8,8 @@ import subprocess
 from pathlib import Path
 from typing import Any, Dict, Iterable, List, Optional, Tuple
 
-from calls import Decoded
 from image import Fault, Image, name_and_operands
+from layout import Library
 from machine import Machine
 from operands import RDX, RSP, Place
 from words import M64
@@ -24,11 +24,11 @@ _FLAGS = {"c": 1, "z": 64, "s": 128, "o": 2048}
 State = Tuple[Any, ...]
 
 
-def kinds_of(image: Image, decoded: Decoded) -> List[int]:
+def kinds_of(library: Library) -> List[int]:
     """The places of instructions with different bytes, of all that were met. Places that depend on their own address are all there."""
     kinds: Dict[Tuple[bytes, int], int] = {}
-    for place in sorted(decoded):
-        it = image.instructions[place]
+    for place in sorted(library.decoded):
+        it = library.image.instructions[place]
         kinds.setdefault((it.code, place if "rip" in it.text else 0), place)
     return list(kinds.values())
 
@@ -94,9 +94,9 @@ def differences(m: Machine, to: int, after: State) -> List[str]:
     return found
 
 
-def difference(m: Machine, decoded: Decoded, before: State, after: State) -> Optional[str]:
+def difference(m: Machine, before: State, after: State) -> Optional[str]:
     """What the machine does otherwise than the processor, or None. Both may refuse, as with an address that isn't aligned."""
-    step, following = decoded[before[0]]
+    step, following = m.decoded[before[0]]
     put_state(m, before)
     try:
         to = step(m)
@@ -105,14 +105,14 @@ def difference(m: Machine, decoded: Decoded, before: State, after: State) -> Opt
     return ", ".join(differences(m, following if to is None else to, after)) or None
 
 
-def compare(image: Image, decoded: Decoded, count: int, work: Path) -> Tuple[int, int]:
+def compare(library: Library, count: int, work: Path) -> Tuple[int, int]:
     """Compares each instruction that was met, from some random states. Returns how many instructions and states there were."""
-    draws = random.Random(7)
-    places = kinds_of(image, decoded)
+    draws, image = random.Random(7), library.image
+    places = kinds_of(library)
     states = [random_state(draws, image, place) for place in places for _ in range(count)]
-    m = Machine(image, decoded)
+    m = Machine(image, library.decoded)
     m.memory.add_region(SCRATCH, SCRATCH_SIZE, True)
     for before, after in zip(states, stepped(image, states, work)):
-        if found := difference(m, decoded, before, after):
+        if found := difference(m, before, after):
             raise Fault(f"{image.instructions[before[0]].text}: {found}")
     return len(places), len(states)

@@ -12,24 +12,33 @@ A word is an int, or a `Node`. Two nodes with the same normal form are one objec
 Each function gives a word that stands for exactly what its name says, for every value of the symbols. So two words that are the same
 object have the same value. Words that differ may still be equal; that would be a false alarm.
 
-A sealed word counts as one atom in the words that are made of it. That keeps sums and exclusive ors short.
+Each symbol also has a number, which is drawn when it is made, and so has each node: what its form gives for these numbers. Each operation
+compares the number of its result with what plain arithmetic gives for the numbers of its operands. So a normal form that stands for
+something else is found where it is made, unless that happens to agree for these numbers.
+
+A sealed word counts as one atom in the words that are made of it. That keeps sums and exclusive ors short. So words that are made
+while others are sealed may differ in form from those that are made later, and aren't to be compared with them.
 """
 
 from __future__ import annotations
 
-from typing import Any, Callable, Dict, List, Tuple, Union
+import random
+from contextlib import contextmanager
+from functools import reduce, wraps
+from typing import Any, Callable, Dict, Iterator, List, Tuple, TypeVar, Union, cast
 
 M32 = 0xFFFFFFFF
 M64 = 0xFFFFFFFFFFFFFFFF
 
 
 class Node:
-    """An expression: its form, and what it is made of."""
+    """An expression: its form, what it is made of, its place in the order of nodes, and its number."""
 
-    __slots__ = ("number", "form", "parts", "is_sealed")
+    __slots__ = ("order", "form", "parts", "number", "is_sealed")
 
-    def __init__(self, number: int, form: str, parts: Tuple[Any, ...]) -> None:
-        self.number, self.form, self.parts, self.is_sealed = number, form, parts, False
+    def __init__(self, order: int, form: str, parts: Tuple[Any, ...]) -> None:
+        self.order, self.form, self.parts = order, form, parts
+        self.number, self.is_sealed = _meaning(form, parts), False
 
     def __repr__(self) -> str:
         return shown(self, 2)
@@ -42,6 +51,28 @@ Term = Tuple[Node, int, int]
 Value = Union[int, Node, Tuple[Word, Word]]
 
 _NODES: Dict[Tuple[Any, ...], Node] = {}
+_SEALED: List[Node] = []
+_DRAWS = random.Random(11)
+
+
+def number_of(word: Word) -> int:
+    """The number of a word."""
+    return word.number if isinstance(word, Node) else word
+
+
+def _meaning(form: str, parts: Tuple[Any, ...]) -> int:
+    """The number of a node of a form with these parts."""
+    if form == "in":
+        return _DRAWS.choice((0, M32)) if _DRAWS.random() < 0.05 else _DRAWS.getrandbits(32)
+    if form == "add":
+        return sum(map(number_of, parts)) & M32
+    if form == "xor":
+        number: int = parts[0]
+        for atom, rotation, mask in parts[1:]:
+            number ^= _rotated(atom.number, rotation) & mask
+        return number
+    x, y = map(number_of, parts)
+    return {"or": x | y, "and": x & y, "carry": (x + y) >> 32}[form]
 
 
 def node(form: str, *parts: object) -> Node:
@@ -56,6 +87,7 @@ def node(form: str, *parts: object) -> Node:
 def forget() -> None:
     """Forgets all nodes. Words that were made before must not be compared with later ones."""
     _NODES.clear()
+    _SEALED.clear()
 
 
 def symbol(name: str) -> Node:
@@ -69,11 +101,44 @@ def unknown() -> Node:
 
 def seal(word: Word) -> Word:
     """The word, which is an atom from now on."""
-    if isinstance(word, Node):
+    if isinstance(word, Node) and not word.is_sealed:
         word.is_sealed = True
+        _SEALED.append(word)
     return word
 
 
+@contextmanager
+def seals_taken_back() -> Iterator[None]:
+    """Takes back, at its end, the seals that were made within it."""
+    count = len(_SEALED)
+    yield
+    while len(_SEALED) > count:
+        _SEALED.pop().is_sealed = False
+
+
+Operation = TypeVar("Operation", bound=Callable[..., Word])
+
+
+def _compared(plain: Callable[..., object]) -> Callable[[Operation], Operation]:
+    """Makes an operation compare the number of its result with what plain arithmetic gives."""
+    def of(operation: Operation) -> Operation:
+        @wraps(operation)
+        def compared(*words: Word) -> Word:
+            result = operation(*words)
+            if number_of(result) != plain(*[number_of(word) for word in words]):
+                raise AssertionError(f"{operation.__name__} of {', '.join(map(shown, words))} gives {shown(result)}")
+            return result
+
+        return cast(Operation, compared)
+
+    return of
+
+
+def _rotated(number: int, count: int) -> int:
+    return (number >> count | number << (32 - count)) & M32
+
+
+@_compared(lambda *numbers: sum(numbers) & M32)
 def add(*words: Word) -> Word:
     """The sum, without the carry out of the word."""
     constant = 0
@@ -91,12 +156,8 @@ def add(*words: Word) -> Word:
         return constant
     if len(terms) == 1 and constant == 0:
         return terms[0]
-    terms.sort(key=lambda term: term.number)
+    terms.sort(key=lambda term: term.order)
     return node("add", constant, *terms)
-
-
-def _rotated(number: int, count: int) -> int:
-    return (number >> count | number << (32 - count)) & M32
 
 
 def _split(word: Word) -> Tuple[int, Tuple[Term, ...]]:
@@ -114,9 +175,10 @@ def _joined(constant: int, terms: List[Term]) -> Word:
         return constant
     if constant == 0 and len(terms) == 1 and terms[0][1:] == (0, M32):
         return terms[0][0]
-    return node("xor", constant, *sorted(terms, key=lambda term: (term[0].number, term[1])))
+    return node("xor", constant, *sorted(terms, key=lambda term: (term[0].order, term[1])))
 
 
+@_compared(lambda *numbers: reduce(int.__xor__, numbers))
 def xor(*words: Word) -> Word:
     constant = 0
     masks: Dict[Tuple[Node, int], int] = {}
@@ -128,6 +190,7 @@ def xor(*words: Word) -> Word:
     return _joined(constant, [(atom, rotation, mask) for (atom, rotation), mask in masks.items() if mask])
 
 
+@_compared(lambda x, count: _rotated(x, count & 31))
 def ror(word: Word, count: int) -> Word:
     """The word, rotated to the right."""
     count &= 31
@@ -138,18 +201,21 @@ def ror(word: Word, count: int) -> Word:
     return _joined(_rotated(constant, count), turned)
 
 
+@_compared(lambda x, mask: x & mask)
 def masked(word: Word, mask: int) -> Word:
     """The word, of which only some bits are left."""
     constant, terms = _split(word)
     return _joined(constant & mask, [(atom, rotation, its & mask) for atom, rotation, its in terms if its & mask])
 
 
+@_compared(lambda x, count: x << count & M32)
 def shl(word: Word, count: int) -> Word:
     if count > 31:
         return 0
     return masked(ror(word, 32 - count), M32 << count & M32) if count else word
 
 
+@_compared(lambda x, count: x >> count)
 def shr(word: Word, count: int) -> Word:
     if count > 31:
         return 0
@@ -168,11 +234,12 @@ def _possible(word: Word) -> int:
 
 def _in_order(x: Word, y: Word) -> Tuple[Word, Word]:
     """Two words of which at least one is a node, in an order that doesn't depend on which came first."""
-    if isinstance(x, int) or not isinstance(y, int) and x.number > y.number:
+    if isinstance(x, int) or not isinstance(y, int) and x.order > y.order:
         return y, x
     return x, y
 
 
+@_compared(int.__or__)
 def or_(x: Word, y: Word) -> Word:
     if x is y:
         return x
@@ -181,6 +248,7 @@ def or_(x: Word, y: Word) -> Word:
     return xor(x, y) if _possible(x) & _possible(y) == 0 else node("or", *_in_order(x, y))
 
 
+@_compared(int.__and__)
 def and_(x: Word, y: Word) -> Word:
     if isinstance(x, int):
         x, y = y, x
@@ -189,6 +257,7 @@ def and_(x: Word, y: Word) -> Word:
     return x if x is y else node("and", *_in_order(x, y))
 
 
+@_compared(lambda x, y: (x + y) >> 32)
 def carry(x: Word, y: Word) -> Word:
     """1 if the sum of two words passes 2^32, else 0."""
     if isinstance(x, int) and isinstance(y, int):
@@ -248,7 +317,7 @@ def shr_64(value: Value, count: int) -> Value:
     return pair(or_(shr(low(value), count), shl(high(value), 32 - count)), shr(high(value), count)) if count else value
 
 
-# ---- What a word is, for people and as a number
+# ---- What a word is, for people
 
 
 def shown(word: object, depth: int = 3) -> str:
@@ -260,42 +329,4 @@ def shown(word: object, depth: int = 3) -> str:
         return f"{word:#x}" if isinstance(word, int) else f"{word}"
     if word.form == "in":
         return str(word.parts[0])
-    return f"{word.form}({', '.join(shown(it, depth - 1) for it in word.parts)})" if depth else f"#{word.number}"
-
-
-def _number_of(word: Node, known: Callable[[Any], int], of_symbol: Callable[[str], int]) -> int:
-    """The number of a node, all of whose parts are known."""
-    parts = word.parts
-    number: int
-    if word.form == "in":
-        return of_symbol(parts[0])
-    if word.form == "add":
-        return sum(map(known, parts)) & M32
-    if word.form == "xor":
-        number = parts[0]
-        for atom, rotation, mask in parts[1:]:
-            number ^= _rotated(known(atom), rotation) & mask
-        return number
-    x, y = map(known, parts)
-    return {"or": x | y, "and": x & y, "carry": (x + y) >> 32}[word.form]
-
-
-def number_of(word: Word, of_symbol: Callable[[str], int], found: Dict[Node, int]) -> int:
-    """The number that a word is for some numbers of the symbols. `found` keeps those of its parts. (It keeps a list of what is to do,
-    since expressions are deep.)"""
-    todo = [word] if isinstance(word, Node) else []
-
-    def known(part: Any) -> int:
-        return found[part] if isinstance(part, Node) else int(part)
-
-    while todo:
-        last = todo[-1]
-        inner = [part[0] if isinstance(part, tuple) else part for part in last.parts]
-        unknown = [it for it in inner if isinstance(it, Node) and it not in found]
-        if last in found or not unknown:
-            if last not in found:
-                found[last] = _number_of(last, known, of_symbol)
-            todo.pop()
-        else:
-            todo += unknown
-    return known(word)
+    return f"{word.form}({', '.join(shown(it, depth - 1) for it in word.parts)})" if depth else f"#{word.order}"

@@ -9,7 +9,7 @@ from pathlib import Path
 from typing import Iterable
 
 from avx512 import with_avx512
-from kernels import KERNELS, kernels_alone, refuse_other_calls, table, with_stubs, without_stubs
+from cut import KERNELS, kernels_alone, refuse_other_calls, table, with_stubs, without_stubs
 from levels import Level, levels, version
 from proving import Fault, run, tool
 

@@ -149,3 +149,10 @@ def kernels_alone(text: str) -> str:
     """The kernels of a library, with what they reach."""
     before, parts, end = sections(text)
     return before + "".join(reached(parts, KERNELS)) + end
+
+
+def without_kernels(level: Level, text: str) -> str:
+    """The file of a library without its own kernels, what they alone call, and their table. All data stay."""
+    before, parts, end = sections(text.replace(table(level), ""))
+    own = {part for part in reached(parts, KERNELS) if functions([part])}
+    return before + "".join(part for part in parts if part not in own) + end
