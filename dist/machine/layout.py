@@ -5,28 +5,40 @@ from __future__ import annotations
 
 import sys
 from pathlib import Path
-from typing import TYPE_CHECKING, Dict, Optional, Sequence, Tuple
+from typing import TYPE_CHECKING, Dict, List, Optional, Tuple
 
 sys.path.insert(0, str(Path(__file__).resolve().parents[1] / "tools"))
+from aarch64.machine import Aarch64  # noqa: E402
+from assemblers import ASSEMBLERS  # noqa: E402
 from image import linked  # noqa: E402
 from levels import Level, levels  # noqa: E402
+from x86_64.machine import X86  # noqa: E402
 
 if TYPE_CHECKING:
-    from machine import Step
+    from machine import Machine, Step
 
-#: The levels whose machine code is checked, by their names.
-LEVELS: Dict[str, Level] = {level.name: level for level in levels() if level.processor == "x86_64"}
+#: The levels, by their names.
+LEVELS: Dict[str, Level] = {level.name: level for level in levels()}
+#: The options of objdump for each processor.
+_OPTIONS: Dict[str, List[str]] = {"x86_64": ["-Mintel"], "aarch64": []}
 
 
 class Library:
     """The linked library of a level, or what a text in the place of its assembly gives."""
 
-    def __init__(self, level: Level, assembler: Sequence[str], work: Path, text: Optional[str] = None) -> None:
+    def __init__(self, level: Level, assembler: str, work: Path, text: Optional[str] = None) -> None:
         self.level = level
+        tools = ASSEMBLERS[level.processor]
         (work / "part.s").write_text(level.assembly.read_text() if text is None else text)
-        self.image = linked(work / "part.s", assembler, work)
+        compiler = tools.gcc if assembler == "gcc" else tools.clang
+        self.image = linked(work / "part.s", compiler, tools.objdump[:-len("objdump")], _OPTIONS[level.processor], work)
         #: What the instructions do that were met, and where the next one is.
         self.decoded: Dict[int, Tuple[Step, int]] = {}
+
+    def machine(self) -> "Machine":
+        """A machine that runs it."""
+        kind = X86 if self.level.processor == "x86_64" else Aarch64
+        return kind(self.image, self.decoded)
 
     def call(self, name: str) -> str:
         """What a call of the library is called."""

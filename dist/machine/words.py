@@ -248,6 +248,12 @@ def or_(x: Word, y: Word) -> Word:
     return xor(x, y) if _possible(x) & _possible(y) == 0 else node("or", *_in_order(x, y))
 
 
+@_compared(lambda x, y: x + y & M32)
+def add_apart(x: Word, y: Word) -> Word:
+    """The sum, which is an exclusive or if no bit may be set in both: a rotation, if it is made so of its parts."""
+    return add(x, y) if _possible(x) & _possible(y) else xor(x, y)
+
+
 @_compared(int.__and__)
 def and_(x: Word, y: Word) -> Word:
     if isinstance(x, int):
