@@ -75,12 +75,14 @@ def segments_of(data: bytes) -> List[Segment]:
     return found
 
 
-def linked(assembly: Path, assembler: Sequence[str], binutils: str, options: Sequence[str], work: Path) -> Image:
-    """The image of a file of assembly by a compiler, made in a folder; the names of binutils begin so, and objdump gets options."""
-    subprocess.run([*assembler, "-c", assembly, "-o", work / "part.o"], check=True)
+def linked(files: Sequence[Path], assembler: Sequence[str], binutils: str, options: Sequence[str], work: Path) -> Image:
+    """The image of files of assembly by a compiler, made in a folder; the names of binutils begin so, and objdump gets options."""
+    objects = [work / f"part{i}.o" for i, _ in enumerate(files)]
+    for file, made in zip(files, objects):
+        subprocess.run([*assembler, "-c", file, "-o", made], check=True)
     outside = [word for name, place in OUTSIDE.items() for word in ("--defsym", f"{name}={place:#x}")]
     places = ["-z", "separate-code", "-Ttext-segment=0x400000", "-e", "0x400000"]
-    subprocess.run([f"{binutils}ld", "-o", work / "linked", work / "part.o", *places, *outside], check=True)
+    subprocess.run([f"{binutils}ld", "-o", work / "linked", *objects, *places, *outside], check=True)
     return Image(work / "linked", [f"{binutils}objdump", *options])
 
 

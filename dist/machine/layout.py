@@ -28,10 +28,12 @@ class Library:
 
     def __init__(self, level: Level, assembler: str, work: Path, text: Optional[str] = None) -> None:
         self.level = level
-        tools = ASSEMBLERS[level.processor]
-        (work / "part.s").write_text(level.assembly.read_text() if text is None else text)
+        tools, file = ASSEMBLERS[level.processor], level.assembly
+        if text is not None:
+            file = work / "changed.s"
+            file.write_text(text)
         compiler = tools.gcc if assembler == "gcc" else tools.clang
-        self.image = linked(work / "part.s", compiler, tools.objdump[:-len("objdump")], _OPTIONS[level.processor], work)
+        self.image = linked([file], compiler, tools.objdump[:-len("objdump")], _OPTIONS[level.processor], work)
         #: What the instructions do that were met, and where the next one is.
         self.decoded: Dict[int, Tuple[Step, int]] = {}
 
@@ -51,6 +53,11 @@ class Library:
 def inner(name: str) -> str:
     """What a function of keyed_blake3 is called."""
     return f"keyed_blake3::{name}"
+
+
+def of_groups(name: str) -> str:
+    """What a function of xet_roots is called that takes groups of nodes."""
+    return f"xet_roots::groups::{name}"
 
 
 def part_of(text: str, function: str) -> Tuple[int, int]:
