@@ -2,13 +2,12 @@
 
 from __future__ import annotations
 
-from typing import Dict, List, Sequence, Tuple
+from typing import List, Sequence, Tuple
 
 from definition import keyed_hash
-from image import Fault
+from fault import Fault
 from layout import Library
 from machine import Machine
-from operands import R8, R9, R12, R13, R14, R15, RAX, RBP, RBX, RCX, RDI, RDX, RSI, RSP
 from wanted import Wanted
 from words import Value, Word, byte, forget, symbol
 
@@ -21,8 +20,6 @@ INTERNAL_KEY = bytes((
     1, 126, 197, 199, 165, 71, 41, 150, 253, 148, 102, 102, 180, 138, 2, 230, 93, 221, 83, 111, 55, 199, 109, 210, 248, 99, 82, 230, 74, 83,
     113, 63,
 ))
-#: The registers of arguments in their order, and those that a function gives back as they were.
-ARGUMENTS, KEPT = (RDI, RSI, RDX, RCX, R8, R9), (RBX, RBP, R12, R13, R14, R15)
 STACK, STACK_SIZE = 0x7FFF00000000, 65536
 #: Where messages, results and keys are, and how far from these places, and from the top of the stack, a call may have its own instead.
 MESSAGE, RESULT, KEY = 0x10000000, 0x20000010, 0x24000008
@@ -40,7 +37,7 @@ class Caller:
 
     def __init__(self, library: Library, stack: int = STACK) -> None:
         self.library, self.stack = library, stack
-        self.m = Machine(library.image, library.decoded)
+        self.m: Machine = library.machine()
 
     def call(self, name: str, *arguments: Value) -> Value:
         """Calls the library by the rules of C. Returns what it returns."""
@@ -51,20 +48,20 @@ class Caller:
         It has to leave the stack pointer and some registers as they were."""
         m = self.m
         m.forget_registers()
-        m.general[RSP] = self.stack
-        for register, value in zip(ARGUMENTS, arguments):
+        m.general[m.STACK] = self.stack
+        for register, value in zip(m.ARGUMENTS, arguments):
             m.general[register] = value
         for i, words in enumerate(vectors):
             m.vectors[i][:len(words)] = words
-        before = {register: m.general[register] for register in (RSP, *KEPT)}
+        before = m.kept()
         m.memory.add_region(self.stack - STACK_SIZE, STACK_SIZE, True)
         m.call(m.image.function(function))
         m.memory.remove_region(self.stack - STACK_SIZE)
         self.stack -= STACK_SIZE
-        for register, value in before.items():
-            if m.general[register] != value:
-                raise Fault(f"{function} leaves another value in register {register}")
-        return m.general[RAX]
+        after = m.kept()
+        if changed := [what for what, its in before.items() if after[what] != its]:
+            raise Fault(f"{function} leaves another value in {', '.join(changed)}")
+        return m.general[m.RESULT]
 
 
 def check_hash(library: Library, name: str, length: int, shifts: Tuple[int, int] = PLACES[0]) -> Machine:

@@ -9,16 +9,14 @@ from dataclasses import dataclass
 from pathlib import Path
 from typing import Dict, List, Sequence, Tuple
 
-#: Where calls of the C library and of the heap go, for which machine.py stands in.
+from fault import Fault
+
+#: Where calls of the C library and of the heap go, for which machine.py stands in: near enough to the code for every kind of call.
 OUTSIDE = {
-    "memcpy": 0x7E000010, "memmove": 0x7E000020, "memset": 0x7E000030,
-    "yurewha_heap_alloc": 0x7E000040, "yurewha_heap_dealloc": 0x7E000050, "yurewha_heap_realloc": 0x7E000060,
+    "memcpy": 0x7000010, "memmove": 0x7000020, "memset": 0x7000030,
+    "yurewha_heap_alloc": 0x7000040, "yurewha_heap_dealloc": 0x7000050, "yurewha_heap_realloc": 0x7000060,
 }
 _LABEL = re.compile(r"([0-9a-f]+) <(.*)>:$")
-
-
-class Fault(Exception):
-    """Why machine code isn't shown to be right: it says where, and what is wrong or isn't known."""
 
 
 @dataclass(frozen=True)
@@ -42,20 +40,21 @@ class Segment:
 class Image:
     """A linked file: its segments, the places of its functions, and its instructions."""
 
-    def __init__(self, path: Path) -> None:
+    def __init__(self, path: Path, objdump: Sequence[str]) -> None:
         self.path = path
         self.segments = segments_of(path.read_bytes())
         self.functions: Dict[str, int] = {}
         self.instructions: Dict[int, Instruction] = {}
-        told = subprocess.run(["objdump", "-dw", "-Mintel", path], stdout=subprocess.PIPE, universal_newlines=True, check=True).stdout
+        told = subprocess.run([*objdump, "-dw", path], stdout=subprocess.PIPE, universal_newlines=True, check=True).stdout
         function = ""
         for line in told.splitlines():
             label, parts = _LABEL.match(line), line.split("\t")
             if label:
                 function = label[2]
                 self.functions[function] = int(label[1], 16)
-            elif len(parts) == 3:
-                self.instructions[int(parts[0].strip()[:-1], 16)] = Instruction(function, bytes.fromhex(parts[1]), parts[2].strip())
+            elif len(parts) > 2:
+                place, text = int(parts[0].strip()[:-1], 16), " ".join(parts[2:]).strip()
+                self.instructions[place] = Instruction(function, bytes.fromhex(parts[1]), text)
 
     def function(self, name: str) -> int:
         """Where a function begins."""
@@ -76,26 +75,18 @@ def segments_of(data: bytes) -> List[Segment]:
     return found
 
 
-def linked(texts: Sequence[str], assembler: Sequence[str], work: Path) -> Image:
-    """The image of some files of assembly by a compiler, made in a folder."""
-    parts = []
-    for number, text in enumerate(texts):
-        source, part = work / f"part{number}.s", work / f"part{number}.o"
-        source.write_text(text)
-        subprocess.run([*assembler, "-c", source, "-o", part], check=True)
-        parts.append(part)
+def linked(files: Sequence[Path], assembler: Sequence[str], binutils: str, options: Sequence[str], work: Path) -> Image:
+    """The image of files of assembly by a compiler, made in a folder; the names of binutils begin so, and objdump gets options."""
+    objects = [work / f"part{i}.o" for i, _ in enumerate(files)]
+    for file, made in zip(files, objects):
+        subprocess.run([*assembler, "-c", file, "-o", made], check=True)
     outside = [word for name, place in OUTSIDE.items() for word in ("--defsym", f"{name}={place:#x}")]
-    subprocess.run(["ld", "-o", work / "linked", *parts, "-e", "0x400000", "-Ttext-segment=0x400000", *outside], check=True)
-    return Image(work / "linked")
+    places = ["-z", "separate-code", "-Ttext-segment=0x400000", "-e", "0x400000"]
+    subprocess.run([f"{binutils}ld", "-o", work / "linked", *objects, *places, *outside], check=True)
+    return Image(work / "linked", [f"{binutils}objdump", *options])
 
 
-def without_remarks(text: str) -> str:
-    """The text of an instruction without prefixes that mean nothing here, and without what objdump adds."""
-    text = re.sub(r"\s*#.*|\s*<[^<]*>$", "", text)
-    return re.sub(r"^(?:(?:data16|cs|notrack|rex\.\w+|bnd) )+", "", text)
-
-
-def name_and_operands(text: str) -> Tuple[str, List[str]]:
-    """The name of an instruction, and the texts of its operands."""
-    name, _, rest = without_remarks(text).partition(" ")
-    return name, re.findall(r"(?:[^,\[{]|\[[^]]*\]|\{[^}]*\})+", rest.strip())
+def parts_of(text: str) -> Tuple[str, List[str]]:
+    """The name of an instruction, and the texts of its operands, which commas part outside brackets and braces."""
+    name, _, rest = text.partition(" ")
+    return name, [it.strip() for it in re.findall(r"(?:[^,\[{]|\[[^]]*\]|\{[^}]*\})+", rest)]

@@ -18,7 +18,7 @@ from words import Value, Word, add_64, forget, high, low, symbol, unknown
 #: Where the checks put what a function reads or writes, each place at an address that isn't a multiple of 32 where it needn't be.
 RESULT, FIRST, SECOND, THIRD, CHUNKS = 0x20000040, 0x21000040, 0x22000040, 0x23000040, 0x30000004
 #: How many words a vector has in which chaining values are passed, at levels where they aren't passed in memory: of one block, and of two.
-VALUE_VECTORS = {"x86-64": (4, 4), "x86-64-v2": (4, 4), "x86-64-v3": (4, 8)}
+VALUE_VECTORS = {"x86-64": (4, 4), "x86-64-v2": (4, 4), "x86-64-v3": (4, 8), "aarch64": (4, 4)}
 
 
 def symbols(name: str, count: int) -> List[Word]:

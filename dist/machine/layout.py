@@ -5,37 +5,52 @@ from __future__ import annotations
 
 import sys
 from pathlib import Path
-from typing import TYPE_CHECKING, Dict, Optional, Sequence, Tuple
+from typing import TYPE_CHECKING, Dict, List, Optional, Tuple
 
 sys.path.insert(0, str(Path(__file__).resolve().parents[1] / "tools"))
-from image import linked  # noqa: E402
+from aarch64.machine import Aarch64  # noqa: E402
+from assemblers import ASSEMBLERS  # noqa: E402
 from cut import table_of, without_kernels  # noqa: E402
+from image import linked  # noqa: E402
 from levels import Level, levels  # noqa: E402
+from x86_64.machine import X86  # noqa: E402
 
 if TYPE_CHECKING:
-    from machine import Step
+    from machine import Machine, Step
 
-#: The levels whose machine code is checked, by their names.
-LEVELS: Dict[str, Level] = {level.name: level for level in levels() if level.processor == "x86_64"}
-
-
-#: The file that has the library, and the kernels of its own level.
-LIBRARY = next(level for level in LEVELS.values() if level.is_library)
+#: The levels, by their names.
+LEVELS: Dict[str, Level] = {level.name: level for level in levels()}
+#: The options of objdump for each processor.
+_OPTIONS: Dict[str, List[str]] = {"x86_64": ["-Mintel"], "aarch64": []}
+#: The level whose file has the library, and its own kernels, where there are kernels of others.
+_LIBRARY = next(level for level in LEVELS.values() if level.is_library and level.has_kernels)
 #: The choice of a level, in the place of what processor_level.c does.
-CHOICE = "\t.data\n\t.globl\tyurewha_kernels\nyurewha_kernels:\n\t.quad\t{}\n\t.section\t.note.GNU-stack,\"\",@progbits\n"
+_CHOICE = "\t.data\n\t.globl\tyurewha_kernels\nyurewha_kernels:\n\t.quad\t{}\n\t.section\t.note.GNU-stack,\"\",@progbits\n"
 
 
 class Library:
     """The library as it is linked, with the kernels of a level, or with what a text in the place of the level's file gives."""
 
-    def __init__(self, level: Level, assembler: Sequence[str], work: Path, text: Optional[str] = None) -> None:
+    def __init__(self, level: Level, assembler: str, work: Path, text: Optional[str] = None) -> None:
         self.level = level
-        texts = [level.assembly.read_text() if text is None else text, CHOICE.format(table_of(level))]
+        tools = ASSEMBLERS[level.processor]
+        compiler = tools.gcc if assembler == "gcc" else tools.clang
+        texts = [level.assembly.read_text() if text is None else text]
+        if level.has_kernels:
+            texts.append(_CHOICE.format(table_of(level)))
         if not level.is_library:
-            texts.append(without_kernels(LIBRARY, LIBRARY.assembly.read_text()))
-        self.image = linked(texts, assembler, work)
+            texts.append(without_kernels(_LIBRARY, _LIBRARY.assembly.read_text()))
+        files = [work / f"part{i}.s" for i, _ in enumerate(texts)]
+        for file, part in zip(files, texts):
+            file.write_text(part)
+        self.image = linked(files, compiler, tools.objdump[:-len("objdump")], _OPTIONS[level.processor], work)
         #: What the instructions do that were met, and where the next one is.
         self.decoded: Dict[int, Tuple[Step, int]] = {}
+
+    def machine(self) -> "Machine":
+        """A machine that runs it."""
+        kind = X86 if self.level.processor == "x86_64" else Aarch64
+        return kind(self.image, self.decoded)
 
     def call(self, name: str) -> str:
         """What a call of the library is called."""
@@ -48,6 +63,11 @@ class Library:
 def inner(name: str) -> str:
     """What a function of keyed_blake3 is called."""
     return f"keyed_blake3::{name}"
+
+
+def of_groups(name: str) -> str:
+    """What a function of xet_roots is called that takes groups of nodes."""
+    return f"xet_roots::groups::{name}"
 
 
 def part_of(text: str, function: str) -> Tuple[int, int]:

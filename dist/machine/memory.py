@@ -4,7 +4,7 @@ from __future__ import annotations
 
 from typing import Dict, List, Tuple
 
-from image import Fault
+from fault import Fault
 from words import Word, byte, from_bytes, unknown
 
 

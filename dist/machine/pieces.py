@@ -8,7 +8,7 @@ from typing import Dict, Iterator, List, Sequence, Set
 
 from calls import DATA_KEY, INTERNAL_KEY, KEY, MESSAGE, RESULT, Caller, bytes_of
 from definition import keyed_hash
-from image import Fault
+from fault import Fault
 from layout import Library
 from machine import Machine
 from wanted import Wanted
@@ -34,21 +34,23 @@ def every(what: str, begin: str, lengths: List[int]) -> Pieces:
 
 
 def lists(lanes: int, is_short: bool) -> Iterator[Pieces]:
-    """The lists of pieces that are checked. Some have pieces that fill all lanes, more than once."""
+    """The lists of pieces that are checked. Some have pieces that fill all lanes."""
     yield Pieces("bytes", "data", [1] * 130, {0, 1, 2, 63, 64, 65, 128, 129, 130})
     yield Pieces("blocks", "keyed", [64] * 33, {64, 128, 1024, 1088, 2048, 2112})
-    yield every("1000 bytes", "internal", [1000] * 5)
-    yield every("chunks", "keyed", [1024] * 5)
-    yield every("many lengths", "internal", [0, 1, 63, 64, 65, 831, 1023, 1024, 0, 1025, 2048, 3000])
-    yield every("all lanes", "keyed", [5, 1024 * 2 * lanes + 77, 1])
+    yield every("1000 bytes", "internal", [1000] * 3)
+    yield every("chunks", "keyed", [1024] * 3)
+    yield Pieces("many lengths", "internal", [0, 1, 63, 64, 65, 831, 1023, 0, 1025], {3072})
+    yield Pieces("all lanes", "keyed", [1024 * lanes + 77, 1], {1024 * lanes + 78})
     if not is_short:
+        yield every("many lengths, each time", "keyed", [0, 1, 63, 64, 65, 831, 1023, 1024, 0, 1025, 2048, 3000])
         yield every("bytes, each time", "keyed", [1] * 1100)
         yield Pieces("bytes of chunks", "internal", [1] * 3080, {1023, 1024, 1025, 2047, 2048, 2049, 3071, 3072, 3073, 3080})
         yield every("blocks, each time", "data", [64] * 66)
         yield every("more than blocks", "data", [65] * 66)
-        yield every("chunks, each time", "data", [1024] * 33)
+        yield every("more chunks", "data", [1024] * 33)
         yield every("less than chunks", "keyed", [1023] * 9)
         yield every("more than chunks", "keyed", [1025] * 9)
+        yield every("all lanes after some bytes", "keyed", [5, 1024 * 2 * lanes + 77, 1])
         for begin in ("data", "internal", "keyed"):
             yield every("all lanes again", begin, [1024 * lanes, 1024 * lanes, 1, 1024 * 3 * lanes, 1023, 1024 * lanes + 1, 4096, 2])
         yield every("doubled", "data", [1 << k for k in range(16)])

@@ -4,13 +4,8 @@ from __future__ import annotations
 
 import re
 from dataclasses import dataclass
-from typing import Dict, List
 
 from layout import part_of
-
-Z = r"%zmm\d+"
-Y = r"%ymm\d+"
-X = r"%xmm\d+"
 
 
 @dataclass(frozen=True)
@@ -33,50 +28,3 @@ class Plant:
         if changed == place[0]:
             raise ValueError(f"{self.what}: nothing changes")
         return text[:start + place.start()] + changed + text[start + place.end():]
-
-
-PLANTS: Dict[str, List[Plant]] = {
-    "x86-64": [
-        Plant("a shift of a rotation", "chunks::take_block", r"psrld\t\$12,", r"psrld\t$13,", 7),
-        Plant("words of two lanes exchanged", "chunks::take_block", rf"punpckldq\t({X}), ({X})", r"punpckhdq\t\1, \2", 1),
-        Plant("a sum left out", "chunks::take_block", rf"\tpaddd\t{X}, {X}\n", "\tnop\n", 40),
-        Plant("the flags of the last block", "chunks::chunk_values", r"\$18, %r9d", r"$16, %r9d"),
-        Plant("an exchange of words in one block", "compression::compress", r"pshufd\t\$57,", r"pshufd\t$147,", 1),
-        Plant("a value in another register", "compression::two::compress_two", r"movaps\t(\d+)\(%rsp\), (%xmm\d+)", r"movaps\t\1(%rsp), %xmm15", 2),
-    ],
-    "x86-64-v2": [
-        Plant("a shift of a rotation", "chunks::take_block", r"psrld\t\$7,", r"psrld\t$8,", 3),
-        Plant("a rotation by bytes left out", "chunks::take_block", rf"\tpshufb\t{X}, {X}\n", "\tnop\n", 5),
-        Plant("the flags of the last block", "chunks::chunk_values", r"\$18, %r9d", r"$19, %r9d"),
-        Plant("a shift in two blocks", "compression::two::compress_two", r"pslld\t\$20,", r"pslld\t$19,", 2),
-        Plant("the lower half of a counter for the upper one", "chunks::take_block", r"(?m)(\d+)\(%r8\), (%xmm\d+)$", r"(%r8), \2", 0),
-    ],
-    "x86-64-v3": [
-        Plant("a shift of a rotation", "chunks::take_block", r"vpsrld\t\$12,", r"vpsrld\t$13,", 7),
-        Plant("two lanes of a transposition", "chunks::take_block", r"vperm2[fi]128\t\$49,", r"vperm2i128\t$32,", 1),
-        Plant("a rotation by bytes of another word", "chunks::take_block", rf"vpshufb\t({Y}), ({Y}), ({Y})", r"vpshufb\t\2, \1, \3", 9),
-        Plant("a sum left out", "chunks::take_block", rf"\tvpaddd\t{Y}, {Y}, {Y}\n", "\tnop\n", 40),
-        Plant("the flags of the last block", "chunks::chunk_values", r"\$18, ", r"$16, "),
-        Plant("a shift in one block", "compression::compress", r"vpsrld\t\$7,", r"vpsrld\t$8,", 3),
-        Plant("an exchange of words in two blocks", "compression::two::compress_two", r"vpshufd\t\$147,", r"vpshufd\t$57,", 3),
-        Plant("a register that isn't given back", "chunks::chunk_values", r"popq\t%rbx", r"popq\t%rcx", -1),
-    ],
-    "x86-64-v4": [
-        Plant("a rotation", "chunks::take_block", r"vprold\t\$20,", r"vprold\t$19,", 7),
-        Plant("a rotation in the last round", "chunks::take_block", r"vprold\t\$25,", r"vprold\t$24,", -1),
-        Plant("two lanes of a transposition", "chunks::take_block", r"vshufi64x2\t\$136,", r"vshufi64x2\t$221,", 3),
-        Plant("two rows of a transposition exchanged", "chunks::take_block", rf"(vpunpckldq|vpunpckhdq|vpunpcklqdq|vpunpckhqdq|vunpcklps)\t({Z}), ({Z}), ({Z})", r"\1\t\3, \2, \4"),
-        Plant("the message words of two sums exchanged", "chunks::take_block", rf"vpaddd\t({Z}), ({Z}), ({Z})\n\tvpaddd\t({Z}), ({Z}), ({Z})", r"vpaddd\t\4, \2, \3\n\tvpaddd\t\1, \5, \6", 9),
-        Plant("a sum left out", "chunks::take_block", rf"\tvpaddd\t{Z}, {Z}, {Z}\n", "\tnop\n", 40),
-        Plant("the lower half of a counter for the upper one", "chunks::take_block", r"vmovups\t64\(%r8\)", r"vmovups\t(%r8)"),
-        Plant("the flags of the last block", "chunks::chunk_values", r"\$18, %r9d", r"$16, %r9d"),
-        Plant("the flags of a parent", "subtrees::values_above", r"\$20,", r"$16,"),
-        Plant("a rotation in a parent", "subtrees::parent_values", r"vprold\t\$16,", r"vprold\t$24,", 2),
-        Plant("a rotation in one block", "compression::compress", r"vprold\t\$(?:7|25),", r"vprold\t$26,", 3),
-        Plant("an exchange of words in one block", "compression::compress", r"vpshufd\t\$57,", r"vpshufd\t$147,", 4),
-        Plant("an exchange of words in two blocks", "compression::two::compress_two", r"vpshufd\t\$78,", r"vpshufd\t$57,", 3),
-        Plant("a read after the message", "chunks::take_block", r"vmovdqu64\t(\(%rcx,%r14\)|\(%r14,%rcx\))", r"vmovdqu64\t65536\1"),
-        Plant("a frame that isn't aligned", "chunks::take_block", r"andq\t\$-64, %rsp", r"andq\t$-16, %rsp"),
-        Plant("a register that isn't given back", "chunks::take_block", r"popq\t%rbx", r"popq\t%rcx", -1),
-    ],
-}

@@ -4,7 +4,7 @@ from __future__ import annotations
 
 from typing import Any, Callable, Sequence
 
-from image import Fault
+from fault import Fault
 from words import Node, Word, number_of
 
 

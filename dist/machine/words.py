@@ -119,13 +119,16 @@ def seals_taken_back() -> Iterator[None]:
 Operation = TypeVar("Operation", bound=Callable[..., Word])
 
 
-def _compared(plain: Callable[..., object]) -> Callable[[Operation], Operation]:
-    """Makes an operation compare the number of its result with what plain arithmetic gives."""
+def _compared(plain: Callable[..., Any]) -> Callable[[Operation], Operation]:
+    """Makes an operation compare the number of its result with what plain arithmetic gives, and give just that for numbers alone."""
     def of(operation: Operation) -> Operation:
         @wraps(operation)
         def compared(*words: Word) -> Word:
+            number: int = plain(*[number_of(word) for word in words])
+            if not any(isinstance(word, Node) for word in words):
+                return number
             result = operation(*words)
-            if number_of(result) != plain(*[number_of(word) for word in words]):
+            if number_of(result) != number:
                 raise AssertionError(f"{operation.__name__} of {', '.join(map(shown, words))} gives {shown(result)}")
             return result
 
@@ -246,6 +249,12 @@ def or_(x: Word, y: Word) -> Word:
     if isinstance(x, int) and isinstance(y, int):
         return x | y
     return xor(x, y) if _possible(x) & _possible(y) == 0 else node("or", *_in_order(x, y))
+
+
+@_compared(lambda x, y: x + y & M32)
+def add_apart(x: Word, y: Word) -> Word:
+    """The sum, which is an exclusive or if no bit may be set in both: a rotation, if it is made so of its parts."""
+    return add(x, y) if _possible(x) & _possible(y) else xor(x, y)
 
 
 @_compared(int.__and__)

@@ -9,15 +9,15 @@ from __future__ import annotations
 import re
 from typing import TYPE_CHECKING, Callable, Dict, List, Optional, Tuple
 
-from image import Fault
-from operands import RAX, RDX, REGISTERS, RSP, Place, general, number_of
+from fault import Fault, number
+from x86_64.operands import RAX, RDX, REGISTERS, RSP, Place, general, number_of
 from words import Value, Word, add, add_64, and_, high, low, or_, pair, ror, shl, shl_64, shr, shr_64, xor
 
 if TYPE_CHECKING:
-    from machine import Machine, Step
+    from x86_64.machine import X86, Step
 
-Get = Callable[["Machine"], Value]
-Put = Callable[["Machine", Value], None]
+Get = Callable[["X86"], Value]
+Put = Callable[["X86", Value], None]
 
 _CONDITIONS: Dict[str, Tuple[str, Callable[[Dict[str, bool]], bool]]] = {
     "o": ("o", lambda f: f["o"]), "no": ("o", lambda f: not f["o"]), "b": ("c", lambda f: f["c"]), "ae": ("c", lambda f: not f["c"]),
@@ -30,13 +30,7 @@ _CONDITIONS: Dict[str, Tuple[str, Callable[[Dict[str, bool]], bool]]] = {
 _NOTHING = ("nop", "nopw", "nopl", "endbr64")
 
 
-def number(value: Value) -> int:
-    if not isinstance(value, int):
-        raise Fault("this instruction is known for numbers alone")
-    return value
-
-
-def holds(m: "Machine", condition: str) -> bool:
+def holds(m: "X86", condition: str) -> bool:
     """Whether a condition holds of the flags, which have to have values."""
     needed, test = _CONDITIONS[condition]
     flags = m.flags
@@ -45,7 +39,7 @@ def holds(m: "Machine", condition: str) -> bool:
     return test(flags)  # type: ignore[arg-type]
 
 
-def set_flags(m: "Machine", result: int, size: int, carry: Optional[bool], overflow: Optional[bool]) -> None:
+def set_flags(m: "X86", result: int, size: int, carry: Optional[bool], overflow: Optional[bool]) -> None:
     m.flags = {"z": result == 0, "s": bool(result >> (8 * size - 1)), "c": carry, "o": overflow}
 
 
@@ -72,7 +66,7 @@ class Operand:
         if size not in (None, self.size):
             raise Fault(f"the operand {text} in the place of {size} bytes")
 
-    def store(self, m: "Machine", value: Value) -> None:
+    def store(self, m: "X86", value: Value) -> None:
         if self.put is None:
             raise Fault("a number can't be written to")
         self.put(m, value)
@@ -92,7 +86,7 @@ def _jump(operands: List[str], at: int, following: int) -> "Step":
 def _branch(condition: str, operands: List[str], at: int) -> "Step":
     to = int(operands[0], 16)
 
-    def step(m: "Machine") -> Optional[int]:
+    def step(m: "X86") -> Optional[int]:
         is_taken = holds(m, condition)
         m.branches.add((at, is_taken))
         return to if is_taken else None
@@ -103,7 +97,7 @@ def _branch(condition: str, operands: List[str], at: int) -> "Step":
 def _call(operands: List[str], at: int, following: int) -> "Step":
     to = int(operands[0], 16)
 
-    def step(m: "Machine") -> Optional[int]:
+    def step(m: "X86") -> Optional[int]:
         m.push(following)
         return to
 
@@ -115,7 +109,7 @@ def _return(operands: List[str], at: int, following: int) -> "Step":
 
 
 def _trap(operands: List[str], at: int, following: int) -> "Step":
-    def step(m: "Machine") -> Optional[int]:
+    def step(m: "X86") -> Optional[int]:
         raise Fault("a trap")
 
     return step
@@ -143,7 +137,7 @@ def _move(operands: List[str], at: int, following: int) -> "Step":
 def _exchange(operands: List[str], at: int, following: int) -> "Step":
     one, other = Operand(operands[0], following), Operand(operands[1], following)
 
-    def step(m: "Machine") -> None:
+    def step(m: "X86") -> None:
         first, second = one.get(m), other.get(m)
         one.store(m, second)
         other.store(m, first)
@@ -167,7 +161,7 @@ def _address(operands: List[str], at: int, following: int) -> "Step":
     register, size = REGISTERS[operands[0]]
     place = Place(operands[1], following)
 
-    def step(m: "Machine") -> None:
+    def step(m: "X86") -> None:
         value: Value = place.offset & (1 << 64) - 1
         for part, scale in ((place.base, 1), (place.index, place.scale)):
             if part is not None:
@@ -202,7 +196,7 @@ def _of_data(name: str, size: int, x: Value, y: Value) -> Value:
     raise Fault("arithmetic on data that isn't known")
 
 
-def _of_numbers(m: "Machine", name: str, size: int, x: int, y: int) -> int:
+def _of_numbers(m: "X86", name: str, size: int, x: int, y: int) -> int:
     """The result of two numbers; it sets the flags."""
     mask, sign = (1 << 8 * size) - 1, 1 << (8 * size - 1)
     if name in ("add", "adc"):
@@ -223,7 +217,7 @@ def _two(name: str, operands: List[str], following: int) -> "Step":
     source = Operand(operands[1], following, to.size)
     clears = name == "xor" and operands[0] == operands[1] and operands[0] in REGISTERS
 
-    def step(m: "Machine") -> None:
+    def step(m: "X86") -> None:
         x, y = (0, 0) if clears else (to.get(m), source.get(m))
         if isinstance(x, int) and isinstance(y, int):
             result: Value = _of_numbers(m, name, to.size, x, y)
@@ -240,7 +234,7 @@ def _one(name: str, operands: List[str], following: int) -> "Step":
     to = Operand(operands[0], following)
     mask, sign = (1 << 8 * to.size) - 1, 1 << (8 * to.size - 1)
 
-    def step(m: "Machine") -> None:
+    def step(m: "X86") -> None:
         x = number(to.get(m))
         result = {"not": ~x, "neg": -x, "inc": x + 1, "dec": x - 1}[name] & mask
         if name == "neg":
@@ -262,7 +256,7 @@ def _shift_of_data(name: str, size: int, value: Value, count: int) -> Value:
     raise Fault("a shift of data that isn't known")
 
 
-def _shift_of_number(m: "Machine", name: str, size: int, value: int, count: int) -> int:
+def _shift_of_number(m: "X86", name: str, size: int, value: int, count: int) -> int:
     """The result; it sets the flags, of which rotations leave none a value here."""
     bits = 8 * size
     mask = (1 << bits) - 1
@@ -284,7 +278,7 @@ def _shift(name: str, operands: List[str], following: int) -> "Step":
     by_one = len(operands) == 1 or operands[1] == "1"
     by = None if by_one else Operand(operands[1], following, 1)
 
-    def step(m: "Machine") -> None:
+    def step(m: "X86") -> None:
         count = (number(by.get(m)) if by else 1) & (63 if to.size == 8 else 31)
         value = to.get(m)
         if not isinstance(value, int):
@@ -302,7 +296,7 @@ def _product(operands: List[str], at: int, following: int) -> "Step":
     source = Operand(operands[1], following, to.size)
     factor = number_of(operands[2]) if len(operands) == 3 else None
 
-    def step(m: "Machine") -> None:
+    def step(m: "X86") -> None:
         other = number(to.get(m)) if factor is None else factor
         to.store(m, number(source.get(m)) * other & (1 << 8 * to.size) - 1)
         m.flags = None
@@ -317,7 +311,7 @@ def _wide(name: str, operands: List[str], following: int) -> "Step":
     if size < 4:
         raise Fault("an operand of less than four bytes")
 
-    def step(m: "Machine") -> None:
+    def step(m: "X86") -> None:
         x, least, most = number(operand.get(m)), number(m.get(RAX, size)), number(m.get(RDX, size))
         if name == "mul":
             most, least = divmod(x * least, 1 << 8 * size)
@@ -333,11 +327,29 @@ def _wide(name: str, operands: List[str], following: int) -> "Step":
     return step
 
 
+def _wide_without_flags(operands: List[str], at: int, following: int) -> "Step":
+    """`mulx`: the upper half of the product goes to the first register, and the lower half to the second."""
+    upper, lower, source = (Operand(it, following) for it in operands)
+
+    def step(m: "X86") -> None:
+        most, least = divmod(number(source.get(m)) * number(m.get(RDX, source.size)), 1 << 8 * source.size)
+        lower.store(m, least)
+        upper.store(m, most)
+
+    return step
+
+
+def _other_order(operands: List[str], at: int, following: int) -> "Step":
+    """`bswap`."""
+    to = Operand(operands[0], following)
+    return lambda m: to.store(m, int.from_bytes(number(to.get(m)).to_bytes(to.size, "little"), "big"))
+
+
 def _count(name: str, operands: List[str], following: int) -> "Step":
     """`popcnt` and `blsr`."""
     to, source = Operand(operands[0], following), Operand(operands[1], following)
 
-    def step(m: "Machine") -> None:
+    def step(m: "X86") -> None:
         x = number(source.get(m))
         if name == "popcnt":
             to.store(m, bin(x).count("1"))
@@ -353,6 +365,7 @@ def _count(name: str, operands: List[str], following: int) -> "Step":
 _BY_NAME = {
     "jmp": _jump, "call": _call, "ret": _return, "ud2": _trap, "push": _push, "pop": _pop, "mov": _move, "movabs": _move,
     "xchg": _exchange, "movzx": _zero_extended, "movsx": _sign_extended, "movsxd": _sign_extended, "lea": _address, "imul": _product,
+    "mulx": _wide_without_flags, "bswap": _other_order,
 }
 _GROUPS = {
     _two: ("add", "sub", "cmp", "adc", "sbb", "and", "or", "xor", "test"), _one: ("inc", "dec", "neg", "not"),

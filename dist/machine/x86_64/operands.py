@@ -5,11 +5,12 @@ from __future__ import annotations
 import re
 from typing import TYPE_CHECKING, Callable, Dict, List, Optional, Tuple
 
-from image import Fault
+from fault import Fault
+from image import parts_of
 from words import M64, Value, Word, pair
 
 if TYPE_CHECKING:
-    from machine import Machine
+    from x86_64.machine import X86
 
 RAX, RCX, RDX, RBX, RSP, RBP, RSI, RDI, R8, R9, R10, R11, R12, R13, R14, R15 = range(16)
 SIZES = {"BYTE": 1, "WORD": 2, "DWORD": 4, "QWORD": 8, "XMMWORD": 16, "YMMWORD": 32, "ZMMWORD": 64}
@@ -50,6 +51,12 @@ def general(text: str, size: int) -> int:
     return number
 
 
+def name_and_operands(text: str) -> Tuple[str, List[str]]:
+    """The name of an instruction, and the texts of its operands, without prefixes that mean nothing here and what objdump adds."""
+    text = re.sub(r"\s*[#<].*", "", text)
+    return parts_of(re.sub(r"^(?:(?:data16|cs|notrack|rex\.\w+|bnd) )+", "", text))
+
+
 class Place:
     """A memory operand: its size in bytes (0 if the text doesn't say), and how its address is found."""
 
@@ -85,7 +92,7 @@ class Place:
             raise Fault(f"an operand of {self.size} bytes in the place of {size}")
         return self
 
-    def address(self, m: "Machine", alignment: int = 1) -> int:
+    def address(self, m: "X86", alignment: int = 1) -> int:
         address = self.offset
         for register, scale in ((self.base, 1), (self.index, self.scale)):
             if register is not None:
@@ -100,7 +107,7 @@ class Place:
 
 
 #: What gives the words of an operand.
-Source = Callable[["Machine"], List[Word]]
+Source = Callable[["X86"], List[Word]]
 
 
 def words_of(text: str, width: int, following: int, is_aligned: bool = False) -> Source:

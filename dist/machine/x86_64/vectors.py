@@ -5,26 +5,20 @@ A vector is a list of words, the lowest first. `LANE` words are 128 bits, within
 
 from __future__ import annotations
 
-from typing import TYPE_CHECKING, Callable, Dict, List, Optional
+from typing import TYPE_CHECKING, Any, Callable, Dict, List, Optional
 
-from image import Fault
-from operands import REGISTERS, Place, Source, few_words_of, general, number_of, value_of, vector_of, words_of
+from fault import Fault, number
+from x86_64.operands import REGISTERS, Place, Source, few_words_of, general, number_of, value_of, vector_of, words_of
 from words import M32, M64, Value, Word, add, add_64, and_, byte, from_bytes, high, low, or_, pair, ror, shl, shl_64, shr, shr_64, xor
 
 if TYPE_CHECKING:
-    from machine import Machine, Step
+    from x86_64.machine import X86, Step
 
 LANE = 4
 Vector = List[Word]
 #: A function of two vectors; one of one vector; and what gives such a function for the number in an instruction.
 OfTwo = Callable[[Vector, Vector], Vector]
 OfOne = Callable[[Vector], Vector]
-
-
-def number(value: Value) -> int:
-    if not isinstance(value, int):
-        raise Fault("this instruction is known for numbers alone")
-    return value
 
 
 class Form:
@@ -64,17 +58,17 @@ class Form:
         """The last two operands. Before AVX, one of them in memory has to be aligned."""
         return [self.source(-2), self.source(-1, is_aligned=not self.is_avx)]
 
-    def into(self, width: int, result: Callable[["Machine"], Vector], place: int = 0) -> "Step":
+    def into(self, width: int, result: Callable[["X86"], Vector], place: int = 0) -> "Step":
         """What writes a result of so many words to a register. What is above it becomes 0 by AVX, and stays by SSE."""
         register = self.register(place)
 
-        def step(m: "Machine") -> None:
+        def step(m: "X86") -> None:
             above: Vector = [0] * (16 - width) if self.is_avx else m.vectors[register][width:]
             m.vectors[register] = [*result(m), *above]
 
         return step
 
-    def to_memory(self, count: int, result: Callable[["Machine"], Vector], is_aligned: bool = False) -> "Step":
+    def to_memory(self, count: int, result: Callable[["X86"], Vector], is_aligned: bool = False) -> "Step":
         """What writes a result of so many words to the first operand, a place in memory."""
         place = Place(self.operands[0], self.following).sized(4 * count)
         return lambda m: m.memory.store(place.address(m, 4 * count if is_aligned else 1), result(m))
@@ -114,6 +108,21 @@ def _words_of_bytes(data: Vector) -> Vector:
     return [from_bytes(data[i:i + 4]) for i in range(0, len(data), 4)]
 
 
+def _each_byte(f: Callable[..., Any]) -> Callable[..., Vector]:
+    """A function of bytes that are numbers, for each of them."""
+    return lambda *vectors: _words_of_bytes([f(*map(number, data)) & 255 for data in zip(*map(_bytes_of, vectors))])
+
+
+def _byte_signed(x: int) -> int:
+    return x - 256 if x >> 7 else x
+
+
+def _mixed_bytes(half: int) -> Callable[..., Vector]:
+    """The bytes of one half of each lane of two vectors, in turns."""
+    return _each_lane(lambda a, b: _words_of_bytes([
+        it for both in zip(_bytes_of(a[2 * half:2 * half + 2]), _bytes_of(b[2 * half:2 * half + 2])) for it in both]))
+
+
 @_each_lane
 def _shuffled_bytes(words: Vector, places: Vector) -> Vector:
     data = [*_bytes_of(words), 0]
@@ -144,7 +153,9 @@ _OF_TWO: Dict[str, OfTwo] = {
     "pcmpeqd": _each(lambda x, y: M32 * (number(x) == number(y))),
     "punpckldq": _each_lane(lambda a, b: [a[0], b[0], a[1], b[1]]), "punpckhdq": _each_lane(lambda a, b: [a[2], b[2], a[3], b[3]]),
     "punpcklqdq": _each_lane(lambda a, b: [*a[:2], *b[:2]]), "punpckhqdq": _each_lane(lambda a, b: [*a[2:], *b[2:]]),
-    "pshufb": _exchanged_bytes,
+    "pshufb": _exchanged_bytes, "punpcklbw": _mixed_bytes(0), "punpckhbw": _mixed_bytes(1),
+    "paddb": _each_byte(lambda x, y: x + y), "pmaxub": _each_byte(max), "pminub": _each_byte(min),
+    "pcmpeqb": _each_byte(lambda x, y: -(x == y)), "pcmpgtb": _each_byte(lambda x, y: -(_byte_signed(x) > _byte_signed(y))),
 }
 _ALIASES = {
     "punpckldq": "unpcklps", "punpckhdq": "unpckhps", "punpcklqdq": "unpcklpd", "punpckhqdq": "unpckhpd",
@@ -247,6 +258,7 @@ _OF_ONE_BY_NUMBER: Dict[str, Callable[[int], OfOne]] = {
     "prord": lambda k: _each(lambda word: ror(word, k)), "prold": lambda k: _each(lambda word: ror(word, 32 - (k & 31))),
 }
 _SHIFTS: Dict[str, Callable[[int], OfOne]] = {
+    "psrlw": lambda k: _each(lambda word: (number(word) & 0xFFFF) >> k | number(word) >> 16 >> k << 16),
     "psrld": lambda k: _each(lambda word: shr(word, k)), "pslld": lambda k: _each(lambda word: shl(word, k)),
     "psrlq": lambda k: _each_pair(lambda value: shr_64(value, k)), "psllq": lambda k: _each_pair(lambda value: shl_64(value, k)),
     "psrldq": lambda k: _each_lane(lambda a: _words_of_bytes([*_bytes_of(a), *[0] * 16][min(k, 16):][:16])),
@@ -354,7 +366,7 @@ def _of_both_by_places(it: Form) -> "Step":
     unit, width, own = 2 if it.name.endswith("q") else 1, it.width(), it.register(0)
     x, y = it.sources()
 
-    def result(m: "Machine") -> Vector:
+    def result(m: "X86") -> Vector:
         first, places = m.vectors[own][:width], x(m)
         if it.name.startswith("permi"):
             first, places = places, first
@@ -392,7 +404,7 @@ def _insertps(it: Form) -> "Step":
     is_register = vector_of(it.operands[-1])
     source = it.source(-1, LANE) if is_register else few_words_of(it.operands[-1], 1, it.following)
 
-    def result(m: "Machine") -> Vector:
+    def result(m: "X86") -> Vector:
         words = list(other(m))
         words[k >> 4 & 3] = source(m)[k >> 6 & 3 if is_register else 0]
         return [0 if k >> i & 1 else words[i] for i in range(LANE)]
@@ -440,9 +452,20 @@ def _blend_by_signs(it: Form) -> "Step":
     unit = 1 if it.name == "blendvps" else 2
     x, y, signs = it.source(1), it.source(2), it.source(3)
 
-    def result(m: "Machine") -> Vector:
+    def result(m: "X86") -> Vector:
         chosen = [number(sign) >> 31 for sign in signs(m)[unit - 1::unit]]
         return [b if chosen[i // unit] else a for i, (a, b) in enumerate(zip(x(m), y(m)))]
+
+    return it.into(it.width(), result)
+
+
+def _blend_bytes(it: Form) -> "Step":
+    """`pblendvb`, whose choices are numbers."""
+    x, y, signs = (it.source(1), it.source(2), it.source(3)) if it.is_avx else (it.source(0), it.source(1, is_aligned=True), it.source(2))
+
+    def result(m: "X86") -> Vector:
+        chosen = [number(sign) >> 7 for sign in _bytes_of(signs(m))]
+        return _words_of_bytes([b if its else a for its, a, b in zip(chosen, _bytes_of(x(m)), _bytes_of(y(m)))])
 
     return it.into(it.width(), result)
 
@@ -457,7 +480,7 @@ def _of_three(it: Form) -> "Step":
 
 def _clear_above(it: Form) -> "Step":
     """`vzeroupper`."""
-    def step(m: "Machine") -> None:
+    def step(m: "X86") -> None:
         m.vectors[:16] = [[*words[:LANE], *[0] * 12] for words in m.vectors[:16]]
 
     return step
@@ -479,7 +502,8 @@ _DECODERS: Dict[str, Callable[[Form], "Step"]] = {
     **dict.fromkeys([f"extract{kind}" for kind in "i128 f128 i64x4 f64x4 i32x4 f32x4 i64x2 f64x2".split()], _extract),
     "insertps": _insertps, **dict.fromkeys(("pinsrd", "pinsrq"), _insert_words), "zeroupper": _clear_above,
     **dict.fromkeys(("pextrd", "pextrq", "extractps"), _extract_words), "pmovqd": _narrowed, "pmovzxdq": _widened,
-    **dict.fromkeys(("blendvps", "blendvpd"), _blend_by_signs), **dict.fromkeys(("pternlogd", "pternlogq"), _of_three),
+    **dict.fromkeys(("blendvps", "blendvpd"), _blend_by_signs), "pblendvb": _blend_bytes,
+    **dict.fromkeys(("pternlogd", "pternlogq"), _of_three),
 }
 
 

@@ -1,0 +1,81 @@
+"""An x86-64 processor, and the rules of calls that its functions follow."""
+
+from __future__ import annotations
+
+from typing import Callable, Dict, List, Optional
+
+from fault import Fault, number
+from machine import RETURN, Machine
+from words import Value, Word, byte, from_bytes, high, low, pair, unknown
+from x86_64 import scalars, vectors
+from x86_64.operands import (
+    R8, R9, R10, R11, R12, R13, R14, R15, RAX, RBP, RBX, RCX, RDI, RDX, RSI, RSP, name_and_operands, vector_of,
+)
+
+#: The registers that a function gives back as they were.
+_KEPT = (RSP, RBX, RBP, R12, R13, R14, R15)
+
+#: What an instruction does. It returns where the code goes on, or None for the next instruction.
+Step = Callable[["X86"], Optional[int]]
+
+
+class X86(Machine):
+    SIZES = (16, 32, 16)
+    ARGUMENTS = (RDI, RSI, RDX, RCX, R8, R9)
+    RESULT, STACK = RAX, RSP
+    SCRATCH = (RAX, RCX, RDX, RSI, RDI, R8, R9, R10, R11)
+
+    def get(self, register: int, size: int) -> Value:
+        """The value of the lowest bytes of a general register."""
+        value = self.general[register]
+        if size == 8:
+            return value
+        if size == 4:
+            return low(value)
+        return from_bytes([byte(low(value), k) if k < size else 0 for k in range(4)])
+
+    def put(self, register: int, size: int, value: Value) -> None:
+        """Sets the lowest bytes of a general register. Four bytes clear the others, and fewer leave them."""
+        if size == 8:
+            self.general[register] = value
+        elif size == 4:
+            self.general[register] = pair(low(value), 0)
+        else:
+            old = self.general[register]
+            self.general[register] = pair(from_bytes([byte(low(value if k < size else old), k) for k in range(4)]), high(old))
+
+    def low_words(self, register: int, count: int) -> List[Word]:
+        """The low word of a general register, or both."""
+        value = self.general[register]
+        return [low(value), high(value)][:count]
+
+    def push(self, value: Value) -> None:
+        self.general[RSP] = self.number(RSP) - 8
+        self.write(self.number(RSP), 8, value)
+
+    def pop(self) -> Value:
+        value = self.read(self.number(RSP), 8)
+        self.general[RSP] = self.number(RSP) + 8
+        return value
+
+    def begin_call(self) -> None:
+        self.push(RETURN)
+
+    def end_call(self) -> int:
+        return number(self.pop())
+
+    def kept(self) -> Dict[str, object]:
+        return {f"register {register}": self.general[register] for register in _KEPT}
+
+    def forget_scratch_vectors(self) -> None:
+        self.vectors = [[unknown() for _ in range(16)] for _ in range(32)]
+
+    def decode(self, text: str, at: int, following: int) -> Step:
+        name, operands = name_and_operands(text)
+        if name.startswith("v") or any(vector_of(it) for it in operands):
+            step = vectors.decoded(name, operands, following)
+        else:
+            step = scalars.decoded(name, operands, at, following)
+        if step is None:
+            raise Fault("this instruction isn't known")
+        return step
