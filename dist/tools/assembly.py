@@ -8,7 +8,7 @@ import tempfile
 from pathlib import Path
 from typing import Iterable
 
-from avx512 import with_avx512
+from avx512 import kept_apart, with_avx512
 from cut import KERNELS, kernels_alone, refuse_other_calls, table, with_stubs, without_stubs
 from levels import Level, levels, version
 from proving import Fault, run, tool
@@ -65,15 +65,16 @@ def clang(level: Level, module: Path, to: Path, *more: str) -> None:
 
 
 def module_of(level: Level, work: Path) -> Path:
-    """The level's module. For x86-64, its functions ask for unwind tables.
+    """The level's module. For x86-64, its functions ask for unwind tables. At a translated level, those that get AVX-512 stay apart.
 
-    On aarch64 these would change instructions; there, frame pointers lead a debugger on.
+    On aarch64 unwind tables would change instructions; there, frame pointers lead a debugger on.
     """
     if level.processor != "x86_64":
         return level.folder / "module"
     module = work / "module.ll"
     run(tool("clang"), "-x", "ir", level.folder / "module", "-S", "-emit-llvm", "-Xclang", "-disable-llvm-passes", "-o", module)
-    module.write_text(with_unwind_tables(module.read_text()))
+    text = with_unwind_tables(module.read_text())
+    module.write_text(kept_apart(text) if level.is_translated else text)
     return module
 
 

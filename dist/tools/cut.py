@@ -44,8 +44,8 @@ TABLE = """\
 {entries}	.size	{table}, {size}
 
 """
-#: Attributes of a function that say for which processor it is compiled, how its frame is aligned, and that it has an unwind table.
-OF_PROCESSOR = re.compile(r'"(?:target-cpu|target-features|tune-cpu|min-legal-vector-width)"="[^"]*" ?|\b(?:uwtable|alignstack=\d+) ?')
+#: Attributes of a function that say for which processor it is compiled, whether it stays a function, and that it has an unwind table.
+OF_PROCESSOR = re.compile(r'"(?:target-cpu|target-features|tune-cpu|min-legal-vector-width)"="[^"]*" ?|\b(?:uwtable|noinline) ?')
 VECTOR = re.compile(r"<(\d+) x i(\d+)>")
 #: What begins a section, with the line that says of an object that it is one.
 SECTION = re.compile(r"(?m)^(?:\t\.type\t\S+,@object\n)?\t\.section\t(.*)\n")
