@@ -33,7 +33,7 @@ class Aarch64(Machine):
         return number(self.general[LR])
 
     def kept(self) -> Dict[str, object]:
-        """Registers 19 to 29, the stack pointer, and the lower halves of vectors 8 to 15."""
+        """Registers 19 to 29, the stack pointer, and the lower halves of eight vectors, from number 8 on."""
         found: Dict[str, object] = {f"register {register}": self.general[register] for register in (*range(19, 30), SP)}
         return {**found, **{f"vector {vector}": self.vectors[vector][:2] for vector in range(8, 16)}}
 
