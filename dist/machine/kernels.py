@@ -17,8 +17,8 @@ from words import Value, Word, add_64, forget, high, low, symbol, unknown
 
 #: Where the checks put what a function reads or writes, each place at an address that isn't a multiple of 32 where it needn't be.
 RESULT, FIRST, SECOND, THIRD, CHUNKS = 0x20000040, 0x21000040, 0x22000040, 0x23000040, 0x30000004
-#: How many words a vector has in which chaining values are passed, at levels where they aren't passed in memory: of one block, and of two.
-VALUE_VECTORS = {"x86-64": (4, 4), "x86-64-v2": (4, 4), "x86-64-v3": (4, 8), "aarch64": (4, 4)}
+#: How many words a vector has in which a level passes chaining values: those of one block, and of two.
+VALUE_VECTORS = {"x86-64": (4, 4), "x86-64-v2": (4, 4), "x86-64-v3": (4, 8), "x86-64-v4": (4, 8), "aarch64": (4, 4)}
 
 
 def symbols(name: str, count: int) -> List[Word]:
@@ -61,14 +61,10 @@ class Kernel:
         """Gives it words in memory, which it may only read."""
         self.arguments.append(self.memory.add_words(place, list(words)))
 
-    def give_value(self, place: int, words: Sequence[Word], blocks: int) -> None:
-        """Gives it the chaining values of one block or two, as its level passes them."""
-        widths = VALUE_VECTORS.get(self.caller.library.level.name)
-        if widths is None:
-            self.give_at(place, words)
-        else:
-            width = widths[blocks - 1]
-            self.vectors = [words[i:i + width] for i in range(0, len(words), width)]
+    def give_value(self, words: Sequence[Word], blocks: int) -> None:
+        """Gives it the chaining values of one block or two in vectors, as its level passes them."""
+        width = VALUE_VECTORS[self.caller.library.level.name][blocks - 1]
+        self.vectors = [words[i:i + width] for i in range(0, len(words), width)]
 
     def must_give(self, wanted: Wanted, what: str) -> int:
         """Runs the function, whose result must be as wanted. Returns how many instructions it ran."""
@@ -83,8 +79,8 @@ def check_compress(library: Library) -> int:
     h, block, counter, length, flags = symbols("h", 8), symbols("m", 16), counter_of("counter"), symbol("length"), symbol("flags")
     wanted = Wanted(compress, h, block, counter, length, flags)
     kernel = Kernel(library, "compression::compress", [unknown() for _ in range(8)])
-    kernel.give_value(FIRST, h, 1)
-    kernel.give_at(SECOND, block)
+    kernel.give_value(h, 1)
+    kernel.give_at(FIRST, block)
     kernel.give(counter, upper_unknown(length), upper_unknown(flags))
     return kernel.must_give(wanted, "one block")
 
@@ -96,8 +92,8 @@ def check_compress_two(library: Library) -> int:
     blocks = [(symbols(f"m{k}", 16), counter_of(f"counter{k}"), symbol(f"length{k}"), symbol(f"flags{k}")) for k in (0, 1)]
     wanted = Wanted(two_blocks, values, blocks)
     kernel = Kernel(library, "compression::two::compress_two", [unknown() for _ in range(16)])
-    kernel.give_value(FIRST, beside(*values), 2)
-    for place, (words, counter, length, flags) in zip((SECOND, THIRD), blocks):
+    kernel.give_value(beside(*values), 2)
+    for place, (words, counter, length, flags) in zip((FIRST, SECOND), blocks):
         kernel.give_at(place, [*words, low(counter), high(counter), length, flags])
     return kernel.must_give(wanted, "two blocks")
 

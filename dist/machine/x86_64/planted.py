@@ -48,7 +48,7 @@ PLANTS: Dict[str, List[Plant]] = {
         Plant("a rotation in one block", "compression::compress", r"vprold\t\$(?:7|25),", r"vprold\t$26,", 3),
         Plant("an exchange of words in one block", "compression::compress", r"vpshufd\t\$57,", r"vpshufd\t$147,", 4),
         Plant("an exchange of words in two blocks", "compression::two::compress_two", r"vpshufd\t\$78,", r"vpshufd\t$57,", 3),
-        Plant("the flags of a parent", "hasher::Hasher::update", r"\$20, %r9d", r"$16, %r9d"),
+        Plant("the flags of a parent", "hasher::Hasher::update", r"\$20, %r8d", r"$16, %r8d"),
         Plant("a read after the message", "chunks::take_block", r"vmovdqu64\t(\(%rcx,%r14\)|\(%r14,%rcx\))", r"vmovdqu64\t65536\1"),
         Plant("a frame that isn't aligned", "chunks::take_block", r"andq\t\$-64, %rsp", r"andq\t$-16, %rsp"),
         Plant("a register that isn't given back", "chunks::take_block", r"popq\t%rbx", r"popq\t%rcx", -1),
