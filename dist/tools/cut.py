@@ -46,12 +46,18 @@ TABLE = """\
 """
 #: Attributes of a function that say for which processor it is compiled, whether it stays a function, and that it has an unwind table.
 OF_PROCESSOR = re.compile(r'"(?:target-cpu|target-features|tune-cpu|min-legal-vector-width)"="[^"]*" ?|\b(?:uwtable|noinline) ?')
+#: A vector among the parameters of a function.
 VECTOR = re.compile(r"<(\d+) x i(\d+)>")
 #: What begins a section, with the line that says of an object that it is one.
 SECTION = re.compile(r"(?m)^(?:\t\.type\t\S+,@object\n)?\t\.section\t(.*)\n")
 LABEL = re.compile(r'(?m)^("[^"\n]*"|[\w.$]+):')
 NAME = re.compile(r'"[^"\n]*"|[A-Za-z_.$][\w.$]*')
 END = '\t.section\t".note.GNU-stack","",@progbits\n'
+
+
+def has_vectors_above(most_bits: int, head: str) -> bool:
+    """Whether a function whose head this is has longer vectors among its parameters."""
+    return any(int(count) * int(bits) > most_bits for count, bits in VECTOR.findall(head))
 
 
 def calls_of_kernels(module: str) -> dict[str, str]:
@@ -73,7 +79,7 @@ def refuse_other_calls(library: str, kernels: str, level: str) -> None:
         if called[kernel] != of_level[kernel]:
             raise Fault(f"{kernel} is called as {called[kernel]}, and at {level} as {of_level[kernel]}")
         # How a longer vector is passed depends on the processor.
-        if any(int(count) * int(bits) > 128 for count, bits in VECTOR.findall(called[kernel])):
+        if has_vectors_above(128, called[kernel]):
             raise Fault(f"{kernel} is called with long vectors: {called[kernel]}")
 
 

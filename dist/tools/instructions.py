@@ -50,7 +50,8 @@ class Object:
         self.objdump, self.path = objdump, path
         self.data = {name: it for name, it in dumped(objdump, path, "-s").items() if name.startswith(".rodata")}
         lines_of_code = dumped(objdump, path, "-d", "--no-show-raw-insn")
-        self.all_addresses = {name: [int(it[1], 16) for it in map(INSTRUCTION.fullmatch, lines) if it] for name, lines in lines_of_code.items()}
+        found = {name: filter(None, map(INSTRUCTION.fullmatch, lines)) for name, lines in lines_of_code.items()}
+        self.all_addresses = {name: [int(it[1], 16) for it in its] for name, its in found.items()}
         code = {name: self.code(lines) for name, lines in lines_of_code.items()}
         self.addresses = {name: [address for address, _ in lines] for name, lines in code.items()}
         self.instructions = {name: [self.numbered(name, text) for _, text in lines] for name, lines in code.items()}
@@ -106,7 +107,6 @@ class Object:
             offset -= at - starts[bisect_right(starts, at) - 1]
             return at, kind, target, self.number(target, offset)
         return relocation
-
 
     def constant(self, section: str, relocation: Relocation) -> Relocation:
         """A relocation of code for x86-64. If it points to a constant of a size, the constant stands in the place of where it is.
