@@ -66,7 +66,6 @@ class Caller:
 
 def check_hash(library: Library, name: str, length: int, shifts: Tuple[int, int] = PLACES[0]) -> Machine:
     """`data_hash` or `internal_node_hash`, for every message of a length, at places that are shifted. Returns the machine that ran it."""
-    forget()
     message, stack = MESSAGE + shifts[0], STACK - shifts[1]
     data = bytes_of("message", length)
     wanted = Wanted(keyed_hash, DATA_KEY if name == "data_hash" else INTERNAL_KEY, data)

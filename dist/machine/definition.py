@@ -17,11 +17,11 @@ PERMUTATION = (2, 6, 3, 10, 7, 0, 4, 13, 1, 11, 12, 5, 9, 14, 15, 8)
 
 
 def half_mix(v: List[Word], a: int, b: int, c: int, d: int, x: Word, r: int, s: int) -> None:
-    """Half of G. Sums are sealed. Exclusive ors aren't, since compilers rotate the parts of one before they join them."""
-    v[a] = seal(add(v[a], v[b], x))
+    """Half of G. v[b] alone is sealed, since compilers make one rotation of the two of v[d], of which each then has a part."""
+    v[a] = add(v[a], v[b], x)
     v[d] = ror(xor(v[d], v[a]), r)
-    v[c] = seal(add(v[c], v[d]))
-    v[b] = ror(xor(v[b], v[c]), s)
+    v[c] = add(v[c], v[d])
+    v[b] = seal(ror(xor(v[b], v[c]), s))
 
 
 def mix(v: List[Word], a: int, b: int, c: int, d: int, x: Word, y: Word) -> None:

@@ -12,6 +12,7 @@ from typing import Callable, Iterable, Iterator, List, Sequence, Tuple
 from calls import Caller
 from definition import CHUNK_END, CHUNK_START, KEYED_HASH, compress, parent_value
 from layout import Library, inner
+from machine import Machine
 from wanted import Wanted
 from words import Value, Word, add_64, forget, high, low, symbol, unknown
 
@@ -66,14 +67,14 @@ class Kernel:
         width = VALUE_VECTORS[self.caller.library.level.name][blocks - 1]
         self.vectors = [words[i:i + width] for i in range(0, len(words), width)]
 
-    def must_give(self, wanted: Wanted, what: str) -> int:
-        """Runs the function, whose result must be as wanted. Returns how many instructions it ran."""
+    def must_give(self, wanted: Wanted, what: str) -> Machine:
+        """Runs the function, whose result must be as wanted. Returns the machine that ran it."""
         self.caller.run(self.name, self.arguments, self.vectors)
         wanted.must_be(self.memory.load(RESULT, self.size), f"{self.name}, {what}")
-        return self.caller.m.steps
+        return self.caller.m
 
 
-def check_compress(library: Library) -> int:
+def check_compress(library: Library) -> Machine:
     """One block."""
     forget()
     h, block, counter, length, flags = symbols("h", 8), symbols("m", 16), counter_of("counter"), symbol("length"), symbol("flags")
@@ -85,7 +86,7 @@ def check_compress(library: Library) -> int:
     return kernel.must_give(wanted, "one block")
 
 
-def check_compress_two(library: Library) -> int:
+def check_compress_two(library: Library) -> Machine:
     """Two blocks, each with a counter, a length and flags of its own."""
     forget()
     values = [symbols(f"h{k}", 8) for k in (0, 1)]
@@ -108,7 +109,7 @@ def beside(first: Sequence[Word], second: Sequence[Word]) -> List[Word]:
     return [*first[:4], *second[:4], *first[4:], *second[4:]]
 
 
-def check_take_block(library: Library, n: int, places: Sequence[int]) -> int:
+def check_take_block(library: Library, n: int, places: Sequence[int]) -> Machine:
     """Block n of chunks at some places, of which nothing but these blocks may be read."""
     forget()
     lanes = len(places)
@@ -131,7 +132,7 @@ def block_of_each(h: Sequence[Sequence[Word]], blocks: Sequence[Sequence[Word]],
     return side_by_side(compress(*lane, 64, flags) for lane in zip(h, blocks, counters))
 
 
-def check_chunk_values(library: Library, places: Sequence[int]) -> int:
+def check_chunk_values(library: Library, places: Sequence[int]) -> Machine:
     """The chunks at some places, the first of which has any number."""
     forget()
     key, first = symbols("key", 8), counter_of("first")
@@ -160,7 +161,7 @@ def value_of_chunk(key: Sequence[Word], number: Value, words: Sequence[Word]) ->
     return value
 
 
-def check_parents(library: Library, name: str) -> int:
+def check_parents(library: Library, name: str) -> Machine:
     """The parents of neighbours (`parent_values`), or of those in the same lane (`values_above`)."""
     forget()
     lanes = library.level.lanes
@@ -178,8 +179,8 @@ def parent_of_each(key: Sequence[Word], left: Sequence[Sequence[Word]], right: S
     return side_by_side(parent_value(key, *pair, 0) for pair in zip(left, right))
 
 
-def checks(library: Library) -> Iterator[Tuple[str, Callable[[], int]]]:
-    """The checks of a level, each with its name; each returns how many instructions it ran."""
+def checks(library: Library) -> Iterator[Tuple[str, Callable[[], Machine]]]:
+    """The checks of a level, each with its name; each returns the machine that ran it."""
     lanes = library.level.lanes
     yield "compress", partial(check_compress, library)
     yield "compress_two", partial(check_compress_two, library)

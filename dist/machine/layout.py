@@ -5,7 +5,7 @@ from __future__ import annotations
 
 import sys
 from pathlib import Path
-from typing import TYPE_CHECKING, Dict, List, Optional, Tuple
+from typing import TYPE_CHECKING, Dict, List, Optional, Tuple, Type
 
 sys.path.insert(0, str(Path(__file__).resolve().parents[1] / "tools"))
 from aarch64.machine import Aarch64  # noqa: E402
@@ -24,6 +24,8 @@ LEVELS: Dict[str, Level] = {level.name: level for level in levels()}
 _OPTIONS: Dict[str, List[str]] = {"x86_64": ["-Mintel"], "aarch64": []}
 #: The level whose file has the library, and its own kernels, where there are kernels of others.
 _LIBRARY = next(level for level in LEVELS.values() if level.is_library and level.has_kernels)
+#: How the names of functions begin that each level has of its own.
+_OF_KERNELS = ("keyed_blake3::", "xet_roots::groups::")
 #: The choice of a level, in the place of what processor_level.c does.
 _CHOICE = "\t.data\n\t.globl\tyurewha_kernels\nyurewha_kernels:\n\t.quad\t{}\n\t.section\t.note.GNU-stack,\"\",@progbits\n"
 
@@ -47,10 +49,17 @@ class Library:
         #: What the instructions do that were met, and where the next one is.
         self.decoded: Dict[int, Tuple[Step, int]] = {}
 
+    @property
+    def kind(self) -> "Type[Machine]":
+        return X86 if self.level.processor == "x86_64" else Aarch64
+
     def machine(self) -> "Machine":
         """A machine that runs it."""
-        kind = X86 if self.level.processor == "x86_64" else Aarch64
-        return kind(self.image, self.decoded)
+        return self.kind(self.image, self.decoded)
+
+    def branches_of_kernels(self) -> List[int]:
+        """Where the functions that each level has of its own have branches with a condition."""
+        return [at for at, it in self.image.instructions.items() if it.function.startswith(_OF_KERNELS) and self.kind.BRANCH.match(it.text)]
 
     def call(self, name: str) -> str:
         """What a call of the library is called."""

@@ -8,7 +8,7 @@ neither its branches nor its addresses depend on the data. What is different for
 from __future__ import annotations
 
 from abc import ABC, abstractmethod
-from typing import Any, Callable, ClassVar, Dict, List, Optional, Sequence, Set, Tuple
+from typing import Any, Callable, ClassVar, Dict, List, Optional, Pattern, Sequence, Set, Tuple
 
 from fault import Fault, number
 from image import OUTSIDE, Image
@@ -40,6 +40,8 @@ class Machine(ABC):
     STACK: ClassVar[int]
     #: Registers that a call may change.
     SCRATCH: ClassVar[Sequence[int]]
+    #: How the text of a branch with a condition begins.
+    BRANCH: ClassVar[Pattern[str]]
 
     def __init__(self, image: Image, decoded: Dict[int, Tuple[Step, int]]) -> None:
         self.image = image

@@ -35,8 +35,10 @@ class Memory:
     def add_bytes(self, start: int, data: List[Word]) -> int:
         """Adds a region with these bytes, which may only be read, and returns where it starts."""
         self.add_region(start, len(data), False)
-        for i, it in enumerate(data):
-            self._put_byte(start + i, it)
+        first, end = start & ~3, start + len(data)
+        whole = [*map(self._byte, range(first, start)), *data, *map(self._byte, range(end, (end + 3) & ~3))]
+        for i in range(0, len(whole), 4):
+            self.words[first + i] = from_bytes(whole[i:i + 4])
         return start
 
     def _must_allow(self, start: int, size: int, is_write: bool) -> None:

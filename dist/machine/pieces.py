@@ -12,7 +12,7 @@ from fault import Fault
 from layout import Library
 from machine import Machine
 from wanted import Wanted
-from words import Word, forget, low, seals_taken_back
+from words import Word, forget, low
 
 #: Where the hasher is, and how many bytes it has.
 HASHER, HASHER_SIZE = 0x25000000, 2048
@@ -97,14 +97,13 @@ def check_pieces(library: Library, pieces: Pieces) -> Machine:
     message, own_key = bytes_of("message", sum(pieces.lengths)), bytes_of("key", 32)
     keys: Dict[str, Sequence[Word]] = {"data": DATA_KEY, "internal": INTERNAL_KEY, "keyed": own_key}
     key = keys[pieces.begin]
-    keyed_hash(key, message)  # seals the sums of whole blocks and chunks, which a hasher keeps
+    keyed_hash(key, message)  # seals the chaining values that a hasher keeps
     caller = Caller(library)
     hasher = Hasher(caller, pieces.begin, own_key)
     for start, length in zip(accumulate([0, *pieces.lengths]), [*pieces.lengths, 0]):
         if start in pieces.ends:
-            with seals_taken_back():
-                wanted = Wanted(keyed_hash, key, message[:start])
-                wanted.must_be(hasher.hash(), f"{start} bytes in pieces ({pieces.what}, {pieces.begin})")
+            wanted = Wanted(keyed_hash, key, message[:start])
+            wanted.must_be(hasher.hash(), f"{start} bytes in pieces ({pieces.what}, {pieces.begin})")
         hasher.update(MESSAGE + start, message[start:start + length])
     if hasher.count() != len(message):
         raise Fault(f"a hasher says that it has other than {len(message)} bytes")

@@ -16,16 +16,15 @@ Each symbol also has a number, which is drawn when it is made, and so has each n
 compares the number of its result with what plain arithmetic gives for the numbers of its operands. So a normal form that stands for
 something else is found where it is made, unless that happens to agree for these numbers.
 
-A sealed word counts as one atom in the words that are made of it. That keeps sums and exclusive ors short. So words that are made
-while others are sealed may differ in form from those that are made later, and aren't to be compared with them.
+A sealed exclusive or counts as one atom in those that are made of it from then on, and keeps them short. So an exclusive or that was made
+earlier may have another form than an equal one that is made later. The definition seals none but chaining values, as it makes them.
 """
 
 from __future__ import annotations
 
 import random
-from contextlib import contextmanager
 from functools import reduce, wraps
-from typing import Any, Callable, Dict, Iterator, List, Tuple, TypeVar, Union, cast
+from typing import Any, Callable, Dict, List, Tuple, TypeVar, Union, cast
 
 M32 = 0xFFFFFFFF
 M64 = 0xFFFFFFFFFFFFFFFF
@@ -51,7 +50,7 @@ Term = Tuple[Node, int, int]
 Value = Union[int, Node, Tuple[Word, Word]]
 
 _NODES: Dict[Tuple[Any, ...], Node] = {}
-_SEALED: List[Node] = []
+_RESULTS: Dict[Tuple[Any, ...], Word] = {}
 _DRAWS = random.Random(11)
 
 
@@ -87,7 +86,7 @@ def node(form: str, *parts: object) -> Node:
 def forget() -> None:
     """Forgets all nodes. Words that were made before must not be compared with later ones."""
     _NODES.clear()
-    _SEALED.clear()
+    _RESULTS.clear()
 
 
 def symbol(name: str) -> Node:
@@ -100,36 +99,29 @@ def unknown() -> Node:
 
 
 def seal(word: Word) -> Word:
-    """The word, which is an atom from now on."""
-    if isinstance(word, Node) and not word.is_sealed:
+    """The word, which is an atom of exclusive ors from now on."""
+    if isinstance(word, Node) and word.form == "xor" and len(word.parts) > 2:
         word.is_sealed = True
-        _SEALED.append(word)
     return word
-
-
-@contextmanager
-def seals_taken_back() -> Iterator[None]:
-    """Takes back, at its end, the seals that were made within it."""
-    count = len(_SEALED)
-    yield
-    while len(_SEALED) > count:
-        _SEALED.pop().is_sealed = False
 
 
 Operation = TypeVar("Operation", bound=Callable[..., Word])
 
-
 def _compared(plain: Callable[..., Any]) -> Callable[[Operation], Operation]:
-    """Makes an operation compare the number of its result with what plain arithmetic gives, and give just that for numbers alone."""
+    """Makes an operation compare the number of its result with what plain arithmetic gives, and give just that for numbers alone. It
+    remembers each result by the words, and by which of them are sealed, since nothing else makes a difference."""
     def of(operation: Operation) -> Operation:
         @wraps(operation)
         def compared(*words: Word) -> Word:
-            number: int = plain(*[number_of(word) for word in words])
-            if not any(isinstance(word, Node) for word in words):
-                return number
-            result = operation(*words)
-            if number_of(result) != number:
-                raise AssertionError(f"{operation.__name__} of {', '.join(map(shown, words))} gives {shown(result)}")
+            key = (operation, *words, *[word.is_sealed for word in words if isinstance(word, Node)])
+            result = _RESULTS.get(key)
+            if result is None:
+                number: int = plain(*[number_of(word) for word in words])
+                if len(key) == 1 + len(words):
+                    return number
+                result = _RESULTS[key] = operation(*words)
+                if number_of(result) != number:
+                    raise AssertionError(f"{operation.__name__} of {', '.join(map(shown, words))} gives {shown(result)}")
             return result
 
         return cast(Operation, compared)
@@ -143,13 +135,15 @@ def _rotated(number: int, count: int) -> int:
 
 @_compared(lambda *numbers: sum(numbers) & M32)
 def add(*words: Word) -> Word:
-    """The sum, without the carry out of the word."""
+    """The sum, without the carry out of the word. It takes apart each sum that it is made of, whatever is sealed. Otherwise equal sums could
+    have two forms: the definition gives x + y, where a message has no word to add to it, and elsewhere x + y + z, which code may add up
+    from x + y."""
     constant = 0
     terms: List[Node] = []
     for word in words:
         if isinstance(word, int):
             constant += word
-        elif word.form == "add" and not word.is_sealed:
+        elif word.form == "add":
             constant += word.parts[0]
             terms += word.parts[1:]
         else:

@@ -2,6 +2,7 @@
 
 from __future__ import annotations
 
+import re
 from typing import Callable, Dict, Optional
 
 from aarch64 import scalars, vectors
@@ -21,6 +22,7 @@ class Aarch64(Machine):
     ARGUMENTS = range(8)
     RESULT, STACK = 0, SP
     SCRATCH = (*range(19), LR)
+    BRANCH = re.compile(r"b\.|cbn?z|tbn?z")
 
     def put(self, register: int, size: int, value: Value) -> None:
         """Sets a general register. Four bytes clear the others."""

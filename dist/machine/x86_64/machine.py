@@ -2,6 +2,7 @@
 
 from __future__ import annotations
 
+import re
 from typing import Callable, Dict, List, Optional
 
 from fault import Fault, number
@@ -24,6 +25,7 @@ class X86(Machine):
     ARGUMENTS = (RDI, RSI, RDX, RCX, R8, R9)
     RESULT, STACK = RAX, RSP
     SCRATCH = (RAX, RCX, RDX, RSI, RDI, R8, R9, R10, R11)
+    BRANCH = re.compile(r"j(?!mp)")
 
     def get(self, register: int, size: int) -> Value:
         """The value of the lowest bytes of a general register."""
