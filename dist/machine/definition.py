@@ -17,9 +17,9 @@ PERMUTATION = (2, 6, 3, 10, 7, 0, 4, 13, 1, 11, 12, 5, 9, 14, 15, 8)
 
 
 def half_mix(v: List[Word], a: int, b: int, c: int, d: int, x: Word, r: int, s: int) -> None:
-    """Half of G. v[b] alone is sealed, since compilers make one rotation of the two of v[d], of which each then has a part."""
+    """Half of G. Exclusive ors are sealed when they are rotated, since compilers rotate the parts of one before they join them."""
     v[a] = add(v[a], v[b], x)
-    v[d] = ror(xor(v[d], v[a]), r)
+    v[d] = seal(ror(xor(v[d], v[a]), r))
     v[c] = add(v[c], v[d])
     v[b] = seal(ror(xor(v[b], v[c]), s))
 

@@ -17,7 +17,7 @@ compares the number of its result with what plain arithmetic gives for the numbe
 something else is found where it is made, unless that happens to agree for these numbers.
 
 A sealed exclusive or counts as one atom in those that are made of it from then on, and keeps them short. So an exclusive or that was made
-earlier may have another form than an equal one that is made later. The definition seals none but chaining values, as it makes them.
+earlier may have another form than an equal one that is made later. The definition seals them as soon as it makes them.
 """
 
 from __future__ import annotations
@@ -187,36 +187,34 @@ def xor(*words: Word) -> Word:
     return _joined(constant, [(atom, rotation, mask) for (atom, rotation), mask in masks.items() if mask])
 
 
+def _turned(word: Word, count: int, mask: int) -> Word:
+    """The word, rotated to the right, of which only some bits are left then. It doesn't make the whole rotated word on the way: where that
+    is sealed, the bits that are left would have another form than those of the word itself."""
+    constant, terms = _split(word)
+    turned = [(atom, (rotation + count) & 31, _rotated(its, count) & mask) for atom, rotation, its in terms]
+    return _joined(_rotated(constant, count) & mask, [term for term in turned if term[2]])
+
+
 @_compared(lambda x, count: _rotated(x, count & 31))
 def ror(word: Word, count: int) -> Word:
     """The word, rotated to the right."""
-    count &= 31
-    if count == 0:
-        return word
-    constant, terms = _split(word)
-    turned = [(atom, (rotation + count) & 31, _rotated(mask, count)) for atom, rotation, mask in terms]
-    return _joined(_rotated(constant, count), turned)
+    return _turned(word, count & 31, M32)
 
 
 @_compared(lambda x, mask: x & mask)
 def masked(word: Word, mask: int) -> Word:
     """The word, of which only some bits are left."""
-    constant, terms = _split(word)
-    return _joined(constant & mask, [(atom, rotation, its & mask) for atom, rotation, its in terms if its & mask])
+    return _turned(word, 0, mask)
 
 
 @_compared(lambda x, count: x << count & M32)
 def shl(word: Word, count: int) -> Word:
-    if count > 31:
-        return 0
-    return masked(ror(word, 32 - count), M32 << count & M32) if count else word
+    return _turned(word, 32 - count, M32 << count & M32) if count < 32 else 0
 
 
 @_compared(lambda x, count: x >> count)
 def shr(word: Word, count: int) -> Word:
-    if count > 31:
-        return 0
-    return masked(ror(word, count), M32 >> count) if count else word
+    return _turned(word, count, M32 >> count) if count < 32 else 0
 
 
 def _possible(word: Word) -> int:
@@ -270,7 +268,7 @@ def carry(x: Word, y: Word) -> Word:
 
 def byte(word: Word, k: int) -> Word:
     """Byte k of a word, the lowest being byte 0."""
-    return word >> 8 * k & 255 if isinstance(word, int) else shr(shl(word, 24 - 8 * k), 24)
+    return word >> 8 * k & 255 if isinstance(word, int) else masked(shr(word, 8 * k), 255)
 
 
 def from_bytes(four: List[Word]) -> Word:
