@@ -51,6 +51,7 @@ class Library:
 
     @property
     def kind(self) -> "Type[Machine]":
+        """The machine of its processor."""
         return X86 if self.level.processor == "x86_64" else Aarch64
 
     def machine(self) -> "Machine":

@@ -50,6 +50,7 @@ Term = Tuple[Node, int, int]
 Value = Union[int, Node, Tuple[Word, Word]]
 
 _NODES: Dict[Tuple[Any, ...], Node] = {}
+#: The results of operations.
 _RESULTS: Dict[Tuple[Any, ...], Word] = {}
 _DRAWS = random.Random(11)
 
@@ -99,13 +100,15 @@ def unknown() -> Node:
 
 
 def seal(word: Word) -> Word:
-    """The word, which is an atom of exclusive ors from now on."""
+    """The word, which is an atom of exclusive ors from now on. One of a single term stays as it is, since that is no longer than an atom,
+    and may be a part of others."""
     if isinstance(word, Node) and word.form == "xor" and len(word.parts) > 2:
         word.is_sealed = True
     return word
 
 
 Operation = TypeVar("Operation", bound=Callable[..., Word])
+
 
 def _compared(plain: Callable[..., Any]) -> Callable[[Operation], Operation]:
     """Makes an operation compare the number of its result with what plain arithmetic gives, and give just that for numbers alone. It
@@ -135,9 +138,9 @@ def _rotated(number: int, count: int) -> int:
 
 @_compared(lambda *numbers: sum(numbers) & M32)
 def add(*words: Word) -> Word:
-    """The sum, without the carry out of the word. It takes apart each sum that it is made of, whatever is sealed. Otherwise equal sums could
-    have two forms: the definition gives x + y, where a message has no word to add to it, and elsewhere x + y + z, which code may add up
-    from x + y."""
+    """The sum, without the carry out of the word. It takes apart each sum that it is made of, so it has one form, whatever was added up
+    first. If a sum could be sealed, it would have two: the definition gives x + y, where a block has no byte for the third word, and
+    x + y + z elsewhere, which code may add up from x + y."""
     constant = 0
     terms: List[Node] = []
     for word in words:
