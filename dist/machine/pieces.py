@@ -51,6 +51,7 @@ def lists(lanes: int, is_short: bool) -> Iterator[Pieces]:
         yield every("less than chunks", "keyed", [1023] * 9)
         yield every("more than chunks", "keyed", [1025] * 9)
         yield every("all lanes after some bytes", "keyed", [5, 1024 * 2 * lanes + 77, 1])
+        yield every("all lanes after two chunks", "keyed", [1024 * 2, 1024 * 4 * lanes + 1])
         for begin in ("data", "internal", "keyed"):
             yield every("all lanes again", begin, [1024 * lanes, 1024 * lanes, 1, 1024 * 3 * lanes, 1023, 1024 * lanes + 1, 4096, 2])
         yield every("doubled", "data", [1 << k for k in range(16)])
