@@ -24,8 +24,6 @@ LEVELS: Dict[str, Level] = {level.name: level for level in levels()}
 _OPTIONS: Dict[str, List[str]] = {"x86_64": ["-Mintel"], "aarch64": []}
 #: The level whose file has the library, and its own kernels, where there are kernels of others.
 _LIBRARY = next(level for level in LEVELS.values() if level.is_library and level.has_kernels)
-#: How the names of functions begin that each level has of its own.
-_OF_KERNELS = ("keyed_blake3::", "xet_roots::groups::")
 #: The choice of a level, in the place of what processor_level.c does.
 _CHOICE = "\t.data\n\t.globl\tyurewha_kernels\nyurewha_kernels:\n\t.quad\t{}\n\t.section\t.note.GNU-stack,\"\",@progbits\n"
 
@@ -60,7 +58,8 @@ class Library:
 
     def branches_of_kernels(self) -> List[int]:
         """Where the functions that each level has of its own have branches with a condition."""
-        return [at for at, it in self.image.instructions.items() if it.function.startswith(_OF_KERNELS) and self.kind.BRANCH.match(it.text)]
+        names = inner(""), of_groups("")
+        return [at for at, it in self.image.instructions.items() if it.function.startswith(names) and self.kind.BRANCH.match(it.text)]
 
     def call(self, name: str) -> str:
         """What a call of the library is called."""

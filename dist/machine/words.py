@@ -122,9 +122,10 @@ def _compared(plain: Callable[..., Any]) -> Callable[[Operation], Operation]:
                 number: int = plain(*[number_of(word) for word in words])
                 if len(key) == 1 + len(words):
                     return number
-                result = _RESULTS[key] = operation(*words)
+                result = operation(*words)
                 if number_of(result) != number:
                     raise AssertionError(f"{operation.__name__} of {', '.join(map(shown, words))} gives {shown(result)}")
+                _RESULTS[key] = result
             return result
 
         return cast(Operation, compared)
