@@ -6,7 +6,7 @@ from dataclasses import dataclass
 from pathlib import Path
 
 from avx512 import fault_of
-from levels import ROOT, Level
+from levels import ROOT, Part
 from proving import Fault, run
 
 
@@ -28,7 +28,7 @@ ASSEMBLERS = {
 }
 
 
-def refuse_other_avx512(level: Level, work: Path) -> None:
+def refuse_other_avx512(level: Part, work: Path) -> None:
     """Refuses the file of a translated level that has AVX-512 where it may not."""
     tools = ASSEMBLERS[level.processor]
     run(ROOT / "bindings/install_packages", *tools.packages)

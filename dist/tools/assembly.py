@@ -1,4 +1,4 @@
-"""Assembly of the proved library, from the LLVM module that the toolchain makes of it."""
+"""Assembly of the proved library and programs, from the LLVM modules that the toolchain makes of them."""
 
 from __future__ import annotations
 
@@ -8,17 +8,17 @@ import tempfile
 from pathlib import Path
 from typing import Iterable
 
-from avx512 import kept_apart, with_avx512
-from cut import KERNELS, kernels_alone, refuse_other_calls, table, with_stubs, without_stubs
-from levels import Level, levels, version
+import avx512
+import cut
+from cut import KERNELS
+from levels import Level, Part, Program, levels, version
+from modules import kept_apart
 from proving import Fault, run, tool
 
 HEAD = """\
-/* Yurewha {version} for {level}: {what}, as the toolchain compiles it. Made by dist/make, not by hand.
+/* Yurewha {version} for {what}, as the toolchain compiles it. Made by dist/make, not by hand.
    The sum of its sources: {sources} */
 """
-LIBRARY = "the proved library"
-KERNELS_ALONE = "the kernels of the proved library"
 #: A section that says two things of code for x86-64: that indirect calls and jumps arrive at `endbr64` alone (1, IBT), and that
 #: functions return to where they were called from (2, SHSTK), as a shadow stack requires. The linker keeps what all objects say.
 PROTECTION_NOTE = """\
@@ -29,14 +29,23 @@ PROTECTION_NOTE = """\
 	.long	0xc0000002, 4, 3
 	.p2align	3, 0x0
 """
-#: A function of the heap, which dist/heap.c has under a name that is nobody else's.
-HEAP = re.compile(r"\brattle_(alloc|realloc|dealloc)\b")
+#: Where a program begins.
+ENTRY = "yurewha_program"
+#: What the toolchain calls so has another name here, which is nobody else's: functions of dist/heap.c, those of dist/run.c, and what
+#: the latter calls.
+OWN_NAMES = {
+    "rattle_alloc": "yurewha_heap_alloc", "rattle_realloc": "yurewha_heap_realloc", "rattle_dealloc": "yurewha_heap_dealloc",
+    "rattle_arg": "yurewha_run_argument", "rattle_errno": "yurewha_run_errno", "rattle_set_errno": "yurewha_run_set_errno",
+    "__sysv_signal": "yurewha_run_signal", "main": ENTRY,
+}
+#: A name of assembly, and texts, which may have any words.
+WORD = re.compile(r'(?m)^\t\.asci.*|"[^"\n]*"|(?<![\w.$])[A-Za-z_][\w.$]*')
 #: What only names the compiler and its input.
 NEEDLESS = re.compile(r"(?m)^\t\.(?:file|ident)\t.*\n")
 INDIRECT_JUMP = re.compile(r"(?m)^\tjmpq\t\*")
 #: An instruction that sets the stack pointer, but for those that make a frame or leave it; and a return to an address that was pushed.
 OTHER_FRAME = re.compile(
-    r"(?m)^\t(?!(?:add|sub|and)q\t\$-?\d+, %rsp$|leaq\t-?\d+\(%rbp\), %rsp$|movq\t%rbp, %rsp$).*[ \t]%rsp$"
+    r"(?m)^\t(?!\.|cmpq\t|(?:add|sub|and)q\t\$-?\d+, %rsp$|leaq\t-?\d+\(%rbp\), %rsp$|movq\t%rbp, %rsp$).*[ \t]%rsp$"
     r"|^\txchg.*%rsp|^\tpush.*\n(?:\t\.cfi_.*\n)*\tret")
 #: What isn't among the instructions of the proved library: lines of tables, and marks of targets of indirect jumps.
 ADDED = re.compile(r"(?m)^\t(?:\.cfi_.*|endbr64)\n|(?<=^\t)notrack (?=jmpq)")
@@ -52,9 +61,14 @@ def with_unwind_tables(text: str) -> str:
     return text
 
 
-def clang(level: Level, module: Path, to: Path, *more: str) -> None:
-    """Compiles a module by the words with which the toolchain's clang makes the object of a level, to assembly, or as `more` says."""
-    words = [word for word in (level.folder / "words").read_text().split("\0")[:-1] if not word.startswith("--sysroot")]
+def renamed(text: str, names: dict[str, str]) -> str:
+    """Assembly in which some names are others."""
+    return WORD.sub(lambda it: names.get(it[0], it[0]), text)
+
+
+def clang(part: Part, module: Path, to: Path, *more: str) -> None:
+    """Compiles a module by the words with which the toolchain's clang makes the object of a part, to assembly, or as `more` says."""
+    words = [word for word in (part.folder / "words").read_text().split("\0")[:-1] if not word.startswith("--sysroot")]
     try:
         words[words.index("-c")] = "-S"
         words[words.index("-x") + 2] = str(module)
@@ -64,78 +78,113 @@ def clang(level: Level, module: Path, to: Path, *more: str) -> None:
     run(tool("clang"), *words, "-fno-addrsig", "-fno-verbose-asm", *more)
 
 
-def module_of(level: Level, work: Path) -> Path:
-    """The level's module. For x86-64, its functions ask for unwind tables. At a translated level, those that get AVX-512 stay apart.
+def module_of(part: Part, work: Path, apart: bool = False) -> Path:
+    """The part's module. For x86-64, its functions ask for unwind tables, and some stay apart: those that get AVX-512, or the kernels.
 
     On aarch64 unwind tables would change instructions; there, frame pointers lead a debugger on.
     """
-    if level.processor != "x86_64":
-        return level.folder / "module"
+    if part.processor != "x86_64":
+        return part.folder / "module"
     module = work / "module.ll"
-    run(tool("clang"), "-x", "ir", level.folder / "module", "-S", "-emit-llvm", "-Xclang", "-disable-llvm-passes", "-o", module)
+    run(tool("clang"), "-x", "ir", part.folder / "module", "-S", "-emit-llvm", "-Xclang", "-disable-llvm-passes", "-o", module)
     text = with_unwind_tables(module.read_text())
-    module.write_text(kept_apart(text) if level.is_translated else text)
+    if part.is_translated:
+        text = kept_apart(text, avx512.FUNCTIONS, avx512.MOST_BITS)
+    if apart:
+        text = kept_apart(text, [*KERNELS, *cut.CALLERS], cut.MOST_BITS)
+    module.write_text(text)
     return module
 
 
 @functools.lru_cache(maxsize=None)
-def optimized(level: Level) -> str:
-    """The level's module as LLVM has it when it begins to choose instructions."""
+def optimized(part: Part, apart: bool = False) -> str:
+    """The part's module as LLVM has it when it begins to choose instructions."""
     with tempfile.TemporaryDirectory() as work:
         made = Path(work, "optimized.ll")
-        clang(level, module_of(level, Path(work)), made, "-emit-llvm")
+        clang(part, module_of(part, Path(work), apart), made, "-emit-llvm")
         return made.read_text()
 
 
-def compiled(level: Level, work: Path) -> str:
-    """The assembly that the toolchain's clang makes of the level's module. A level that is translated gets AVX-512 for some functions."""
-    made = work / "module.s"
-    if level.is_translated:
-        module = work / "translated.ll"
-        module.write_text(with_avx512(optimized(level)))
-        clang(level, module, made, "-Xclang", "-disable-llvm-passes")
-    else:
-        clang(level, module_of(level, work), made)
-    return made.read_text()
-
-
-def assembly(level: Level, sources: str) -> str:
-    """The file of a level: its library, if it is the first level of its processor, else its kernels."""
-    if not level.is_library:
-        library = next(it for it in levels() if it.processor == level.processor)
-        refuse_other_calls(optimized(library), optimized(level), level.name)
+@functools.lru_cache(maxsize=None)
+def compiled(part: Part, apart: bool = False) -> str:
+    """The assembly that the toolchain's clang makes of the part's module. A level that is translated gets AVX-512 for some functions."""
     with tempfile.TemporaryDirectory() as work:
-        return finished(level, compiled(level, Path(work)), sources)
+        made = Path(work, "module.s")
+        if part.is_translated:
+            module = Path(work, "translated.ll")
+            module.write_text(avx512.with_avx512(optimized(part)))
+            clang(part, module, made, "-Xclang", "-disable-llvm-passes")
+        else:
+            clang(part, module_of(part, Path(work), apart), made)
+        return NEEDLESS.sub("", made.read_text())
 
 
-def finished(level: Level, text: str, sources: str) -> str:
-    """The file of a level, of the assembly that clang made."""
-    text = HEAP.sub(r"yurewha_heap_\1", NEEDLESS.sub("", text))
+def whole(part: Level | Program) -> str:
+    """The assembly of a part. A program's callers of kernels are those that LLVM makes if the kernels stay apart."""
+    if not part.has_kernels:
+        return compiled(part)
+    library = optimized(next(it for it in levels() if it.processor == part.processor))
+    if isinstance(part, Level):
+        cut.refuse_other_calls(library, optimized(part), part.name)
+        return compiled(part)
+    cut.refuse_other_calls(library, optimized(part), part.name, has_all=False)
+    cut.refuse_other_calls(library, optimized(part, apart=True), part.name)
+    cut.refuse_other_callers(optimized(part), optimized(part, apart=True))
+    return cut.with_callers(compiled(part), compiled(part, apart=True))
+
+
+def assembly(part: Level | Program, sources: str) -> str:
+    """The file of a part."""
+    return finished(part, whole(part), sources)
+
+
+def finished(part: Level | Program, text: str, sources: str) -> str:
+    """The file of a part, of the assembly that clang made."""
+    text = renamed(text, OWN_NAMES)
     exports = re.findall(r"(?m)^\t\.globl\t(.*)$", text)
     if not exports or not all(re.fullmatch(r"yurewha_\w+", name) for name in exports):
         raise Fault(f"the module exports {', '.join(exports) or 'nothing'}")
-    if level.has_kernels:
-        text = with_branch_targets(text, [*exports, *KERNELS])
-        text = PROTECTION_NOTE + (with_stubs(text) if level.is_library else kernels_alone(text)) + table(level)
-    what = LIBRARY if level.is_library else KERNELS_ALONE
-    return HEAD.format(version=version(), level=level.name, what=what, sources=sources) + text
+    if part.has_kernels:
+        text = PROTECTION_NOTE + in_file(part, with_branch_targets(text, [*exports, *KERNELS]))
+    return HEAD.format(version=version(), what=what_is(part), sources=sources) + text
+
+
+def in_file(part: Level | Program, text: str) -> str:
+    """What the file of a part has of the whole assembly, where there are kernels."""
+    if isinstance(part, Program):
+        return cut.program_alone(text, ENTRY)
+    return (cut.with_stubs(text) if part.is_library else cut.kernels_alone(text)) + cut.table(part)
+
+
+def what_is(part: Level | Program) -> str:
+    """For which processors the file of a part is, and what it has."""
+    if isinstance(part, Program):
+        return f"{part.library.name}: the proved program {part.crate}"
+    return f"{part.name}: {'the proved library' if part.is_library else 'the kernels of the proved library'}"
 
 
 def with_branch_targets(text: str, targets: Iterable[str]) -> str:
     """Assembly for x86-64 with `endbr64` at each export and kernel, for processors that let indirect calls arrive nowhere else.
 
-    The library takes no function's address, so its other indirect jumps go to tables of its own, and say so by `notrack`. Assembly of
+    No function's address is taken, so the other indirect jumps go to tables of the assembly's own, and say so by `notrack`. Assembly of
     which PROTECTION_NOTE would be false is refused.
     """
     if re.search(r"(?m)^\tcallq\t\*", text):
-        raise Fault("the library calls functions by their addresses")
+        raise Fault("functions are called by their addresses")
     if other := OTHER_FRAME.search(text):
-        raise Fault(f"the library may return elsewhere than to where it was called from: {other[0].strip()}")
+        raise Fault(f"a function may return elsewhere than to where it was called from: {other[0].strip()}")
     for name in targets:
         text = re.sub(rf'(?m)^("?{re.escape(name)}"?:\n(?:\t\.cfi_startproc\n)?)', r"\1\tendbr64\n", text)
     return INDIRECT_JUMP.sub("\tnotrack jmpq\t*", text)
 
 
-def instructions_alone(level: Level, text: str) -> str:
-    """A level's file without what dist/make adds to the proved library's instructions, so that each has the address that it has there."""
-    return ADDED.sub("", without_stubs(text.replace(PROTECTION_NOTE, "").replace(table(level), "")))
+def instructions_alone(part: Level | Program, text: str) -> str:
+    """A part's file without what dist/make adds to the proved instructions, so that each has the address that it has there.
+
+    It has the toolchain's names. In the place of a program's stubs are kernels without instructions.
+    """
+    text = renamed(text.replace(PROTECTION_NOTE, ""), {own: name for name, own in OWN_NAMES.items()})
+    if part.has_kernels:
+        text = cut.without_stubs(text)
+        text = cut.with_empty_kernels(text) if isinstance(part, Program) else text.replace(cut.table(part), "")
+    return ADDED.sub("", text)

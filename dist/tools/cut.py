@@ -2,7 +2,7 @@
 
 The library for x86-64 is one file, and its first level's kernels are in it. For each further level there is a file with that level's
 kernels and what they alone call. The rest of the library calls a kernel by a stub, which jumps to where the table of the chosen level
-says. The choice is that of dist/processor_level.c.
+says. The choice is that of dist/processor_level.c. A program has no kernels: its stubs lead to those of the library.
 """
 
 from __future__ import annotations
@@ -11,9 +11,10 @@ import re
 from typing import Iterable
 
 from levels import Level
+from modules import has_vectors_above
 from proving import Fault
 
-#: The functions that the rest of the library calls by stubs, in the order of the tables.
+#: The functions that the rest of the library, or a program, calls by stubs, in the order of the tables.
 KERNELS = (
     "keyed_blake3::keyed_hash",
     "keyed_blake3::compression::compress",
@@ -22,6 +23,12 @@ KERNELS = (
     "xet_roots::groups::two_parent_hashes",
     "xet_roots::groups::write_text",
 )
+#: Functions of the programs into which LLVM moves a kernel, unless it stays apart.
+CALLERS = ("xet_roots::parent_maker::ParentHashesParentMaker::make_two",)
+#: The kernels' labels.
+LABELS = tuple(f'"{kernel}"' for kernel in KERNELS)
+#: How a longer vector is passed depends on the processor.
+MOST_BITS = 128
 STUB = """\
 	.section	.text.{name},"ax",@progbits
 	.p2align	4
@@ -44,10 +51,14 @@ TABLE = """\
 {entries}	.size	{table}, {size}
 
 """
+EMPTY = """\
+	.section	".text.{name}","ax",@progbits
+"{name}":
+"""
 #: Attributes of a function that say for which processor it is compiled, whether it stays a function, and that it has an unwind table.
 OF_PROCESSOR = re.compile(r'"(?:target-cpu|target-features|tune-cpu|min-legal-vector-width)"="[^"]*" ?|\b(?:uwtable|noinline) ?')
-#: A vector among the parameters of a function.
-VECTOR = re.compile(r"<(\d+) x i(\d+)>")
+#: What LLVM found that a function does to a parameter's memory, which is the same however it is compiled.
+INITIALIZED = re.compile(r" initializes\(\([^)]*\)\)")
 #: What begins a section, with the line that says of an object that it is one.
 SECTION = re.compile(r"(?m)^(?:\t\.type\t\S+,@object\n)?\t\.section\t(.*)\n")
 LABEL = re.compile(r'(?m)^("[^"\n]*"|[\w.$]+):')
@@ -55,32 +66,41 @@ NAME = re.compile(r'"[^"\n]*"|[A-Za-z_.$][\w.$]*')
 END = '\t.section\t".note.GNU-stack","",@progbits\n'
 
 
-def has_vectors_above(most_bits: int, head: str) -> bool:
-    """Whether a function whose head this is has longer vectors among its parameters."""
-    return any(int(count) * int(bits) > most_bits for count, bits in VECTOR.findall(head))
+def calls_of(names: Iterable[str], module: str) -> dict[str, str]:
+    """How some functions are called in a module that LLVM has optimized: what it says of the result, the parameters and the function.
 
-
-def calls_of_kernels(module: str) -> dict[str, str]:
-    """How each kernel is called in a module that LLVM has optimized: what it says of the result, the parameters and the function."""
+    A function that it has moved into its callers isn't there.
+    """
     groups = dict(re.findall(r"(?m)^attributes #(\d+) = \{ (.*) \}$", module))
     found = {}
-    for kernel in KERNELS:
-        head = re.search(rf'(?m)^define (.*)@"{re.escape(kernel)}"(\(.*)#(\d+) \{{$', module)
-        if not head:
-            raise Fault(f"the module has no function {kernel}")
-        found[kernel] = f"{head[1]}{re.sub(r' %[^ ,()]+', '', head[2])}{OF_PROCESSOR.sub('', groups[head[3]])}"
+    for name in names:
+        if head := re.search(rf'(?m)^define (.*)@"{re.escape(name)}"(\(.*)#(\d+) \{{$', module):
+            found[name] = f"{head[1]}{re.sub(r' %[^ ,()]+', '', head[2])}{OF_PROCESSOR.sub('', groups[head[3]])}"
     return found
 
 
-def refuse_other_calls(library: str, kernels: str, level: str) -> None:
-    """Refuses kernels of a module that a library, which is of another one, would call in another way."""
-    called, of_level = calls_of_kernels(library), calls_of_kernels(kernels)
+def refuse_other_calls(library: str, other: str, name: str, *, has_all: bool = True) -> None:
+    """Refuses a module whose kernels are called in another way than those of the library's module: a level's, or a program's.
+
+    Each has to have all kernels, but for a program in which LLVM may have moved some into their callers.
+    """
+    called, of_other = calls_of(KERNELS, library), calls_of(KERNELS, other)
     for kernel in KERNELS:
-        if called[kernel] != of_level[kernel]:
-            raise Fault(f"{kernel} is called as {called[kernel]}, and at {level} as {of_level[kernel]}")
-        # How a longer vector is passed depends on the processor.
-        if has_vectors_above(128, called[kernel]):
+        if kernel not in called or has_all and kernel not in of_other:
+            raise Fault(f"{'the library' if kernel not in called else name} has no function {kernel}")
+        if of_other.get(kernel, called[kernel]) != called[kernel]:
+            raise Fault(f"{kernel} is called as {called[kernel]}, and in {name} as {of_other[kernel]}")
+        if has_vectors_above(MOST_BITS, called[kernel]):
             raise Fault(f"{kernel} is called with long vectors: {called[kernel]}")
+
+
+def refuse_other_callers(program: str, apart: str) -> None:
+    """Refuses a program's module in which the callers of kernels are called in another way if kernels stay apart."""
+    called, if_apart = (
+        {name: INITIALIZED.sub("", call) for name, call in calls_of(CALLERS, module).items()} for module in (program, apart))
+    for caller in CALLERS:
+        if caller not in called or called[caller] != if_apart[caller]:
+            raise Fault(f"{caller} is called as {called.get(caller)}, and with kernels apart as {if_apart[caller]}")
 
 
 def stub(kernel: str) -> str:
@@ -93,9 +113,9 @@ def table_of(level: Level) -> str:
     return f"yurewha_{level.name.replace('-', '_')}_kernels"
 
 
-def stubs() -> str:
+def stubs() -> list[str]:
     """The stubs. They use a register that has no argument and needs no keeping."""
-    return "".join(STUB.format(name=stub(kernel), offset=8 * i) for i, kernel in enumerate(KERNELS))
+    return [STUB.format(name=stub(kernel), offset=8 * i) for i, kernel in enumerate(KERNELS)]
 
 
 def table(level: Level) -> str:
@@ -112,11 +132,11 @@ def sections(text: str) -> tuple[str, list[str], str]:
     return text[:places[0]], [text[here:there] for here, there in zip(places, places[1:])], text[end:]
 
 
-def reached(parts: list[str], roots: tuple[str, ...]) -> list[str]:
-    """The sections that these functions reach, in their order."""
+def reached(parts: list[str], roots: Iterable[str]) -> list[str]:
+    """The sections that these labels reach, as far as there are some, in their order."""
     place = {label: i for i, part in enumerate(parts) for label in LABEL.findall(part)}
     wanted: set[int] = set()
-    open_places = [place[f'"{root}"'] for root in roots]
+    open_places = [place[root] for root in roots if root in place]
     while open_places:
         at = open_places.pop()
         if at not in wanted:
@@ -131,34 +151,55 @@ def functions(parts: Iterable[str]) -> set[str]:
 
 
 def with_stubs(text: str) -> str:
-    """The library, in which all but the kernels call a kernel by its stub."""
+    """The library, or a program, in which all but the kernels call a kernel by its stub."""
     before, parts, end = sections(text)
-    own = set(reached(parts, KERNELS))
+    own = set(reached(parts, LABELS))
     calls = re.compile(rf'(?m)^(\t(?:callq|j\w+)\t)"({"|".join(map(re.escape, KERNELS))})"$')
     cut = [part if part in own else calls.sub(lambda it: it[1] + stub(it[2]), part) for part in parts]
     of_kernels = {f'"{name}"' for name in functions(own)}
     for part, old in zip(cut, parts):
         if old not in own and (found := of_kernels.intersection(NAME.findall(part))):
-            raise Fault(f"the library reaches {', '.join(sorted(found))}, and not by a stub")
-    return before + "".join(cut) + stubs() + end
+            raise Fault(f"{', '.join(sorted(found))} is reached, and not by a stub")
+    called = {name for part in cut for name in NAME.findall(part)}
+    return before + "".join(cut + [it for kernel, it in zip(KERNELS, stubs()) if stub(kernel) in called]) + end
 
 
 def without_stubs(text: str) -> str:
-    """The library as it was before with_stubs()."""
-    text = text.replace(stubs(), "")
-    for kernel in KERNELS:
-        text = re.sub(rf"\b{stub(kernel)}\b", f'"{kernel}"', text)
+    """The text as it was before with_stubs()."""
+    for kernel, its_stub in zip(KERNELS, stubs()):
+        text = re.sub(rf"\b{stub(kernel)}\b", f'"{kernel}"', text.replace(its_stub, ""))
     return text
 
 
 def kernels_alone(text: str) -> str:
     """The kernels of a library, with what they reach."""
     before, parts, end = sections(text)
-    return before + "".join(reached(parts, KERNELS)) + end
+    return before + "".join(reached(parts, LABELS)) + end
+
+
+def with_callers(text: str, apart: str) -> str:
+    """A program, in which the callers of kernels are those of a program whose kernels stay apart."""
+    before, parts, end = sections(text)
+    of_apart = {label: part for part in sections(apart)[1] for label in LABEL.findall(part)}
+    for at, part in enumerate(parts):
+        for caller in {f'"{caller}"' for caller in CALLERS}.intersection(LABEL.findall(part)):
+            parts[at] = of_apart[caller].replace(".L", ".Lapart_")
+    return before + "".join(parts) + end
+
+
+def program_alone(text: str, entry: str) -> str:
+    """What a program reaches from its entry, with stubs in the place of the kernels."""
+    before, parts, end = sections(with_stubs(text))
+    return before + "".join(reached(parts, [entry])) + end
+
+
+def with_empty_kernels(text: str) -> str:
+    """A program whose calls of kernels go to functions again, which have no instructions."""
+    return text + "".join(EMPTY.format(name=kernel) for kernel in KERNELS)
 
 
 def without_kernels(level: Level, text: str) -> str:
     """The file of a library without its own kernels, what they alone call, and their table. All data stay."""
     before, parts, end = sections(text.replace(table(level), ""))
-    own = {part for part in reached(parts, KERNELS) if functions([part])}
+    own = {part for part in reached(parts, LABELS) if functions([part])}
     return before + "".join(part for part in parts if part not in own) + end

@@ -1,4 +1,4 @@
-"""The levels of processors for which there is a library, and the sources that it is made of."""
+"""The files of assembly: of the library, for each level of processors, and of the programs; and the sources that they are made of."""
 
 from __future__ import annotations
 
@@ -16,18 +16,21 @@ OUT = DIST / "out"
 WASM = ROOT / "bindings/wasm/yurewha/yurewha.wasm"
 #: The level whose module is translated after the proof.
 TRANSLATED = "x86-64-v4"
+#: The crate of the library, and those of the programs.
+LIBRARY = "yurewha_c"
+PROGRAMS = ("xetroot", "xetrange")
 
 
 @dataclass(frozen=True)
-class Level:
-    """A line of targets.txt."""
+class Part:
+    """A crate, as the toolchain compiles it for a processor: what a file of assembly is made of."""
 
+    #: The name of the file, without its ending.
     name: str
+    crate: str
     processor: str
-    lanes: int
+    #: What `rt` is called with.
     flags: tuple[str, ...]
-    #: Whether the level's file has the whole library: it is the first level of its processor. The others' files have kernels alone.
-    is_library: bool
     #: Whether there are kernels to choose from, since the processor has several levels.
     has_kernels: bool
 
@@ -38,8 +41,13 @@ class Level:
 
     @property
     def folder(self) -> Path:
-        """Where what the toolchain makes for the level is kept."""
+        """Where what the toolchain makes of the crate is kept."""
         return OUT / self.name
+
+    @property
+    def proved(self) -> Path:
+        """The object that the toolchain built."""
+        return self.folder / "proved.o"
 
     @property
     def is_translated(self) -> bool:
@@ -47,14 +55,60 @@ class Level:
         return self.name == TRANSLATED
 
 
+@dataclass(frozen=True)
+class Level(Part):
+    """The library for a level of processors: a line of targets.txt."""
+
+    lanes: int
+    #: Whether the level's file has the whole library: it is the first level of its processor. The others' files have kernels alone.
+    is_library: bool
+
+    @property
+    def is_whole(self) -> bool:
+        """Whether the file has all that the proved object has."""
+        return self.is_library
+
+
+@dataclass(frozen=True)
+class Program(Part):
+    """A program for a processor, whichever level it has."""
+
+    #: The level whose file has the library. The program is compiled for that level.
+    library: Level
+
+    @property
+    def assembly(self) -> Path:
+        """The file that dist/make writes."""
+        return DIST / "programs" / f"{self.name}.s"
+
+    @property
+    def is_whole(self) -> bool:
+        """Whether the file has all that the proved object has. Where there are kernels, it has none."""
+        return not self.has_kernels
+
+
 def levels() -> list[Level]:
     """The levels of targets.txt, in its order."""
     lines = [line.split() for line in (DIST / "targets.txt").read_text().splitlines() if not line.startswith("#")]
     processors = [processor for _, processor, *_ in lines]
     return [
-        Level(name, processor, int(lanes), tuple(flags), processors.index(processor) == at, processors.count(processor) > 1)
+        Level(name, LIBRARY, processor, tuple(flags), processors.count(processor) > 1, int(lanes), processors.index(processor) == at)
         for at, (name, processor, lanes, *flags) in enumerate(lines)
     ]
+
+
+def programs() -> list[Program]:
+    """The programs, for each processor."""
+    return [
+        Program(f"{name}-{level.name}", name, level.processor, level.flags, level.has_kernels, level)
+        for level in levels() if level.is_library
+        for name in PROGRAMS
+    ]
+
+
+def parts() -> list[Level | Program]:
+    """Whatever has a file of assembly."""
+    return [*levels(), *programs()]
 
 
 def version() -> str:
@@ -62,12 +116,12 @@ def version() -> str:
     return (ROOT / "VERSION").read_text().strip()
 
 
-def library_crates() -> dict[str, str]:
-    """The crates that the library is made of, each with its line of crates.txt: `yurewha_c`, and what stands below it."""
+def crates_below(top: str) -> dict[str, str]:
+    """A crate and those that it is made of, each with its line of crates.txt."""
     lines = [line for line in (ROOT / "crates.txt").read_text().splitlines() if line and not line.startswith("#")]
     by_name = {line.split(":")[0].split()[0]: line for line in lines}
     found: dict[str, str] = {}
-    open_names = ["yurewha_c"]
+    open_names = [top]
     while open_names:
         name = open_names.pop()
         if name in by_name and name not in found:
@@ -76,31 +130,31 @@ def library_crates() -> dict[str, str]:
     return found
 
 
-def source_files() -> Iterator[Path]:
-    """The files that decide what the library is: the code and the definitions of its crates."""
-    for crate in library_crates():
+def source_files(top: str) -> Iterator[Path]:
+    """The files that decide what is made of a crate: the code and the definitions of it and of those below it."""
+    for crate in crates_below(top):
         for folder in (ROOT / "crates" / crate / "src", ROOT / "crates" / crate / "specs"):
             for place, _, names in os.walk(folder):
                 yield from (Path(place, name) for name in names)
 
 
-def sources_sum() -> str:
+def sources_sum(top: str) -> str:
     """A SHA-256 sum over the names and contents of these files, and the lines of crates.txt of their crates."""
     total = hashlib.sha256()
-    for path in sorted(source_files()):
+    for path in sorted(source_files(top)):
         of_file = hashlib.sha256(path.read_bytes()).hexdigest()
         total.update(f"{of_file}  {path.relative_to(ROOT)}\n".encode())
-    for line in sorted(library_crates().values()):
+    for line in sorted(crates_below(top).values()):
         total.update(f"{line}\n".encode())
     return total.hexdigest()
 
 
 def made_files() -> list[Path]:
     """The files that dist/make writes, but for sums.txt."""
-    return [*(level.assembly for level in levels()), WASM]
+    return [*(part.assembly for part in parts()), WASM]
 
 
-def sums(sources: str) -> str:
-    """What sums.txt says: the sum of the sources, and that of each file that was made of them."""
-    lines = [f"{hashlib.sha256(path.read_bytes()).hexdigest()}  {path.name}\n" for path in made_files()]
-    return f"{sources}  sources\n{''.join(lines)}"
+def sums() -> str:
+    """What sums.txt should say: the sums of the sources, and that of each file that was made of them."""
+    of_sources = [f"{sources_sum(name)}  sources of {name}\n" for name in (LIBRARY, *PROGRAMS)]
+    return "".join([*of_sources, *(f"{hashlib.sha256(path.read_bytes()).hexdigest()}  {path.name}\n" for path in made_files())])

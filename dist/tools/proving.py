@@ -1,4 +1,5 @@
-"""Proves and builds the library by `rt lib`, and keeps the LLVM module that the toolchain hands to its clang."""
+"""Proves and builds the library by `rt lib` and the programs by `rt run`, and keeps the LLVM module that the toolchain hands to its
+clang."""
 
 from __future__ import annotations
 
@@ -9,10 +10,12 @@ import subprocess
 import tempfile
 from pathlib import Path
 
-from levels import OUT, ROOT, Level
+from levels import OUT, ROOT, Level, Part, Program
 
 #: The proofs are checked by this logic, whatever the version of the kit. (`rt version` prints both.)
 LOGIC = "logic dac8208d650f15bf"
+#: Where the toolchain keeps what it proved on this machine: beside its folder.
+STORE = "rattle-kept"
 LANES = "crates/keyed_blake3/src/compression/lanes.rt"
 #: In the place of clang: keeps the LLVM module that it is handed last, and the words with which it is called, and then calls it.
 KEEPING_CLANG = """\
@@ -25,6 +28,13 @@ for word; do
     before=$word
 done
 exec '{clang}' "$@"
+"""
+#: In the place of the linker, which `rt` calls for x86-64 alone, before it runs the program: makes a program that does nothing.
+NO_LINKER = """\
+#!/bin/sh
+while [ "$1" != -o ]; do shift; done
+printf '#!/bin/sh\\n' >"$2"
+chmod +x "$2"
 """
 
 
@@ -63,8 +73,12 @@ def tool(name: str) -> Path:
 
 
 def keeping_kit(folder: Path, to: Path) -> Path:
-    """A copy of the toolchain, made of links, whose clang keeps what it is handed in the folder. Returns its `rt`."""
+    """A copy of the toolchain, made of links, whose clang keeps what it is handed in the folder. Returns its `rt`.
+
+    It goes on from what the toolchain has proved on this machine, in whichever copy of the repository.
+    """
     source = kit()
+    (to.parent / STORE).symlink_to(source.parent / STORE)
     for name in ("bin", "toolchain/bin"):
         (to / name).mkdir(parents=True)
     for place in (source, source / "toolchain", source / "bin", source / "toolchain/bin"):
@@ -75,10 +89,15 @@ def keeping_kit(folder: Path, to: Path) -> Path:
     for name in ("rt", "rtlib.py"):
         (to / "bin" / name).unlink()
         shutil.copy(source / "bin" / name, to / "bin" / name)
-    clang = to / "toolchain/bin/clang"
-    clang.write_text(KEEPING_CLANG.format(folder=folder, clang=source / "toolchain/bin/clang"))
-    clang.chmod(0o755)
+    write_script(to / "toolchain/bin/clang", KEEPING_CLANG.format(folder=folder, clang=source / "toolchain/bin/clang"))
     return to / "bin/rt"
+
+
+def write_script(path: Path, text: str) -> None:
+    """Writes a program, in the place of what is there."""
+    path.unlink(missing_ok=True)
+    path.write_text(text)
+    path.chmod(0o755)
 
 
 def contents(crate: Path) -> dict[str, bytes]:
@@ -122,14 +141,37 @@ def crates_for(level: Level) -> Path:
     return copy
 
 
-def prove(level: Level, jobs: int) -> None:
-    """Proves the library for a level. Its folder then has the archive, the module and the words for clang."""
-    crate = crates_for(level) / "crates/yurewha_c"
-    shutil.rmtree(level.folder, ignore_errors=True)
-    level.folder.mkdir(parents=True)
+def build(part: Part, crate: Path, verb: str, jobs: int) -> None:
+    """Has `rt` prove and build a crate. The folder of the part then has the module and the words for clang."""
+    shutil.rmtree(part.folder, ignore_errors=True)
+    part.folder.mkdir(parents=True)
     with tempfile.TemporaryDirectory() as work:
-        rt = keeping_kit(level.folder, Path(work) / "kit")
-        run(rt, "lib", *level.flags, "--jobs", str(jobs), folder=crate)
-    shutil.copy(crate / "out/libyurewha_c.a", level.folder / "proved.a")
-    if not (level.folder / "module").exists():
+        rt = keeping_kit(part.folder, Path(work) / "kit")
+        write_script(rt.with_name("rattle-link"), NO_LINKER)
+        run(rt, verb, *part.flags, "--jobs", str(jobs), folder=crate)
+    if not (part.folder / "module").exists():
         raise Fault("the toolchain handed no LLVM module to its clang")
+
+
+def prove_library(level: Level, jobs: int) -> None:
+    """Proves the library for a level. The level's folder then has the object, too."""
+    crate = crates_for(level) / "crates" / level.crate
+    build(level, crate, "lib", jobs)
+    run("ar", "x", "--output", level.folder, crate / f"out/lib{level.crate}.a")
+    (level.folder / f"{level.crate}.o").rename(level.proved)
+
+
+def prove_program(program: Program, jobs: int) -> None:
+    """Proves a program. The program's folder then has the object, too."""
+    out = ROOT / "crates" / program.crate / "out"
+    build(program, out.parent, "run", jobs)
+    (out / program.crate).unlink()
+    (out / f"{program.crate}.o").rename(program.proved)
+
+
+def prove(part: Level | Program, jobs: int) -> None:
+    """Proves the library for a level, or a program."""
+    if isinstance(part, Program):
+        prove_program(part, jobs)
+    else:
+        prove_library(part, jobs)
