@@ -31,7 +31,7 @@ PROTECTION_NOTE = """\
 """
 #: Where a program begins.
 ENTRY = "yurewha_program"
-#: What the toolchain calls so has another name here, which is nobody else's: functions of dist/heap.c, those of dist/run.c, and what
+#: What the toolchain calls so has another name here, which is nobody else's: functions of dist/heap.c, those of programs/run.c, and what
 #: the latter calls.
 OWN_NAMES = {
     "rattle_alloc": "yurewha_heap_alloc", "rattle_realloc": "yurewha_heap_realloc", "rattle_dealloc": "yurewha_heap_dealloc",
