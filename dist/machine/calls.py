@@ -2,13 +2,14 @@
 
 from __future__ import annotations
 
-from typing import List, Sequence, Tuple
+from typing import List, Sequence, Set, Tuple
 
 from definition import keyed_hash
 from fault import Fault
-from layout import Library
+from layout import Library, inner
 from machine import Machine
 from wanted import Wanted
+from widths import WIDTHS, of_width
 from words import Value, Word, byte, forget, symbol
 
 #: The keys of the hashes of chunks and of texts, as crates/xet_hash/specs/Hash.antt has them.
@@ -75,6 +76,28 @@ def check_hash(library: Library, name: str, length: int, shifts: Tuple[int, int]
     caller.call(name, message, length, RESULT)
     wanted.must_be(caller.m.memory.load(RESULT, 8), f"{name} of {length} bytes")
     return caller.m
+
+
+def lanes_for(chunks: int, most: int) -> Set[int]:
+    """In how many lanes some chunks are hashed where there are so many at most: in the fewest that hold them. Two go as a pair, and three
+    or four as two pairs, where there could be more lanes than four."""
+    if chunks <= (2 if most == 4 else 4):
+        return set()
+    return {next(lanes for lanes in WIDTHS if lanes >= min(chunks, most))}
+
+
+def check_lanes(library: Library, chunks: int) -> Machine:
+    """How many lanes a message of some chunks takes, which nothing else can show: its hash is right in any."""
+    kept = dict(library.decoded)
+    library.decoded.clear()
+    m = check_hash(library, "data_hash", 1024 * chunks)
+    met = {library.image.instructions[at].function for at in library.decoded}
+    library.decoded.update(kept)
+    found = {lanes for lanes in WIDTHS if inner(of_width("chunks::take_block", lanes)) in met}
+    wanted = lanes_for(chunks, library.level.lanes)
+    if found != wanted:
+        raise Fault(f"{chunks} chunks are hashed in lanes by {sorted(found)}, not by {sorted(wanted)}")
+    return m
 
 
 def check_hmac(library: Library) -> Machine:

@@ -7,13 +7,14 @@ is wrong, a check fails. It can't pass wrongly, since the symbols would come out
 from __future__ import annotations
 
 from functools import partial
-from typing import Callable, Iterable, Iterator, List, Sequence, Tuple
+from typing import Callable, Dict, Iterable, Iterator, List, Sequence, Tuple
 
 from calls import Caller
 from definition import CHUNK_END, CHUNK_START, KEYED_HASH, compress, parent_value
 from layout import Library, inner
 from machine import Machine
 from wanted import Wanted
+from widths import WIDTHS, of_width
 from words import Value, Word, add_64, forget, high, low, symbol, unknown
 
 #: Where the checks put what a function reads or writes, each place at an address that isn't a multiple of 32 where it needn't be.
@@ -62,10 +63,10 @@ class Kernel:
         """Gives it words in memory, which it may only read."""
         self.arguments.append(self.memory.add_words(place, list(words)))
 
-    def give_value(self, words: Sequence[Word], blocks: int) -> None:
-        """Gives it the chaining values of one block or two in vectors, as its level passes them."""
+    def give_vectors(self, words: Sequence[Word], blocks: int) -> None:
+        """Gives it words of one block or two in vectors, as its level passes them."""
         width = VALUE_VECTORS[self.caller.library.level.name][blocks - 1]
-        self.vectors = [words[i:i + width] for i in range(0, len(words), width)]
+        self.vectors += [words[i:i + width] for i in range(0, len(words), width)]
 
     def must_give(self, wanted: Wanted, what: str) -> Machine:
         """Runs the function, whose result must be as wanted. Returns the machine that ran it."""
@@ -80,7 +81,7 @@ def check_compress(library: Library) -> Machine:
     h, block, counter, length, flags = symbols("h", 8), symbols("m", 16), counter_of("counter"), symbol("length"), symbol("flags")
     wanted = Wanted(compress, h, block, counter, length, flags)
     kernel = Kernel(library, "compression::compress", [unknown() for _ in range(8)])
-    kernel.give_value(h, 1)
+    kernel.give_vectors(h, 1)
     kernel.give_at(FIRST, block)
     kernel.give(counter, upper_unknown(length), upper_unknown(flags))
     return kernel.must_give(wanted, "one block")
@@ -92,10 +93,11 @@ def check_compress_two(library: Library) -> Machine:
     values = [symbols(f"h{k}", 8) for k in (0, 1)]
     blocks = [(symbols(f"m{k}", 16), counter_of(f"counter{k}"), symbol(f"length{k}"), symbol(f"flags{k}")) for k in (0, 1)]
     wanted = Wanted(two_blocks, values, blocks)
-    kernel = Kernel(library, "compression::two::compress_two", [unknown() for _ in range(16)])
-    kernel.give_value(beside(*values), 2)
-    for place, (words, counter, length, flags) in zip((FIRST, SECOND), blocks):
-        kernel.give_at(place, [*words, low(counter), high(counter), length, flags])
+    kernel = Kernel(library, "compression::two::compress_two_from", [unknown() for _ in range(16)])
+    kernel.give_vectors(beside(*values), 2)
+    kernel.give_vectors([word for _, counter, length, flags in blocks for word in (low(counter), high(counter), length, flags)], 2)
+    for place, (words, *_) in zip((FIRST, SECOND), blocks):
+        kernel.give_at(place, words)
     return kernel.must_give(wanted, "two blocks")
 
 
@@ -117,7 +119,7 @@ def check_take_block(library: Library, n: int, places: Sequence[int]) -> Machine
     blocks, counters = [symbols(f"m{j}", 16) for j in range(lanes)], [counter_of(f"counter{j}") for j in range(lanes)]
     flags = symbol("flags")
     wanted = Wanted(block_of_each, h, blocks, counters, flags)
-    kernel = Kernel(library, "chunks::take_block", side_by_side(h))
+    kernel = Kernel(library, of_width("chunks::take_block", lanes), side_by_side(h))
     for place, block in zip(places, blocks):
         kernel.memory.add_words(CHUNKS + 1024 * place + 64 * n, block)
     kernel.give(CHUNKS)
@@ -138,7 +140,7 @@ def check_chunk_values(library: Library, places: Sequence[int]) -> Machine:
     key, first = symbols("key", 8), counter_of("first")
     chunks = [symbols(f"chunk {j}", 256) for j in range(len(places))]
     wanted = Wanted(chunk_of_each, key, first, places, chunks)
-    kernel = Kernel(library, "chunks::chunk_values", [unknown() for _ in range(8 * len(places))])
+    kernel = Kernel(library, of_width("chunks::chunk_values", len(places)), [unknown() for _ in range(8 * len(places))])
     for place, chunk in zip(places, chunks):
         kernel.memory.add_words(CHUNKS + 1024 * place, chunk)
     kernel.give_at(FIRST, key)
@@ -161,15 +163,14 @@ def value_of_chunk(key: Sequence[Word], number: Value, words: Sequence[Word]) ->
     return value
 
 
-def check_parents(library: Library, name: str) -> Machine:
+def check_parents(library: Library, name: str, lanes: int) -> Machine:
     """The parents of neighbours (`parent_values`), or of those in the same lane (`values_above`)."""
     forget()
-    lanes = library.level.lanes
     key = symbols("key", 8)
     left, right = ([symbols(f"{side} {j}", 8) for j in range(lanes)] for side in ("left", "right"))
     both = [*left, *right]
     wanted = Wanted(parent_of_each, key, *((left, right) if name == "values_above" else (both[::2], both[1::2])))
-    kernel = Kernel(library, f"subtrees::{name}", [unknown() for _ in range(8 * lanes)])
+    kernel = Kernel(library, of_width(f"subtrees::{name}", lanes), [unknown() for _ in range(8 * lanes)])
     for place, words in ((FIRST, key), (SECOND, side_by_side(left)), (THIRD, side_by_side(right))):
         kernel.give_at(place, words)
     return kernel.must_give(wanted, "parents")
@@ -179,16 +180,50 @@ def parent_of_each(key: Sequence[Word], left: Sequence[Sequence[Word]], right: S
     return side_by_side(parent_value(key, *pair, 0) for pair in zip(left, right))
 
 
+def check_four_chunks(library: Library, places: Sequence[int]) -> Machine:
+    """Four chunks at some places, which go as two pairs."""
+    forget()
+    key, first = symbols("key", 8), counter_of("first")
+    chunks = [symbols(f"chunk {j}", 256) for j in range(4)]
+    wanted = Wanted(one_after_another, key, first, places, chunks)
+    kernel = Kernel(library, "two_chunks::four_chunk_values", [unknown() for _ in range(32)])
+    for place, chunk in zip(places, chunks):
+        kernel.memory.add_words(CHUNKS + 1024 * place, chunk)
+    kernel.give_at(FIRST, key)
+    kernel.give(CHUNKS)
+    kernel.give_at(SECOND, indices(places))
+    kernel.give(first)
+    return kernel.must_give(wanted, f"chunks at {list(places)}")
+
+
+def one_after_another(key: Sequence[Word], first: Value, places: Sequence[int], chunks: Sequence[Sequence[Word]]) -> List[Word]:
+    return [word for place, chunk in zip(places, chunks) for word in value_of_chunk(key, add_64(first, place), chunk)]
+
+
+def orders(lanes: int) -> Dict[str, List[int]]:
+    """Places of as many chunks, in three orders."""
+    return {"in order": list(range(lanes)), "three apart": [3 * j for j in range(lanes)], "backwards": [lanes - j for j in range(lanes)]}
+
+
+def checks_of_width(library: Library, lanes: int) -> Iterator[Tuple[str, Callable[[], Machine]]]:
+    """The checks of the functions for a width. Where LLVM has moved one into another function, it runs in whole calls alone."""
+    for name, places in orders(lanes).items():
+        for n in range(16):
+            yield f"take_block of {lanes} lanes, {n}, {name}", partial(check_take_block, library, n, places)
+        if library.has(inner(of_width("chunks::chunk_values", lanes))):
+            yield f"chunk_values of {lanes} lanes, {name}", partial(check_chunk_values, library, places)
+    for parents in ("values_above", "parent_values"):
+        if library.has(inner(of_width(f"subtrees::{parents}", lanes))):
+            yield f"{parents} of {lanes} lanes", partial(check_parents, library, parents, lanes)
+
+
 def checks(library: Library) -> Iterator[Tuple[str, Callable[[], Machine]]]:
     """The checks of a level, each with its name; each returns the machine that ran it."""
-    lanes = library.level.lanes
     yield "compress", partial(check_compress, library)
     yield "compress_two", partial(check_compress_two, library)
-    orders = {"in order": list(range(lanes)), "three apart": [3 * j for j in range(lanes)], "backwards": [lanes - j for j in range(lanes)]}
-    for name, places in orders.items():
-        for n in range(16):
-            yield f"take_block {n}, {name}", partial(check_take_block, library, n, places)
-        yield f"chunk_values, {name}", partial(check_chunk_values, library, places)
-    for name in ("values_above", "parent_values"):
-        if library.has(inner(f"subtrees::{name}")):
-            yield name, partial(check_parents, library, name)
+    if library.has(inner("two_chunks::four_chunk_values")):
+        for name, places in orders(4).items():
+            yield f"four_chunk_values, {name}", partial(check_four_chunks, library, places)
+    for lanes in WIDTHS:
+        if library.has(inner(of_width("chunks::take_block", lanes))):
+            yield from checks_of_width(library, lanes)

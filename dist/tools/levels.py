@@ -10,7 +10,7 @@ from typing import Iterator
 
 DIST = Path(__file__).resolve().parents[1]
 ROOT = DIST.parent
-#: What is made for each run, and kept for the next: modules, and a copy of the crates for each other number of lanes.
+#: What is made for each run, and kept for the next: modules, and a copy of the crates for each other number of lanes at most.
 OUT = DIST / "out"
 #: The WebAssembly module, which is part of the JavaScript package.
 WASM = ROOT / "bindings/wasm/yurewha/yurewha.wasm"

@@ -16,7 +16,8 @@ from levels import OUT, ROOT, Level, Part, Program
 LOGIC = "logic dac8208d650f15bf"
 #: Where the toolchain keeps what it proved on this machine: beside its folder.
 STORE = "rattle-kept"
-LANES = "crates/keyed_blake3/src/compression/lanes.rt"
+#: The file that says how many lanes are used at most.
+WIDEST = "crates/keyed_blake3/src/compression/width.rt"
 #: In the place of clang: keeps the LLVM module that it is handed last, and the words with which it is called, and then calls it.
 KEEPING_CLANG = """\
 #!/bin/sh
@@ -101,30 +102,30 @@ def write_script(path: Path, text: str) -> None:
 
 
 def contents(crate: Path) -> dict[str, bytes]:
-    """The files of a crate that decide what is proved, but for the one with the number of lanes."""
+    """The files of a crate that decide what is proved, but for the one with the most lanes."""
     paths = (Path(place, name) for place, _, names in os.walk(crate) for name in names)
     found = {str(path.relative_to(crate)): path for path in paths}
     return {
-        name: path.read_bytes() for name, path in found.items() if not name.startswith("out/") and not LANES.endswith(f"/{name}")
+        name: path.read_bytes() for name, path in found.items() if not name.startswith("out/") and not WIDEST.endswith(f"/{name}")
     }
 
 
 def with_lanes(level: Level) -> str:
-    """The text of the file with the number of lanes, where that is the level's."""
-    text, count = re.subn(r"(?m)^(pub\(crate\) const LANES: usize =) \d+;$", rf"\1 {level.lanes};", (ROOT / LANES).read_text())
+    """The text of the file with the most lanes, where these are the level's."""
+    text, count = re.subn(r"(?m)^(pub\(crate\) const WIDEST: usize =) \d+;$", rf"\1 {level.lanes};", (ROOT / WIDEST).read_text())
     if count != 1:
-        raise Fault(f"{LANES} has another line for the number of lanes")
+        raise Fault(f"{WIDEST} has another line for the most lanes")
     return text
 
 
 def crates_for(level: Level) -> Path:
-    """A folder with the crates, whose number of lanes is the level's: the repository, or a copy.
+    """A folder with the crates, which use as many lanes as the level: the repository, or a copy.
 
     A crate that has changed since an earlier run comes into the copy with the proofs that the repository has kept. So `rt` proves
     again there what the number of lanes reaches, and takes the rest from what is kept.
     """
     lanes = with_lanes(level)
-    if lanes == (ROOT / LANES).read_text():
+    if lanes == (ROOT / WIDEST).read_text():
         return ROOT
     copy = OUT / f"lanes-{level.lanes}"
     (copy / "crates").mkdir(parents=True, exist_ok=True)
@@ -137,7 +138,7 @@ def crates_for(level: Level) -> Path:
                 run("cp", "-a", source, place)
     for name in ("crates.txt", "HANDLES"):
         shutil.copy(ROOT / name, copy / name)
-    (copy / LANES).write_text(lanes)
+    (copy / WIDEST).write_text(lanes)
     return copy
 
 

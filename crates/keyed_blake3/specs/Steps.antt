@@ -3,5 +3,6 @@ pub mod Blocks
 pub mod LaneRows
 pub mod Lanes
 pub mod Rows
+pub mod Transposition
 pub mod Tree
 pub mod TwoRows

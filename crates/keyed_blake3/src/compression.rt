@@ -6,12 +6,12 @@ ghost use Rattle.keyed_blake3.specs.Blake3.{compress, first_state, folded, permu
 ghost use Rattle.keyed_blake3.specs.Steps.Rows.{half_columns, state_of, words_of};
 
 mod in_step;
-mod lane_bytes;
 mod lane_rows;
 pub(crate) mod lanes;
 mod rows;
 pub(crate) mod two;
 pub(crate) mod two_rows;
+pub(crate) mod width;
 
 use rows::{Quads, Rows};
 use std::simd::prelude::*;

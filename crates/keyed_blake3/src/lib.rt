@@ -5,7 +5,7 @@
 //!
 //! - `compression` compresses a block of 64 bytes into a chaining value.
 //! - `chunk` compresses the blocks of a chunk one after another.
-//! - `two_chunks` compresses those of two chunks at once.
+//! - `two_chunks` compresses those of two chunks at once, or of two such pairs.
 //! - `chunks` compresses those of several chunks side by side.
 //! - `subtrees` compresses several chunks and their parents side by side, up to the value of a complete subtree.
 //! - `tree` compresses the chaining values of two subtrees into their parent's, up to the root.
@@ -19,7 +19,6 @@ mod chunks;
 mod compression;
 mod hasher;
 mod subtrees;
-mod transposition;
 mod tree;
 mod two_chunks;
 

@@ -2,96 +2,113 @@
 
 ghost use Rattle.std.specs.Prelude.{◌≡◌, ℕ, ◌+◌, ◌*◌, ◌/◌, ◌^◌, ◌<◌, ◌≤◌, ◌++◌, List, drop, length, slice_index, take};
 ghost use Rattle.keyed_blake3.specs.Blake3.{chunk_value, keyed_hash_flag, parent_flag, parent_value};
-ghost use Rattle.keyed_blake3.specs.Steps.Lanes.{AreFull, beside, chunk_at, lane};
+ghost use Rattle.keyed_blake3.specs.declared.compression.width.TheConstants.{WIDEST};
+ghost use Rattle.keyed_blake3.specs.Steps.Lanes.{AreFull, beside, lane, value_at};
 ghost use Rattle.keyed_blake3.specs.Steps.Tree.{subtree_at};
 
 use crate::chunk::{BLOCK_LEN, CHUNK_LEN, KEYED_HASH};
 use crate::chunks::{chunk_values, key_of_each};
-use crate::compression::lanes::{LANES, Lanes, compress_each, each, lane};
+use crate::compression::lanes::{compress_each, each, lane};
 use crate::compression::two::{apart, both, compress_two};
 use crate::compression::two_rows::Block;
-use crate::two_chunks::two_chunk_values;
-use std::simd::prelude::*;
+use crate::compression::width::{Lanes, WIDEST, Width};
+use crate::two_chunks::{four_chunk_values, two_chunk_values};
 
 // The domain flag (table 3) of a parent.
 pub(crate) const PARENT: u32 = 4;
 
 // Returns the messages of parents: the values of two neighbours each.
 #[inline(always)]
-fn pair_of_each(left: &[Lanes; 8], right: &[Lanes; 8]) -> [Lanes; 16]
-    requires left { AreFull left.now }
-    requires right { AreFull right.now }
-    ensures { (j : ℕ) → j < LANES → lane j result
+fn pair_of_each<W: Width<L, B>, const L: usize, const B: usize>(
+    left: &[Lanes<L>; 8],
+    right: &[Lanes<L>; 8],
+) -> [Lanes<L>; 16]
+    requires left { AreFull L left.now }
+    requires right { AreFull L right.now }
+    ensures { (j : ℕ) → j < L → lane j result
         ≡ lane (2 * j) (beside left.now right.now) ++ lane (2 * j + 1) (beside left.now right.now) }
 {
-    let (x0, y0) = left[0].deinterleave(right[0]);
-    let (x1, y1) = left[1].deinterleave(right[1]);
-    let (x2, y2) = left[2].deinterleave(right[2]);
-    let (x3, y3) = left[3].deinterleave(right[3]);
-    let (x4, y4) = left[4].deinterleave(right[4]);
-    let (x5, y5) = left[5].deinterleave(right[5]);
-    let (x6, y6) = left[6].deinterleave(right[6]);
-    let (x7, y7) = left[7].deinterleave(right[7]);
+    let (x0, y0) = W::apart(&left[0], &right[0]);
+    let (x1, y1) = W::apart(&left[1], &right[1]);
+    let (x2, y2) = W::apart(&left[2], &right[2]);
+    let (x3, y3) = W::apart(&left[3], &right[3]);
+    let (x4, y4) = W::apart(&left[4], &right[4]);
+    let (x5, y5) = W::apart(&left[5], &right[5]);
+    let (x6, y6) = W::apart(&left[6], &right[6]);
+    let (x7, y7) = W::apart(&left[7], &right[7]);
     [
         x0, x1, x2, x3, x4, x5, x6, x7, y0, y1, y2, y3, y4, y5, y6, y7,
     ]
 }
 
-// Returns the values of the parents of `2 * LANES` subtrees, of which `left` has the first half.
-fn parent_values(key: &[u32; 8], left: &[Lanes; 8], right: &[Lanes; 8]) -> [Lanes; 8]
-    requires left { AreFull left.now }
-    requires right { AreFull right.now }
+// Returns the values of the parents of `2 * L` subtrees, of which `left` has the first half.
+fn parent_values<W: Width<L, B>, const L: usize, const B: usize>(
+    key: &[u32; 8],
+    left: &[Lanes<L>; 8],
+    right: &[Lanes<L>; 8],
+) -> [Lanes<L>; 8]
+    requires left { AreFull L left.now }
+    requires right { AreFull L right.now }
     ensures sizes { (length left.now ≡ 8) × (length right.now ≡ 8) }
-    ensures full { AreFull result }
-    ensures lanes { (j : ℕ) → j < LANES → lane j result ≡ parent_value key.now
+    ensures full { AreFull L result }
+    ensures lanes { (j : ℕ) → j < L → lane j result ≡ parent_value key.now
         (lane (2 * j) (beside left.now right.now)) (lane (2 * j + 1) (beside left.now right.now)) 0 }
 {
-    let flags = each(KEYED_HASH + PARENT);
-    let zero = Simd::splat(0u32);
-    compress_each::<1>(
-        &key_of_each(key),
-        &pair_of_each(left, right),
-        (zero, zero),
-        flags,
+    let flags = each::<W, L, B>(KEYED_HASH + PARENT);
+    let zero = W::each(0);
+    compress_each::<W, L, B, 1>(
+        &key_of_each::<W, L, B>(key),
+        &pair_of_each::<W, L, B>(left, right),
+        &(zero, zero),
+        &flags,
     )
 }
 
 // Returns the values of the parents of which lane j of `left` and lane j of `right` have the two subtrees.
-fn values_above(key: &[u32; 8], left: &[Lanes; 8], right: &[Lanes; 8]) -> [Lanes; 8]
-    requires left { AreFull left.now }
-    requires right { AreFull right.now }
-    ensures full { AreFull result }
-    ensures lanes { (j : ℕ) → j < LANES
+fn values_above<W: Width<L, B>, const L: usize, const B: usize>(
+    key: &[u32; 8],
+    left: &[Lanes<L>; 8],
+    right: &[Lanes<L>; 8],
+) -> [Lanes<L>; 8]
+    requires left { AreFull L left.now }
+    requires right { AreFull L right.now }
+    ensures full { AreFull L result }
+    ensures lanes { (j : ℕ) → j < L
         → lane j result ≡ parent_value key.now (lane j left.now) (lane j right.now) 0 }
 {
-    let flags = each(KEYED_HASH + PARENT);
-    let zero = Simd::splat(0u32);
+    let flags = each::<W, L, B>(KEYED_HASH + PARENT);
+    let zero = W::each(0);
     let message = [
         left[0], left[1], left[2], left[3], left[4], left[5], left[6], left[7], right[0], right[1],
         right[2], right[3], right[4], right[5], right[6], right[7],
     ];
-    compress_each::<2>(&key_of_each(key), &message, (zero, zero), flags)
+    compress_each::<W, L, B, 2>(
+        &key_of_each::<W, L, B>(key),
+        &message,
+        &(zero, zero),
+        &flags,
+    )
 }
 
 // Returns the places of chunks that follow each other, 0 to `last`. Lanes that are left over take the last one again.
-fn neighbours(last: usize) -> [usize; LANES]
-    ensures { (j : ℕ) → j < LANES → (slice_index result j ≤ last) × (j ≤ last → slice_index result j ≡ j) }
+fn neighbours<const L: usize>(last: usize) -> [usize; L]
+    ensures { (j : ℕ) → j < L → (slice_index result j ≤ last) × (j ≤ last → slice_index result j ≡ j) }
 {
-    let mut places = [0; LANES];
-    'places: for j in 0..LANES {
+    let mut places = [0; L];
+    'places: for j in 0..L {
         places[j] = j.min(last);
     }
     places
 }
 
 // Returns the places of the first chunks of subtrees that follow each other, of `len` chunks each.
-fn starts(len: usize) -> [usize; LANES]
+fn starts<W: Width<L, B>, const L: usize, const B: usize>(len: usize) -> [usize; L]
     requires { len < 2 ^ 54 }
-    ensures { (j : ℕ) → j < LANES → slice_index result j ≡ len * j }
+    ensures { (j : ℕ) → j < L → slice_index result j ≡ len * j }
 {
-    let mut places = [0; LANES];
+    let mut places = [0; L];
     let mut place = 0;
-    'places: for j in 0..LANES {
+    'places: for j in 0..L {
         places[j] = place;
         place += len;
     }
@@ -99,12 +116,12 @@ fn starts(len: usize) -> [usize; LANES]
 }
 
 // Returns the places that are `by` chunks further on.
-fn moved(places: &[usize; LANES], by: usize) -> [usize; LANES]
-    requires { (j : ℕ) → j < LANES → slice_index places.now j + by < 2 ^ 64 }
-    ensures { (j : ℕ) → j < LANES → slice_index result j ≡ slice_index places.now j + by }
+fn moved<const L: usize>(places: &[usize; L], by: usize) -> [usize; L]
+    requires { (j : ℕ) → j < L → slice_index places.now j + by < 2 ^ 64 }
+    ensures { (j : ℕ) → j < L → slice_index result j ≡ slice_index places.now j + by }
 {
-    let mut next = [0; LANES];
-    'places: for j in 0..LANES {
+    let mut next = [0; L];
+    'places: for j in 0..L {
         next[j] = places[j] + by;
     }
     next
@@ -113,93 +130,146 @@ fn moved(places: &[usize; LANES], by: usize) -> [usize; LANES]
 // Returns the values of subtrees of `size` chunks, of which that of lane j begins at place j. The first of `chunks` has
 // number `first`. Each lane reads the chunks of its own subtree one after another, since a processor reads ahead where it
 // sees a stream, and it sees none in chunks that share pages.
-fn values_apart(
+fn values_apart<W: Width<L, B>, const L: usize, const B: usize>(
     key: &[u32; 8],
     chunks: &[u8],
-    places: &[usize; LANES],
+    places: &[usize; L],
     size: usize,
     first: u64,
-) -> [Lanes; 8]
+) -> [Lanes<L>; 8]
     requires some { 0 < size }
     requires counter { first + length chunks.now / 1024 < 2 ^ 64 }
-    requires places { (j : ℕ) → j < LANES → 1024 * (slice_index places.now j + size) ≤ length chunks.now }
-    ensures full { AreFull result }
-    ensures lanes { (k j : ℕ) (m : List ℕ) → size ≡ 2 ^ k → j < LANES
+    requires places { (j : ℕ) → j < L → 1024 * (slice_index places.now j + size) ≤ length chunks.now }
+    ensures full { AreFull L result }
+    ensures lanes { (k j : ℕ) (m : List ℕ) → size ≡ 2 ^ k → j < L
         → chunks.now ≡ take (length chunks.now) (drop (1024 * first) m)
         → lane j result ≡ subtree_at key.now k (first + slice_index places.now j) m }
 {
     if size == 1 {
-        return chunk_values(key, chunks, places, first);
+        return chunk_values::<W, L, B>(key, chunks, places, first);
     }
     let half = size / 2;
-    let left = values_apart(key, chunks, places, half, first);
-    let right = values_apart(key, chunks, &moved(places, half), half, first);
-    values_above(key, &left, &right)
+    let left = values_apart::<W, L, B>(key, chunks, places, half, first);
+    let right = values_apart::<W, L, B>(key, chunks, &moved(places, half), half, first);
+    values_above::<W, L, B>(key, &left, &right)
 }
 
-// Returns a vector of two words and zeros.
+// Returns vectors' first four lanes: four words, and zeros.
 #[inline(always)]
-fn of_two(x: u32, y: u32) -> Lanes
-    ensures full { length result ≡ LANES }
-    ensures first { slice_index result 0 ≡ x }
-    ensures second { slice_index result 1 ≡ y }
+fn of_four<W: Width<L, B>, const L: usize, const B: usize>(
+    x0: u32,
+    x1: u32,
+    x2: u32,
+    x3: u32,
+) -> Lanes<L>
+    ensures full { length result ≡ L }
+    ensures lanes { (slice_index result 0 ≡ x0) × (slice_index result 1 ≡ x1) × (slice_index result 2 ≡ x2)
+        × (slice_index result 3 ≡ x3) }
 {
-    let mut words = [0u32; LANES];
-    words[0] = x;
-    words[1] = y;
-    Simd::from_array(words)
+    let mut words = [0u32; L];
+    words[0] = x0;
+    words[1] = x1;
+    words[2] = x2;
+    words[3] = x3;
+    words
+}
+
+// Returns vectors of the words of four values, in the first four lanes.
+#[inline(always)]
+fn lanes_of_four<W: Width<L, B>, const L: usize, const B: usize>(
+    x0: &[u32; 8],
+    x1: &[u32; 8],
+    x2: &[u32; 8],
+    x3: &[u32; 8],
+) -> [Lanes<L>; 8]
+    ensures full { AreFull L result }
+    ensures lanes { (lane 0 result ≡ x0.now) × (lane 1 result ≡ x1.now) × (lane 2 result ≡ x2.now)
+        × (lane 3 result ≡ x3.now) }
+{
+    [
+        of_four::<W, L, B>(x0[0], x1[0], x2[0], x3[0]),
+        of_four::<W, L, B>(x0[1], x1[1], x2[1], x3[1]),
+        of_four::<W, L, B>(x0[2], x1[2], x2[2], x3[2]),
+        of_four::<W, L, B>(x0[3], x1[3], x2[3], x3[3]),
+        of_four::<W, L, B>(x0[4], x1[4], x2[4], x3[4]),
+        of_four::<W, L, B>(x0[5], x1[5], x2[5], x3[5]),
+        of_four::<W, L, B>(x0[6], x1[6], x2[6], x3[6]),
+        of_four::<W, L, B>(x0[7], x1[7], x2[7], x3[7]),
+    ]
 }
 
 // Returns vectors of the words of two values, in the first two lanes.
 #[inline(always)]
-fn lanes_of_two(x: &[u32; 8], y: &[u32; 8]) -> [Lanes; 8]
-    ensures full { AreFull result }
+fn lanes_of_two<W: Width<L, B>, const L: usize, const B: usize>(
+    x: &[u32; 8],
+    y: &[u32; 8],
+) -> [Lanes<L>; 8]
+    ensures full { AreFull L result }
     ensures first { lane 0 result ≡ x.now }
     ensures second { lane 1 result ≡ y.now }
 {
-    [
-        of_two(x[0], y[0]),
-        of_two(x[1], y[1]),
-        of_two(x[2], y[2]),
-        of_two(x[3], y[3]),
-        of_two(x[4], y[4]),
-        of_two(x[5], y[5]),
-        of_two(x[6], y[6]),
-        of_two(x[7], y[7]),
-    ]
+    lanes_of_four::<W, L, B>(x, y, x, y)
 }
 
 // Returns the values of two chunks, in the first two lanes. The first one has number `first`.
-fn values_of_two(key: &[u32; 8], chunks: &[u8], first: u64) -> [Lanes; 8]
+fn values_of_two<W: Width<L, B>, const L: usize, const B: usize>(
+    key: &[u32; 8],
+    chunks: &[u8],
+    first: u64,
+) -> [Lanes<L>; 8]
     requires counter { first + 1 < 2 ^ 64 }
     requires chunks { length chunks.now ≡ 2048 }
-    ensures full { AreFull result }
-    ensures lanes { (j : ℕ) → j < 2 → lane j result ≡ chunk_value key.now (first + j) (chunk_at j chunks.now) 0 }
+    ensures full { AreFull L result }
+    ensures lanes { (j : ℕ) → j < 2 → lane j result ≡ value_at key.now first chunks.now j }
 {
     let (left, right) = chunks.split_at(CHUNK_LEN);
     let (x, y) = two_chunk_values(key, left, right, (first, first + 1), 0);
-    lanes_of_two(&x, &y)
+    lanes_of_two::<W, L, B>(&x, &y)
 }
 
-// Returns the values of up to `LANES` subtrees of one size, of which the first begins with chunk number `first`. If
-// there are fewer than `LANES`, each is a chunk.
-pub(crate) fn subtree_values(key: &[u32; 8], chunks: &[u8], first: u64) -> [Lanes; 8]
-    requires counter { first + length chunks.now / 1024 + LANES ≤ 2 ^ 64 }
+// Returns the values of up to four chunks, in the first lanes. The first one has number `first`.
+fn values_of_four<W: Width<L, B>, const L: usize, const B: usize>(
+    key: &[u32; 8],
+    chunks: &[u8],
+    first: u64,
+) -> [Lanes<L>; 8]
+    requires counter { first + 4 < 2 ^ 64 }
+    requires chunks { (1024 ≤ length chunks.now) × (length chunks.now ≤ 4096) }
+    ensures full { AreFull L result }
+    ensures lanes { (j : ℕ) → 1024 * j + 1024 ≤ length chunks.now → lane j result ≡ value_at key.now first chunks.now j }
+{
+    let places = neighbours(chunks.len() / CHUNK_LEN - 1);
+    let (x0, x1, x2, x3) = four_chunk_values(key, chunks, &places, first);
+    lanes_of_four::<W, L, B>(&x0, &x1, &x2, &x3)
+}
+
+// Returns the values of up to `L` subtrees of one size, of which the first begins with chunk number `first`. If
+// there are fewer than `L`, each is a chunk.
+pub(crate) fn subtree_values<W: Width<L, B>, const L: usize, const B: usize>(
+    key: &[u32; 8],
+    chunks: &[u8],
+    first: u64,
+) -> [Lanes<L>; 8]
+    requires counter { first + length chunks.now / 1024 + L ≤ 2 ^ 64 }
     requires chunks { 1024 ≤ length chunks.now }
-    ensures full { AreFull result }
-    ensures lanes { (k n j : ℕ) (m : List ℕ) → length chunks.now ≡ 1024 * (2 ^ k * n) → n ≤ LANES
-        → (0 < k → n ≡ LANES) → chunks.now ≡ take (length chunks.now) (drop (1024 * first) m) → j < n
+    requires narrow { L < WIDEST → length chunks.now ≤ 1024 * L }
+    ensures full { AreFull L result }
+    ensures lanes { (k n j : ℕ) (m : List ℕ) → length chunks.now ≡ 1024 * (2 ^ k * n) → n ≤ L
+        → (0 < k → n ≡ L) → chunks.now ≡ take (length chunks.now) (drop (1024 * first) m) → j < n
         → lane j result ≡ subtree_at key.now k (first + 2 ^ k * j) m }
 {
     if chunks.len() == 2 * CHUNK_LEN {
-        return values_of_two(key, chunks, first);
+        return values_of_two::<W, L, B>(key, chunks, first);
     }
-    if chunks.len() <= CHUNK_LEN * LANES {
+    if L == 4 && L < WIDEST {
+        return values_of_four::<W, L, B>(key, chunks, first);
+    }
+    if L < WIDEST || chunks.len() <= CHUNK_LEN * L {
         let places = neighbours(chunks.len() / CHUNK_LEN - 1);
-        return chunk_values(key, chunks, &places, first);
+        return chunk_values::<W, L, B>(key, chunks, &places, first);
     }
-    let len = chunks.len() / (CHUNK_LEN * LANES);
-    values_apart(key, chunks, &starts(len), len, first)
+    let len = chunks.len() / (CHUNK_LEN * L);
+    values_apart::<W, L, B>(key, chunks, &starts::<W, L, B>(len), len, first)
 }
 
 // Returns the block of a parent: the values of its two subtrees (2.5).
@@ -222,49 +292,56 @@ fn parent_block(left: &[u32; 8], right: &[u32; 8]) -> Block
 }
 
 // Returns the values of the parents of four subtrees, in the first two lanes.
-fn two_parent_values(key: &[u32; 8], values: &[Lanes; 8]) -> [Lanes; 8]
-    requires { AreFull values.now }
-    ensures full { AreFull result }
+fn two_parent_values<W: Width<L, B>, const L: usize, const B: usize>(
+    key: &[u32; 8],
+    values: &[Lanes<L>; 8],
+) -> [Lanes<L>; 8]
+    requires { AreFull L values.now }
+    ensures full { AreFull L result }
     ensures lanes { (j : ℕ) → j < 2 → lane j result
         ≡ parent_value key.now (lane (2 * j) values.now) (lane (2 * j + 1) values.now) 0 }
 {
     let first = parent_block(&lane(values, 0), &lane(values, 1));
     let second = parent_block(&lane(values, 2), &lane(values, 3));
     let (x, y) = apart(&compress_two(&both(key, key), &first, &second));
-    lanes_of_two(&x, &y)
+    lanes_of_two::<W, L, B>(&x, &y)
 }
 
 // Returns the values of the parents of the first `count` subtrees, two for each.
-fn joined_values(key: &[u32; 8], values: &[Lanes; 8], count: usize) -> [Lanes; 8]
-    requires count { count ≤ LANES }
-    requires full { AreFull values.now }
-    ensures full { AreFull result }
+fn joined_values<W: Width<L, B>, const L: usize, const B: usize>(
+    key: &[u32; 8],
+    values: &[Lanes<L>; 8],
+    count: usize,
+) -> [Lanes<L>; 8]
+    requires count { count ≤ L }
+    requires full { AreFull L values.now }
+    ensures full { AreFull L result }
     ensures lanes { (j : ℕ) → 2 * j + 1 < count → lane j result
         ≡ parent_value key.now (lane (2 * j) values.now) (lane (2 * j + 1) values.now) 0 }
 {
-    if count <= 4 {
-        return two_parent_values(key, values);
+    if L == 4 || count <= 4 {
+        return two_parent_values::<W, L, B>(key, values);
     }
-    parent_values(key, values, values)
+    parent_values::<W, L, B>(key, values, values)
 }
 
 // Joins neighbouring subtrees of one size side by side, level by level, while more than two are left and each has its
 // sibling among them. `values` has their values, `count` is how many they are, and `number` is that of the first. Returns
 // the number of the first subtree that is left, and how many are.
-pub(crate) fn join_in_pairs(
+pub(crate) fn join_in_pairs<W: Width<L, B>, const L: usize, const B: usize>(
     key: &[u32; 8],
     number: u64,
     count: usize,
-    values: &mut [Lanes; 8],
+    values: &mut [Lanes<L>; 8],
 ) -> (u64, usize)
     requires some { 1 < count }
-    requires count { count ≤ LANES }
-    requires full { AreFull values.old }
+    requires count { count ≤ L }
+    requires full { AreFull L values.old }
     requires number { number + count < 2 ^ 54 }
     ensures some { 1 < result.1 }
     ensures count { result.1 ≤ count }
     ensures number { result.0 + result.1 ≤ number + count }
-    ensures full { AreFull values.new }
+    ensures full { AreFull L values.new }
     ensures lanes { (k c : ℕ) (m : List ℕ) → c ≡ 2 ^ k * number → 1024 * (c + 2 ^ k * count) ≤ length m
         → ((j : ℕ) → j < count → lane j values.old ≡ subtree_at key.now k (c + 2 ^ k * j) m)
         → (level : ℕ) × (c ≡ 2 ^ level * result.0) × (2 ^ k * count ≡ 2 ^ level * result.1)
@@ -273,7 +350,7 @@ pub(crate) fn join_in_pairs(
     let mut number = number;
     let mut count = count;
     'levels: while count > 2 && count % 2 == 0 && number % 2 == 0 {
-        *values = joined_values(key, values, count);
+        *values = joined_values::<W, L, B>(key, values, count);
         number /= 2;
         count /= 2;
     }

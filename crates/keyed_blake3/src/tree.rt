@@ -5,20 +5,22 @@ ghost use Rattle.std.specs.Int.{to_le_bytes, w32};
 ghost use Rattle.std.specs.List.{flat_map};
 ghost use Rattle.keyed_blake3.specs.Blake3.{parent_value, root_flag};
 ghost use Rattle.keyed_blake3.specs.Steps.Lanes.{AreFull, lane};
+ghost use Rattle.keyed_blake3.specs.declared.compression.width.TheConstants.{WIDEST};
 ghost use Rattle.keyed_blake3.specs.Steps.Tree.{IsAbsorbed, IsEnded, IsWaiting, IsWaitingAtEnd, joined, subtree_at};
 
 use crate::chunk::{
     BLOCK_LEN, BLOCKS_PER_CHUNK, CHUNK_END, CHUNK_LEN, KEYED_HASH, compress_block, start_flag,
 };
 use crate::compression::compress;
-use crate::compression::lanes::{LANES, Lanes, lane};
+use crate::compression::lanes::lane;
+use crate::compression::width::{Eight, Four, Lanes, Sixteen, WIDEST, Width};
 use crate::subtrees::{PARENT, join_in_pairs, subtree_values};
 
 // The most chaining values that may wait: a message has at most 2^54 chunks.
 pub(crate) const MAX_DEPTH: usize = 54;
 
 // The fewest chunks that are hashed side by side.
-const CHUNKS_SIDE_BY_SIDE: usize = 2;
+const FEWEST: usize = 2;
 
 // The domain flag (table 3) of the root.
 pub(crate) const ROOT: u32 = 8;
@@ -97,14 +99,20 @@ fn add_subtree_value(
     cv_stack[used] = value;
 }
 
-// Returns the number of chunks in each of `LANES` subtrees side by side, the first of which begins with chunk number
-// `first`: the largest power of two that divides `first` and for which `chunks` chunks suffice.
-fn subtree_len(first: u64, chunks: usize) -> usize
+// Returns the number of chunks in each of `L` subtrees side by side, the first of which begins with chunk number
+// `first`: the largest power of two that divides `first` and for which `chunks` chunks suffice. It is 1 where there could be more
+// lanes, since only few chunks take fewer.
+fn subtree_len<W: Width<L, B>, const L: usize, const B: usize>(first: u64, chunks: usize) -> usize
     requires { chunks < 2 ^ 54 }
-    ensures { (k : ℕ) × (result ≡ 2 ^ k) × (first % result ≡ 0) × (0 < k → LANES * result ≤ chunks) }
+    ensures len { (k : ℕ) × (result ≡ 2 ^ k) × (first % result ≡ 0) × (0 < k → L * result ≤ chunks) }
+    ensures narrow { L < WIDEST → result ≡ 1 }
 {
+    if L < WIDEST {
+        return 1;
+    }
+    let most = chunks / L;
     let mut len = 1;
-    'doubled: while 2 * LANES * len <= chunks && first % (2 * len as u64) == 0 {
+    'doubled: while 2 * len <= most && first % (2 * len as u64) == 0 {
         len *= 2;
     }
     len
@@ -148,10 +156,10 @@ impl Tree {
     }
 
     // Adds the values of the first `count` of some subtrees of one size, of which the first has number `number`.
-    fn add_values(&mut self, number: u64, count: usize, values: &[Lanes; 8])
+    fn add_values<const L: usize>(&mut self, number: u64, count: usize, values: &[Lanes<L>; 8])
         requires number { number + count < 2 ^ 54 }
-        requires count { count ≤ LANES }
-        requires full { AreFull values.now }
+        requires count { count ≤ L }
+        requires full { AreFull L values.now }
         ensures key { self.new.key ≡ self.old.key }
         ensures chaining_value { self.new.chaining_value ≡ self.old.chaining_value }
         ensures waits { (k c : ℕ) (m : List ℕ) → c ≡ 2 ^ k * number → IsWaiting self.old.key self.old.cv_stack c m
@@ -167,13 +175,21 @@ impl Tree {
 
     // Takes in `count` subtrees of `len` chunks each, of which the first begins with chunk number `first`. `kept` is 1 if the
     // message ends with them, and else 0.
-    fn absorb_subtrees(&mut self, first: u64, len: usize, count: usize, chunks: &[u8], kept: usize)
+    fn absorb_subtrees<W: Width<L, B>, const L: usize, const B: usize>(
+        &mut self,
+        first: u64,
+        len: usize,
+        count: usize,
+        chunks: &[u8],
+        kept: usize,
+    )
         requires len { (k : ℕ) × (len ≡ 2 ^ k) }
         requires first { first % len ≡ 0 }
         requires end { first + len * count < 2 ^ 54 }
         requires some { 1 < count }
-        requires count { count ≤ LANES }
-        requires all { 1 < len → count ≡ LANES }
+        requires count { count ≤ L }
+        requires all { 1 < len → count ≡ L }
+        requires narrow { L < WIDEST → len ≡ 1 }
         requires chunks { length chunks.now ≡ 1024 * (len * count) }
         ensures absorbed { kept ≡ 0 → (key m : List ℕ) → IsAbsorbed key self.old (16 * first) m
             → 1024 * (first + len * count) ≤ length m
@@ -184,8 +200,9 @@ impl Tree {
             → chunks.now ≡ take (1024 * (len * count)) (drop (1024 * first) m)
             → IsEnded key self.new (first + len * count) m }
     {
-        let mut values = subtree_values(&self.key, chunks, first);
-        let (number, count) = join_in_pairs(&self.key, first / len as u64, count, &mut values);
+        let mut values = subtree_values::<W, L, B>(&self.key, chunks, first);
+        let number = first / len as u64;
+        let (number, count) = join_in_pairs::<W, L, B>(&self.key, number, count, &mut values);
         let last = count - 1;
         self.add_values(number, last, &values);
         let value = lane(&values, last);
@@ -220,6 +237,61 @@ impl Tree {
         }
     }
 
+    // Takes in the next of `whole` chunks with which `rest` begins, in `L` lanes. Returns the number of blocks.
+    fn absorb_in_lanes<W: Width<L, B>, const L: usize, const B: usize>(
+        &mut self,
+        number: u64,
+        whole: usize,
+        rest: &[u8],
+    ) -> usize
+        requires number { 64 * number + length rest.now < 2 ^ 64 }
+        requires first { number % 16 ≡ 0 }
+        requires some { 1 < whole }
+        requires whole { whole ≡ length rest.now / 1024 }
+        ensures some { 0 < result }
+        ensures rest { 64 * result ≤ length rest.now }
+        ensures absorbed { 64 * result < length rest.now → (key m : List ℕ) → IsAbsorbed key self.old number m
+            → rest.now ≡ drop (64 * number) m → IsAbsorbed key self.new (number + result) m }
+        ensures whole { 64 * result ≡ length rest.now → ((number + result) % 16 ≡ 0) × (16 < result) }
+        ensures ended { 64 * result ≡ length rest.now → (key m : List ℕ) → IsAbsorbed key self.old number m
+            → rest.now ≡ drop (64 * number) m → IsEnded key self.new ((number + result) / 16) m }
+    {
+        let first = number / BLOCKS_PER_CHUNK;
+        let len = subtree_len::<W, L, B>(first, whole);
+        let count = whole.min(L);
+        let chunks = &rest[..CHUNK_LEN * (len * count)];
+        if chunks.len() == rest.len() {
+            self.absorb_subtrees::<W, L, B>(first, len, count, chunks, 1);
+            return chunks.len() / BLOCK_LEN;
+        }
+        self.absorb_subtrees::<W, L, B>(first, len, count, chunks, 0);
+        chunks.len() / BLOCK_LEN
+    }
+
+    // Takes in the next of `whole` chunks with which `rest` begins, in the fewest lanes that hold them all, or in the most that
+    // there may be: a lane that stands empty costs less than a second pass. Returns the number of blocks.
+    fn absorb_chunks(&mut self, number: u64, whole: usize, rest: &[u8]) -> usize
+        requires number { 64 * number + length rest.now < 2 ^ 64 }
+        requires first { number % 16 ≡ 0 }
+        requires some { 1 < whole }
+        requires whole { whole ≡ length rest.now / 1024 }
+        ensures some { 0 < result }
+        ensures rest { 64 * result ≤ length rest.now }
+        ensures absorbed { 64 * result < length rest.now → (key m : List ℕ) → IsAbsorbed key self.old number m
+            → rest.now ≡ drop (64 * number) m → IsAbsorbed key self.new (number + result) m }
+        ensures whole { 64 * result ≡ length rest.now → ((number + result) % 16 ≡ 0) × (16 < result) }
+        ensures ended { 64 * result ≡ length rest.now → (key m : List ℕ) → IsAbsorbed key self.old number m
+            → rest.now ≡ drop (64 * number) m → IsEnded key self.new ((number + result) / 16) m }
+    {
+        if WIDEST > 8 && whole > 8 {
+            return self.absorb_in_lanes::<Sixteen, 16, 64>(number, whole, rest);
+        }
+        if WIDEST > 4 && whole > 4 {
+            return self.absorb_in_lanes::<Eight, 8, 32>(number, whole, rest);
+        }
+        self.absorb_in_lanes::<Four, 4, 16>(number, whole, rest)
+    }
+
     // Takes in what comes next of `rest`, the bytes of the message from block number `number` on: whole chunks if several
     // begin here, and else a block. Returns the number of blocks. If no bytes follow them, the message ends with them.
     pub(crate) fn absorb_next(&mut self, number: u64, rest: &[u8]) -> usize
@@ -234,21 +306,12 @@ impl Tree {
             → rest.now ≡ drop (64 * number) m → IsEnded key self.new ((number + result) / 16) m }
     {
         let whole = rest.len() / CHUNK_LEN;
-        if number % BLOCKS_PER_CHUNK > 0 || whole < CHUNKS_SIDE_BY_SIDE {
+        if number % BLOCKS_PER_CHUNK > 0 || whole < FEWEST {
             let block = &rest[..BLOCK_LEN];
             self.absorb(number, block);
             return 1;
         }
-        let first = number / BLOCKS_PER_CHUNK;
-        let len = subtree_len(first, whole);
-        let count = whole.min(LANES);
-        let chunks = &rest[..CHUNK_LEN * (len * count)];
-        if chunks.len() == rest.len() {
-            self.absorb_subtrees(first, len, count, chunks, 1);
-            return chunks.len() / BLOCK_LEN;
-        }
-        self.absorb_subtrees(first, len, count, chunks, 0);
-        chunks.len() / BLOCK_LEN
+        self.absorb_chunks(number, whole, rest)
     }
 
     // Returns the value `value` of what follows the first `used` values that wait, joined with them: the root's.

@@ -5,21 +5,22 @@ from __future__ import annotations
 from typing import Dict, List
 
 from planted import Plant
+from widths import of_width
 
 V, B = r"v\d+\.4s", r"v\d+\.16b"
 
 PLANTS: Dict[str, List[Plant]] = {
     "aarch64": [
-        Plant("a shift of a rotation", "chunks::take_block", r"(usra\tv\d+\.4s, v\d+\.4s), #12", r"\1, #13", 7),
-        Plant("a rotation by 16 bits left out", "chunks::take_block", r"rev32\tv(\d+)\.8h, v(\d+)\.8h", r"mov\tv\1.16b, v\2.16b", 5),
-        Plant("words of two lanes exchanged", "chunks::take_block", rf"zip1\t({V}), ({V}), ({V})", r"zip1\t\1, \3, \2", 1),
-        Plant("a sum left out", "chunks::take_block", rf"\tadd\t{V}, {V}, {V}\n", "\tnop\n", 40),
-        Plant("the flags of the last block", "chunks::chunk_values", r"mov\tw5, #18", "mov\tw5, #16"),
-        Plant("a rotation of another word", "chunks::take_block", rf"tbl\t({B}), {{ {B} }}, ({B})", r"tbl\t\1, { \2 }, \2", 9),
+        Plant("a shift of a rotation", of_width("chunks::take_block", 4), r"(usra\tv\d+\.4s, v\d+\.4s), #12", r"\1, #13", 7),
+        Plant("a rotation by 16 bits left out", of_width("chunks::take_block", 4), r"rev32\tv(\d+)\.8h, v(\d+)\.8h", r"mov\tv\1.16b, v\2.16b", 5),
+        Plant("words of two lanes exchanged", of_width("chunks::take_block", 4), rf"zip1\t({V}), ({V}), ({V})", r"zip1\t\1, \3, \2", 1),
+        Plant("a sum left out", of_width("chunks::take_block", 4), rf"\tadd\t{V}, {V}, {V}\n", "\tnop\n", 40),
+        Plant("the flags of the last block", of_width("chunks::chunk_values", 4), r"mov\tw5, #18", "mov\tw5, #16"),
+        Plant("a rotation of another word", of_width("chunks::take_block", 4), rf"tbl\t({B}), {{ {B} }}, ({B})", r"tbl\t\1, { \2 }, \2", 9),
         Plant("an exchange of words in one block", "compression::compress", r"(ext\tv(\d+)\.16b, v\d+\.16b, v\d+\.16b), #4", r"\1, #12", 3),
-        Plant("a shift in two blocks", "compression::two::compress_two", r"(shl\tv\d+\.4s, v\d+\.4s), #20", r"\1, #19", 2),
-        Plant("half of a vector that isn't given back", "compression::two::compress_two", r"ldp\td9, d8, ", "ldp\td9, d7, ", -1),
+        Plant("a shift in two blocks", "compression::two::compress_two_from", r"(shl\tv\d+\.4s, v\d+\.4s), #20", r"\1, #19", 2),
+        Plant("half of a vector that isn't given back", "compression::two::compress_two_from", r"ldp\td9, d8, ", "ldp\td9, d7, ", -1),
         Plant("the flags of a parent", "hasher::Hasher::update", r"mov\tw4, #20", "mov\tw4, #16"),
-        Plant("a read after the message", "chunks::take_block", r"ldr\t(q\d+), \[x12, x10\]", r"ldr\t\1, [x12, x10, lsl #4]"),
+        Plant("a read after the message", of_width("chunks::take_block", 4), r"ldr\t(q\d+), \[x12, x10\]", r"ldr\t\1, [x12, x10, lsl #4]"),
     ],
 }

@@ -63,16 +63,16 @@ def _each_byte(f: Callable[..., Any]) -> OfVectors:
     return lambda *vectors: words_of_bytes([f(*map(number, data)) & 255 for data in zip(*map(bytes_of, vectors))])
 
 
-def _both_halves(places: List[int], unit: int) -> OfVectors:
-    """Units of so many words of two vectors, at places in both of them."""
+def _exchanged(of_four: List[int], of_two: List[int], unit: int) -> OfVectors:
+    """Units of so many words of two vectors, at places in both of them: those for vectors of four units, or of two."""
     def of_vectors(x: Words, y: Words) -> Words:
         both = [*x, *y]
-        return [word for place in places for word in both[unit * place:unit * place + unit]]
+        return [word for place in (of_four if len(x) == 4 * unit else of_two) for word in both[unit * place:unit * place + unit]]
 
     return of_vectors
 
 
-#: For vectors of four words and of two values of 64 bits, which unit of both vectors comes to which place.
+#: For vectors of four units and of two, which unit of both vectors comes to which place.
 _EXCHANGES = {
     "zip1": ([0, 4, 1, 5], [0, 2]), "zip2": ([2, 6, 3, 7], [1, 3]), "uzp1": ([0, 2, 4, 6], [0, 2]), "uzp2": ([1, 3, 5, 7], [1, 3]),
     "trn1": ([0, 4, 2, 6], [0, 2]), "trn2": ([1, 5, 3, 7], [1, 3]),
@@ -98,7 +98,7 @@ _OF_TWO: Dict[str, ByUnits] = {
     **{name: _by_units(_each(f)) for name, f in {
         "eor": lambda x, y: xor(x, y), "and": and_, "orr": or_, "bic": lambda x, y: and_(x, xor(y, M32)),
     }.items()},
-    **{name: _by_units(None, _both_halves(fours, 1), _both_halves(twos, 2)) for name, (fours, twos) in _EXCHANGES.items()},
+    **{name: _by_units(None, _exchanged(*places, 1), _exchanged(*places, 2)) for name, places in _EXCHANGES.items()},
 }
 #: Those that also read the register that they write.
 _OF_THREE: Dict[str, OfVectors] = {

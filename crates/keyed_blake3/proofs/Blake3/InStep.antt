@@ -6,7 +6,6 @@ use Rattle.std.specs.Int.{rotate_right, w32}
 use Rattle.keyed_blake3.specs.Blake3.{add32, first_state, folded, round}
 use Rattle.keyed_blake3.specs.Steps.Lanes.{AreFull, lane}
 use Rattle.keyed_blake3.specs.Steps.Rows.{half_columns}
-use Rattle.keyed_blake3.specs.declared.compression.lanes.TheConstants.{LANES}
 use Rattle.keyed_blake3.proofs.Blake3.Lanes.{both_at, both_full, lane_at}
 use Rattle.keyed_blake3.proofs.Blake3.Rows.{columns, columns_by_halves, diagonals, diagonals_by_halves, folded-rows, four, half_columns-rows, turned, turned_back}
 use lib.Lanes.{zip2}
@@ -14,10 +13,10 @@ use lib.Lanes.{zip2}
 -- ---- half of G on each column
 
 -- a lane of a rotated xor
-pub rotated_xor_at : (j n : ℕ) (x y z : List ℕ) → j < LANES → length x ≡ LANES → length y ≡ LANES → z ≡ map (λ t. rotate_right w32 t n) (zip2 bit_xor x y)
+pub rotated_xor_at : {l : ℕ} → (j n : ℕ) (x y z : List ℕ) → j < l → length x ≡ l → length y ≡ l → z ≡ map (λ t. rotate_right w32 t n) (zip2 bit_xor x y)
     → get_or z j 0 ≡ rotate_right w32 (bit_xor (get_or x j 0) (get_or y j 0)) n
 rotated_xor_at j n x y z h hx hy is =
-    ap (λ (l : List ℕ). get_or l j 0) is
+    ap (λ (w : List ℕ). get_or w j 0) is
     ∙ get_or-map-at (λ (t : ℕ). rotate_right w32 t n) (zip2 bit_xor x y) j 0 0 (rw (both_full bit_xor x y hx hy) h)
     ∙ ap (λ (t : ℕ). rotate_right w32 t n) (both_at bit_xor j x y h hx hy)
 
@@ -74,10 +73,10 @@ round_by_halves j m a b c d v1 a2 b2 c2 d2 v3 v4 turns result ha hb hc hd ha2 hb
 
 -- ---- the ends of a compression
 
-pub eight_full_of : (a b c d e f g h : List ℕ) → length a ≡ LANES → length b ≡ LANES → length c ≡ LANES → length d ≡ LANES
-    → length e ≡ LANES → length f ≡ LANES → length g ≡ LANES → length h ≡ LANES → AreFull (a ∷ b ∷ c ∷ d ∷ e ∷ f ∷ g ∷ h ∷ [])
-eight_full_of a b c d e f g h ha hb hc hd he hf hg hh k w fits =
-    Each1-get_or (λ (v : List ℕ). length v ≡ LANES) (a ∷ b ∷ c ∷ d ∷ e ∷ f ∷ g ∷ h ∷ []) k w fits (ha, (hb, (hc, (hd, (he, (hf, (hg, (hh, tt))))))))
+pub eight_full_of : {l : ℕ} → (a b c d e f g h : List ℕ) → length a ≡ l → length b ≡ l → length c ≡ l → length d ≡ l
+    → length e ≡ l → length f ≡ l → length g ≡ l → length h ≡ l → AreFull l (a ∷ b ∷ c ∷ d ∷ e ∷ f ∷ g ∷ h ∷ [])
+eight_full_of {l} a b c d e f g h ha hb hc hd he hf hg hh k w fits =
+    Each1-get_or (λ (v : List ℕ). length v ≡ l) (a ∷ b ∷ c ∷ d ∷ e ∷ f ∷ g ∷ h ∷ []) k w fits (ha, (hb, (hc, (hd, (he, (hf, (hg, (hh, tt))))))))
 
 pub folded_by_steps : (a b c d x y : List ℕ) → length a ≡ 4 → length b ≡ 4 → length c ≡ 4 → length d ≡ 4 → x ≡ zip2 bit_xor a c → y ≡ zip2 bit_xor b d
     → get_or x 0 0 ∷ get_or x 1 0 ∷ get_or x 2 0 ∷ get_or x 3 0 ∷ get_or y 0 0 ∷ get_or y 1 0 ∷ get_or y 2 0 ∷ get_or y 3 0 ∷ [] ≡ folded (a ++ b ++ c ++ d)

@@ -1,7 +1,7 @@
 -- Words of several blocks as bytes: read, xored, and rotated by whole bytes.
 use Rattle.std.proofs.Common.{◌≡◌, ℕ, zero, suc, ◌+◌, ◌-◌, ◌*◌, ◌/◌, ◌%◌, ◌^◌, ◌<◌, List, [], ◌∷◌, ◌++◌, length, map, get_or, bit_xor, refl, sym, ap, ◌∙◌, arith}
 use Rattle.std.proofs.lemmas.List.{get_or-map as get_or-map-at, get_or_append_left, length-map}
-use Rattle.std.proofs.lemmas.List.FromFn.{fill_by_all, get_or-map-range_with_len, length-map-range_with_len}
+use Rattle.std.proofs.lemmas.List.FromFn.{fill_by_all, length-map-range_with_len}
 use Rattle.std.proofs.lemmas.Nat.{or_lt, shr_le, xor_block, xor_mod, xor_shr}
 use Rattle.std.proofs.lemmas.Simd.{Each1-from_get_or, Each1-get_or, get_or-chunk, get_or_narrower, get_or_wider, length-chunk, map-map}
 use Rattle.std.specs.Int.{rotate_right, w32}
@@ -9,8 +9,13 @@ use Rattle.std.specs.Int.Bits.{or_shifted_r}
 use Rattle.std.specs.List.{range_with_len}
 use Rattle.keyed_blake3.specs.Steps.LaneRows.{words_of_bytes}
 use Rattle.keyed_blake3.proofs.Blake3.Blocks.{length-digits}
+use Rattle.keyed_blake3.proofs.Blake3.Lanes.{picked_at}
 use Rattle.keyed_blake3.proofs.Blake3.Rows.{four}
 use lib.Lanes.{Each1, chunk, digits_l, number_l, pick_l, zip2}
+
+-- each number of a list, below p
+pub each_below : (p : ℕ) (x : List ℕ) → ((i : ℕ) → get_or x i 0 < p) → Each1 (λ y. y < p) x
+each_below p x below = Each1-from_get_or (λ (y : ℕ). y < p) x 0 (λ i h. below i)
 
 -- ---- words and their bytes
 
@@ -129,9 +134,7 @@ words-turned s n f b size bytes turns =
     let long : length p ≡ 4 * n = length-map _ _ ∙ places in
     let from : (k : ℕ) → k < 4 * n → get_or p k 0 ≡ get_or b (place s k) 0 =
     λ k fits. let within : place s k < length b = omega (arith, size) in
-    get_or-map-at (λ (q : ℕ). get_or (b ++ b) q 0) (map (place s) (range_with_len 0 (4 * n))) k 0 0 (rw places fits)
-    ∙ ap (λ (q : ℕ). get_or (b ++ b) q 0) (get_or-map-range_with_len (place s) 0 (4 * n) k k 0 fits (omega arith))
-    ∙ get_or_append_left b b 0 (place s k) within in
+    picked_at (place s) (4 * n) (b ++ b) p k refl fits ∙ get_or_append_left b b 0 (place s k) within in
     let at : (j i : ℕ) → j < n → i < 4 → get_or p (4 * j + i) 0 ≡ get_or b (4 * j + (i + s) % 4) 0 =
     λ j i hj hi. let same : place s (4 * j + i) ≡ 4 * j + (i + s) % 4 = omega arith in
     from (4 * j + i) (omega arith) ∙ ap (λ (q : ℕ). get_or b q 0) same in

@@ -1,15 +1,12 @@
 -- Subtrees of one size, side by side.
-use Rattle.std.proofs.Common.{◌≡◌, ℕ, zero, suc, inl, inr, ◌+◌, ◌-◌, ◌*◌, ◌/◌, ◌^◌, ◌<◌, ◌≤◌, List, [], ◌++◌, length, map, take, drop, get_or, refl, sym, ap, ◌∙◌, arith, length-drop}
-use Rattle.std.proofs.Math.Nat.{mul-add, mul-le-mul_left, one-mul, pow-succ'}
-use Rattle.std.proofs.lemmas.Bool.{cases_lt}
-use Rattle.std.proofs.lemmas.List.{get_or-append_right, get_or_append_left, drop-drop, drop-take, length-map, length-take, length-take-le, take-take}
-use Rattle.std.proofs.lemmas.List.FromFn.{fill_by_all, get_or-map-range_with_len}
-use Rattle.std.specs.List.{range_with_len}
+use Rattle.std.proofs.Common.{◌≡◌, ℕ, zero, suc, ◌+◌, ◌-◌, ◌*◌, ◌/◌, ◌^◌, ◌<◌, ◌≤◌, List, [], ◌++◌, length, take, drop, get_or, refl, sym, ap, ◌∙◌, arith, length-drop}
+use Rattle.std.proofs.Math.Nat.{mul-add, mul-div_cancel, mul-le-mul_left, mul-le-mul_right, mul_assoc, mul_comm, one-mul, pow-succ'}
+use Rattle.std.proofs.lemmas.List.{get_or_append_left, drop-drop, drop-take, length-map, length-take, take-take}
+use Rattle.std.proofs.lemmas.List.FromFn.{fill_by_all}
 use Rattle.std.proofs.lemmas.Nat.{pow_pos}
 use Rattle.keyed_blake3.specs.Blake3.{chunk_value, parent_value}
 use Rattle.keyed_blake3.specs.Steps.Lanes.{AreFull, beside, chunk_at, lane}
 use Rattle.keyed_blake3.specs.Steps.Tree.{subtree_at}
-use Rattle.keyed_blake3.specs.declared.compression.lanes.TheConstants.{LANES}
 use Rattle.keyed_blake3.proofs.Blake3.Absorbing.{subtree_at-chunk}
 use Rattle.keyed_blake3.proofs.Blake3.Blocks.{chunk_at_from}
 use Rattle.keyed_blake3.proofs.Blake3.Lanes.{full_at, lane_at}
@@ -17,35 +14,21 @@ use Rattle.keyed_blake3.proofs.Blake3.Waiting.{double, subtree_at-join}
 
 -- ---- vectors with others at their right
 
-pub beside_left : (v w : List (List ℕ)) (j : ℕ) → length v ≡ 8 → AreFull v → j < LANES → lane j (beside v w) ≡ lane j v
+pub beside_left : {l : ℕ} → (v w : List (List ℕ)) (j : ℕ) → length v ≡ 8 → AreFull l v → j < l → lane j (beside v w) ≡ lane j v
 beside_left v w j size full h =
     sym (fill_by_all (λ (k : ℕ). get_or (get_or v k [] ++ get_or w k []) j 0) (lane j v) 8 0 (length-map _ _ ∙ size)
     (λ k fits. sym (lane_at j v k) ∙ sym (get_or_append_left (get_or v k []) (get_or w k []) 0 j (rw (full_at v k full (rw size fits)) h))))
 
-pub beside_right : (v w : List (List ℕ)) (i j : ℕ) → length v ≡ 8 → AreFull v → length w ≡ 8 → i ≡ LANES + j → lane i (beside v w) ≡ lane j w
-beside_right v w i j size full same e =
-    let back : i - LANES ≡ j = omega arith in
-    sym (fill_by_all (λ (k : ℕ). get_or (get_or v k [] ++ get_or w k []) i 0) (lane j w) 8 0 (length-map _ _ ∙ same)
-    (λ k fits. sym (lane_at j w k)
-    ∙ ap (λ (n : ℕ). get_or (get_or w k []) n 0) (sym back)
-    ∙ sym (get_or-append_right (get_or v k []) (get_or w k []) LANES i 0 (full_at v k full (rw size fits)) (omega arith))))
-
--- the lanes at even places and at odd ones
-pub even_at : (j : ℕ) (w : List ℕ) → j < LANES → get_or (map (λ k. get_or w (2 * k) 0) (range_with_len 0 LANES)) j 0 ≡ get_or w (2 * j) 0
-even_at j w h = get_or-map-range_with_len (λ (k : ℕ). get_or w (2 * k) 0) 0 LANES j j 0 h (omega arith)
-
-pub odd_at : (j : ℕ) (w : List ℕ) → j < LANES → get_or (map (λ k. get_or w (2 * k + 1) 0) (range_with_len 0 LANES)) j 0 ≡ get_or w (2 * j + 1) 0
-odd_at j w h = get_or-map-range_with_len (λ (k : ℕ). get_or w (2 * k + 1) 0) 0 LANES j j 0 h (omega arith)
-
 -- ---- subtrees
 
 -- as many bytes as some chunks have
-pub is_chunk : (k n bytes : ℕ) → bytes ≡ 1024 * (2 ^ k * n) → bytes ≤ 1024 * LANES → (0 < k → n ≡ LANES) → k ≡ 0
-is_chunk zero n bytes e few all = refl
-is_chunk (suc k) n bytes e few all =
-    let full : n ≡ LANES = all (omega arith) in
-    let some = pow_pos k in
-    absurd (omega (arith, pow-succ' 2 k, rw full at e))
+pub is_chunk : (l k n bytes : ℕ) → 0 < l → bytes ≡ 1024 * (2 ^ k * n) → bytes ≤ 1024 * l → (0 < k → n ≡ l) → k ≡ 0
+is_chunk l zero n bytes some e few all = refl
+is_chunk l (suc k) n bytes some e few all =
+    let full : n ≡ l = all (omega arith) in
+    let two : 2 ≤ 2 ^ suc k = omega (arith, pow-succ' 2 k, pow_pos k) in
+    let more : 2 * l ≤ 2 ^ suc k * l = mul-le-mul_right l two in
+    absurd (omega (arith, more, some, rw full at e))
 
 -- two lanes
 pub two_lanes : (P : ℕ → Type 0) → P 0 → P 1 → (j : ℕ) → j < 2 → P j
@@ -78,66 +61,16 @@ parents_at key first k j m left right l r long =
     ∙ ap (λ (x : List ℕ). parent_value key x (subtree_at key k (first + 2 ^ suc k * j + 2 ^ k) m) 0) lower
     ∙ ap (λ (x : List ℕ). parent_value key left x 0) upper)
 
--- what the values of each half of some bytes say
-abbrev pub Values : List ℕ → ℕ → List ℕ → List (List ℕ) → Type 0
-Values key first bytes values = (k n j : ℕ) (m : List ℕ) → length bytes ≡ 1024 * (2 ^ k * n) → n ≤ LANES → (0 < k → n ≡ LANES)
-    → bytes ≡ take (length bytes) (drop (1024 * first) m) → j < n → lane j values ≡ subtree_at key k (first + 2 ^ k * j) m
-
--- the parents of the values of both halves are the values of the whole
-pub halves_at : (key : List ℕ) (first half : ℕ) (bytes rest : List ℕ) (left right : List (List ℕ)) → 1024 * LANES < length bytes → half ≡ length bytes / 2
-    → rest ≡ drop half bytes → AreFull left → AreFull right → length left ≡ 8 → length right ≡ 8
-    → Values key first (take half bytes) left → Values key (first + half / 1024) rest right
-    → (k n j : ℕ) (m : List ℕ) → length bytes ≡ 1024 * (2 ^ k * n) → n ≤ LANES → (0 < k → n ≡ LANES)
-    → bytes ≡ take (length bytes) (drop (1024 * first) m) → j < n
-    → parent_value key (lane (2 * j) (beside left right)) (lane (2 * j + 1) (beside left right)) 0 ≡ subtree_at key k (first + 2 ^ k * j) m
-halves_at key first half bytes rest left right long eh er fl fr sl sr l r zero n j m size few all is h = absurd (omega (arith, size, one-mul n))
-halves_at key first half bytes rest left right long eh er fl fr sl sr l r (suc k) n j m size few all is h =
-    let full : n ≡ LANES = all (omega arith) in
-    let whole : length bytes ≡ 1024 * (2 ^ suc k * LANES) = size ∙ ap (λ (i : ℕ). 1024 * (2 ^ suc k * i)) full in
-    let twice : 2 ^ suc k ≡ 2 * 2 ^ k = pow-succ' 2 k in
-    let part : half ≡ 1024 * (2 ^ k * LANES) = omega (arith, whole, twice, eh) in
-    let fits : half ≤ length bytes = omega (arith, whole, twice, part) in
-    let tail : List ℕ = drop (1024 * first) m in
-    let size_l : length (take half bytes) ≡ half = length-take-le half bytes fits in
-    let is_l : take half bytes ≡ take (length (take half bytes)) tail =
-    ap (take half) is ∙ take-take half (length bytes) tail fits ∙ ap (λ (i : ℕ). take i tail) (sym size_l) in
-    let after : half + half ≡ length bytes = omega (arith, whole, twice, part) in
-    let size_r : length rest ≡ half = ap length er ∙ length-drop half bytes ∙ omega (arith, after) in
-    let place : 1024 * first + half ≡ 1024 * (first + half / 1024) = omega (arith, part) in
-    let is_r : rest ≡ take (length rest) (drop (1024 * (first + half / 1024)) m) =
-    er ∙ ap (drop half) (is ∙ ap (λ (i : ℕ). take i tail) (sym after)) ∙ drop-take half half tail
-    ∙ ap (take half) (drop-drop half (1024 * first) m ∙ ap (λ (i : ℕ). drop i m) place) ∙ ap (λ (i : ℕ). take i (drop (1024 * (first + half / 1024)) m)) (sym size_r) in
-    let at : (i : ℕ) → i < LANES + LANES → lane i (beside left right) ≡ subtree_at key k (first + 2 ^ k * i) m =
-    λ i below. elim (cases_lt i LANES) [
-      | inl low ↦ beside_left left right i sl fl low ∙ l k LANES i m (size_l ∙ part) (omega arith) (λ _. refl) is_l low
-      | inr high ↦
-          let b : ℕ = i - LANES in
-          let e : i ≡ LANES + b = omega arith in
-          let there : first + half / 1024 + 2 ^ k * b ≡ first + 2 ^ k * i =
-          omega (arith, part, mul-add (2 ^ k) LANES b, ap (λ (x : ℕ). 2 ^ k * x) e) in
-          beside_right left right i b sl fl sr e ∙ r k LANES b m (size_r ∙ part) (omega arith) (λ _. refl) is_r (omega arith)
-          ∙ ap (λ (c : ℕ). subtree_at key k c m) there
-    ] in
-    let within : 2 ^ suc k * (j + 1) ≤ 2 ^ suc k * LANES = mul-le-mul_left (2 ^ suc k) (omega arith) in
-    let end : 1024 * (first + 2 ^ suc k * (j + 1)) ≤ length m =
-    omega (arith, whole, within, long, ap length is, length-take (length bytes) tail, length-drop (1024 * first) m) in
-    parents_at key first k j m _ _ (at (2 * j) (omega arith)) (at (2 * j + 1) (omega arith)) end
-
 -- ---- how many subtrees are taken at once
 
 -- there is room for them
-pub batch_fits : (k len count whole : ℕ) → len ≡ 2 ^ k → count ≤ LANES → count ≤ whole → (0 < k → LANES * len ≤ whole) → len * count ≤ whole
-batch_fits zero len count whole e few fits room =
+pub batch_fits : (l k len count whole : ℕ) → len ≡ 2 ^ k → count ≤ l → count ≤ whole → (0 < k → l * len ≤ whole) → len * count ≤ whole
+batch_fits l zero len count whole e few fits room =
     let one : len * count ≡ 1 * count = ap (λ (x : ℕ). x * count) e in
     omega (arith, one, one-mul count)
-batch_fits (suc k) len count whole e few fits room =
-    let most : len * count ≤ len * LANES = mul-le-mul_left len few in
+batch_fits l (suc k) len count whole e few fits room =
+    let most : len * count ≤ len * l = mul-le-mul_left len few in
     omega (arith, most, room (omega arith))
-
--- all lanes are taken where they have several chunks
-pub batch_full : (k len whole : ℕ) → len ≡ 2 ^ k → (0 < k → LANES * len ≤ whole) → 1 < len → LANES ≤ whole
-batch_full zero len whole e room several = absurd (omega (arith, e))
-batch_full (suc k) len whole e room several = omega (arith, room (omega arith))
 
 -- ---- subtrees apart
 
@@ -183,6 +116,12 @@ end_within first n m bytes long is some =
     omega (arith, long, some, ap length is, length-take (length bytes) (drop (1024 * first) m), length-drop (1024 * first) m)
 
 -- all lanes are taken by many chunks
-pub lanes_full : (k n bytes : ℕ) → bytes ≡ 1024 * (2 ^ k * n) → 1024 * LANES < bytes → n ≤ LANES → (0 < k → n ≡ LANES) → n ≡ LANES
-lanes_full zero n bytes e long few all = absurd (omega (arith, e, one-mul n))
-lanes_full (suc k) n bytes e long few all = all (omega arith)
+pub lanes_full : (l k n bytes : ℕ) → bytes ≡ 1024 * (2 ^ k * n) → 1024 * l < bytes → n ≤ l → (0 < k → n ≡ l) → n ≡ l
+lanes_full l zero n bytes e long few all = absurd (omega (arith, e, one-mul n))
+lanes_full l (suc k) n bytes e long few all = all (omega arith)
+
+-- the chunks of each lane's subtree
+pub len_of : (l len bytes : ℕ) → 0 < l → bytes ≡ 1024 * (len * l) → bytes / (1024 * l) ≡ len
+len_of l len bytes some e =
+    let size : bytes ≡ len * (1024 * l) = e ∙ sym (mul_assoc 1024 len l) ∙ ap (λ (n : ℕ). n * l) (mul_comm 1024 len) ∙ mul_assoc len 1024 l in
+    ap (λ (n : ℕ). n / (1024 * l)) size ∙ mul-div_cancel len (omega (arith, some))

@@ -1,80 +1,49 @@
 -- The steps of the transposition of sixteen rows of sixteen words.
-use Rattle.std.proofs.Common.{◌≡◌, ℕ, List, [], ◌∷◌, ◌++◌, get_or, map, refl}
+use Rattle.std.proofs.Common.{◌≡◌, ℕ, ◌+◌, List, [], ◌∷◌, ◌++◌, length, map, refl}
+use Rattle.std.proofs.lemmas.List.Elements.{All-map, All-same}
 use Rattle.std.specs.List.{range_with_len}
-use Rattle.keyed_blake3.specs.Steps.Lanes.{lane}
-use lib.Lanes.{pick_l}
+use Rattle.keyed_blake3.specs.Steps.Lanes.{AreFull, lane}
+use Rattle.keyed_blake3.specs.Steps.Transposition.{picked}
 
-abbrev pub turned : (ℕ → List ℕ) → List (List ℕ)
-turned r =
-    let t0 : List ℕ = pick_l 0 ((r 0) ++ (r 1)) (0 ∷ 16 ∷ 1 ∷ 17 ∷ 4 ∷ 20 ∷ 5 ∷ 21 ∷ 8 ∷ 24 ∷ 9 ∷ 25 ∷ 12 ∷ 28 ∷ 13 ∷ 29 ∷ []) in
-    let t1 : List ℕ = pick_l 0 ((r 0) ++ (r 1)) (2 ∷ 18 ∷ 3 ∷ 19 ∷ 6 ∷ 22 ∷ 7 ∷ 23 ∷ 10 ∷ 26 ∷ 11 ∷ 27 ∷ 14 ∷ 30 ∷ 15 ∷ 31 ∷ []) in
-    let t2 : List ℕ = pick_l 0 ((r 2) ++ (r 3)) (0 ∷ 16 ∷ 1 ∷ 17 ∷ 4 ∷ 20 ∷ 5 ∷ 21 ∷ 8 ∷ 24 ∷ 9 ∷ 25 ∷ 12 ∷ 28 ∷ 13 ∷ 29 ∷ []) in
-    let t3 : List ℕ = pick_l 0 ((r 2) ++ (r 3)) (2 ∷ 18 ∷ 3 ∷ 19 ∷ 6 ∷ 22 ∷ 7 ∷ 23 ∷ 10 ∷ 26 ∷ 11 ∷ 27 ∷ 14 ∷ 30 ∷ 15 ∷ 31 ∷ []) in
-    let t4 : List ℕ = pick_l 0 ((r 4) ++ (r 5)) (0 ∷ 16 ∷ 1 ∷ 17 ∷ 4 ∷ 20 ∷ 5 ∷ 21 ∷ 8 ∷ 24 ∷ 9 ∷ 25 ∷ 12 ∷ 28 ∷ 13 ∷ 29 ∷ []) in
-    let t5 : List ℕ = pick_l 0 ((r 4) ++ (r 5)) (2 ∷ 18 ∷ 3 ∷ 19 ∷ 6 ∷ 22 ∷ 7 ∷ 23 ∷ 10 ∷ 26 ∷ 11 ∷ 27 ∷ 14 ∷ 30 ∷ 15 ∷ 31 ∷ []) in
-    let t6 : List ℕ = pick_l 0 ((r 6) ++ (r 7)) (0 ∷ 16 ∷ 1 ∷ 17 ∷ 4 ∷ 20 ∷ 5 ∷ 21 ∷ 8 ∷ 24 ∷ 9 ∷ 25 ∷ 12 ∷ 28 ∷ 13 ∷ 29 ∷ []) in
-    let t7 : List ℕ = pick_l 0 ((r 6) ++ (r 7)) (2 ∷ 18 ∷ 3 ∷ 19 ∷ 6 ∷ 22 ∷ 7 ∷ 23 ∷ 10 ∷ 26 ∷ 11 ∷ 27 ∷ 14 ∷ 30 ∷ 15 ∷ 31 ∷ []) in
-    let t8 : List ℕ = pick_l 0 ((r 8) ++ (r 9)) (0 ∷ 16 ∷ 1 ∷ 17 ∷ 4 ∷ 20 ∷ 5 ∷ 21 ∷ 8 ∷ 24 ∷ 9 ∷ 25 ∷ 12 ∷ 28 ∷ 13 ∷ 29 ∷ []) in
-    let t9 : List ℕ = pick_l 0 ((r 8) ++ (r 9)) (2 ∷ 18 ∷ 3 ∷ 19 ∷ 6 ∷ 22 ∷ 7 ∷ 23 ∷ 10 ∷ 26 ∷ 11 ∷ 27 ∷ 14 ∷ 30 ∷ 15 ∷ 31 ∷ []) in
-    let t10 : List ℕ = pick_l 0 ((r 10) ++ (r 11)) (0 ∷ 16 ∷ 1 ∷ 17 ∷ 4 ∷ 20 ∷ 5 ∷ 21 ∷ 8 ∷ 24 ∷ 9 ∷ 25 ∷ 12 ∷ 28 ∷ 13 ∷ 29 ∷ []) in
-    let t11 : List ℕ = pick_l 0 ((r 10) ++ (r 11)) (2 ∷ 18 ∷ 3 ∷ 19 ∷ 6 ∷ 22 ∷ 7 ∷ 23 ∷ 10 ∷ 26 ∷ 11 ∷ 27 ∷ 14 ∷ 30 ∷ 15 ∷ 31 ∷ []) in
-    let t12 : List ℕ = pick_l 0 ((r 12) ++ (r 13)) (0 ∷ 16 ∷ 1 ∷ 17 ∷ 4 ∷ 20 ∷ 5 ∷ 21 ∷ 8 ∷ 24 ∷ 9 ∷ 25 ∷ 12 ∷ 28 ∷ 13 ∷ 29 ∷ []) in
-    let t13 : List ℕ = pick_l 0 ((r 12) ++ (r 13)) (2 ∷ 18 ∷ 3 ∷ 19 ∷ 6 ∷ 22 ∷ 7 ∷ 23 ∷ 10 ∷ 26 ∷ 11 ∷ 27 ∷ 14 ∷ 30 ∷ 15 ∷ 31 ∷ []) in
-    let t14 : List ℕ = pick_l 0 ((r 14) ++ (r 15)) (0 ∷ 16 ∷ 1 ∷ 17 ∷ 4 ∷ 20 ∷ 5 ∷ 21 ∷ 8 ∷ 24 ∷ 9 ∷ 25 ∷ 12 ∷ 28 ∷ 13 ∷ 29 ∷ []) in
-    let t15 : List ℕ = pick_l 0 ((r 14) ++ (r 15)) (2 ∷ 18 ∷ 3 ∷ 19 ∷ 6 ∷ 22 ∷ 7 ∷ 23 ∷ 10 ∷ 26 ∷ 11 ∷ 27 ∷ 14 ∷ 30 ∷ 15 ∷ 31 ∷ []) in
-    let u0 : List ℕ = pick_l 0 (t0 ++ t2) (0 ∷ 1 ∷ 16 ∷ 17 ∷ 4 ∷ 5 ∷ 20 ∷ 21 ∷ 8 ∷ 9 ∷ 24 ∷ 25 ∷ 12 ∷ 13 ∷ 28 ∷ 29 ∷ []) in
-    let u1 : List ℕ = pick_l 0 (t0 ++ t2) (2 ∷ 3 ∷ 18 ∷ 19 ∷ 6 ∷ 7 ∷ 22 ∷ 23 ∷ 10 ∷ 11 ∷ 26 ∷ 27 ∷ 14 ∷ 15 ∷ 30 ∷ 31 ∷ []) in
-    let u2 : List ℕ = pick_l 0 (t1 ++ t3) (0 ∷ 1 ∷ 16 ∷ 17 ∷ 4 ∷ 5 ∷ 20 ∷ 21 ∷ 8 ∷ 9 ∷ 24 ∷ 25 ∷ 12 ∷ 13 ∷ 28 ∷ 29 ∷ []) in
-    let u3 : List ℕ = pick_l 0 (t1 ++ t3) (2 ∷ 3 ∷ 18 ∷ 19 ∷ 6 ∷ 7 ∷ 22 ∷ 23 ∷ 10 ∷ 11 ∷ 26 ∷ 27 ∷ 14 ∷ 15 ∷ 30 ∷ 31 ∷ []) in
-    let u4 : List ℕ = pick_l 0 (t4 ++ t6) (0 ∷ 1 ∷ 16 ∷ 17 ∷ 4 ∷ 5 ∷ 20 ∷ 21 ∷ 8 ∷ 9 ∷ 24 ∷ 25 ∷ 12 ∷ 13 ∷ 28 ∷ 29 ∷ []) in
-    let u5 : List ℕ = pick_l 0 (t4 ++ t6) (2 ∷ 3 ∷ 18 ∷ 19 ∷ 6 ∷ 7 ∷ 22 ∷ 23 ∷ 10 ∷ 11 ∷ 26 ∷ 27 ∷ 14 ∷ 15 ∷ 30 ∷ 31 ∷ []) in
-    let u6 : List ℕ = pick_l 0 (t5 ++ t7) (0 ∷ 1 ∷ 16 ∷ 17 ∷ 4 ∷ 5 ∷ 20 ∷ 21 ∷ 8 ∷ 9 ∷ 24 ∷ 25 ∷ 12 ∷ 13 ∷ 28 ∷ 29 ∷ []) in
-    let u7 : List ℕ = pick_l 0 (t5 ++ t7) (2 ∷ 3 ∷ 18 ∷ 19 ∷ 6 ∷ 7 ∷ 22 ∷ 23 ∷ 10 ∷ 11 ∷ 26 ∷ 27 ∷ 14 ∷ 15 ∷ 30 ∷ 31 ∷ []) in
-    let u8 : List ℕ = pick_l 0 (t8 ++ t10) (0 ∷ 1 ∷ 16 ∷ 17 ∷ 4 ∷ 5 ∷ 20 ∷ 21 ∷ 8 ∷ 9 ∷ 24 ∷ 25 ∷ 12 ∷ 13 ∷ 28 ∷ 29 ∷ []) in
-    let u9 : List ℕ = pick_l 0 (t8 ++ t10) (2 ∷ 3 ∷ 18 ∷ 19 ∷ 6 ∷ 7 ∷ 22 ∷ 23 ∷ 10 ∷ 11 ∷ 26 ∷ 27 ∷ 14 ∷ 15 ∷ 30 ∷ 31 ∷ []) in
-    let u10 : List ℕ = pick_l 0 (t9 ++ t11) (0 ∷ 1 ∷ 16 ∷ 17 ∷ 4 ∷ 5 ∷ 20 ∷ 21 ∷ 8 ∷ 9 ∷ 24 ∷ 25 ∷ 12 ∷ 13 ∷ 28 ∷ 29 ∷ []) in
-    let u11 : List ℕ = pick_l 0 (t9 ++ t11) (2 ∷ 3 ∷ 18 ∷ 19 ∷ 6 ∷ 7 ∷ 22 ∷ 23 ∷ 10 ∷ 11 ∷ 26 ∷ 27 ∷ 14 ∷ 15 ∷ 30 ∷ 31 ∷ []) in
-    let u12 : List ℕ = pick_l 0 (t12 ++ t14) (0 ∷ 1 ∷ 16 ∷ 17 ∷ 4 ∷ 5 ∷ 20 ∷ 21 ∷ 8 ∷ 9 ∷ 24 ∷ 25 ∷ 12 ∷ 13 ∷ 28 ∷ 29 ∷ []) in
-    let u13 : List ℕ = pick_l 0 (t12 ++ t14) (2 ∷ 3 ∷ 18 ∷ 19 ∷ 6 ∷ 7 ∷ 22 ∷ 23 ∷ 10 ∷ 11 ∷ 26 ∷ 27 ∷ 14 ∷ 15 ∷ 30 ∷ 31 ∷ []) in
-    let u14 : List ℕ = pick_l 0 (t13 ++ t15) (0 ∷ 1 ∷ 16 ∷ 17 ∷ 4 ∷ 5 ∷ 20 ∷ 21 ∷ 8 ∷ 9 ∷ 24 ∷ 25 ∷ 12 ∷ 13 ∷ 28 ∷ 29 ∷ []) in
-    let u15 : List ℕ = pick_l 0 (t13 ++ t15) (2 ∷ 3 ∷ 18 ∷ 19 ∷ 6 ∷ 7 ∷ 22 ∷ 23 ∷ 10 ∷ 11 ∷ 26 ∷ 27 ∷ 14 ∷ 15 ∷ 30 ∷ 31 ∷ []) in
-    let v0 : List ℕ = pick_l 0 (u0 ++ u4) (0 ∷ 1 ∷ 2 ∷ 3 ∷ 8 ∷ 9 ∷ 10 ∷ 11 ∷ 16 ∷ 17 ∷ 18 ∷ 19 ∷ 24 ∷ 25 ∷ 26 ∷ 27 ∷ []) in
-    let w0 : List ℕ = pick_l 0 (u0 ++ u4) (4 ∷ 5 ∷ 6 ∷ 7 ∷ 12 ∷ 13 ∷ 14 ∷ 15 ∷ 20 ∷ 21 ∷ 22 ∷ 23 ∷ 28 ∷ 29 ∷ 30 ∷ 31 ∷ []) in
-    let x0 : List ℕ = pick_l 0 (u8 ++ u12) (0 ∷ 1 ∷ 2 ∷ 3 ∷ 8 ∷ 9 ∷ 10 ∷ 11 ∷ 16 ∷ 17 ∷ 18 ∷ 19 ∷ 24 ∷ 25 ∷ 26 ∷ 27 ∷ []) in
-    let y0 : List ℕ = pick_l 0 (u8 ++ u12) (4 ∷ 5 ∷ 6 ∷ 7 ∷ 12 ∷ 13 ∷ 14 ∷ 15 ∷ 20 ∷ 21 ∷ 22 ∷ 23 ∷ 28 ∷ 29 ∷ 30 ∷ 31 ∷ []) in
-    let v1 : List ℕ = pick_l 0 (u1 ++ u5) (0 ∷ 1 ∷ 2 ∷ 3 ∷ 8 ∷ 9 ∷ 10 ∷ 11 ∷ 16 ∷ 17 ∷ 18 ∷ 19 ∷ 24 ∷ 25 ∷ 26 ∷ 27 ∷ []) in
-    let w1 : List ℕ = pick_l 0 (u1 ++ u5) (4 ∷ 5 ∷ 6 ∷ 7 ∷ 12 ∷ 13 ∷ 14 ∷ 15 ∷ 20 ∷ 21 ∷ 22 ∷ 23 ∷ 28 ∷ 29 ∷ 30 ∷ 31 ∷ []) in
-    let x1 : List ℕ = pick_l 0 (u9 ++ u13) (0 ∷ 1 ∷ 2 ∷ 3 ∷ 8 ∷ 9 ∷ 10 ∷ 11 ∷ 16 ∷ 17 ∷ 18 ∷ 19 ∷ 24 ∷ 25 ∷ 26 ∷ 27 ∷ []) in
-    let y1 : List ℕ = pick_l 0 (u9 ++ u13) (4 ∷ 5 ∷ 6 ∷ 7 ∷ 12 ∷ 13 ∷ 14 ∷ 15 ∷ 20 ∷ 21 ∷ 22 ∷ 23 ∷ 28 ∷ 29 ∷ 30 ∷ 31 ∷ []) in
-    let v2 : List ℕ = pick_l 0 (u2 ++ u6) (0 ∷ 1 ∷ 2 ∷ 3 ∷ 8 ∷ 9 ∷ 10 ∷ 11 ∷ 16 ∷ 17 ∷ 18 ∷ 19 ∷ 24 ∷ 25 ∷ 26 ∷ 27 ∷ []) in
-    let w2 : List ℕ = pick_l 0 (u2 ++ u6) (4 ∷ 5 ∷ 6 ∷ 7 ∷ 12 ∷ 13 ∷ 14 ∷ 15 ∷ 20 ∷ 21 ∷ 22 ∷ 23 ∷ 28 ∷ 29 ∷ 30 ∷ 31 ∷ []) in
-    let x2 : List ℕ = pick_l 0 (u10 ++ u14) (0 ∷ 1 ∷ 2 ∷ 3 ∷ 8 ∷ 9 ∷ 10 ∷ 11 ∷ 16 ∷ 17 ∷ 18 ∷ 19 ∷ 24 ∷ 25 ∷ 26 ∷ 27 ∷ []) in
-    let y2 : List ℕ = pick_l 0 (u10 ++ u14) (4 ∷ 5 ∷ 6 ∷ 7 ∷ 12 ∷ 13 ∷ 14 ∷ 15 ∷ 20 ∷ 21 ∷ 22 ∷ 23 ∷ 28 ∷ 29 ∷ 30 ∷ 31 ∷ []) in
-    let v3 : List ℕ = pick_l 0 (u3 ++ u7) (0 ∷ 1 ∷ 2 ∷ 3 ∷ 8 ∷ 9 ∷ 10 ∷ 11 ∷ 16 ∷ 17 ∷ 18 ∷ 19 ∷ 24 ∷ 25 ∷ 26 ∷ 27 ∷ []) in
-    let w3 : List ℕ = pick_l 0 (u3 ++ u7) (4 ∷ 5 ∷ 6 ∷ 7 ∷ 12 ∷ 13 ∷ 14 ∷ 15 ∷ 20 ∷ 21 ∷ 22 ∷ 23 ∷ 28 ∷ 29 ∷ 30 ∷ 31 ∷ []) in
-    let x3 : List ℕ = pick_l 0 (u11 ++ u15) (0 ∷ 1 ∷ 2 ∷ 3 ∷ 8 ∷ 9 ∷ 10 ∷ 11 ∷ 16 ∷ 17 ∷ 18 ∷ 19 ∷ 24 ∷ 25 ∷ 26 ∷ 27 ∷ []) in
-    let y3 : List ℕ = pick_l 0 (u11 ++ u15) (4 ∷ 5 ∷ 6 ∷ 7 ∷ 12 ∷ 13 ∷ 14 ∷ 15 ∷ 20 ∷ 21 ∷ 22 ∷ 23 ∷ 28 ∷ 29 ∷ 30 ∷ 31 ∷ []) in
-    pick_l 0 (v0 ++ x0) (0 ∷ 1 ∷ 2 ∷ 3 ∷ 8 ∷ 9 ∷ 10 ∷ 11 ∷ 16 ∷ 17 ∷ 18 ∷ 19 ∷ 24 ∷ 25 ∷ 26 ∷ 27 ∷ [])
-    ∷ pick_l 0 (v1 ++ x1) (0 ∷ 1 ∷ 2 ∷ 3 ∷ 8 ∷ 9 ∷ 10 ∷ 11 ∷ 16 ∷ 17 ∷ 18 ∷ 19 ∷ 24 ∷ 25 ∷ 26 ∷ 27 ∷ [])
-    ∷ pick_l 0 (v2 ++ x2) (0 ∷ 1 ∷ 2 ∷ 3 ∷ 8 ∷ 9 ∷ 10 ∷ 11 ∷ 16 ∷ 17 ∷ 18 ∷ 19 ∷ 24 ∷ 25 ∷ 26 ∷ 27 ∷ [])
-    ∷ pick_l 0 (v3 ++ x3) (0 ∷ 1 ∷ 2 ∷ 3 ∷ 8 ∷ 9 ∷ 10 ∷ 11 ∷ 16 ∷ 17 ∷ 18 ∷ 19 ∷ 24 ∷ 25 ∷ 26 ∷ 27 ∷ [])
-    ∷ pick_l 0 (w0 ++ y0) (0 ∷ 1 ∷ 2 ∷ 3 ∷ 8 ∷ 9 ∷ 10 ∷ 11 ∷ 16 ∷ 17 ∷ 18 ∷ 19 ∷ 24 ∷ 25 ∷ 26 ∷ 27 ∷ [])
-    ∷ pick_l 0 (w1 ++ y1) (0 ∷ 1 ∷ 2 ∷ 3 ∷ 8 ∷ 9 ∷ 10 ∷ 11 ∷ 16 ∷ 17 ∷ 18 ∷ 19 ∷ 24 ∷ 25 ∷ 26 ∷ 27 ∷ [])
-    ∷ pick_l 0 (w2 ++ y2) (0 ∷ 1 ∷ 2 ∷ 3 ∷ 8 ∷ 9 ∷ 10 ∷ 11 ∷ 16 ∷ 17 ∷ 18 ∷ 19 ∷ 24 ∷ 25 ∷ 26 ∷ 27 ∷ [])
-    ∷ pick_l 0 (w3 ++ y3) (0 ∷ 1 ∷ 2 ∷ 3 ∷ 8 ∷ 9 ∷ 10 ∷ 11 ∷ 16 ∷ 17 ∷ 18 ∷ 19 ∷ 24 ∷ 25 ∷ 26 ∷ 27 ∷ [])
-    ∷ pick_l 0 (v0 ++ x0) (4 ∷ 5 ∷ 6 ∷ 7 ∷ 12 ∷ 13 ∷ 14 ∷ 15 ∷ 20 ∷ 21 ∷ 22 ∷ 23 ∷ 28 ∷ 29 ∷ 30 ∷ 31 ∷ [])
-    ∷ pick_l 0 (v1 ++ x1) (4 ∷ 5 ∷ 6 ∷ 7 ∷ 12 ∷ 13 ∷ 14 ∷ 15 ∷ 20 ∷ 21 ∷ 22 ∷ 23 ∷ 28 ∷ 29 ∷ 30 ∷ 31 ∷ [])
-    ∷ pick_l 0 (v2 ++ x2) (4 ∷ 5 ∷ 6 ∷ 7 ∷ 12 ∷ 13 ∷ 14 ∷ 15 ∷ 20 ∷ 21 ∷ 22 ∷ 23 ∷ 28 ∷ 29 ∷ 30 ∷ 31 ∷ [])
-    ∷ pick_l 0 (v3 ++ x3) (4 ∷ 5 ∷ 6 ∷ 7 ∷ 12 ∷ 13 ∷ 14 ∷ 15 ∷ 20 ∷ 21 ∷ 22 ∷ 23 ∷ 28 ∷ 29 ∷ 30 ∷ 31 ∷ [])
-    ∷ pick_l 0 (w0 ++ y0) (4 ∷ 5 ∷ 6 ∷ 7 ∷ 12 ∷ 13 ∷ 14 ∷ 15 ∷ 20 ∷ 21 ∷ 22 ∷ 23 ∷ 28 ∷ 29 ∷ 30 ∷ 31 ∷ [])
-    ∷ pick_l 0 (w1 ++ y1) (4 ∷ 5 ∷ 6 ∷ 7 ∷ 12 ∷ 13 ∷ 14 ∷ 15 ∷ 20 ∷ 21 ∷ 22 ∷ 23 ∷ 28 ∷ 29 ∷ 30 ∷ 31 ∷ [])
-    ∷ pick_l 0 (w2 ++ y2) (4 ∷ 5 ∷ 6 ∷ 7 ∷ 12 ∷ 13 ∷ 14 ∷ 15 ∷ 20 ∷ 21 ∷ 22 ∷ 23 ∷ 28 ∷ 29 ∷ 30 ∷ 31 ∷ [])
-    ∷ pick_l 0 (w3 ++ y3) (4 ∷ 5 ∷ 6 ∷ 7 ∷ 12 ∷ 13 ∷ 14 ∷ 15 ∷ 20 ∷ 21 ∷ 22 ∷ 23 ∷ 28 ∷ 29 ∷ 30 ∷ 31 ∷ [])
-    ∷ []
+-- a step on rows that are known
+pub step : (place : ℕ → ℕ) (further : ℕ) {x y a b z w : List ℕ} → x ≡ a → y ≡ b
+    → (z ≡ picked place (x ++ y)) × (w ≡ picked (λ k. place k + further) (x ++ y))
+    → (z ≡ picked place (a ++ b)) × (w ≡ picked (λ k. place k + further) (a ++ b))
+step place further ex ey are = (rw (← ex, ← ey) are.0, rw (← ex, ← ey) are.1)
 
--- rows of words
-abbrev pub rows_of : (ℕ → ℕ → ℕ) → List (List ℕ)
-rows_of g = map (λ i. map (λ k. g i k) (range_with_len 0 16)) (range_with_len 0 16)
+-- a table's columns, of which number j has word j of each row
+abbrev pub column : (ℕ → ℕ → ℕ) → ℕ → List ℕ
+column word j = map (λ i. word i j) (range_with_len 0 16)
 
-pub turned_rows : (g : ℕ → ℕ → ℕ) → map (λ j. lane j (turned (λ i. get_or (rows_of g) i []))) (range_with_len 0 16) ≡ rows_of g
-turned_rows g = refl
+abbrev pub columns : (ℕ → ℕ → ℕ) → List (List ℕ)
+columns word = map (column word) (range_with_len 0 16)
+
+pub columns_one_by_one : (word : ℕ → ℕ → ℕ) (r0 r1 r2 r3 r4 r5 r6 r7 r8 r9 r10 r11 r12 r13 r14 r15 : List ℕ)
+    → r0 ≡ column word 0
+    → r1 ≡ column word 1
+    → r2 ≡ column word 2
+    → r3 ≡ column word 3
+    → r4 ≡ column word 4
+    → r5 ≡ column word 5
+    → r6 ≡ column word 6
+    → r7 ≡ column word 7
+    → r8 ≡ column word 8
+    → r9 ≡ column word 9
+    → r10 ≡ column word 10
+    → r11 ≡ column word 11
+    → r12 ≡ column word 12
+    → r13 ≡ column word 13
+    → r14 ≡ column word 14
+    → r15 ≡ column word 15
+    → r0 ∷ r1 ∷ r2 ∷ r3 ∷ r4 ∷ r5 ∷ r6 ∷ r7 ∷ r8 ∷ r9 ∷ r10 ∷ r11 ∷ r12 ∷ r13 ∷ r14 ∷ r15 ∷ [] ≡ columns word
+columns_one_by_one word r0 r1 r2 r3 r4 r5 r6 r7 r8 r9 r10 r11 r12 r13 r14 r15 e0 e1 e2 e3 e4 e5 e6 e7 e8 e9 e10 e11 e12 e13 e14 e15 =
+    rw (e0, e1, e2, e3, e4, e5, e6, e7, e8, e9, e10, e11, e12, e13, e14, e15) refl
+
+pub columns_full : (word : ℕ → ℕ → ℕ) (table : List (List ℕ)) → table ≡ columns word → AreFull 16 table
+columns_full word table are =
+    All-same (λ (w : List ℕ). length w ≡ 16) table (columns word) are
+    (All-map (λ (w : List ℕ). length w ≡ 16) (column word) (range_with_len 0 16) (λ k d h. refl))
+
+pub lanes_of_columns : (word : ℕ → ℕ → ℕ) (table : List (List ℕ)) → table ≡ columns word
+    → map (λ j. lane j table) (range_with_len 0 16) ≡ map (λ i. map (λ k. word i k) (range_with_len 0 16)) (range_with_len 0 16)
+lanes_of_columns word table are = rw are refl

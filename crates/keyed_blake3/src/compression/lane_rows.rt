@@ -1,36 +1,34 @@
-//! The states of `LANES` compressions, as rows of vectors.
+//! The states of `L` compressions, as rows of words or of bytes.
 
 ghost use Rattle.std.specs.Prelude.{◌≡◌, length};
-ghost use Rattle.keyed_blake3.specs.declared.compression.lanes.TheConstants.{LANES};
 
-use crate::compression::lane_bytes::LaneBytes;
-use crate::compression::lanes::{LANES, Lanes};
+use crate::compression::width::{LaneBytes, Lanes};
 
 // A row of the states: a word of each column.
 #[derive(Clone, Copy)]
-pub(crate) struct Row {
-    pub(crate) w0: Lanes,
-    pub(crate) w1: Lanes,
-    pub(crate) w2: Lanes,
-    pub(crate) w3: Lanes,
-    ghost full: { (length w0 ≡ LANES) × (length w1 ≡ LANES) × (length w2 ≡ LANES) × (length w3 ≡ LANES) },
+pub(crate) struct Row<const L: usize> {
+    pub(crate) w0: Lanes<L>,
+    pub(crate) w1: Lanes<L>,
+    pub(crate) w2: Lanes<L>,
+    pub(crate) w3: Lanes<L>,
+    ghost full: { (length w0 ≡ L) × (length w1 ≡ L) × (length w2 ≡ L) × (length w3 ≡ L) },
 }
 
 // A row as bytes.
 #[derive(Clone, Copy)]
-pub(crate) struct ByteRow {
-    pub(crate) w0: LaneBytes,
-    pub(crate) w1: LaneBytes,
-    pub(crate) w2: LaneBytes,
-    pub(crate) w3: LaneBytes,
+pub(crate) struct ByteRow<const B: usize> {
+    pub(crate) w0: LaneBytes<B>,
+    pub(crate) w1: LaneBytes<B>,
+    pub(crate) w2: LaneBytes<B>,
+    pub(crate) w3: LaneBytes<B>,
 }
 
 // The states as squares: a column is what one G works on. Row d is kept as bytes: it is rotated by whole bytes alone, and
 // LLVM exchanges bytes twice as often if it's kept as words.
 #[derive(Clone, Copy)]
-pub(crate) struct LaneRows {
-    pub(crate) a: Row,
-    pub(crate) b: Row,
-    pub(crate) c: Row,
-    pub(crate) d: ByteRow,
+pub(crate) struct LaneRows<const L: usize, const B: usize> {
+    pub(crate) a: Row<L>,
+    pub(crate) b: Row<L>,
+    pub(crate) c: Row<L>,
+    pub(crate) d: ByteRow<B>,
 }

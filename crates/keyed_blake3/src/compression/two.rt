@@ -121,19 +121,19 @@ fn last_row(block: &Block) -> u32x4
     u32x4::from_array([low, high, block.len, block.flags])
 }
 
-// Returns the states before the first round.
+// Returns the states before the first round, of which `d` is the last row.
 #[inline(always)]
-fn first_state(h: &TwoValues, first: &Block, second: &Block) -> TwoRows
-    ensures first { state_in 0 result ≡ first_state (value_in 0 h.now) first.now.counter first.now.len first.now.flags }
-    ensures second { state_in 1 result
-        ≡ first_state (value_in 1 h.now) second.now.counter second.now.len second.now.flags }
+fn first_state(h: &TwoValues, d: u32x8) -> TwoRows
+    ensures { (j counter block_len flags : ℕ) → j < 2
+        → half j d ≡ counter % 2 ^ 32 ∷ counter / 2 ^ 32 ∷ block_len ∷ flags ∷ []
+        → state_in j result ≡ first_state (value_in j h.now) counter block_len flags }
 {
     let [iv0, iv1, iv2, iv3] = INITIALIZATION_VECTOR;
     TwoRows {
         a: h.a,
         b: h.b,
         c: u32x8::from_array([iv0, iv1, iv2, iv3, iv0, iv1, iv2, iv3]),
-        d: beside(last_row(first), last_row(second)),
+        d,
     }
 }
 
@@ -148,15 +148,18 @@ fn folded(v: TwoRows) -> TwoValues
     }
 }
 
-// Returns the compressions of two blocks, from the chaining values `h`.
-pub(crate) fn compress_two(h: &TwoValues, first: &Block, second: &Block) -> TwoValues
-    ensures first { value_in 0 result
-        ≡ compress (value_in 0 h.now) first.now.words first.now.counter first.now.len first.now.flags }
-    ensures second { value_in 1 result
-        ≡ compress (value_in 1 h.now) second.now.words second.now.counter second.now.len second.now.flags }
+// Returns the compressions of two blocks, from the chaining values `h`. `d` is the last row of the states: a caller that stored what it
+// is made of, word by word, would wait until these words can be read as a vector.
+fn compress_two_from(h: &TwoValues, d: u32x8, first: &[u32; 16], second: &[u32; 16]) -> TwoValues
+    ensures first { (counter block_len flags : ℕ)
+        → half 0 d ≡ counter % 2 ^ 32 ∷ counter / 2 ^ 32 ∷ block_len ∷ flags ∷ []
+        → value_in 0 result ≡ compress (value_in 0 h.now) first.now counter block_len flags }
+    ensures second { (counter block_len flags : ℕ)
+        → half 1 d ≡ counter % 2 ^ 32 ∷ counter / 2 ^ 32 ∷ block_len ∷ flags ∷ []
+        → value_in 1 result ≡ compress (value_in 1 h.now) second.now counter block_len flags }
 {
-    let v = first_state(h, first, second);
-    let m = quads_of(&first.words, &second.words);
+    let v = first_state(h, d);
+    let m = quads_of(first, second);
     let v = round(v, m);
     let m = permuted(m);
     let v = round(v, m);
@@ -171,6 +174,109 @@ pub(crate) fn compress_two(h: &TwoValues, first: &Block, second: &Block) -> TwoV
     let m = permuted(m);
     let v = round(v, m);
     folded(v)
+}
+
+// Returns the compressions of two blocks, from the chaining values `h`.
+#[inline(always)]
+pub(crate) fn compress_two(h: &TwoValues, first: &Block, second: &Block) -> TwoValues
+    ensures first { value_in 0 result
+        ≡ compress (value_in 0 h.now) first.now.words first.now.counter first.now.len first.now.flags }
+    ensures second { value_in 1 result
+        ≡ compress (value_in 1 h.now) second.now.words second.now.counter second.now.len second.now.flags }
+{
+    let d = beside(last_row(first), last_row(second));
+    compress_two_from(h, d, &first.words, &second.words)
+}
+
+// Returns the compressions of two pairs of blocks, from the chaining values of each. `d` and `e` are the last rows of their states.
+// The rounds of the pairs go by turns: neither pair waits for the other, so a processor works on both at once.
+fn compress_two_pairs_from(
+    left: &TwoValues,
+    right: &TwoValues,
+    d: u32x8,
+    e: u32x8,
+    first: &[u32; 16],
+    second: &[u32; 16],
+    third: &[u32; 16],
+    fourth: &[u32; 16],
+) -> (TwoValues, TwoValues)
+    ensures first { (counter block_len flags : ℕ)
+        → half 0 d ≡ counter % 2 ^ 32 ∷ counter / 2 ^ 32 ∷ block_len ∷ flags ∷ []
+        → value_in 0 result.0 ≡ compress (value_in 0 left.now) first.now counter block_len flags }
+    ensures second { (counter block_len flags : ℕ)
+        → half 1 d ≡ counter % 2 ^ 32 ∷ counter / 2 ^ 32 ∷ block_len ∷ flags ∷ []
+        → value_in 1 result.0 ≡ compress (value_in 1 left.now) second.now counter block_len flags }
+    ensures third { (counter block_len flags : ℕ)
+        → half 0 e ≡ counter % 2 ^ 32 ∷ counter / 2 ^ 32 ∷ block_len ∷ flags ∷ []
+        → value_in 0 result.1 ≡ compress (value_in 0 right.now) third.now counter block_len flags }
+    ensures fourth { (counter block_len flags : ℕ)
+        → half 1 e ≡ counter % 2 ^ 32 ∷ counter / 2 ^ 32 ∷ block_len ∷ flags ∷ []
+        → value_in 1 result.1 ≡ compress (value_in 1 right.now) fourth.now counter block_len flags }
+{
+    let v = first_state(left, d);
+    let w = first_state(right, e);
+    let m = quads_of(first, second);
+    let n = quads_of(third, fourth);
+    let v = round(v, m);
+    let w = round(w, n);
+    let m = permuted(m);
+    let n = permuted(n);
+    let v = round(v, m);
+    let w = round(w, n);
+    let m = permuted(m);
+    let n = permuted(n);
+    let v = round(v, m);
+    let w = round(w, n);
+    let m = permuted(m);
+    let n = permuted(n);
+    let v = round(v, m);
+    let w = round(w, n);
+    let m = permuted(m);
+    let n = permuted(n);
+    let v = round(v, m);
+    let w = round(w, n);
+    let m = permuted(m);
+    let n = permuted(n);
+    let v = round(v, m);
+    let w = round(w, n);
+    let m = permuted(m);
+    let n = permuted(n);
+    let v = round(v, m);
+    let w = round(w, n);
+    (folded(v), folded(w))
+}
+
+// Returns the compressions of two pairs of blocks, from the chaining values of each.
+#[inline(always)]
+pub(crate) fn compress_two_pairs(
+    left: &TwoValues,
+    right: &TwoValues,
+    first: &Block,
+    second: &Block,
+    third: &Block,
+    fourth: &Block,
+) -> (TwoValues, TwoValues)
+    ensures first { value_in 0 result.0
+        ≡ compress (value_in 0 left.now) first.now.words first.now.counter first.now.len first.now.flags }
+    ensures second { value_in 1 result.0
+        ≡ compress (value_in 1 left.now) second.now.words second.now.counter second.now.len second.now.flags }
+    ensures third { value_in 0 result.1
+        ≡ compress (value_in 0 right.now) third.now.words third.now.counter third.now.len third.now.flags }
+    ensures fourth { value_in 1 result.1
+        ≡ compress (value_in 1 right.now) fourth.now.words fourth.now.counter fourth.now.len fourth.now.flags }
+{
+    let d = beside(last_row(first), last_row(second));
+    let e = beside(last_row(third), last_row(fourth));
+    compress_two_pairs_from(
+        left,
+        right,
+        d,
+        e,
+        &first.words,
+        &second.words,
+        &third.words,
+        &fourth.words,
+    )
 }
 
 // Returns the vectors of two chaining values.

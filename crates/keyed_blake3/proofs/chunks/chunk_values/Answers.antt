@@ -7,10 +7,10 @@ use Rattle.keyed_blake3.proofs.chunks.chunk_values.Goals as goal
 
 pub chain-init : goal.chain-init
 unfolding after_blocks
-chain-init c = record { full = c.key_of_each-h.ensures.full; lanes = λ j h. c.key_of_each-h.ensures.lanes j h }
+chain-init g c = record { full = c.key_of_each-h.ensures.full; lanes = λ j h. c.key_of_each-h.ensures.lanes j h }
 
 pub chain-preserved : goal.chain-preserved
-chain-preserved c = record {
+chain-preserved g c = record {
   full = c.take_block.ensures.full;
   lanes = λ j h.
       let at : ℕ = get_or c.args.places.now j 0 in
@@ -20,7 +20,7 @@ chain-preserved c = record {
 }
 
 pub returns-clause-lanes : goal.returns-clause-lanes
-returns-clause-lanes c = λ j h.
+returns-clause-lanes g c = λ j h.
     let at : ℕ = get_or c.args.places.now j 0 in
     let halves = c.counters-counters.ensures.lanes j h in
     let i : ℕ = c.args.first + at in

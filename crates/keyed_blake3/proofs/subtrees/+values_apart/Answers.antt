@@ -5,12 +5,12 @@ use Rattle.keyed_blake3.proofs.Blake3.Subtrees.{chunk_apart, end_within, halves_
 use Rattle.keyed_blake3.proofs.subtrees.+values_apart.Goals as goal
 
 pub returns-then-size-eq1-clause-lanes : goal.returns-then-size-eq1-clause-lanes
-returns-then-size-eq1-clause-lanes t c = λ k j m size h is.
+returns-then-size-eq1-clause-lanes g t c = λ k j m size h is.
     chunk_apart c.args.key.now c.args.first (get_or c.args.places.now j 0) k m c.args.chunks.now (lane j c.chunk_values.result)
     (omega (arith, size)) (omega (arith, c.requires.places j h)) is (c.chunk_values.ensures.lanes j h)
 
 pub returns-clause-lanes : goal.returns-clause-lanes
-returns-clause-lanes t c = λ k j m size h is.
+returns-clause-lanes g t c = λ k j m size h is.
     let p : ℕ = get_or c.args.places.now j 0 in
     let half : ℕ = c.args.size / 2 in
     let place : c.args.first + get_or c.moved.result j 0 ≡ c.args.first + p + half = omega (arith, c.moved.ensures j h) in

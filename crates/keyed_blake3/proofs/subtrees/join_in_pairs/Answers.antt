@@ -5,7 +5,7 @@ use Rattle.keyed_blake3.proofs.Blake3.Waiting.{double}
 use Rattle.keyed_blake3.proofs.subtrees.join_in_pairs.Goals as goal
 
 pub levels-preserved : goal.levels-preserved
-levels-preserved c =
+levels-preserved g c =
     let i = c.levels.invariant in
     let number : ℕ = c.levels.number / 2 in
     let count : ℕ = c.levels.count / 2 in

@@ -2,11 +2,8 @@ use Rattle.std.proofs.Common.{◌+◌, ◌*◌, arith}
 use Rattle.keyed_blake3.proofs.Blake3.Subtrees.{beside_left}
 use Rattle.keyed_blake3.proofs.subtrees.joined_values.Goals as goal
 
-pub returns-then-count-le4-clause-lanes : goal.returns-then-count-le4-clause-lanes
-returns-then-count-le4-clause-lanes c = λ j h. c.two_parent_values.ensures.lanes j (omega (arith, h))
-
 pub returns-clause-lanes : goal.returns-clause-lanes
-returns-clause-lanes c = λ j h.
+returns-clause-lanes g c = λ j h.
     let values = c.args.values.now in
     let size = c.parent_values.ensures.sizes.0 in
     let full = c.requires.full in

@@ -6,7 +6,7 @@ use Rattle.keyed_blake3.proofs.subtrees.two_parent_values.Goals as goal
 
 pub returns-clause-lanes : goal.returns-clause-lanes
 unfolding parent_value
-returns-clause-lanes c =
+returns-clause-lanes g c =
     let key = c.args.key.now in
     let values = c.args.values.now in
     let x = c.parent_block-first.ensures in

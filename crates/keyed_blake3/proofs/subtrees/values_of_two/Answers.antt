@@ -6,7 +6,7 @@ use Rattle.keyed_blake3.proofs.Blake3.Subtrees.{two_lanes}
 use Rattle.keyed_blake3.proofs.subtrees.values_of_two.Goals as goal
 
 pub returns-clause-lanes : goal.returns-clause-lanes
-returns-clause-lanes c =
+returns-clause-lanes g c =
     let key = c.args.key.now in
     let chunks = c.args.chunks.now in
     let first = c.args.first in

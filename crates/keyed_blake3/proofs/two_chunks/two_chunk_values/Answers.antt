@@ -1,6 +1,6 @@
 use Rattle.std.proofs.Common.{◌≡◌, ◌+◌, ◌∙◌, ap, arith}
 use Rattle.keyed_blake3.specs.Steps.Blocks.{value_after}
-use Rattle.keyed_blake3.proofs.Blake3.ByBlocks.{value_after-more, value_after-none}
+use Rattle.keyed_blake3.proofs.Blake3.ByBlocks.{value_after-none}
 use Rattle.keyed_blake3.proofs.two_chunks.two_chunk_values.Goals as goal
 
 pub chain-init : goal.chain-init
@@ -14,16 +14,7 @@ chain-init c =
 pub chain-preserved : goal.chain-preserved
 chain-preserved c =
     let key = c.args.key.now in
-    let x = c.block_of-of_first.ensures in
-    let y = c.block_of-of_second.ensures in
-    let of_first = c.last_block.ensures in
-    let of_second = c.last_block-2.ensures in
-    record {
-      first = c.compress_two-h.ensures.first ∙ rw (x.words, x.counter, x.len, x.flags)
-          (value_after-more key c.args.counters.0 c.args.first.now c.args.flags c.chain.n _ (omega arith) c.chain.invariant.first);
-      second = c.compress_two-h.ensures.second ∙ rw (y.words, y.counter, y.len, y.flags)
-          (value_after-more key c.args.counters.1 c.args.second.now c.args.flags c.chain.n _ (omega arith) c.chain.invariant.second);
-    }
+    record { first = c.take_blocks-h.ensures.first key c.chain.invariant.first; second = c.take_blocks-h.ensures.second key c.chain.invariant.second }
 
 pub returns : goal.returns
 returns c =

@@ -4,8 +4,8 @@ use Rattle.std.specs.Int.{rotate_right, w32}
 use Rattle.keyed_blake3.proofs.compression.in_step.rotated_row.Goals as goal
 
 pub invariant_of-result : goal.invariant_of-result
-invariant_of-result c =
-    let x = c.args.x in
+invariant_of-result g c =
+    let x = c.args.x.now in
     record {
       full = (
         ap length c.rotated.ensures ∙ length-map _ _ ∙ x.full.0,
@@ -16,8 +16,8 @@ invariant_of-result c =
     }
 
 pub returns : goal.returns
-returns c = λ j h.
-    let x = c.args.x in
+returns g c = λ j h.
+    let x = c.args.x.now in
     let f = λ (y : ℕ). rotate_right w32 y c.args.n in
     rw (
       c.rotated.ensures,

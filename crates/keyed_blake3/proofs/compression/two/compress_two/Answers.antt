@@ -1,22 +1,12 @@
-use Rattle.std.proofs.Common.{◌<◌, arith}
-use Rattle.keyed_blake3.specs.Steps.TwoRows.{value_in}
-use Rattle.keyed_blake3.proofs.Blake3.Rows.{compress_by_steps}
+use Rattle.std.proofs.Common.{refl}
 use Rattle.keyed_blake3.proofs.compression.two.compress_two.Goals as goal
 
 pub returns-clause-first : goal.returns-clause-first
 returns-clause-first c =
-    let first = c.args.first.now in
-    let h : 0 < 2 = omega arith in
-    compress_by_steps (value_in 0 c.args.h.now) first.words first.counter first.len first.flags _ _ _ _ _ _ _ _ _ _ _ _ _ _ _ _
-    c.first_state-v.ensures.first c.quads_of-m.ensures.first (c.round-v.ensures 0 h) (c.permuted-m.ensures 0 h) (c.round-v-2.ensures 0 h) (c.permuted-m-2.ensures 0 h)
-    (c.round-v-3.ensures 0 h) (c.permuted-m-3.ensures 0 h) (c.round-v-4.ensures 0 h) (c.permuted-m-4.ensures 0 h) (c.round-v-5.ensures 0 h) (c.permuted-m-5.ensures 0 h)
-    (c.round-v-6.ensures 0 h) (c.permuted-m-6.ensures 0 h) (c.round-v-7.ensures 0 h) (c.folded.ensures 0 h)
+    let b = c.args.first.now in
+    c.compress_two_from.ensures.first b.counter b.len b.flags (rw (c.beside-d.ensures.words, c.last_row.ensures) refl)
 
 pub returns-clause-second : goal.returns-clause-second
 returns-clause-second c =
-    let second = c.args.second.now in
-    let h : 1 < 2 = omega arith in
-    compress_by_steps (value_in 1 c.args.h.now) second.words second.counter second.len second.flags _ _ _ _ _ _ _ _ _ _ _ _ _ _ _ _
-    c.first_state-v.ensures.second c.quads_of-m.ensures.second (c.round-v.ensures 1 h) (c.permuted-m.ensures 1 h) (c.round-v-2.ensures 1 h) (c.permuted-m-2.ensures 1 h)
-    (c.round-v-3.ensures 1 h) (c.permuted-m-3.ensures 1 h) (c.round-v-4.ensures 1 h) (c.permuted-m-4.ensures 1 h) (c.round-v-5.ensures 1 h) (c.permuted-m-5.ensures 1 h)
-    (c.round-v-6.ensures 1 h) (c.permuted-m-6.ensures 1 h) (c.round-v-7.ensures 1 h) (c.folded.ensures 1 h)
+    let b = c.args.second.now in
+    c.compress_two_from.ensures.second b.counter b.len b.flags (rw (c.beside-d.ensures.words, c.last_row.ensures, c.last_row-2.ensures) refl)

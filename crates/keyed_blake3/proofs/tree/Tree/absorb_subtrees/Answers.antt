@@ -4,12 +4,11 @@ use Rattle.std.proofs.lemmas.Nat.{pow_below}
 use Rattle.keyed_blake3.specs.Blake3.{after_blocks}
 use Rattle.keyed_blake3.specs.Steps.Lanes.{lane}
 use Rattle.keyed_blake3.specs.Steps.Tree.{IsWaiting, subtree_at}
-use Rattle.keyed_blake3.specs.declared.compression.lanes.TheConstants.{LANES}
 use Rattle.keyed_blake3.proofs.tree.Tree.absorb_subtrees.Goals as goal
 
 pub returns : goal.returns
 unfolding after_blocks
-returns c =
+returns g c =
     let s = c.args.self.now in
     let first : ℕ = c.args.first in
     let count : ℕ = c.args.count in
@@ -17,7 +16,7 @@ returns c =
     let power : c.args.len ≡ 2 ^ k = c.requires.len.1 in
     let size : ℕ = c.args.len * count in
     let same : size ≡ 2 ^ k * count = ap (λ (n : ℕ). n * count) power in
-    let full : 0 < k → count ≡ LANES = λ more. c.requires.all (omega (arith, power, pow_below 0 k more)) in
+    let full : 0 < k → count ≡ g.row.L = λ more. c.requires.all (omega (arith, power, pow_below 0 k more)) in
     let whole : first ≡ 2 ^ k * (first / c.args.len) =
     sym (ap (λ (n : ℕ). n * (first / c.args.len)) (sym power) ∙ omega (arith, div-add-mod first c.args.len, c.requires.first)) in
     let values : (m : List ℕ) → c.args.chunks.now ≡ take (1024 * size) (drop (1024 * first) m)

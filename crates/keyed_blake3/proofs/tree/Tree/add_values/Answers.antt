@@ -3,7 +3,7 @@ use Rattle.std.proofs.Math.Nat.{mul-add, mul-le-mul_left}
 use Rattle.keyed_blake3.proofs.tree.Tree.add_values.Goals as goal
 
 pub values-preserved : goal.values-preserved
-values-preserved c = record {
+values-preserved g c = record {
   key = c.values.invariant.key;
   chaining_value = c.values.invariant.chaining_value;
   waits = λ k first m whole waits small long are.

@@ -4,7 +4,7 @@ use Rattle.keyed_blake3.specs.Steps.Tree.{IsWaiting, subtree_at}
 use Rattle.keyed_blake3.proofs.tree.Tree.add_values.Given as goal
 
 abbrev pub invariant-values : goal.invariant-values
-invariant-values l = record {
+invariant-values g l = record {
   key : l.self.key ≡ l.fn.self.key;
   chaining_value : l.self.chaining_value ≡ l.fn.self.chaining_value;
   waits : (k c : ℕ) (m : List ℕ) → c ≡ 2 ^ k * l.number → IsWaiting l.fn.self.key l.fn.self.cv_stack c m → c + 2 ^ k * l.count < 2 ^ 54
