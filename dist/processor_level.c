@@ -1,13 +1,11 @@
 /*
  * Chooses the kernels that run. For x86-64 there are four sets of them, one for each of the levels that the psABI of x86-64 defines.
- * When the library is loaded, or when it is first asked for the level, it chooses those of the highest level up to x86-64-v3 that the
- * processor has. Calls that come before that, from other constructors, go to the kernels of x86-64, with the same results. For other
+ * When the library is loaded, or when it is first asked for the level, it chooses those of the highest level that the processor and
+ * its system have. Calls that come before that, from other constructors, go to the kernels of x86-64, with the same results. For other
  * processors there is nothing to choose.
  *
- * The environment variable YUREWHA_LEVEL may name another level: a lower one, for tests, or x86-64-v4, which runs only if it is
- * named. Its kernels are translated from the proved module after the proof, which the others aren't, by a compiler whose authors
- * warn of its AVX-512. If the processor lacks the level that is named, or there is no such level, a line on standard error says so,
- * and the choice is the one without the variable.
+ * The environment variable YUREWHA_LEVEL may name a lower level, for tests, or to do without AVX-512. If the processor lacks the level
+ * that is named, or there is no such level, a line on standard error says so, and the choice is the one without the variable.
  *
  * This file isn't proved. With heap.c it is all that lies between a caller, the proved code and the C library.
  */
@@ -97,16 +95,16 @@ static bool is_x86_64_v4(void)
            has_all(ebx, bit_AVX512F | bit_AVX512DQ | bit_AVX512CD | bit_AVX512BW | bit_AVX512VL);
 }
 
-/* The highest level first. Every processor has x86-64, so what stands after it is found by its name alone. */
+/* The highest level first. */
 static const struct level {
     const char *name;
     bool (*is_supported)(void);
     const struct kernels *kernels;
 } levels[] = {
+    {"x86-64-v4", is_x86_64_v4, &yurewha_x86_64_v4_kernels},
     {"x86-64-v3", is_x86_64_v3, &yurewha_x86_64_v3_kernels},
     {"x86-64-v2", is_x86_64_v2, &yurewha_x86_64_v2_kernels},
     {"x86-64", is_x86_64, &yurewha_x86_64_kernels},
-    {"x86-64-v4", is_x86_64_v4, &yurewha_x86_64_v4_kernels},
 };
 #define LEVELS (sizeof levels / sizeof *levels)
 

@@ -183,12 +183,11 @@ yurewha_status yurewha_status_text(yurewha_status status, char *text, size_t roo
 /* Returns the level of processors that the library runs for: "x86-64", "x86-64-v2", "x86-64-v3", "x86-64-v4" or "aarch64". The text
  * ends with a 0 byte, and lasts as long as the program.
  *
- * On x86-64, the library holds code for each of four levels. It chooses the highest that the processor and the system have, but
- * none above x86-64-v3. The choice is made once, when the library is loaded, or by this call if that is earlier; calls before that
- * run the code for x86-64. The environment variable
- * YUREWHA_LEVEL may name a lower level, for tests, or x86-64-v4, whose code is made of the proved code after the proof (TRUST says
- * how). If this processor has no level of that name, the library says so on standard error, and chooses as it does without the
- * variable. All levels give the same results. */
+ * On x86-64, the library holds code for each of four levels, and chooses the highest that the processor and the system have. The
+ * choice is made once, when the library is loaded, or by this call if that is earlier; calls before that run the code for x86-64.
+ * The environment variable YUREWHA_LEVEL may name a lower level, for tests, or to do without AVX-512: the code for x86-64-v4 is made
+ * of the proved code after the proof (TRUST says how, and what checks it). If this processor has no level of that name, the library
+ * says so on standard error, and chooses as it does without the variable. All levels give the same results. */
 YUREWHA_NODISCARD
 const char *yurewha_processor_level(void);
 

@@ -139,7 +139,7 @@ static void expect_choice(const char *value, const char *level, bool says, const
     chosen = NULL;
     level_variable = value;
     *said = '\0';
-    expect(strcmp(yurewha_processor_level(), level) == 0, "the choice is the processor's highest level up to v3, or that named", in);
+    expect(strcmp(yurewha_processor_level(), level) == 0, "the choice is the processor's highest level, or that named", in);
     expect(strcmp(said, line) == 0, "a line says whether a level was named that the processor lacks", in);
     expect(strcmp(yurewha_kernels->level, level) == 0, "calls go to the kernels of the level", in);
     processor.asked = 0;
@@ -150,13 +150,12 @@ static void features_are_needed(void)
 {
     for (size_t i = 0; i < FEATURES; i++) {
         const struct feature *it = &features[i];
-        const bool is_v4 = strcmp(it->level, "x86-64-v4") == 0;
         have("x86-64-v4");
         processor.words[it->word] &= ~(1u << it->bit);
         expect_choice(NULL, it->below, false, it->name);
         expect_choice(it->level, it->below, true, it->name);
         have(it->level);
-        expect_choice(NULL, is_v4 ? it->below : it->level, false, it->name);
+        expect_choice(NULL, it->level, false, it->name);
         expect_choice(it->level, it->level, false, it->name);
     }
 }
@@ -171,11 +170,11 @@ static void levels_are_named(void)
     };
     for (size_t has = 0; has < 4; has++) {
         have(levels[has]);
-        const char *highest = levels[has < 2 ? has : 2];
-        expect_choice(NULL, highest, false, levels[has]);
-        expect_choice("", highest, false, levels[has]);
+        const char *highest = levels[has];
+        expect_choice(NULL, highest, false, highest);
+        expect_choice("", highest, false, highest);
         for (size_t named = 0; named < 4; named++)
-            expect_choice(levels[named], named <= has ? levels[named] : highest, named > has, levels[has]);
+            expect_choice(levels[named], named <= has ? levels[named] : highest, named > has, highest);
         for (size_t i = 0; i < sizeof others / sizeof *others; i++)
             expect_choice(others[i], highest, true, others[i]);
     }

@@ -218,7 +218,7 @@ def test_a_lower_level_can_be_forced():
 @pytest.mark.skipif(not shutil.which("qemu-x86_64"), reason="there is no qemu-x86_64")
 @pytest.mark.parametrize("processor, level", [("qemu64", "x86-64"), ("Nehalem", "x86-64-v2"), ("Haswell", "x86-64-v3")])
 def test_emulated_processors(processor, level):
-    """On each the library runs the highest level that the processor has and that nobody has to ask for."""
+    """On each the library runs the highest level that the processor has."""
     assert on("", "qemu-x86_64", "-cpu", processor) == (["a8803506f7aff014", level], [])
 
 
