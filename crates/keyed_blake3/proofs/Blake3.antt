@@ -7,6 +7,7 @@ pub mod InStep
 pub mod LaneBytes
 pub mod Lanes
 pub mod Merging
+pub mod Messages
 pub mod Rows
 pub mod Subtrees
 pub mod TwoRows

@@ -2,6 +2,7 @@
 pub mod Blocks
 pub mod LaneRows
 pub mod Lanes
+pub mod Messages
 pub mod Rows
 pub mod Transposition
 pub mod Tree

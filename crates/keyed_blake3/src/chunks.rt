@@ -6,7 +6,7 @@ ghost use Rattle.keyed_blake3.specs.Blake3.{block, chunk_value, compress, words_
 ghost use Rattle.keyed_blake3.specs.Steps.Lanes.{AreFull, chunk_at, lane};
 
 use crate::chunk::{BLOCK_LEN, BLOCKS_PER_CHUNK, CHUNK_END, CHUNK_LEN, KEYED_HASH, start_flag};
-use crate::compression::lanes::{compress_each, counters, each};
+use crate::compression::lanes::{compress_each, counters};
 use crate::compression::width::{Lanes, Width};
 
 // Returns `L` words of each chunk from place `at` on.
@@ -62,28 +62,32 @@ fn block_of_each<W: Width<L, B>, const L: usize, const B: usize>(
     words
 }
 
-// Takes in block number `n` of each chunk: the chaining values `h` are then those after the block. It holds the whole
-// compression of a block, so that the message words stay in its own frame.
-fn take_block<W: Width<L, B>, const L: usize, const B: usize>(
+// Takes in block number `n` of each chunk, of which `lens` has the bytes that count and `flags` the flags: the chaining values `h` are
+// then those after the block. It holds the whole compression of a block, so that the message words stay in its own frame.
+#[inline(never)]
+pub(crate) fn take_block<W: Width<L, B>, const L: usize, const B: usize>(
     h: &mut [Lanes<L>; 8],
     chunks: &[u8],
     places: &[usize; L],
     n: usize,
     counters: &(Lanes<L>, Lanes<L>),
-    flags: u32,
+    lens: &Lanes<L>,
+    flags: &Lanes<L>,
 )
     requires full { AreFull L h.old }
     requires places { (j : ℕ) → j < L → 1024 * slice_index places.now j + 1024 ≤ length chunks.now }
     requires block { n < 16 }
     requires counters { (length counters.now.0 ≡ L) × (length counters.now.1 ≡ L) }
+    requires lens { length lens.now ≡ L }
+    requires flags { length flags.now ≡ L }
     ensures full { AreFull L h.new }
     ensures lanes { (j c : ℕ) → j < L → slice_index counters.now.0 j ≡ c % 2 ^ 32
         → slice_index counters.now.1 j ≡ c / 2 ^ 32 → lane j h.new ≡ compress (lane j h.old)
-        (words_at 16 (block (chunk_at (slice_index places.now j) chunks.now) n)) c 64 flags }
+        (words_at 16 (block (chunk_at (slice_index places.now j) chunks.now) n)) c
+        (slice_index lens.now j) (slice_index flags.now j) }
 {
-    let flags = each::<W, L, B>(flags);
     let words = block_of_each::<W, L, B>(chunks, places, n);
-    *h = compress_each::<W, L, B, 0>(h, &words, counters, &flags);
+    *h = compress_each::<W, L, B, 0>(h, &words, counters, lens, flags);
 }
 
 // Returns the key's words, the same for each lane.
@@ -120,12 +124,13 @@ pub(crate) fn chunk_values<W: Width<L, B>, const L: usize, const B: usize>(
 {
     let last = BLOCKS_PER_CHUNK - 1;
     let counters = counters(first, places);
+    let lens = W::each(BLOCK_LEN as u32);
     let mut h = key_of_each::<W, L, B>(key);
     'chain: for n in 0..last {
-        let flags = KEYED_HASH + start_flag(n);
-        take_block::<W, L, B>(&mut h, chunks, places, n as usize, &counters, flags);
+        let flags = W::each(KEYED_HASH + start_flag(n));
+        take_block::<W, L, B>(&mut h, chunks, places, n as usize, &counters, &lens, &flags);
     }
-    let flags = KEYED_HASH + CHUNK_END;
-    take_block::<W, L, B>(&mut h, chunks, places, last as usize, &counters, flags);
+    let flags = W::each(KEYED_HASH + CHUNK_END);
+    take_block::<W, L, B>(&mut h, chunks, places, last as usize, &counters, &lens, &flags);
     h
 }

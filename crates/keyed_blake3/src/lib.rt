@@ -7,23 +7,26 @@
 //! - `chunk` compresses the blocks of a chunk one after another.
 //! - `two_chunks` compresses those of two chunks at once, or of two such pairs.
 //! - `chunks` compresses those of several chunks side by side.
+//! - `messages` hashes several messages of at most a chunk side by side.
 //! - `subtrees` compresses several chunks and their parents side by side, up to the value of a complete subtree.
 //! - `tree` compresses the chaining values of two subtrees into their parent's, up to the root.
 #![tactic(auto)]
 
-ghost use Rattle.std.specs.Prelude.{◌≡◌};
+ghost use Rattle.std.specs.Prelude.{◌≡◌, ℕ, ◌<◌, ◌≤◌, [], get_or, length, map};
 ghost use Rattle.keyed_blake3.specs.Blake3.{keyed_hash};
 
 mod chunk;
 mod chunks;
 mod compression;
 mod hasher;
+mod messages;
 mod subtrees;
 mod tree;
 mod two_chunks;
 
 use chunk::{CHUNK_LEN, chunk_value, words};
 pub use hasher::Hasher;
+use messages::{are_short, hash_next};
 use tree::{ROOT, output};
 use two_chunks::two_chunk_values;
 
@@ -50,4 +53,20 @@ pub fn keyed_hash_two(key: &[u8; 32], first: &[u8], second: &[u8]) -> ([u8; 32],
     }
     let (of_first, of_second) = two_chunk_values(&words(key), first, second, (0, 0), ROOT);
     (output(&of_first), output(&of_second))
+}
+
+/// Returns the keyed BLAKE3 hashes of at most `N` messages under one key: element j of the result is that of message j. If none has
+/// more than 1024 bytes, they are hashed side by side, which takes less time than one after the other. Elements past the last
+/// message are zeros.
+pub fn keyed_hash_each<const N: usize>(key: &[u8; 32], messages: &[&[u8]]) -> [[u8; 32]; N]
+    requires { length messages.now ≤ N }
+    ensures { (j : ℕ) → j < length messages.now → get_or result j [] ≡ keyed_hash key.now (get_or (map (λ m. m.now) messages.now) j []) }
+{
+    let mut hashes = [[0; 32]; N];
+    let short = are_short(messages);
+    let mut done = 0;
+    'messages: while done < messages.len() {
+        done = hash_next(key, messages, done, short, &mut hashes);
+    }
+    hashes
 }

@@ -1,14 +1,14 @@
 //! The chaining values of subtrees of one size, side by side (BLAKE3 specification, 2.5): lane j belongs to subtree j.
 
 ghost use Rattle.std.specs.Prelude.{◌≡◌, ℕ, ◌+◌, ◌*◌, ◌/◌, ◌^◌, ◌<◌, ◌≤◌, ◌++◌, List, drop, length, slice_index, take};
-ghost use Rattle.keyed_blake3.specs.Blake3.{chunk_value, keyed_hash_flag, parent_flag, parent_value};
+ghost use Rattle.keyed_blake3.specs.Blake3.{chunk_value, compress, keyed_hash_flag, parent_flag, parent_value};
 ghost use Rattle.keyed_blake3.specs.declared.compression.width.TheConstants.{WIDEST};
 ghost use Rattle.keyed_blake3.specs.Steps.Lanes.{AreFull, beside, lane, value_at};
 ghost use Rattle.keyed_blake3.specs.Steps.Tree.{subtree_at};
 
 use crate::chunk::{BLOCK_LEN, CHUNK_LEN, KEYED_HASH};
 use crate::chunks::{chunk_values, key_of_each};
-use crate::compression::lanes::{compress_each, each, lane};
+use crate::compression::lanes::{lane, take_in_each};
 use crate::compression::two::{apart, both, compress_two};
 use crate::compression::two_rows::Block;
 use crate::compression::width::{Lanes, WIDEST, Width};
@@ -41,6 +41,22 @@ fn pair_of_each<W: Width<L, B>, const L: usize, const B: usize>(
     ]
 }
 
+// Returns the values of parents from their messages: the values of two subtrees each.
+fn values_of_parents<W: Width<L, B>, const L: usize, const B: usize>(
+    key: &[u32; 8],
+    messages: &[Lanes<L>; 16],
+) -> [Lanes<L>; 8]
+    ensures full { AreFull L result }
+    ensures lanes { (j : ℕ) → j < L → lane j result
+        ≡ compress key.now (lane j messages.now) 0 64 (keyed_hash_flag + parent_flag) }
+{
+    let lens = W::each(BLOCK_LEN as u32);
+    let flags = W::each(KEYED_HASH + PARENT);
+    let mut values = key_of_each::<W, L, B>(key);
+    take_in_each::<W, L, B>(&mut values, messages, &lens, &flags);
+    values
+}
+
 // Returns the values of the parents of `2 * L` subtrees, of which `left` has the first half.
 fn parent_values<W: Width<L, B>, const L: usize, const B: usize>(
     key: &[u32; 8],
@@ -54,14 +70,7 @@ fn parent_values<W: Width<L, B>, const L: usize, const B: usize>(
     ensures lanes { (j : ℕ) → j < L → lane j result ≡ parent_value key.now
         (lane (2 * j) (beside left.now right.now)) (lane (2 * j + 1) (beside left.now right.now)) 0 }
 {
-    let flags = each::<W, L, B>(KEYED_HASH + PARENT);
-    let zero = W::each(0);
-    compress_each::<W, L, B, 1>(
-        &key_of_each::<W, L, B>(key),
-        &pair_of_each::<W, L, B>(left, right),
-        &(zero, zero),
-        &flags,
-    )
+    values_of_parents::<W, L, B>(key, &pair_of_each::<W, L, B>(left, right))
 }
 
 // Returns the values of the parents of which lane j of `left` and lane j of `right` have the two subtrees.
@@ -76,22 +85,15 @@ fn values_above<W: Width<L, B>, const L: usize, const B: usize>(
     ensures lanes { (j : ℕ) → j < L
         → lane j result ≡ parent_value key.now (lane j left.now) (lane j right.now) 0 }
 {
-    let flags = each::<W, L, B>(KEYED_HASH + PARENT);
-    let zero = W::each(0);
     let message = [
         left[0], left[1], left[2], left[3], left[4], left[5], left[6], left[7], right[0], right[1],
         right[2], right[3], right[4], right[5], right[6], right[7],
     ];
-    compress_each::<W, L, B, 2>(
-        &key_of_each::<W, L, B>(key),
-        &message,
-        &(zero, zero),
-        &flags,
-    )
+    values_of_parents::<W, L, B>(key, &message)
 }
 
 // Returns the places of chunks that follow each other, 0 to `last`. Lanes that are left over take the last one again.
-fn neighbours<const L: usize>(last: usize) -> [usize; L]
+pub(crate) fn neighbours<const L: usize>(last: usize) -> [usize; L]
     ensures { (j : ℕ) → j < L → (slice_index result j ≤ last) × (j ≤ last → slice_index result j ≡ j) }
 {
     let mut places = [0; L];

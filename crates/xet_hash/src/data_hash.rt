@@ -1,7 +1,7 @@
 //! The 256-bit Merkle hash of a chunk, a xorb or a file, and its forms as words, bytes and hex text. This ports the
 //! module `merklehash::data_hash` of the crate `xet-core-structures` 1.5.2.
 
-ghost use Rattle.std.specs.Prelude.{◌≡◌, ◌≢◌, ◌+◌, ◌%◌, slice_index, ◌*◌, ◌↔◌, ◌<◌, ℕ, List, Some, codes, drop, take, IsOk, IfOk};
+ghost use Rattle.std.specs.Prelude.{◌≡◌, ◌≢◌, ◌+◌, ◌%◌, slice_index, ◌*◌, ◌↔◌, ◌<◌, ◌≤◌, length, ℕ, List, Some, codes, drop, take, IsOk, IfOk};
 ghost use Rattle.std.specs.Fmt.{WritesOnOk, WritesStyledOnOk};
 ghost use Rattle.std.specs.Str.{IsAscii, str_to_ascii_lowercase};
 ghost use Rattle.hex.specs.Hex.{encode_lower};
@@ -11,7 +11,7 @@ ghost use Rattle.xet_hash.specs.Hash.{default_hash, bytes_of, hash_of, hex_text,
 
 use crate::hex_digits::lower_digits;
 use hex::FromHex;
-use keyed_blake3::{keyed_hash, keyed_hash_two};
+use keyed_blake3::{keyed_hash, keyed_hash_each};
 use rand_core::{Rng, SeedableRng};
 use rand_xoshiro::Xoshiro256PlusPlus;
 use std::marker::Model;
@@ -251,14 +251,20 @@ pub fn compute_internal_node_hash(bytes: &[u8]) -> DataHash
     DataHash::from(keyed_hash(&INTERNAL_KEY, bytes))
 }
 
-/// Returns the hashes of two inner nodes, each that of [`compute_internal_node_hash`]. It takes less time than two calls if
-/// neither text has more than 1024 bytes.
-pub fn compute_two_internal_node_hashes(first: &[u8], second: &[u8]) -> (DataHash, DataHash)
-    ensures first { result.0 ≡ hash_of (keyed_hash internal_key first.now) }
-    ensures second { result.1 ≡ hash_of (keyed_hash internal_key second.now) }
+/// Returns the hashes of at most `N` inner nodes, each that of [`compute_internal_node_hash`]: element j of the result is that of
+/// text j. If no text has more than 1024 bytes, it takes less time than a call for each. Elements past the last text are the
+/// default hash.
+pub fn compute_internal_node_hashes<const N: usize>(texts: &[&[u8]]) -> [DataHash; N]
+    requires { length texts.now ≤ N }
+    ensures { (j : ℕ) → j < length texts.now
+        → slice_index result j ≡ hash_of (keyed_hash internal_key (slice_index texts.now j)) }
 {
-    let (of_first, of_second) = keyed_hash_two(&INTERNAL_KEY, first, second);
-    (DataHash::from(of_first), DataHash::from(of_second))
+    let of_each = keyed_hash_each::<N>(&INTERNAL_KEY, texts);
+    let mut hashes = [DataHash::default(); N];
+    'hashes: for j in 0..texts.len() {
+        hashes[j] = DataHash::from(of_each[j]);
+    }
+    hashes
 }
 
 // Returns the eight bytes of word `k` of 32 bytes.

@@ -11,7 +11,7 @@ ghost use Rattle.xet_roots.specs.Steps.Room.{most_made};
 
 use crate::error::CoreError;
 pub use crate::groups::{AGGREGATED_HASHES_MEAN_TREE_BRANCHING_FACTOR, Node};
-use crate::groups::{MIN_GROUP_LEN, first_group_len, group_size, parent, total_size, two_parents};
+use crate::groups::{MIN_GROUP_LEN, MOST_AT_ONCE, first_groups, group_size, parent_hashes, sizes_of, total_size};
 use crate::parent_maker::{ParentHashes, ParentMaker};
 use std::alloc::{AllocError, Allocator};
 use xet_hash::data_hash::{HMACKey, MerkleHash};
@@ -31,16 +31,13 @@ pub fn parents<A: Allocator, P: ParentMaker>(
     // Each group but the last has at least three nodes.
     let mut made = Vec::with_capacity(alloc, nodes.len().div_ceil(MIN_GROUP_LEN))?;
     let mut rest = nodes;
-    'groups: while !rest.is_empty() {
-        let (first, after) = rest.split_at(first_group_len(rest));
-        if after.is_empty() {
-            made.push((maker.make(first), group_size(first)))?;
-            return Ok(made);
+    'batches: while !rest.is_empty() {
+        let mut groups: [&[Node]; MOST_AT_ONCE] = [&[]; MOST_AT_ONCE];
+        let (count, after) = first_groups(rest, &mut groups);
+        let hashes = maker.make_each(&groups[..count]);
+        'groups: for j in 0..count {
+            made.push((hashes[j], group_size(groups[j])))?;
         }
-        let (second, after) = after.split_at(first_group_len(after));
-        let (of_first, of_second) = maker.make_two(first, second);
-        made.push((of_first, group_size(first)))?;
-        made.push((of_second, group_size(second)))?;
         rest = after;
     }
     Ok(made)
@@ -53,21 +50,16 @@ fn shrink<A: Allocator>(nodes: &mut Vec<Node, A>)
 {
     let mut made = 0;
     let mut read = 0;
-    'groups: while read < nodes.len() {
-        let rest = &nodes[read..];
-        let first = first_group_len(rest);
-        let (group, after) = rest.split_at(first);
-        if after.is_empty() {
-            nodes[made] = parent(group);
-            nodes.truncate(made + 1);
-            return;
+    'batches: while read < nodes.len() {
+        let mut groups: [&[Node]; MOST_AT_ONCE] = [&[]; MOST_AT_ONCE];
+        let (count, after) = first_groups(&nodes[read..], &mut groups);
+        let hashes = parent_hashes(&groups[..count]);
+        let sizes = sizes_of(&groups[..count]);
+        read = nodes.len() - after.len();
+        'groups: for j in 0..count {
+            nodes[made + j] = (hashes[j], sizes[j]);
         }
-        let second = first_group_len(after);
-        let (of_first, of_second) = two_parents(group, &after[..second]);
-        nodes[made] = of_first;
-        nodes[made + 1] = of_second;
-        made += 2;
-        read += first + second;
+        made += count;
     }
     nodes.truncate(made);
 }

@@ -4,14 +4,12 @@
 //! A list of nodes is cut into groups, and each group becomes a parent. The hash of the parent is the hash of the
 //! group's text. Its size is the sum of the sizes in the group.
 
-ghost use Rattle.std.specs.Prelude.{◌≡◌, ◌+◌, ◌^◌, ◌<◌, ◌≤◌, ◌++◌, length, take, drop, IsSome, SomeIff};
+ghost use Rattle.std.specs.Prelude.{◌≡◌, ℕ, ◌+◌, ◌^◌, ◌<◌, ◌≤◌, ◌++◌, length, take, drop, slice_index, IsSome, SomeIff};
 ghost use Rattle.xet_roots.specs.Groups.{Node, is_cut};
 ghost use Rattle.xet_roots.specs.Roots.{total_size, node_line, group_text, parent_hash, parent};
 ghost use Rattle.xet_roots.specs.Steps.Scan.{IsFirstGroup};
 
-use xet_hash::data_hash::{
-    MerkleHash, compute_internal_node_hash, compute_two_internal_node_hashes,
-};
+use xet_hash::data_hash::{MerkleHash, compute_internal_node_hash, compute_internal_node_hashes};
 
 /// One in this many hashes is a natural cut. A group has 5.5 nodes on average, since no group ends before its third
 /// node unless the list does, and none has more than nine.
@@ -22,6 +20,9 @@ pub const MIN_GROUP_LEN: usize = 3;
 
 /// The most nodes of a group.
 pub const MAX_GROUP_LEN: usize = 9;
+
+/// The most groups whose parents are made at once.
+pub const MOST_AT_ONCE: usize = 16;
 
 // The first index in a group at which a natural cut ends the group.
 const FIRST_CUT_INDEX: usize = MIN_GROUP_LEN - 1;
@@ -56,6 +57,19 @@ pub fn first_group_len(nodes: &[Node]) -> usize
         }
     }
     longest
+}
+
+// Writes the first groups of some nodes to `groups`, as many as there is room for. Returns their number, and the nodes that follow them.
+pub(crate) fn first_groups<'a>(nodes: &'a [Node], groups: &mut [&'a [Node]; MOST_AT_ONCE]) -> (usize, &'a [Node]) {
+    let mut count = 0;
+    let mut rest = nodes;
+    'groups: while count < MOST_AT_ONCE && !rest.is_empty() {
+        let (group, after) = rest.split_at(first_group_len(rest));
+        groups[count] = group;
+        count += 1;
+        rest = after;
+    }
+    (count, rest)
 }
 
 // Writes bytes into a text so that they end at `end`. Returns where they start.
@@ -127,19 +141,24 @@ pub(crate) fn parent_hash(group: &[Node]) -> MerkleHash
     compute_internal_node_hash(&text[start..])
 }
 
-// Returns the hashes of two groups' parents. The two texts are hashed at once.
-#[tactic(auto, unfolding(crate::specs::Roots::parent_hash))]
-pub(crate) fn two_parent_hashes(first: &[Node], second: &[Node]) -> (MerkleHash, MerkleHash)
-    requires first { length first.now ≤ MAX_GROUP_LEN }
-    requires second { length second.now ≤ MAX_GROUP_LEN }
-    ensures first { result.0 ≡ parent_hash first.now }
-    ensures second { result.1 ≡ parent_hash second.now }
+// Returns the hashes of the parents of some groups, of which the first `MOST_AT_ONCE` at most are there. Their texts are hashed side
+// by side.
+#[inline(never)]
+pub(crate) fn parent_hashes(groups: &[&[Node]]) -> [MerkleHash; MOST_AT_ONCE]
+    requires groups { length groups.now ≤ MOST_AT_ONCE }
+    requires few { (j : ℕ) → j < length groups.now → length (slice_index groups.now j) ≤ MAX_GROUP_LEN }
+    ensures { (j : ℕ) → j < length groups.now → slice_index result j ≡ parent_hash (slice_index groups.now j) }
 {
-    let mut first_text = [0; MAX_TEXT_LEN];
-    let first_start = write_text(&mut first_text, first);
-    let mut second_text = [0; MAX_TEXT_LEN];
-    let second_start = write_text(&mut second_text, second);
-    compute_two_internal_node_hashes(&first_text[first_start..], &second_text[second_start..])
+    let mut written = [[0; MAX_TEXT_LEN]; MOST_AT_ONCE];
+    let mut starts = [0; MOST_AT_ONCE];
+    'written: for j in 0..groups.len() {
+        starts[j] = write_text(&mut written[j], groups[j]);
+    }
+    let mut texts: [&[u8]; MOST_AT_ONCE] = [&[]; MOST_AT_ONCE];
+    'texts: for j in 0..groups.len() {
+        texts[j] = &written[j][starts[j]..];
+    }
+    compute_internal_node_hashes(&texts[..groups.len()])
 }
 
 // Returns the sum of the sizes in a group.
@@ -148,6 +167,15 @@ pub(crate) fn group_size(group: &[Node]) -> u64
     ensures { result ≡ total_size group.now }
 {
     group.iter().map(|node| node.1).sum()
+}
+
+// Returns the sums of the sizes in some groups.
+pub(crate) fn sizes_of(groups: &[&[Node]]) -> [u64; MOST_AT_ONCE] {
+    let mut sizes = [0; MOST_AT_ONCE];
+    'sizes: for j in 0..groups.len() {
+        sizes[j] = group_size(groups[j]);
+    }
+    sizes
 }
 
 // Returns the parent of a group.
@@ -159,16 +187,3 @@ pub(crate) fn parent(group: &[Node]) -> Node
     (parent_hash(group), group_size(group))
 }
 
-// Returns the parents of two groups.
-pub(crate) fn two_parents(first: &[Node], second: &[Node]) -> (Node, Node)
-    requires few { (length first.now ≤ MAX_GROUP_LEN) × (length second.now ≤ MAX_GROUP_LEN) }
-    requires fits { (total_size first.now < 2 ^ 64) × (total_size second.now < 2 ^ 64) }
-    ensures first { result.0 ≡ parent first.now }
-    ensures second { result.1 ≡ parent second.now }
-{
-    let (of_first, of_second) = two_parent_hashes(first, second);
-    (
-        (of_first, group_size(first)),
-        (of_second, group_size(second)),
-    )
-}

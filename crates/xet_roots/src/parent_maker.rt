@@ -1,10 +1,10 @@
 //! Makes the hashes of parents while ranges are merged, and counts them.
 
-ghost use Rattle.std.specs.Prelude.{◌≡◌, ℕ, ◌+◌, ◌^◌, ◌<◌, ◌≤◌, List, length};
+ghost use Rattle.std.specs.Prelude.{◌≡◌, ℕ, ◌+◌, ◌^◌, ◌<◌, ◌≤◌, List, length, slice_index};
 ghost use Rattle.xet_roots.specs.Groups.{Node};
 ghost use Rattle.xet_roots.specs.Roots.{total_size, parent_hash};
 
-use crate::groups::{Node, parent_hash, two_parent_hashes};
+use crate::groups::{MOST_AT_ONCE, Node, parent_hash, parent_hashes};
 use std::marker::Model;
 use xet_hash::data_hash::MerkleHash;
 
@@ -30,20 +30,23 @@ pub trait ParentMaker: Drop {
         ensures hash { result ≡ hash_of group.now }
         ensures count { count self.new ≡ count self.old + 1 };
 
-    /// Returns the hashes of the parents of two groups, which count as two. A maker that can make both at once in less time
-    /// has a body of its own; the body here calls [`make`](ParentMaker::make) for the first and then for the second.
-    fn make_two(&mut self, first: &[Node], second: &[Node]) -> (MerkleHash, MerkleHash)
-        requires some { (0 < length first.now) × (0 < length second.now) }
-        requires few { (length first.now ≤ 9) × (length second.now ≤ 9) }
-        requires fits { (total_size first.now < 2 ^ 64) × (total_size second.now < 2 ^ 64) }
-        requires room { count self.old + 1 < 2 ^ 100 }
-        ensures first { result.0 ≡ hash_of first.now }
-        ensures second { result.1 ≡ hash_of second.now }
-        ensures count { count self.new ≡ count self.old + 2 }
+    /// Returns the hashes of the parents of at most [`MOST_AT_ONCE`] groups: element j of the result is that of group j. Each counts
+    /// as one. A maker that can make several at once in less time has a body of its own; the body here calls
+    /// [`make`](ParentMaker::make) for one after the other. Elements past the last group may be any hashes.
+    fn make_each(&mut self, groups: &[&[Node]]) -> [MerkleHash; MOST_AT_ONCE]
+        requires groups { length groups.now ≤ MOST_AT_ONCE }
+        requires some { (j : ℕ) → j < length groups.now → 0 < length (slice_index groups.now j) }
+        requires few { (j : ℕ) → j < length groups.now → length (slice_index groups.now j) ≤ 9 }
+        requires fits { (j : ℕ) → j < length groups.now → total_size (slice_index groups.now j) < 2 ^ 64 }
+        requires room { count self.old + length groups.now ≤ 2 ^ 100 }
+        ensures hashes { (j : ℕ) → j < length groups.now → slice_index result j ≡ hash_of (slice_index groups.now j) }
+        ensures count { count self.new ≡ count self.old + length groups.now }
     {
-        let of_first = self.make(first);
-        let of_second = self.make(second);
-        (of_first, of_second)
+        let mut hashes = [MerkleHash::default(); MOST_AT_ONCE];
+        'hashes: for j in 0..groups.len() {
+            hashes[j] = self.make(groups[j]);
+        }
+        hashes
     }
 
     /// Returns the number of hashes that it made.
@@ -83,9 +86,9 @@ impl ParentMaker for ParentHashes {
         parent_hash(group)
     }
 
-    fn make_two(&mut self, first: &[Node], second: &[Node]) -> (MerkleHash, MerkleHash) {
-        self.made += 2;
-        two_parent_hashes(first, second)
+    fn make_each(&mut self, groups: &[&[Node]]) -> [MerkleHash; MOST_AT_ONCE] {
+        self.made += groups.len() as u128;
+        parent_hashes(groups)
     }
 
     fn made(&self) -> u128 {

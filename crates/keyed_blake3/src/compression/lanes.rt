@@ -53,7 +53,7 @@ fn each_by_call<const L: usize>(x: u32) -> Simd<u32, L>
 
 // Returns a word in each lane.
 #[inline(always)]
-pub(crate) fn each<W: Width<L, B>, const L: usize, const B: usize>(x: u32) -> Lanes<L>
+fn each<W: Width<L, B>, const L: usize, const B: usize>(x: u32) -> Lanes<L>
     ensures { result ≡ replicate L x }
 {
     if L > 4 {
@@ -67,22 +67,23 @@ pub(crate) fn each<W: Width<L, B>, const L: usize, const B: usize>(x: u32) -> La
 fn first_state<W: Width<L, B>, const L: usize, const B: usize>(
     h: &[Lanes<L>; 8],
     counters: &(Lanes<L>, Lanes<L>),
-    block_len: u32,
+    lens: &Lanes<L>,
     flags: &Lanes<L>,
 ) -> LaneRows<L, B>
     requires counters { (length counters.now.0 ≡ L) × (length counters.now.1 ≡ L) }
     requires full { AreFull L h.now }
+    requires lens { length lens.now ≡ L }
     requires flags { length flags.now ≡ L }
-    ensures { (j n f : ℕ) → j < L → slice_index counters.now.0 j ≡ n % 2 ^ 32 → slice_index counters.now.1 j ≡ n / 2 ^ 32
-        → slice_index flags.now j ≡ f → state_at j result ≡ first_state (lane j h.now) n block_len f }
+    ensures { (j n : ℕ) → j < L → slice_index counters.now.0 j ≡ n % 2 ^ 32 → slice_index counters.now.1 j ≡ n / 2 ^ 32
+        → state_at j result ≡ first_state (lane j h.now) n (slice_index lens.now j) (slice_index flags.now j) }
 {
     let [iv0, iv1, iv2, iv3] = INITIALIZATION_VECTOR;
     let (low, high) = counters;
     LaneRows {
         a: row(&h[0], &h[1], &h[2], &h[3]),
         b: row(&h[4], &h[5], &h[6], &h[7]),
-        c: row(&W::each(iv0), &W::each(iv1), &W::each(iv2), &W::each(iv3)),
-        d: byte_row::<W, L, B>(&row(low, high, &W::each(block_len), flags)),
+        c: row(&each::<W, L, B>(iv0), &W::each(iv1), &W::each(iv2), &W::each(iv3)),
+        d: byte_row::<W, L, B>(&row(low, high, lens, flags)),
     }
 }
 
@@ -106,25 +107,26 @@ fn folded<W: Width<L, B>, const L: usize, const B: usize>(v: &LaneRows<L, B>) ->
     words_of_rows(&x, &y)
 }
 
-// Returns the compression of blocks of 64 bytes, from the chaining values `h`. `counters` has the halves of each one's
-// counter. Each caller has a copy of its own, by its number `CALLER`: LLVM inlines a function of this size at its only
-// call alone.
+// Returns the compression of blocks, from the chaining values `h`. `counters` has the halves of each one's counter. Each caller
+// has a copy of its own, by its number `CALLER`: LLVM inlines a function of this size at its only call alone.
 #[inline(always)]
 pub(crate) fn compress_each<W: Width<L, B>, const L: usize, const B: usize, const CALLER: usize>(
     h: &[Lanes<L>; 8],
     m: &[Lanes<L>; 16],
     counters: &(Lanes<L>, Lanes<L>),
+    lens: &Lanes<L>,
     flags: &Lanes<L>,
 ) -> [Lanes<L>; 8]
     requires counters { (length counters.now.0 ≡ L) × (length counters.now.1 ≡ L) }
     requires full { AreFull L h.now }
+    requires lens { length lens.now ≡ L }
     requires flags { length flags.now ≡ L }
     ensures full { AreFull L result }
-    ensures lanes { (j n f : ℕ) → j < L → slice_index counters.now.0 j ≡ n % 2 ^ 32
-        → slice_index counters.now.1 j ≡ n / 2 ^ 32 → slice_index flags.now j ≡ f
-        → lane j result ≡ compress (lane j h.now) (lane j m.now) n 64 f }
+    ensures lanes { (j n : ℕ) → j < L → slice_index counters.now.0 j ≡ n % 2 ^ 32
+        → slice_index counters.now.1 j ≡ n / 2 ^ 32 → lane j result
+        ≡ compress (lane j h.now) (lane j m.now) n (slice_index lens.now j) (slice_index flags.now j) }
 {
-    let v = first_state::<W, L, B>(h, counters, 64, flags);
+    let v = first_state::<W, L, B>(h, counters, lens, flags);
     let v = round::<W, L, B>(&v, m);
     let m = permuted(m);
     let v = round::<W, L, B>(&v, &m);
@@ -139,6 +141,25 @@ pub(crate) fn compress_each<W: Width<L, B>, const L: usize, const B: usize, cons
     let m = permuted(&m);
     let v = round::<W, L, B>(&v, &m);
     folded::<W, L, B>(&v)
+}
+
+// Takes in a block of each message whose counter is 0: `h` then has the chaining values after them.
+#[inline(never)]
+pub(crate) fn take_in_each<W: Width<L, B>, const L: usize, const B: usize>(
+    h: &mut [Lanes<L>; 8],
+    m: &[Lanes<L>; 16],
+    lens: &Lanes<L>,
+    flags: &Lanes<L>,
+)
+    requires full { AreFull L h.old }
+    requires lens { length lens.now ≡ L }
+    requires flags { length flags.now ≡ L }
+    ensures full { AreFull L h.new }
+    ensures lanes { (j : ℕ) → j < L → lane j h.new
+        ≡ compress (lane j h.old) (lane j m.now) 0 (slice_index lens.now j) (slice_index flags.now j) }
+{
+    let zero = W::each(0);
+    *h = compress_each::<W, L, B, 1>(h, m, &(zero, zero), lens, flags);
 }
 
 // Returns lane j of the chaining values.

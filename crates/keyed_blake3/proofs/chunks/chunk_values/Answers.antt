@@ -1,3 +1,4 @@
+use Rattle.std.proofs.lemmas.Simd.{get_or-replicate}
 use Rattle.std.proofs.Common.{◌≡◌, ◌+◌, ◌-◌, ◌/◌, ℕ, List, ap, arith, get_or, sym, ◌∙◌}
 use Rattle.keyed_blake3.specs.Blake3.{after_blocks}
 use Rattle.keyed_blake3.specs.Steps.Lanes.{chunk_at}
@@ -15,7 +16,9 @@ chain-preserved g c = record {
   lanes = λ j h.
       let at : ℕ = get_or c.args.places.now j 0 in
       let halves = c.counters-counters.ensures.lanes j h in
-      (rw c.start_flag-flags.ensures at (c.take_block.ensures.lanes j (c.args.first + at) h halves.0 halves.1))
+      let len = ap (λ (x : List ℕ). get_or x j 0) c.each-lens.ensures ∙ get_or-replicate g.row.L j 64 0 h in
+      let flag = ap (λ (x : List ℕ). get_or x j 0) c.each-flags.ensures ∙ get_or-replicate g.row.L j _ 0 h in
+      (rw (len, flag, c.start_flag.ensures) at (c.take_block.ensures.lanes j (c.args.first + at) h halves.0 halves.1))
       ∙ after_blocks_more c.args.key.now (c.args.first + at) (chunk_at at c.args.chunks.now) c.chain.n _ (c.chain.invariant.lanes j h);
 }
 
@@ -28,5 +31,7 @@ returns-clause-lanes g c = λ j h.
     let size = length-chunk_at at c.args.chunks.now (c.requires.places j h) in
     let all : c.chain.n ≡ 15 = omega arith in
     let before = c.chain.invariant.lanes j h ∙ ap (after_blocks c.args.key.now i chunk) all in
-    (rw before at (c.take_block-2.ensures.lanes j i h halves.0 halves.1))
+    let len = ap (λ (x : List ℕ). get_or x j 0) c.each-lens.ensures ∙ get_or-replicate g.row.L j 64 0 h in
+    let flag = ap (λ (x : List ℕ). get_or x j 0) c.each-flags-2.ensures ∙ get_or-replicate g.row.L j _ 0 h in
+    (rw (before, len, flag) at (c.take_block-2.ensures.lanes j i h halves.0 halves.1))
     ∙ sym (chunk_value-last c.args.key.now i chunk 0 15 64 (ap (λ (n : ℕ). (n - 1) / 64) size) (ap (λ (n : ℕ). n - 960) size))
