@@ -1,7 +1,7 @@
 //! The 256-bit Merkle hash of a chunk, a xorb or a file, and its forms as words, bytes and hex text. This ports the
 //! module `merklehash::data_hash` of the crate `xet-core-structures` 1.5.2.
 
-ghost use Rattle.std.specs.Prelude.{◌≡◌, ◌≢◌, ◌+◌, ◌%◌, slice_index, ◌*◌, ◌↔◌, ◌<◌, ◌≤◌, length, ℕ, List, Some, codes, drop, take, IsOk, IfOk};
+ghost use Rattle.std.specs.Prelude.{◌≡◌, ◌≢◌, ◌+◌, ◌%◌, slice_index, ◌*◌, ◌↔◌, ◌<◌, ◌≤◌, ℕ, List, Some, [], codes, drop, get_or, length, map, take, IsOk, IfOk};
 ghost use Rattle.std.specs.Fmt.{WritesOnOk, WritesStyledOnOk};
 ghost use Rattle.std.specs.Str.{IsAscii, str_to_ascii_lowercase};
 ghost use Rattle.hex.specs.Hex.{encode_lower};
@@ -256,8 +256,8 @@ pub fn compute_internal_node_hash(bytes: &[u8]) -> DataHash
 /// default hash.
 pub fn compute_internal_node_hashes<const N: usize>(texts: &[&[u8]]) -> [DataHash; N]
     requires { length texts.now ≤ N }
-    ensures { (j : ℕ) → j < length texts.now
-        → slice_index result j ≡ hash_of (keyed_hash internal_key (slice_index texts.now j)) }
+    ensures { (j : ℕ) → j < length texts.now → get_or result j []
+        ≡ hash_of (keyed_hash internal_key (get_or (map (λ text. text.now) texts.now) j [])) }
 {
     let of_each = keyed_hash_each::<N>(&INTERNAL_KEY, texts);
     let mut hashes = [DataHash::default(); N];

@@ -1,2 +1,3 @@
 pub mod FirstGroup
+pub mod FirstGroups
 pub mod OneCutting

@@ -3,18 +3,42 @@
 //!
 //! The root of a list is the root of the parents of its groups.
 
-ghost use Rattle.std.specs.Prelude.{◌≡◌, ◌⊎◌, ◌+◌, ◌^◌, ◌<◌, ◌≤◌, ◌↔◌, List, length, replicate, IsOk, IfOk, IfErr, IsErrOf, IsFalse, IsTrue};
+ghost use Rattle.std.specs.Prelude.{◌≡◌, ◌⊎◌, ◌+◌, ◌^◌, ◌<◌, ◌≤◌, ◌↔◌, List, drop, length, map, replicate, take, IsOk, IfOk, IfErr, IsErrOf, IsFalse, IsTrue};
 ghost use Rattle.xet_roots.specs.Groups.{Node};
 ghost use Rattle.xet_roots.specs.Roots.{total_size, parent_by, parent, salted_root, IsRoot, IsFileHash};
-ghost use Rattle.xet_roots.specs.Steps.Scan.{AreParents};
+ghost use Rattle.xet_roots.specs.Steps.Scan.{AreFirstGroups, AreParents};
 ghost use Rattle.xet_roots.specs.Steps.Room.{most_made};
 
 use crate::error::CoreError;
 pub use crate::groups::{AGGREGATED_HASHES_MEAN_TREE_BRANCHING_FACTOR, Node};
-use crate::groups::{MIN_GROUP_LEN, MOST_AT_ONCE, first_groups, group_size, parent_hashes, sizes_of, total_size};
+use crate::groups::{MIN_GROUP_LEN, MOST_AT_ONCE, first_groups, group_size, total_size};
 use crate::parent_maker::{ParentHashes, ParentMaker};
 use std::alloc::{AllocError, Allocator};
 use xet_hash::data_hash::{HMACKey, MerkleHash};
+
+// Returns the parents of the first groups of some nodes, as many as are made at once; how many they are; and how many nodes they have.
+fn first_parents<P: ParentMaker>(
+    nodes: &[Node],
+    maker: &mut P,
+) -> ([Node; MOST_AT_ONCE], usize, usize)
+    requires fits { total_size nodes.now < 2 ^ 64 }
+    requires room { P.count maker.old + MOST_AT_ONCE ≤ 2 ^ 100 }
+    ensures within { (result.1 ≤ MOST_AT_ONCE) × (result.1 ≤ result.2) × (result.2 ≤ length nodes.now) }
+    ensures some { 0 < length nodes.now → 0 < result.1 }
+    ensures size { length result.0 ≡ MOST_AT_ONCE }
+    ensures parents { (groups : List (List Node)) × AreFirstGroups nodes.now groups (drop result.2 nodes.now)
+        × (take result.1 result.0 ≡ map (parent_by P.hash_of) groups) }
+    ensures count { P.count maker.new ≡ P.count maker.old + result.1 }
+{
+    let mut groups: [&[Node]; MOST_AT_ONCE] = [&[]; MOST_AT_ONCE];
+    let (count, read) = first_groups(nodes, &mut groups);
+    let hashes = maker.make_each(&groups[..count]);
+    let mut parents = [(MerkleHash::default(), 0); MOST_AT_ONCE];
+    'parents: for j in 0..count {
+        parents[j] = (hashes[j], group_size(groups[j]));
+    }
+    (parents, count, read)
+}
 
 /// Returns the parents of the groups of some nodes, in a new list. The hashes come from a maker.
 pub fn parents<A: Allocator, P: ParentMaker>(
@@ -31,13 +55,10 @@ pub fn parents<A: Allocator, P: ParentMaker>(
     // Each group but the last has at least three nodes.
     let mut made = Vec::with_capacity(alloc, nodes.len().div_ceil(MIN_GROUP_LEN))?;
     let mut rest = nodes;
-    'batches: while !rest.is_empty() {
-        let mut groups: [&[Node]; MOST_AT_ONCE] = [&[]; MOST_AT_ONCE];
-        let (count, after) = first_groups(rest, &mut groups);
-        let hashes = maker.make_each(&groups[..count]);
-        'groups: for j in 0..count {
-            made.push((hashes[j], group_size(groups[j])))?;
-        }
+    'groups: while !rest.is_empty() {
+        let (parents, count, read) = first_parents(rest, maker);
+        made.extend_from_slice(&parents[..count])?;
+        let (_, after) = rest.split_at(read);
         rest = after;
     }
     Ok(made)
@@ -50,16 +71,13 @@ fn shrink<A: Allocator>(nodes: &mut Vec<Node, A>)
 {
     let mut made = 0;
     let mut read = 0;
-    'batches: while read < nodes.len() {
-        let mut groups: [&[Node]; MOST_AT_ONCE] = [&[]; MOST_AT_ONCE];
-        let (count, after) = first_groups(&nodes[read..], &mut groups);
-        let hashes = parent_hashes(&groups[..count]);
-        let sizes = sizes_of(&groups[..count]);
-        read = nodes.len() - after.len();
-        'groups: for j in 0..count {
-            nodes[made + j] = (hashes[j], sizes[j]);
+    'groups: while read < nodes.len() {
+        let (parents, count, more) = first_parents(&nodes[read..], &mut ParentHashes::new());
+        'parents: for j in 0..count {
+            nodes[made + j] = parents[j];
         }
         made += count;
+        read += more;
     }
     nodes.truncate(made);
 }

@@ -4,10 +4,10 @@
 //! A list of nodes is cut into groups, and each group becomes a parent. The hash of the parent is the hash of the
 //! group's text. Its size is the sum of the sizes in the group.
 
-ghost use Rattle.std.specs.Prelude.{◌≡◌, ℕ, ◌+◌, ◌^◌, ◌<◌, ◌≤◌, ◌++◌, length, take, drop, slice_index, IsSome, SomeIff};
-ghost use Rattle.xet_roots.specs.Groups.{Node, is_cut};
-ghost use Rattle.xet_roots.specs.Roots.{total_size, node_line, group_text, parent_hash, parent};
-ghost use Rattle.xet_roots.specs.Steps.Scan.{IsFirstGroup};
+ghost use Rattle.std.specs.Prelude.{◌≡◌, ℕ, ◌+◌, ◌^◌, ◌<◌, ◌≤◌, ◌++◌, [], get_or, length, map, take, drop, slice_index, IsSome, SomeIff};
+ghost use Rattle.xet_roots.specs.Groups.{Node, IsGroup, is_cut};
+ghost use Rattle.xet_roots.specs.Roots.{total_size, node_line, group_text, parent_hash};
+ghost use Rattle.xet_roots.specs.Steps.Scan.{IsFirstGroup, AreFirstGroups};
 
 use xet_hash::data_hash::{MerkleHash, compute_internal_node_hash, compute_internal_node_hashes};
 
@@ -59,17 +59,30 @@ pub fn first_group_len(nodes: &[Node]) -> usize
     longest
 }
 
-// Writes the first groups of some nodes to `groups`, as many as there is room for. Returns their number, and the nodes that follow them.
-pub(crate) fn first_groups<'a>(nodes: &'a [Node], groups: &mut [&'a [Node]; MOST_AT_ONCE]) -> (usize, &'a [Node]) {
+// Writes the first groups of some nodes to `groups`, as many as there is room for. Returns how many groups and how many nodes these are.
+pub(crate) fn first_groups<'a>(
+    nodes: &'a [Node],
+    groups: &mut [&'a [Node]; MOST_AT_ONCE],
+) -> (usize, usize)
+    ensures within { (result.0 ≤ MOST_AT_ONCE) × (result.0 ≤ result.1) × (result.1 ≤ length nodes.now) }
+    ensures some { 0 < length nodes.now → 0 < result.0 }
+    ensures room { length groups.new ≡ MOST_AT_ONCE }
+    ensures first { AreFirstGroups nodes.now (take result.0 (map (λ g. g.now) groups.new)) (drop result.1 nodes.now) }
+    ensures groups { (j : ℕ) → j < result.0 → IsGroup (get_or (map (λ g. g.now) groups.new) j []) }
+    ensures sizes { (j : ℕ) → j < result.0 → total_size (get_or (map (λ g. g.now) groups.new) j []) ≤ total_size nodes.now }
+{
     let mut count = 0;
+    let mut read = 0;
     let mut rest = nodes;
     'groups: while count < MOST_AT_ONCE && !rest.is_empty() {
-        let (group, after) = rest.split_at(first_group_len(rest));
+        let len = first_group_len(rest);
+        let (group, after) = rest.split_at(len);
         groups[count] = group;
         count += 1;
+        read += len;
         rest = after;
     }
-    (count, rest)
+    (count, read)
 }
 
 // Writes bytes into a text so that they end at `end`. Returns where they start.
@@ -141,13 +154,12 @@ pub(crate) fn parent_hash(group: &[Node]) -> MerkleHash
     compute_internal_node_hash(&text[start..])
 }
 
-// Returns the hashes of the parents of some groups, of which the first `MOST_AT_ONCE` at most are there. Their texts are hashed side
-// by side.
+// Returns the hashes of groups' parents. The texts are hashed side by side.
 #[inline(never)]
 pub(crate) fn parent_hashes(groups: &[&[Node]]) -> [MerkleHash; MOST_AT_ONCE]
     requires groups { length groups.now ≤ MOST_AT_ONCE }
-    requires few { (j : ℕ) → j < length groups.now → length (slice_index groups.now j) ≤ MAX_GROUP_LEN }
-    ensures { (j : ℕ) → j < length groups.now → slice_index result j ≡ parent_hash (slice_index groups.now j) }
+    requires few { (j : ℕ) → j < length groups.now → length (get_or (map (λ g. g.now) groups.now) j []) ≤ MAX_GROUP_LEN }
+    ensures { (j : ℕ) → j < length groups.now → get_or result j [] ≡ parent_hash (get_or (map (λ g. g.now) groups.now) j []) }
 {
     let mut written = [[0; MAX_TEXT_LEN]; MOST_AT_ONCE];
     let mut starts = [0; MOST_AT_ONCE];
@@ -156,7 +168,8 @@ pub(crate) fn parent_hashes(groups: &[&[Node]]) -> [MerkleHash; MOST_AT_ONCE]
     }
     let mut texts: [&[u8]; MOST_AT_ONCE] = [&[]; MOST_AT_ONCE];
     'texts: for j in 0..groups.len() {
-        texts[j] = &written[j][starts[j]..];
+        let text = &written[j][..];
+        texts[j] = &text[starts[j]..];
     }
     compute_internal_node_hashes(&texts[..groups.len()])
 }
@@ -168,22 +181,3 @@ pub(crate) fn group_size(group: &[Node]) -> u64
 {
     group.iter().map(|node| node.1).sum()
 }
-
-// Returns the sums of the sizes in some groups.
-pub(crate) fn sizes_of(groups: &[&[Node]]) -> [u64; MOST_AT_ONCE] {
-    let mut sizes = [0; MOST_AT_ONCE];
-    'sizes: for j in 0..groups.len() {
-        sizes[j] = group_size(groups[j]);
-    }
-    sizes
-}
-
-// Returns the parent of a group.
-pub(crate) fn parent(group: &[Node]) -> Node
-    requires few { length group.now ≤ MAX_GROUP_LEN }
-    requires fits { total_size group.now < 2 ^ 64 }
-    ensures { result ≡ parent group.now }
-{
-    (parent_hash(group), group_size(group))
-}
-

@@ -1,6 +1,6 @@
 //! Makes the hashes of parents while ranges are merged, and counts them.
 
-ghost use Rattle.std.specs.Prelude.{◌≡◌, ℕ, ◌+◌, ◌^◌, ◌<◌, ◌≤◌, List, length, slice_index};
+ghost use Rattle.std.specs.Prelude.{◌≡◌, ℕ, ◌+◌, ◌^◌, ◌<◌, ◌≤◌, List, [], get_or, length, map};
 ghost use Rattle.xet_roots.specs.Groups.{Node};
 ghost use Rattle.xet_roots.specs.Roots.{total_size, parent_hash};
 
@@ -35,11 +35,11 @@ pub trait ParentMaker: Drop {
     /// [`make`](ParentMaker::make) for one after the other. Elements past the last group may be any hashes.
     fn make_each(&mut self, groups: &[&[Node]]) -> [MerkleHash; MOST_AT_ONCE]
         requires groups { length groups.now ≤ MOST_AT_ONCE }
-        requires some { (j : ℕ) → j < length groups.now → 0 < length (slice_index groups.now j) }
-        requires few { (j : ℕ) → j < length groups.now → length (slice_index groups.now j) ≤ 9 }
-        requires fits { (j : ℕ) → j < length groups.now → total_size (slice_index groups.now j) < 2 ^ 64 }
+        requires some { (j : ℕ) → j < length groups.now → 0 < length (get_or (map (λ g. g.now) groups.now) j []) }
+        requires few { (j : ℕ) → j < length groups.now → length (get_or (map (λ g. g.now) groups.now) j []) ≤ 9 }
+        requires fits { (j : ℕ) → j < length groups.now → total_size (get_or (map (λ g. g.now) groups.now) j []) < 2 ^ 64 }
         requires room { count self.old + length groups.now ≤ 2 ^ 100 }
-        ensures hashes { (j : ℕ) → j < length groups.now → slice_index result j ≡ hash_of (slice_index groups.now j) }
+        ensures hashes { (j : ℕ) → j < length groups.now → get_or result j [] ≡ hash_of (get_or (map (λ g. g.now) groups.now) j []) }
         ensures count { count self.new ≡ count self.old + length groups.now }
     {
         let mut hashes = [MerkleHash::default(); MOST_AT_ONCE];

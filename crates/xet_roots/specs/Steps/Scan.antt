@@ -1,6 +1,6 @@
 -- What reading a list of nodes from the first one on finds: the first group, and the parents of all groups. Only private
 -- contracts and proofs use it. What a reader has to believe is in Groups and Roots.
-use Rattle.std.specs.Prelude.{◌≡◌, ◌⊎◌, List, [], map}
+use Rattle.std.specs.Prelude.{◌≡◌, ◌⊎◌, List, [], ◌++◌, map}
 use Rattle.xet_roots.specs.Groups.{Node, IsGroup, IsFull, Groups}
 
 -- the first group of a list, and what follows it
@@ -11,3 +11,7 @@ pub record IsFirstGroup (group rest : List Node) : Type 0 where
 -- some nodes are the parents of the groups of a list
 abbrev pub AreParents : (List Node → Node) → List Node → List Node → Type 0
 AreParents make nodes parents = (groups : List (List Node)) × Groups nodes groups × (parents ≡ map make groups)
+
+-- some lists are the first groups of a list, and `rest` is what follows them: its groups complete them
+abbrev pub AreFirstGroups : List Node → List (List Node) → List Node → Type 0
+AreFirstGroups nodes groups rest = (more : List (List Node)) → Groups rest more → Groups nodes (groups ++ more)

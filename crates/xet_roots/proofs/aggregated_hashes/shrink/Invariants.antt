@@ -1,4 +1,4 @@
-use Rattle.std.proofs.Common.{◌≤◌, ◌-◌, length, take, drop}
+use Rattle.std.proofs.Common.{◌≡◌, ◌+◌, ◌++◌, ◌≤◌, ◌-◌, length, take, drop}
 use Rattle.xet_roots.specs.Roots.{total_size, parent}
 use Rattle.xet_roots.proofs.Roots.Making.{MadeSoFar}
 use Rattle.xet_roots.proofs.aggregated_hashes.shrink.Given as goal
@@ -13,3 +13,10 @@ invariant-groups g l = record {
 
 abbrev pub decreases-groups : goal.decreases-groups
 decreases-groups g l = length l.nodes.items - l.read
+
+abbrev pub invariant-parents : goal.invariant-parents
+invariant-parents g l = record {
+  size : length l.nodes.items ≡ length l.initial.nodes.items;
+  front : take (l.made + l.j) l.nodes.items ≡ take l.made l.initial.nodes.items ++ take l.j l.parents;
+  back : drop (l.made + l.count) l.nodes.items ≡ drop (l.made + l.count) l.initial.nodes.items;
+}
