@@ -131,6 +131,14 @@ pub(crate) fn chunk_values<W: Width<L, B>, const L: usize, const B: usize>(
         take_block::<W, L, B>(&mut h, chunks, places, n as usize, &counters, &lens, &flags);
     }
     let flags = W::each(KEYED_HASH + CHUNK_END);
-    take_block::<W, L, B>(&mut h, chunks, places, last as usize, &counters, &lens, &flags);
+    take_block::<W, L, B>(
+        &mut h,
+        chunks,
+        places,
+        last as usize,
+        &counters,
+        &lens,
+        &flags,
+    );
     h
 }

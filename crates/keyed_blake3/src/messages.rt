@@ -1,7 +1,7 @@
 //! The keyed hashes of messages of at most a chunk, side by side (BLAKE3 specification, 2.4): lane j belongs to message j. The
 //! messages may have their own lengths.
 
-ghost use Rattle.std.specs.Prelude.{◌≡◌, ◌≢◌, ℕ, ◌+◌, ◌-◌, ◌*◌, ◌<◌, ◌≤◌, ◌++◌, IsTrue, List, [], drop, get_or, length, map, slice_index};
+ghost use Rattle.std.specs.Prelude.{◌≡◌, ◌≢◌, ℕ, ◌+◌, ◌-◌, ◌*◌, ◌<◌, ◌≤◌, ◌++◌, IsTrue, List, [], drop, get_or, length, map, replicate, slice_index};
 ghost use Rattle.keyed_blake3.specs.Blake3.{block, blocks_before_last, keyed_hash};
 ghost use Rattle.keyed_blake3.specs.Steps.Blocks.{block_flags, block_len};
 ghost use Rattle.keyed_blake3.specs.Steps.Lanes.{AreFull, lane};
@@ -10,9 +10,7 @@ ghost use Rattle.keyed_blake3.specs.Steps.Messages.{AreShort};
 use crate::chunk::{BLOCK_LEN, CHUNK_END, CHUNK_LEN, KEYED_HASH, last_block, start_flag, words};
 use crate::chunks::{key_of_each, take_block};
 use crate::compression::lanes::lane;
-use crate::compression::width::{
-    Eight, Four, Lanes, Sixteen, WIDEST, Width, lanes_of, vector,
-};
+use crate::compression::width::{Eight, Four, Lanes, Sixteen, WIDEST, Width, lanes_of, vector};
 use crate::subtrees::neighbours;
 use crate::tree::{ROOT, output};
 use crate::{keyed_hash, keyed_hash_two};
@@ -20,16 +18,6 @@ use std::simd::prelude::*;
 
 // The most messages that are hashed two by two. More of them take less time side by side, though lanes stand empty.
 const FEW: usize = if WIDEST > 4 { 4 } else { 2 };
-
-// Some messages, each in a chunk of its own, which zero bytes fill up.
-#[derive(Drop)]
-struct SideBySide<const L: usize> {
-    chunks: [[u8; CHUNK_LEN]; L],
-    // The number of each one's last block.
-    last: Lanes<L>,
-    // The number of bytes in it.
-    rest: Lanes<L>,
-}
 
 // Returns whether no message has more than a chunk.
 pub(crate) fn are_short(messages: &[&[u8]]) -> bool
@@ -52,31 +40,36 @@ fn begin_with(chunk: &mut [u8; CHUNK_LEN], message: &[u8])
     chunk[..message.len()].copy_from_slice(message);
 }
 
-// Returns the messages in chunks of their own. There may be fewer than `L`.
-fn side_by_side<const L: usize>(messages: &[&[u8]]) -> SideBySide<L>
+// Writes each message to a chunk of its own, which zero bytes then fill up; and the number of its last block to `last`, and the number
+// of bytes in that block to `rest`. There may be fewer messages than lanes.
+#[inline(always)]
+fn put_side_by_side<const L: usize>(
+    messages: &[&[u8]],
+    chunks: &mut [[u8; CHUNK_LEN]; L],
+    last: &mut Lanes<L>,
+    rest: &mut Lanes<L>,
+)
     requires few { length messages.now ≤ L }
     requires short { AreShort (map (λ m. m.now) messages.now) }
-    ensures sizes { (j : ℕ) → j < L → length (get_or result.chunks j []) ≡ 1024 }
+    requires room { (length chunks.old ≡ L) × (length last.old ≡ L) × (length rest.old ≡ L) }
+    requires zeros { (j : ℕ) → j < L → get_or chunks.old j [] ≡ replicate 1024 0 }
+    ensures room { (length chunks.new ≡ L) × (length last.new ≡ L) × (length rest.new ≡ L) }
+    ensures sizes { (j : ℕ) → j < L → length (get_or chunks.new j []) ≡ 1024 }
     ensures padded { (j n : ℕ) → j < length messages.now
         → n ≤ blocks_before_last (get_or (map (λ m. m.now) messages.now) j [])
-        → block (get_or result.chunks j []) n ≡ block (get_or (map (λ m. m.now) messages.now) j []) n }
+        → block (get_or chunks.new j []) n ≡ block (get_or (map (λ m. m.now) messages.now) j []) n }
     ensures last { (j : ℕ) → j < length messages.now
-        → slice_index result.last j ≡ blocks_before_last (get_or (map (λ m. m.now) messages.now) j []) }
-    ensures rest { (j : ℕ) → j < length messages.now → slice_index result.rest j
+        → slice_index last.new j ≡ blocks_before_last (get_or (map (λ m. m.now) messages.now) j []) }
+    ensures rest { (j : ℕ) → j < length messages.now → slice_index rest.new j
         ≡ length (get_or (map (λ m. m.now) messages.now) j []) - 64 * blocks_before_last (get_or (map (λ m. m.now) messages.now) j []) }
 {
-    let mut chunks = [[0; CHUNK_LEN]; L];
-    let mut last = [0; L];
-    let mut rest = [0; L];
     'messages: for j in 0..messages.len() {
         let message = messages[j];
         let place = last_block(message);
-        let slots = &mut chunks[..];
-        begin_with(&mut slots[j], message);
+        begin_with(&mut chunks[j], message);
         last[j] = place as u32;
         rest[j] = (message.len() - BLOCK_LEN * place) as u32;
     }
-    SideBySide { chunks, last, rest }
 }
 
 // Returns the word of `yes` in lanes where `x` has the word `n`, and that of `no` in the others.
@@ -177,17 +170,20 @@ fn hash_side_by_side<W: Width<L, B>, const L: usize, const B: usize, const N: us
     ensures hashes { (j : ℕ) → j < length messages.now
         → get_or hashes.new (at + j) [] ≡ keyed_hash key.now (get_or (map (λ m. m.now) messages.now) j []) }
 {
-    let side = side_by_side::<L>(messages);
+    let mut chunks = [[0; CHUNK_LEN]; L];
+    let mut last = [0; L];
+    let mut rest = [0; L];
+    put_side_by_side(messages, &mut chunks, &mut last, &mut rest);
     let places = neighbours(L - 1);
     let zero = W::each(0);
     let counters = (zero, zero);
     let mut h = key_of_each::<W, L, B>(&words(key));
     let mut ended = h;
     'chain: for n in 0..most_before_last(messages) + 1 {
-        let (lens, flags) = lens_and_flags::<W, L, B>(&side.last, &side.rest, n as u32);
-        let chunks = side.chunks.as_flattened();
-        take_block::<W, L, B>(&mut h, chunks, &places, n, &counters, &lens, &flags);
-        ended = all_kept(&ended, &h, &side.last, n as u32);
+        let (lens, flags) = lens_and_flags::<W, L, B>(&last, &rest, n as u32);
+        let bytes = chunks.as_flattened();
+        take_block::<W, L, B>(&mut h, bytes, &places, n, &counters, &lens, &flags);
+        ended = all_kept(&ended, &h, &last, n as u32);
     }
     'hashes: for j in 0..messages.len() {
         hashes[at + j] = output(&lane(&ended, j));

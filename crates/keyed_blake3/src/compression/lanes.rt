@@ -82,7 +82,12 @@ fn first_state<W: Width<L, B>, const L: usize, const B: usize>(
     LaneRows {
         a: row(&h[0], &h[1], &h[2], &h[3]),
         b: row(&h[4], &h[5], &h[6], &h[7]),
-        c: row(&each::<W, L, B>(iv0), &W::each(iv1), &W::each(iv2), &W::each(iv3)),
+        c: row(
+            &each::<W, L, B>(iv0),
+            &W::each(iv1),
+            &W::each(iv2),
+            &W::each(iv3),
+        ),
         d: byte_row::<W, L, B>(&row(low, high, lens, flags)),
     }
 }

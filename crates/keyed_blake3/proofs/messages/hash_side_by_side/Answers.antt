@@ -19,8 +19,8 @@ take_block-requires g c =
     let size : length c.each-zero.result ≡ l = ap length c.each-zero.ensures ∙ length-replicate l 0 in
     let lens = c.lens_and_flags-lens.ensures.full in
     let few = c.most_before_last-n-end.ensures.few in
-    let places : (j : ℕ) → j < l → 1024 * get_or c.neighbours-places.result j 0 + 1024 ≤ length c.as_flattened-chunks.result.now =
-    λ j h. let place = c.neighbours-places.ensures j h in omega (arith, place.0, c.as_flattened-chunks.ensures.len) in
+    let places : (j : ℕ) → j < l → 1024 * get_or c.neighbours-places.result j 0 + 1024 ≤ length c.as_flattened-bytes.result.now =
+    λ j h. let place = c.neighbours-places.ensures j h in omega (arith, place.0, c.as_flattened-bytes.ensures.len) in
     (omega (arith, most), (omega (arith, most), (omega (arith, most), (c.chain.invariant.full, (places, (omega arith, ((size, size), (lens.0, lens.1))))))))
 
 pub chain-init : goal.chain-init
@@ -38,20 +38,20 @@ chain-preserved g c =
     let inv = c.chain.invariant in
     let key : List ℕ = words_at 8 c.args.key.now in
     let messages = c.args.messages.now in
-    let chunks = c.side_by_side-side.result.chunks in
-    let last = c.side_by_side-side.ensures.last in
+    let chunks = c.put_side_by_side.new.chunks in
+    let last = c.put_side_by_side.ensures.last in
     let zero_at : (j : ℕ) → j < g.row.L → get_or c.each-zero.result j 0 ≡ 0 = λ j h.
     ap (λ (x : List ℕ). get_or x j 0) c.each-zero.ensures ∙ get_or-replicate g.row.L j 0 0 h in
-    let chunk : (j : ℕ) → j < g.row.L → chunk_at (get_or c.neighbours-places.result j 0) c.as_flattened-chunks.result.now ≡ get_or chunks j [] = λ j h.
-    ap (λ (k : ℕ). chunk_at k c.as_flattened-chunks.result.now) ((c.neighbours-places.ensures j h).1 (omega arith))
-    ∙ ap (chunk_at j) c.as_flattened-chunks.ensures.value ∙ chunk_at_row chunks j (λ i fits. c.side_by_side-side.ensures.sizes i (omega arith)) (omega arith) in
+    let chunk : (j : ℕ) → j < g.row.L → chunk_at (get_or c.neighbours-places.result j 0) c.as_flattened-bytes.result.now ≡ get_or chunks j [] = λ j h.
+    ap (λ (k : ℕ). chunk_at k c.as_flattened-bytes.result.now) ((c.neighbours-places.ensures j h).1 (omega arith))
+    ∙ ap (chunk_at j) c.as_flattened-bytes.ensures.value ∙ chunk_at_row chunks j (λ i fits. c.put_side_by_side.ensures.sizes i (omega arith)) (omega arith) in
     let taken : (j : ℕ) → j < length messages → n ≤ blocks_before_last (get_or (map (λ m. m.now) messages) j [])
-        → lane j c.take_block.new.h ≡ value_after key 0 (get_or (map (λ m. m.now) messages) j []) 8 (n + 1) = λ j h within.
+    → lane j c.take_block.new.h ≡ value_after key 0 (get_or (map (λ m. m.now) messages) j []) 8 (n + 1) = λ j h within.
     let m : List ℕ = get_or (map (λ m. m.now) messages) j [] in
     let fits : j < g.row.L = omega (arith, c.requires.few) in
     let taken_in = c.take_block.ensures.lanes j 0 fits (zero_at j fits) (zero_at j fits) in
-    let with = c.lens_and_flags-lens.ensures.lanes j m fits within (last j h) (c.side_by_side-side.ensures.rest j h) in
-    (rw (chunk j fits, c.side_by_side-side.ensures.padded j n h within, with.0, with.1) at taken_in)
+    let with = c.lens_and_flags-lens.ensures.lanes j m fits within (last j h) (c.put_side_by_side.ensures.rest j h) in
+    (rw (chunk j fits, c.put_side_by_side.ensures.padded j n h within, with.0, with.1) at taken_in)
     ∙ value_after-more key 0 m 8 n (lane j c.chain.h) within (inv.lanes j h (omega arith)) in
     record {
       full = c.take_block.ensures.full;

@@ -70,10 +70,9 @@ returns-clause-parents g c =
     let groups = c.first_groups-count.new.groups in
     let count = c.first_groups-count.result.0 in
     let e = c.first_groups-count.ensures in
-    let inv = c.parents.invariant in
-    (
+    let inv = c.parents.invariant in (
       take count (lent groups),
       e.first,
       made_one_by_one (parent_by g.P.ParentMaker.hash_of) (lent groups) c.parents.parents count ([], 0)
-      (omega (arith, e.room, e.within.0, length-map groups (λ (l : Bor (List Node)). l.now))) (omega (arith, inv.size, e.within.0)) (λ i h. inv.each i (omega arith)),
+          (omega (arith, e.room, e.within.0, length-map groups (λ (l : Bor (List Node)). l.now))) (omega (arith, inv.size, e.within.0)) (λ i h. inv.each i (omega arith)),
     )

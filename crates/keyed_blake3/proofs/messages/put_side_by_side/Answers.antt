@@ -3,7 +3,7 @@ use Rattle.std.proofs.lemmas.Bool.{cases_lt}
 use Rattle.std.proofs.lemmas.List.{get_or-set_same, get_or-set_other, length-replicate}
 use Rattle.keyed_blake3.specs.Blake3.{block}
 use Rattle.keyed_blake3.proofs.Blake3.Messages.{block_padded, message_at, none, short_at}
-use Rattle.keyed_blake3.proofs.messages.side_by_side.Goals as goal
+use Rattle.keyed_blake3.proofs.messages.put_side_by_side.Goals as goal
 
 pub begin_with-requires : goal.begin_with-requires
 begin_with-requires g c = short_at c.args.messages.now c.messages.j c.requires.short c.messages-test.true

@@ -1,6 +1,6 @@
 use Rattle.std.proofs.Common.{◌≡◌, ℕ, ◌-◌, ◌*◌, ◌<◌, ◌≤◌, [], get_or, length, map, replicate}
 use Rattle.keyed_blake3.specs.Blake3.{block, blocks_before_last}
-use Rattle.keyed_blake3.proofs.messages.side_by_side.Given as goal
+use Rattle.keyed_blake3.proofs.messages.put_side_by_side.Given as goal
 
 abbrev pub invariant-messages : goal.invariant-messages
 invariant-messages g l = record {
