@@ -1,6 +1,6 @@
 /*
  * The same bytes, hashed in different ways: as messages of one length, by one call each or by one call for all, and as messages
- * of 64 KiB by a hasher that takes pieces. The root of a list, by calls that hash the texts of two groups at once, and by a call
+ * of 64 KiB by a hasher that takes pieces. The root of a list, by calls that hash the texts of groups side by side, and by a call
  * for each text. And a single hash under a key. bindings/c/test counts the instructions of each way.
  */
 #include "harness.h"

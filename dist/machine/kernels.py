@@ -18,7 +18,7 @@ from widths import WIDTHS, of_width
 from words import Value, Word, add_64, forget, high, low, symbol, unknown
 
 #: Where the checks put what a function reads or writes, each place at an address that isn't a multiple of 32 where it needn't be.
-RESULT, FIRST, SECOND, THIRD, CHUNKS = 0x20000040, 0x21000040, 0x22000040, 0x23000040, 0x30000004
+RESULT, FIRST, SECOND, THIRD, FOURTH, CHUNKS = 0x20000040, 0x21000040, 0x22000040, 0x23000040, 0x25000040, 0x30000004
 #: How many words a vector has in which a level passes chaining values: those of one block, and of two.
 VALUE_VECTORS = {"x86-64": (4, 4), "x86-64-v2": (4, 4), "x86-64-v3": (4, 8), "x86-64-v4": (4, 8), "aarch64": (4, 4)}
 
@@ -117,8 +117,8 @@ def check_take_block(library: Library, n: int, places: Sequence[int]) -> Machine
     lanes = len(places)
     h = [symbols(f"h{j}", 8) for j in range(lanes)]
     blocks, counters = [symbols(f"m{j}", 16) for j in range(lanes)], [counter_of(f"counter{j}") for j in range(lanes)]
-    flags = symbol("flags")
-    wanted = Wanted(block_of_each, h, blocks, counters, flags)
+    lengths, flags = symbols("length", lanes), symbols("flags", lanes)
+    wanted = Wanted(block_of_each, h, blocks, counters, lengths, flags)
     kernel = Kernel(library, of_width("chunks::take_block", lanes), side_by_side(h))
     for place, block in zip(places, blocks):
         kernel.memory.add_words(CHUNKS + 1024 * place + 64 * n, block)
@@ -126,12 +126,27 @@ def check_take_block(library: Library, n: int, places: Sequence[int]) -> Machine
     kernel.give_at(FIRST, indices(places))
     kernel.give(n)
     kernel.give_at(SECOND, [*map(low, counters), *map(high, counters)])
-    kernel.give(upper_unknown(flags))
+    kernel.give_at(THIRD, lengths)
+    kernel.give_at(FOURTH, flags)
     return kernel.must_give(wanted, f"block {n} of chunks at {list(places)}")
 
 
-def block_of_each(h: Sequence[Sequence[Word]], blocks: Sequence[Sequence[Word]], counters: Sequence[Value], flags: Word) -> List[Word]:
-    return side_by_side(compress(*lane, 64, flags) for lane in zip(h, blocks, counters))
+def check_take_in_each(library: Library, lanes: int) -> Machine:
+    """Blocks side by side whose counter is 0."""
+    forget()
+    h, blocks = ([symbols(f"{name}{j}", count) for j in range(lanes)] for name, count in (("h", 8), ("m", 16)))
+    lengths, flags = symbols("length", lanes), symbols("flags", lanes)
+    wanted = Wanted(block_of_each, h, blocks, [0] * lanes, lengths, flags)
+    kernel = Kernel(library, of_width("compression::lanes::take_in_each", lanes), side_by_side(h))
+    for place, words in ((FIRST, side_by_side(blocks)), (SECOND, lengths), (THIRD, flags)):
+        kernel.give_at(place, words)
+    return kernel.must_give(wanted, "blocks side by side")
+
+
+def block_of_each(
+    h: Sequence[Sequence[Word]], blocks: Sequence[Sequence[Word]], counters: Sequence[Value], lengths: Sequence[Word], flags: Sequence[Word],
+) -> List[Word]:
+    return side_by_side(compress(*lane) for lane in zip(h, blocks, counters, lengths, flags))
 
 
 def check_chunk_values(library: Library, places: Sequence[int]) -> Machine:
@@ -212,6 +227,7 @@ def checks_of_width(library: Library, lanes: int) -> Iterator[Tuple[str, Callabl
             yield f"take_block of {lanes} lanes, {n}, {name}", partial(check_take_block, library, n, places)
         if library.has(inner(of_width("chunks::chunk_values", lanes))):
             yield f"chunk_values of {lanes} lanes, {name}", partial(check_chunk_values, library, places)
+    yield f"take_in_each of {lanes} lanes", partial(check_take_in_each, library, lanes)
     for parents in ("values_above", "parent_values"):
         if library.has(inner(of_width(f"subtrees::{parents}", lanes))):
             yield f"{parents} of {lanes} lanes", partial(check_parents, library, parents, lanes)

@@ -1,4 +1,4 @@
-"""Groups of nodes: the hashes of the texts of two groups, and these texts.
+"""Groups of nodes: the hashes of the texts of several groups, and these texts.
 
 What writes a text has branches and reads tables that depend on sizes and hashes, so it runs on numbers. For the hashes, any text of some
 length stands in the place of what it writes. The definition of the text reads beside crates/xet_roots/specs/Roots.antt.
@@ -18,9 +18,10 @@ from machine import Machine
 from wanted import Wanted
 from words import Value, Word, forget
 
-#: Where groups are, and room for a text; how many bytes it has, and how many nodes a group has at most.
-GROUPS, ROOM = (0x26000008, 0x27000018), 0x28000003
-ROOM_SIZE, MOST_NODES = 792, 9
+#: Where groups are, what says so, and room for a text; how many bytes it has; how many nodes a group has at most, and how many groups
+#: have their parents made at once.
+GROUPS, LIST, ROOM = [0x26000008 + 0x100010 * k for k in range(16)], 0x29000008, 0x2A000003
+ROOM_SIZE, MOST_NODES, MOST_GROUPS = 792, 9, 16
 #: Sizes of nodes: at both ends, and where the number of digits changes.
 SIZES = [0, 1, *(10 ** k + more for k in range(1, 20) for more in (-1, 0, 1)), (1 << 64) - 1]
 
@@ -59,22 +60,32 @@ def groups(is_short: bool) -> Iterator[List[Node]]:
         taken, count = taken + count, count % MOST_NODES + 1
 
 
-def lengths(is_short: bool) -> List[Tuple[int, int]]:
-    """Lengths of two texts."""
+def lengths(is_short: bool) -> List[List[int]]:
+    """Lengths of texts, for each number of texts; in the whole list each length is there."""
+    few = [[(67 * k + 61 * count) % (ROOM_SIZE + 1) for k in range(count)] for count in range(1, MOST_GROUPS + 1)]
     if is_short:
-        return [(0, 69), (64, 65), (128, 792), (791, 260), (385, 390)]
-    return [(length, (7 * length + 3) % (ROOM_SIZE + 1)) for length in range(ROOM_SIZE + 1)]
+        return [few[0], few[1], few[4], few[8], [0, 64, 65, 128, 791, ROOM_SIZE, *few[9]]]
+    return few + [[min(at + k, ROOM_SIZE) for k in range(MOST_GROUPS)] for at in range(0, ROOM_SIZE + 1, MOST_GROUPS)]
 
 
-def both_hashes(first: Sequence[Word], second: Sequence[Word]) -> List[Word]:
-    return [*keyed_hash(INTERNAL_KEY, first), *keyed_hash(INTERNAL_KEY, second)]
+def hashes_of(*texts: Sequence[Word]) -> List[Word]:
+    return [word for text in texts for word in keyed_hash(INTERNAL_KEY, text)]
 
 
-def check_two_texts(library: Library, each: Tuple[int, int]) -> Machine:
-    """`two_parent_hashes`, for every two texts of some lengths. The groups may not be read."""
+def run_parent_hashes(caller: Caller, groups: Sequence[Tuple[int, int]]) -> List[Word]:
+    """Runs `parent_hashes` of groups at some places and of some lengths. Returns the words of the hashes."""
+    memory = caller.m.memory
+    memory.add_region(RESULT, 32 * MOST_GROUPS, True)
+    place = memory.add_words(LIST, [word for group in groups for value in group for word in (value & 0xFFFFFFFF, value >> 32)])
+    caller.run(of_groups("parent_hashes"), [RESULT, place, len(groups)])
+    return memory.load(RESULT, 8 * len(groups))
+
+
+def check_texts(library: Library, each: Sequence[int]) -> Machine:
+    """`parent_hashes`, for every texts of some lengths. The groups may not be read."""
     forget()
     texts = [bytes_of(f"text {k}", length) for k, length in enumerate(each)]
-    wanted = Wanted(both_hashes, *texts)
+    wanted = Wanted(hashes_of, *texts)
     caller, given = Caller(library), iter(texts)
     m = caller.m
 
@@ -86,25 +97,19 @@ def check_two_texts(library: Library, each: Tuple[int, int]) -> Machine:
         return start
 
     m.stand_ins[library.image.function(of_groups("write_text"))] = write
-    m.memory.add_region(RESULT, 64, True)
-    caller.run(of_groups("two_parent_hashes"), [RESULT, GROUPS[0], MOST_NODES, GROUPS[1], MOST_NODES])
-    wanted.must_be(m.memory.load(RESULT, 16), f"two texts of {each[0]} and {each[1]} bytes")
+    found = run_parent_hashes(caller, [(place, MOST_NODES) for place in GROUPS[:len(each)]])
+    wanted.must_be(found, f"{len(each)} texts of {', '.join(map(str, each))} bytes")
     return m
 
 
-def check_two_groups(library: Library, first: Sequence[Node], second: Sequence[Node]) -> Machine:
-    """`two_parent_hashes` of two groups of numbers."""
+def check_groups(library: Library, each: Sequence[Sequence[Node]]) -> Machine:
+    """`parent_hashes` of groups of numbers."""
     forget()
-    wanted = Wanted(both_hashes, text_of(first), text_of(second))
+    wanted = Wanted(hashes_of, *map(text_of, each))
     caller = Caller(library)
-    m = caller.m
-    m.memory.add_region(RESULT, 64, True)
-    arguments: List[Value] = [RESULT]
-    for place, group in zip(GROUPS, (first, second)):
-        arguments += [m.memory.add_words(place, words_of(group)), len(group)]
-    caller.run(of_groups("two_parent_hashes"), arguments)
-    wanted.must_be(m.memory.load(RESULT, 16), f"groups of {len(first)} and {len(second)} nodes")
-    return m
+    places = [(caller.m.memory.add_words(place, words_of(group)), len(group)) for place, group in zip(GROUPS, each)]
+    wanted.must_be(run_parent_hashes(caller, places), f"groups of {', '.join(str(len(group)) for group in each)} nodes")
+    return caller.m
 
 
 def check_text(library: Library, group: Sequence[Node]) -> Machine:
@@ -127,8 +132,8 @@ def run_all(library: Library, is_short: bool) -> Iterator[Machine]:
     """All checks of groups; gives the machines that ran them."""
     of_numbers = list(groups(is_short))
     for each in lengths(is_short):
-        yield check_two_texts(library, each)
+        yield check_texts(library, each)
     for group in of_numbers:
         yield check_text(library, group)
-    for first, second in zip(of_numbers, of_numbers[1:3] if is_short else of_numbers[1:]):
-        yield check_two_groups(library, first, second)
+    for at in range(0, len(of_numbers), MOST_GROUPS):
+        yield check_groups(library, of_numbers[at:at + MOST_GROUPS])

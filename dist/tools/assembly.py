@@ -78,8 +78,8 @@ def clang(part: Part, module: Path, to: Path, *more: str) -> None:
     run(tool("clang"), *words, "-fno-addrsig", "-fno-verbose-asm", *more)
 
 
-def module_of(part: Part, work: Path, apart: bool = False) -> Path:
-    """The part's module. For x86-64, its functions ask for unwind tables, and some stay apart: those that get AVX-512, or the kernels.
+def module_of(part: Part, work: Path) -> Path:
+    """The part's module. For x86-64, its functions ask for unwind tables, and those that get AVX-512 stay apart.
 
     On aarch64 unwind tables would change instructions; there, frame pointers lead a debugger on.
     """
@@ -90,23 +90,21 @@ def module_of(part: Part, work: Path, apart: bool = False) -> Path:
     text = with_unwind_tables(module.read_text())
     if part.is_translated:
         text = kept_apart(text, avx512.FUNCTIONS, avx512.MOST_BITS)
-    if apart:
-        text = kept_apart(text, [*KERNELS, *cut.CALLERS], cut.MOST_BITS)
     module.write_text(text)
     return module
 
 
 @functools.lru_cache(maxsize=None)
-def optimized(part: Part, apart: bool = False) -> str:
+def optimized(part: Part) -> str:
     """The part's module as LLVM has it when it begins to choose instructions."""
     with tempfile.TemporaryDirectory() as work:
         made = Path(work, "optimized.ll")
-        clang(part, module_of(part, Path(work), apart), made, "-emit-llvm")
+        clang(part, module_of(part, Path(work)), made, "-emit-llvm")
         return made.read_text()
 
 
 @functools.lru_cache(maxsize=None)
-def compiled(part: Part, apart: bool = False) -> str:
+def compiled(part: Part) -> str:
     """The assembly that the toolchain's clang makes of the part's module. A level that is translated gets AVX-512 for some functions."""
     with tempfile.TemporaryDirectory() as work:
         made = Path(work, "module.s")
@@ -115,22 +113,16 @@ def compiled(part: Part, apart: bool = False) -> str:
             module.write_text(avx512.with_avx512(optimized(part)))
             clang(part, module, made, "-Xclang", "-disable-llvm-passes")
         else:
-            clang(part, module_of(part, Path(work), apart), made)
+            clang(part, module_of(part, Path(work)), made)
         return NEEDLESS.sub("", made.read_text())
 
 
 def whole(part: Level | Program) -> str:
-    """The assembly of a part. A program's callers of kernels are those that LLVM makes if the kernels stay apart."""
-    if not part.has_kernels:
-        return compiled(part)
-    library = optimized(next(it for it in levels() if it.processor == part.processor))
-    if isinstance(part, Level):
-        cut.refuse_other_calls(library, optimized(part), part.name)
-        return compiled(part)
-    cut.refuse_other_calls(library, optimized(part), part.name, has_all=False)
-    cut.refuse_other_calls(library, optimized(part, apart=True), part.name)
-    cut.refuse_other_callers(optimized(part), optimized(part, apart=True))
-    return cut.with_callers(compiled(part), compiled(part, apart=True))
+    """The assembly of a part, whose kernels are called as those of the library."""
+    if part.has_kernels:
+        library = optimized(next(it for it in levels() if it.processor == part.processor))
+        cut.refuse_other_calls(library, optimized(part), part.name, has_all=isinstance(part, Level))
+    return compiled(part)
 
 
 def assembly(part: Level | Program, sources: str) -> str:

@@ -23,8 +23,6 @@ KERNELS = (
     "xet_roots::groups::parent_hashes",
     "xet_roots::groups::write_text",
 )
-#: Functions of the programs into which LLVM moves a kernel, unless it stays apart.
-CALLERS = ("xet_roots::parent_maker::ParentHashesParentMaker::make_two",)
 #: The kernels' labels.
 LABELS = tuple(f'"{kernel}"' for kernel in KERNELS)
 #: How a longer vector is passed depends on the processor.
@@ -57,8 +55,6 @@ EMPTY = """\
 """
 #: Attributes of a function that say for which processor it is compiled, whether it stays a function, and that it has an unwind table.
 OF_PROCESSOR = re.compile(r'"(?:target-cpu|target-features|tune-cpu|min-legal-vector-width)"="[^"]*" ?|\b(?:uwtable|noinline) ?')
-#: What LLVM found that a function does to a parameter's memory, which is the same however it is compiled.
-INITIALIZED = re.compile(r" initializes\(\([^)]*\)\)")
 #: What begins a section, with the line that says of an object that it is one.
 SECTION = re.compile(r"(?m)^(?:\t\.type\t\S+,@object\n)?\t\.section\t(.*)\n")
 LABEL = re.compile(r'(?m)^("[^"\n]*"|[\w.$]+):')
@@ -92,15 +88,6 @@ def refuse_other_calls(library: str, other: str, name: str, *, has_all: bool = T
             raise Fault(f"{kernel} is called as {called[kernel]}, and in {name} as {of_other[kernel]}")
         if has_vectors_above(MOST_BITS, called[kernel]):
             raise Fault(f"{kernel} is called with long vectors: {called[kernel]}")
-
-
-def refuse_other_callers(program: str, apart: str) -> None:
-    """Refuses a program's module in which the callers of kernels are called in another way if kernels stay apart."""
-    called, if_apart = (
-        {name: INITIALIZED.sub("", call) for name, call in calls_of(CALLERS, module).items()} for module in (program, apart))
-    for caller in CALLERS:
-        if caller not in called or called[caller] != if_apart[caller]:
-            raise Fault(f"{caller} is called as {called.get(caller)}, and with kernels apart as {if_apart[caller]}")
 
 
 def stub(kernel: str) -> str:
@@ -175,16 +162,6 @@ def kernels_alone(text: str) -> str:
     """The kernels of a library, with what they reach."""
     before, parts, end = sections(text)
     return before + "".join(reached(parts, LABELS)) + end
-
-
-def with_callers(text: str, apart: str) -> str:
-    """A program, in which the callers of kernels are those of a program whose kernels stay apart."""
-    before, parts, end = sections(text)
-    of_apart = {label: part for part in sections(apart)[1] for label in LABEL.findall(part)}
-    for at, part in enumerate(parts):
-        for caller in {f'"{caller}"' for caller in CALLERS}.intersection(LABEL.findall(part)):
-            parts[at] = of_apart[caller].replace(".L", ".Lapart_")
-    return before + "".join(parts) + end
 
 
 def program_alone(text: str, entry: str) -> str:

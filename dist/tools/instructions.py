@@ -10,7 +10,7 @@ import re
 import subprocess
 from bisect import bisect_left, bisect_right
 from pathlib import Path
-from typing import Iterable, Sequence
+from typing import Sequence
 
 NOTHING = re.compile(r"(?:(?:data16|cs) )*(?:nop[wl]?\b|xchg +%ax,%ax$)")
 SYMBOL = re.compile(r"([0-9a-f]{16}) .{7} (\S.*)\t[0-9a-f]{16} (?:\.hidden )?(.+)")
@@ -142,14 +142,9 @@ def difference(first: Object, second: Object) -> str | None:
     return None
 
 
-def difference_of_some(whole: Object, some: Object, but: Iterable[str] = ()) -> str | None:
-    """The first difference of some of an object's functions, and the data that they have, from those of the object, or None.
-
-    The functions `but` are left aside.
-    """
+def difference_of_some(whole: Object, some: Object) -> str | None:
+    """The first difference of some of an object's functions, and the data that they have, from those of the object, or None."""
     for section, instructions in some.instructions.items():
-        if section.removeprefix(".text.") in but:
-            continue
         found = first_difference(f"instructions of {section}", whole.instructions.get(section, []), instructions)
         here, there = (sorted(it.constant(section, line) for line in it.raw.get(section, [])) for it in (whole, some))
         if found := found or first_difference(f"relocations of {section}", here, there):

@@ -3,7 +3,7 @@
 from __future__ import annotations
 
 import re
-from typing import Callable, Dict, List, Optional
+from typing import Callable, Dict, List, Optional, Sequence
 
 from fault import Fault, number
 from machine import RETURN, Machine
@@ -65,6 +65,14 @@ class X86(Machine):
 
     def end_call(self) -> int:
         return number(self.pop())
+
+    def give(self, arguments: Sequence[Value], vectors: Sequence[Sequence[Word]]) -> None:
+        """Arguments for which there is no register are on the stack."""
+        super().give(arguments, vectors)
+        others = arguments[len(self.ARGUMENTS):]
+        self.general[RSP] = self.number(RSP) - (8 * len(others) + 15) // 16 * 16
+        for i, value in enumerate(others):
+            self.write(self.number(RSP) + 8 * i, 8, value)
 
     def kept(self) -> Dict[str, object]:
         return {f"register {register}": self.general[register] for register in _KEPT}
