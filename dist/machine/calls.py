@@ -45,17 +45,14 @@ class Caller:
         return self.run(self.library.call(name), arguments)
 
     def run(self, function: str, arguments: Sequence[Value], vectors: Sequence[Sequence[Word]] = ()) -> Value:
-        """Runs a function on a new stack, with values in the registers of arguments and in the first vectors. Everything else is unknown.
-        It has to leave the stack pointer and some registers as they were."""
+        """Runs a function on a new stack, with arguments that are values or vectors. Everything else is unknown. It has to leave the stack
+        pointer and some registers as they were."""
         m = self.m
         m.forget_registers()
         m.general[m.STACK] = self.stack
-        for register, value in zip(m.ARGUMENTS, arguments):
-            m.general[register] = value
-        for i, words in enumerate(vectors):
-            m.vectors[i][:len(words)] = words
-        before = m.kept()
         m.memory.add_region(self.stack - STACK_SIZE, STACK_SIZE, True)
+        m.give(arguments, vectors)
+        before = m.kept()
         m.call(m.image.function(function))
         m.memory.remove_region(self.stack - STACK_SIZE)
         self.stack -= STACK_SIZE

@@ -77,6 +77,13 @@ class Machine(ABC):
     def end_call(self) -> int:
         """Returns where a function goes on that ends now."""
 
+    def give(self, arguments: Sequence[Value], vectors: Sequence[Sequence[Word]]) -> None:
+        """Puts arguments where a call has them: values in registers, and words in the first vectors."""
+        for register, value in zip(self.ARGUMENTS, arguments):
+            self.general[register] = value
+        for i, words in enumerate(vectors):
+            self.vectors[i][:len(words)] = words
+
     @abstractmethod
     def kept(self) -> Dict[str, object]:
         """What a function has to give back as it was, by names."""
