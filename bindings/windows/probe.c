@@ -10,7 +10,7 @@
 #include <windows.h>
 
 /* A call pushes its address, and the probe two registers. */
-enum { PAGE = 4096, PAGES = 520, REGISTERS = 14, FILL = 0xa5, PUSHED = 24 };
+enum { PAGE = 4096, PAGES = 520, REGISTERS = 14, FILL = 0x5a, PUSHED = 24 };
 
 /*
  * Calls the probe for a frame below a stack pointer, and returns the size that the probe has left. All other general registers, but for

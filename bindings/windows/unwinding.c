@@ -15,21 +15,19 @@ static void merge(void);
 
 static unsigned walked, lost;
 
-/* Whether a place is in this file's merge(), which makes all calls. */
-static bool is_here(void *place)
-{
-    DWORD64 base;
-    const RUNTIME_FUNCTION *function = RtlLookupFunctionEntry((DWORD64)place, &base, NULL);
-    return function != NULL && base + function->BeginAddress == (DWORD64)merge;
-}
-
+/* Whether the frames lead to this file's merge(), which makes all calls. Each on the way has to be in a function that is known. */
 static bool is_reached(void)
 {
     void *frames[FRAMES];
     const unsigned count = RtlCaptureStackBackTrace(0, FRAMES, frames, NULL);
-    for (unsigned at = 0; at < count; at++)
-        if (is_here(frames[at]))
+    for (unsigned at = 0; at < count; at++) {
+        DWORD64 base;
+        const RUNTIME_FUNCTION *function = RtlLookupFunctionEntry((DWORD64)frames[at], &base, NULL);
+        if (function == NULL)
+            return false;
+        if (base + function->BeginAddress == (DWORD64)merge)
             return true;
+    }
     return false;
 }
 
