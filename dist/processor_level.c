@@ -11,14 +11,8 @@
  */
 #include "yurewha.h"
 
-#if !defined(__LP64__) || !(defined(__x86_64__) || (defined(__aarch64__) && defined(__AARCH64EL__)))
+#if UINTPTR_MAX != UINT64_MAX || !(defined(__x86_64__) || (defined(__aarch64__) && defined(__AARCH64EL__)))
 #error "yurewha is for x86-64 and little-endian aarch64, with pointers of 8 bytes: there is no library for this processor"
-/* The environment is best read while there is one thread. */
-__attribute__((constructor)) static void choose_early(void)
-{
-    (void)yurewha_processor_level();
-}
-
 #endif
 
 #ifdef __aarch64__

@@ -11,10 +11,16 @@ endforeach()
 
 if(NOT TARGET yurewha::shared)
   add_library(yurewha::shared SHARED IMPORTED)
-  set_target_properties(yurewha::shared PROPERTIES
-    IMPORTED_LOCATION "${yurewha_libdir}/libyurewha.so.1"
-    IMPORTED_SONAME libyurewha.so.1
-    INTERFACE_INCLUDE_DIRECTORIES "${yurewha_includedir}")
+  set_target_properties(yurewha::shared PROPERTIES INTERFACE_INCLUDE_DIRECTORIES "${yurewha_includedir}")
+  if(WIN32)
+    set_target_properties(yurewha::shared PROPERTIES
+      IMPORTED_IMPLIB "${yurewha_libdir}/libyurewha.dll.a"
+      IMPORTED_LOCATION "${yurewha_libdir}/../bin/libyurewha-1.dll")
+  else()
+    set_target_properties(yurewha::shared PROPERTIES
+      IMPORTED_LOCATION "${yurewha_libdir}/libyurewha.so.1"
+      IMPORTED_SONAME libyurewha.so.1)
+  endif()
 
   add_library(yurewha::static STATIC IMPORTED)
   set_target_properties(yurewha::static PROPERTIES

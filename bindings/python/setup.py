@@ -1,7 +1,10 @@
 """What pyproject.toml can't say: the shared library is compiled from C and assembly, and goes into the wheel, whose name says which
 processor and C library it is for. These files are in native/ of a source distribution, and in dist/ of the repository.
 
-With YUREWHA_LIBRARY=system there is no library in the wheel: the package then loads the system's.
+With YUREWHA_LIBRARY=system there is no library in the wheel: the package then loads the system's. If it is the path of a library that
+was built, as `make` builds the DLL for Windows, the wheel has that one:
+
+    YUREWHA_LIBRARY=../out/windows-x86_64/bin/libyurewha-1.dll python3 setup.py bdist_wheel --plat-name win_amd64
 """
 
 from __future__ import annotations
@@ -23,8 +26,10 @@ except ImportError:  # before setuptools 70.1
 
 PACKED = Path("native")
 #: The folders of the repository that have the files, and what a source distribution takes of them.
-FOLDERS = {Path("../../dist"): ("*.c", "*.s", "targets.txt"), Path("../include"): ("yurewha.h",)}
+FOLDERS = {Path("../../dist"): ("*.c", "x86-64*.s", "aarch64.s", "targets.txt"), Path("../include"): ("yurewha.h",)}
 NAME = "libyurewha.so.1"
+#: What the wheel has: a library that is compiled here if this is empty.
+CHOSEN = os.environ.get("YUREWHA_LIBRARY", "")
 #: The oldest glibc that a manylinux wheel may ask for.
 GLIBC = (2, 17)
 
@@ -47,7 +52,9 @@ def sources(processor: str, folder: Path) -> list[str]:
     lines = [line.split() for line in (folder / "targets.txt").read_text(encoding="utf-8").splitlines()]
     levels = [words[0] for words in lines if words[0] != "#" and words[1] == processor]
     if not levels:
-        raise SystemExit(f"yurewha: there is no library for {processor}: it is for Linux on x86_64 and aarch64")
+        raise SystemExit(
+            f"yurewha: there is no library for {processor}: it is compiled for Linux on x86_64 and aarch64; for Windows on x86_64, "
+            "YUREWHA_LIBRARY names the DLL that `make` builds")
     return [str(folder / name) for name in ("processor_level.c", "heap.c", *(f"{level}.s" for level in levels))]
 
 
@@ -63,9 +70,14 @@ class BuildLibrary(build_ext):
     """Builds a shared library that isn't a module, from C and assembly."""
 
     def get_ext_filename(self, name: str) -> str:
-        return str(Path(*name.split(".")[:-1], NAME))
+        return str(Path(*name.split(".")[:-1], Path(CHOSEN).name or NAME))
 
     def build_extension(self, extension: Extension) -> None:
+        if CHOSEN:
+            to = Path(self.get_ext_fullpath(extension.name))
+            to.parent.mkdir(parents=True, exist_ok=True)
+            shutil.copy(CHOSEN, to)
+            return
         system, _, processor = self.plat_name.partition("-")
         folder = Path(self.build_temp, PACKED)
         copy_files(folder)
@@ -86,6 +98,8 @@ class WheelForProcessor(bdist_wheel):
         _, _, platform = super().get_tag()
         if self.root_is_pure:
             return "py3", "none", "any"
+        if platform.startswith("win"):
+            return "py3", "none", platform
         library = Path(self.bdist_dir, "yurewha", "lib", NAME).read_bytes()
         versions = [(int(major), int(minor)) for major, minor in re.findall(rb"GLIBC_(\d+)\.(\d+)", library)]
         if versions and max(versions) <= GLIBC:
@@ -103,7 +117,7 @@ LIBRARY = Extension(
 # Nothing stays in this folder, where a later build would take it.
 with tempfile.TemporaryDirectory() as work:
     setup(
-        ext_modules=[] if os.environ.get("YUREWHA_LIBRARY") == "system" else [LIBRARY],
+        ext_modules=[] if CHOSEN == "system" else [LIBRARY],
         cmdclass={"build_ext": BuildLibrary, "bdist_wheel": WheelForProcessor, "sdist": SourcesWithFiles},
         options={"build": {"build_base": work}, "egg_info": {"egg_base": work}},
     )

@@ -41,7 +41,7 @@ fn of_library(name: &str) -> String {
     path
 }
 
-// The levels of the target's processor, each with a file of assembly. There are none for most targets.
+// The files of assembly for the target, one for each level of its processor. There are none for most targets.
 fn levels() -> Result<Vec<String>, String> {
     let of_target = |name| env::var(format!("CARGO_CFG_TARGET_{name}")).unwrap_or_default();
     let arch = of_target("ARCH");
@@ -50,15 +50,17 @@ fn levels() -> Result<Vec<String>, String> {
     let text = fs::read_to_string(&list).map_err(|error| format!("{list}: {error}"))?;
     let lines = text.lines().filter(|line| !line.starts_with('#'));
     let lines = lines.map(|line| line.split_whitespace().collect::<Vec<_>>());
-    let levels: Vec<_> = lines
-        .filter(|words| words[1] == arch)
-        .map(|words| words[0].to_string())
-        .collect();
-    if levels.is_empty() || kind != ["linux", "64", "little"] {
+    let levels = lines.filter(|words| words[1] == arch).map(|words| words[0]);
+    // The assembly for Windows has the same levels.
+    let is_for_windows = kind == ["windows", "64", "little"] && arch == "x86_64" && of_target("ENV") == "gnu";
+    let prefix = if is_for_windows { "windows-" } else { "" };
+    let names: Vec<_> = levels.map(|level| format!("{prefix}{level}")).collect();
+    if names.is_empty() || !(is_for_windows || kind == ["linux", "64", "little"]) {
         let target = env::var("TARGET").unwrap_or_default();
         return Err(format!(
-            "the library is for Linux on x86_64 and aarch64, not for {target}"
+            "the library is for Linux on x86_64 and aarch64, and for x86_64-pc-windows-gnu, not for {target}; \
+             depend on it for these targets alone, and on xet-core-structures for others"
         ));
     }
-    Ok(levels)
+    Ok(names)
 }

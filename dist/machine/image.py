@@ -16,6 +16,8 @@ OUTSIDE = {
     "memcpy": 0x7000010, "memmove": 0x7000020, "memset": 0x7000030,
     "yurewha_heap_alloc": 0x7000040, "yurewha_heap_dealloc": 0x7000050, "yurewha_heap_realloc": 0x7000060,
 }
+#: How the names of functions look, for objcopy.
+_FUNCTIONS = "*::*"
 _LABEL = re.compile(r"([0-9a-f]+) <(.*)>:$")
 
 
@@ -76,10 +78,15 @@ def segments_of(data: bytes) -> List[Segment]:
 
 
 def linked(files: Sequence[Path], assembler: Sequence[str], binutils: str, options: Sequence[str], work: Path) -> Image:
-    """The image of files of assembly by a compiler, made in a folder; the names of binutils begin so, and objdump gets options."""
+    """The image of files of assembly by a compiler, made in a folder; the names of binutils begin so, and objdump gets options.
+
+    Objects in COFF are linked to a file in ELF, too. The linker then drops names that aren't global, so those of functions are made so.
+    """
     objects = [work / f"part{i}.o" for i, _ in enumerate(files)]
     for file, made in zip(files, objects):
         subprocess.run([*assembler, "-c", file, "-o", made], check=True)
+        if made.read_bytes()[:4] != b"\x7fELF":
+            subprocess.run([f"{binutils}objcopy", "--wildcard", f"--globalize-symbol={_FUNCTIONS}", made], check=True)
     outside = [word for name, place in OUTSIDE.items() for word in ("--defsym", f"{name}={place:#x}")]
     places = ["-z", "separate-code", "-Ttext-segment=0x400000", "-e", "0x400000"]
     subprocess.run([f"{binutils}ld", "-o", work / "linked", *objects, *places, *outside], check=True)

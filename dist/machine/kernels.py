@@ -19,6 +19,8 @@ from words import Value, Word, add_64, forget, high, low, symbol, unknown
 
 #: Where the checks put what a function reads or writes, each place at an address that isn't a multiple of 32 where it needn't be.
 RESULT, FIRST, SECOND, THIRD, FOURTH, CHUNKS = 0x20000040, 0x21000040, 0x22000040, 0x23000040, 0x25000040, 0x30000004
+#: Where vectors are that are passed by their places.
+VECTORS = 0x24000040
 #: How many words a vector has in which a level passes chaining values: those of one block, and of two.
 VALUE_VECTORS = {"x86-64": (4, 4), "x86-64-v2": (4, 4), "x86-64-v3": (4, 8), "x86-64-v4": (4, 8), "aarch64": (4, 4)}
 
@@ -65,8 +67,14 @@ class Kernel:
 
     def give_vectors(self, words: Sequence[Word], blocks: int) -> None:
         """Gives it words of one block or two in vectors, as its level passes them."""
-        width = VALUE_VECTORS[self.caller.library.level.name][blocks - 1]
-        self.vectors += [words[i:i + width] for i in range(0, len(words), width)]
+        level = self.caller.library.level
+        width = VALUE_VECTORS[level.name_for_linux][blocks - 1]
+        vectors = [words[i:i + width] for i in range(0, len(words), width)]
+        if not level.is_for_windows:
+            self.vectors += vectors
+            return
+        for vector in vectors:
+            self.give_at(VECTORS + 64 * len(self.arguments), vector)
 
     def must_give(self, wanted: Wanted, what: str) -> Machine:
         """Runs the function, whose result must be as wanted. Returns the machine that ran it."""

@@ -10,22 +10,24 @@ from typing import TYPE_CHECKING, Dict, List, Optional, Tuple, Type
 sys.path.insert(0, str(Path(__file__).resolve().parents[1] / "tools"))
 from aarch64.machine import Aarch64  # noqa: E402
 from assemblers import ASSEMBLERS  # noqa: E402
-from cut import table_of, without_kernels  # noqa: E402
+from cut import END, table_of, without_kernels  # noqa: E402
 from image import linked  # noqa: E402
-from levels import Level, levels  # noqa: E402
-from x86_64.machine import X86  # noqa: E402
+from levels import Level, levels, levels_for_windows  # noqa: E402
+from x86_64.machine import X86, WindowsX86  # noqa: E402
 
 if TYPE_CHECKING:
     from machine import Machine, Step
 
 #: The levels, by their names.
-LEVELS: Dict[str, Level] = {level.name: level for level in levels()}
+LEVELS: Dict[str, Level] = {level.name: level for level in (*levels(), *levels_for_windows())}
 #: The options of objdump for each processor.
 _OPTIONS: Dict[str, List[str]] = {"x86_64": ["-Mintel"], "aarch64": []}
-#: The level whose file has the library, and its own kernels, where there are kernels of others.
-_LIBRARY = next(level for level in LEVELS.values() if level.is_library and level.has_kernels)
+#: The machine of each platform.
+_MACHINES: "Dict[str, Type[Machine]]" = {"x86_64": X86, "aarch64": Aarch64, "windows-x86_64": WindowsX86}
+#: For each platform, the level whose file has the library, and its own kernels.
+_LIBRARIES = {level.platform: level for level in LEVELS.values() if level.is_library}
 #: The choice of a level, in the place of what processor_level.c does.
-_CHOICE = "\t.data\n\t.globl\tyurewha_kernels\nyurewha_kernels:\n\t.quad\t{}\n\t.section\t.note.GNU-stack,\"\",@progbits\n"
+_CHOICE = "\t.data\n\t.globl\tyurewha_kernels\nyurewha_kernels:\n\t.quad\t{}\n"
 
 
 class Library:
@@ -33,24 +35,27 @@ class Library:
 
     def __init__(self, level: Level, assembler: str, work: Path, text: Optional[str] = None) -> None:
         self.level = level
-        tools = ASSEMBLERS[level.processor]
+        tools = ASSEMBLERS[level.platform]
         compiler = tools.gcc if assembler == "gcc" else tools.clang
         texts = [level.assembly.read_text() if text is None else text]
         if level.has_kernels:
-            texts.append(_CHOICE.format(table_of(level)))
+            texts.append(_CHOICE.format(table_of(level)) + ("" if level.is_for_windows else END))
         if not level.is_library:
-            texts.append(without_kernels(_LIBRARY, _LIBRARY.assembly.read_text()))
+            library = _LIBRARIES[level.platform]
+            texts.append(without_kernels(library, library.assembly.read_text()))
         files = [work / f"part{i}.s" for i, _ in enumerate(texts)]
         for file, part in zip(files, texts):
             file.write_text(part)
-        self.image = linked(files, compiler, tools.objdump[:-len("objdump")], _OPTIONS[level.processor], work)
+        # Also for Windows, the linker is that of Linux.
+        binutils = "" if level.is_for_windows else tools.objdump[:-len("objdump")]
+        self.image = linked(files, compiler, binutils, _OPTIONS[level.processor], work)
         #: What the instructions do that were met, and where the next one is.
         self.decoded: Dict[int, Tuple[Step, int]] = {}
 
     @property
     def kind(self) -> "Type[Machine]":
         """The machine of its processor."""
-        return X86 if self.level.processor == "x86_64" else Aarch64
+        return _MACHINES[self.level.platform]
 
     def machine(self) -> "Machine":
         """A machine that runs it."""

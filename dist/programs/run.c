@@ -1,6 +1,6 @@
 /*
  * Runs a proved program. Its assembly begins at yurewha_program, reads and writes by the C library's `read` and `write`, and asks this
- * file for the words of the command line, for errno and for how signals are handled. heap.c is its heap.
+ * file for the words of the command line, for errno and for how signals are handled (on Windows windows.c). heap.c is its heap.
  *
  * This file isn't proved. It does what the toolchain's own C code does for a program that the toolchain links.
  */
@@ -44,11 +44,13 @@ void yurewha_run_set_errno(int32_t number)
     errno = number;
 }
 
+#ifndef _WIN32
 /* A program begins by ignoring SIGPIPE, so that a pipe without a reader is a fault that it reports. */
 void yurewha_run_signal(int32_t number, intptr_t handler)
 {
     (void)signal(number, (void (*)(int))handler);
 }
+#endif
 
 int main(int argc, char **argv)
 {

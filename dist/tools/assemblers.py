@@ -1,4 +1,4 @@
-"""The compilers that assemble the files of each processor, and what reads their objects."""
+"""The compilers that assemble the files of each platform, and what reads their objects."""
 
 from __future__ import annotations
 
@@ -6,6 +6,8 @@ from dataclasses import dataclass
 from pathlib import Path
 
 from avx512 import fault_of
+from coff import difference_in_coff, with_long_jumps
+from instructions import Object, difference
 from levels import ROOT, Part
 from proving import Fault, run
 
@@ -25,14 +27,31 @@ ASSEMBLERS = {
     "aarch64": Assemblers(
         ["aarch64-linux-gnu-gcc"], ["clang", "--target=aarch64-linux-gnu"], "aarch64-linux-gnu-objdump",
         ("gcc-aarch64-linux-gnu", "clang")),
+    "windows-x86_64": Assemblers(
+        ["x86_64-w64-mingw32-gcc"], ["clang", "--target=x86_64-w64-mingw32"], "x86_64-w64-mingw32-objdump",
+        ("gcc-mingw-w64-x86-64", "clang")),
 }
 
 
 def refuse_other_avx512(level: Part, work: Path) -> None:
     """Refuses the file of a translated level that has AVX-512 where it may not."""
-    tools = ASSEMBLERS[level.processor]
+    tools = ASSEMBLERS[level.platform]
     run(ROOT / "bindings/install_packages", *tools.packages)
     for assembler in (tools.gcc, tools.clang):
         run(*assembler, "-c", level.assembly, "-o", work / "whole.o")
         if found := fault_of(tools.objdump, work / "whole.o"):
             raise Fault(f"{level.assembly.name} by {assembler[0]} has AVX-512 where it may not: {found}")
+
+
+def difference_of_assemblers(part: Part, work: Path) -> str | None:
+    """The first difference of what both compilers make of a part's file, or None."""
+    tools, source = ASSEMBLERS[part.platform], part.assembly
+    if part.is_for_windows:
+        source = work / "long_jumps.s"
+        source.write_text(with_long_jumps(part.assembly.read_text()))
+    first, second = work / "by_gcc.o", work / "by_clang.o"
+    run(*tools.gcc, "-c", source, "-o", first)
+    run(*tools.clang, "-c", source, "-o", second)
+    if part.is_for_windows:
+        return difference_in_coff(tools.objdump, first, second)
+    return difference(Object(tools.objdump, first), Object(tools.objdump, second))

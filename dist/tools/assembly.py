@@ -10,8 +10,9 @@ from typing import Iterable
 
 import avx512
 import cut
+import windows
 from cut import KERNELS
-from levels import Level, Part, Program, levels, version
+from levels import Level, Part, Program, parts, version
 from modules import kept_apart
 from proving import Fault, run, tool
 
@@ -69,6 +70,8 @@ def renamed(text: str, names: dict[str, str]) -> str:
 def clang(part: Part, module: Path, to: Path, *more: str) -> None:
     """Compiles a module by the words with which the toolchain's clang makes the object of a part, to assembly, or as `more` says."""
     words = [word for word in (part.folder / "words").read_text().split("\0")[:-1] if not word.startswith("--sysroot")]
+    if part.is_for_windows:
+        words = windows.words_for_windows(words)
     try:
         words[words.index("-c")] = "-S"
         words[words.index("-x") + 2] = str(module)
@@ -79,7 +82,8 @@ def clang(part: Part, module: Path, to: Path, *more: str) -> None:
 
 
 def module_of(part: Part, work: Path) -> Path:
-    """The part's module. For x86-64, its functions ask for unwind tables, and those that get AVX-512 stay apart.
+    """The part's module. For x86-64, its functions ask for unwind tables, and those that get AVX-512 stay apart. For Windows, it is
+    changed as windows.py says.
 
     On aarch64 unwind tables would change instructions; there, frame pointers lead a debugger on.
     """
@@ -88,6 +92,9 @@ def module_of(part: Part, work: Path) -> Path:
     module = work / "module.ll"
     run(tool("clang"), "-x", "ir", part.folder / "module", "-S", "-emit-llvm", "-Xclang", "-disable-llvm-passes", "-o", module)
     text = with_unwind_tables(module.read_text())
+    if part.is_for_windows:
+        # To a function that is called main LLVM would add a call of the C library's beginning.
+        text = windows.module_for_windows(text.replace("@main(", f"@{ENTRY}("))
     if part.is_translated:
         text = kept_apart(text, avx512.FUNCTIONS, avx512.MOST_BITS)
     module.write_text(text)
@@ -114,13 +121,14 @@ def compiled(part: Part) -> str:
             clang(part, module, made, "-Xclang", "-disable-llvm-passes")
         else:
             clang(part, module_of(part, Path(work)), made)
-        return NEEDLESS.sub("", made.read_text())
+        text = NEEDLESS.sub("", made.read_text())
+        return windows.plain(text) if part.is_for_windows else text
 
 
 def whole(part: Level | Program) -> str:
     """The assembly of a part, whose kernels are called as those of the library."""
     if part.has_kernels:
-        library = optimized(next(it for it in levels() if it.processor == part.processor))
+        library = optimized(next(it for it in parts() if it.platform == part.platform))
         cut.refuse_other_calls(library, optimized(part), part.name, has_all=isinstance(part, Level))
     return compiled(part)
 
@@ -132,11 +140,13 @@ def assembly(part: Level | Program, sources: str) -> str:
 
 def finished(part: Level | Program, text: str, sources: str) -> str:
     """The file of a part, of the assembly that clang made."""
-    text = renamed(text, OWN_NAMES)
+    text = renamed(text, {**OWN_NAMES, **windows.OWN_NAMES} if part.is_for_windows else OWN_NAMES)
     exports = re.findall(r"(?m)^\t\.globl\t(.*)$", text)
     if not exports or not all(re.fullmatch(r"yurewha_\w+", name) for name in exports):
         raise Fault(f"the module exports {', '.join(exports) or 'nothing'}")
-    if part.has_kernels:
+    if part.is_for_windows:
+        text = windows.in_coff(in_file(part, text)) + (windows.PROBE_TEXT if part.is_whole else "")
+    elif part.has_kernels:
         text = PROTECTION_NOTE + in_file(part, with_branch_targets(text, [*exports, *KERNELS]))
     return HEAD.format(version=version(), what=what_is(part), sources=sources) + text
 

@@ -13,6 +13,7 @@ from typing import Iterable
 from levels import Level
 from modules import has_vectors_above
 from proving import Fault
+from windows import PROBE, in_coff
 
 #: The functions that the rest of the library, or a program, calls by stubs, in the order of the tables.
 KERNELS = (
@@ -59,7 +60,10 @@ OF_PROCESSOR = re.compile(r'"(?:target-cpu|target-features|tune-cpu|min-legal-ve
 SECTION = re.compile(r"(?m)^(?:\t\.type\t\S+,@object\n)?\t\.section\t(.*)\n")
 LABEL = re.compile(r'(?m)^("[^"\n]*"|[\w.$]+):')
 NAME = re.compile(r'"[^"\n]*"|[A-Za-z_.$][\w.$]*')
+#: What ends each file for Linux.
 END = '\t.section\t".note.GNU-stack","",@progbits\n'
+#: What says of a label that it is a function's, for Linux and for Windows.
+FUNCTION = re.compile(r'(?m)^\t\.(?:type\t"?([^"\n]*?)"?,@function|def\t"?([^"\n]*?)"?;)$')
 
 
 def calls_of(names: Iterable[str], module: str) -> dict[str, str]:
@@ -97,7 +101,7 @@ def stub(kernel: str) -> str:
 
 def table_of(level: Level) -> str:
     """The name of a level's table."""
-    return f"yurewha_{level.name.replace('-', '_')}_kernels"
+    return f"yurewha_{level.name_for_linux.replace('-', '_')}_kernels"
 
 
 def stubs() -> list[str]:
@@ -108,13 +112,14 @@ def stubs() -> list[str]:
 def table(level: Level) -> str:
     """Where the level's kernels are."""
     entries = "".join(f'\t.quad\t"{kernel}"\n' for kernel in KERNELS)
-    return TABLE.format(table=table_of(level), entries=entries, size=8 * len(KERNELS))
+    text = TABLE.format(table=table_of(level), entries=entries, size=8 * len(KERNELS))
+    return in_coff(text) if level.is_for_windows else text
 
 
 def sections(text: str) -> tuple[str, list[str], str]:
     """What stands before the first section of the library, its sections, and the end."""
     starts = [found.start() for found in SECTION.finditer(text) if not found[1].startswith(".note")]
-    end = text.rindex(END)
+    end = text.rindex(END) if END in text else len(text)
     places = [it for it in starts if it < end] + [end]
     return text[:places[0]], [text[here:there] for here, there in zip(places, places[1:])], text[end:]
 
@@ -134,7 +139,7 @@ def reached(parts: list[str], roots: Iterable[str]) -> list[str]:
 
 def functions(parts: Iterable[str]) -> set[str]:
     """The names of the functions in some sections."""
-    return {name for part in parts for name in re.findall(r'(?m)^\t\.type\t"?([^"\n]*?)"?,@function$', part)}
+    return {found[1] or found[2] for part in parts for found in FUNCTION.finditer(part)}
 
 
 def with_stubs(text: str) -> str:
@@ -176,7 +181,7 @@ def with_empty_kernels(text: str) -> str:
 
 
 def without_kernels(level: Level, text: str) -> str:
-    """The file of a library without its own kernels, what they alone call, and their table. All data stay."""
+    """The file of a library without its own kernels, what they alone call, and their table. All data stay, and the probe of stacks."""
     before, parts, end = sections(text.replace(table(level), ""))
-    own = {part for part in reached(parts, LABELS) if functions([part])}
+    own = {part for part in reached(parts, LABELS) if functions([part]) - {PROBE}}
     return before + "".join(part for part in parts if part not in own) + end

@@ -38,7 +38,7 @@ def dumped(objdump: str, path: Path, *flags: str) -> dict[str, list[str]]:
         start = re.fullmatch(r"(?:Disassembly of section|Contents of section|RELOCATION RECORDS FOR) \[?(.*?)\]?:", line)
         if start:
             section = start[1]
-        elif section.startswith((".text", ".rodata")) or "-t" in flags:
+        elif section.startswith((".text", ".rodata", ".rdata", ".pdata", ".xdata")) or "-t" in flags:
             found.setdefault(section, []).append(line)
     return found
 

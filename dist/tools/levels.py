@@ -1,10 +1,11 @@
-"""The files of assembly: of the library, for each level of processors, and of the programs; and the sources that they are made of."""
+"""The files of assembly: of the library, for each level of processors, and of the programs, for Linux and Windows; and the sources that
+they are made of."""
 
 from __future__ import annotations
 
 import hashlib
 import os
-from dataclasses import dataclass
+from dataclasses import dataclass, replace
 from pathlib import Path
 from typing import Iterator
 
@@ -16,6 +17,8 @@ OUT = DIST / "out"
 WASM = ROOT / "bindings/wasm/yurewha/yurewha.wasm"
 #: The level whose module is translated after the proof.
 TRANSLATED = "x86-64-v4"
+#: What the names of levels for Windows begin with. They have the modules that are proved for Linux.
+WINDOWS = "windows-"
 #: The crate of the library, and those of the programs.
 LIBRARY = "yurewha_c"
 PROGRAMS = ("xetroot", "xetrange")
@@ -41,8 +44,23 @@ class Part:
 
     @property
     def folder(self) -> Path:
-        """Where what the toolchain makes of the crate is kept."""
-        return OUT / self.name
+        """Where what the toolchain makes of the crate is kept. For Windows it makes nothing of its own."""
+        return OUT / self.name_for_linux
+
+    @property
+    def is_for_windows(self) -> bool:
+        """Whether it is for Windows, and not for Linux. Then there is no object that the toolchain built."""
+        return WINDOWS in self.name
+
+    @property
+    def name_for_linux(self) -> str:
+        """The name of what has the same module for Linux."""
+        return self.name.replace(WINDOWS, "")
+
+    @property
+    def platform(self) -> str:
+        """The processor, after the system if that isn't Linux."""
+        return f"{WINDOWS if self.is_for_windows else ''}{self.processor}"
 
     @property
     def proved(self) -> Path:
@@ -52,7 +70,7 @@ class Part:
     @property
     def is_translated(self) -> bool:
         """Whether its functions differ from those of the object that the toolchain builds."""
-        return self.name == TRANSLATED
+        return self.name_for_linux == TRANSLATED
 
 
 @dataclass(frozen=True)
@@ -88,7 +106,7 @@ class Program(Part):
 
 
 def levels() -> list[Level]:
-    """The levels of targets.txt, in its order."""
+    """The levels of targets.txt, in its order, for Linux."""
     lines = [line.split() for line in (DIST / "targets.txt").read_text().splitlines() if not line.startswith("#")]
     processors = [processor for _, processor, *_ in lines]
     return [
@@ -97,18 +115,38 @@ def levels() -> list[Level]:
     ]
 
 
-def programs() -> list[Program]:
-    """The programs, for each processor."""
+def levels_for_windows() -> list[Level]:
+    """The levels of x86-64, for Windows."""
+    return [replace(level, name=WINDOWS + level.name) for level in levels() if level.processor == "x86_64"]
+
+
+def programs_over(libraries: list[Level]) -> list[Program]:
+    """The programs, for each library of some levels."""
     return [
         Program(f"{name}-{level.name}", name, level.processor, level.flags, level.has_kernels, level)
-        for level in levels() if level.is_library
+        for level in libraries if level.is_library
         for name in PROGRAMS
     ]
 
 
-def parts() -> list[Level | Program]:
-    """Whatever has a file of assembly."""
+def programs() -> list[Program]:
+    """The programs, for each processor, for Linux."""
+    return programs_over(levels())
+
+
+def parts_for_linux() -> list[Level | Program]:
+    """Whatever has a file of assembly for Linux. Each has a module of its own."""
     return [*levels(), *programs()]
+
+
+def parts_for_windows() -> list[Level | Program]:
+    """Whatever has a file of assembly for Windows."""
+    return [*levels_for_windows(), *programs_over(levels_for_windows())]
+
+
+def parts() -> list[Level | Program]:
+    """Whatever has a file of assembly, for Linux first."""
+    return [*parts_for_linux(), *parts_for_windows()]
 
 
 def version() -> str:

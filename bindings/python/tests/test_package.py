@@ -147,6 +147,21 @@ def test_where_the_library_is_found(tmp_path):
     assert found({**place, "YUREWHA_LIB_DIR": str(loader)}, tmp_path) == str(own / _library.NAME)
 
 
+@pytest.mark.skipif(not os.path.isabs(_library.PATH), reason="the library is the loader's")
+def test_where_the_dll_is_found(tmp_path):
+    """By the names of Windows, where this system's library stands for the DLL."""
+    copy = tmp_path / "bindings" / "python" / "yurewha"
+    shutil.copytree(PACKAGE, copy, ignore=shutil.ignore_patterns("lib", "__pycache__"))
+    place = {"PYTHONPATH": str(copy.parent)}
+    statement = "import ctypes, pathlib, platform, sys; sys.platform = 'win32'; import yurewha.__main__ as m; print(m.loaded())"
+    assert found(place, tmp_path, statement).startswith("ImportError: yurewha: libyurewha-1.dll can't be loaded")
+    out = tmp_path / "bindings" / "out" / "windows-x86_64" / "bin"
+    out.mkdir(parents=True)
+    shutil.copy(Path(_library.PATH).resolve(), out / "libyurewha-1.dll")
+    assert found(place, tmp_path, statement) == str(out / "libyurewha-1.dll")
+    assert "which has no libyurewha-1.dll" in found({**place, "YUREWHA_LIB_DIR": str(tmp_path)}, tmp_path, statement)
+
+
 LEVELS = {"x86_64": ("x86-64", "x86-64-v2", "x86-64-v3", "x86-64-v4"), "aarch64": ("aarch64",)}
 
 

@@ -4,16 +4,16 @@ import ctypes
 from typing import List
 
 from . import __version__
-from ._library import LEVEL, NAME, PATH, short
+from ._library import IS_WINDOWS, LEVEL, NAME, PATH, short
 
 
 def loaded() -> str:
-    """The path of the loaded library, even if the system's loader found it.
+    """The path of the loaded library, even if the system's loader found it; on Windows its name in that case.
 
     >>> NAME in loaded()
     True
     """
-    if "/" not in PATH:
+    if PATH == NAME and not IS_WINDOWS:
         with open("/proc/self/maps", encoding="utf-8") as maps:
             for line in maps:
                 file = line.rstrip("\n").split(maxsplit=5)[-1]

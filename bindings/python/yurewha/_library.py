@@ -17,7 +17,8 @@ from typing import Any, Dict, List, Optional, Tuple
 from ._calls import named
 from ._declarations import DECLARATIONS, MEMBERS, STRUCTS
 
-NAME = "libyurewha.so.1"
+IS_WINDOWS = sys.platform == "win32"
+NAME = "libyurewha-1.dll" if IS_WINDOWS else "libyurewha.so.1"
 
 #: A call releases the interpreter's lock if its message has at least this many bytes, or its list this many chunks or nodes.
 #: Shorter calls take less time than passing the lock between threads.
@@ -135,7 +136,8 @@ def find(package: Optional[Path] = None) -> str:
             raise ImportError(f"yurewha: YUREWHA_LIB_DIR is {folder}, which has no {NAME}")
         return str(named)
     if package.parent.name == "python" and package.parent.parent.name == "bindings":
-        built = package.parent.parent / "out" / platform.machine() / "lib" / NAME
+        folder_of_system = "windows-x86_64/bin" if IS_WINDOWS else f"{platform.machine()}/lib"
+        built = package.parent.parent / "out" / folder_of_system / NAME
         if built.exists():
             return str(built)
     return NAME

@@ -85,6 +85,7 @@ fn run(target: &str, variables: &[(&str, &str)]) -> Output {
         .env("TARGET", target)
         .env("CARGO_CFG_TARGET_ARCH", parts[0].replace("_be", ""))
         .env("CARGO_CFG_TARGET_OS", os)
+        .env("CARGO_CFG_TARGET_ENV", parts.get(3).unwrap_or(&""))
         .env("CARGO_CFG_TARGET_POINTER_WIDTH", width)
         .env("CARGO_CFG_TARGET_ENDIAN", endian)
         .envs(variables.iter().copied());
@@ -109,11 +110,14 @@ fn all_levels_of_the_targets_processor_are_compiled() {
     let assembly = ["x86-64.s", "x86-64-v2.s", "x86-64-v3.s", "x86-64-v4.s"];
     let x86_64 = [&unproved[..], &assembly].concat();
     let aarch64 = [&unproved[..], &["aarch64.s"]].concat();
+    let windows = assembly.map(|name| format!("windows-{name}"));
+    let windows = [&unproved[..], &windows.each_ref().map(String::as_str)].concat();
     for (target, files) in [
         ("x86_64-unknown-linux-gnu", &x86_64),
         ("x86_64-unknown-linux-musl", &x86_64),
         ("aarch64-unknown-linux-gnu", &aarch64),
         ("aarch64-unknown-linux-musl", &aarch64),
+        ("x86_64-pc-windows-gnu", &windows),
     ] {
         let output = run(target, &[]);
         assert!(output.status.success(), "{output:?}");
@@ -129,13 +133,17 @@ fn a_target_without_assembly_is_refused() {
         "aarch64_be-unknown-linux-gnu",
         "riscv64gc-unknown-linux-gnu",
         "x86_64-pc-windows-msvc",
-        "x86_64-pc-windows-gnu",
+        "i686-pc-windows-gnu",
+        "aarch64-pc-windows-gnullvm",
         "x86_64-apple-darwin",
         "aarch64-apple-darwin",
     ] {
         let output = run(target, &[]);
         let said = String::from_utf8(output.stderr.clone()).unwrap();
-        let wanted = format!("yurewha: the library is for Linux on x86_64 and aarch64, not for {target}\n");
+        let wanted = format!(
+            "yurewha: the library is for Linux on x86_64 and aarch64, and for x86_64-pc-windows-gnu, not for {target}; \
+             depend on it for these targets alone, and on xet-core-structures for others\n"
+        );
         assert!(!output.status.success() && compiled(&output).is_empty(), "{target}");
         assert_eq!(said, wanted);
     }

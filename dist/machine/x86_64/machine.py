@@ -1,9 +1,9 @@
-"""An x86-64 processor, and the rules of calls that its functions follow."""
+"""An x86-64 processor, and the rules of calls that its functions follow on Linux and on Windows."""
 
 from __future__ import annotations
 
 import re
-from typing import Callable, Dict, List, Optional, Sequence
+from typing import Callable, ClassVar, Dict, List, Optional, Sequence, Tuple
 
 from fault import Fault, number
 from machine import RETURN, Machine
@@ -13,18 +13,19 @@ from x86_64.operands import (
     R8, R9, R10, R11, R12, R13, R14, R15, RAX, RBP, RBX, RCX, RDI, RDX, RSI, RSP, name_and_operands, vector_of,
 )
 
-#: The registers that a function gives back as they were.
-_KEPT = (RSP, RBX, RBP, R12, R13, R14, R15)
-
 #: What an instruction does. It returns where the code goes on, or None for the next instruction.
 Step = Callable[["X86"], Optional[int]]
 
 
 class X86(Machine):
     SIZES = (16, 32, 16)
-    ARGUMENTS = (RDI, RSI, RDX, RCX, R8, R9)
+    ARGUMENTS: ClassVar[Tuple[int, ...]] = (RDI, RSI, RDX, RCX, R8, R9)
     RESULT, STACK = RAX, RSP
-    SCRATCH = (RAX, RCX, RDX, RSI, RDI, R8, R9, R10, R11)
+    SCRATCH: ClassVar[Tuple[int, ...]] = (RAX, RCX, RDX, RSI, RDI, R8, R9, R10, R11)
+    #: The registers that a function gives back as they were.
+    KEPT: ClassVar[Tuple[int, ...]] = (RSP, RBX, RBP, R12, R13, R14, R15)
+    #: How many bytes a caller leaves free on the stack, below the arguments there.
+    ROOM = 0
     BRANCH = re.compile(r"j(?!mp)")
 
     def get(self, register: int, size: int) -> Value:
@@ -70,12 +71,12 @@ class X86(Machine):
         """Arguments for which there is no register are on the stack."""
         super().give(arguments, vectors)
         others = arguments[len(self.ARGUMENTS):]
-        self.general[RSP] = self.number(RSP) - (8 * len(others) + 15) // 16 * 16
+        self.general[RSP] = self.number(RSP) - (self.ROOM + 8 * len(others) + 15) // 16 * 16
         for i, value in enumerate(others):
-            self.write(self.number(RSP) + 8 * i, 8, value)
+            self.write(self.number(RSP) + self.ROOM + 8 * i, 8, value)
 
     def kept(self) -> Dict[str, object]:
-        return {f"register {register}": self.general[register] for register in _KEPT}
+        return {f"register {register}": self.general[register] for register in self.KEPT}
 
     def forget_scratch_vectors(self) -> None:
         self.vectors = [[unknown() for _ in range(16)] for _ in range(32)]
@@ -89,3 +90,27 @@ class X86(Machine):
         if step is None:
             raise Fault("this instruction isn't known")
         return step
+
+
+class WindowsX86(X86):
+    """The same by Windows' rules: four arguments in registers, the others on the stack, and vectors in memory alone."""
+
+    ARGUMENTS = (RCX, RDX, R8, R9)
+    SCRATCH = (RAX, RCX, RDX, R8, R9, R10, R11)
+    KEPT = (*X86.KEPT, RSI, RDI)
+    ROOM = 32
+    #: The vectors of which a function gives back the first words as they were, and how many of their words.
+    KEPT_VECTORS, KEPT_WORDS = range(6, 16), 4
+
+    def give(self, arguments: Sequence[Value], vectors: Sequence[Sequence[Word]]) -> None:
+        if vectors:
+            raise Fault("vectors are passed by their places")
+        super().give(arguments, ())
+
+    def kept(self) -> Dict[str, object]:
+        return {**super().kept(), **{f"vector {i}": self.vectors[i][:self.KEPT_WORDS] for i in self.KEPT_VECTORS}}
+
+    def forget_scratch_vectors(self) -> None:
+        for i, words in enumerate(self.vectors):
+            kept = self.KEPT_WORDS if i in self.KEPT_VECTORS else 0
+            words[kept:] = [unknown() for _ in words[kept:]]
