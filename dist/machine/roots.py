@@ -82,7 +82,7 @@ def run_parent_hashes(caller: Caller, groups: Sequence[Tuple[int, int]]) -> List
 
 
 def check_texts(library: Library, each: Sequence[int]) -> Machine:
-    """`parent_hashes`, for every texts of some lengths. The groups may not be read."""
+    """`parent_hashes`, for all texts of some lengths. The groups may not be read."""
     forget()
     texts = [bytes_of(f"text {k}", length) for k, length in enumerate(each)]
     wanted = Wanted(hashes_of, *texts)
