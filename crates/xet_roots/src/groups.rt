@@ -115,7 +115,9 @@ fn write_line(text: &mut [u8], node: &Node, end: usize) -> usize
 }
 
 // Writes the text of a group, one line per node, so that it ends at the end of `text`. Returns where it starts. It
-// writes backwards because the last digit of a number is computed first.
+// writes backwards because the last digit of a number is computed first. It stays a function, so that machine code that hashes texts
+// can be run on any text, apart from what writes them.
+#[inline(never)]
 fn write_text(text: &mut [u8], group: &[Node]) -> usize
     requires few { length group.now ≤ MAX_GROUP_LEN }
     requires room { length text.old ≡ MAX_TEXT_LEN }
