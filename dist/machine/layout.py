@@ -85,6 +85,6 @@ def of_groups(name: str) -> str:
 
 
 def part_of(text: str, function: str) -> Tuple[int, int]:
-    """Where a function of keyed_blake3 begins and ends in a file of assembly."""
-    start = text.index(f'\n"{inner(function)}":\n')
+    """Where a function begins and ends in a file of assembly: one of keyed_blake3, or one that takes groups of nodes."""
+    start = text.index(f'\n"{function if function.startswith(of_groups("")) else inner(function)}":\n')
     return start, text.index(".Lfunc_end", start)

@@ -10,7 +10,7 @@ from layout import part_of
 
 @dataclass(frozen=True)
 class Plant:
-    """An error: what it is, the function of keyed_blake3 that has it, a pattern, what stands in the place of what it finds, and which
+    """An error: what it is, the function that has it, a pattern, what stands in the place of what it finds, and which
     place of the function that is, counted from 0 or from the end."""
 
     what: str

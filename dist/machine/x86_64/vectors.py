@@ -150,7 +150,7 @@ _OF_TWO: Dict[str, OfTwo] = {
     "paddd": _each(add), "paddq": _each_pair(add_64), "psubq": _each_pair(lambda x, y: (number(x) - number(y)) & M64),
     "pmuludq": _each_pair(lambda x, y: number(low(x)) * number(low(y))),
     "pcmpgtq": _each_pair(lambda x, y: M64 * (_signed(number(x)) > _signed(number(y)))),
-    "pcmpeqd": _each(lambda x, y: M32 * (number(x) == number(y))),
+    "pcmpeqd": _each(lambda x, y: M32 if x is y else M32 * (number(x) == number(y))),
     "punpckldq": _each_lane(lambda a, b: [a[0], b[0], a[1], b[1]]), "punpckhdq": _each_lane(lambda a, b: [a[2], b[2], a[3], b[3]]),
     "punpcklqdq": _each_lane(lambda a, b: [*a[:2], *b[:2]]), "punpckhqdq": _each_lane(lambda a, b: [*a[2:], *b[2:]]),
     "pshufb": _exchanged_bytes, "punpcklbw": _mixed_bytes(0), "punpckhbw": _mixed_bytes(1),
