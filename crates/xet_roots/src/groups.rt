@@ -9,7 +9,10 @@ ghost use Rattle.xet_roots.specs.Groups.{Node, IsGroup, is_cut};
 ghost use Rattle.xet_roots.specs.Roots.{total_size, node_line, group_text, parent_hash};
 ghost use Rattle.xet_roots.specs.Steps.Scan.{IsFirstGroup, AreFirstGroups};
 
-use xet_hash::data_hash::{MerkleHash, compute_internal_node_hash, compute_internal_node_hashes};
+use xet_hash::data_hash::{
+    MerkleHash, compute_internal_node_hash, compute_internal_node_hashes,
+    compute_two_internal_node_hashes,
+};
 
 /// One in this many hashes is a natural cut. A group has 5.5 nodes on average, since no group ends before its third
 /// node unless the list does, and none has more than nine.
@@ -23,6 +26,9 @@ pub const MAX_GROUP_LEN: usize = 9;
 
 /// The most groups whose parents are made at once.
 pub const MOST_AT_ONCE: usize = 16;
+
+// The most groups whose texts are hashed two by two. More take less time side by side.
+const FEW_GROUPS: usize = 8;
 
 // The first index in a group at which a natural cut ends the group.
 const FIRST_CUT_INDEX: usize = MIN_GROUP_LEN - 1;
@@ -156,9 +162,43 @@ pub(crate) fn parent_hash(group: &[Node]) -> MerkleHash
     compute_internal_node_hash(&text[start..])
 }
 
-// Returns the hashes of groups' parents. The texts are hashed side by side.
-#[inline(never)]
-pub(crate) fn parent_hashes(groups: &[&[Node]]) -> [MerkleHash; MOST_AT_ONCE]
+// Returns the hashes of two groups' parents. The two texts are hashed at once.
+#[tactic(auto, unfolding(crate::specs::Roots::parent_hash))]
+fn two_parent_hashes(first: &[Node], second: &[Node]) -> (MerkleHash, MerkleHash)
+    requires first { length first.now ≤ MAX_GROUP_LEN }
+    requires second { length second.now ≤ MAX_GROUP_LEN }
+    ensures first { result.0 ≡ parent_hash first.now }
+    ensures second { result.1 ≡ parent_hash second.now }
+{
+    let mut first_text = [0; MAX_TEXT_LEN];
+    let first_start = write_text(&mut first_text, first);
+    let mut second_text = [0; MAX_TEXT_LEN];
+    let second_start = write_text(&mut second_text, second);
+    compute_two_internal_node_hashes(&first_text[first_start..], &second_text[second_start..])
+}
+
+// Returns the hashes of groups' parents, two by two.
+fn hashes_two_by_two(groups: &[&[Node]]) -> [MerkleHash; MOST_AT_ONCE]
+    requires groups { length groups.now ≤ MOST_AT_ONCE }
+    requires few { (j : ℕ) → j < length groups.now → length (get_or (map (λ g. g.now) groups.now) j []) ≤ MAX_GROUP_LEN }
+    ensures { (j : ℕ) → j < length groups.now → get_or result j [] ≡ parent_hash (get_or (map (λ g. g.now) groups.now) j []) }
+{
+    let mut hashes = [MerkleHash::default(); MOST_AT_ONCE];
+    let mut made = 0;
+    'groups: while made + 1 < groups.len() {
+        let (first, second) = two_parent_hashes(groups[made], groups[made + 1]);
+        hashes[made] = first;
+        hashes[made + 1] = second;
+        made += 2;
+    }
+    if made < groups.len() {
+        hashes[made] = parent_hash(groups[made]);
+    }
+    hashes
+}
+
+// Returns the hashes of groups' parents, side by side.
+fn hashes_side_by_side(groups: &[&[Node]]) -> [MerkleHash; MOST_AT_ONCE]
     requires groups { length groups.now ≤ MOST_AT_ONCE }
     requires few { (j : ℕ) → j < length groups.now → length (get_or (map (λ g. g.now) groups.now) j []) ≤ MAX_GROUP_LEN }
     ensures { (j : ℕ) → j < length groups.now → get_or result j [] ≡ parent_hash (get_or (map (λ g. g.now) groups.now) j []) }
@@ -174,6 +214,19 @@ pub(crate) fn parent_hashes(groups: &[&[Node]]) -> [MerkleHash; MOST_AT_ONCE]
         texts[j] = &text[starts[j]..];
     }
     compute_internal_node_hashes(&texts[..groups.len()])
+}
+
+// Returns the hashes of groups' parents.
+#[inline(never)]
+pub(crate) fn parent_hashes(groups: &[&[Node]]) -> [MerkleHash; MOST_AT_ONCE]
+    requires groups { length groups.now ≤ MOST_AT_ONCE }
+    requires few { (j : ℕ) → j < length groups.now → length (get_or (map (λ g. g.now) groups.now) j []) ≤ MAX_GROUP_LEN }
+    ensures { (j : ℕ) → j < length groups.now → get_or result j [] ≡ parent_hash (get_or (map (λ g. g.now) groups.now) j []) }
+{
+    if groups.len() <= FEW_GROUPS {
+        return hashes_two_by_two(groups);
+    }
+    hashes_side_by_side(groups)
 }
 
 // Returns the sum of the sizes in a group.

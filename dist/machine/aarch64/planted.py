@@ -15,7 +15,7 @@ PLANTS: Dict[str, List[Plant]] = {
         Plant("a rotation by 16 bits left out", of_width("chunks::take_block", 4), r"rev32\tv(\d+)\.8h, v(\d+)\.8h", r"mov\tv\1.16b, v\2.16b", 5),
         Plant("words of two lanes exchanged", of_width("chunks::take_block", 4), rf"zip1\t({V}), ({V}), ({V})", r"zip1\t\1, \3, \2", 1),
         Plant("a sum left out", of_width("chunks::take_block", 4), rf"\tadd\t{V}, {V}, {V}\n", "\tnop\n", 40),
-        Plant("the flags of the last block", of_width("chunks::chunk_values", 4), r"mov\tw5, #18", "mov\tw5, #16"),
+        Plant("the flags of the last block", of_width("chunks::chunk_values", 4), r"(movi\tv\d+\.4s), #18", r"\1, #16"),
         Plant("a rotation of another word", of_width("chunks::take_block", 4), rf"tbl\t({B}), {{ {B} }}, ({B})", r"tbl\t\1, { \2 }, \2", 9),
         Plant("an exchange of words in one block", "compression::compress", r"(ext\tv(\d+)\.16b, v\d+\.16b, v\d+\.16b), #4", r"\1, #12", 3),
         Plant("a shift in two blocks", "compression::two::compress_two_from", r"(shl\tv\d+\.4s, v\d+\.4s), #20", r"\1, #19", 2),
