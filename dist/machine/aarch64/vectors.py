@@ -6,7 +6,7 @@ A vector is a list of four words, the lowest first. An instruction that writes f
 from __future__ import annotations
 
 import re
-from typing import TYPE_CHECKING, Any, Callable, Dict, List, Optional
+from typing import TYPE_CHECKING, Any, Callable, Dict, Iterable, List, Optional
 
 from aarch64.operands import General, Place, Vector, is_general, is_vector, number_of
 from fault import Fault, number
@@ -94,7 +94,9 @@ _OF_TWO: Dict[str, ByUnits] = {
     "add": _by_units(_each_byte(lambda x, y: x + y), _each(add), _each_pair(add_64)),
     "cmhi": _by_units(_each_byte(lambda x, y: -(x > y)), _each(lambda x, y: M32 * (number(x) > number(y))),
                       _each_pair(lambda x, y: M64 * (number(x) > number(y)))),
-    "cmhs": _by_units(_each_byte(lambda x, y: -(x >= y))), "cmeq": _by_units(_each_byte(lambda x, y: -(x == y))),
+    "sub": _by_units(None, None, _each_pair(lambda x, y: (number(x) - number(y)) & M64)),
+    "cmhs": _by_units(_each_byte(lambda x, y: -(x >= y))),
+    "cmeq": _by_units(_each_byte(lambda x, y: -(x == y)), _each(lambda x, y: M32 * (number(x) == number(y)))),
     **{name: _by_units(_each(f)) for name, f in {
         "eor": lambda x, y: xor(x, y), "and": and_, "orr": or_, "bic": lambda x, y: and_(x, xor(y, M32)),
     }.items()},
@@ -320,6 +322,18 @@ def _listed(text: str) -> List[Vector]:
     return [Vector(it.strip() + (found[2] or "")) for it in found[1].split(",")]
 
 
+def _elements(words: Words, unit: int) -> List[Words]:
+    """The elements of vectors: the words of each, or its byte."""
+    parts, count = (bytes_of(words), 1) if unit == 1 else (words, unit // 4)
+    return [parts[i:i + count] for i in range(0, len(parts), count)]
+
+
+def _of_elements(elements: Iterable[Words], unit: int) -> Words:
+    """The words of vectors with some elements."""
+    parts = [part for its in elements for part in its]
+    return words_of_bytes(parts) if unit == 1 else parts
+
+
 def _structure(name: str, operands: List[str]) -> "Step":
     """`ld1`, `ld1r`, `ld2`, `st1` and `st2`: whole vectors, an element, or one that is repeated."""
     vectors, place = _listed(operands[0]), Place(operands[1:])
@@ -327,27 +341,21 @@ def _structure(name: str, operands: List[str]) -> "Step":
     if first.element is not None or name == "ld1r":
         return _of_element(name, first, place)
     size, count = first.size, len(vectors)
-    if name in ("ld2", "st2") and first.unit not in (1, 4) or name in ("ld1", "st1") and count > 2:
+    if name in ("ld2", "st2") and first.unit not in (1, 4, 8) or name in ("ld1", "st1") and count > 2:
         raise Fault("a structure that isn't known")
 
     def load(m: "Aarch64") -> None:
         address = place.address(m)
-        words = m.memory.load(address, count * size // 4)
-        parts = bytes_of(words) if first.unit == 1 else words
+        parts = _elements(m.memory.load(address, count * size // 4), first.unit)
         share = len(parts) // count
-        each = [parts[i::2] if name == "ld2" else parts[share * i:share * i + share] for i in range(count)]
-        for vector, its in zip(vectors, each):
-            put(m, vector, words_of_bytes(its) if first.unit == 1 else its)
+        for i, vector in enumerate(vectors):
+            its = parts[i::2] if name == "ld2" else parts[share * i:share * i + share]
+            put(m, vector, _of_elements(its, first.unit))
 
     def store(m: "Aarch64") -> None:
-        each = [get(m, vector) for vector in vectors]
-        if name == "st2":
-            parts = [bytes_of(its) if first.unit == 1 else its for its in each]
-            mixed = [it for both in zip(*parts) for it in both]
-            words = words_of_bytes(mixed) if first.unit == 1 else mixed
-        else:
-            words = [word for its in each for word in its]
-        m.memory.store(place.address(m), words)
+        each = [_elements(get(m, vector), first.unit) for vector in vectors]
+        elements = [it for both in zip(*each) for it in both] if name == "st2" else [it for its in each for it in its]
+        m.memory.store(place.address(m), _of_elements(elements, first.unit))
 
     return load if name.startswith("ld") else store
 

@@ -5,7 +5,7 @@ A vector is a list of words, the lowest first. `LANE` words are 128 bits, within
 
 from __future__ import annotations
 
-from typing import TYPE_CHECKING, Any, Callable, Dict, List, Optional
+from typing import TYPE_CHECKING, Any, Callable, Dict, List, Optional, Tuple
 
 from fault import Fault, number
 from x86_64.operands import REGISTERS, Place, Source, few_words_of, general, number_of, value_of, vector_of, words_of
@@ -57,6 +57,12 @@ class Form:
     def sources(self) -> List[Source]:
         """The last two operands. Before AVX, one of them in memory has to be aligned."""
         return [self.source(-2), self.source(-1, is_aligned=not self.is_avx)]
+
+    def choices(self) -> Tuple[Source, Source, Source]:
+        """Two vectors, and the one that chooses from them. Before AVX, the first one is also where the result goes."""
+        if self.is_avx:
+            return self.source(1), self.source(2), self.source(3)
+        return self.source(0), self.source(1, is_aligned=True), self.source(2)
 
     def into(self, width: int, result: Callable[["X86"], Vector], place: int = 0) -> "Step":
         """What writes a result of so many words to a register. What is above it becomes 0 by AVX, and stays by SSE."""
@@ -448,9 +454,9 @@ def _widened(it: Form) -> "Step":
 
 
 def _blend_by_signs(it: Form) -> "Step":
-    """`vblendvps` and `vblendvpd`, whose choices are numbers."""
+    """`blendvps` and `blendvpd`, whose choices are numbers."""
     unit = 1 if it.name == "blendvps" else 2
-    x, y, signs = it.source(1), it.source(2), it.source(3)
+    x, y, signs = it.choices()
 
     def result(m: "X86") -> Vector:
         chosen = [number(sign) >> 31 for sign in signs(m)[unit - 1::unit]]
@@ -461,7 +467,7 @@ def _blend_by_signs(it: Form) -> "Step":
 
 def _blend_bytes(it: Form) -> "Step":
     """`pblendvb`, whose choices are numbers."""
-    x, y, signs = (it.source(1), it.source(2), it.source(3)) if it.is_avx else (it.source(0), it.source(1, is_aligned=True), it.source(2))
+    x, y, signs = it.choices()
 
     def result(m: "X86") -> Vector:
         chosen = [number(sign) >> 7 for sign in _bytes_of(signs(m))]
