@@ -21,6 +21,7 @@ KERNELS = (
     "keyed_blake3::compression::compress",
     "keyed_blake3::hasher::Hasher::update",
     "keyed_blake3::hasher::Hasher::finalize",
+    "xet_roots::groups::two_parent_hashes",
     "xet_roots::groups::parent_hashes",
     "xet_roots::groups::write_text",
 )

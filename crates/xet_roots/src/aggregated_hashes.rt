@@ -11,10 +11,17 @@ ghost use Rattle.xet_roots.specs.Steps.Room.{most_made};
 
 use crate::error::CoreError;
 pub use crate::groups::{AGGREGATED_HASHES_MEAN_TREE_BRANCHING_FACTOR, Node};
-use crate::groups::{MIN_GROUP_LEN, MOST_AT_ONCE, first_groups, group_size, total_size};
+use crate::groups::{
+    MAX_GROUP_LEN, MIN_GROUP_LEN, MOST_AT_ONCE, first_group_len, first_groups, group_size, parent,
+    total_size, two_parents,
+};
 use crate::parent_maker::{ParentHashes, ParentMaker};
 use std::alloc::{AllocError, Allocator};
 use xet_hash::data_hash::{HMACKey, MerkleHash};
+
+// The nodes of as many groups as have their parents made at once. In fewer nodes, groups go two by two, since a call for several has
+// to clear memory for all that there may be.
+const ENOUGH: usize = MOST_AT_ONCE * MAX_GROUP_LEN;
 
 // Returns the parents of the first groups of some nodes, as many as are made at once; how many they are; and how many nodes they have.
 fn first_parents<P: ParentMaker>(
@@ -55,10 +62,22 @@ pub fn parents<A: Allocator, P: ParentMaker>(
     // Each group but the last has at least three nodes.
     let mut made = Vec::with_capacity(alloc, nodes.len().div_ceil(MIN_GROUP_LEN))?;
     let mut rest = nodes;
-    'groups: while !rest.is_empty() {
+    'batches: while rest.len() >= ENOUGH {
         let (parents, count, read) = first_parents(rest, maker);
         made.extend_from_slice(&parents[..count])?;
         let (_, after) = rest.split_at(read);
+        rest = after;
+    }
+    'groups: while !rest.is_empty() {
+        let (first, after) = rest.split_at(first_group_len(rest));
+        if after.is_empty() {
+            made.push((maker.make(first), group_size(first)))?;
+            return Ok(made);
+        }
+        let (second, after) = after.split_at(first_group_len(after));
+        let (of_first, of_second) = maker.make_two(first, second);
+        made.push((of_first, group_size(first)))?;
+        made.push((of_second, group_size(second)))?;
         rest = after;
     }
     Ok(made)
@@ -71,13 +90,29 @@ fn shrink<A: Allocator>(nodes: &mut Vec<Node, A>)
 {
     let mut made = 0;
     let mut read = 0;
-    'groups: while read < nodes.len() {
+    'batches: while nodes.len() - read >= ENOUGH {
         let (parents, count, more) = first_parents(&nodes[read..], &mut ParentHashes::new());
         'parents: for j in 0..count {
             nodes[made + j] = parents[j];
         }
         made += count;
         read += more;
+    }
+    'groups: while read < nodes.len() {
+        let rest = &nodes[read..];
+        let first = first_group_len(rest);
+        let (group, after) = rest.split_at(first);
+        if after.is_empty() {
+            nodes[made] = parent(group);
+            nodes.truncate(made + 1);
+            return;
+        }
+        let second = first_group_len(after);
+        let (of_first, of_second) = two_parents(group, &after[..second]);
+        nodes[made] = of_first;
+        nodes[made + 1] = of_second;
+        made += 2;
+        read += first + second;
     }
     nodes.truncate(made);
 }

@@ -6,7 +6,7 @@
 
 ghost use Rattle.std.specs.Prelude.{◌≡◌, ℕ, ◌+◌, ◌^◌, ◌<◌, ◌≤◌, ◌++◌, [], get_or, length, map, take, drop, slice_index, IsSome, SomeIff};
 ghost use Rattle.xet_roots.specs.Groups.{Node, IsGroup, is_cut};
-ghost use Rattle.xet_roots.specs.Roots.{total_size, node_line, group_text, parent_hash};
+ghost use Rattle.xet_roots.specs.Roots.{total_size, node_line, group_text, parent_hash, parent};
 ghost use Rattle.xet_roots.specs.Steps.Scan.{IsFirstGroup, AreFirstGroups};
 
 use xet_hash::data_hash::{
@@ -26,9 +26,6 @@ pub const MAX_GROUP_LEN: usize = 9;
 
 /// The most groups whose parents are made at once.
 pub const MOST_AT_ONCE: usize = 16;
-
-// The most groups whose texts are hashed two by two. More take less time side by side.
-const FEW_GROUPS: usize = 8;
 
 // The first index in a group at which a natural cut ends the group.
 const FIRST_CUT_INDEX: usize = MIN_GROUP_LEN - 1;
@@ -163,8 +160,9 @@ pub(crate) fn parent_hash(group: &[Node]) -> MerkleHash
 }
 
 // Returns the hashes of two groups' parents. The two texts are hashed at once.
+#[inline(never)]
 #[tactic(auto, unfolding(crate::specs::Roots::parent_hash))]
-fn two_parent_hashes(first: &[Node], second: &[Node]) -> (MerkleHash, MerkleHash)
+pub(crate) fn two_parent_hashes(first: &[Node], second: &[Node]) -> (MerkleHash, MerkleHash)
     requires first { length first.now ≤ MAX_GROUP_LEN }
     requires second { length second.now ≤ MAX_GROUP_LEN }
     ensures first { result.0 ≡ parent_hash first.now }
@@ -177,28 +175,9 @@ fn two_parent_hashes(first: &[Node], second: &[Node]) -> (MerkleHash, MerkleHash
     compute_two_internal_node_hashes(&first_text[first_start..], &second_text[second_start..])
 }
 
-// Returns the hashes of groups' parents, two by two.
-fn hashes_two_by_two(groups: &[&[Node]]) -> [MerkleHash; MOST_AT_ONCE]
-    requires groups { length groups.now ≤ MOST_AT_ONCE }
-    requires few { (j : ℕ) → j < length groups.now → length (get_or (map (λ g. g.now) groups.now) j []) ≤ MAX_GROUP_LEN }
-    ensures { (j : ℕ) → j < length groups.now → get_or result j [] ≡ parent_hash (get_or (map (λ g. g.now) groups.now) j []) }
-{
-    let mut hashes = [MerkleHash::default(); MOST_AT_ONCE];
-    let mut made = 0;
-    'groups: while made + 1 < groups.len() {
-        let (first, second) = two_parent_hashes(groups[made], groups[made + 1]);
-        hashes[made] = first;
-        hashes[made + 1] = second;
-        made += 2;
-    }
-    if made < groups.len() {
-        hashes[made] = parent_hash(groups[made]);
-    }
-    hashes
-}
-
-// Returns the hashes of groups' parents, side by side.
-fn hashes_side_by_side(groups: &[&[Node]]) -> [MerkleHash; MOST_AT_ONCE]
+// Returns the hashes of groups' parents. The texts are hashed side by side.
+#[inline(never)]
+pub(crate) fn parent_hashes(groups: &[&[Node]]) -> [MerkleHash; MOST_AT_ONCE]
     requires groups { length groups.now ≤ MOST_AT_ONCE }
     requires few { (j : ℕ) → j < length groups.now → length (get_or (map (λ g. g.now) groups.now) j []) ≤ MAX_GROUP_LEN }
     ensures { (j : ℕ) → j < length groups.now → get_or result j [] ≡ parent_hash (get_or (map (λ g. g.now) groups.now) j []) }
@@ -216,23 +195,33 @@ fn hashes_side_by_side(groups: &[&[Node]]) -> [MerkleHash; MOST_AT_ONCE]
     compute_internal_node_hashes(&texts[..groups.len()])
 }
 
-// Returns the hashes of groups' parents.
-#[inline(never)]
-pub(crate) fn parent_hashes(groups: &[&[Node]]) -> [MerkleHash; MOST_AT_ONCE]
-    requires groups { length groups.now ≤ MOST_AT_ONCE }
-    requires few { (j : ℕ) → j < length groups.now → length (get_or (map (λ g. g.now) groups.now) j []) ≤ MAX_GROUP_LEN }
-    ensures { (j : ℕ) → j < length groups.now → get_or result j [] ≡ parent_hash (get_or (map (λ g. g.now) groups.now) j []) }
-{
-    if groups.len() <= FEW_GROUPS {
-        return hashes_two_by_two(groups);
-    }
-    hashes_side_by_side(groups)
-}
-
 // Returns the sum of the sizes in a group.
 pub(crate) fn group_size(group: &[Node]) -> u64
     requires { total_size group.now < 2 ^ 64 }
     ensures { result ≡ total_size group.now }
 {
     group.iter().map(|node| node.1).sum()
+}
+
+// Returns the parent of a group.
+pub(crate) fn parent(group: &[Node]) -> Node
+    requires few { length group.now ≤ MAX_GROUP_LEN }
+    requires fits { total_size group.now < 2 ^ 64 }
+    ensures { result ≡ parent group.now }
+{
+    (parent_hash(group), group_size(group))
+}
+
+// Returns the parents of two groups.
+pub(crate) fn two_parents(first: &[Node], second: &[Node]) -> (Node, Node)
+    requires few { (length first.now ≤ MAX_GROUP_LEN) × (length second.now ≤ MAX_GROUP_LEN) }
+    requires fits { (total_size first.now < 2 ^ 64) × (total_size second.now < 2 ^ 64) }
+    ensures first { result.0 ≡ parent first.now }
+    ensures second { result.1 ≡ parent second.now }
+{
+    let (of_first, of_second) = two_parent_hashes(first, second);
+    (
+        (of_first, group_size(first)),
+        (of_second, group_size(second)),
+    )
 }

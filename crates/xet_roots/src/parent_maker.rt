@@ -4,7 +4,7 @@ ghost use Rattle.std.specs.Prelude.{◌≡◌, ℕ, ◌+◌, ◌^◌, ◌<◌, �
 ghost use Rattle.xet_roots.specs.Groups.{Node};
 ghost use Rattle.xet_roots.specs.Roots.{total_size, parent_hash};
 
-use crate::groups::{MOST_AT_ONCE, Node, parent_hash, parent_hashes};
+use crate::groups::{MOST_AT_ONCE, Node, parent_hash, parent_hashes, two_parent_hashes};
 use std::marker::Model;
 use xet_hash::data_hash::MerkleHash;
 
@@ -29,6 +29,22 @@ pub trait ParentMaker: Drop {
         requires room { count self.old < 2 ^ 100 }
         ensures hash { result ≡ hash_of group.now }
         ensures count { count self.new ≡ count self.old + 1 };
+
+    /// Returns the hashes of the parents of two groups, which count as two. A maker that can make both at once in less time
+    /// has a body of its own; the body here calls [`make`](ParentMaker::make) for the first and then for the second.
+    fn make_two(&mut self, first: &[Node], second: &[Node]) -> (MerkleHash, MerkleHash)
+        requires some { (0 < length first.now) × (0 < length second.now) }
+        requires few { (length first.now ≤ 9) × (length second.now ≤ 9) }
+        requires fits { (total_size first.now < 2 ^ 64) × (total_size second.now < 2 ^ 64) }
+        requires room { count self.old + 1 < 2 ^ 100 }
+        ensures first { result.0 ≡ hash_of first.now }
+        ensures second { result.1 ≡ hash_of second.now }
+        ensures count { count self.new ≡ count self.old + 2 }
+    {
+        let of_first = self.make(first);
+        let of_second = self.make(second);
+        (of_first, of_second)
+    }
 
     /// Returns the hashes of the parents of at most [`MOST_AT_ONCE`] groups: element j of the result is that of group j. Each counts
     /// as one. A maker that can make several at once in less time has a body of its own; the body here calls
@@ -84,6 +100,11 @@ impl ParentMaker for ParentHashes {
     fn make(&mut self, group: &[Node]) -> MerkleHash {
         self.made += 1;
         parent_hash(group)
+    }
+
+    fn make_two(&mut self, first: &[Node], second: &[Node]) -> (MerkleHash, MerkleHash) {
+        self.made += 2;
+        two_parent_hashes(first, second)
     }
 
     fn make_each(&mut self, groups: &[&[Node]]) -> [MerkleHash; MOST_AT_ONCE] {

@@ -1,14 +1,14 @@
 -- Making the parents of a list group by group, and a root level by level.
-use Rattle.std.proofs.Common.{◌≡◌, ℕ, ◌+◌, ◌*◌, ◌<◌, ◌≤◌, List, [], ◌∷◌, ◌++◌, length, get_or, map, drop, refl, sym, ap, subst, ◌∙◌, arith, append_assoc, append-nil}
-use Rattle.std.proofs.lemmas.List.{length-map, map-append}
+use Rattle.std.proofs.Common.{◌≡◌, ℕ, ◌+◌, ◌*◌, ◌<◌, ◌≤◌, List, [], ◌∷◌, ◌++◌, length, get_or, map, take, drop, refl, sym, ap, subst, ◌∙◌, arith, append_assoc, append-nil}
+use Rattle.std.proofs.lemmas.List.{length-map, map-append, take-append-drop}
 use Rattle.std.proofs.lemmas.List.Sums.{sum_by-append, sum_by-cons, sum_by-take-drop}
 use Rattle.xet_hash.specs.Blake3.{keyed_hash}
 use Rattle.xet_hash.specs.Hash.{default_hash, bytes_of, hash_of}
 use Rattle.xet_roots.specs.Groups.{Node, Groups}
 use Rattle.xet_roots.specs.Roots.{total_size, parent_by, parent, IsRoot, IsFileHash}
 use Rattle.xet_roots.specs.Roots.IsRootBy.{no_node, one_node, of_parents}
-use Rattle.xet_roots.specs.Steps.Scan.{AreFirstGroups, AreParents}
-use Rattle.xet_roots.proofs.Grouping.OneCutting.{joined_nodes}
+use Rattle.xet_roots.specs.Steps.Scan.{IsFirstGroup, AreFirstGroups, AreParents}
+use Rattle.xet_roots.proofs.Grouping.OneCutting.{joined_nodes, Groups-push}
 use Rattle.xet_roots.proofs.Roots.OneRoot.{Groups-few, Groups-some}
 
 -- some parents are made and a rest is left: whatever groups the rest has, theirs complete the parents
@@ -22,6 +22,13 @@ module _ (make : List Node → Node) (nodes : List Node) where
       let joined : made ++ map make (groups ++ more) ≡ (made ++ map make groups) ++ map make more =
       ap (λ (l : List Node). made ++ l) (map-append make groups more) ∙ sym (append_assoc made (map make groups) (map make more)) in
       subst (AreParents make nodes) joined (so_far (groups ++ more) (first more cutting))
+
+  pub MadeSoFar-one : (made rest : List Node) (n : ℕ) → IsFirstGroup (take n rest) (drop n rest) → MadeSoFar make nodes made rest →
+      MadeSoFar make nodes (made ++ make (take n rest) ∷ []) (drop n rest)
+  MadeSoFar-one made rest n first so_far = λ groups cutting.
+      let group = take n rest in
+      let longer : Groups rest (group ∷ groups) = subst (λ (l : List Node). Groups l (group ∷ groups)) (take-append-drop n rest) (Groups-push group (drop n rest) groups first cutting) in
+      subst (AreParents make nodes) (sym (append_assoc made (make group ∷ []) (map make groups))) (so_far (group ∷ groups) longer)
 
   pub MadeSoFar-all : (made rest : List Node) → rest ≡ [] → MadeSoFar make nodes made rest → AreParents make nodes made
   MadeSoFar-all made rest none so_far =

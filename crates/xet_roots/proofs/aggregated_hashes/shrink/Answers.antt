@@ -1,45 +1,45 @@
-use Rattle.std.proofs.Common.{◌≡◌, ℕ, List, [], ◌∷◌, ◌++◌, ◌<◌, ◌≤◌, map, get_or, set, append_assoc, length-set, ◌+◌, ◌-◌, length, take, drop, sym, ap, ◌∙◌, arith, length-drop}
-use Rattle.std.proofs.lemmas.List.{drop-drop, drop-set-lt, drop_all, take_more, take_more_set, take_rest}
+use Rattle.std.proofs.Common.{◌≡◌, ℕ, rules, tests, List, [], ◌∷◌, ◌++◌, ◌<◌, ◌≤◌, ◌+◌, ◌-◌, length, map, take, drop, get_or, set, append_assoc, sym, ap, ◌∙◌, arith, length-set, length-drop, length-take}
+use Rattle.std.proofs.lemmas.List.{nil_from_length, take_more, take_more_set, drop-set-lt, drop-drop, drop_all, take_rest}
 use Rattle.xet_roots.specs.Groups.{Node}
 use Rattle.xet_roots.specs.Roots.{parent}
-use Rattle.xet_roots.proofs.Roots.Making.{MadeSoFar-more, MadeSoFar-all, total_size-drop-le}
+use Rattle.xet_roots.proofs.Roots.Making.{MadeSoFar-more, MadeSoFar-one, MadeSoFar-all, total_size-drop-le}
 use Rattle.xet_roots.proofs.aggregated_hashes.shrink.Goals as goal
 
 pub parents-preserved : goal.parents-preserved
 parents-preserved g c =
     let j = c.parents.j in
-    let made = c.groups.made in
-    let read = c.groups.read in
+    let made = c.batches.made in
+    let read = c.batches.read in
     let nodes = c.parents.nodes.items in
     let first = c.first_parents-parents.result in
     let e = c.first_parents-parents.ensures in
     let inv = c.parents.invariant in
-    let within = c.groups.invariant.within in
-    let whole : take (length c.deref.result.now - read) (drop read c.deref.result.now) ≡ drop read c.groups.nodes.items =
+    let within = c.batches.invariant.within in
+    let whole : take (length c.deref.result.now - read) (drop read c.deref.result.now) ≡ drop read c.batches.nodes.items =
     take_rest c.deref.result.now read ∙ ap (drop read) c.deref.ensures.value in
-    let bound : first.2 ≤ length (drop read c.groups.nodes.items) = rw whole at e.within.2 in
-    let left = length-drop read c.groups.nodes.items in
+    let bound : first.2 ≤ length (drop read c.batches.nodes.items) = rw whole at e.within.2 in
+    let left = length-drop read c.batches.nodes.items in
     let next : Node = get_or first.0 j c.index-parents-j.result in
     let place : made + (j + 1) ≡ made + j + 1 = omega arith in
-    let room : made + j < length nodes = omega (arith, inv.size, e.within.1, c.groups.invariant.written) in
+    let room : made + j < length nodes = omega (arith, inv.size, e.within.1, c.batches.invariant.written) in
     record {
       size = length-set nodes (made + j) next ∙ inv.size;
       front = ap (λ (n : ℕ). take n (set nodes (made + j) next)) place ∙ take_more_set nodes (made + j) next room ∙ ap (λ (l : List Node). l ++ next ∷ []) inv.front
-          ∙ append_assoc (take made c.groups.nodes.items) (take j first.0) (next ∷ [])
-          ∙ ap (λ (l : List Node). take made c.groups.nodes.items ++ l) (sym (take_more first.0 j c.index-parents-j.result (omega (arith, e.size, e.within.0))));
+          ∙ append_assoc (take made c.batches.nodes.items) (take j first.0) (next ∷ [])
+          ∙ ap (λ (l : List Node). take made c.batches.nodes.items ++ l) (sym (take_more first.0 j c.index-parents-j.result (omega (arith, e.size, e.within.0))));
       back = drop-set-lt (made + first.1) nodes (made + j) next (omega arith) ∙ inv.back;
     }
 
-pub groups-preserved : goal.groups-preserved
-groups-preserved g c =
-    let made = c.groups.made in
-    let read = c.groups.read in
-    let before = c.groups.nodes.items in
+pub batches-preserved : goal.batches-preserved
+batches-preserved g c =
+    let made = c.batches.made in
+    let read = c.batches.read in
+    let before = c.batches.nodes.items in
     let nodes = c.parents.nodes.items in
     let start = c.args.nodes.now.items in
     let first = c.first_parents-parents.result in
     let e = c.first_parents-parents.ensures in
-    let inv = c.groups.invariant in
+    let inv = c.batches.invariant in
     let all : c.parents.j ≡ first.1 = omega arith in
     let whole : take (length c.deref.result.now - read) (drop read c.deref.result.now) ≡ drop read before =
     take_rest c.deref.result.now read ∙ ap (drop read) c.deref.ensures.value in
@@ -62,8 +62,80 @@ groups-preserved g c =
       fits = rw same_rest (omega (arith, total_size-drop-le first.2 (drop read before), inv.fits));
     }
 
+pub groups-preserved : goal.groups-preserved
+groups-preserved g c =
+    let nodes = c.groups.nodes.items in
+    let start = c.args.nodes.now.items in
+    let made = c.groups.made in
+    let read = c.groups.read in
+    let n = c.first_group_len-first.result in
+    let m = c.first_group_len-second.result in
+    let p = c.two_parents-of_first.result.0 in
+    let q = c.two_parents-of_first.result.1 in
+    let written = c.groups.invariant.written in
+    let fits = c.groups.invariant.fits in
+    let test = c.groups-test.true in
+    let rest = drop read nodes in
+    let after = drop n rest in
+    let len_rest = length-drop read nodes in
+    let len_after = length-drop n rest in
+    let whole : take (length c.deref-in-groups.result.now - read) (drop read c.deref-in-groups.result.now) ≡ rest =
+    take_rest c.deref-in-groups.result.now read ∙ ap (drop read) c.deref-in-groups.ensures.value in
+    let first = rw whole at c.first_group_len-first.ensures.first in
+    let bound : n ≤ length rest = rw whole at c.first_group_len-first.ensures.bound in
+    let back : c.split_at.result.1.now ≡ after = rw whole at c.split_at.ensures.back in
+    let front : c.split_at.result.0.now ≡ take n rest = rw whole at c.split_at.ensures.front in
+    let second = rw back at c.first_group_len-second.ensures.first in
+    let bound_after : m ≤ length after = rw back at c.first_group_len-second.ensures.bound in
+    let some = first.is_group.not_empty in
+    let some_after = second.is_group.not_empty in
+    let len = length-take n rest in
+    let len_second = length-take m after in
+    let once = set nodes made p in
+    let len_once = length-set nodes made p in
+    let same_rest : drop (read + (n + m)) (set once (made + 1) q) ≡ drop m after =
+    drop-set-lt (read + (n + m)) once (made + 1) q (omega arith) ∙ drop-set-lt (read + (n + m)) nodes made p (omega arith)
+    ∙ sym (drop-drop m n rest ∙ drop-drop (n + m) read nodes) in
+    let same_first : p ≡ parent (take n rest) = c.two_parents-of_first.ensures.first ∙ ap parent front in
+    let same_second : q ≡ parent (take m after) = c.two_parents-of_first.ensures.second ∙ ap (λ (l : List Node). parent (take m l)) back in
+    let two : made + 2 ≡ made + 1 + 1 = omega arith in
+    let longer : take (made + 2) (set once (made + 1) q) ≡ (take made nodes ++ parent (take n rest) ∷ []) ++ parent (take m after) ∷ [] =
+    ap (λ (i : ℕ). take i (set once (made + 1) q)) two ∙ take_more_set once (made + 1) q (omega arith) ∙ ap (λ (l : List Node). l ++ q ∷ []) (take_more_set nodes made p (omega arith))
+    ∙ ap (λ (x : Node). (take made nodes ++ x ∷ []) ++ q ∷ []) same_first
+    ∙ ap (λ (x : Node). (take made nodes ++ parent (take n rest) ∷ []) ++ x ∷ []) same_second in
+    let one_more = MadeSoFar-one parent start (take made nodes) rest n first c.groups.invariant.so_far in
+    record {
+      written = omega arith;
+      within = rw (length-set once (made + 1) q, len_once) (omega arith);
+      so_far = rw (same_rest, longer) (MadeSoFar-one parent start (take made nodes ++ parent (take n rest) ∷ []) after m second one_more);
+      fits = rw same_rest (omega (arith, total_size-drop-le n rest, total_size-drop-le m after));
+    }
+
+pub returns-then-is_empty : goal.returns-then-is_empty
+returns-then-is_empty g c =
+    let nodes = c.groups.nodes.items in
+    let start = c.args.nodes.now.items in
+    let made = c.groups.made in
+    let read = c.groups.read in
+    let n = c.first_group_len-first.result in
+    let p = c.parent.result in
+    let written = c.groups.invariant.written in
+    let test = c.groups-test.true in
+    let rest = drop read nodes in
+    let whole : take (length c.deref-in-groups.result.now - read) (drop read c.deref-in-groups.result.now) ≡ rest =
+    take_rest c.deref-in-groups.result.now read ∙ ap (drop read) c.deref-in-groups.ensures.value in
+    let first = rw whole at c.first_group_len-first.ensures.first in
+    let back : c.split_at.result.1.now ≡ drop n rest = rw whole at c.split_at.ensures.back in
+    let front : c.split_at.result.0.now ≡ take n rest = rw whole at c.split_at.ensures.front in
+    let none : length c.split_at.result.1.now ≡ 0 = search (rules, tests) in
+    let all : drop n rest ≡ [] = sym back ∙ nil_from_length c.split_at.result.1.now none in
+    let longer : take (made + 1) (set nodes made p) ≡ take made nodes ++ parent (take n rest) ∷ [] =
+    take_more_set nodes made p (omega arith) ∙ ap (λ (x : Node). take made nodes ++ x ∷ []) (c.parent.ensures ∙ ap parent front) in
+    rw (c.truncate.ensures.items, longer)
+    (MadeSoFar-all parent start (take made nodes ++ parent (take n rest) ∷ []) (drop n rest) all (MadeSoFar-one parent start (take made nodes) rest n first c.groups.invariant.so_far))
+
 pub returns : goal.returns
 returns g c =
     let nodes = c.groups.nodes.items in
-    rw c.truncate.ensures.items
+    rw c.truncate-2.ensures.items
     (MadeSoFar-all parent c.args.nodes.now.items (take c.groups.made nodes) (drop c.groups.read nodes) (drop_all c.groups.read nodes (omega arith)) c.groups.invariant.so_far)

@@ -6,7 +6,7 @@ use Rattle.xet_hash.specs.Hash.{hash_of, internal_key}
 use Rattle.xet_roots.specs.Groups.{Node}
 use Rattle.xet_roots.specs.Roots.{group_text, parent_hash}
 use Rattle.xet_roots.proofs.Lists.Lent.{each_more, lent, lent_at, lent_of_first}
-use Rattle.xet_roots.proofs.groups.hashes_side_by_side.Goals as goal
+use Rattle.xet_roots.proofs.groups.parent_hashes.Goals as goal
 
 pub write_text-requires-clause-few : goal.write_text-requires-clause-few
 write_text-requires-clause-few c =

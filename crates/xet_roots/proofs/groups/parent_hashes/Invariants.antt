@@ -1,7 +1,7 @@
 use Rattle.std.proofs.Common.{◌≡◌, ℕ, ◌<◌, ◌≤◌, [], drop, get_or, length}
 use Rattle.xet_roots.specs.Roots.{group_text}
 use Rattle.xet_roots.proofs.Lists.Lent.{lent}
-use Rattle.xet_roots.proofs.groups.hashes_side_by_side.Given as goal
+use Rattle.xet_roots.proofs.groups.parent_hashes.Given as goal
 
 abbrev pub invariant-written : goal.invariant-written
 invariant-written l = record {
