@@ -162,6 +162,7 @@ static void root_of(size_t count, const char *name)
 void test_lanes(void)
 {
     root_of(1000, "root of 1,000 chunks");
+    root_of(100, "root of 100 chunks");
     root_of(LEAST_OF_GROUP, "root of one group");
     keyed();
     uint8_t *bytes = block(ALL);

@@ -8,7 +8,7 @@ from __future__ import annotations
 
 import random
 from dataclasses import dataclass
-from typing import Iterator, List, Sequence, Tuple
+from typing import Callable, Iterator, List, Sequence, Tuple
 
 from calls import INTERNAL_KEY, RESULT, Caller, bytes_of
 from definition import keyed_hash
@@ -60,6 +60,13 @@ def groups(is_short: bool) -> Iterator[List[Node]]:
         taken, count = taken + count, count % MOST_NODES + 1
 
 
+def pairs(is_short: bool) -> List[Tuple[int, int]]:
+    """Lengths of two texts."""
+    if is_short:
+        return [(0, 69), (64, 65), (128, 792), (791, 260), (385, 390)]
+    return [(length, (7 * length + 3) % (ROOM_SIZE + 1)) for length in range(ROOM_SIZE + 1)]
+
+
 def lengths(is_short: bool) -> List[List[int]]:
     """Lengths of texts, for each number of texts; in the whole list each length is there."""
     few = [[(67 * k + 61 * count) % (ROOM_SIZE + 1) for k in range(count)] for count in range(1, MOST_GROUPS + 1)]
@@ -81,8 +88,15 @@ def run_parent_hashes(caller: Caller, groups: Sequence[Tuple[int, int]]) -> List
     return memory.load(RESULT, 8 * len(groups))
 
 
-def check_texts(library: Library, each: Sequence[int]) -> Machine:
-    """`parent_hashes`, for all texts of some lengths. The groups may not be read."""
+def run_two_parent_hashes(caller: Caller, groups: Sequence[Tuple[int, int]]) -> List[Word]:
+    """Runs `two_parent_hashes` of two groups at some places and of some lengths. Returns the words of the hashes."""
+    caller.m.memory.add_region(RESULT, 64, True)
+    caller.run(of_groups("two_parent_hashes"), [RESULT, *(value for group in groups for value in group)])
+    return caller.m.memory.load(RESULT, 16)
+
+
+def check_texts(library: Library, each: Sequence[int], run: Callable[[Caller, Sequence[Tuple[int, int]]], List[Word]]) -> Machine:
+    """What makes the hashes of groups, for all texts of some lengths. The groups may not be read."""
     forget()
     texts = [bytes_of(f"text {k}", length) for k, length in enumerate(each)]
     wanted = Wanted(hashes_of, *texts)
@@ -97,18 +111,20 @@ def check_texts(library: Library, each: Sequence[int]) -> Machine:
         return start
 
     m.stand_ins[library.image.function(of_groups("write_text"))] = write
-    found = run_parent_hashes(caller, [(place, MOST_NODES) for place in GROUPS[:len(each)]])
+    found = run(caller, [(place, MOST_NODES) for place in GROUPS[:len(each)]])
     wanted.must_be(found, f"{len(each)} texts of {', '.join(map(str, each))} bytes")
     return m
 
 
-def check_groups(library: Library, each: Sequence[Sequence[Node]]) -> Machine:
-    """`parent_hashes` of groups of numbers."""
+def check_groups(
+    library: Library, each: Sequence[Sequence[Node]], run: Callable[[Caller, Sequence[Tuple[int, int]]], List[Word]],
+) -> Machine:
+    """The same of groups of numbers."""
     forget()
     wanted = Wanted(hashes_of, *map(text_of, each))
     caller = Caller(library)
     places = [(caller.m.memory.add_words(place, words_of(group)), len(group)) for place, group in zip(GROUPS, each)]
-    wanted.must_be(run_parent_hashes(caller, places), f"groups of {', '.join(str(len(group)) for group in each)} nodes")
+    wanted.must_be(run(caller, places), f"groups of {', '.join(str(len(group)) for group in each)} nodes")
     return caller.m
 
 
@@ -131,9 +147,13 @@ def check_text(library: Library, group: Sequence[Node]) -> Machine:
 def run_all(library: Library, is_short: bool) -> Iterator[Machine]:
     """All checks of groups; gives the machines that ran them."""
     of_numbers = list(groups(is_short))
+    for pair in pairs(is_short):
+        yield check_texts(library, pair, run_two_parent_hashes)
     for each in lengths(is_short):
-        yield check_texts(library, each)
+        yield check_texts(library, each, run_parent_hashes)
     for group in of_numbers:
         yield check_text(library, group)
     for at in range(0, len(of_numbers), MOST_GROUPS):
-        yield check_groups(library, of_numbers[at:at + MOST_GROUPS])
+        yield check_groups(library, of_numbers[at:at + MOST_GROUPS], run_parent_hashes)
+    for two in zip(of_numbers, of_numbers[1:3] if is_short else of_numbers[1:]):
+        yield check_groups(library, two, run_two_parent_hashes)
