@@ -2,7 +2,8 @@
 
 from __future__ import annotations
 
-from typing import List, Sequence, Set, Tuple
+from functools import partial
+from typing import Callable, List, Sequence, Set, Tuple
 
 from definition import keyed_hash
 from fault import Fault
@@ -83,18 +84,23 @@ def lanes_for(chunks: int, most: int) -> Set[int]:
     return {next(lanes for lanes in WIDTHS if lanes >= min(chunks, most))}
 
 
-def check_lanes(library: Library, chunks: int) -> Machine:
-    """How many lanes a message of some chunks takes, which nothing else can show: its hash is right in any."""
+def must_take(library: Library, wanted: Set[int], run: Callable[[], Machine], what: str) -> Machine:
+    """Runs a call, which has to take chunks in so many lanes. Nothing else can show that: a hash is right in any."""
     kept = dict(library.decoded)
     library.decoded.clear()
-    m = check_hash(library, "data_hash", 1024 * chunks)
+    m = run()
     met = {library.image.instructions[at].function for at in library.decoded}
     library.decoded.update(kept)
     found = {lanes for lanes in WIDTHS if inner(of_width("chunks::take_block", lanes)) in met}
-    wanted = lanes_for(chunks, library.level.lanes)
     if found != wanted:
-        raise Fault(f"{chunks} chunks are hashed in lanes by {sorted(found)}, not by {sorted(wanted)}")
+        raise Fault(f"{what} are hashed in lanes by {sorted(found)}, not by {sorted(wanted)}")
     return m
+
+
+def check_lanes(library: Library, chunks: int) -> Machine:
+    """How many lanes a message of some chunks takes."""
+    run = partial(check_hash, library, "data_hash", 1024 * chunks)
+    return must_take(library, lanes_for(chunks, library.level.lanes), run, f"{chunks} chunks")
 
 
 def check_hmac(library: Library) -> Machine:

@@ -8,9 +8,10 @@ from __future__ import annotations
 
 import random
 from dataclasses import dataclass
+from functools import partial
 from typing import Callable, Iterator, List, Sequence, Tuple
 
-from calls import INTERNAL_KEY, RESULT, Caller, bytes_of
+from calls import INTERNAL_KEY, RESULT, Caller, bytes_of, must_take
 from definition import keyed_hash
 from fault import Fault, number
 from layout import Library, of_groups
@@ -151,6 +152,8 @@ def run_all(library: Library, is_short: bool) -> Iterator[Machine]:
         yield check_texts(library, pair, run_two_parent_hashes)
     for each in lengths(is_short):
         yield check_texts(library, each, run_parent_hashes)
+    all_lanes = partial(check_texts, library, lengths(True)[-1], run_parent_hashes)
+    yield must_take(library, {library.level.lanes}, all_lanes, f"{MOST_GROUPS} texts")
     for group in of_numbers:
         yield check_text(library, group)
     for at in range(0, len(of_numbers), MOST_GROUPS):
