@@ -12,7 +12,7 @@
 //! - `tree` compresses the chaining values of two subtrees into their parent's, up to the root.
 #![tactic(auto)]
 
-ghost use Rattle.std.specs.Prelude.{◌≡◌, ℕ, ◌<◌, ◌≤◌, [], get_or, length, map};
+ghost use Rattle.std.specs.Prelude.{◌≡◌, ℕ, ◌<◌, ◌≤◌, [], get_or, length, map, replicate};
 ghost use Rattle.keyed_blake3.specs.Blake3.{keyed_hash};
 
 mod chunk;
@@ -26,18 +26,21 @@ mod two_chunks;
 
 use chunk::{CHUNK_LEN, chunk_value, words};
 pub use hasher::Hasher;
+use hasher::UNKEYED;
 use messages::{are_short, hash_next};
 use tree::{ROOT, output};
 use two_chunks::two_chunk_values;
 
 /// Returns the keyed BLAKE3 hash of `data` (BLAKE3 specification, section 2.3).
+#[tactic(auto, unfolding(crate::specs::Blake3Hasher::count_of))]
 pub fn keyed_hash(key: &[u8; 32], data: &[u8]) -> [u8; 32]
     ensures { result ≡ keyed_hash key.now «data».now }
 {
     if data.len() <= CHUNK_LEN {
         return output(&chunk_value(&words(key), data, 0, ROOT));
     }
-    let mut hasher = Hasher::new_keyed(key);
+    let mut hasher = UNKEYED;
+    hasher.set_key(key);
     hasher.update(data);
     hasher.finalize()
 }
@@ -60,7 +63,9 @@ pub fn keyed_hash_two(key: &[u8; 32], first: &[u8], second: &[u8]) -> ([u8; 32],
 /// message are zeros.
 pub fn keyed_hash_each<const N: usize>(key: &[u8; 32], messages: &[&[u8]]) -> [[u8; 32]; N]
     requires { length messages.now ≤ N }
-    ensures { (j : ℕ) → j < length messages.now → get_or result j [] ≡ keyed_hash key.now (get_or (map (λ m. m.now) messages.now) j []) }
+    ensures hashes { (j : ℕ) → j < length messages.now
+        → get_or result j [] ≡ keyed_hash key.now (get_or (map (λ m. m.now) messages.now) j []) }
+    ensures past { (j : ℕ) → length messages.now ≤ j → j < N → get_or result j [] ≡ replicate 32 0 }
 {
     let mut hashes = [[0; 32]; N];
     let short = are_short(messages);

@@ -133,25 +133,15 @@ fn all_kept<const L: usize>(
     ]
 }
 
-// Returns the larger of two numbers.
-#[inline(always)]
-fn larger(x: usize, y: usize) -> usize
-    ensures first { x ≤ result }
-    ensures second { y ≤ result }
-    ensures few { x < 16 → y < 16 → result < 16 }
-{
-    if x < y { y } else { x }
-}
-
 // Returns the most blocks that a message has before its last one.
 fn most_before_last(messages: &[&[u8]]) -> usize
     requires { AreShort (map (λ m. m.now) messages.now) }
     ensures few { result < 16 }
     ensures most { (j : ℕ) → j < length messages.now → blocks_before_last (get_or (map (λ m. m.now) messages.now) j []) ≤ result }
 {
-    let mut most = 0;
+    let mut most = 0usize;
     'messages: for j in 0..messages.len() {
-        most = larger(most, last_block(messages[j]));
+        most = most.max(last_block(messages[j]));
     }
     most
 }
@@ -167,6 +157,7 @@ fn hash_side_by_side<W: Width<L, B>, const L: usize, const B: usize, const N: us
     requires short { AreShort (map (λ m. m.now) messages.now) }
     requires room { at + length messages.now ≤ N }
     ensures before { (i : ℕ) → i < at → get_or hashes.new i [] ≡ get_or hashes.old i [] }
+    ensures after { (i : ℕ) → at + length messages.now ≤ i → get_or hashes.new i [] ≡ get_or hashes.old i [] }
     ensures hashes { (j : ℕ) → j < length messages.now
         → get_or hashes.new (at + j) [] ≡ keyed_hash key.now (get_or (map (λ m. m.now) messages.now) j []) }
 {
@@ -202,6 +193,7 @@ fn hash_lanes<W: Width<L, B>, const L: usize, const B: usize, const N: usize>(
     requires short { AreShort (map (λ m. m.now) messages.now) }
     ensures more { (done < result) × (result ≤ length messages.now) }
     ensures before { (i : ℕ) → i < done → get_or hashes.new i [] ≡ get_or hashes.old i [] }
+    ensures after { (i : ℕ) → result ≤ i → get_or hashes.new i [] ≡ get_or hashes.old i [] }
     ensures hashes { (i : ℕ) → done ≤ i → i < result
         → get_or hashes.new i [] ≡ keyed_hash key.now (get_or (map (λ m. m.now) messages.now) i []) }
 {
@@ -223,6 +215,7 @@ pub(crate) fn hash_next<const N: usize>(
     requires short { IsTrue short → AreShort (map (λ m. m.now) messages.now) }
     ensures more { (done < result) × (result ≤ length messages.now) }
     ensures before { (i : ℕ) → i < done → get_or hashes.new i [] ≡ get_or hashes.old i [] }
+    ensures after { (i : ℕ) → result ≤ i → get_or hashes.new i [] ≡ get_or hashes.old i [] }
     ensures hashes { (i : ℕ) → done ≤ i → i < result
         → get_or hashes.new i [] ≡ keyed_hash key.now (get_or (map (λ m. m.now) messages.now) i []) }
 {

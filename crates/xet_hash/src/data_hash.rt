@@ -266,8 +266,9 @@ pub fn compute_two_internal_node_hashes(first: &[u8], second: &[u8]) -> (DataHas
 /// default hash.
 pub fn compute_internal_node_hashes<const N: usize>(texts: &[&[u8]]) -> [DataHash; N]
     requires { length texts.now ≤ N }
-    ensures { (j : ℕ) → j < length texts.now → get_or result j []
+    ensures hashes { (j : ℕ) → j < length texts.now → get_or result j []
         ≡ hash_of (keyed_hash internal_key (get_or (map (λ text. text.now) texts.now) j [])) }
+    ensures past { (j : ℕ) → length texts.now ≤ j → j < N → get_or result j [] ≡ default_hash }
 {
     let of_each = keyed_hash_each::<N>(&INTERNAL_KEY, texts);
     let mut hashes = [DataHash::default(); N];

@@ -1,4 +1,4 @@
-use Rattle.std.proofs.Common.{inl, inr, ◌∙◌}
+use Rattle.std.proofs.Common.{arith, inl, inr, ◌∙◌}
 use Rattle.std.proofs.lemmas.Bool.{cases_lt}
 use Rattle.keyed_blake3.proofs.keyed_hash_each.Goals as goal
 
@@ -9,4 +9,5 @@ messages-preserved g c = record {
     | inl before ↦ c.hash_next-done.ensures.before i before ∙ c.messages.invariant.hashes i before
     | inr after ↦ c.hash_next-done.ensures.hashes i after h
   ];
+  past = λ i after fits. c.hash_next-done.ensures.after i after ∙ c.messages.invariant.past i (omega (arith, c.hash_next-done.ensures.more)) fits;
 }

@@ -8,7 +8,7 @@ ghost use Rattle.keyed_blake3.specs.Steps.Lanes.{AreFull, lane};
 use crate::compression::INITIALIZATION_VECTOR;
 use crate::compression::in_step::{byte_row, round, row, word_row, xor};
 use crate::compression::lane_rows::{LaneRows, Row};
-use crate::compression::width::{Lanes, Width, lanes_of};
+use crate::compression::width::{Lanes, WIDEST, Width, lanes_of};
 use std::simd::prelude::*;
 
 // Returns the message words of the next round.
@@ -41,9 +41,7 @@ pub(crate) fn counters<const L: usize>(first: u64, places: &[usize; L]) -> (Lane
     (low, high)
 }
 
-// Returns a word in each lane, by a call. LLVM aligns a frame to vectors of 32 bytes only if it passes on the address of
-// one. In a frame that isn't aligned, vectors that are kept on the stack cross cache lines, which is slower at half of the
-// places of the stack, and much slower at a few.
+// Returns a word in each lane, by a call.
 #[inline(never)]
 fn each_by_call<const L: usize>(x: u32) -> Simd<u32, L>
     ensures { result ≡ replicate L x }
@@ -51,12 +49,14 @@ fn each_by_call<const L: usize>(x: u32) -> Simd<u32, L>
     Simd::splat(x)
 }
 
-// Returns a word in each lane.
+// Returns a word in each lane, and has LLVM align the frame of the caller, which it does for vectors of 32 bytes only where the address
+// of one is passed on. In another frame, vectors that are kept on the stack cross lines of the cache, which is slower at half of the
+// places of the stack, and much slower at a few. Where there may be 16 lanes, dist/make aligns the frames.
 #[inline(always)]
-fn each<W: Width<L, B>, const L: usize, const B: usize>(x: u32) -> Lanes<L>
+fn each_aligned<W: Width<L, B>, const L: usize, const B: usize>(x: u32) -> Lanes<L>
     ensures { result ≡ replicate L x }
 {
-    if L > 4 {
+    if L == 8 && WIDEST == 8 {
         return lanes_of(each_by_call(x));
     }
     W::each(x)
@@ -83,7 +83,7 @@ fn first_state<W: Width<L, B>, const L: usize, const B: usize>(
         a: row(&h[0], &h[1], &h[2], &h[3]),
         b: row(&h[4], &h[5], &h[6], &h[7]),
         c: row(
-            &each::<W, L, B>(iv0),
+            &each_aligned::<W, L, B>(iv0),
             &W::each(iv1),
             &W::each(iv2),
             &W::each(iv3),

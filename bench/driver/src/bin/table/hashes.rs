@@ -20,8 +20,16 @@ const PEER: &str = if cfg!(feature = "portable") {
     "`blake3`, SIMD"
 };
 
-const LENGTHS: [(&str, usize); 5] =
-    [("64 B", 64), ("1 KiB", 1024), ("8 KiB", 8 << 10), ("64 KiB", 64 << 10), ("1 MiB", 1 << 20)];
+const LENGTHS: [(&str, usize); 8] = [
+    ("64 B", 64),
+    ("1 KiB", 1 << 10),
+    ("2 KiB", 2 << 10),
+    ("4 KiB", 4 << 10),
+    ("8 KiB", 8 << 10),
+    ("16 KiB", 16 << 10),
+    ("64 KiB", 64 << 10),
+    ("1 MiB", 1 << 20),
+];
 
 /// As much as no cache holds, in which the chunks of an upload follow each other.
 const COLD_BYTES: usize = 128 << 20;

@@ -30,3 +30,12 @@ returns-clause-hashes g c = λ i low high.
     let fits : j < count = omega arith in
     let size : length (take count (drop start messages)) ≡ count = length-take-le count (drop start messages) (omega (arith, length-drop start messages)) in
     rw place at ((rw whole at c.hash_side_by_side.ensures.hashes) j (rw size fits) ∙ ap (keyed_hash c.args.key.now) (message_in messages start count j bound fits))
+
+pub returns-clause-after : goal.returns-clause-after
+returns-clause-after g c = λ i past.
+    let start = c.args.done in
+    let count : ℕ = c.min.result in
+    let messages = c.args.messages.now in
+    let whole : start + count - start ≡ count = omega arith in
+    let size : length (take count (drop start messages)) ≡ count = length-take-le count (drop start messages) (omega (arith, c.min.ensures, length-drop start messages)) in
+    (rw whole at c.hash_side_by_side.ensures.after) i (rw size past)

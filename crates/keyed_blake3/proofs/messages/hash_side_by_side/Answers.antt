@@ -85,6 +85,7 @@ hashes-preserved g c =
     record {
       size = length-set hashes (at + j) c.output.result ∙ inv.size;
       before = λ i h. get_or-set_other hashes (at + j) i c.output.result [] (λ e. omega arith) ∙ inv.before i h;
+      after = λ i h. get_or-set_other hashes (at + j) i c.output.result [] (λ e. omega arith) ∙ inv.after i (omega arith);
       hashes = λ i h. elim (cases_lt i j) [
         | inl less ↦ get_or-set_other hashes (at + j) (at + i) c.output.result [] (λ e. omega arith) ∙ inv.hashes i less
         | inr past ↦
@@ -94,4 +95,4 @@ hashes-preserved g c =
     }
 
 pub returns : goal.returns
-returns g c = record { before = c.hashes.invariant.before; hashes = λ j h. c.hashes.invariant.hashes j (omega arith) }
+returns g c = record { before = c.hashes.invariant.before; after = λ i h. c.hashes.invariant.after i (omega arith); hashes = λ j h. c.hashes.invariant.hashes j (omega arith) }

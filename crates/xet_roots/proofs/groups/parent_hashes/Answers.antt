@@ -61,5 +61,5 @@ returns c = λ j h.
     let count = length c.args.groups.now in
     let inv = c.texts.invariant in
     let size : length (take count c.texts.texts) ≡ count = length-take-le count c.texts.texts (omega (arith, inv.size, c.requires.groups)) in
-    c.compute_internal_node_hashes.ensures j (rw size h)
+    c.compute_internal_node_hashes.ensures.hashes j (rw size h)
     ∙ ap (λ (text : List ℕ). hash_of (keyed_hash internal_key text)) (lent_of_first c.texts.texts count j h ∙ inv.text j (omega arith))
