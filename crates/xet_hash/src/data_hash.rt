@@ -9,8 +9,7 @@ ghost use Rattle.keyed_blake3.specs.Blake3.{keyed_hash};
 ghost use Rattle.xet_hash.specs.HashForms.{random_hash};
 ghost use Rattle.xet_hash.specs.Hash.{default_hash, bytes_of, hash_of, hex_text, data_key, internal_key, marker_hash, IsHash, IsHexText};
 
-use crate::hex_digits::lower_digits;
-use hex::FromHex;
+use crate::hex_digits::{is_hex_text, lower_digits, spelled_bytes};
 use keyed_blake3::{keyed_hash, keyed_hash_each, keyed_hash_two};
 use rand_core::{Rng, SeedableRng};
 use rand_xoshiro::Xoshiro256PlusPlus;
@@ -121,10 +120,10 @@ impl DataHash {
         ensures is_hash { IfOk result IsHash }
         ensures value { IfOk result (λ hash. hex_text hash ≡ str_to_ascii_lowercase digits.now) }
     {
-        match <[u8; 32] as FromHex>::from_hex(digits) {
-            Ok(bytes) => Ok(DataHash::from_text_bytes(&bytes)),
-            Err(_) => Err(DataHashHexParseError),
+        if !is_hex_text(digits) {
+            return Err(DataHashHexParseError);
         }
+        Ok(DataHash::from_text_bytes(&spelled_bytes(digits)))
     }
 
     /// Returns the keyed BLAKE3 hash of this hash's bytes under the bytes of `key`.

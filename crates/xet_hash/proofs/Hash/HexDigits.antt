@@ -5,7 +5,7 @@ use Rattle.std.specs.Result.{result_unwrap_or}
 use Rattle.std.specs.Str.{str_to_ascii_lowercase}
 use Rattle.std.proofs.lemmas.Bool.Decides.{nat_tests}
 use Rattle.std.proofs.lemmas.List.FromFn.{get_or-map-range_with_len}
-use Rattle.std.proofs.lemmas.List.Elements.{All-weaker}
+use Rattle.std.proofs.lemmas.List.Elements.{All-get_or, All-weaker}
 use Rattle.hex.proofs.HexLemmas.{IsOk-decode_sized, decode_pairs-ok, decode_sized-ok}
 use Rattle.hex.proofs.Pairs.{decode_sized-pairs}
 use Rattle.xet_hash.specs.Hash.{IsHexText}
@@ -65,7 +65,18 @@ encode_lower-decode_pairs i (a ∷ b ∷ rest) bytes h =
     let rest_text : encode_lower tail.0 ≡ str_to_ascii_lowercase rest = encode_lower-decode_pairs (i + 2) rest tail.0 tail.1 in
     rw (← all, first, second, digit_text a high.0 digit_a, digit_text b low.0 digit_b, rest_text)
 
+-- the byte that two digits spell
+pub pair_spelled : (a b i v w : ℕ) → hex_digit_value a ≡ Some v → hex_digit_value b ≡ Some w → pair_value a b i ≡ Ok (16 * v + w)
+pair_spelled a b i v w high low =
+    let order : v * 16 + w ≡ 16 * v + w = omega arith in
+    rw (high, low) (ap Ok order)
+
 -- ---- What reads as 32 bytes
+
+-- a digit of a text that reads
+pub digit_at : (text : List ℕ) (i : ℕ) → IsHexText text → i < 64 → is_hex_digit (slice_index text i) ≡ true
+digit_at text i h fits =
+    same_digit (slice_index text i) ∙ All-get_or (λ c. is_ascii_hexdigit c ≡ true) text i 0 (omega (arith, h.0)) h.1
 
 -- a text that reads is 64 digits, and the text of its bytes is the text in lower case
 pub IsHexText-decoded : (text bytes : List ℕ) → decode_sized text 32 ≡ Ok bytes
