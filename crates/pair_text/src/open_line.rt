@@ -38,6 +38,17 @@ impl OpenLine {
         OpenLine::Text(ArrayVec::new())
     }
 
+    /// Starts a new line in the place of this one. After a line without a chunk only its bytes are forgotten, since a hasher is much
+    /// longer than these.
+    pub fn restart(&mut self)
+        ensures { IsOpenLine self.new [] }
+    {
+        match self {
+            OpenLine::Text(text) => text.clear(),
+            OpenLine::Chunk(_) => *self = OpenLine::new(),
+        }
+    }
+
     /// Returns whether the line has no bytes.
     pub fn is_empty(&self) -> bool
         ensures { (line : List ℕ) → IsOpenLine self.now line → result ≡ (length line == 0) }

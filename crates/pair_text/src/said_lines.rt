@@ -80,7 +80,7 @@ impl<T: TakeSaid> TakeLines for SaidLines<T> {
             return Err(Refusal::Faulty(self.said.bad()));
         };
         self.said.take(said)?;
-        self.line = OpenLine::new();
+        self.line.restart();
         Ok(())
     }
 

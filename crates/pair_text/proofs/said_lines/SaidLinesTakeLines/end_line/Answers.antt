@@ -9,6 +9,6 @@ returns-in_default-clause-fault g c = λ before line within (stand, is, is_open)
 pub returns-clause-taken : goal.returns-clause-taken
 returns-clause-taken g c = λ before line within (stand, is, is_open). (
   c.in_ok-take.ensures.taken before line within (c.in-Some.ensures.says (content line) is) stand,
-  c.new-self.ensures,
+  c.restart.ensures,
   tt,
 )
