@@ -47,7 +47,8 @@
 #include <stddef.h>
 #include <stdint.h>
 
-/* Attributes, if the compiler has them: the result must be used, and the arguments with these numbers may not be null. */
+/* Attributes, if the compiler has them: the result must be used, and the arguments with these numbers may not be null. The last
+ * one says which version of the library first had a call. It means nothing to a compiler, and is for readers and for tools. */
 #if (defined(__cplusplus) && __cplusplus >= 201703L) || (defined(__STDC_VERSION__) && __STDC_VERSION__ >= 202311L)
 #define YUREWHA_NODISCARD [[nodiscard]]
 #elif defined(__GNUC__)
@@ -60,6 +61,9 @@
 #else
 #define YUREWHA_NONNULL(...)
 #endif
+#ifndef YUREWHA_SINCE
+#define YUREWHA_SINCE(version)
+#endif
 
 #ifdef __cplusplus
 extern "C" {
@@ -68,12 +72,7 @@ extern "C" {
 /* ---- Version */
 
 /* The version of this header, and of the library that it was packaged with. A program may use a later version of the
- * library if the first number is the same.
- *
- * Version 1.1 added yurewha_data_hashes, yurewha_processor_level, yurewha_session_copy, yurewha_session_keep_hashes,
- * yurewha_session_known_hashes, yurewha_session_num_known_hashes, yurewha_session_push_run, yurewha_session_run_from,
- * yurewha_status_text and yurewha_version; and range proofs, which are all calls whose names begin with yurewha_hash_tree_,
- * yurewha_range_proof_ or yurewha_opened_range_. */
+ * library if the first number is the same. YUREWHA_SINCE says which version of the library first had a call. */
 #define YUREWHA_VERSION "1.1.0"
 #define YUREWHA_VERSION_MAJOR 1
 #define YUREWHA_VERSION_MINOR 1
@@ -83,14 +82,15 @@ extern "C" {
 
 typedef uint32_t yurewha_status;
 
+/* A name before a colon is that of the error in Python and JavaScript. */
 #define YUREWHA_DONE 0u         /* the call succeeded */
-#define YUREWHA_ARGUMENTS 1u    /* the arguments don't fit together, or the requested thing doesn't exist */
-#define YUREWHA_SIZES 2u        /* sizes or lengths add up to more than 2^64 - 1 */
-#define YUREWHA_MEMORY 3u       /* an allocation failed */
-#define YUREWHA_TEXT 4u         /* a text doesn't have the expected form */
+#define YUREWHA_ARGUMENTS 1u    /* InvalidArguments: the arguments don't fit together, or the requested thing doesn't exist */
+#define YUREWHA_SIZES 2u        /* SizeOverflow: sizes or lengths add up to more than 2^64 - 1 */
+#define YUREWHA_MEMORY 3u       /* OutOfMemory: an allocation failed */
+#define YUREWHA_TEXT 4u         /* InvalidText: a text doesn't have the expected form */
 #define YUREWHA_ROOM 5u         /* the room is too small; the needed length is written */
-#define YUREWHA_EMPTY_HANDLE 6u /* a handle that the call reads is empty */
-#define YUREWHA_MISMATCH 7u     /* a range proof doesn't show the hash, or the data isn't that of the range */
+#define YUREWHA_EMPTY_HANDLE 6u /* EmptyHandle: a handle that the call reads is empty */
+#define YUREWHA_MISMATCH 7u     /* ProofMismatch: a range proof doesn't show the hash, or the data isn't that of the range */
 
 /* YUREWHA_RULE + rule: a JSON value, or flat lists, describe no subtree. They break this rule, from 1 to 13, and no rule
  * with a lower number. The rules are listed at yurewha_subtree_from_json. */
@@ -101,9 +101,9 @@ typedef uint32_t yurewha_status;
 #define YUREWHA_PROOF_RULE 48u
 
 /* Calls of a session return these, too. */
-#define YUREWHA_SESSION_OVERLAP 33u   /* a position is taken */
-#define YUREWHA_SESSION_POSITIONS 34u /* the first position plus the number of chunks passes 2^64 - 1 */
-#define YUREWHA_SESSION_GAP 37u       /* the taken positions aren't exactly those below the total */
+#define YUREWHA_SESSION_OVERLAP 33u   /* SessionOverlap: a position is taken */
+#define YUREWHA_SESSION_POSITIONS 34u /* SessionPositions: the first position plus the number of chunks passes 2^64 - 1 */
+#define YUREWHA_SESSION_GAP 37u       /* SessionGap: the taken positions aren't exactly those below the total */
 
 /* Deprecated names. The library of version 1.0 returned 35 and 36 for these; no status gets these numbers again. */
 #define YUREWHA_SESSION_SIZES YUREWHA_SIZES
@@ -169,7 +169,7 @@ typedef struct yurewha_opened_range {
  * The version of the header is YUREWHA_VERSION. Allocates nothing.
  *   DONE  it is written
  *   ROOM  the version is longer than `room`; nothing is written to `text`, and `length` is the needed length */
-YUREWHA_NODISCARD YUREWHA_NONNULL(3)
+YUREWHA_NODISCARD YUREWHA_NONNULL(3) YUREWHA_SINCE(1.1)
 yurewha_status yurewha_version(char *text, size_t room, size_t *length);
 
 /* Writes what a status means, in English, to the beginning of `text`, which has room for `room` bytes, and the length of this
@@ -177,7 +177,7 @@ yurewha_status yurewha_version(char *text, size_t room, size_t *length);
  *   DONE  it is written
  *   ROOM  the text is longer than `room`, which is less than YUREWHA_STATUS_TEXT_LENGTH; nothing is written to `text`, and
  *         `length` is the needed length */
-YUREWHA_NODISCARD YUREWHA_NONNULL(4)
+YUREWHA_NODISCARD YUREWHA_NONNULL(4) YUREWHA_SINCE(1.1)
 yurewha_status yurewha_status_text(yurewha_status status, char *text, size_t room, size_t *length);
 
 /* Returns the level of processors that the library runs for: "x86-64", "x86-64-v2", "x86-64-v3", "x86-64-v4" or "aarch64". The text
@@ -188,13 +188,13 @@ yurewha_status yurewha_status_text(yurewha_status status, char *text, size_t roo
  * The environment variable YUREWHA_LEVEL may name a lower level, for tests, or to do without AVX-512: the code for x86-64-v4 is made
  * of the proved code after the proof (TRUST says how, and what checks it). If this processor has no level of that name, the library
  * says so on standard error, and chooses as it does without the variable. All levels give the same results. */
-YUREWHA_NODISCARD
+YUREWHA_NODISCARD YUREWHA_SINCE(1.1)
 const char *yurewha_processor_level(void);
 
 /* ---- Hashes */
 
 /* Writes the hash of a chunk. `bytes` is its data. The hash is keyed BLAKE3 under the data key. Allocates nothing. */
-YUREWHA_NONNULL(3)
+YUREWHA_NONNULL(3) YUREWHA_SINCE(1.0)
 void yurewha_data_hash(const uint8_t *bytes, size_t length, yurewha_hash *hash);
 
 /* Writes the hashes of `count` chunks, whose data is in one buffer. The data of chunk i starts at `offsets[i]` and ends
@@ -202,40 +202,40 @@ void yurewha_data_hash(const uint8_t *bytes, size_t length, yurewha_hash *hash);
  *   DONE       the hashes are written
  *   ARGUMENTS  if and only if `offset_count` isn't `count` + 1, an offset is less than the one before it, or an offset is
  *              greater than `length` */
-YUREWHA_NODISCARD
+YUREWHA_NODISCARD YUREWHA_SINCE(1.1)
 yurewha_status yurewha_data_hashes(const uint8_t *bytes, size_t length, const size_t *offsets, size_t offset_count,
                                    yurewha_hash *hashes, size_t count);
 
 /* Writes the hash of an inner node of the tree. `bytes` is its text. The hash is keyed BLAKE3 under the internal key.
  * Allocates nothing. */
-YUREWHA_NONNULL(3)
+YUREWHA_NONNULL(3) YUREWHA_SINCE(1.0)
 void yurewha_internal_node_hash(const uint8_t *bytes, size_t length, yurewha_hash *hash);
 
 /* Writes the keyed BLAKE3 hash of the bytes of `hash`, under the bytes of `key`. Allocates nothing. */
-YUREWHA_NONNULL(1, 2, 3)
+YUREWHA_NONNULL(1, 2, 3) YUREWHA_SINCE(1.0)
 void yurewha_hmac(const yurewha_hash *hash, const yurewha_hash *key, yurewha_hash *result);
 
 /* Writes a pseudorandom hash, for tests. Its bytes are the first 32 of Xoshiro256++, seeded by SplitMix64 from `seed`. */
-YUREWHA_NONNULL(2)
+YUREWHA_NONNULL(2) YUREWHA_SINCE(1.0)
 void yurewha_random_from_seed(uint64_t seed, yurewha_hash *hash);
 
 /* Writes the 32 bytes of a hash: its words in order, each little-endian on every machine. */
-YUREWHA_NONNULL(1, 2)
+YUREWHA_NONNULL(1, 2) YUREWHA_SINCE(1.0)
 void yurewha_hash_to_bytes(const yurewha_hash *hash, yurewha_bytes *bytes);
 
 /* Writes the hash that has these 32 bytes. */
-YUREWHA_NONNULL(1, 2)
+YUREWHA_NONNULL(1, 2) YUREWHA_SINCE(1.0)
 void yurewha_hash_from_bytes(const yurewha_bytes *bytes, yurewha_hash *hash);
 
 /* Compares the words of two hashes in order. This is also the order of their hex texts. Returns -1, 0 or 1 if the first
  * hash is less, equal or greater. */
-YUREWHA_NODISCARD YUREWHA_NONNULL(1, 2)
+YUREWHA_NODISCARD YUREWHA_NONNULL(1, 2) YUREWHA_SINCE(1.0)
 int32_t yurewha_compare(const yurewha_hash *first, const yurewha_hash *second);
 
 /* Writes word 3 of a hash modulo a divisor.
  *   DONE       the divisor isn't 0
  *   ARGUMENTS  the divisor is 0 */
-YUREWHA_NODISCARD YUREWHA_NONNULL(1, 3)
+YUREWHA_NODISCARD YUREWHA_NONNULL(1, 3) YUREWHA_SINCE(1.0)
 yurewha_status yurewha_remainder(const yurewha_hash *hash, uint64_t divisor, uint64_t *remainder);
 
 /* Writes the hex text of a hash to the beginning of `text`, which has room for `room` bytes. The text is 64 lower-case
@@ -243,13 +243,13 @@ yurewha_status yurewha_remainder(const yurewha_hash *hash, uint64_t divisor, uin
  * word is little-endian. `length` always becomes 64.
  *   DONE  `room` is at least 64
  *   ROOM  `room` is less than 64; nothing is written to `text` */
-YUREWHA_NODISCARD YUREWHA_NONNULL(1, 4)
+YUREWHA_NODISCARD YUREWHA_NONNULL(1, 4) YUREWHA_SINCE(1.0)
 yurewha_status yurewha_hex(const yurewha_hash *hash, char *text, size_t room, size_t *length);
 
 /* Writes the hash that has this hex text. Allocates nothing.
  *   DONE  the text is 64 hex digits, lower or upper case
  *   TEXT  the text is anything else */
-YUREWHA_NODISCARD YUREWHA_NONNULL(3)
+YUREWHA_NODISCARD YUREWHA_NONNULL(3) YUREWHA_SINCE(1.0)
 yurewha_status yurewha_from_hex(const char *text, size_t length, yurewha_hash *hash);
 
 /* Writes the base64 text of a hash to the beginning of `text`, which has room for `room` bytes. The text is 43 characters
@@ -257,39 +257,39 @@ yurewha_status yurewha_from_hex(const char *text, size_t length, yurewha_hash *h
  *   DONE    it is written
  *   ROOM    `room` is less than 43; nothing is written to `text`
  *   MEMORY  an allocation failed */
-YUREWHA_NODISCARD YUREWHA_NONNULL(1, 4)
+YUREWHA_NODISCARD YUREWHA_NONNULL(1, 4) YUREWHA_SINCE(1.0)
 yurewha_status yurewha_base64(const yurewha_hash *hash, char *text, size_t room, size_t *length);
 
 /* Writes the hash that has this base64 text.
  *   DONE    the text is one that yurewha_base64 writes
  *   TEXT    it is any other text
  *   MEMORY  an allocation failed */
-YUREWHA_NODISCARD YUREWHA_NONNULL(3)
+YUREWHA_NODISCARD YUREWHA_NONNULL(3) YUREWHA_SINCE(1.0)
 yurewha_status yurewha_from_base64(const char *text, size_t length, yurewha_hash *hash);
 
 /* ---- The streaming hasher */
 
 /* Each begins a hasher of the empty message. Under the data key the hasher computes the same as yurewha_data_hash. Under
  * the internal key it computes the same as yurewha_internal_node_hash. The third takes any key of 32 bytes. */
-YUREWHA_NONNULL(1)
+YUREWHA_NONNULL(1) YUREWHA_SINCE(1.0)
 void yurewha_hasher_begin_data(yurewha_hasher *hasher);
-YUREWHA_NONNULL(1)
+YUREWHA_NONNULL(1) YUREWHA_SINCE(1.0)
 void yurewha_hasher_begin_internal(yurewha_hasher *hasher);
-YUREWHA_NONNULL(1, 2)
+YUREWHA_NONNULL(1, 2) YUREWHA_SINCE(1.0)
 void yurewha_hasher_begin_keyed(yurewha_hasher *hasher, const yurewha_bytes *key);
 
 /* Returns the length of the message in bytes. */
-YUREWHA_NODISCARD YUREWHA_NONNULL(1)
+YUREWHA_NODISCARD YUREWHA_NONNULL(1) YUREWHA_SINCE(1.0)
 uint64_t yurewha_hasher_count(const yurewha_hasher *hasher);
 
 /* Appends a piece to the message.
  *   DONE   the message now has at most 2^64 - 1 bytes
  *   SIZES  it would have more */
-YUREWHA_NODISCARD YUREWHA_NONNULL(1)
+YUREWHA_NODISCARD YUREWHA_NONNULL(1) YUREWHA_SINCE(1.0)
 yurewha_status yurewha_hasher_update(yurewha_hasher *hasher, const uint8_t *piece, size_t length);
 
 /* Writes the keyed hash of the message. The hasher is unchanged, so it can take more pieces, and be finalized again. */
-YUREWHA_NONNULL(1, 2)
+YUREWHA_NONNULL(1, 2) YUREWHA_SINCE(1.0)
 void yurewha_hasher_finalize(const yurewha_hasher *hasher, yurewha_hash *hash);
 
 /* ---- Roots */
@@ -299,14 +299,14 @@ void yurewha_hasher_finalize(const yurewha_hasher *hasher, yurewha_hash *hash);
  *   DONE    the root is written
  *   SIZES   if and only if the sizes add up to more than 2^64 - 1
  *   MEMORY  an allocation failed; never with one chunk or none */
-YUREWHA_NODISCARD YUREWHA_NONNULL(3)
+YUREWHA_NODISCARD YUREWHA_NONNULL(3) YUREWHA_SINCE(1.0)
 yurewha_status yurewha_xorb_hash(const yurewha_chunk *chunks, size_t count, yurewha_hash *root);
 
 /* Writes the file hash of a list of chunks. With no chunks it is the default hash. Otherwise it is the hmac of their root,
  * under the salt or, without one, under 32 zero bytes. The statuses are those of yurewha_xorb_hash. */
-YUREWHA_NODISCARD YUREWHA_NONNULL(3)
+YUREWHA_NODISCARD YUREWHA_NONNULL(3) YUREWHA_SINCE(1.0)
 yurewha_status yurewha_file_hash(const yurewha_chunk *chunks, size_t count, yurewha_hash *hash);
-YUREWHA_NODISCARD YUREWHA_NONNULL(3, 4)
+YUREWHA_NODISCARD YUREWHA_NONNULL(3, 4) YUREWHA_SINCE(1.0)
 yurewha_status yurewha_file_hash_with_salt(const yurewha_chunk *chunks, size_t count, const yurewha_bytes *salt,
                                            yurewha_hash *hash);
 
@@ -315,9 +315,9 @@ yurewha_status yurewha_file_hash_with_salt(const yurewha_chunk *chunks, size_t c
  *   DONE       the point is written
  *   ARGUMENTS  there is none
  *   MEMORY     an allocation failed */
-YUREWHA_NODISCARD YUREWHA_NONNULL(3)
+YUREWHA_NODISCARD YUREWHA_NONNULL(3) YUREWHA_SINCE(1.0)
 yurewha_status yurewha_find_stable_start(const yurewha_chunk *nodes, size_t count, size_t *point);
-YUREWHA_NODISCARD YUREWHA_NONNULL(3)
+YUREWHA_NODISCARD YUREWHA_NONNULL(3) YUREWHA_SINCE(1.0)
 yurewha_status yurewha_find_stable_end(const yurewha_chunk *nodes, size_t count, size_t *point);
 
 /* ---- Subtrees: what is kept of a range of chunks, to merge it with its neighbours without the chunks */
@@ -327,7 +327,7 @@ yurewha_status yurewha_find_stable_end(const yurewha_chunk *nodes, size_t count,
  *   DONE    it is made
  *   SIZES   if and only if the sizes add up to more than 2^64 - 1
  *   MEMORY  an allocation failed */
-YUREWHA_NODISCARD YUREWHA_NONNULL(5)
+YUREWHA_NODISCARD YUREWHA_NONNULL(5) YUREWHA_SINCE(1.0)
 yurewha_status yurewha_subtree_from_chunks(bool at_start, const yurewha_chunk *chunks, size_t count, bool at_end,
                                            yurewha_subtree *subtree);
 
@@ -335,26 +335,26 @@ yurewha_status yurewha_subtree_from_chunks(bool at_start, const yurewha_chunk *c
  *   DONE          it is copied
  *   MEMORY        an allocation failed
  *   EMPTY_HANDLE  if and only if the first handle is empty */
-YUREWHA_NODISCARD YUREWHA_NONNULL(1, 2)
+YUREWHA_NODISCARD YUREWHA_NONNULL(1, 2) YUREWHA_SINCE(1.0)
 yurewha_status yurewha_subtree_clone(yurewha_subtree *subtree, yurewha_subtree *copy);
 
 /* Writes whether two subtrees have the same marks, levels and nodes. Allocates nothing.
  *   DONE          it is written
  *   EMPTY_HANDLE  a handle is empty */
-YUREWHA_NODISCARD YUREWHA_NONNULL(1, 2, 3)
+YUREWHA_NODISCARD YUREWHA_NONNULL(1, 2, 3) YUREWHA_SINCE(1.0)
 yurewha_status yurewha_subtree_equal(yurewha_subtree *first, yurewha_subtree *second, bool *equal);
 
 /* These write the marks, the total size of the chunks in bytes, the number of kept nodes, and the number of levels. They
  * allocate nothing.
  *   DONE          it is written
  *   EMPTY_HANDLE  the handle is empty */
-YUREWHA_NODISCARD YUREWHA_NONNULL(1, 2, 3)
+YUREWHA_NODISCARD YUREWHA_NONNULL(1, 2, 3) YUREWHA_SINCE(1.0)
 yurewha_status yurewha_subtree_marks(yurewha_subtree *subtree, bool *at_start, bool *at_end);
-YUREWHA_NODISCARD YUREWHA_NONNULL(1, 2)
+YUREWHA_NODISCARD YUREWHA_NONNULL(1, 2) YUREWHA_SINCE(1.0)
 yurewha_status yurewha_subtree_total_size(yurewha_subtree *subtree, uint64_t *size);
-YUREWHA_NODISCARD YUREWHA_NONNULL(1, 2)
+YUREWHA_NODISCARD YUREWHA_NONNULL(1, 2) YUREWHA_SINCE(1.0)
 yurewha_status yurewha_subtree_num_nodes(yurewha_subtree *subtree, size_t *count);
-YUREWHA_NODISCARD YUREWHA_NONNULL(1, 2)
+YUREWHA_NODISCARD YUREWHA_NONNULL(1, 2) YUREWHA_SINCE(1.0)
 yurewha_status yurewha_subtree_num_levels(yurewha_subtree *subtree, size_t *count);
 
 /* Merges `other`, the subtree of the range that follows, into `subtree`. `subtree` becomes the canonical subtree of the
@@ -364,12 +364,12 @@ yurewha_status yurewha_subtree_num_levels(yurewha_subtree *subtree, size_t *coun
  *   ARGUMENTS     if and only if neither handle is empty, and `subtree` is marked at its end or `other` at its start
  *   SIZES         if and only if neither of these applies, and the two sizes add up to more than 2^64 - 1
  *   MEMORY        an allocation failed */
-YUREWHA_NODISCARD YUREWHA_NONNULL(1, 2)
+YUREWHA_NODISCARD YUREWHA_NONNULL(1, 2) YUREWHA_SINCE(1.0)
 yurewha_status yurewha_subtree_merge_into(yurewha_subtree *subtree, yurewha_subtree *other);
 
 /* Does the same, and writes how many parents were hashed for it, or UINT64_MAX if there were more. The
  * statuses are the same. */
-YUREWHA_NODISCARD YUREWHA_NONNULL(1, 2, 3)
+YUREWHA_NODISCARD YUREWHA_NONNULL(1, 2, 3) YUREWHA_SINCE(1.0)
 yurewha_status yurewha_subtree_merge_into_counted(yurewha_subtree *subtree, yurewha_subtree *other, uint64_t *parents);
 
 /* Merges the subtrees of adjacent ranges, in order, into one. `merged` owns it. With no ranges it is the empty subtree with
@@ -379,14 +379,14 @@ yurewha_status yurewha_subtree_merge_into_counted(yurewha_subtree *subtree, yure
  *   ARGUMENTS     a range other than the first is marked at its start, or one other than the last at its end
  *   SIZES         the sizes of all ranges add up to more than 2^64 - 1
  *   MEMORY        an allocation failed; this may be returned instead of the three above */
-YUREWHA_NODISCARD YUREWHA_NONNULL(3)
+YUREWHA_NODISCARD YUREWHA_NONNULL(3) YUREWHA_SINCE(1.0)
 yurewha_status yurewha_subtree_merge(yurewha_subtree *ranges, size_t count, yurewha_subtree *merged);
 
 /* Writes the root of the chunks. Both ends of the subtree must be marked. Allocates nothing.
  *   DONE          the root is written
  *   ARGUMENTS     an end isn't marked, so there is no root yet
  *   EMPTY_HANDLE  the handle is empty */
-YUREWHA_NODISCARD YUREWHA_NONNULL(1, 2)
+YUREWHA_NODISCARD YUREWHA_NONNULL(1, 2) YUREWHA_SINCE(1.0)
 yurewha_status yurewha_subtree_final_hash(yurewha_subtree *subtree, yurewha_hash *hash);
 
 /* Writes a subtree as compact JSON text to the beginning of `text`, which has room for `room` bytes, and the length of the
@@ -395,7 +395,7 @@ yurewha_status yurewha_subtree_final_hash(yurewha_subtree *subtree, yurewha_hash
  *   ROOM          the JSON text is longer than `room`; nothing is written to `text`, and `length` is the needed length
  *   MEMORY        an allocation failed
  *   EMPTY_HANDLE  if and only if the handle is empty */
-YUREWHA_NODISCARD YUREWHA_NONNULL(1, 4)
+YUREWHA_NODISCARD YUREWHA_NONNULL(1, 4) YUREWHA_SINCE(1.0)
 yurewha_status yurewha_subtree_to_json(yurewha_subtree *subtree, char *text, size_t room, size_t *length);
 
 /* Reads a subtree from JSON text. The handle owns it. The value is an object with these members: `at_start` and `at_end`,
@@ -419,7 +419,7 @@ yurewha_status yurewha_subtree_to_json(yurewha_subtree *subtree, char *text, siz
  *                12  without `at_start`, left nodes below the top end like the nodes before a first stable point
  *                13  without `at_end`, right nodes below the top begin like the nodes after a last stable point
  *   MEMORY       an allocation failed; this may be returned instead of TEXT or a rule */
-YUREWHA_NODISCARD YUREWHA_NONNULL(3)
+YUREWHA_NODISCARD YUREWHA_NONNULL(3) YUREWHA_SINCE(1.0)
 yurewha_status yurewha_subtree_from_json(const char *text, size_t length, yurewha_subtree *subtree);
 
 /* Writes a subtree as flat lists. `levels` gets the number of left and right nodes of each level, from the chunks up.
@@ -429,7 +429,7 @@ yurewha_status yurewha_subtree_from_json(const char *text, size_t length, yurewh
  *   DONE          the lists are written
  *   ROOM          a list is longer than its room; nothing is written to either, and the counts are the needed lengths
  *   EMPTY_HANDLE  if and only if the handle is empty */
-YUREWHA_NODISCARD YUREWHA_NONNULL(1, 6, 7)
+YUREWHA_NODISCARD YUREWHA_NONNULL(1, 6, 7) YUREWHA_SINCE(1.0)
 yurewha_status yurewha_subtree_to_flat(yurewha_subtree *subtree, yurewha_level *levels, size_t level_room,
                                        yurewha_chunk *nodes, size_t node_room, size_t *level_count, size_t *node_count);
 
@@ -437,13 +437,13 @@ yurewha_status yurewha_subtree_to_flat(yurewha_subtree *subtree, yurewha_level *
  *   DONE         it is made
  *   RULE + rule  they break this rule, from 5 to 13 of yurewha_subtree_from_json, and none of these with a lower number
  *   MEMORY       an allocation failed; this may be returned instead of a rule */
-YUREWHA_NODISCARD YUREWHA_NONNULL(7)
+YUREWHA_NODISCARD YUREWHA_NONNULL(7) YUREWHA_SINCE(1.0)
 yurewha_status yurewha_subtree_from_flat(bool at_start, const yurewha_level *levels, size_t level_count,
                                          const yurewha_chunk *nodes, size_t node_count, bool at_end,
                                          yurewha_subtree *subtree);
 
 /* Frees what the handle owns, and leaves it empty. */
-YUREWHA_NONNULL(1)
+YUREWHA_NONNULL(1) YUREWHA_SINCE(1.0)
 void yurewha_subtree_free(yurewha_subtree *subtree);
 
 /* ---- Sessions: chunks by their positions, which come in any order */
@@ -451,7 +451,7 @@ void yurewha_subtree_free(yurewha_subtree *subtree);
 /* Makes a session without chunks. The handle owns it.
  *   DONE    it is made
  *   MEMORY  an allocation failed */
-YUREWHA_NODISCARD YUREWHA_NONNULL(1)
+YUREWHA_NODISCARD YUREWHA_NONNULL(1) YUREWHA_SINCE(1.0)
 yurewha_status yurewha_session_new(yurewha_session *session);
 
 /* Puts chunks at the positions from `first` on. Writes how many of their hashes no earlier successful put had, and counts
@@ -462,20 +462,20 @@ yurewha_status yurewha_session_new(yurewha_session *session);
  *   SESSION_POSITIONS  otherwise, `first` plus the number of chunks is more than 2^64 - 1
  *   SIZES              otherwise, the sizes of all chunks add up to more than 2^64 - 1
  *   MEMORY             an allocation failed; this may be returned instead of the three above */
-YUREWHA_NODISCARD YUREWHA_NONNULL(1, 5)
+YUREWHA_NODISCARD YUREWHA_NONNULL(1, 5) YUREWHA_SINCE(1.0)
 yurewha_status yurewha_session_put(yurewha_session *session, uint64_t first, const yurewha_chunk *chunks, size_t count,
                                    uint64_t *new_hashes);
 
 /* Writes whether a position is taken. Allocates nothing.
  *   DONE          it is written
  *   EMPTY_HANDLE  the handle is empty */
-YUREWHA_NODISCARD YUREWHA_NONNULL(1, 3)
+YUREWHA_NODISCARD YUREWHA_NONNULL(1, 3) YUREWHA_SINCE(1.0)
 yurewha_status yurewha_session_taken(yurewha_session *session, uint64_t position, bool *taken);
 
 /* Writes the number of runs of adjacent taken positions. Allocates nothing.
  *   DONE          it is written
  *   EMPTY_HANDLE  the handle is empty */
-YUREWHA_NODISCARD YUREWHA_NONNULL(1, 2)
+YUREWHA_NODISCARD YUREWHA_NONNULL(1, 2) YUREWHA_SINCE(1.0)
 yurewha_status yurewha_session_num_runs(yurewha_session *session, size_t *count);
 
 /* Writes the first position of a run, and a copy of the subtree of its chunks. The subtree is open at both ends, and
@@ -484,7 +484,7 @@ yurewha_status yurewha_session_num_runs(yurewha_session *session, size_t *count)
  *   EMPTY_HANDLE  if and only if the handle of the session is empty
  *   ARGUMENTS     if and only if there is a session, and it has no such run
  *   MEMORY        an allocation failed */
-YUREWHA_NODISCARD YUREWHA_NONNULL(1, 3, 4)
+YUREWHA_NODISCARD YUREWHA_NONNULL(1, 3, 4) YUREWHA_SINCE(1.0)
 yurewha_status yurewha_session_run(yurewha_session *session, size_t index, uint64_t *first, yurewha_subtree *range);
 
 /* Writes the first run that ends after a position: the run that holds it or else the next one. `first` gets the run's first
@@ -494,7 +494,7 @@ yurewha_status yurewha_session_run(yurewha_session *session, size_t index, uint6
  *   EMPTY_HANDLE  if and only if the handle of the session is empty
  *   ARGUMENTS     if and only if there is a session, and no run ends after the position
  *   MEMORY        an allocation failed */
-YUREWHA_NODISCARD YUREWHA_NONNULL(1, 3, 4, 5)
+YUREWHA_NODISCARD YUREWHA_NONNULL(1, 3, 4, 5) YUREWHA_SINCE(1.1)
 yurewha_status yurewha_session_run_from(yurewha_session *session, uint64_t position, uint64_t *first, uint64_t *end,
                                         yurewha_subtree *range);
 
@@ -503,20 +503,20 @@ yurewha_status yurewha_session_run_from(yurewha_session *session, uint64_t posit
  *   EMPTY_HANDLE  if and only if the handle is empty
  *   SESSION_GAP   if and only if the taken positions aren't exactly those from 0 to `total` - 1
  *   MEMORY        an allocation failed */
-YUREWHA_NODISCARD YUREWHA_NONNULL(1, 3)
+YUREWHA_NODISCARD YUREWHA_NONNULL(1, 3) YUREWHA_SINCE(1.0)
 yurewha_status yurewha_session_root(yurewha_session *session, uint64_t total, yurewha_hash *root);
-YUREWHA_NODISCARD YUREWHA_NONNULL(1, 3)
+YUREWHA_NODISCARD YUREWHA_NONNULL(1, 3) YUREWHA_SINCE(1.0)
 yurewha_status yurewha_session_finish(yurewha_session *session, uint64_t total, yurewha_hash *hash);
 
 /* Copies a session. The second handle owns the copy. The first session is unchanged, and the two are independent.
  *   DONE          it is copied
  *   MEMORY        an allocation failed
  *   EMPTY_HANDLE  if and only if the first handle is empty */
-YUREWHA_NODISCARD YUREWHA_NONNULL(1, 2)
+YUREWHA_NODISCARD YUREWHA_NONNULL(1, 2) YUREWHA_SINCE(1.1)
 yurewha_status yurewha_session_copy(yurewha_session *session, yurewha_session *copy);
 
 /* Frees what the handle owns, and leaves it empty. */
-YUREWHA_NONNULL(1)
+YUREWHA_NONNULL(1) YUREWHA_SINCE(1.0)
 void yurewha_session_free(yurewha_session *session);
 
 /* ---- Saving a session: its runs, by yurewha_session_run_from, and the hashes that it knows */
@@ -535,21 +535,21 @@ void yurewha_session_free(yurewha_session *session);
  *   ARGUMENTS     `end` isn't greater than `first`, `range` is marked at an end, or a position from `first` - 1 on is taken
  *   SIZES         otherwise, the sizes of all chunks add up to more than 2^64 - 1
  *   MEMORY        an allocation failed; this may be returned instead of the two above */
-YUREWHA_NODISCARD YUREWHA_NONNULL(1, 4)
+YUREWHA_NODISCARD YUREWHA_NONNULL(1, 4) YUREWHA_SINCE(1.1)
 yurewha_status yurewha_session_push_run(yurewha_session *session, uint64_t first, uint64_t end, yurewha_subtree *range);
 
 /* Keeps hashes, as if an earlier put had had them. The session then knows them.
  *   DONE          they are kept
  *   EMPTY_HANDLE  if and only if the handle is empty
  *   MEMORY        an allocation failed */
-YUREWHA_NODISCARD YUREWHA_NONNULL(1)
+YUREWHA_NODISCARD YUREWHA_NONNULL(1) YUREWHA_SINCE(1.1)
 yurewha_status yurewha_session_keep_hashes(yurewha_session *session, const yurewha_hash *hashes, size_t count);
 
 /* Writes the number of hashes that a session knows: those of all chunks that were put, and those that were kept. Each is
  * counted once. Allocates nothing.
  *   DONE          it is written
  *   EMPTY_HANDLE  the handle is empty */
-YUREWHA_NODISCARD YUREWHA_NONNULL(1, 2)
+YUREWHA_NODISCARD YUREWHA_NONNULL(1, 2) YUREWHA_SINCE(1.1)
 yurewha_status yurewha_session_num_known_hashes(yurewha_session *session, size_t *count);
 
 /* Writes the hashes that a session knows, each once, in no particular order.
@@ -557,7 +557,7 @@ yurewha_status yurewha_session_num_known_hashes(yurewha_session *session, size_t
  *   EMPTY_HANDLE  if and only if the handle is empty
  *   ARGUMENTS     if and only if there is a session, and it doesn't know exactly `count` hashes
  *   MEMORY        an allocation failed */
-YUREWHA_NODISCARD YUREWHA_NONNULL(1)
+YUREWHA_NODISCARD YUREWHA_NONNULL(1) YUREWHA_SINCE(1.1)
 yurewha_status yurewha_session_known_hashes(yurewha_session *session, yurewha_hash *hashes, size_t count);
 
 /* ---- Hash trees: all levels over a list of chunks, which make range proofs */
@@ -566,20 +566,20 @@ yurewha_status yurewha_session_known_hashes(yurewha_session *session, yurewha_ha
  *   DONE    it is made
  *   SIZES   if and only if the sizes add up to more than 2^64 - 1
  *   MEMORY  an allocation failed */
-YUREWHA_NODISCARD YUREWHA_NONNULL(3)
+YUREWHA_NODISCARD YUREWHA_NONNULL(3) YUREWHA_SINCE(1.1)
 yurewha_status yurewha_hash_tree_from_chunks(const yurewha_chunk *chunks, size_t count, yurewha_hash_tree *tree);
 
 /* These write the root of the chunks, their file hash under a salt, the number of chunks, and the sum of their sizes, which is
  * the size of the file in bytes. They allocate nothing.
  *   DONE          it is written
  *   EMPTY_HANDLE  the handle is empty */
-YUREWHA_NODISCARD YUREWHA_NONNULL(1, 2)
+YUREWHA_NODISCARD YUREWHA_NONNULL(1, 2) YUREWHA_SINCE(1.1)
 yurewha_status yurewha_hash_tree_root(yurewha_hash_tree *tree, yurewha_hash *root);
-YUREWHA_NODISCARD YUREWHA_NONNULL(1, 2, 3)
+YUREWHA_NODISCARD YUREWHA_NONNULL(1, 2, 3) YUREWHA_SINCE(1.1)
 yurewha_status yurewha_hash_tree_file_hash(yurewha_hash_tree *tree, const yurewha_bytes *salt, yurewha_hash *hash);
-YUREWHA_NODISCARD YUREWHA_NONNULL(1, 2)
+YUREWHA_NODISCARD YUREWHA_NONNULL(1, 2) YUREWHA_SINCE(1.1)
 yurewha_status yurewha_hash_tree_num_chunks(yurewha_hash_tree *tree, size_t *count);
-YUREWHA_NODISCARD YUREWHA_NONNULL(1, 2)
+YUREWHA_NODISCARD YUREWHA_NONNULL(1, 2) YUREWHA_SINCE(1.1)
 yurewha_status yurewha_hash_tree_total_size(yurewha_hash_tree *tree, uint64_t *size);
 
 /* Writes the least range of chunks that holds the bytes of the file between the places `from` and `to`, or the end of the
@@ -588,7 +588,7 @@ yurewha_status yurewha_hash_tree_total_size(yurewha_hash_tree *tree, uint64_t *s
  *   DONE          they are written
  *   ARGUMENTS     if and only if there is a tree, and there are no such bytes
  *   EMPTY_HANDLE  if and only if the handle is empty */
-YUREWHA_NODISCARD YUREWHA_NONNULL(1, 4, 5)
+YUREWHA_NODISCARD YUREWHA_NONNULL(1, 4, 5) YUREWHA_SINCE(1.1)
 yurewha_status yurewha_hash_tree_chunks_at(yurewha_hash_tree *tree, uint64_t from, uint64_t to, size_t *first, size_t *end);
 
 /* Writes where in the file the chunks from number `first` up to, but without, number `end` begin and end, in bytes. Allocates
@@ -596,7 +596,7 @@ yurewha_status yurewha_hash_tree_chunks_at(yurewha_hash_tree *tree, uint64_t fro
  *   DONE          the two places are written
  *   ARGUMENTS     if and only if there is a tree, and `first` isn't less than `end` or there are fewer than `end` chunks
  *   EMPTY_HANDLE  if and only if the handle is empty */
-YUREWHA_NODISCARD YUREWHA_NONNULL(1, 4, 5)
+YUREWHA_NODISCARD YUREWHA_NONNULL(1, 4, 5) YUREWHA_SINCE(1.1)
 yurewha_status yurewha_hash_tree_bytes_of(yurewha_hash_tree *tree, size_t first, size_t end, uint64_t *from, uint64_t *to);
 
 /* Writes the range proof of the chunks from number `first` up to, but without, number `end`, as flat lists. `levels` gets the
@@ -609,13 +609,13 @@ yurewha_status yurewha_hash_tree_bytes_of(yurewha_hash_tree *tree, size_t first,
  *   ARGUMENTS     if and only if there is a tree, and `first` isn't less than `end` or there are fewer than `end` chunks
  *   MEMORY        an allocation failed
  *   EMPTY_HANDLE  if and only if the handle is empty */
-YUREWHA_NODISCARD YUREWHA_NONNULL(1, 8, 9)
+YUREWHA_NODISCARD YUREWHA_NONNULL(1, 8, 9) YUREWHA_SINCE(1.1)
 yurewha_status yurewha_hash_tree_proof(yurewha_hash_tree *tree, size_t first, size_t end, yurewha_level *levels,
                                        size_t level_room, yurewha_chunk *nodes, size_t node_room, size_t *level_count,
                                        size_t *node_count);
 
 /* Frees what the handle owns, and leaves it empty. */
-YUREWHA_NONNULL(1)
+YUREWHA_NONNULL(1) YUREWHA_SINCE(1.1)
 void yurewha_hash_tree_free(yurewha_hash_tree *tree);
 
 /* ---- Range proofs: with one, whoever knows the hash of a file checks a part of it */
@@ -630,7 +630,7 @@ void yurewha_hash_tree_free(yurewha_hash_tree *tree);
  *   PROOF_RULE + rule  the lists break this rule, from 5 to 8 of yurewha_range_proof_from_json, and none of these with a lower
  *                      number
  *   MEMORY             an allocation failed; this may be returned instead of the two above */
-YUREWHA_NODISCARD YUREWHA_NONNULL(7)
+YUREWHA_NODISCARD YUREWHA_NONNULL(7) YUREWHA_SINCE(1.1)
 yurewha_status yurewha_range_proof_to_json(const yurewha_level *levels, size_t level_count, const yurewha_chunk *nodes,
                                            size_t node_count, char *text, size_t room, size_t *length);
 
@@ -650,7 +650,7 @@ yurewha_status yurewha_range_proof_to_json(const yurewha_level *levels, size_t l
  *                        7  a side of a level has at most 8 nodes
  *                        8  the sizes of all nodes add up to at most 2^64 - 1
  *   MEMORY             an allocation failed; this may be returned instead of the three above */
-YUREWHA_NODISCARD YUREWHA_NONNULL(7, 8)
+YUREWHA_NODISCARD YUREWHA_NONNULL(7, 8) YUREWHA_SINCE(1.1)
 yurewha_status yurewha_range_proof_from_json(const char *text, size_t length, yurewha_level *levels, size_t level_room,
                                              yurewha_chunk *nodes, size_t node_room, size_t *level_count, size_t *node_count);
 
@@ -659,7 +659,7 @@ yurewha_status yurewha_range_proof_from_json(const char *text, size_t length, yu
  *   DONE               if and only if they are those of a range proof
  *   PROOF_RULE + rule  the lists break this rule, from 5 to 8 of yurewha_range_proof_from_json, and none of these with a lower
  *                      number */
-YUREWHA_NODISCARD
+YUREWHA_NODISCARD YUREWHA_SINCE(1.1)
 yurewha_status yurewha_range_proof_check(const yurewha_level *levels, size_t level_count, const yurewha_chunk *nodes,
                                          size_t node_count);
 
@@ -670,11 +670,11 @@ yurewha_status yurewha_range_proof_check(const yurewha_level *levels, size_t lev
  *   PROOF_RULE + rule  the lists break this rule, from 5 to 8 of yurewha_range_proof_from_json, and none of these with a lower
  *                      number
  *   MEMORY             an allocation failed; this may be returned instead of the two above */
-YUREWHA_NODISCARD YUREWHA_NONNULL(5, 6, 7)
+YUREWHA_NODISCARD YUREWHA_NONNULL(5, 6, 7) YUREWHA_SINCE(1.1)
 yurewha_status yurewha_range_proof_open(const yurewha_level *levels, size_t level_count, const yurewha_chunk *nodes,
                                         size_t node_count, const yurewha_hash *file_hash, const yurewha_bytes *salt,
                                         yurewha_opened_range *range);
-YUREWHA_NODISCARD YUREWHA_NONNULL(5, 6)
+YUREWHA_NODISCARD YUREWHA_NONNULL(5, 6) YUREWHA_SINCE(1.1)
 yurewha_status yurewha_range_proof_open_root(const yurewha_level *levels, size_t level_count, const yurewha_chunk *nodes,
                                              size_t node_count, const yurewha_hash *root, yurewha_opened_range *range);
 
@@ -682,9 +682,9 @@ yurewha_status yurewha_range_proof_open_root(const yurewha_level *levels, size_t
  * size is the proof's own word until data was checked: it tells a reader where to cut, and no more. They allocate nothing.
  *   DONE          it is written
  *   EMPTY_HANDLE  the handle is empty */
-YUREWHA_NODISCARD YUREWHA_NONNULL(1, 2)
+YUREWHA_NODISCARD YUREWHA_NONNULL(1, 2) YUREWHA_SINCE(1.1)
 yurewha_status yurewha_opened_range_file_size(yurewha_opened_range *range, uint64_t *size);
-YUREWHA_NODISCARD YUREWHA_NONNULL(1, 2)
+YUREWHA_NODISCARD YUREWHA_NONNULL(1, 2) YUREWHA_SINCE(1.1)
 yurewha_status yurewha_opened_range_num_chunks(yurewha_opened_range *range, size_t *count);
 
 /* Writes where in the file a chunk of the range begins and ends, in bytes. The chunks of the range count from 0. Allocates
@@ -692,7 +692,7 @@ yurewha_status yurewha_opened_range_num_chunks(yurewha_opened_range *range, size
  *   DONE          the two places are written
  *   ARGUMENTS     if and only if there is a range, and it has no such chunk
  *   EMPTY_HANDLE  if and only if the handle is empty */
-YUREWHA_NODISCARD YUREWHA_NONNULL(1, 3, 4)
+YUREWHA_NODISCARD YUREWHA_NONNULL(1, 3, 4) YUREWHA_SINCE(1.1)
 yurewha_status yurewha_opened_range_bytes_of(yurewha_opened_range *range, size_t chunk, uint64_t *from, uint64_t *to);
 
 /* Checks the data of a chunk of the range, and writes where in the file it begins. The chunks of the range count from 0.
@@ -703,7 +703,7 @@ yurewha_status yurewha_opened_range_bytes_of(yurewha_opened_range *range, size_t
  *   DONE          the hash and the length of the data are those of the chunk's node
  *   MISMATCH      they aren't, or the range has no such chunk
  *   EMPTY_HANDLE  if and only if the handle is empty */
-YUREWHA_NODISCARD YUREWHA_NONNULL(1, 5)
+YUREWHA_NODISCARD YUREWHA_NONNULL(1, 5) YUREWHA_SINCE(1.1)
 yurewha_status yurewha_opened_range_check(yurewha_opened_range *range, size_t chunk, const uint8_t *data, size_t length,
                                           uint64_t *place);
 
@@ -715,12 +715,12 @@ yurewha_status yurewha_opened_range_check(yurewha_opened_range *range, size_t ch
  *   DONE          the data is that of the range's chunks, and the range holds both places, which are in order
  *   MISMATCH      the data isn't, or the range doesn't hold the places, or `to` is less than `from`
  *   EMPTY_HANDLE  if and only if the handle is empty */
-YUREWHA_NODISCARD YUREWHA_NONNULL(1, 6)
+YUREWHA_NODISCARD YUREWHA_NONNULL(1, 6) YUREWHA_SINCE(1.1)
 yurewha_status yurewha_opened_range_read(yurewha_opened_range *range, uint64_t from, uint64_t to, const uint8_t *data,
                                          size_t length, size_t *start);
 
 /* Frees what the handle owns, and leaves it empty. */
-YUREWHA_NONNULL(1)
+YUREWHA_NONNULL(1) YUREWHA_SINCE(1.1)
 void yurewha_opened_range_free(yurewha_opened_range *range);
 
 #ifdef __cplusplus

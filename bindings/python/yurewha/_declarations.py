@@ -1,7 +1,7 @@
+# Made of bindings/include/yurewha.h by bindings/check_exports --write.
 """The library's calls: the name, return type and argument types of each, as in the C header.
 
-`bindings/check_exports --write` makes the tables of the header. They are plain data, and importing them loads no library.
-`_library.py` makes the ctypes declarations from them.
+They are plain data, and importing them loads no library. `_library.py` makes the ctypes declarations from them.
 """
 
 from __future__ import annotations

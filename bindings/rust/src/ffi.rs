@@ -1,5 +1,6 @@
-//! The exports of the library, as `bindings/include/yurewha.h` declares them. The constants, the structs and the functions are
-//! made of the header by `bindings/check_exports --write`. All exports are declared, even if no enabled feature uses them.
+// Made of bindings/include/yurewha.h by bindings/check_exports --write.
+
+//! The exports of the library, as `bindings/include/yurewha.h` declares them. All are declared, even if no enabled feature uses them.
 
 #![allow(dead_code, non_camel_case_types)]
 
@@ -80,7 +81,7 @@ pub struct yurewha_opened_range {
 }
 
 impl yurewha_hasher {
-    // Room for a hasher. It must be begun before use.
+    // Room for one, which must be begun before use.
     pub const ROOM: Self = yurewha_hasher { state: [0; 256] };
 }
 
@@ -116,16 +117,17 @@ const fn assert_layout<T>(size: usize, align: usize) {
     assert!(size_of::<T>() == size && align_of::<T>() == align);
 }
 
+#[cfg(target_pointer_width = "64")]
 const _: () = {
     assert_layout::<yurewha_hash>(32, 8);
     assert_layout::<yurewha_bytes>(32, 1);
     assert_layout::<yurewha_chunk>(40, 8);
-    assert_layout::<yurewha_level>(2 * size_of::<usize>(), align_of::<usize>());
+    assert_layout::<yurewha_level>(16, 8);
     assert_layout::<yurewha_hasher>(2048, 8);
-    assert_layout::<yurewha_subtree>(size_of::<usize>(), align_of::<usize>());
-    assert_layout::<yurewha_session>(size_of::<usize>(), align_of::<usize>());
-    assert_layout::<yurewha_hash_tree>(size_of::<usize>(), align_of::<usize>());
-    assert_layout::<yurewha_opened_range>(size_of::<usize>(), align_of::<usize>());
+    assert_layout::<yurewha_subtree>(8, 8);
+    assert_layout::<yurewha_session>(8, 8);
+    assert_layout::<yurewha_hash_tree>(8, 8);
+    assert_layout::<yurewha_opened_range>(8, 8);
 };
 
 extern "C" {
@@ -394,37 +396,5 @@ extern "C" {
     pub fn yurewha_opened_range_free(range: *mut yurewha_opened_range);
 }
 
-// Tests of the calls that no other module makes.
 #[cfg(test)]
-mod tests {
-    use super::*;
-    use crate::merklehash::compute_data_hash;
-
-    #[test]
-    fn the_library_has_the_version_of_the_crate() {
-        let (mut room, mut length) = ([0; 32], 0);
-        // SAFETY: a room of the length that goes with it, and a length to write to.
-        let status = unsafe { yurewha_version(room.as_mut_ptr().cast(), room.len(), &mut length) };
-        assert_eq!(
-            (status, &room[..length]),
-            (YUREWHA_DONE, env!("CARGO_PKG_VERSION").as_bytes())
-        );
-    }
-
-    #[test]
-    fn many_chunks_are_hashed_in_one_call() {
-        let mut hashes = [yurewha_hash::default(); 2];
-        let mut hashed = |offsets: &[usize]| {
-            let (count, out) = (hashes.len(), hashes.as_mut_ptr());
-            // SAFETY: bytes, offsets and hashes of their numbers.
-            let status =
-                unsafe { yurewha_data_hashes(b"abcd".as_ptr(), 4, offsets.as_ptr(), offsets.len(), out, count) };
-            (status, hashes.map(|hash| hash.words))
-        };
-        let expected = [&b"abc"[..], b"d"].map(|chunk| *compute_data_hash(chunk));
-        assert_eq!(hashed(&[0, 3, 4]), (YUREWHA_DONE, expected));
-        for offsets in [&[][..], &[0, 3], &[0, 3, 2], &[0, 3, 5], &[0, 1, 2, 3]] {
-            assert_eq!(hashed(offsets), (YUREWHA_ARGUMENTS, expected));
-        }
-    }
-}
+mod tests;

@@ -1,11 +1,11 @@
 // The module's exports and its memory.
 
 import { LAST_STATUS, STATUS, Trapped, errorOf, outOfMemory } from "./errors.js";
+import { STATUS_TEXT_LENGTH } from "./statuses.js";
 
 /** So many bytes are kept for the arguments and results of a call. */
 export const AREA = 1 << 20;
 const ALIGNMENT = 16;
-const STATUS_TEXT_LENGTH = 96;
 const decoder = new TextDecoder();
 
 /** Up to the next multiple of the alignment. */

@@ -1,0 +1,169 @@
+"""Compares the header with the crates: the exports with the types that cross, the statuses, and the members of structs in their order.
+
+No tool reads Rattle outside its toolchain, so the few forms that matter are read here.
+"""
+from __future__ import annotations
+
+import re
+from collections.abc import Iterable, Iterator
+from pathlib import Path
+
+from header import ROOT, Export, Header, Member, Struct, Unreadable
+
+CRATE = ROOT / "crates/yurewha_c/src"
+HASHER_CRATE = ROOT / "crates/keyed_blake3/src"
+#: The call that isn't proved: dist/processor_level.c has it.
+UNPROVED = "yurewha_processor_level"
+#: The struct whose members are private to the library, which uses the bytes that the header says.
+HASHER = "yurewha_hasher"
+SCALARS = {"u8": "uint8_t", "u32": "uint32_t", "u64": "uint64_t", "i32": "int32_t", "usize": "size_t", "bool": "bool"}
+SIZES = {"uint8_t": 1, "uint32_t": 4, "uint64_t": 8, "size_t": 8, "uint8_t *": 8}
+STRUCTS = {
+    "Hash": "yurewha_hash",
+    "Bytes": "yurewha_bytes",
+    "Chunk": "yurewha_chunk",
+    "Level": "yurewha_level",
+    "Hasher": HASHER,
+    "SubtreeHandle": "yurewha_subtree",
+    "SessionHandle": "yurewha_session",
+    "HashTreeHandle": "yurewha_hash_tree",
+    "OpenedRangeHandle": "yurewha_opened_range",
+}
+
+
+def sources(folder: Path) -> str:
+    """The text of a crate without comments."""
+    return "\n".join(re.sub(r"//[^\n]*", "", it.read_text()) for it in sorted(folder.rglob("*.rt")))
+
+
+def split(text: str) -> list[str]:
+    """The parts between commas that stand in no bracket."""
+    parts, depth, start = [], 0, 0
+    for at, character in enumerate(text):
+        depth += (character in "([{") - (character in ")]}")
+        if character == "," and depth == 0:
+            parts.append(text[start:at])
+            start = at + 1
+    return [part.strip() for part in [*parts, text[start:]] if part.strip()]
+
+
+def inside(text: str, start: int) -> str:
+    """What stands between the bracket at `start` and the one that closes it."""
+    depth = 0
+    for at in range(start, len(text)):
+        depth += (text[at] in "([{") - (text[at] in ")]}")
+        if depth == 0:
+            return text[start + 1 : at]
+    raise Unreadable(f"an open bracket: {text[start : start + 60]}")
+
+
+def in_c(rattle: str) -> str:
+    """The type of C as which a type crosses."""
+    for mark, of_c in (("*const ", "const {} *"), ("*mut ", "{} *"), ("&mut ", "{} *"), ("&", "const {} *")):
+        if rattle.startswith(mark):
+            return of_c.format(in_c(rattle[len(mark) :].strip()))
+    name = rattle.rsplit("::", 1)[-1]
+    return STRUCTS.get(name) or SCALARS.get(name) or name
+
+
+def arguments_of(rattle: str) -> list[str]:
+    """The C arguments that a parameter crosses as: a slice as two, a `Global` as none."""
+    if rattle == "Global":
+        return []
+    slice_of = re.fullmatch(r"(&mut |&)\[(\w+)\]", rattle)
+    return [in_c(slice_of[1] + slice_of[2]), "size_t"] if slice_of else [in_c(rattle)]
+
+
+def signatures(text: str) -> dict[str, str]:
+    """The types of each export, which isn't a call of another file."""
+    found = {}
+    for start in re.finditer(r'#\[unsafe\(no_mangle\)\]\s*pub extern "C" fn (yurewha_\w+)\(', text):
+        arguments = inside(text, start.end() - 1)
+        answer = re.match(r"\s*->\s*((?:\*const )?[\w:]+)", text[start.end() + len(arguments) + 1 :])
+        types = [it for argument in split(arguments) for it in arguments_of(argument.split(":", 1)[1].strip())]
+        found[start[1]] = signature(in_c(answer[1]) if answer else "void", types)
+    return found
+
+
+def signature(answer: str, types: Iterable[str]) -> str:
+    return f"{answer} ({', '.join(types) or 'void'})"
+
+
+def wanted_of(export: Export) -> str:
+    """The types of a call in Rattle, which has no `char`: a text is bytes, and a status is a number."""
+    types = signature(export.answer, (it.type for it in export.parameters))
+    return types.replace("yurewha_status", "uint32_t").replace("char", "uint8_t")
+
+
+def members_of(text: str, name: str, prefix: str = "") -> Iterator[Member]:
+    """The numbers of which a `#[repr(C)]` struct consists."""
+    start = re.search(rf"struct {name} \{{", text)
+    if not start or "#[repr(C)]" not in text[: start.start()].rsplit("}", 1)[-1].rsplit(";", 1)[-1]:
+        raise Unreadable(f"there is no struct {name} that is repr(C)")
+    for member in split(inside(text, start.end() - 1)):
+        parts = re.fullmatch(r"(?:pub(?:\(\w+\))? )?(\w+): (.*)", member, re.S)
+        if re.match(r"(pub )?ghost ", member) or (parts and parts[2] == "Global"):
+            continue
+        if not parts:
+            raise Unreadable(member)
+        kind, count = parts[2], 1
+        while kind.startswith("["):
+            kind, length = kind[1:-1].rsplit(";", 1)
+            count *= number_of(text, length.strip())
+        if kind in SCALARS or kind.startswith("*"):
+            yield Member(prefix + parts[1], in_c(kind), count)
+        else:
+            yield from members_of(text, kind, f"{prefix}{parts[1]}.")
+
+
+def number_of(text: str, word: str) -> int:
+    said = re.search(rf"const {word}: usize = (\d+);", text)
+    return int(said[1] if said else word)
+
+
+def flattened(struct: Struct, structs: dict[str, Struct]) -> list[Member]:
+    """The numbers of which a struct of the header consists."""
+    numbers = []
+    for member in struct.members:
+        if member.type in structs:
+            inner = flattened(structs[member.type], structs)
+            numbers += [Member(f"{member.name}.{it.name}", it.type, it.count * member.count) for it in inner]
+        else:
+            numbers.append(member)
+    return numbers
+
+
+def of_exports(header: Header, text: str) -> Iterator[str]:
+    wanted = {it.name: wanted_of(it) for it in header.exports if it.name != UNPROVED}
+    found = signatures(text)
+    for name in sorted({*wanted, *found}):
+        if wanted.get(name) != found.get(name):
+            yield f"{name}: it has\n    {found.get(name)}\nand the header\n    {wanted.get(name)}"
+
+
+def of_statuses(header: Header, text: str) -> Iterator[str]:
+    found = {f"YUREWHA_{name}": int(number) for name, number in re.findall(r"pub const (\w+): u32 = (\d+);", text)}
+    for name in sorted({*header.statuses, *found}):
+        if header.statuses.get(name) != found.get(name):
+            yield f"{name}: it has {found.get(name)}, and the header {header.statuses.get(name)}"
+
+
+def of_structs(header: Header, text: str) -> Iterator[str]:
+    structs = {it.name: it for it in header.structs}
+    if {*structs} != {*STRUCTS.values()}:
+        yield f"not in both: {sorted({*structs} ^ {*STRUCTS.values()})}"
+    for rattle, name in STRUCTS.items():
+        found, wanted = list(members_of(text, rattle)), structs.get(name)
+        if name == HASHER and wanted:
+            used = sum(SIZES[it.type] * it.count for it in found)
+            if not used == header.used_of_hasher <= wanted.size:
+                yield f"{name}: it uses {used} bytes, and the header says {header.used_of_hasher} of {wanted.size}"
+        elif wanted and found != flattened(wanted, structs):
+            yield f"{name}: it has\n    {found}\nand the header\n    {flattened(wanted, structs)}"
+
+
+def differences(header: Header) -> Iterator[str]:
+    text = sources(CRATE)
+    yield from of_exports(header, text)
+    yield from of_statuses(header, text)
+    yield from of_structs(header, f"{text}\n{sources(HASHER_CRATE)}")

@@ -1,0 +1,111 @@
+"""The manual page of the header, yurewha.h(3): its comments, and its declarations without attributes."""
+from __future__ import annotations
+
+import re
+from collections.abc import Iterable, Iterator
+
+from clang.cindex import Cursor, CursorKind, Token
+from header import HEADER, Header, version
+
+HEAD = """\
+.TH YUREWHA.H 3 "" "yurewha" "Library Functions Manual"
+.SH NAME
+yurewha.h \\- hashes of the Hugging Face Xet store, and merging of ranges of chunks
+.SH SYNOPSIS
+.EX
+.B #include <yurewha.h>
+.EE
+.PP
+.B cc
+.I file.c
+.B $(pkg\\-config \\-\\-cflags \\-\\-libs yurewha)
+.SH DESCRIPTION"""
+FOOT = """\
+.SH SEE ALSO
+.BR xetroot (1),
+.BR xetrange (1)
+"""
+#: The version whose calls nothing is said of.
+FIRST = "1.0"
+#: What may begin a line of a comment: a status with what it means, a number with its rule, or a point of a list.
+ITEM = re.compile(r"\s*([A-Z]+(?:_[A-Z]+)*(?: \+ rule)?|\d+)(?:\s\s+)(\S.*)|- (.*)")
+
+
+def escaped(text: str) -> str:
+    """A line of text for groff: no line begins with a control character, and hyphens stay as they are."""
+    text = text.replace("\\", "\\e").replace("-", "\\-").replace("^", "\\(ha").replace("`", "")
+    return "\\&" + text if text.startswith((".", "'")) else text
+
+
+def prose(comment: str) -> Iterator[str]:
+    """The paragraphs, lists and statuses of a comment."""
+    is_item = False
+    for line in comment.split("\n"):
+        line = re.sub(r"^ ?\*? ?", "", line.rstrip())
+        item = ITEM.fullmatch(line)
+        if not line:
+            is_item = False
+            yield ".PP"
+        elif item and item[3] is not None:
+            is_item = True
+            yield from (".IP \\(bu 2", escaped(item[3]))
+        elif item:
+            is_item = True
+            yield from (".TP 18", f".B {escaped(item[1])}", escaped(item[2]))
+        else:
+            if is_item and not line.startswith(" "):
+                is_item = False
+                yield ".PP"
+            yield escaped(line.strip())
+
+
+def heading(text: str) -> Iterator[str]:
+    title, _, rest = text.partition(":")
+    yield f".SH {escaped(title.upper())}"
+    if rest:
+        yield escaped(rest.strip().capitalize() + ".")
+
+
+def lines_of(cursor: Cursor) -> range:
+    """The lines of a declaration. Those of a call begin with its type, below its attributes."""
+    start = cursor.location if cursor.kind == CursorKind.FUNCTION_DECL else cursor.extent.start
+    return range(start.line, cursor.extent.end.line + 1)
+
+
+def code(declarations: list[Cursor], lines: list[str]) -> Iterator[str]:
+    """Declarations as the header has them, and which version first had the calls among them."""
+    kept = [number for it in declarations for number in lines_of(it)]
+    shown = [number for number in range(min(kept), max(kept) + 1) if number in kept or not lines[number - 1]]
+    yield from (".PP", ".EX")
+    yield from (escaped(lines[number - 1]) for number in shown)
+    yield ".EE"
+    calls = [it for it in declarations if it.kind == CursorKind.FUNCTION_DECL]
+    for since in sorted({version(it) for it in calls} - {FIRST}):
+        names = [it.spelling for it in calls if version(it) == since]
+        yield from (".PP", f"{'' if len(names) == len(calls) else ', '.join(names) + ': '}Since version {since}.")
+
+
+def comments_shown(comments: Iterable[Token]) -> list[Token]:
+    """The comments that stand alone: the one at the top, and those from the first heading on."""
+    alone = [it for it in comments if it.location.column == 1]
+    first = next(at for at, it in enumerate(alone) if it.spelling.startswith("/* ----"))
+    return [alone[0], *alone[first:]]
+
+
+def page(header: Header, made: str) -> str:
+    lines = HEADER.read_text(encoding="utf-8").split("\n")
+    kinds = (CursorKind.FUNCTION_DECL, CursorKind.TYPEDEF_DECL, CursorKind.MACRO_DEFINITION)
+    shown = comments_shown(header.comments)
+    made_of = [f'.\\" {made}', HEAD]
+    follows_code = False
+    for comment, after in zip(shown, [*(it.location.line for it in shown[1:]), len(lines)]):
+        text = comment.spelling[2:-2].strip()
+        if text.startswith("----"):
+            made_of += heading(text[4:].strip())
+        else:
+            made_of += [*([".PP"] if follows_code else []), *prose(text)]
+        declared = [it for it in header.cursors if it.kind in kinds and comment.extent.end.line < it.location.line < after]
+        follows_code = bool(declared) and comment is not shown[0]
+        if follows_code:
+            made_of += code(declared, lines)
+    return "\n".join([*made_of, FOOT])
