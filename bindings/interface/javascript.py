@@ -1,4 +1,4 @@
-"""What the JavaScript package knows of the header: statuses.js."""
+"""What the JavaScript package knows of the header: constants.js."""
 from __future__ import annotations
 
 from header import Header
@@ -12,11 +12,11 @@ def short(name: str) -> str:
     return name.removeprefix("YUREWHA_")
 
 
-def statuses(header: Header, made: str) -> str:
+def constants(header: Header, made: str) -> str:
     by_number = sorted(header.statuses.items(), key=lambda it: it[1])
     numbers = {short(name): str(number) for name, number in by_number}
     errors = {str(number): f'"{header.errors[name]}"' for name, number in by_number if name in header.errors}
-    lengths = "".join(f"export const {short(name)} = {number};\n" for name, number in header.lengths.items() if "STATUS" in name)
+    lengths = "".join(f"export const {short(name)} = {number};\n" for name, number in header.lengths.items())
     return f"""\
 // {made}
 
@@ -28,5 +28,5 @@ export const STATUS = {{
 export const ERROR_NAMES = {{
 {lines(errors)}}};
 
-/** The greatest length of a status's text. */
+/** The lengths of a hash as hex text and as base64 text, and the greatest length of a status's text. */
 {lengths}"""

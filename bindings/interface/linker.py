@@ -1,7 +1,7 @@
 """What linkers and their tests read: which calls there are, and which version of the library first had each."""
 from __future__ import annotations
 
-from header import Export, Header
+from header import Header
 
 
 def numbers(version: str) -> list[int]:
@@ -25,17 +25,19 @@ def version_script(header: Header, made: str) -> str:
     """The versions of the shared library's symbols, for ld."""
     nodes, older = [], ""
     for version, names in by_version(header).items():
+        shown = "".join(f"        {name};\n" for name in names)
         hidden = "" if older else "    local:\n        *;\n"
-        nodes.append(f"\n{symbol_version(version)} {{\n    global:\n{''.join(f'        {it};{chr(10)}' for it in names)}{hidden}}}{older};\n")
+        nodes.append(f"{symbol_version(version)} {{\n    global:\n{shown}{hidden}}}{older};\n")
         older = f" {symbol_version(version)}"
-    return f"""\
+    head = f"""\
 /* {made}
  *
  * The versions of the shared library's symbols. An export has the version of the library that first had it, and keeps it. A program
  * then asks for the versions of what it calls, so that the dynamic linker refuses an older library that lacks one of them.
  * docs/ARCHITECTURE.md says when a number of the version changes.
  */
-{''.join(nodes).removeprefix(chr(10))}"""
+"""
+    return head + "\n".join(nodes)
 
 
 def debian_symbols(header: Header, made: str) -> str:
@@ -46,8 +48,5 @@ def debian_symbols(header: Header, made: str) -> str:
 
 def list_of_exports(header: Header, made: str) -> str:
     """Each call with the version of its symbol, in the order of names."""
-
-    def line(export: Export) -> str:
-        return f"{export.name} {symbol_version(export.version)}\n"
-
-    return f"# {made}\n{''.join(sorted(map(line, header.exports)))}"
+    lines = sorted(f"{export.name} {symbol_version(export.version)}\n" for export in header.exports)
+    return f"# {made}\n{''.join(lines)}"

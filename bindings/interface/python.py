@@ -74,4 +74,4 @@ def declarations(header: Header, made: str) -> str:
         f"{MEMBERS}MEMBERS: Dict[str, Tuple[Member, ...]] = {{\n{''.join(map(members, header.structs))}}}\n",
         f"{STRUCTS}STRUCTS: Dict[str, int] = {{\n{sizes}}}\n",
     )
-    return f"# {made}\n{HEAD}{chr(10).join(tables)}"
+    return f"# {made}\n{HEAD}" + "\n".join(tables)

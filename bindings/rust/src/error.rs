@@ -58,7 +58,7 @@ impl fmt::Display for CoreError {
         match self {
             CoreError::InvalidArguments => f.write_str("invalid arguments"),
             CoreError::SizeOverflow => f.write_str("size overflow"),
-            CoreError::OutOfMemory => f.write_str("out of memory"),
+            CoreError::OutOfMemory => StatusText::of(ffi::YUREWHA_MEMORY).fmt(f),
             CoreError::InvalidText => f.write_str("invalid text"),
             CoreError::InvalidJson(rule) => write!(f, "invalid JSON: {}", BrokenRule(*rule)),
             CoreError::InvalidProofJson(rule) => write!(f, "invalid JSON: {}", BrokenProofRule(*rule)),

@@ -1,6 +1,6 @@
 // The errors. They have the names of the library's.
 
-import { ERROR_NAMES, STATUS } from "./statuses.js";
+import { ERROR_NAMES, STATUS } from "./constants.js";
 
 export { STATUS };
 

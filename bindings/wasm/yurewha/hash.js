@@ -1,12 +1,11 @@
 // Hashes: values of 32 bytes.
 
 import { bytes, text, u64 } from "./arguments.js";
+import { BASE64_LENGTH, HEX_LENGTH } from "./constants.js";
 import { InvalidArguments } from "./errors.js";
 import { inspected, showing } from "./shown.js";
 
 export const HASH_LENGTH = 32;
-const HEX_LENGTH = 64;
-const BASE64_LENGTH = 43;
 const NO_HEX = "the hex text of a hash is 64 hex digits";
 const NO_BASE64 = "the base64 text of a hash is 43 characters that base64() gives";
 const decoder = new TextDecoder();

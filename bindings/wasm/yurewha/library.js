@@ -1,7 +1,7 @@
 // The module's exports and its memory.
 
 import { LAST_STATUS, STATUS, Trapped, errorOf, outOfMemory } from "./errors.js";
-import { STATUS_TEXT_LENGTH } from "./statuses.js";
+import { STATUS_TEXT_LENGTH } from "./constants.js";
 
 /** So many bytes are kept for the arguments and results of a call. */
 export const AREA = 1 << 20;

@@ -8,7 +8,7 @@ use crate::lent_chunks::{lend, node_of, room, zeros};
 use crate::merklehash::MerkleHash;
 #[cfg(feature = "serde")]
 use crate::status::done;
-use crate::status::{answer, plain, Refusal};
+use crate::status::{answer, plain, Refusal, StatusText};
 use std::fmt;
 use std::ops::Range;
 use std::ptr;
@@ -510,10 +510,10 @@ pub enum OpenFault {
 
 impl fmt::Display for OpenFault {
     fn fmt(&self, f: &mut fmt::Formatter<'_>) -> fmt::Result {
-        f.write_str(match self {
-            OpenFault::Mismatch => "the proof doesn't show this hash",
-            OpenFault::OutOfMemory => "out of memory",
-        })
+        match self {
+            OpenFault::Mismatch => f.write_str("the proof doesn't show this hash"),
+            OpenFault::OutOfMemory => StatusText::of(ffi::YUREWHA_MEMORY).fmt(f),
+        }
     }
 }
 

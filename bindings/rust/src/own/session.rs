@@ -7,7 +7,7 @@ use crate::handle::Owned;
 use crate::lent_chunks::{lend, room};
 use crate::merklehash::merkle_hash_subtree::MerkleHashSubtree;
 use crate::merklehash::MerkleHash;
-use crate::status::{answer, looked_up, plain, told, Refusal};
+use crate::status::{answer, looked_up, plain, told, Refusal, StatusText};
 use std::fmt;
 use std::ops::Range;
 use std::sync::MutexGuard;
@@ -41,13 +41,13 @@ pub enum SessionFault {
 
 impl fmt::Display for SessionFault {
     fn fmt(&self, f: &mut fmt::Formatter<'_>) -> fmt::Result {
-        f.write_str(match self {
-            SessionFault::Overlap => "a position is taken",
-            SessionFault::Positions => "positions past 2^64 - 1",
-            SessionFault::Sizes => "sizes past 2^64 - 1",
-            SessionFault::Memory => "out of memory",
-            SessionFault::Gap => "a position isn't taken, or one is past the total",
-        })
+        match self {
+            SessionFault::Overlap => StatusText::of(ffi::YUREWHA_SESSION_OVERLAP).fmt(f),
+            SessionFault::Positions => f.write_str("positions past 2^64 - 1"),
+            SessionFault::Sizes => f.write_str("sizes past 2^64 - 1"),
+            SessionFault::Memory => StatusText::of(ffi::YUREWHA_MEMORY).fmt(f),
+            SessionFault::Gap => f.write_str("a position isn't taken, or one is past the total"),
+        }
     }
 }
 

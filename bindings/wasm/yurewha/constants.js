@@ -30,5 +30,7 @@ export const ERROR_NAMES = {
     37: "SessionGap",
 };
 
-/** The greatest length of a status's text. */
+/** The lengths of a hash as hex text and as base64 text, and the greatest length of a status's text. */
+export const HEX_LENGTH = 64;
+export const BASE64_LENGTH = 43;
 export const STATUS_TEXT_LENGTH = 96;
