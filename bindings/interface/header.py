@@ -70,7 +70,8 @@ class Header:
 
 
 def spelled(c_type: Type) -> str:
-    return str(c_type.spelling).replace("_Bool", "bool")
+    """A type as C spells it. Data of any type crosses as bytes."""
+    return str(c_type.spelling).replace("_Bool", "bool").replace("const void *", "const uint8_t *")
 
 
 def member(cursor: Cursor) -> Member:

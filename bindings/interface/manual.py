@@ -38,11 +38,20 @@ def escaped(text: str) -> str:
 
 
 def prose(comment: str) -> Iterator[str]:
-    """The paragraphs, lists and statuses of a comment."""
-    is_item = False
+    """The paragraphs, lists, statuses and examples of a comment. The lines of an example are indented by four spaces."""
+    is_item, is_example = False, False
     for line in comment.split("\n"):
         line = re.sub(r"^ ?\*? ?", "", line.rstrip())
         item = ITEM.fullmatch(line)
+        if is_example and line and not line.startswith("    "):
+            is_example = False
+            yield ".EE"
+        if is_example or (line.startswith("    ") and not is_item):
+            if not is_example:
+                is_example = True
+                yield ".EX"
+            yield escaped(line)
+            continue
         if not line:
             is_item = False
             yield ".PP"
@@ -97,15 +106,17 @@ def page(header: Header, made: str) -> str:
     kinds = (CursorKind.FUNCTION_DECL, CursorKind.TYPEDEF_DECL, CursorKind.MACRO_DEFINITION)
     shown = comments_shown(header.comments)
     made_of = [f'.\\" {made}', HEAD]
-    follows_code = False
+    follows_text = False
     for comment, after in zip(shown, [*(it.location.line for it in shown[1:]), len(lines)]):
         text = comment.spelling[2:-2].strip()
         if text.startswith("----"):
             made_of += heading(text[4:].strip())
+            follows_text = ":" in text
         else:
-            made_of += [*([".PP"] if follows_code else []), *prose(text)]
+            made_of += [*([".PP"] if follows_text else []), *prose(text)]
+            follows_text = True
         declared = [it for it in header.cursors if it.kind in kinds and comment.extent.end.line < it.location.line < after]
-        follows_code = bool(declared) and comment is not shown[0]
-        if follows_code:
+        if declared and comment is not shown[0]:
             made_of += code(declared, lines)
+            follows_text = True
     return "\n".join([*made_of, FOOT])
