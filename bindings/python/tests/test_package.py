@@ -62,7 +62,8 @@ def header():
         types = []
         for argument in arguments.split(",") if arguments != "void" else ():
             kind = re.sub(r"\w+$", "", argument.strip()).strip()
-            types.append(re.sub(r"\s*\*", " *", kind))
+            # Data of any type crosses as bytes.
+            types.append(re.sub(r"\s*\*", " *", kind).replace("const void *", "const uint8_t *"))
         calls[name] = (answer, tuple(types))
     constants = {name: int(value) for name, value in re.findall(r"^#define (YUREWHA_\w+) (\d+)u", text, flags=re.M)}
     return calls, constants
