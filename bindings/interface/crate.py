@@ -18,6 +18,8 @@ UNPROVED = "yurewha_processor_level"
 HASHER = "yurewha_hasher"
 SCALARS = {"u8": "uint8_t", "u32": "uint32_t", "u64": "uint64_t", "i32": "int32_t", "usize": "size_t", "bool": "bool"}
 SIZES = {"uint8_t": 1, "uint32_t": 4, "uint64_t": 8, "size_t": 8, "uint8_t *": 8}
+#: An export: its name, its parameters and its answer.
+EXPORT = re.compile(r'#\[unsafe\(no_mangle\)\]\s*pub extern "C" fn (yurewha_\w+)\(([^)]*)\)(?:\s*->\s*((?:\*const )?[\w:]+))?')
 STRUCTS = {
     "Hash": "yurewha_hash",
     "Bytes": "yurewha_bytes",
@@ -36,27 +38,6 @@ def sources(folder: Path) -> str:
     return "\n".join(re.sub(r"//[^\n]*", "", it.read_text()) for it in sorted(folder.rglob("*.rt")))
 
 
-def split(text: str) -> list[str]:
-    """The parts between commas that stand in no bracket."""
-    parts, depth, start = [], 0, 0
-    for at, character in enumerate(text):
-        depth += (character in "([{") - (character in ")]}")
-        if character == "," and depth == 0:
-            parts.append(text[start:at])
-            start = at + 1
-    return [part.strip() for part in [*parts, text[start:]] if part.strip()]
-
-
-def inside(text: str, start: int) -> str:
-    """What stands between the bracket at `start` and the one that closes it."""
-    depth = 0
-    for at in range(start, len(text)):
-        depth += (text[at] in "([{") - (text[at] in ")]}")
-        if depth == 0:
-            return text[start + 1 : at]
-    raise Unreadable(f"an open bracket: {text[start : start + 60]}")
-
-
 def in_c(rattle: str) -> str:
     """The type of C as which a type crosses."""
     for mark, of_c in (("*const ", "const {} *"), ("*mut ", "{} *"), ("&mut ", "{} *"), ("&", "const {} *")):
@@ -64,6 +45,10 @@ def in_c(rattle: str) -> str:
             return of_c.format(in_c(rattle[len(mark) :].strip()))
     name = rattle.rsplit("::", 1)[-1]
     return STRUCTS.get(name) or SCALARS.get(name) or name
+
+
+def parts_of(list_of: str) -> list[str]:
+    return [part.strip() for part in list_of.split(",") if part.strip()]
 
 
 def arguments_of(rattle: str) -> list[str]:
@@ -75,13 +60,11 @@ def arguments_of(rattle: str) -> list[str]:
 
 
 def signatures(text: str) -> dict[str, str]:
-    """The types of each export, which isn't a call of another file."""
+    """The types of each export."""
     found = {}
-    for start in re.finditer(r'#\[unsafe\(no_mangle\)\]\s*pub extern "C" fn (yurewha_\w+)\(', text):
-        arguments = inside(text, start.end() - 1)
-        answer = re.match(r"\s*->\s*((?:\*const )?[\w:]+)", text[start.end() + len(arguments) + 1 :])
-        types = [it for argument in split(arguments) for it in arguments_of(argument.split(":", 1)[1].strip())]
-        found[start[1]] = signature(in_c(answer[1]) if answer else "void", types)
+    for name, parameters, answer in EXPORT.findall(text):
+        types = [it for parameter in parts_of(parameters) for it in arguments_of(parameter.split(":", 1)[1].strip())]
+        found[name] = signature(in_c(answer) if answer else "void", types)
     return found
 
 
@@ -96,24 +79,24 @@ def wanted_of(export: Export) -> str:
 
 
 def members_of(text: str, name: str, prefix: str = "") -> Iterator[Member]:
-    """The numbers of which a `#[repr(C)]` struct consists."""
-    start = re.search(rf"struct {name} \{{", text)
-    if not start or "#[repr(C)]" not in text[: start.start()].rsplit("}", 1)[-1].rsplit(";", 1)[-1]:
+    """The numbers of which a `#[repr(C)]` struct consists. A `Global` and what is ghost have no bytes."""
+    struct = re.search(rf"#\[repr\(C\)\][^;}}]*struct {name} \{{([^}}]*)\}}", text)
+    if not struct:
         raise Unreadable(f"there is no struct {name} that is repr(C)")
-    for member in split(inside(text, start.end() - 1)):
-        parts = re.fullmatch(r"(?:pub(?:\(\w+\))? )?(\w+): (.*)", member, re.S)
-        if re.match(r"(pub )?ghost ", member) or (parts and parts[2] == "Global"):
-            continue
+    for member in parts_of(struct[1]):
+        parts = re.fullmatch(r"(pub(?:\(\w+\))? )?(ghost )?(\w+): (.*)", member, re.S)
         if not parts:
             raise Unreadable(member)
-        kind, count = parts[2], 1
+        kind, count = parts[4], 1
+        if parts[2] or kind == "Global":
+            continue
         while kind.startswith("["):
             kind, length = kind[1:-1].rsplit(";", 1)
             count *= number_of(text, length.strip())
         if kind in SCALARS or kind.startswith("*"):
-            yield Member(prefix + parts[1], in_c(kind), count)
+            yield Member(prefix + parts[3], in_c(kind), count)
         else:
-            yield from members_of(text, kind, f"{prefix}{parts[1]}.")
+            yield from members_of(text, kind, f"{prefix}{parts[3]}.")
 
 
 def number_of(text: str, word: str) -> int:
