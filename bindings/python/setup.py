@@ -12,6 +12,7 @@ from __future__ import annotations
 import os
 import re
 import shutil
+import subprocess
 import tempfile
 from pathlib import Path
 
@@ -30,6 +31,8 @@ FOLDERS = {Path("../../dist"): ("*.c", "x86-64*.s", "aarch64.s", "targets.txt"),
 NAME = "libyurewha.so.1"
 #: What the wheel has: a library that is compiled here if this is empty.
 CHOSEN = os.environ.get("YUREWHA_LIBRARY", "")
+#: As in bindings/Makefile: by these the library says that it works with a protection of programs, which the start files may not say.
+PROTECTIONS = {"x86_64": "-fcf-protection=full", "aarch64": "-mbranch-protection=standard"}
 #: The oldest glibc that a manylinux wheel may ask for.
 GLIBC = (2, 17)
 
@@ -72,6 +75,14 @@ class BuildLibrary(build_ext):
     def get_ext_filename(self, name: str) -> str:
         return str(Path(*name.split(".")[:-1], Path(CHOSEN).name or NAME))
 
+    def takes(self, flag: str) -> bool:
+        """Whether the compiler knows a flag. An old one doesn't."""
+        words = [*self.compiler.compiler_so, flag, "-E", "-x", "c", os.devnull]
+        try:
+            return subprocess.run(words, capture_output=True, check=False).returncode == 0
+        except FileNotFoundError:  # as the build says next
+            return False
+
     def build_extension(self, extension: Extension) -> None:
         if CHOSEN:
             to = Path(self.get_ext_fullpath(extension.name))
@@ -83,9 +94,8 @@ class BuildLibrary(build_ext):
         copy_files(folder)
         extension.sources = sources(processor if system == "linux" else self.plat_name, folder)
         extension.include_dirs = [str(folder)]
-        if processor == "x86_64":
-            # As in bindings/Makefile: the library has both marks of the program's protection, which start files may lack.
-            extension.extra_compile_args.append("-fcf-protection=full")
+        if self.takes(PROTECTIONS[processor]):
+            extension.extra_compile_args.append(PROTECTIONS[processor])
             extension.extra_link_args.append("-nostartfiles")
         self.compiler.src_extensions.append(".s")
         super().build_extension(extension)

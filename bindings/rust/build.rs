@@ -21,6 +21,10 @@ fn main() {
     let mut build = cc::Build::new();
     // Also if the crate is built for debugging, since each call goes through this C.
     build.opt_level(2).flag("-std=c11");
+    // Each object has to say that it works with this protection, or the program has none. GCC before version 9 doesn't know it.
+    if env::var("CARGO_CFG_TARGET_ARCH").is_ok_and(|arch| arch == "aarch64") {
+        build.flag_if_supported("-mbranch-protection=standard");
+    }
     for name in ["processor_level.c", "heap.c"] {
         build.file(of_library(name));
     }

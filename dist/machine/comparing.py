@@ -60,7 +60,8 @@ def kinds_of(library: Library) -> List[int]:
     kinds: Dict[Tuple[bytes, int], int] = {}
     for place in sorted(library.decoded):
         it = library.image.instructions[place]
-        kinds.setdefault((it.code, place if "rip" in it.text else 0), place)
+        if it.text not in library.kind.UNCOMPARED:
+            kinds.setdefault((it.code, place if "rip" in it.text else 0), place)
     return list(kinds.values())
 
 

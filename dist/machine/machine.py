@@ -42,6 +42,8 @@ class Machine(ABC):
     SCRATCH: ClassVar[Sequence[int]]
     #: How the text of a branch with a condition begins.
     BRANCH: ClassVar[Pattern[str]]
+    #: Instructions that aren't compared with a processor, because it has keys of its own for them, or does nothing at them.
+    UNCOMPARED: ClassVar[Sequence[str]] = ()
 
     def __init__(self, image: Image, decoded: Dict[int, Tuple[Step, int]]) -> None:
         self.image = image

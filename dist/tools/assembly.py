@@ -10,6 +10,7 @@ from typing import Iterable
 
 import avx512
 import cut
+import marks
 import windows
 from cut import KERNELS
 from levels import Level, Part, Program, parts, version
@@ -48,8 +49,9 @@ INDIRECT_JUMP = re.compile(r"(?m)^\tjmpq\t\*")
 OTHER_FRAME = re.compile(
     r"(?m)^\t(?!\.|cmpq\t|(?:add|sub|and)q\t\$-?\d+, %rsp$|leaq\t-?\d+\(%rbp\), %rsp$|movq\t%rbp, %rsp$).*[ \t]%rsp$"
     r"|^\txchg.*%rsp|^\tpush.*\n(?:\t\.cfi_.*\n)*\tret")
-#: What isn't among the instructions of the proved library: lines of tables, and marks of targets of indirect jumps.
-ADDED = re.compile(r"(?m)^\t(?:\.cfi_.*|endbr64)\n|(?<=^\t)notrack (?=jmpq)")
+#: What isn't among the instructions of the proved library: lines of tables, marks of targets of indirect jumps, and signatures of the
+#: addresses to return to.
+ADDED = re.compile(r"(?m)^\t(?:\.cfi_.*|endbr64|bti\t[cj]|paciasp|autiasp)\n|(?<=^\t)notrack (?=jmpq)")
 
 
 def with_unwind_tables(text: str) -> str:
@@ -85,7 +87,7 @@ def module_of(part: Part, work: Path) -> Path:
     """The part's module. For x86-64, its functions ask for unwind tables, and those that get AVX-512 stay apart. For Windows, it is
     changed as windows.py says.
 
-    On aarch64 unwind tables would change instructions; there, frame pointers lead a debugger on.
+    On aarch64 unwind tables would change the order of instructions; there, they are made of the assembly.
     """
     if part.processor != "x86_64":
         return part.folder / "module"
@@ -148,6 +150,8 @@ def finished(part: Level | Program, text: str, sources: str) -> str:
         text = windows.in_coff(in_file(part, text)) + (windows.PROBE_TEXT if part.is_whole else "")
     elif part.has_kernels:
         text = PROTECTION_NOTE + in_file(part, with_branch_targets(text, [*exports, *KERNELS]))
+    else:
+        text = marks.with_marks(text, exports)
     return HEAD.format(version=version(), what=what_is(part), sources=sources) + text
 
 
@@ -185,7 +189,8 @@ def instructions_alone(part: Level | Program, text: str) -> str:
 
     It has the toolchain's names. In the place of a program's stubs are kernels without instructions.
     """
-    text = renamed(text.replace(PROTECTION_NOTE, ""), {own: name for name, own in OWN_NAMES.items()})
+    text = text.replace(PROTECTION_NOTE, "").replace(marks.NOTE, "")
+    text = renamed(text, {own: name for name, own in OWN_NAMES.items()})
     if part.has_kernels:
         text = cut.without_stubs(text)
         text = cut.with_empty_kernels(text) if isinstance(part, Program) else text.replace(cut.table(part), "")

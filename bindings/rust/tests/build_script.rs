@@ -16,6 +16,10 @@ const CC: &str = r#"
         pub fn flag(&mut self, _: &str) -> &mut Self {
             self
         }
+        pub fn flag_if_supported(&mut self, flag: &str) -> &mut Self {
+            println!("flag if supported {flag}");
+            self
+        }
         pub fn opt_level(&mut self, _: u32) -> &mut Self {
             self
         }
@@ -122,6 +126,18 @@ fn all_levels_of_the_targets_processor_are_compiled() {
         let output = run(target, &[]);
         assert!(output.status.success(), "{output:?}");
         assert_eq!(&compiled(&output), files, "{target}");
+    }
+}
+
+#[test]
+fn on_aarch64_what_is_compiled_is_protected() {
+    for (target, is_protected) in [
+        ("aarch64-unknown-linux-gnu", true),
+        ("x86_64-unknown-linux-gnu", false),
+    ] {
+        let printed = String::from_utf8(run(target, &[]).stdout).unwrap();
+        let flag = "flag if supported -mbranch-protection=standard\n";
+        assert_eq!(printed.contains(flag), is_protected, "{target}");
     }
 }
 

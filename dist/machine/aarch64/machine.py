@@ -23,6 +23,7 @@ class Aarch64(Machine):
     RESULT, STACK = 0, SP
     SCRATCH = (*range(19), LR)
     BRANCH = re.compile(r"b\.|cbn?z|tbn?z")
+    UNCOMPARED = ("paciasp", "autiasp")
 
     def put(self, register: int, size: int, value: Value) -> None:
         """Sets a general register. Four bytes clear the others."""

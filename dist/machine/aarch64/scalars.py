@@ -8,7 +8,7 @@ from __future__ import annotations
 
 from typing import TYPE_CHECKING, Callable, Dict, List, Optional, Tuple
 
-from aarch64.operands import LR, General, Place, is_general, number_of, shifted
+from aarch64.operands import LR, SP, General, Place, is_general, number_of, shifted
 from fault import Fault, number
 from words import M64, Value, Word, add, add_64, and_, high, low, or_, pair, shl, shl_64, shr, shr_64, xor
 
@@ -23,8 +23,10 @@ _CONDITIONS: Dict[str, Tuple[str, Callable[[Dict[str, bool]], bool]]] = {
     "ge": ("nv", lambda f: f["n"] == f["v"]), "lt": ("nv", lambda f: f["n"] != f["v"]),
     "gt": ("nzv", lambda f: not f["z"] and f["n"] == f["v"]), "le": ("nzv", lambda f: f["z"] or f["n"] != f["v"]),
 }
-#: Instructions that do nothing here.
-_NOTHING = ("nop", "bti", "hint", "paciasp", "autiasp")
+#: Instructions that do nothing here. At `bti` an indirect jump may arrive.
+_NOTHING = ("nop", "bti")
+#: Where the signature of an address to return to begins.
+_SIGNATURE_BIT = 48
 
 
 def holds(m: "Aarch64", condition: str) -> bool:
@@ -97,6 +99,33 @@ def _branch_if_bit(name: str, operands: List[str], at: int) -> "Step":
 def _trap(operands: List[str], at: int) -> "Step":
     def step(m: "Aarch64") -> Optional[int]:
         raise Fault("a trap")
+
+    return step
+
+
+def _signature(m: "Aarch64") -> int:
+    """What an address is signed with here: it is never zero, and differs for two stack pointers that are near each other."""
+    return (m.number(SP) >> 4 & 0x7FFF | 0x8000) << _SIGNATURE_BIT
+
+
+def _sign(operands: List[str], at: int) -> "Step":
+    """`paciasp`."""
+
+    def step(m: "Aarch64") -> None:
+        if m.number(LR) >> _SIGNATURE_BIT:
+            raise Fault("the address to return to is signed already")
+        m.general[LR] = m.number(LR) | _signature(m)
+
+    return step
+
+
+def _check_signature(operands: List[str], at: int) -> "Step":
+    """`autiasp`."""
+
+    def step(m: "Aarch64") -> None:
+        if m.number(LR) >> _SIGNATURE_BIT << _SIGNATURE_BIT != _signature(m):
+            raise Fault("the address to return to wasn't signed here with this stack pointer")
+        m.general[LR] = m.number(LR) ^ _signature(m)
 
     return step
 
@@ -286,7 +315,7 @@ def _compare_if(name: str, operands: List[str]) -> "Step":
 
 _BY_NAME: Dict[str, Callable[[List[str], int], "Step"]] = {
     "b": _jump, "bl": _call, "br": _jump_to_register, "ret": _jump_to_register, "brk": _trap, "udf": _trap,
-    "mov": _move, "movk": _move_part, "adrp": _page, "adr": _page,
+    "mov": _move, "movk": _move_part, "adrp": _page, "adr": _page, "paciasp": _sign, "autiasp": _check_signature,
 }
 _GROUPS: Dict[Callable[[str, List[str]], "Step"], Tuple[str, ...]] = {
     _add: ("add", "sub", "adds", "subs", "cmp", "cmn"), _of_bits: ("and", "orr", "eor", "bic", "ands", "bics", "tst"), _not: ("mvn", "neg"),
