@@ -15,6 +15,10 @@
 #error "yurewha is for x86-64 and little-endian aarch64, with pointers of 8 bytes: there is no library for this processor"
 #endif
 
+#ifdef __APPLE__
+#error "yurewha is for Linux and Windows: there is no library for macOS, where a Linux container runs it"
+#endif
+
 #ifdef __aarch64__
 
 const char *yurewha_processor_level(void)

@@ -1,6 +1,14 @@
 # For find_package(yurewha). The targets are yurewha::shared and yurewha::static; yurewha::yurewha is the shared one, or the
 # static one where BUILD_SHARED_LIBS is set to a false value. All may be moved together. The header is in one of the usual places,
 # seen from the library, of which Debian's is one; else where it was installed.
+if(NOT CMAKE_SYSTEM_NAME MATCHES "^(Linux|Windows)$")
+  set(yurewha_NOT_FOUND_MESSAGE
+    "There is no library for ${CMAKE_SYSTEM_NAME}: it is for Linux on x86_64 and aarch64, and for Windows on x86_64; elsewhere a Linux \
+container runs it, the JavaScript package runs as it is, and xet-core-structures has the same hashes")
+  set(yurewha_FOUND FALSE)
+  return()
+endif()
+
 get_filename_component(yurewha_libdir "${CMAKE_CURRENT_LIST_DIR}/../.." ABSOLUTE)
 set(yurewha_includedir "@includedir@")
 foreach(yurewha_folder "${yurewha_libdir}/../../include" "${yurewha_libdir}/../include")

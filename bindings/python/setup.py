@@ -57,7 +57,8 @@ def sources(processor: str, folder: Path) -> list[str]:
     if not levels:
         raise SystemExit(
             f"yurewha: there is no library for {processor}: it is compiled for Linux on x86_64 and aarch64; for Windows on x86_64, "
-            "YUREWHA_LIBRARY names the DLL that `make` builds")
+            "YUREWHA_LIBRARY names the DLL that `make` builds; elsewhere a Linux container runs it, and the JavaScript package runs as it "
+            "is")
     return [str(folder / name) for name in ("processor_level.c", "heap.c", *(f"{level}.s" for level in levels))]
 
 

@@ -163,6 +163,33 @@ def test_where_the_dll_is_found(tmp_path):
     assert "which has no libyurewha-1.dll" in found({**place, "YUREWHA_LIB_DIR": str(tmp_path)}, tmp_path, statement)
 
 
+#: What is said where there is no library.
+ELSEWHERE = "elsewhere a Linux container runs it, and the JavaScript package runs as it is"
+
+
+def test_there_is_no_library_for_other_systems(tmp_path):
+    copy = tmp_path / "yurewha"
+    shutil.copytree(PACKAGE, copy, ignore=shutil.ignore_patterns("lib", "__pycache__"))
+    statement = "import ctypes, pathlib, platform, sys; sys.platform = 'darwin'; import yurewha"
+    assert found({"PYTHONPATH": str(tmp_path)}, tmp_path, statement) == (
+        "ImportError: yurewha: there is no library for darwin: it is for Linux on x86_64 and aarch64, and for Windows on x86_64; "
+        + ELSEWHERE)
+
+
+@pytest.mark.skipif(not (PACKAGE.parent / "setup.py").exists(), reason="it needs the repository")
+@pytest.mark.parametrize("system", ["macosx-11.0-arm64", "macosx-10.13-x86_64", "linux-riscv64", "win-amd64"])
+def test_there_is_nothing_to_compile_for_other_systems(tmp_path, system):
+    pytest.importorskip("setuptools")
+    done = subprocess.run(
+        [sys.executable, "setup.py", "-q", "bdist_wheel", "--dist-dir", str(tmp_path)], cwd=PACKAGE.parent, capture_output=True,
+        env={**os.environ, "_PYTHON_HOST_PLATFORM": system}, text=True, check=False)
+    name = "riscv64" if system.startswith("linux") else system
+    assert done.returncode != 0 and not list(tmp_path.iterdir())
+    assert done.stderr.strip().rpartition("\n")[2] == (
+        f"yurewha: there is no library for {name}: it is compiled for Linux on x86_64 and aarch64; for Windows on x86_64, "
+        f"YUREWHA_LIBRARY names the DLL that `make` builds; {ELSEWHERE}")
+
+
 LEVELS = {"x86_64": ("x86-64", "x86-64-v2", "x86-64-v3", "x86-64-v4"), "aarch64": ("aarch64",)}
 
 

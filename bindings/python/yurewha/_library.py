@@ -176,6 +176,10 @@ PATH: str = find()
 try:
     _long = ctypes.CDLL(PATH)
 except OSError as error:
+    if sys.platform not in ("linux", "win32"):
+        raise ImportError(
+            f"yurewha: there is no library for {sys.platform}: it is for Linux on x86_64 and aarch64, and for Windows on x86_64; "
+            "elsewhere a Linux container runs it, and the JavaScript package runs as it is") from error
     raise ImportError(f"yurewha: {NAME} can't be loaded; YUREWHA_LIB_DIR may name its folder: {error}") from error
 _short = ctypes.PyDLL(PATH, handle=_long._handle)
 
