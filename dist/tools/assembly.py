@@ -51,7 +51,7 @@ OTHER_FRAME = re.compile(
     r"|^\txchg.*%rsp|^\tpush.*\n(?:\t\.cfi_.*\n)*\tret")
 #: What isn't among the instructions of the proved library: lines of tables, marks of targets of indirect jumps, and signatures of the
 #: addresses to return to.
-ADDED = re.compile(r"(?m)^\t(?:\.cfi_.*|endbr64|bti\t[cj]|paciasp|autiasp)\n|(?<=^\t)notrack (?=jmpq)")
+ADDED = re.compile(r"(?m)^\t(?:\.cfi_.*|endbr64|hint\t#(?:25|29|34|36))\n|(?<=^\t)notrack (?=jmpq)")
 
 
 def with_unwind_tables(text: str) -> str:

@@ -9,10 +9,14 @@ from __future__ import annotations
 
 import re
 from dataclasses import dataclass, replace
-from typing import Dict, Iterable, Iterator, List, Optional, Tuple
+from typing import Iterable, Iterator, NoReturn
 
 from proving import Fault
 
+#: The instructions `paciasp` and `autiasp`, which sign the address to return to and check it, as old assemblers know them, too.
+SIGN, CHECK = "hint\t#25", "hint\t#29"
+#: What is `.cfi_negate_ra_state` in newer assemblers: that the address is signed from here on, or isn't any more.
+NEGATE_SIGNATURE = "escape 0x2d"
 LABEL = re.compile(r"(\.L\w+):$")
 #: A load or a store of one or two registers, in the stack: its name, the registers, the base, and what is added before or after.
 ACCESS = re.compile(r"(ldr|ldp|str|stp)\t(\w+)(?:, (\w+))?, \[(sp|x29)(?:, #(-?\d+))?\](?:(!)|, #(-?\d+))?$")
@@ -36,14 +40,14 @@ class Frame:
 
     base: str = "sp"
     above_base: int = 0
-    above_sp: Optional[int] = 0
+    above_sp: int | None = 0
     #: Where registers are kept, from where the caller's frame begins.
-    kept: Tuple[Tuple[str, int], ...] = ()
+    kept: tuple[tuple[str, int], ...] = ()
     is_signed: bool = False
     #: A register with which a loop compares the stack pointer, and how far the caller's frame begins above the place to which it leads.
-    limit: Tuple[str, int] = ("", 0)
+    limit: tuple[str, int] = ("", 0)
 
-    def told(self) -> "Frame":
+    def told(self) -> Frame:
         """The frame as far as the table tells it."""
         return replace(self, above_sp=None, limit=("", 0))
 
@@ -58,7 +62,7 @@ class Frame:
             raise Fault(f"it isn't known where {base} leads")
         return found
 
-    def with_sp(self, above_sp: Optional[int]) -> "Frame":
+    def with_sp(self, above_sp: int | None) -> Frame:
         """The frame after a change of the stack pointer."""
         if self.base != "sp":
             return replace(self, above_sp=above_sp)
@@ -67,10 +71,12 @@ class Frame:
         return replace(self, above_sp=above_sp, above_base=above_sp)
 
 
-def after_access(frame: Frame, found: "re.Match[str]", wanted: Iterable[str]) -> Frame:
+def after_access(frame: Frame, found: re.Match[str], wanted: Iterable[str]) -> Frame:
     """The frame after a load or a store. The first store of a register that is wanted back keeps the caller's value."""
     name, first, second, base, offset, is_before, later = found.groups()
     added = int(offset or 0)
+    if base == "x29" and (is_before or later):
+        changed_otherwise(found[0])
     if base != frame.base and (base == "x29" or frame.above_sp is None):
         return frame
     if is_before:
@@ -86,27 +92,30 @@ def after_access(frame: Frame, found: "re.Match[str]", wanted: Iterable[str]) ->
     return replace(frame.with_sp(frame.above("sp") - int(later)) if later else frame, kept=tuple(sorted(kept.items())))
 
 
-def after_sum(frame: Frame, found: "re.Match[str]") -> Frame:
-    """The frame after a sum."""
+def after_sum(frame: Frame, found: re.Match[str]) -> Frame:
+    """The frame after a sum. Of other registers than the stack pointer and the frame pointer, the last one is known that lies below."""
     name, to, base, number, shift = found.groups()
-    by = (int(number) << (12 if shift else 0)) * (1 if name == "sub" else -1)
-    if base == frame.limit[0]:
-        return replace(frame, limit=(to, frame.limit[1] + by)) if to == base else frame
-    if base not in (frame.base, "sp") or base != frame.base and frame.above_sp is None:
-        return frame
+    known = {frame.limit[0]: frame.limit[1], "sp": frame.above_sp, frame.base: frame.above_base}.get(base)
+    above = None if known is None else known + (int(number) << (12 if shift else 0)) * (1 if name == "sub" else -1)
     if to == "sp":
-        return frame.with_sp(frame.above(base) + by)
-    if base == "sp" and to == "x29":
-        return replace(frame, base="x29", above_base=frame.above(base) + by)
-    return replace(frame, limit=(to, frame.above(base) + by)) if base == "sp" and name == "sub" else frame
+        return frame.with_sp(above)
+    if to == "x29":
+        return replace(frame, base="x29", above_base=above) if above is not None else changed_otherwise(found[0])
+    if to == frame.limit[0] or base == "sp" and name == "sub":
+        return replace(frame, limit=("", 0) if above is None else (to, above))
+    return frame
+
+
+def changed_otherwise(instruction: str) -> NoReturn:
+    raise Fault(f"the stack is changed in a way that isn't known: {instruction}")
 
 
 def after(frame: Frame, instruction: str, wanted: Iterable[str]) -> Frame:
     """The frame after an instruction, where the code goes on with the next. Some registers are wanted back."""
     instruction = re.sub(r"^mov\t(sp|x29), (sp|x29)$", r"add\t\1, \2, #0", instruction)
-    if instruction in ("paciasp", "autiasp"):
-        if frame.above_sp != 0 or frame.kept or frame.is_signed == (instruction == "paciasp"):
-            raise Fault(f"{instruction} stands where it may not be")
+    if instruction in (SIGN, CHECK):
+        if frame.above_sp != 0 or frame.kept or frame.is_signed == (instruction == SIGN):
+            raise Fault("the address to return to is signed or checked where it may not be")
         return replace(frame, is_signed=not frame.is_signed)
     if found := ACCESS.match(instruction):
         return after_access(frame, found, wanted)
@@ -115,7 +124,7 @@ def after(frame: Frame, instruction: str, wanted: Iterable[str]) -> Frame:
     if re.match(r"(?:and|mov)\tsp, x\d+", instruction):
         return frame.with_sp(None)
     if OTHER_CHANGE.match(instruction):
-        raise Fault(f"the stack is changed in a way that isn't known: {instruction}")
+        changed_otherwise(instruction)
     return frame
 
 
@@ -134,13 +143,13 @@ def is_instruction(line: str) -> bool:
 class Function:
     """The frames of a function, of which there are the lines after its name, and the labels to which its tables of jumps lead."""
 
-    def __init__(self, lines: List[str], led_to: Iterable[str]) -> None:
+    def __init__(self, lines: list[str], led_to: Iterable[str]) -> None:
         self.lines, self.led_to = lines, sorted(led_to)
         #: The registers that it gives back. What it stores of others isn't kept for the caller.
         self.wanted = {register for line in lines if (found := LOADED.match(line)) for register in KEPT.findall(found[1])}
         self.places = {found[1]: at for at, line in enumerate(lines) if (found := LABEL.match(line))}
         #: The frames before the lines that can be reached.
-        self.frames: Dict[int, Frame] = {}
+        self.frames: dict[int, Frame] = {}
         open_places = [(0, Frame())]
         while open_places:
             at, frame = open_places.pop()
@@ -150,7 +159,7 @@ class Function:
                 self.frames[at] = new
                 open_places += self.ways(at, new)
 
-    def ways(self, at: int, frame: Frame) -> Iterator[Tuple[int, Frame]]:
+    def ways(self, at: int, frame: Frame) -> Iterator[tuple[int, Frame]]:
         """The lines at which the function may go on after one, and the frames there."""
         if not is_instruction(self.lines[at]):
             yield at + 1, frame
@@ -169,9 +178,10 @@ class Function:
             is_loop = instruction.startswith("b.ne\t") and f"\tcmp\tsp, {register}" in self.lines[at - 2:at]
             yield at + 1, frame.with_sp(above) if is_loop else after(frame, instruction, self.wanted)
 
-    def told(self) -> Iterator[Tuple[int, str]]:
+    def told(self) -> Iterator[tuple[int, str]]:
         """The directives that make its table, each with the number of the line before which it stands."""
-        old, remembered = Frame().told(), None
+        old = Frame().told()
+        remembered: Frame | None = None
         for at, frame in sorted(self.frames.items()):
             new = frame.told()
             if not is_instruction(self.lines[at]) or new == old:
@@ -186,9 +196,9 @@ class Function:
                 yield from ((at, it) for it in changes(old, new))
             old = new
 
-    def with_table(self) -> List[str]:
+    def with_table(self) -> list[str]:
         """The lines, with the directives."""
-        found: Dict[int, List[str]] = {}
+        found: dict[int, list[str]] = {}
         for at, directive in self.told():
             found.setdefault(at, []).append(f"\t.cfi_{directive}")
         return ["\t.cfi_startproc", *(line for at, its in enumerate(self.lines) for line in (*found.get(at, ()), its))]
@@ -202,4 +212,4 @@ def changes(old: Frame, new: Frame) -> Iterator[str]:
     yield from (f"offset {register}, {place}" for register, place in new.kept if before.get(register) != place)
     yield from (f"restore {register}" for register in before if register not in now)
     if old.is_signed != new.is_signed:
-        yield "negate_ra_state"
+        yield NEGATE_SIGNATURE

@@ -9,8 +9,11 @@ from __future__ import annotations
 
 import re
 
-from frames import Function
+from frames import CHECK, SIGN, Function
 from proving import Fault
+
+#: The instructions `bti c` and `bti j`, where calls and jumps may arrive, as old assemblers know them, too.
+CALLED, JUMPED_TO = "hint\t#34", "hint\t#36"
 
 #: A section that says what the code is marked for: BTI (1) and PAC (2). The linker keeps what all objects say.
 NOTE = """\
@@ -34,21 +37,21 @@ LEAVING = re.compile(r"(?m)^\t(?:ret|b\t(?!\.L).*)$")
 OTHER_CALL = re.compile(r"(?m)^\t(?:blr.*|ret\t.*)$")
 
 
-def marked(body: str, led_to: "set[str]", is_export: bool) -> str:
+def marked(body: str, led_to: set[str], is_export: bool) -> str:
     """The lines of a function, with marks. It signs the address to return to, which is a mark of its beginning, too."""
-    body = re.sub(r"(?m)^(\.LBB\d+_\d+):\n", lambda it: it[0] + ("\tbti\tj\n" if it[1] in led_to else ""), body)
+    body = re.sub(r"(?m)^(\.LBB\d+_\d+):\n", lambda it: it[0] + (f"\t{JUMPED_TO}\n" if it[1] in led_to else ""), body)
     if IS_LOADED.search(body):
-        return "\tpaciasp\n" + LEAVING.sub(lambda it: f"\tautiasp\n{it[0]}", body)
-    return ("\tbti\tc\n" if is_export else "") + body
+        return f"\t{SIGN}\n" + LEAVING.sub(lambda it: f"\t{CHECK}\n{it[0]}", body)
+    return (f"\t{CALLED}\n" if is_export else "") + body
 
 
-def with_marks(text: str, exports: "list[str]") -> str:
+def with_marks(text: str, exports: list[str]) -> str:
     """Assembly for aarch64 with marks, tables for unwinding, and the note that says so."""
     if other := OTHER_CALL.search(text):
         raise Fault(f"a function is called, or left, by a register: {other[0].strip()}")
     led_to = set(ENTRY.findall(text))
 
-    def finished(found: "re.Match[str]") -> str:
+    def finished(found: re.Match[str]) -> str:
         body = marked(found[2], led_to, found[1] in exports)
         own = led_to.intersection(re.findall(r"(?m)^(\.LBB\d+_\d+):$", body))
         try:

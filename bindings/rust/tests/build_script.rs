@@ -131,10 +131,7 @@ fn all_levels_of_the_targets_processor_are_compiled() {
 
 #[test]
 fn on_aarch64_what_is_compiled_is_protected() {
-    for (target, is_protected) in [
-        ("aarch64-unknown-linux-gnu", true),
-        ("x86_64-unknown-linux-gnu", false),
-    ] {
+    for (target, is_protected) in [("aarch64-unknown-linux-gnu", true), ("x86_64-unknown-linux-gnu", false)] {
         let printed = String::from_utf8(run(target, &[]).stdout).unwrap();
         let flag = "flag if supported -mbranch-protection=standard\n";
         assert_eq!(printed.contains(flag), is_protected, "{target}");

@@ -21,8 +21,8 @@ PLANTS: Dict[str, List[Plant]] = {
         Plant("a shift in two blocks", "compression::two::compress_two_from", r"(shl\tv\d+\.4s, v\d+\.4s), #20", r"\1, #19", 2),
         Plant("half of a vector that isn't given back", "compression::two::compress_two_from", r"ldp\td9, d8, ", "ldp\td9, d7, ", -1),
         Plant("the flags of a parent", "hasher::Hasher::update", r"mov\tw4, #20", "mov\tw4, #16"),
-        Plant("a signature that isn't checked", "hasher::Hasher::update", "\tautiasp\n", ""),
-        Plant("a signature with another stack pointer", "hasher::Hasher::update", r"(\tpaciasp\n.*\n)(\tsub\tsp, sp, #\d+\n)", r"\2\1"),
+        Plant("a signature that isn't checked", "hasher::Hasher::update", "\thint\t#29\n", ""),
+        Plant("a signature with another stack pointer", "hasher::Hasher::update", r"(\thint\t#25\n.*\n)(\tsub\tsp, sp, #\d+\n)", r"\2\1"),
         Plant("a read after the message", of_width("chunks::take_block", 4), r"ldr\t(q\d+), \[x12, x10\]", r"ldr\t\1, [x12, x10, lsl #4]"),
     ],
 }
