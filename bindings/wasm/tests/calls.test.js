@@ -8,6 +8,7 @@ import { createServer } from "node:http";
 import { Readable } from "node:stream";
 import { test } from "node:test";
 import { fileURLToPath } from "node:url";
+import { format } from "node:util";
 import { runInNewContext } from "node:vm";
 import * as errors from "../yurewha/index.js";
 import { STATUS, errorOf } from "../yurewha/errors.js";
@@ -61,10 +62,13 @@ test("a number is a BigInt or a safe integer, and of 64 bits", () => {
 
 test("bytes are a Uint8Array", () => {
     const hash = new y.Hash();
-    const calls = [
+    const ofData = [
         y.dataHash,
         y.internalNodeHash,
         (value) => new y.Hasher().update(value),
+        (value) => y.dataHashes(value, [0]),
+    ];
+    const others = [
         (value) => y.Hasher.keyed(value),
         (value) => new y.Hash(value),
         (value) => new y.Chunks(value),
@@ -72,18 +76,43 @@ test("bytes are a Uint8Array", () => {
         (value) => y.Subtree.fromJSON(value),
         (value) => y.Subtree.fromChunks(true, [], true).fileHash(value),
         (value) => new y.Session().finish(0, value),
-        (value) => y.dataHashes(value, [0]),
     ];
-    for (const call of calls) {
-        for (const value of [null, 1, [1], {}, new ArrayBuffer(32), new DataView(new ArrayBuffer(32)), new Int8Array(32), new Uint16Array(16)]) {
+    for (const call of [...ofData, ...others]) {
+        for (const value of [null, 1, [1], {}, new SharedArrayBuffer(32), new DataView(new ArrayBuffer(32)), new Int8Array(32), new Uint16Array(16)]) {
             assert.throws(() => call(value), TypeError);
         }
     }
+    for (const call of others) assert.throws(() => call(new ArrayBuffer(32)), TypeError);
     // A Uint8Array of another realm is one.
     const foreign = runInNewContext("Uint8Array.of(97, 98, 99)");
     assert.ok(!(foreign instanceof Uint8Array) && y.dataHash(foreign).equals(y.dataHash(Buffer.from("abc"))));
     assert.ok(y.dataHash(Buffer.from("abc")).equals(y.dataHash(new TextEncoder().encode("abc"))));
     assert.throws(() => y.dataHash("abc"), TypeError);
+});
+
+test("data may be an ArrayBuffer, of which all bytes are taken", () => {
+    class Lying extends ArrayBuffer {
+        get byteLength() {
+            return 3;
+        }
+    }
+    for (const length of [0, 3, 1026, AREA]) {
+        const data = counting(length);
+        const lying = new Lying(length);
+        new Uint8Array(lying).set(data);
+        for (const buffer of [data.buffer, lying, runInNewContext("new ArrayBuffer(length)", { length })]) {
+            const its = new Uint8Array(buffer);
+            its.set(data);
+            assert.ok(y.dataHash(buffer).equals(y.dataHash(data)));
+            assert.ok(y.internalNodeHash(buffer).equals(y.internalNodeHash(data)));
+            assert.ok(new y.Hasher().update(buffer).digest().equals(y.dataHash(data)));
+            assert.deepEqual(y.dataHashes(buffer, [0, length]).map(String), [y.dataHash(data).hex()]);
+        }
+    }
+    assert.deepEqual([`${y.dataHash(counting(1026).buffer)}`], hashesOfModel([[0, 1026]]));
+    const detached = new ArrayBuffer(32);
+    structuredClone(detached, { transfer: [detached] });
+    assert.throws(() => y.dataHash(detached), TypeError);
 });
 
 test("texts are strings, marks are true or false, and lists are of pairs", () => {
@@ -323,6 +352,33 @@ test("whatever gives pieces is hashed, and ended at a piece that is none", async
     for (const odd of ["text", 5, null, [1], new ArrayBuffer(3)]) await assert.rejects(y.hashStream(given(odd)), TypeError);
     assert.equal(ended, 6);
     for (const source of [null, undefined, 5, {}, "text", new Uint8Array(3)]) await assert.rejects(y.hashStream(source), TypeError);
+});
+
+test("short pieces of a stream go to the module in long ones, in their order", async () => {
+    const lengths = [];
+    const { yurewha: it } = await wrapped(BYTES.wasm32, (exports) => ({
+        ...exports,
+        yurewha_hasher_update: (state, at, length) => (lengths.push(Number(length)), exports.yurewha_hasher_update(state, at, length)),
+    }));
+    const data = bytesOf(1_000_000);
+    const cut = (...ends) => ends.map((end, k) => data.subarray(ends[k - 1] ?? 0, end));
+    const short = Array.from({ length: 1000 }, (_, k) => data.subarray(1000 * k, 1000 * (k + 1)));
+    const mixed = cut(10, 100_000, 100_001, 100_001, 165_537, 165_540, 400_000, 465_535, 531_071, 531_072, 999_999, 1_000_000);
+    for (const pieces of [short, mixed, [data]]) {
+        lengths.length = 0;
+        assert.ok((await it.hashStream(pieces)).equals(it.dataHash(data)));
+        const calls = lengths.filter((length) => length > 0).length;
+        assert.ok(calls <= 20, `${calls} calls`);
+    }
+    // A piece that is used again by its owner has been copied by then.
+    async function* reusing() {
+        const room = new Uint8Array(1000);
+        for (const piece of short) {
+            room.set(piece);
+            yield room;
+        }
+    }
+    assert.ok((await it.hashStream(reusing())).equals(it.dataHash(data)));
 });
 
 test("the hashes of many chunks are those of each", () => {
@@ -568,7 +624,7 @@ test("each declared name is there, and each that is there is declared", () => {
     };
     const own = (it) => Object.getOwnPropertyNames(it);
     assert.deepEqual(own(y).sort(), members("Yurewha").sort());
-    for (const name of ["Hash", "Chunks", "Hasher", "Subtree", "Session", "HashTree", "RangeProof", "OpenedRange"]) {
+    for (const name of ["Hash", "Chunks", "Hasher", "Subtree", "Session", "HashTree", "RangeProof", "OpenedRange", "VerifiedBlob"]) {
         const freed = ["Subtree", "Session", "HashTree", "OpenedRange"].includes(name) ? ["free"] : [];
         assert.deepEqual(own(y[name].prototype).filter((it) => it !== "constructor").sort(), [...members(name), ...freed].sort());
         const statics = own(y[name]).filter((it) => !["length", "name", "prototype"].includes(it));
@@ -576,4 +632,16 @@ test("each declared name is there, and each that is there is declared", () => {
     }
     const exported = [...declared.matchAll(/^export (?:class|function) (\w+)/gm)].map(([, name]) => name);
     assert.deepEqual(Object.keys(errors).sort(), exported.sort());
+});
+
+test("the examples of the declarations print what they say", async () => {
+    const declared = readFileSync(new URL("bindings/wasm/yurewha/index.d.ts", ROOT), "utf8");
+    const examples = [...declared.matchAll(/^ *\* ```js\n([^]*?)^ *\* ```$/gm)].map(([, lines]) => lines.replace(/^ *\* ?/gm, ""));
+    assert.equal(examples.length, 15);
+    for (const example of examples) {
+        const printed = [];
+        const run = new (async () => {}).constructor("y", "load", "console", example);
+        await run(await errors.load(BYTES.wasm32), () => errors.load(BYTES.wasm32), { log: (...values) => printed.push(format(...values)) });
+        assert.deepEqual(printed, [...example.matchAll(/console\.log.*; \/\/ (.*)$/gm)].map(([, said]) => said), example);
+    }
 });

@@ -20,6 +20,8 @@ import {
     type ChunkList,
     type Chunks,
     type ChunksConstructor,
+    type Data,
+    type FetchBytes,
     type Flat,
     type FlatInput,
     type FlatProof,
@@ -33,8 +35,10 @@ import {
     type HasherConstructor,
     type OpenedRange,
     type OpenedRangeConstructor,
+    type Prove,
     type RangeProof,
     type RangeProofConstructor,
+    type Received,
     type Run,
     type SavedSession,
     type Session,
@@ -43,6 +47,9 @@ import {
     type Subtree,
     type SubtreeConstructor,
     type U64,
+    type VerifiedBlob,
+    type VerifiedBlobConstructor,
+    type VerifiedBlobOptions,
     type Yurewha,
 } from "yurewha";
 
@@ -114,6 +121,16 @@ const opened: OpenedRange = proof.open(y.fileHash(pairs));
 const byRoot: OpenedRange = proofs[0]!.openRoot(tree.root);
 const places: (bigint | null)[] = [opened.begins(0), opened.ends(0n), opened.check(0, data), opened.fileSize];
 const part: Uint8Array | null = opened.read(1, 3n, data);
+const sure: [bigint, Uint8Array] = [opened.checkOrThrow(0, data.buffer), opened.readOrThrow(1, 3n, data.buffer)];
+const bytesFrom: FetchBytes = async (from, to) => data.subarray(from, to);
+const prove: Prove = (from, to, signal): Received<RangeProof> => (signal.aborted ? new Response() : tree.proof(...tree.chunksAt(from, to)!));
+const options: VerifiedBlobOptions = { salt: new Uint8Array(32), type: "text/plain", cacheSize: 7, chunkLimit: 7n };
+const blobs: VerifiedBlobConstructor = y.VerifiedBlob;
+const remote: VerifiedBlob = await blobs.open(y.fileHash(pairs), bytesFrom, prove, options);
+// It goes where a Blob's own members are called.
+const remotePart: Blob = remote.slice(2).slice(0, 5, "text/html");
+const inParts: [ArrayBuffer, string, Uint8Array] = [await remotePart.slice(0, 1).arrayBuffer(), await remote.slice(0, 7).text(), await remote.slice(0, 1).bytes()];
+const pieces: ReadableStream<Uint8Array> = remote.slice(0, 7).stream();
 const checked: string[] = [];
 for await (const it of new Blob([data]).stream().pipeThrough(opened.checking()) as unknown as AsyncIterable<Uint8Array>) checked.push(new TextDecoder().decode(it));
 const point: number | null = y.findStableStart(chunks) ?? y.findStableEnd(lists[0]!);
@@ -232,8 +249,12 @@ export async function refused(): Promise<void> {
     y.dataHash([1, 2]);
     // @ts-expect-error a text has no bytes yet
     y.dataHash("abc");
-    // @ts-expect-error a buffer is no Uint8Array
-    y.dataHash(data.buffer);
+    // @ts-expect-error other views are no Uint8Array
+    y.dataHash(new DataView(data.buffer));
+    // @ts-expect-error a salt is a Uint8Array
+    y.fileHash(pairs, new ArrayBuffer(32));
+    // @ts-expect-error a piece of a stream is a Uint8Array
+    await y.hashStream([data.buffer]);
     // @ts-expect-error there has to be data
     y.dataHash(undefined);
     // @ts-expect-error the data of chunks isn't their list
@@ -420,6 +441,26 @@ export async function refused(): Promise<void> {
     opened.read(data, 0, 1);
     // @ts-expect-error a size is a BigInt
     const fileSize: number = opened.fileSize;
+    // @ts-expect-error bytes come with their place
+    opened.readOrThrow(data);
+    // @ts-expect-error the proof of a file is needed
+    await y.VerifiedBlob.open(hash, "https://localhost/data");
+    // @ts-expect-error bytes are fetched, not their text
+    await y.VerifiedBlob.open(hash, () => "a chunk", prove);
+    // @ts-expect-error a proof isn't its text
+    await y.VerifiedBlob.open(hash, bytesFrom, () => proof.toJSON());
+    // @ts-expect-error a file is opened by a hash
+    await y.VerifiedBlob.open(hash.hex(), bytesFrom, prove);
+    // @ts-expect-error a limit is a number
+    await y.VerifiedBlob.open(hash, bytesFrom, prove, { chunkLimit: "7" });
+    // @ts-expect-error a file comes later
+    y.VerifiedBlob.open(hash, bytesFrom, prove).size;
+    // @ts-expect-error a part isn't made by new
+    new y.VerifiedBlob();
+    // @ts-expect-error a size can't be set
+    remote.size = 7;
+    // @ts-expect-error there is nothing to free
+    remote.free();
     // @ts-expect-error what is checked is bytes
     new ReadableStream<string>().pipeThrough(opened.checking());
     // @ts-expect-error the package comes later
@@ -438,6 +479,10 @@ export async function refused(): Promise<void> {
 }
 
 const source: Source = new URL("https://localhost/yurewha.wasm");
+const buffers: Data[] = [data, data.buffer];
+const blobbed = `${remote.size} ${remote.start} ${remote.type} ${remotePart.type}` === "207 0 text/plain text/html" && remotePart.size === 5 && inParts[0].byteLength === 1 &&
+    inParts[1] === "a chunk" && inParts[2].length === 1 && (await y.hashStream(pieces)).equals(hash) && remote.fileHash.equals(y.fileHash(pairs)) &&
+    sure[0] === 0n && sure[1].length === 2 && buffers.every((it) => y.dataHash(it).equals(hash) && hasher.clone().update(it).count === 14n);
 const same = final !== null && final.equals(root) && restored.root(2).equals(root) && session.root(2).equals(root) && files[0]!.equals(session.finish(2));
 const hashed = order === 0 && streamed.length === 4 && streamed.every((it) => it.equals(hash)) && counts[1].equals(hash) && counts[0] === 7n;
 const salted = file !== null && file.equals(files[1]!) && file.equals(session.finish(2, new Uint8Array(32)));
@@ -446,6 +491,6 @@ const proven = `${place} ${after} ${bytesOf}` === "0 1 0,7" && `${sides[0].lengt
     proofs.every((it) => it.equals(proof)) && `${places}` === "0,7,0,207" && part?.length === 2 && checked.join() === "a chunk" && byRoot.numChunks === 1;
 const more = taken && told[3] === 1 && read.length === 4 && !cut === (hash.remainder(4n) !== 0n) && others.length === 2 && !inner.equals(hash);
 console.log(
-    same && hashed && salted && listed && more && classes.length === 5 && provers.length === 3 && proven && kinds.length === 9 && source !== null && fresh === 2 && start > 0n &&
+    same && hashed && salted && listed && more && classes.length === 5 && provers.length === 3 && proven && blobbed && kinds.length === 9 && source !== null && fresh === 2 && start > 0n &&
         levels.length > 0 && parents >= 0 && point === null && `${first} ${rest[0]}`.length > 128,
 );

@@ -177,6 +177,38 @@ test("data is checked chunk by chunk, and bytes are read of all of it", () => {
     }
 });
 
+test("what can't be overlooked throws where the older calls return null", () => {
+    const mismatch = (message) => new errors.ProofMismatch(message);
+    assert.equal(opened(0, 1).checkOrThrow(0, DATA[0]), 0n);
+    for (const [name, it] of all) {
+        const range = it.RangeProof.fromChunks(chunks(it), 1, 3).open(it.Hash.fromHex(FILE_HASH));
+        const both = Buffer.concat(DATA.slice(1));
+        assert.deepEqual([range.checkOrThrow(0, DATA[1]), range.checkOrThrow(1n, DATA[2])], [7n, 14n], name);
+        assert.equal(`${Buffer.from(range.readOrThrow(12, 17n, both))}`, "erand");
+        assert.deepEqual(range.readOrThrow(25, 25, both), new Uint8Array());
+        for (const [chunk, given] of [[0, DATA[0]], [0, DATA[1].subarray(1)], [1, DATA[1]], [1n, new Uint8Array()]]) {
+            assert.throws(() => range.checkOrThrow(chunk, given), mismatch(`this isn't the data of chunk ${chunk} of the range`));
+        }
+        for (const chunk of [2, TWO_TO_32, MAX]) assert.throws(() => range.checkOrThrow(chunk, DATA[1]), new errors.InvalidArguments(`the range has no chunk ${chunk}`));
+        for (const [from, to] of [[0, 2], [8, 26], [10, 8], [8, MAX], [6, 6], [26, 26]]) {
+            const message = `the proof is of the bytes from 7 up to 25, and not of those from ${from} up to ${to}`;
+            assert.throws(() => range.readOrThrow(from, to, both), mismatch(message));
+        }
+        assert.throws(() => range.readOrThrow(8, 10, both.subarray(1)), mismatch("the range has 18 bytes, and the data 17"));
+        assert.throws(() => range.readOrThrow(8, 10, both.map((byte) => byte ^ 1)), mismatch("this isn't the data of the range"));
+        range.free();
+        for (const call of [() => range.checkOrThrow(0, DATA[1]), () => range.readOrThrow(8, 10, both)]) assert.throws(call, errors.EmptyHandle);
+    }
+});
+
+test("data of a range may be an ArrayBuffer", () => {
+    const range = opened(1, 3);
+    const [first, both] = [DATA[1], Buffer.concat(DATA.slice(1))].map((given) => Uint8Array.from(given).buffer);
+    assert.deepEqual([range.check(0, first), range.check(1, first), range.checkOrThrow(0, first)], [7n, null, 7n]);
+    for (const found of [range.read(12, 17, both), range.readOrThrow(12, 17, both)]) assert.equal(`${Buffer.from(found)}`, "erand");
+    assert.throws(() => range.readOrThrow(12, 17, first), new errors.ProofMismatch("the range has 18 bytes, and the data 7"));
+});
+
 test("a chunk that is longer than the area of calls is read", () => {
     const long = Uint8Array.from({ length: 3_000_000 }, (_, k) => k % 251);
     for (const [name, it] of all) {
@@ -318,9 +350,9 @@ test("arguments have their types", async () => {
     }
     for (const value of [-1, MAX + 1n]) assert.throws(() => range.begins(value), RangeError);
     for (const value of [null, "another", [1], {}, new ArrayBuffer(7)]) {
-        for (const call of [() => range.check(0, value), () => range.read(7, 8, value), () => y.RangeProof.fromFlat({ levels: [], nodes: value })]) {
-            assert.throws(call, TypeError);
-        }
+        const ofData = [() => range.check(0, value), () => range.checkOrThrow(0, value), () => range.read(7, 8, value), () => range.readOrThrow(7, 8, value)];
+        for (const call of value instanceof ArrayBuffer ? [] : ofData) assert.throws(call, TypeError);
+        assert.throws(() => y.RangeProof.fromFlat({ levels: [], nodes: value }), TypeError);
         if (typeof value !== "string") assert.throws(() => y.RangeProof.fromJSON(value), TypeError);
         assert.throws(() => new y.RangeProof(value), TypeError);
         assert.throws(() => proof.open(value), TypeError);

@@ -17,6 +17,10 @@ const sessionOf = (...puts) => {
 const treeOf = (count) => y.HashTree.fromChunks(list(count));
 const proofOf = (first, end) => y.RangeProof.fromChunks(list(30), first, end);
 const rangeOf = (first, end) => proofOf(first, end).openRoot(y.xorbHash(list(30)));
+const chunk = Buffer.from("one chunk");
+const single = y.HashTree.fromChunks([[y.dataHash(chunk), chunk.length]]);
+const openedBlob = (salt = new Uint8Array(32)) => y.VerifiedBlob.open(single.fileHash(salt), () => chunk, () => single.proof(0, 1), { salt });
+const [blob, salted] = [await openedBlob(), await openedBlob(new Uint8Array(32).fill(1))];
 
 /** Of each class, calls that make objects of different values. */
 const KINDS = {
@@ -32,6 +36,7 @@ const KINDS = {
     HashTree: [() => treeOf(0), () => treeOf(1), () => treeOf(30), () => treeOf(31)],
     RangeProof: [() => proofOf(0, 1), () => proofOf(0, 2), () => proofOf(7, 9)],
     OpenedRange: [() => rangeOf(0, 1), () => rangeOf(0, 2), () => rangeOf(7, 9)],
+    VerifiedBlob: [() => blob, () => salted, () => blob.slice(1), () => blob.slice(0, 8), () => blob.slice(1, 8), () => blob.slice(0, 8, "text/plain")],
     Session: [() => sessionOf(), () => sessionOf([0, 3]), () => sessionOf([1, 3]), () => sessionOf([0, 3], [7, 2])],
 };
 
@@ -179,6 +184,7 @@ test("Node's console shows what an object is", () => {
     const proof = y.RangeProof.fromChunks([[hash, 7]], 0, 1);
     assert.equal(plain(proof), "RangeProof { chunks: Chunks(1) [ [ [Hash], 7n ] ], numLevels: 0 }");
     assert.equal(plain(proof.openRoot(hash)), "OpenedRange { fileSize: 7n, numChunks: 1, begins: 0n, ends: 7n }");
+    assert.equal(plain(blob.slice(2, 5, "text/plain")), `VerifiedBlob { start: 2, size: 3, type: 'text/plain', fileHash: Hash(${blob.fileHash}) }`);
     range.free();
     assert.equal(inspect(range), "Subtree <the object was freed>");
     assert.equal(plain({ a: { b: { hash } } }, { depth: 1 }), "{ a: { b: [Object] } }");

@@ -9,6 +9,7 @@ const kindOf = said[Symbol.toStringTag].get;
 const bufferOf = said.buffer.get;
 const offsetOf = said.byteOffset.get;
 const lengthOf = said.length.get;
+const lengthOfBuffer = Object.getOwnPropertyDescriptor(ArrayBuffer.prototype, "byteLength").get;
 
 /** A number from 0 to 2^64 - 1 as a BigInt, from a BigInt or a safe integer. */
 export function u64(value, what) {
@@ -24,9 +25,25 @@ export function truth(value, what) {
 }
 
 /** The bytes of a Uint8Array, of this realm or another, as a plain view of them. */
-export function bytes(value, what) {
-    if (kindOf.call(value) !== "Uint8Array") throw new TypeError(`${what} is a Uint8Array`);
+export function bytes(value, what, kinds = "a Uint8Array") {
+    if (kindOf.call(value) !== "Uint8Array") throw new TypeError(`${what} is ${kinds}`);
     return new Uint8Array(bufferOf.call(value), offsetOf.call(value), lengthOf.call(value));
+}
+
+/** The bytes of data, which is a Uint8Array or an ArrayBuffer, of this realm or another, as a plain view of them. */
+export function dataOf(value, what) {
+    if (isBuffer(value)) return new Uint8Array(value);
+    return bytes(value, what, "a Uint8Array or an ArrayBuffer");
+}
+
+/** Whether a value is an ArrayBuffer: the getter throws for anything else, also for shared memory. */
+function isBuffer(value) {
+    try {
+        lengthOfBuffer.call(value);
+        return true;
+    } catch {
+        return false;
+    }
 }
 
 /** The UTF-8 bytes of a text. */

@@ -1,16 +1,19 @@
 // What hashes bytes.
 
-import { bytes, u64 } from "./arguments.js";
+import { bytes, dataOf, u64 } from "./arguments.js";
 import { InvalidArguments } from "./errors.js";
 import { HASH_LENGTH, thirtyTwo } from "./hash.js";
 import { AREA } from "./library.js";
 import { inspected, showing } from "./shown.js";
+import { readAll } from "./streams.js";
 
 /** The size of `yurewha_hasher`, which holds no pointers: a copy of its bytes is a copy of the hasher. */
 const STATE_LENGTH = 2048;
 /** So many bytes and so many chunks go to the module at once, so that they fit its area. */
 const PIECE = AREA / 2;
 const MOST_CHUNKS = 4096;
+/** Pieces of a stream that are shorter are gathered into pieces of this length, since a call costs as much as hashing some kilobytes. */
+const SHORT = 1 << 16;
 
 /** The class `Hasher`, whose state is a copy in JavaScript's memory, so that there is nothing to free. */
 function makeHasher(library, { result }) {
@@ -47,7 +50,7 @@ function makeHasher(library, { result }) {
         }
 
         update(data) {
-            const message = bytes(data, "data");
+            const message = dataOf(data, "data");
             let state = this.#state;
             for (let at = 0; at < message.length; at += PIECE) state = updated(state, message.subarray(at, at + PIECE));
             this.#state = state;
@@ -76,20 +79,35 @@ function makeHasher(library, { result }) {
     }
 }
 
-/** Takes each piece of a stream, which may not be iterable itself, and cancels it for what `take` throws. */
-async function readAll(stream, take) {
-    const reader = stream.getReader();
-    try {
-        for (;;) {
-            const { done, value } = await reader.read();
-            if (done) return;
-            take(value);
+/** Pieces of a message, which a hasher gets in longer ones. */
+class Gathered {
+    #hasher;
+    #room = new Uint8Array(SHORT);
+    #filled = 0;
+
+    constructor(hasher) {
+        this.#hasher = hasher;
+    }
+
+    add(given) {
+        const piece = bytes(given, "a piece of data");
+        if (piece.length > SHORT - this.#filled) this.#handOver();
+        if (piece.length >= SHORT) {
+            this.#hasher.update(piece);
+            return;
         }
-    } catch (error) {
-        reader.cancel(error).catch(() => {});
-        throw error;
-    } finally {
-        reader.releaseLock();
+        this.#room.set(piece, this.#filled);
+        this.#filled += piece.length;
+    }
+
+    digest() {
+        this.#handOver();
+        return this.#hasher.digest();
+    }
+
+    #handOver() {
+        this.#hasher.update(this.#room.subarray(0, this.#filled));
+        this.#filled = 0;
     }
 }
 
@@ -107,7 +125,7 @@ function checkedOffsets(offsets, length) {
 export function makeHashing(library, hashes) {
     const Hasher = makeHasher(library, hashes);
     const whole = (name, begin) => (data) => {
-        const message = bytes(data, "data");
+        const message = dataOf(data, "data");
         if (message.length > PIECE) return begin().update(message).digest();
         return hashes.result([message], (at, out) => library.call(name, at, BigInt(message.length), out));
     };
@@ -115,7 +133,7 @@ export function makeHashing(library, hashes) {
 
     function dataHashes(data, offsets) {
         const listed = [...offsets].map((offset, k) => u64(offset, `offset ${k}`));
-        const message = bytes(data, "data");
+        const message = dataOf(data, "data");
         const places = checkedOffsets(listed, message.length);
         const found = [];
         for (let from = 0, to; from + 1 < places.length; from = to) {
@@ -140,10 +158,10 @@ export function makeHashing(library, hashes) {
     }
 
     async function hashStream(source) {
-        const hasher = new Hasher();
-        if (typeof source?.getReader === "function") await readAll(source, (piece) => hasher.update(piece));
-        else for await (const piece of source) hasher.update(piece);
-        return hasher.digest();
+        const message = new Gathered(new Hasher());
+        if (typeof source?.getReader === "function") await readAll(source, (piece) => message.add(piece));
+        else for await (const piece of source) message.add(piece);
+        return message.digest();
     }
 
     const internalNodeHash = whole("yurewha_internal_node_hash", () => Hasher.internalNode());

@@ -4,6 +4,8 @@
  *
  * The algorithm is proved. Its translation to WebAssembly and this package around it are only tested.
  *
+ * Examples begin with `const y = await load();` and end with what they print.
+ *
  * Objects keep their bytes in private members. What comparisons need is an own property of each, so `deepStrictEqual` of two
  * objects compares their values. A structured clone is a plain object with these properties, and no call takes it. To hand an
  * object to a worker, send what it can be made of again: `bytes` of a `Hash`, `Chunks` or `RangeProof`, `toJSON()` of a
@@ -24,6 +26,9 @@ export type U64 = bigint | number;
 /** A chunk, or any other node of the tree: its hash, and its size in bytes. */
 export type Chunk = readonly [hash: Hash, size: U64];
 
+/** The data of a chunk, or of a range of chunks. Of an `ArrayBuffer`, all bytes are taken. */
+export type Data = Uint8Array | ArrayBuffer;
+
 /** A list of chunks. */
 export type ChunkList = Chunks | Iterable<Chunk>;
 
@@ -35,6 +40,12 @@ export type Source = (WebAssembly.Module & object) | ArrayBuffer | Uint8Array | 
  * own memory. Using an object of one instance with another is a `TypeError`.
  *
  * Rejects with `OutOfMemory`, or with the error of reading or compiling the module.
+ *
+ * @example
+ * ```js
+ * const { xorbHash } = await load();
+ * console.log(xorbHash([]).hex().length); // 64
+ * ```
  */
 export function load(source?: Source | PromiseLike<Source>): Promise<Yurewha>;
 
@@ -48,23 +59,47 @@ export interface Yurewha {
     readonly HashTree: HashTreeConstructor;
     readonly RangeProof: RangeProofConstructor;
     readonly OpenedRange: OpenedRangeConstructor;
+    readonly VerifiedBlob: VerifiedBlobConstructor;
 
-    /** Returns the hash of a chunk. `data` is its data. The hash is keyed BLAKE3 under the data key. */
-    dataHash(data: Uint8Array): Hash;
+    /**
+     * Returns the hash of a chunk. `data` is its data. The hash is keyed BLAKE3 under the data key.
+     *
+     * @example
+     * ```js
+     * const data = new TextEncoder().encode("a chunk");
+     * console.log(y.dataHash(data).hex()); // fc2d9e764137e94a0c4d7bdc0b584e73a34945fbf4efeef155acc8927c1399ff
+     * console.log(y.dataHash(data.buffer).equals(y.dataHash(data))); // true
+     * ```
+     */
+    dataHash(data: Data): Hash;
 
     /** Returns the hash of an inner node of the tree. `data` is its text. The hash is keyed BLAKE3 under the internal key. */
-    internalNodeHash(data: Uint8Array): Hash;
+    internalNodeHash(data: Data): Hash;
 
     /**
      * Returns the hashes of chunks whose data is in one array. The data of chunk i starts at `offsets[i]` and ends before
      * `offsets[i + 1]`, so there is one more offset than there are chunks.
      * @throws InvalidArguments there is no offset, an offset is less than the one before it, or greater than the number of bytes
+     *
+     * @example
+     * ```js
+     * const data = new TextEncoder().encode("a chunkanother");
+     * const [first, second] = y.dataHashes(data, [0, 7, 14]);
+     * console.log(first.equals(y.dataHash(data.slice(0, 7))), second.equals(y.dataHash(data.slice(7)))); // true true
+     * ```
      */
-    dataHashes(data: Uint8Array, offsets: Iterable<U64>): Hash[];
+    dataHashes(data: Data, offsets: Iterable<U64>): Hash[];
 
     /** Returns the hash of a chunk whose data comes in pieces, from a stream, such as that of a `Blob` or of Node, or from any other
      * iterable. It is the same as that of `dataHash`. A piece that isn't a `Uint8Array` is a `TypeError`; the stream is then
-     * cancelled. */
+     * cancelled. Short pieces are gathered, so that many of them take hardly longer than a few long ones.
+     *
+     * @example
+     * ```js
+     * const hash = await y.hashStream(new Blob(["a ", "chunk"]).stream());
+     * console.log(hash.hex()); // fc2d9e764137e94a0c4d7bdc0b584e73a34945fbf4efeef155acc8927c1399ff
+     * ```
+     */
     hashStream(source: ReadableStream<Uint8Array> | AsyncIterable<Uint8Array> | Iterable<Uint8Array>): Promise<Hash>;
 
     /**
@@ -72,6 +107,12 @@ export interface Yurewha {
      * chunks it is the hash at the top of their tree.
      * @throws SizeOverflow the sizes add up to more than 2^64 - 1
      * @throws OutOfMemory the memory can't grow
+     *
+     * @example
+     * ```js
+     * const chunks = ["a chunk", "another"].map((text) => [y.dataHash(new TextEncoder().encode(text)), text.length]);
+     * console.log(y.xorbHash(chunks).hex()); // afd6af66bfc0cef6ba85f876fc16efa5fa43c2187a61a17fb1bd26710cbad464
+     * ```
      */
     xorbHash(chunks: ChunkList): Hash;
 
@@ -80,6 +121,12 @@ export interface Yurewha {
      * @throws InvalidArguments the salt has another length
      * @throws SizeOverflow the sizes add up to more than 2^64 - 1
      * @throws OutOfMemory the memory can't grow
+     *
+     * @example
+     * ```js
+     * const chunks = ["a chunk", "another"].map((text) => [y.dataHash(new TextEncoder().encode(text)), text.length]);
+     * console.log(y.fileHash(chunks).hex()); // 34c6a21285884a20f7008f0e4732ea405f7fca63b68f66072805817902d23d0b
+     * ```
      */
     fileHash(chunks: ChunkList, salt?: Uint8Array): Hash;
 
@@ -91,7 +138,16 @@ export interface Yurewha {
     findStableEnd(nodes: ChunkList): number | null;
 }
 
-/** A hash: 32 bytes, which can't be changed. Its text is its hex text, in JSON too. */
+/**
+ * A hash: 32 bytes, which can't be changed. Its text is its hex text, in JSON too.
+ *
+ * @example
+ * ```js
+ * const hash = y.Hash.fromHex("fc2d9e764137e94a0c4d7bdc0b584e73a34945fbf4efeef155acc8927c1399ff");
+ * console.log(hash.base64(), `${hash}`.slice(0, 8)); // Suk3QXaeLfxzTlgL3HtNDPHu7_T7RUmj_5kTfJLIrFU fc2d9e76
+ * console.log(hash.equals(new y.Hash(hash.bytes)), hash.compare(new y.Hash())); // true 1
+ * ```
+ */
 export interface Hash {
     /** A copy of the 32 bytes. */
     readonly bytes: Uint8Array;
@@ -139,7 +195,16 @@ export interface HashConstructor {
     randomFromSeed(seed: U64): Hash;
 }
 
-/** A packed list of chunks, 40 bytes each. Calls use it directly; they pack other lists first. */
+/**
+ * A packed list of chunks, 40 bytes each. Calls use it directly; they pack other lists first.
+ *
+ * @example
+ * ```js
+ * const chunks = y.Chunks.from([[y.Hash.randomFromSeed(1), 5], [y.Hash.randomFromSeed(2), 7]]);
+ * console.log(chunks.length, chunks.at(-1)[1], chunks.bytes.length); // 2 7n 80
+ * console.log(y.xorbHash(y.Chunks.fromJSON(chunks.toJSON())).equals(y.xorbHash(chunks))); // true
+ * ```
+ */
 export interface Chunks extends Iterable<[hash: Hash, size: bigint]> {
     readonly length: number;
 
@@ -170,7 +235,18 @@ export interface ChunksConstructor {
     fromJSON(pairs: Iterable<readonly [hex: string, size: string]>): Chunks;
 }
 
-/** A hasher for a message that comes in pieces. It holds no memory of the module, so there is nothing to free. */
+/**
+ * A hasher for a message that comes in pieces. It holds no memory of the module, so there is nothing to free.
+ *
+ * @example
+ * ```js
+ * const text = new TextEncoder();
+ * const hasher = new y.Hasher().update(text.encode("a "));
+ * const other = hasher.clone().update(text.encode("part"));
+ * console.log(hasher.update(text.encode("chunk")).digest().equals(y.dataHash(text.encode("a chunk")))); // true
+ * console.log(other.digest().equals(y.dataHash(text.encode("a part"))), other.count); // true 6n
+ * ```
+ */
 export interface Hasher {
     /** The length of the message in bytes. */
     readonly count: bigint;
@@ -180,7 +256,7 @@ export interface Hasher {
 
     /** Appends a piece to the message.
      * @throws SizeOverflow the message would have more than 2^64 - 1 bytes */
-    update(data: Uint8Array): this;
+    update(data: Data): this;
 
     /** Returns the hash of the message. The hasher can take more pieces, and be asked again. */
     digest(): Hash;
@@ -216,6 +292,17 @@ export interface Freed {
  * merge first, the result is the subtree that `fromChunks` makes of all their chunks.
  *
  * A call that throws leaves each subtree unchanged. Any call may throw `OutOfMemory`, if the memory can't grow.
+ *
+ * @example
+ * ```js
+ * const chunks = Array.from({ length: 60 }, (_, seed) => [y.Hash.randomFromSeed(seed), 1000]);
+ * const front = y.Subtree.fromChunks(true, chunks.slice(0, 25), false);
+ * const back = y.Subtree.fromChunks(false, chunks.slice(25), true);
+ * const sent = y.Subtree.fromJSON(back.toJSON()); // as another machine gets it
+ * front.mergeInto(sent);
+ * console.log(front.finalHash().equals(y.xorbHash(chunks)), front.totalSize); // true 60000n
+ * for (const range of [front, back, sent]) range.free();
+ * ```
  */
 export interface Subtree extends Freed {
     /** Whether no chunk comes before the range. */
@@ -309,6 +396,18 @@ export interface FlatInput {
  * The chunks of a file by their positions. They come in any order. A position can be taken only once.
  *
  * A call that throws leaves the session unchanged. Any call may throw `OutOfMemory`, if the memory can't grow.
+ *
+ * @example
+ * ```js
+ * const chunks = Array.from({ length: 5 }, (_, seed) => [y.Hash.randomFromSeed(seed), 1000]);
+ * const session = new y.Session();
+ * session.put(3, chunks.slice(3));
+ * console.log(session.gaps(5)); // [ [ 0n, 3n ] ]
+ * const saved = JSON.parse(JSON.stringify(session.saved)); // what a file keeps
+ * const restored = y.Session.restore(saved);
+ * console.log(restored.put(0, chunks.slice(0, 3)), restored.finish(5).equals(y.fileHash(chunks))); // 3 true
+ * for (const it of [session, restored]) it.free();
+ * ```
  */
 export interface Session extends Freed {
     /**
@@ -407,6 +506,16 @@ export interface SavedSession {
  * with the number of chunks. Chunks and bytes count from 0.
  *
  * Any call may throw `OutOfMemory`, if the memory can't grow.
+ *
+ * @example
+ * ```js
+ * const chunks = Array.from({ length: 1000 }, (_, seed) => [y.Hash.randomFromSeed(seed), 50]);
+ * const tree = y.HashTree.fromChunks(chunks);
+ * const [first, end] = tree.chunksAt(120, 180);
+ * console.log(first, end, tree.bytesOf(first, end)); // 2 4 [ 100n, 200n ]
+ * console.log(tree.proof(first, end).open(tree.fileHash()).fileSize); // 50000n
+ * tree.free();
+ * ```
  */
 export interface HashTree extends Freed {
     /** The root of the chunks. With no chunks it is the default hash. */
@@ -451,6 +560,19 @@ export interface HashTreeConstructor {
  * parents of a level pass as chunks of their own list. Only data that an `OpenedRange` accepted is part of the file.
  *
  * A proof can't be changed, and holds no memory of the module, so there is nothing to free.
+ *
+ * @example
+ * ```js
+ * const chunks = Array.from({ length: 30 }, (_, seed) => [y.Hash.randomFromSeed(seed), 50]);
+ * const proof = y.RangeProof.fromChunks(chunks, 7, 9);
+ * const sent = y.RangeProof.fromJSON(proof.toJSON());
+ * console.log(sent.equals(proof), sent.chunks.length, new y.RangeProof(proof.bytes).equals(proof)); // true 2 true
+ * try {
+ *     sent.open(y.Hash.randomFromSeed(1)); // the hash of another file
+ * } catch (error) {
+ *     console.log(error.name); // ProofMismatch
+ * }
+ * ```
  */
 export interface RangeProof {
     /** The nodes of the range's chunks. There is at least one. */
@@ -534,6 +656,15 @@ export interface FlatProofInput {
  * If `check`, `read` or `checking` accepts data, each file with the hash that the proof was opened with has this data at this place, and
  * has `fileSize` bytes. Otherwise two messages with one BLAKE3 hash were found. A file is here a list of chunks. Until data was
  * accepted, the places and `fileSize` are the proof's own word. They tell a reader where to cut, and no more.
+ *
+ * @example
+ * ```js
+ * const data = ["a chunk", "another", "and a third"].map((text) => new TextEncoder().encode(text));
+ * const tree = y.HashTree.fromChunks(data.map((chunk) => [y.dataHash(chunk), chunk.length]));
+ * const range = tree.proof(1, 2).open(tree.fileHash());
+ * console.log(new TextDecoder().decode(range.readOrThrow(8, 10, data[1]))); // no
+ * console.log(range.checkOrThrow(0, data[1]), range.check(0, data[2])); // 7n null
+ * ```
  */
 export interface OpenedRange extends Freed {
     /** The proof that was opened. */
@@ -552,12 +683,23 @@ export interface OpenedRange extends Freed {
     ends(chunk: U64): bigint | null;
 
     /** Checks the data of a chunk. Returns where in the file it begins, if the data's hash and length are those of the chunk's node.
-     * Returns null if not, or if there is no such chunk. */
-    check(chunk: U64, data: Uint8Array): bigint | null;
+     * Returns null if not, or if there is no such chunk. Whoever forgets to look at the result accepts any data, so prefer
+     * `checkOrThrow`. */
+    check(chunk: U64, data: Data): bigint | null;
+
+    /** Checks the data of a chunk. Returns where in the file it begins.
+     * @throws ProofMismatch the data's hash or length isn't that of the chunk's node
+     * @throws InvalidArguments there is no such chunk */
+    checkOrThrow(chunk: U64, data: Data): bigint;
 
     /** Checks the data of all chunks of the range, one after another and nothing else, and returns a copy of the bytes of the file from
      * `from` up to, but not including, `to`. Returns null unless each chunk checks and the range holds these places. */
-    read(from: U64, to: U64, data: Uint8Array): Uint8Array | null;
+    read(from: U64, to: U64, data: Data): Uint8Array | null;
+
+    /** Does the same, and never returns null.
+     * @throws ProofMismatch a chunk doesn't check, the data has another length, or the range doesn't hold these places; the message says
+     * which */
+    readOrThrow(from: U64, to: U64, data: Data): Uint8Array;
 
     /**
      * Returns a stream that takes the data of the range in any pieces, such as the body of a response, and passes on each chunk once it
@@ -575,6 +717,99 @@ export interface OpenedRange extends Freed {
 
 export interface OpenedRangeConstructor {
     readonly prototype: OpenedRange;
+}
+
+/**
+ * A part of a file that is somewhere else, or the whole file. It is read like a `Blob`, and has the same members. What is read is
+ * fetched then, and checked against the file hash before it is handed on. Neither the data nor the proofs have to come from somebody
+ * trusted: each file with this hash has these bytes at this place, or two messages with one BLAKE3 hash were found.
+ *
+ * A call that reads rejects with `ProofMismatch` if other data or another proof comes, or more of it than was asked for; with the error
+ * of the request if that fails; and with `InvalidText` or `InvalidJson` if what comes is no proof. It hands on nothing then, and the
+ * next call asks again. A stream has handed on the pieces before, which were checked.
+ *
+ * It isn't an instance of `Blob`, so what the browser itself implements, such as `URL.createObjectURL`, doesn't take it. Code that calls
+ * its members does. It holds no memory of the module between calls, so there is nothing to free.
+ *
+ * @example
+ * ```js
+ * const data = ["a chunk", "another", "and a third"].map((text) => new TextEncoder().encode(text));
+ * const tree = y.HashTree.fromChunks(data.map((chunk) => [y.dataHash(chunk), chunk.length]));
+ * const whole = new Blob(data);
+ * // Somebody else keeps the data and the tree. A reader knows the file hash alone.
+ * const fetchBytes = (start, end) => whole.slice(start, end).arrayBuffer();
+ * const prove = (start, end) => tree.proof(...tree.chunksAt(start, end));
+ * const file = await y.VerifiedBlob.open(tree.fileHash(), fetchBytes, prove);
+ * console.log(file.size, await file.slice(8, 10).text()); // 25 no
+ * ```
+ */
+export interface VerifiedBlob {
+    /** The hash that everything is checked against. */
+    readonly fileHash: Hash;
+
+    /** Where in the file this part begins. */
+    readonly start: number;
+
+    /** The number of bytes of this part. */
+    readonly size: number;
+
+    /** The media type, in lower case, or no text. */
+    readonly type: string;
+
+    /** Returns a part of this one, and fetches nothing. Places are as in `slice` of a `Blob`: those below 0 count from the end. */
+    slice(start?: number, end?: number, type?: string): VerifiedBlob;
+
+    /** Returns a stream of the bytes, for readers with and without buffers of their own. At most 4 MiB are fetched at once, and one such
+     * piece ahead of the reader. To cancel the stream aborts its requests. */
+    stream(): ReadableStream<Uint8Array>;
+
+    /** Returns the bytes. */
+    bytes(): Promise<Uint8Array>;
+
+    /** Returns the bytes as an `ArrayBuffer`. */
+    arrayBuffer(): Promise<ArrayBuffer>;
+
+    /** Returns the bytes as UTF-8 text. */
+    text(): Promise<string>;
+}
+
+/** What a fetch or a proof may come as. The body of a response is read only as far as it may go. */
+export type Received<T> = T | Response | PromiseLike<T | Response>;
+
+/** What fetches the bytes of a file from `start` up to, but not including, `end`. The signal says when nobody waits any more. */
+export type FetchBytes = (start: number, end: number, signal: AbortSignal) => Received<Data>;
+
+/** What returns the proof of the chunks with the bytes from `start` up to, but not including, `end`; or a response with its JSON text. */
+export type Prove = (start: number, end: number, signal: AbortSignal) => Received<RangeProof>;
+
+export interface VerifiedBlobOptions {
+    /** The salt of the file hash, of 32 bytes; by default there is none. */
+    readonly salt?: Uint8Array;
+
+    /** The media type; by default there is none. */
+    readonly type?: string;
+
+    /** How many bytes are kept of what was used last, so that a reader of small parts fetches each chunk once; by default 4 MiB. */
+    readonly cacheSize?: U64;
+
+    /** How many bytes a proof's chunks may go beyond those that are asked for, on each side; by default 1 MiB. So a server can't make a
+     * reader fetch a whole file for one byte. */
+    readonly chunkLimit?: U64;
+}
+
+export interface VerifiedBlobConstructor {
+    readonly prototype: VerifiedBlob;
+
+    /**
+     * Opens a file with this hash. The first chunk is fetched and checked, which shows the size of the file.
+     *
+     * `source` is the address of the data, which is asked for ranges of bytes, or a function. A function can add headers and a time limit
+     * to its requests, and return their responses: `(start, end) => fetch(address, { headers, signal: AbortSignal.timeout(9999) })`.
+     *
+     * Rejects with `InvalidArguments` if the salt has another length, with a `RangeError` if the file has more than 2^53 - 1 bytes, and as
+     * calls that read do.
+     */
+    open(fileHash: Hash, source: string | URL | FetchBytes, prove: Prove, options?: VerifiedBlobOptions): Promise<VerifiedBlob>;
 }
 
 /** The base class of all errors of this package, except those for a wrong type or a number out of range. */

@@ -9,6 +9,7 @@ import { makeRangeProof } from "./range_proof.js";
 import { makeRoots } from "./roots.js";
 import { makeSession } from "./session.js";
 import { makeSubtree } from "./subtree.js";
+import { makeVerifiedBlob } from "./verified_blob.js";
 
 export function instanceOver(library) {
     const hashes = makeHash(library);
@@ -25,6 +26,7 @@ export function instanceOver(library) {
         HashTree,
         RangeProof: proofs.RangeProof,
         OpenedRange: ranges.OpenedRange,
+        ...makeVerifiedBlob(hashes, proofs),
         ...makeHashing(library, hashes),
         ...makeRoots(library, hashes, lists),
     });

@@ -1,7 +1,7 @@
 // Opened ranges: chunks of a file, whose data is checked.
 
-import { bytes, u64 } from "./arguments.js";
-import { ProofMismatch, STATUS } from "./errors.js";
+import { bytes, dataOf, u64 } from "./arguments.js";
+import { InvalidArguments, ProofMismatch, STATUS } from "./errors.js";
 import { Handle, Handles, disposable } from "./handle.js";
 import { inspected, showing } from "./shown.js";
 
@@ -79,7 +79,7 @@ export function makeOpenedRange(library) {
 
         check(chunk, data) {
             const number = u64(chunk, "the number of a chunk");
-            const given = bytes(data, "data");
+            const given = dataOf(data, "data");
             const { pointer } = this.#handle;
             return library.over([given, 8], (at, out) =>
                 accepted(library.call("yurewha_opened_range_check", pointer, number, at, BigInt(given.length), out), out),
@@ -88,13 +88,26 @@ export function makeOpenedRange(library) {
 
         read(from, to, data) {
             const [start, stop] = [u64(from, "a place"), u64(to, "a place")];
-            const given = bytes(data, "data");
+            const given = dataOf(data, "data");
             const { pointer } = this.#handle;
             // What was checked is the module's copy of the data, so the bytes are taken from there.
             return library.over([given, 8], (at, out) => {
                 const place = accepted(library.call("yurewha_opened_range_read", pointer, start, stop, at, BigInt(given.length), out), out);
                 return place === null ? null : library.read(BigInt(at) + place, Number(stop - start));
             });
+        }
+
+        checkOrThrow(chunk, data) {
+            const place = this.check(chunk, data);
+            if (place !== null) return place;
+            if (this.begins(chunk) === null) throw new InvalidArguments(`the range has no chunk ${chunk}`);
+            throw new ProofMismatch(`this isn't the data of chunk ${chunk} of the range`);
+        }
+
+        readOrThrow(from, to, data) {
+            const found = this.read(from, to, data);
+            if (found !== null) return found;
+            throw new ProofMismatch(this.#whyRefused(BigInt(from), BigInt(to), BigInt(dataOf(data, "data").length)));
         }
 
         checking() {
@@ -130,6 +143,16 @@ export function makeOpenedRange(library) {
         #lengthOf(chunk) {
             const places = this.#bytesOf(chunk);
             return places && Number(places[1] - places[0]);
+        }
+
+        /** Why `read` refused data of some length. */
+        #whyRefused(from, to, length) {
+            const [begin, end] = [this.begins(0), this.ends(this.numChunks - 1)];
+            if (from < begin || to < from || end < to) {
+                return `the proof is of the bytes from ${begin} up to ${end}, and not of those from ${from} up to ${to}`;
+            }
+            if (length !== end - begin) return `the range has ${end - begin} bytes, and the data ${length}`;
+            return "this isn't the data of the range";
         }
 
         /** A number that a call writes. */

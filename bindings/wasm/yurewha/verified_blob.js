@@ -1,0 +1,208 @@
+// Files that somebody else keeps. They are read like a Blob, and nothing is handed on that wasn't checked.
+
+import { dataOf, text, u64 } from "./arguments.js";
+import { ProofMismatch } from "./errors.js";
+import { thirtyTwo } from "./hash.js";
+import { KeptParts } from "./kept_parts.js";
+import { inspected, showing } from "./shown.js";
+import { bodyOf, readAll } from "./streams.js";
+
+/** So many bytes are fetched and checked at once, if more are asked for. */
+const PIECE = 1 << 22;
+const CACHE_SIZE = 1 << 22;
+const CHUNK_LIMIT = 1 << 20;
+/** The JSON of a proof may have so many bytes. */
+const PROOF_LIMIT = 1 << 24;
+
+/** What fetches bytes of the file at an address. */
+const byRange = (address) => (start, end, signal) => fetch(address, { headers: { Range: `bytes=${start}-${end - 1}` }, signal });
+
+/** A caller's function. */
+function callable(value, what) {
+    if (typeof value !== "function") throw new TypeError(`${what} is a function`);
+    return value;
+}
+
+/** A file that somebody else keeps, of which parts are fetched and checked. */
+class RemoteFile {
+    #open;
+    #fetch;
+    #prove;
+    #chunkLimit;
+    #kept;
+
+    /** `open` opens a proof, and `prove` returns one; `fetch` returns data or a response. */
+    constructor(open, fetch, prove, cacheSize, chunkLimit) {
+        this.#open = open;
+        this.#fetch = fetch;
+        this.#prove = prove;
+        this.#chunkLimit = chunkLimit;
+        this.#kept = new KeptParts(cacheSize);
+    }
+
+    /** The size of the file, which its first chunk shows. */
+    async size(signal) {
+        return (await this.#part(0, 1, signal)).size;
+    }
+
+    /** Bytes from a place on, in memory of their own: at least one, and none from `end` on, which isn't after the file's end. */
+    async bytes(start, end, signal) {
+        const stop = Math.min(end, start + PIECE);
+        const { begin, data } = this.#kept.at(start) ?? (await this.#part(start, stop, signal));
+        return data.slice(start - begin, stop - begin);
+    }
+
+    /** The part of the chunks with the bytes from one place up to another, once it is checked. It is kept. */
+    async #part(start, end, signal) {
+        const range = this.#open(await this.#prove(start, end, signal));
+        try {
+            const [begin, stop] = this.#places(range, start, end);
+            const received = await this.#fetch(begin, stop, signal);
+            const given = received instanceof Response ? await bodyOf(received, stop - begin) : received;
+            const part = { begin, data: range.readOrThrow(begin, stop, dataOf(given, "what fetch returns")), size: Number(range.fileSize) };
+            this.#kept.keep(part);
+            return part;
+        } finally {
+            range.free();
+        }
+    }
+
+    /** Where the chunks of a range begin and end, which have to be those with the bytes from one place up to another. */
+    #places(range, start, end) {
+        const [begin, stop, size] = [range.begins(0), range.ends(range.numChunks - 1), range.fileSize];
+        const told = `the proof is of the bytes from ${begin} up to ${stop}`;
+        const asked = `those from ${start} up to ${end}`;
+        if (begin > start || stop < end) throw new ProofMismatch(`${told}, and not of ${asked}`);
+        if (size > Number.MAX_SAFE_INTEGER) throw new RangeError(`the file has ${size} bytes, and a Blob at most 2^53 - 1`);
+        const most = Math.max(start - Number(begin), Number(stop) - end);
+        if (most > this.#chunkLimit) throw new ProofMismatch(`${told}, too far beyond ${asked}: see chunkLimit`);
+        return [Number(begin), Number(stop)];
+    }
+}
+
+/** The class `VerifiedBlob`. */
+export function makeVerifiedBlob({ Hash, rawOf }, { RangeProof }) {
+    class VerifiedBlob {
+        #fileHash;
+        #file;
+        #start;
+        #end;
+        #type;
+
+        constructor(fileHash, file, start, end, type) {
+            if (!(file instanceof RemoteFile)) throw new TypeError("a VerifiedBlob is made by open");
+            this.#fileHash = fileHash;
+            this.#file = file;
+            this.#start = start;
+            this.#end = end;
+            this.#type = type;
+            show(this);
+        }
+
+        static async open(fileHash, source, prove, { salt, type = "", cacheSize = CACHE_SIZE, chunkLimit = CHUNK_LIMIT } = {}) {
+            const isEmpty = rawOf(fileHash, "a file hash").every((byte) => byte === 0);
+            const fetch = typeof source === "string" || source instanceof URL ? byRange(source) : callable(source, "a source other than an address");
+            const [most, limit] = [u64(cacheSize, "a cache size"), u64(chunkLimit, "a chunk limit")].map(Number);
+            const proving = proofOf(callable(prove, "prove"));
+            const key = salt === undefined ? salt : thirtyTwo(salt, "a salt");
+            const file = new RemoteFile((proof) => proof.open(fileHash, key), fetch, proving, most, limit);
+            const kind = mediaType(type);
+            // The default hash is that of the empty file, of which no proof shows anything.
+            const size = isEmpty ? 0 : await file.size(new AbortController().signal);
+            return new VerifiedBlob(fileHash, file, 0, size, kind);
+        }
+
+        get fileHash() {
+            return this.#fileHash;
+        }
+
+        get start() {
+            return this.#start;
+        }
+
+        get size() {
+            return this.#end - this.#start;
+        }
+
+        get type() {
+            return this.#type;
+        }
+
+        slice(start = 0, end = this.size, type = "") {
+            const [from, to] = [start, end].map((place) => this.#placeOf(place));
+            return new VerifiedBlob(this.#fileHash, this.#file, from, Math.max(from, to), mediaType(`${type}`));
+        }
+
+        stream() {
+            const stop = new AbortController();
+            const pieces = this.#pieces(stop.signal);
+            let next = null;
+            const pull = async (controller) => {
+                const { value } = await (next ?? pieces.next());
+                // The next piece is fetched while the reader uses this one. If that fails, the next pull says so.
+                next = pieces.next();
+                next.catch(() => {});
+                controller.enqueue(value.piece);
+                if (value.isLast) controller.close();
+            };
+            return new ReadableStream({
+                type: "bytes",
+                start: (controller) => void (this.size === 0 && controller.close()),
+                pull,
+                cancel: (reason) => stop.abort(reason),
+            }, { highWaterMark: 0 });
+        }
+
+        async bytes() {
+            const room = new Uint8Array(this.size);
+            let filled = 0;
+            await readAll(this.stream(), (piece) => {
+                room.set(piece, filled);
+                filled += piece.length;
+            });
+            return room;
+        }
+
+        async arrayBuffer() {
+            return (await this.bytes()).buffer;
+        }
+
+        async text() {
+            return new TextDecoder().decode(await this.bytes());
+        }
+
+        /** The pieces of this part of the file, one after another. */
+        async *#pieces(signal) {
+            for (let at = this.#start; at < this.#end; ) {
+                const piece = await this.#file.bytes(at, this.#end, signal);
+                at += piece.length;
+                yield { piece, isLast: at === this.#end };
+            }
+        }
+
+        /** The place in the file of a place in this part, which counts from the end if it is negative. */
+        #placeOf(place) {
+            const number = Math.trunc(place) || 0;
+            return this.#start + Math.min(number < 0 ? Math.max(this.size + number, 0) : number, this.size);
+        }
+    }
+    const show = showing(VerifiedBlob, ["fileHash", "start", "size", "type"]);
+    inspected(VerifiedBlob, "VerifiedBlob", ({ start, size, type, fileHash }, inspect) => ` ${inspect({ start, size, type, fileHash })}`);
+    return { VerifiedBlob };
+
+    /** What returns a proof, of a caller's function that returns one or a response with its JSON. */
+    function proofOf(prove) {
+        return async (start, end, signal) => {
+            const received = await prove(start, end, signal);
+            const proof = received instanceof Response ? RangeProof.fromJSON(await bodyOf(received, PROOF_LIMIT)) : received;
+            if (!(proof instanceof RangeProof)) throw new TypeError("prove returns a RangeProof of the same module, or a Response");
+            return proof;
+        };
+    }
+}
+
+/** The type of a Blob that is made with this one. */
+function mediaType(type) {
+    text(type, "a type");
+    return /^[\x20-\x7e]*$/.test(type) ? type.toLowerCase() : "";
+}
