@@ -39,7 +39,7 @@ unsafe impl Send for ffi::yurewha_hash_tree {}
 // SAFETY: as above.
 unsafe impl Send for ffi::yurewha_opened_range {}
 
-/// A handle with one owner, which frees it.
+/// A handle with one owner, which frees it, to a value that calls change.
 ///
 /// Even a call that only reads a handle writes to it: it takes the object out and puts it back. So each call has
 /// exclusive use of the handle, and threads that read one value take turns.
@@ -74,5 +74,35 @@ impl<H: Handle> Drop for Owned<H> {
     fn drop(&mut self) {
         // SAFETY: the handle is empty or owns its memory, and is used for the last time.
         unsafe { H::FREE(self.get_mut()) }
+    }
+}
+
+/// A handle with one owner, which frees it, to a value that no call changes.
+///
+/// A call that reads writes to its handle, and not to the value. So each call gets a handle of its own, a copy of this
+/// one, and threads read one value at once.
+#[derive(Default)]
+pub(crate) struct Shared<H: Handle>(H);
+
+// SAFETY: while others can see it, nobody writes to this handle or to the value.
+unsafe impl<H: Handle> Sync for Shared<H> {}
+
+impl<H: Handle> Shared<H> {
+    /// A copy of the handle, for one call that reads. It doesn't free the value.
+    pub(crate) fn copy(&self) -> H {
+        // SAFETY: a handle is one pointer, and drops nothing.
+        unsafe { ptr::read(&self.0) }
+    }
+
+    /// The handle of a value that nobody else uses.
+    pub(crate) fn get_mut(&mut self) -> &mut H {
+        &mut self.0
+    }
+}
+
+impl<H: Handle> Drop for Shared<H> {
+    fn drop(&mut self) {
+        // SAFETY: the handle is empty or owns its memory, and is used for the last time.
+        unsafe { H::FREE(&mut self.0) }
     }
 }

@@ -39,8 +39,8 @@
 //!   `to_bytes`, `try_base64` and `try_from_base64`; of a subtree `try_from_chunks`, `try_clone`, `at_start`, `at_end`,
 //!   `total_size`, `merge_into_counted`, `file_hash`, `file_hash_with_salt`, `to_json` and `from_json`.
 //! - **Threads** that read one [`MerkleHashSubtree`](merklehash::MerkleHashSubtree) or [`Session`](own::Session) at
-//!   once take turns. Give each thread a clone if that is too slow. The same holds of a [`HashTree`](own::HashTree) and an
-//!   [`OpenedRange`](own::OpenedRange), which each thread can make for itself.
+//!   once take turns. Give each thread a clone if that is too slow. Threads that read one [`HashTree`](own::HashTree) or
+//!   [`OpenedRange`](own::OpenedRange) don't wait for each other.
 //! - **Errors.** [`CoreError`](error::CoreError) has the variants that these calls return, with its own texts.
 //! - **Targets** are Linux on x86-64 and aarch64, with glibc or musl.
 //!

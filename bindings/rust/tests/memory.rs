@@ -9,7 +9,10 @@ use std::ffi::c_void;
 use std::fmt::Debug;
 use std::panic::{self, catch_unwind, AssertUnwindSafe};
 use std::ptr;
+use std::sync::atomic::{AtomicUsize, Ordering};
 use std::sync::Once;
+use std::thread;
+use std::time::{Duration, Instant};
 use yurewha::error::CoreError;
 use yurewha::merklehash::{
     compute_data_hash, compute_internal_node_hash, file_hash, find_stable_end, find_stable_start, xorb_hash, DataHash,
@@ -35,12 +38,32 @@ thread_local! {
     static GREATEST: Cell<usize> = const { Cell::new(0) };
     // How many more blocks this thread took by `malloc` than it freed.
     static BLOCKS: Cell<i64> = const { Cell::new(0) };
+    // How many requests of this thread come before the one in which it waits for another thread; it waits in none,
+    // where nothing is said.
+    static BEFORE_MEETING: Cell<Option<u64>> = const { Cell::new(None) };
     // The file of the last panic of this thread.
     static PLACE: Cell<Option<String>> = const { Cell::new(None) };
 }
 
+// How many threads wait in a request, or did.
+static MEETING: AtomicUsize = AtomicUsize::new(0);
+
+// Waits until another thread waits as well, for at most ten seconds.
+fn meet() {
+    MEETING.fetch_add(1, Ordering::SeqCst);
+    let begun = Instant::now();
+    while MEETING.load(Ordering::SeqCst) < 2 && begun.elapsed() < Duration::from_secs(10) {
+        thread::yield_now();
+    }
+}
+
 // Counts a request of this size, and tells whether it is refused.
 fn is_refused(size: usize) -> bool {
+    let before = BEFORE_MEETING.get();
+    BEFORE_MEETING.set(before.and_then(|before| before.checked_sub(1)));
+    if before == Some(0) {
+        meet();
+    }
     REQUESTS.set(REQUESTS.get() + 1);
     GREATEST.set(GREATEST.get().max(size));
     let before = BEFORE.get();
@@ -189,6 +212,9 @@ fn range_proofs_are_refused() {
     assert_each_refusal(NO_MEMORY, || tree.proof(20..30));
     let proof = tree.proof(20..30).unwrap();
     assert_each_refusal(NO_MEMORY, || proof.try_clone());
+    assert_each_refusal(NO_MEMORY, || tree.try_clone());
+    let opened = proof.clone().open_root(&tree.root()).unwrap();
+    assert_each_refusal(NO_MEMORY, || opened.try_clone());
     assert_each_refusal(NO_MEMORY, || proof.to_json());
     let text = proof.to_json().unwrap();
     assert_each_refusal(NO_MEMORY, || RangeProof::from_json(&text));
@@ -377,9 +403,9 @@ fn a_value_that_is_dropped_frees_its_memory() {
         session.put(0, &nodes[..10]).unwrap();
         assert_eq!(session.clone().runs().count(), 1);
         let tree = HashTree::from_chunks(&nodes).unwrap();
-        let proof = tree.proof(7..9).unwrap();
+        let proof = tree.clone().proof(7..9).unwrap();
         assert!(proof.clone().open_root(&DataHash::marker()).is_err());
-        assert_eq!(proof.open_root(&tree.root()).unwrap().num_chunks(), 2);
+        assert_eq!(proof.open_root(&tree.root()).unwrap().clone().num_chunks(), 2);
         assert_eq!(session.finish(60), Ok(file_hash(&nodes)));
     });
     assert_eq!(left, 0);
@@ -435,8 +461,38 @@ fn calls_without_a_result_name_call_and_cause_in_a_panic() {
     assert_eq!(panic_of(|| session.range(0)), "Session::range: out of memory");
     assert_eq!(panic_of(|| session.run_from(0)), "Session::run_from: out of memory");
     assert_eq!(panic_of(|| session.clone()), "Session::clone: out of memory");
+    assert_eq!(panic_of(|| session == session), "Session::eq: out of memory");
     let proof = RangeProof::from_chunks(&nodes, 20..30).unwrap();
     assert_eq!(panic_of(|| proof.clone()), "RangeProof::clone: out of memory");
+    let tree = HashTree::from_chunks(&nodes).unwrap();
+    assert_eq!(panic_of(|| tree.clone()), "HashTree::clone: out of memory");
+    let range = proof.open_root(&tree.root()).unwrap();
+    assert_eq!(panic_of(|| range.clone()), "OpenedRange::clone: out of memory");
+    assert_eq!(
+        panic_of(|| drop(MerkleHashSubtree::default())),
+        "MerkleHashSubtree::from_chunks: out of memory"
+    );
+}
+
+// A proof is made of one block for its levels, one for its nodes, and those of the library. Both threads wait in the first
+// of these, so neither has locked the other out.
+#[test]
+fn proofs_of_one_tree_are_made_at_once() {
+    let tree = HashTree::from_chunks(&nodes(60)).unwrap();
+    thread::scope(|scope| {
+        for first in [20, 30] {
+            let tree = &tree;
+            scope.spawn(move || {
+                BEFORE_MEETING.set(Some(2));
+                let proof = tree.proof(first..first + 10);
+                assert_eq!((BEFORE_MEETING.get(), MEETING.load(Ordering::SeqCst)), (None, 2));
+                assert_eq!(
+                    proof.unwrap().open_root(&tree.root()).unwrap().begins(0),
+                    Some(first as u64)
+                );
+            });
+        }
+    });
 }
 
 #[test]

@@ -24,6 +24,7 @@ pub const AGGREGATED_HASHES_MEAN_TREE_BRANCHING_FACTOR: u64 = 4;
 /// # Panics
 ///
 /// If the sizes add up to more than `u64::MAX` or an allocation fails; see [`try_xorb_hash`].
+#[must_use]
 #[track_caller]
 pub fn xorb_hash(chunks: &[(MerkleHash, u64)]) -> MerkleHash {
     plain("xorb_hash", try_xorb_hash(chunks))
@@ -42,6 +43,7 @@ pub fn xorb_hash(chunks: &[(MerkleHash, u64)]) -> MerkleHash {
 /// # Panics
 ///
 /// In the same cases as [`xorb_hash`]; see [`try_file_hash`].
+#[must_use]
 #[track_caller]
 pub fn file_hash(chunks: &[(MerkleHash, u64)]) -> MerkleHash {
     plain("file_hash", try_file_hash(chunks))
@@ -61,6 +63,7 @@ pub fn file_hash(chunks: &[(MerkleHash, u64)]) -> MerkleHash {
 /// # Panics
 ///
 /// In the same cases as [`xorb_hash`]; see [`try_file_hash_with_salt`].
+#[must_use]
 #[track_caller]
 pub fn file_hash_with_salt(chunks: &[(MerkleHash, u64)], salt: &[u8; 32]) -> MerkleHash {
     plain("file_hash_with_salt", try_file_hash_with_salt(chunks, salt))

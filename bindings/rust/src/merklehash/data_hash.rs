@@ -61,6 +61,7 @@ impl DataHash {
     /// const ONE: DataHash = DataHash::from_words([1, 0, 0, 0]);
     /// assert_eq!(ONE, DataHash::from([1, 0, 0, 0]));
     /// ```
+    #[must_use]
     #[inline]
     pub const fn from_words(words: [u64; 4]) -> Self {
         DataHash(words)
@@ -74,6 +75,7 @@ impl DataHash {
     /// const ONES: DataHash = DataHash::from_bytes([0xff; 32]);
     /// assert_eq!(ONES, DataHash::marker());
     /// ```
+    #[must_use]
     #[inline]
     pub const fn from_bytes(bytes: [u8; 32]) -> Self {
         // SAFETY: 32 bytes are four words, and any bits are a valid word. The machine is little-endian.
@@ -88,6 +90,7 @@ impl DataHash {
     /// const BYTES: [u8; 32] = DataHash::marker().to_bytes();
     /// assert_eq!(BYTES, [0xff; 32]);
     /// ```
+    #[must_use]
     #[inline]
     pub const fn to_bytes(self) -> [u8; 32] {
         *self.bytes()
@@ -114,6 +117,7 @@ impl DataHash {
     ///
     /// assert!(DataHash::from([0x0123, 0, 0, 0]).hex().starts_with("00000000000001230000"));
     /// ```
+    #[must_use]
     pub fn hex(&self) -> String {
         self.to_string()
     }
@@ -125,7 +129,7 @@ impl DataHash {
         plain("DataHash::hex", digits)
     }
 
-    /// Returns the hash with this hex text: 64 digits, lower or upper case. Any other text is an error.
+    /// Returns the hash with this hex text: 64 digits, lower or upper case.
     ///
     /// ```
     /// use yurewha::merklehash::DataHash;
@@ -134,6 +138,11 @@ impl DataHash {
     /// assert_eq!(DataHash::from_hex(&"F".repeat(64)).unwrap(), hash);
     /// assert!(DataHash::from_hex("f").is_err());
     /// ```
+    ///
+    /// # Errors
+    ///
+    /// [`DataHashHexParseError`] for any other text. It has nothing in it, as in `xet-core-structures`;
+    /// [`parse_hex`](crate::own::parse_hex) says what is wrong.
     pub fn from_hex(text: &str) -> std::result::Result<Self, DataHashHexParseError> {
         // The library writes a hash in a fraction of the time that it needs to read one.
         match Self::guessed(text) {
@@ -171,6 +180,7 @@ impl DataHash {
     /// # Panics
     ///
     /// If an allocation fails; see [`try_base64`](Self::try_base64).
+    #[must_use]
     #[track_caller]
     pub fn base64(&self) -> String {
         plain("DataHash::base64", self.try_base64())
@@ -184,6 +194,10 @@ impl DataHash {
     /// assert_eq!(DataHash::marker().try_base64()?, format!("{}8", "_".repeat(42)));
     /// # Ok::<(), yurewha::error::CoreError>(())
     /// ```
+    ///
+    /// # Errors
+    ///
+    /// [`OutOfMemory`](CoreError::OutOfMemory) if an allocation fails
     pub fn try_base64(&self) -> Result<String> {
         // SAFETY: `text` passes a room with its length, and a length to write to.
         let text: [u8; ffi::YUREWHA_BASE64_LENGTH] =
@@ -196,7 +210,7 @@ impl DataHash {
         Ok(string)
     }
 
-    /// Returns the hash with this [`base64`](Self::base64) text. Any other text is an error.
+    /// Returns the hash with this [`base64`](Self::base64) text.
     ///
     /// ```
     /// use yurewha::merklehash::DataHash;
@@ -205,6 +219,10 @@ impl DataHash {
     /// assert_eq!(DataHash::from_base64(&hash.base64()).unwrap(), hash);
     /// assert!(DataHash::from_base64("AAAA").is_err());
     /// ```
+    ///
+    /// # Errors
+    ///
+    /// [`DataHashBytesParseError`] for any other text
     ///
     /// # Panics
     ///
@@ -227,6 +245,11 @@ impl DataHash {
     /// assert_eq!(DataHash::try_from_base64(&"A".repeat(43)).unwrap(), DataHash::default());
     /// assert!(matches!(DataHash::try_from_base64("?"), Err(HashTextError::Bytes(_))));
     /// ```
+    ///
+    /// # Errors
+    ///
+    /// - [`Bytes`](HashTextError::Bytes) for any other text
+    /// - [`OutOfMemory`](HashTextError::OutOfMemory) if an allocation fails
     pub fn try_from_base64(text: &str) -> std::result::Result<Self, HashTextError> {
         // SAFETY: a text of its length, and a hash to write to.
         answer(|hash: &mut Self| unsafe { ffi::yurewha_from_base64(text.as_ptr().cast(), text.len(), hash.out()) })
@@ -239,12 +262,13 @@ impl DataHash {
     ///
     /// assert_eq!(DataHash::from([1, 0, 0, 0]).as_bytes()[..9], [1, 0, 0, 0, 0, 0, 0, 0, 0]);
     /// ```
+    #[must_use]
     #[inline]
     pub fn as_bytes(&self) -> &[u8] {
         self.bytes()
     }
 
-    /// Returns the hash with these 32 bytes. A slice of another length is an error.
+    /// Returns the hash with the bytes of a slice, of which there have to be 32.
     ///
     /// ```
     /// use yurewha::merklehash::DataHash;
@@ -253,6 +277,10 @@ impl DataHash {
     /// assert_eq!(DataHash::from_slice(hash.as_bytes()).unwrap(), hash);
     /// assert!(DataHash::from_slice(&[0; 31]).is_err());
     /// ```
+    ///
+    /// # Errors
+    ///
+    /// [`DataHashBytesParseError`] for a slice of another length
     pub fn from_slice(bytes: &[u8]) -> std::result::Result<Self, DataHashBytesParseError> {
         <&[u8; 32]>::try_from(bytes)
             .map(Self::from)
@@ -266,6 +294,7 @@ impl DataHash {
     ///
     /// assert!(DataHash::random_from_seed(1).hex().starts_with("cfc5d07f6f03c29b"));
     /// ```
+    #[must_use]
     pub fn random_from_seed(seed: u64) -> Self {
         // SAFETY: a hash to write to.
         given(|hash: &mut Self| unsafe { ffi::yurewha_random_from_seed(seed, hash.out()) })
@@ -279,6 +308,7 @@ impl DataHash {
     /// let hash = DataHash::random_from_seed(1);
     /// assert_eq!(hash.hmac(HMACKey::default()), file_hash(&[(hash, 100)]));
     /// ```
+    #[must_use]
     pub fn hmac(&self, key: HMACKey) -> Self {
         // SAFETY: two hashes, and a third one to write to.
         given(|result: &mut Self| unsafe { ffi::yurewha_hmac(self.for_call(), key.for_call(), result.out()) })
@@ -291,6 +321,7 @@ impl DataHash {
     ///
     /// assert_eq!(*DataHash::marker(), [u64::MAX; 4]);
     /// ```
+    #[must_use]
     pub const fn marker() -> Self {
         DataHash([u64::MAX; 4])
     }
@@ -315,6 +346,7 @@ fn ascii(text: &[u8]) -> &str {
 ///
 /// assert!(compute_data_hash(b"abc").hex().starts_with("a8803506f7aff014"));
 /// ```
+#[must_use]
 pub fn compute_data_hash(bytes: &[u8]) -> DataHash {
     // SAFETY: bytes of their length, and a hash to write to.
     given(|hash: &mut DataHash| unsafe { ffi::yurewha_data_hash(bytes.as_ptr(), bytes.len(), hash.out()) })
@@ -329,6 +361,7 @@ pub fn compute_data_hash(bytes: &[u8]) -> DataHash {
 /// let text = format!("{} : 100\n{} : 100\n", chunks[0].0, chunks[1].0);
 /// assert_eq!(compute_internal_node_hash(text.as_bytes()), xorb_hash(&chunks));
 /// ```
+#[must_use]
 pub fn compute_internal_node_hash(bytes: &[u8]) -> DataHash {
     // SAFETY: bytes of their length, and a hash to write to.
     given(|hash: &mut DataHash| unsafe { ffi::yurewha_internal_node_hash(bytes.as_ptr(), bytes.len(), hash.out()) })

@@ -7,6 +7,7 @@ use crate::handle::Owned;
 use crate::in_form::InForm;
 use crate::lent_chunks::{lend, node_of, room, zeros};
 use crate::status::{answer, plain, told, told_if_there};
+use std::hash::{Hash, Hasher};
 use std::sync::MutexGuard;
 use std::{fmt, mem, ptr};
 
@@ -73,6 +74,7 @@ impl MerkleHashSubtree {
     ///
     /// If the sizes add up to more than `u64::MAX` or an allocation fails; see
     /// [`try_from_chunks`](Self::try_from_chunks).
+    #[must_use]
     #[track_caller]
     pub fn from_chunks(at_start: bool, chunks: &[(MerkleHash, u64)], at_end: bool) -> Self {
         plain(
@@ -92,6 +94,11 @@ impl MerkleHashSubtree {
     /// let refused = MerkleHashSubtree::try_from_chunks(true, &[chunk; 2], true);
     /// assert_eq!(refused, Err(CoreError::SizeOverflow));
     /// ```
+    ///
+    /// # Errors
+    ///
+    /// - [`SizeOverflow`](crate::error::CoreError::SizeOverflow) if the sizes add up to more than `u64::MAX`
+    /// - [`OutOfMemory`](crate::error::CoreError::OutOfMemory) if an allocation fails
     pub fn try_from_chunks(at_start: bool, chunks: &[(MerkleHash, u64)], at_end: bool) -> Result<Self> {
         let chunks = lend(chunks)?;
         // SAFETY: chunks of their number, and an empty handle to write to.
@@ -109,6 +116,10 @@ impl MerkleHashSubtree {
     /// assert_eq!(empty.try_clone()?, empty);
     /// # Ok::<(), yurewha::error::CoreError>(())
     /// ```
+    ///
+    /// # Errors
+    ///
+    /// [`OutOfMemory`](crate::error::CoreError::OutOfMemory) if an allocation fails
     pub fn try_clone(&self) -> Result<Self> {
         // SAFETY: a handle, and another one that is empty to write to.
         Self::made(|made| unsafe { ffi::yurewha_subtree_clone(&mut *self.lock(), made) })
@@ -237,6 +248,10 @@ impl MerkleHashSubtree {
     /// assert_eq!(subtree.merge_into_counted(&end)?, 1);
     /// # Ok::<(), yurewha::error::CoreError>(())
     /// ```
+    ///
+    /// # Errors
+    ///
+    /// Those of [`merge_into`](Self::merge_into)
     pub fn merge_into_counted(&mut self, other: &MerkleHashSubtree) -> Result<u64> {
         // SAFETY: two handles, and a number to write to. They are two objects, because one is borrowed mutably.
         answer(|parents| unsafe {
@@ -332,6 +347,10 @@ impl MerkleHashSubtree {
     /// assert_eq!(json, r#"{"at_end":true,"at_start":true,"levels":[[0,0]],"nodes":[]}"#);
     /// # Ok::<(), yurewha::error::CoreError>(())
     /// ```
+    ///
+    /// # Errors
+    ///
+    /// [`OutOfMemory`](crate::error::CoreError::OutOfMemory) if an allocation fails
     pub fn to_json(&self) -> Result<String> {
         let mut text: Vec<u8> = zeros(self.json_length_at_most())?;
         // SAFETY: a handle, a room with its length, and a length to write to.
@@ -459,6 +478,42 @@ impl PartialEq for MerkleHashSubtree {
 }
 
 impl Eq for MerkleHashSubtree {}
+
+/// Hashes marks, levels and nodes.
+///
+/// # Panics
+///
+/// If an allocation fails.
+impl Hash for MerkleHashSubtree {
+    fn hash<H: Hasher>(&self, state: &mut H) {
+        let flat = plain("MerkleHashSubtree::hash", Flat::of(self));
+        (flat.at_start, flat.at_end).hash(state);
+        flat.levels.iter().map(pair_of).for_each(|level| level.hash(state));
+        flat.nodes.iter().map(node_of).for_each(|node| node.hash(state));
+    }
+}
+
+/// The subtree of no chunks, without marks. Merged with a range, on a side where that isn't marked, it gives that range.
+///
+/// ```
+/// use yurewha::merklehash::{MerkleHash, MerkleHashSubtree};
+///
+/// let range = MerkleHashSubtree::from_chunks(false, &[(MerkleHash::marker(), 100)], true);
+/// let mut whole = MerkleHashSubtree::default();
+/// whole.merge_into(&range)?;
+/// assert_eq!(whole, range);
+/// # Ok::<(), yurewha::error::CoreError>(())
+/// ```
+///
+/// # Panics
+///
+/// If an allocation fails; see [`try_from_chunks`](MerkleHashSubtree::try_from_chunks).
+impl Default for MerkleHashSubtree {
+    #[track_caller]
+    fn default() -> Self {
+        Self::from_chunks(false, &[], false)
+    }
+}
 
 /// Shows nodes, levels and marks.
 impl fmt::Debug for MerkleHashSubtree {

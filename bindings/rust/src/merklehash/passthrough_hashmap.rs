@@ -37,6 +37,7 @@ impl<Key: U64HashExtractable, Value> PassThroughHashMap<Key, Value> {
     ///
     /// assert!(PassThroughHashMap::<u64, u8>::new().is_empty());
     /// ```
+    #[must_use]
     pub fn new() -> Self {
         Self::default()
     }
@@ -48,8 +49,9 @@ impl<Key: U64HashExtractable, Value> PassThroughHashMap<Key, Value> {
     ///
     /// assert!(PassThroughHashMap::<u64, u8>::with_capacity(10).capacity() >= 10);
     /// ```
+    #[must_use]
     pub fn with_capacity(capacity: usize) -> Self {
-        PassThroughHashMap(Inner::with_capacity_and_hasher(capacity, Default::default()))
+        PassThroughHashMap(Inner::with_capacity_and_hasher(capacity, U64DirectHasher::default()))
     }
 }
 

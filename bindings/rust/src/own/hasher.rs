@@ -8,7 +8,7 @@ use std::io::{self, ErrorKind, Read, Write};
 use std::{fmt, ptr};
 
 /// A hasher that takes a message in pieces. It is also a [`Write`]. It allocates nothing. A clone copies its state of
-/// about two kilobytes.
+/// about two kilobytes. It has no form in serde: the state reveals the key, and no call can check a state that is read.
 ///
 /// ```
 /// use yurewha::merklehash::compute_data_hash;
@@ -47,6 +47,7 @@ impl Hasher {
     ///
     /// assert_eq!(Hasher::new_data().finalize(), compute_data_hash(b""));
     /// ```
+    #[must_use]
     pub fn new_data() -> Self {
         Self::begun(Key::Data)
     }
@@ -60,6 +61,7 @@ impl Hasher {
     ///
     /// assert_eq!(Hasher::new_internal_node().finalize(), compute_internal_node_hash(b""));
     /// ```
+    #[must_use]
     pub fn new_internal_node() -> Self {
         Self::begun(Key::InternalNode)
     }
@@ -74,6 +76,7 @@ impl Hasher {
     /// let mut hasher = Hasher::new_keyed(&key.into());
     /// assert_eq!(hasher.update(hash.as_bytes()).finalize(), hash.hmac(key));
     /// ```
+    #[must_use]
     pub fn new_keyed(key: &[u8; 32]) -> Self {
         Self::begun(Key::Own(*key))
     }
@@ -113,6 +116,7 @@ impl Hasher {
     ///
     /// assert_eq!(Hasher::new_data().update(b"some ").count(), 5);
     /// ```
+    #[must_use]
     pub fn count(&self) -> u64 {
         // SAFETY: a hasher that was begun.
         unsafe { ffi::yurewha_hasher_count(&self.state) }
@@ -125,6 +129,7 @@ impl Hasher {
     ///
     /// assert!(Hasher::new_data().has_room(1 << 20));
     /// ```
+    #[must_use]
     pub fn has_room(&self, length: usize) -> bool {
         u64::try_from(length).is_ok_and(|length| self.count().checked_add(length).is_some())
     }
@@ -147,8 +152,7 @@ impl Hasher {
         plain("Hasher::update", self.try_update(piece))
     }
 
-    /// Does the same as [`update`](Self::update), but returns [`SizeOverflow`](crate::error::CoreError::SizeOverflow)
-    /// if the message would have more than `u64::MAX` bytes. Then the message is unchanged.
+    /// Does the same as [`update`](Self::update), but returns an error where that panics.
     ///
     /// ```
     /// use yurewha::merklehash::compute_data_hash;
@@ -158,6 +162,11 @@ impl Hasher {
     /// assert_eq!(hasher.try_update(b"some data")?.finalize(), compute_data_hash(b"some data"));
     /// # Ok::<(), yurewha::error::CoreError>(())
     /// ```
+    ///
+    /// # Errors
+    ///
+    /// [`SizeOverflow`](crate::error::CoreError::SizeOverflow) if the message would have more than `u64::MAX` bytes. It is
+    /// unchanged then.
     pub fn try_update(&mut self, piece: &[u8]) -> Result<&mut Self> {
         // SAFETY: a hasher that was begun, and bytes of their length.
         answer(|(): &mut ()| unsafe { ffi::yurewha_hasher_update(&mut self.state, piece.as_ptr(), piece.len()) })?;
@@ -200,9 +209,17 @@ impl Hasher {
     /// let empty = hasher.finalize();
     /// assert_ne!(hasher.update(b"some data").finalize(), empty);
     /// ```
+    #[must_use]
     pub fn finalize(&self) -> DataHash {
         // SAFETY: a hasher that was begun, and a hash to write to.
         given(|hash: &mut DataHash| unsafe { ffi::yurewha_hasher_finalize(&self.state, hash.out()) })
+    }
+}
+
+/// A hasher of the empty message, as [`new_data`](Hasher::new_data) returns it.
+impl Default for Hasher {
+    fn default() -> Self {
+        Self::new_data()
     }
 }
 

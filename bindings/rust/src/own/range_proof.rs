@@ -3,7 +3,7 @@
 use super::Node;
 use crate::error::{CoreError, Result};
 use crate::ffi;
-use crate::handle::Owned;
+use crate::handle::Shared;
 use crate::lent_chunks::{lend, node_of, room, zeros};
 use crate::merklehash::MerkleHash;
 #[cfg(feature = "serde")]
@@ -20,6 +20,7 @@ mod opened_range;
 
 pub use hash_tree::HashTree;
 pub use opened_range::OpenedRange;
+use opened_range::Shown;
 
 // The most levels of a proof, and the most nodes on their sides.
 const MOST_LEVELS: usize = 64;
@@ -146,6 +147,7 @@ impl RangeProof {
     /// assert_eq!(RangeProof::from_chunks(&chunks, 0..2)?.chunks(), &chunks[..2]);
     /// # Ok::<(), yurewha::error::CoreError>(())
     /// ```
+    #[must_use]
     pub fn chunks(&self) -> &[Node] {
         let [before, after] = self.beside(self.levels.len());
         &self.nodes[before..self.nodes.len() - after]
@@ -163,6 +165,7 @@ impl RangeProof {
     /// assert_eq!(RangeProof::from_chunks(&[chunk], 0..1)?.num_levels(), 0);
     /// # Ok::<(), yurewha::error::CoreError>(())
     /// ```
+    #[must_use]
     pub fn num_levels(&self) -> usize {
         self.levels.len()
     }
@@ -179,6 +182,7 @@ impl RangeProof {
     /// assert_eq!((proof.left(0), proof.left(1)), (&chunks[..2], &[][..]));
     /// # Ok::<(), yurewha::error::CoreError>(())
     /// ```
+    #[must_use]
     pub fn left(&self, level: usize) -> &[Node] {
         let Some(count) = self.levels.get(level) else {
             return &[];
@@ -197,6 +201,7 @@ impl RangeProof {
     /// assert_eq!(RangeProof::from_chunks(&chunks, 0..1)?.right(0), &chunks[1..]);
     /// # Ok::<(), yurewha::error::CoreError>(())
     /// ```
+    #[must_use]
     pub fn right(&self, level: usize) -> &[Node] {
         let Some(count) = self.levels.get(level) else {
             return &[];
@@ -264,10 +269,11 @@ impl RangeProof {
         file_hash: &MerkleHash,
         salt: &[u8; 32],
     ) -> std::result::Result<OpenedRange, OpenError> {
+        let shown = Shown::FileHash(*file_hash, *salt);
         let (hash, salt) = (file_hash.for_call(), ptr::from_ref(salt).cast());
         // SAFETY: levels and nodes of their numbers, a hash, 32 bytes, as the header's struct has them, and an empty handle
         // to write to.
-        self.opened(|it, range| unsafe {
+        self.opened(shown, |it, range| unsafe {
             ffi::yurewha_range_proof_open(it.levels, it.level_count, it.nodes, it.node_count, hash, salt, range)
         })
     }
@@ -288,9 +294,10 @@ impl RangeProof {
     ///
     /// Those of [`open`](Self::open)
     pub fn open_root(self, root: &MerkleHash) -> std::result::Result<OpenedRange, OpenError> {
+        let shown = Shown::Root(*root);
         let root = root.for_call();
         // SAFETY: levels and nodes of their numbers, a hash, and an empty handle to write to.
-        self.opened(|it, range| unsafe {
+        self.opened(shown, |it, range| unsafe {
             ffi::yurewha_range_proof_open_root(it.levels, it.level_count, it.nodes, it.node_count, root, range)
         })
     }
@@ -298,14 +305,15 @@ impl RangeProof {
     // The range of a handle that a call writes to.
     fn opened(
         self,
+        shown: Shown,
         open: impl FnOnce(Lists, *mut ffi::yurewha_opened_range) -> ffi::yurewha_status,
     ) -> std::result::Result<OpenedRange, OpenError> {
         let handle = match lend(&self.nodes) {
-            Ok(nodes) => answer(|range: &mut Owned<_>| open(Lists::of(&self.levels, &nodes), range.get_mut())),
+            Ok(nodes) => answer(|range: &mut Shared<_>| open(Lists::of(&self.levels, &nodes), range.get_mut())),
             Err(_) => Err(OpenFault::OutOfMemory),
         };
         match handle {
-            Ok(handle) => Ok(OpenedRange::new(handle, self)),
+            Ok(handle) => Ok(OpenedRange::new(handle, self, shown)),
             Err(fault) => Err(OpenError { proof: self, fault }),
         }
     }
@@ -430,6 +438,10 @@ impl RangeProof {
     /// assert_eq!(proof.try_clone()?, proof);
     /// # Ok::<(), yurewha::error::CoreError>(())
     /// ```
+    ///
+    /// # Errors
+    ///
+    /// [`OutOfMemory`](CoreError::OutOfMemory) if an allocation fails
     pub fn try_clone(&self) -> Result<Self> {
         let (mut levels, mut nodes) = (room(self.levels.len())?, room(self.nodes.len())?);
         levels.extend_from_slice(&self.levels);
@@ -540,12 +552,22 @@ impl Refusal for OpenFault {
 /// assert_eq!((refused.to_string(), refused.proof), ("the proof doesn't show this hash".to_owned(), proof));
 /// # Ok::<(), yurewha::error::CoreError>(())
 /// ```
-#[derive(Debug, PartialEq, Eq)]
+#[derive(PartialEq, Eq)]
 pub struct OpenError {
     /// The proof.
     pub proof: RangeProof,
     /// Why it wasn't opened.
     pub fault: OpenFault,
+}
+
+/// Shows the fault and the number of the proof's chunks, which may be many.
+impl fmt::Debug for OpenError {
+    fn fmt(&self, f: &mut fmt::Formatter<'_>) -> fmt::Result {
+        f.debug_struct("OpenError")
+            .field("fault", &self.fault)
+            .field("num_chunks", &self.proof.chunks().len())
+            .finish_non_exhaustive()
+    }
 }
 
 impl fmt::Display for OpenError {

@@ -19,6 +19,11 @@ use std::ptr;
 /// let chunk = (MerkleHash::default(), u64::MAX);
 /// assert_eq!(try_xorb_hash(&[chunk; 2]), Err(CoreError::SizeOverflow));
 /// ```
+///
+/// # Errors
+///
+/// - [`SizeOverflow`](crate::error::CoreError::SizeOverflow) if the sizes add up to more than `u64::MAX`
+/// - [`OutOfMemory`](crate::error::CoreError::OutOfMemory) if an allocation fails
 pub fn try_xorb_hash(chunks: &[Node]) -> Result<MerkleHash> {
     let chunks = lend(chunks)?;
     // SAFETY: chunks of their number, and a hash to write to.
@@ -34,6 +39,10 @@ pub fn try_xorb_hash(chunks: &[Node]) -> Result<MerkleHash> {
 /// assert_eq!(try_file_hash(&[])?, MerkleHash::default());
 /// # Ok::<(), yurewha::error::CoreError>(())
 /// ```
+///
+/// # Errors
+///
+/// Those of [`try_xorb_hash`]
 pub fn try_file_hash(chunks: &[Node]) -> Result<MerkleHash> {
     let chunks = lend(chunks)?;
     // SAFETY: chunks of their number, and a hash to write to.
@@ -50,6 +59,10 @@ pub fn try_file_hash(chunks: &[Node]) -> Result<MerkleHash> {
 /// assert_eq!(try_file_hash_with_salt(&[], &[7; 32])?, MerkleHash::default());
 /// # Ok::<(), yurewha::error::CoreError>(())
 /// ```
+///
+/// # Errors
+///
+/// Those of [`try_xorb_hash`]
 pub fn try_file_hash_with_salt(chunks: &[Node], salt: &[u8; 32]) -> Result<MerkleHash> {
     let chunks = lend(chunks)?;
     let salt = ptr::from_ref(salt).cast();

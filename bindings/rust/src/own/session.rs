@@ -12,6 +12,7 @@ use std::fmt;
 use std::ops::Range;
 use std::sync::MutexGuard;
 
+mod comparing;
 #[cfg(feature = "serde")]
 mod forms;
 mod saving;
@@ -107,6 +108,7 @@ impl Session {
     /// # Panics
     ///
     /// If an allocation fails; see [`try_new`](Self::try_new).
+    #[must_use]
     #[track_caller]
     pub fn new() -> Self {
         plain("Session::new", Self::try_new())
@@ -120,6 +122,10 @@ impl Session {
     /// assert_eq!(Session::try_new()?.num_runs(), 0);
     /// # Ok::<(), yurewha::error::CoreError>(())
     /// ```
+    ///
+    /// # Errors
+    ///
+    /// [`OutOfMemory`](crate::error::CoreError::OutOfMemory) if an allocation fails
     pub fn try_new() -> Result<Self> {
         // SAFETY: an empty handle to write to.
         let handle = answer(|made: &mut Owned<_>| unsafe { ffi::yurewha_session_new(made.get_mut()) })?;
@@ -138,6 +144,10 @@ impl Session {
     /// assert_eq!(Session::new().try_clone()?.num_runs(), 0);
     /// # Ok::<(), yurewha::error::CoreError>(())
     /// ```
+    ///
+    /// # Errors
+    ///
+    /// [`OutOfMemory`](crate::error::CoreError::OutOfMemory) if an allocation fails
     pub fn try_clone(&self) -> Result<Self> {
         // SAFETY: a handle, and another one that is empty to write to.
         let handle =
@@ -282,6 +292,10 @@ impl Session {
     /// assert!(Session::new().try_range(0)?.is_none());
     /// # Ok::<(), yurewha::error::CoreError>(())
     /// ```
+    ///
+    /// # Errors
+    ///
+    /// [`OutOfMemory`](crate::error::CoreError::OutOfMemory) if an allocation fails
     pub fn try_range(&self, index: usize) -> Result<Option<(u64, MerkleHashSubtree)>> {
         // SAFETY: a handle, a number to write to, and an empty handle to write to.
         let run = looked_up(|(first, range): &mut (u64, Owned<_>)| unsafe {
@@ -326,6 +340,10 @@ impl Session {
     /// assert!(Session::new().try_run_from(0)?.is_none());
     /// # Ok::<(), yurewha::error::CoreError>(())
     /// ```
+    ///
+    /// # Errors
+    ///
+    /// [`OutOfMemory`](crate::error::CoreError::OutOfMemory) if an allocation fails
     pub fn try_run_from(&self, position: u64) -> Result<Option<(Range<u64>, MerkleHashSubtree)>> {
         // SAFETY: a handle, two numbers to write to, and an empty handle to write to.
         let run = looked_up(|(Range { start, end }, range): &mut (Range<u64>, Owned<_>)| unsafe {

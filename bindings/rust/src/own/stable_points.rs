@@ -13,6 +13,10 @@ use crate::merklehash::{find_stable_end, find_stable_start};
 /// assert_eq!(try_find_stable_start(&[])?, None);
 /// # Ok::<(), yurewha::error::CoreError>(())
 /// ```
+///
+/// # Errors
+///
+/// There are none.
 pub fn try_find_stable_start(nodes: &[Node]) -> Result<Option<usize>> {
     Ok(find_stable_start(nodes))
 }
@@ -26,6 +30,10 @@ pub fn try_find_stable_start(nodes: &[Node]) -> Result<Option<usize>> {
 /// assert_eq!(try_find_stable_end(&[])?, None);
 /// # Ok::<(), yurewha::error::CoreError>(())
 /// ```
+///
+/// # Errors
+///
+/// There are none.
 pub fn try_find_stable_end(nodes: &[Node]) -> Result<Option<usize>> {
     Ok(find_stable_end(nodes))
 }

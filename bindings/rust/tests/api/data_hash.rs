@@ -7,7 +7,7 @@ use std::io::{self, ErrorKind, Read, Write};
 use yurewha::merklehash::{
     compute_data_hash, compute_internal_node_hash, DataHash, DataHashBytesParseError, DataHashHexParseError, HMACKey,
 };
-use yurewha::own::{self, HashTextError};
+use yurewha::own::{self, HashTextError, HexError};
 
 const TEXT: &str = "d6834b04843aaf16f29903e2428a99be635099f9ea5056cc4e95e7ec8a41509f";
 
@@ -310,4 +310,50 @@ fn a_text_is_parsed_as_by_from_hex() {
     assert_eq!(TEXT.parse(), Ok(hash(TEXT)));
     assert_eq!(TEXT.to_uppercase().parse(), Ok(hash(TEXT)));
     assert_eq!(TEXT[1..].parse::<DataHash>(), Err(DataHashHexParseError));
+}
+
+#[test]
+fn an_error_of_a_hex_text_says_what_is_wrong() {
+    let text = DataHash::random_from_seed(1).hex();
+    assert_eq!(
+        own::parse_hex(&text),
+        DataHash::from_hex(&text).map_err(|_| HexError::Length(0))
+    );
+    assert_eq!(own::parse_hex(&text.to_uppercase()), Ok(DataHash::random_from_seed(1)));
+    for length in (0..64).chain([65, 128, 1000]) {
+        assert_eq!(own::parse_hex(&"0".repeat(length)), Err(HexError::Length(length)));
+        assert_eq!(own::parse_hex(&"g".repeat(length)), Err(HexError::Length(length)));
+    }
+    for place in 0..64 {
+        for found in ['g', ' ', '/', ':', '@', 'G', '`', '\n', '\0'] {
+            let mut wrong = text.clone();
+            wrong.replace_range(place..=place, &found.to_string());
+            // The first of two wrong characters counts.
+            if place < 63 {
+                wrong.replace_range(63.., "x");
+            }
+            assert_eq!(own::parse_hex(&wrong), Err(HexError::Digit { place, found }));
+        }
+    }
+    for found in ['ä', '€', '🦀'] {
+        let wrong = format!("{}{found}", &text[..64 - found.len_utf8()]);
+        let place = 64 - found.len_utf8();
+        assert_eq!(own::parse_hex(&wrong), Err(HexError::Digit { place, found }));
+    }
+    assert_eq!(
+        HexError::Digit { place: 7, found: '\n' }.to_string(),
+        "'\\n' at place 7 isn't a hex digit"
+    );
+    assert_eq!(
+        HexError::Length(3).to_string(),
+        "a hash has 64 hex digits, and the text has 3 bytes"
+    );
+}
+
+#[test]
+fn a_hasher_begins_as_one_of_data() {
+    assert_eq!(
+        own::Hasher::default().update(b"abc").finalize(),
+        compute_data_hash(b"abc")
+    );
 }

@@ -74,6 +74,10 @@ fn a_hash_is_its_digits_where_that_is_asked_for() {
         error.to_string().starts_with("Invalid hex input for DataHash"),
         "{error}"
     );
+    assert!(
+        error.to_string().contains(": 'g' at place 1 isn't a hex digit at line"),
+        "{error}"
+    );
     let error = serde_json::from_str::<Named>(r#"{"first":[1,2,3,4]}"#).unwrap_err();
     assert!(error.to_string().contains("expected 64 hex digits"), "{error}");
 }

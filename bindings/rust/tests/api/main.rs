@@ -16,6 +16,7 @@ mod panics;
 #[cfg(feature = "serde")]
 mod proof_forms;
 mod range_proofs;
+mod reading;
 mod reference_lists;
 mod roots;
 mod saving;

@@ -1,5 +1,8 @@
 //! What the Rust crate doesn't have, and that it stands in nobody's way.
 
+use std::hash::Hash;
+use std::io;
+use std::num::NonZeroUsize;
 use std::ops::Range;
 use yurewha::error::{CoreError, Result};
 use yurewha::merklehash::{self, MerkleHash, MerkleHashSubtree as Subtree};
@@ -39,6 +42,10 @@ fn own_items_have_their_signatures() {
     let _: fn(&own::HashTree, Range<u64>) -> Option<Range<usize>> = own::HashTree::chunks_at;
     let _: fn(&own::HashTree, Range<usize>) -> Option<Range<u64>> = own::HashTree::bytes_of;
     let _: fn(&own::HashTree, Range<usize>) -> Result<own::RangeProof> = own::HashTree::proof;
+    let _: fn(&own::HashTree) -> Result<own::HashTree> = own::HashTree::try_clone;
+    let _: fn(&own::OpenedRange) -> Result<own::OpenedRange> = own::OpenedRange::try_clone;
+    let _: fn(&str) -> std::result::Result<MerkleHash, own::HexError> = own::parse_hex;
+    let _: fn(io::Empty, Vec<usize>, NonZeroUsize) -> io::Result<Vec<own::Node>> = own::hash_chunks;
     let _: fn(&Subtree) -> Result<String> = Subtree::to_json;
     let _: fn(&str) -> Result<Subtree> = Subtree::from_json;
 }
@@ -48,6 +55,7 @@ fn errors_and_subtrees_can_be_compared() {
     fn error<T: std::error::Error + Clone + PartialEq + Send + Sync + 'static>() {}
     error::<CoreError>();
     error::<own::HashTextError>();
+    error::<own::HexError>();
     error::<own::SessionFault>();
     error::<own::OpenFault>();
     fn error_with_a_proof<T: std::error::Error + PartialEq + Send + Sync + 'static>() {}
@@ -56,6 +64,24 @@ fn errors_and_subtrees_can_be_compared() {
     error::<merklehash::DataHashBytesParseError>();
     fn subtree<T: PartialEq + Eq>() {}
     subtree::<Subtree>();
+}
+
+#[test]
+fn values_have_the_traits_of_values() {
+    fn value<T: Clone + std::fmt::Debug + Send + Sync>() {}
+    fn compared<T: Clone + std::fmt::Debug + Eq>() {}
+    fn default<T: Default>() {}
+    fn key<T: Eq + Hash>() {}
+    value::<own::OpenedRange>();
+    value::<own::Hasher>();
+    compared::<own::HashTree>();
+    compared::<own::Session>();
+    compared::<own::RangeProof>();
+    default::<own::Hasher>();
+    default::<own::Session>();
+    default::<Subtree>();
+    key::<Subtree>();
+    key::<MerkleHash>();
 }
 
 // An arm for other variants can be reached, though each variant of today has one: there may be more later.
@@ -69,6 +95,10 @@ fn errors_may_get_more_variants() {
     };
     let _ = |error: own::HashTextError| match error {
         own::HashTextError::Bytes(_) | own::HashTextError::OutOfMemory => 1,
+        _ => 2,
+    };
+    let _ = |error: own::HexError| match error {
+        own::HexError::Length(_) | own::HexError::Digit { .. } => 1,
         _ => 2,
     };
     let _ = |fault: own::SessionFault| match fault {
@@ -96,7 +126,9 @@ mod of_the_user {
         ($($name:ident)*) => { $(pub mod $name { pub const ONE: u8 = 1; })* };
     }
     unit_structs!(Node Session SessionFault Hasher HashTextError CoreError Result Owned);
-    unit_structs!(HashTree RangeProof OpenedRange OpenError OpenFault);
+    unit_structs!(HashTree RangeProof OpenedRange OpenError OpenFault HexError);
+    pub fn parse_hex() {}
+    pub fn hash_chunks() {}
     pub fn try_xorb_hash() {}
     pub fn try_file_hash() {}
     pub fn try_file_hash_with_salt() {}

@@ -514,3 +514,79 @@ fn proofs_with_other_sides_or_other_nodes_differ() {
     let other = RangeProof::from_chunks(&reference(&[1, 3]), 0..1).unwrap();
     assert_ne!(first, other);
 }
+
+#[test]
+fn a_clone_of_a_tree_is_the_tree_of_its_chunks() {
+    for count in [0, 1, 2, 9, 300, 5000] {
+        let nodes = Draws(51).nodes(count);
+        let tree = HashTree::from_chunks(&nodes).unwrap();
+        let clone = tree.clone();
+        assert_eq!(tree, clone);
+        drop(tree);
+        let told = (clone.root(), clone.file_hash(), clone.num_chunks());
+        assert_eq!(told, (xorb_hash(&nodes), file_hash(&nodes), count));
+        if count > 0 {
+            assert_eq!(
+                clone.proof(count / 2..count),
+                RangeProof::from_chunks(&nodes, count / 2..count)
+            );
+        }
+    }
+}
+
+#[test]
+fn trees_are_equal_by_their_chunks() {
+    let nodes = Draws(52).nodes(60);
+    let tree = |nodes: &[Node]| HashTree::from_chunks(nodes).unwrap();
+    let mut others = vec![tree(&[]), tree(&nodes[..59]), tree(&nodes[..1])];
+    // A tree of a root has the same root and the same size.
+    let sum = nodes.iter().map(|node| node.1).sum();
+    others.push(tree(&[(xorb_hash(&nodes), sum)]));
+    // The hash of a single chunk is the root, whatever its size.
+    others.push(tree(&[(nodes[0].0, nodes[0].1 + 1)]));
+    let mut swapped = nodes.clone();
+    swapped.swap(3, 4);
+    others.push(tree(&swapped));
+    others.push(tree(&nodes));
+    for (k, first) in others.iter().enumerate() {
+        for (j, second) in others.iter().enumerate() {
+            assert_eq!(first == second, k == j, "{k} {j}");
+        }
+    }
+    assert_eq!(tree(&nodes), tree(&nodes));
+}
+
+#[test]
+fn a_clone_of_an_opened_range_checks_the_same() {
+    let data: Vec<_> = (0..100_u32).map(|i| i.to_le_bytes()).collect();
+    let chunks: Vec<_> = data.iter().map(|data| (compute_data_hash(data), 4)).collect();
+    let proof = RangeProof::from_chunks(&chunks, 20..30).unwrap();
+    let opened = [
+        proof.clone().open(&file_hash(&chunks)),
+        proof
+            .clone()
+            .open_with_salt(&file_hash_with_salt(&chunks, &[7; 32]), &[7; 32]),
+        proof.clone().open_root(&xorb_hash(&chunks)),
+    ];
+    for range in opened {
+        let range = range.unwrap();
+        let clone = range.clone().clone();
+        drop(range);
+        assert_eq!(
+            (clone.proof(), clone.begins(0), clone.file_size()),
+            (&proof, Some(80), 400)
+        );
+        assert_eq!((clone.check(3, &data[23]), clone.check(3, &data[24])), (Some(92), None));
+        assert_eq!(clone.read(81..85, &data[20..30].concat()), Some(&data.concat()[81..85]));
+    }
+}
+
+#[test]
+fn an_error_of_opening_shows_no_proof() {
+    let proof = RangeProof::from_chunks(&numbered(0..5000), 0..4000).unwrap();
+    let error = proof.open(&DataHash::marker()).unwrap_err();
+    assert_eq!(
+        format!("{error:?}"),
+        "OpenError { fault: Mismatch, num_chunks: 4000, .. }"
+    );
+}

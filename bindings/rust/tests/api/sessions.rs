@@ -260,3 +260,66 @@ fn faults_have_their_texts() {
     }
     assert_eq!(SessionFault::Memory.to_string(), CoreError::OutOfMemory.to_string());
 }
+
+// A session with these runs of a list, put in this order.
+fn session_of(nodes: &[Node], runs: &[(usize, usize)]) -> Session {
+    let mut session = Session::new();
+    for &(first, end) in runs {
+        session.put(first as u64, &nodes[first..end]).unwrap();
+    }
+    session
+}
+
+#[test]
+fn sessions_are_equal_by_their_runs_and_known_hashes() {
+    let nodes = Draws(41).nodes(2000);
+    let session = session_of(&nodes, &[(0, 1000), (1500, 2000)]);
+    assert_eq!(session, session);
+    assert_eq!(session, session.clone());
+    assert_eq!(
+        session,
+        session_of(&nodes, &[(1700, 2000), (400, 1000), (0, 400), (1500, 1700)])
+    );
+    assert_eq!(Session::new(), Session::default());
+    let mut restored = Session::new();
+    restored.keep_hashes(&session.known_hashes().unwrap()).unwrap();
+    for position in [0, 1000] {
+        let (positions, range) = session.run_from(position).unwrap();
+        restored.push_run(positions, &range).unwrap();
+    }
+    assert_eq!(session, restored);
+
+    let mut others = vec![
+        Session::new(),
+        session_of(&nodes, &[(0, 1000)]),
+        session_of(&nodes, &[(0, 1001), (1501, 2000)]),
+        session_of(&nodes, &[(0, 1500)]),
+    ];
+    let changed = |change: &dyn Fn(&mut Vec<Node>)| {
+        let mut other = nodes.clone();
+        change(&mut other);
+        session_of(&other, &[(0, 1000), (1500, 2000)])
+    };
+    others.push(changed(&|nodes| nodes.swap(1, 2)));
+    others.push(changed(&|nodes| nodes.swap(1998, 1999)));
+    others.push(changed(&|nodes| {
+        nodes[3].1 += 1;
+        nodes[1700].1 -= 1;
+    }));
+    let mut knowing = session.clone();
+    knowing.keep_hashes(&[MerkleHash::marker()]).unwrap();
+    others.push(knowing);
+    let mut knowing_another = session.clone();
+    knowing_another.keep_hashes(&[MerkleHash::default()]).unwrap();
+    others.push(knowing_another);
+    for (k, other) in others.iter().enumerate() {
+        assert_ne!(&session, other, "{k}");
+        for (j, another) in others.iter().enumerate() {
+            assert_eq!(other == another, k == j, "{k} {j}");
+        }
+    }
+    // Runs of other positions, with the same chunks.
+    let mut moved = session_of(&nodes, &[(0, 1000)]);
+    moved.put(1501, &nodes[1500..2000]).unwrap();
+    assert_ne!(session, moved);
+}

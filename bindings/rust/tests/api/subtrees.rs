@@ -2,6 +2,8 @@
 
 use crate::definitions;
 use crate::draws::{numbered, reference, with_cuts, Draws};
+use std::collections::HashSet;
+use std::hash::{BuildHasher, BuildHasherDefault, DefaultHasher};
 use yurewha::error::CoreError;
 use yurewha::merklehash::{find_stable_end, find_stable_start, xorb_hash, MerkleHash, MerkleHashSubtree};
 use yurewha::own::{try_find_stable_end, try_find_stable_start};
@@ -120,5 +122,55 @@ fn sizes_that_do_not_fit_are_refused() {
 #[test]
 #[should_panic(expected = "MerkleHashSubtree::from_chunks: size overflow")]
 fn from_chunks_names_the_cause_in_a_panic() {
-    MerkleHashSubtree::from_chunks(true, &[(MerkleHash::default(), u64::MAX); 2], true);
+    let _ = MerkleHashSubtree::from_chunks(true, &[(MerkleHash::default(), u64::MAX); 2], true);
+}
+
+#[test]
+fn subtrees_are_keys_by_their_value() {
+    let nodes = Draws(31).nodes(300);
+    let mut values = Vec::new();
+    for (at_start, at_end) in MARKS {
+        for chunks in [
+            &nodes[..0],
+            &nodes[..1],
+            &nodes[1..2],
+            &nodes[..40],
+            &nodes[1..41],
+            &nodes[..],
+        ] {
+            values.push(MerkleHashSubtree::from_chunks(at_start, chunks, at_end));
+        }
+    }
+    // The same hashes with other sizes.
+    let larger: Vec<_> = nodes[..40].iter().map(|(hash, size)| (*hash, size + 1)).collect();
+    values.push(MerkleHashSubtree::from_chunks(false, &larger, false));
+    let told = |it: &MerkleHashSubtree| BuildHasherDefault::<DefaultHasher>::default().hash_one(it);
+    let hashes: HashSet<_> = values.iter().map(told).collect();
+    assert_eq!(hashes.len(), values.len());
+    let halves = [&nodes[..120], &nodes[120..]].map(|half| MerkleHashSubtree::from_chunks(false, half, false));
+    let merged = MerkleHashSubtree::merge(&halves).unwrap();
+    assert!(values.contains(&merged));
+    assert_eq!(
+        told(&merged),
+        told(&MerkleHashSubtree::from_chunks(false, &nodes, false))
+    );
+    assert_eq!(told(&merged), told(&merged.clone()));
+}
+
+#[test]
+fn the_default_changes_no_range_that_it_is_merged_with() {
+    let nodes = Draws(32).nodes(100);
+    for (at_start, at_end) in MARKS {
+        let range = MerkleHashSubtree::from_chunks(at_start, &nodes, at_end);
+        if !at_start {
+            let mut before = MerkleHashSubtree::default();
+            before.merge_into(&range).unwrap();
+            assert_eq!(before, range);
+        }
+        if !at_end {
+            let mut after = range.clone();
+            after.merge_into(&MerkleHashSubtree::default()).unwrap();
+            assert_eq!(after, range);
+        }
+    }
 }

@@ -17,17 +17,26 @@
 /// # Ok::<(), serde_json::Error>(())
 /// ```
 pub mod serde {
-    use super::super::{ascii, DataHash};
+    use super::super::{ascii, DataHash, DataHashHexParseError};
+    use crate::own::parse_hex;
     use serde::de::{Error, Visitor};
     use serde::{Deserializer, Serializer};
     use std::fmt;
 
     /// Writes the hex text.
+    ///
+    /// # Errors
+    ///
+    /// Those of the format
     pub fn serialize<S: Serializer>(hash: &DataHash, serializer: S) -> Result<S::Ok, S::Error> {
         serializer.serialize_str(ascii(&hash.hex_digits()))
     }
 
     /// Reads 64 hex digits, lower or upper case.
+    ///
+    /// # Errors
+    ///
+    /// Those of the format. For another text, the error has the words of [`HexError`](crate::own::HexError)
     pub fn deserialize<'de, D: Deserializer<'de>>(deserializer: D) -> Result<DataHash, D::Error> {
         deserializer.deserialize_str(HexVisitor)
     }
@@ -42,7 +51,7 @@ pub mod serde {
         }
 
         fn visit_str<E: Error>(self, text: &str) -> Result<DataHash, E> {
-            DataHash::from_hex(text).map_err(E::custom)
+            parse_hex(text).map_err(|error| E::custom(format_args!("{DataHashHexParseError}: {error}")))
         }
     }
 }

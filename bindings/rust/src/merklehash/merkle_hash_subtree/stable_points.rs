@@ -19,6 +19,7 @@ const GAPS: RangeInclusive<usize> = 3..=7;
 /// assert_eq!(find_stable_start(&nodes), Some(8));
 /// assert_eq!(find_stable_start(&nodes[..10]), None);
 /// ```
+#[must_use]
 pub fn find_stable_start(nodes: &[(MerkleHash, u64)]) -> Option<usize> {
     middle_cut((0..nodes.len()).filter(|&index| is_cut(&nodes[index]))).map(|cut| cut + 1)
 }
@@ -31,6 +32,7 @@ pub fn find_stable_start(nodes: &[(MerkleHash, u64)]) -> Option<usize> {
 /// let nodes: Vec<_> = (0..20).map(|i| (DataHash::from([i, 0, 0, u64::from(i % 4 != 3)]), 1)).collect();
 /// assert_eq!(find_stable_end(&nodes), Some(16));
 /// ```
+#[must_use]
 pub fn find_stable_end(nodes: &[(MerkleHash, u64)]) -> Option<usize> {
     middle_cut((0..nodes.len()).rev().filter(|&index| is_cut(&nodes[index]))).map(|cut| cut + 1)
 }

@@ -3,13 +3,12 @@
 use super::{RangeProof, Rooms, MOST_BESIDE};
 use crate::error::Result;
 use crate::ffi;
-use crate::handle::Owned;
+use crate::handle::Shared;
 use crate::lent_chunks::lend;
 use crate::merklehash::MerkleHash;
 use crate::own::Node;
-use crate::status::{answer, told, told_if_there};
+use crate::status::{answer, plain, told, told_if_there};
 use std::ops::Range;
-use std::sync::MutexGuard;
 use std::{fmt, ptr};
 
 /// All levels of nodes over a list of chunks, kept so that a proof takes time with the number of levels and of its own
@@ -30,8 +29,8 @@ use std::{fmt, ptr};
 /// # Ok::<(), Box<dyn std::error::Error>>(())
 /// ```
 ///
-/// Threads may share a tree. Threads that read it at once take turns, call by call.
-pub struct HashTree(Owned<ffi::yurewha_hash_tree>);
+/// A tree never changes, so threads that share it read it at once, and none waits for another.
+pub struct HashTree(Shared<ffi::yurewha_hash_tree>);
 
 impl HashTree {
     /// Makes the tree over some chunks.
@@ -52,15 +51,10 @@ impl HashTree {
     pub fn from_chunks(chunks: &[Node]) -> Result<Self> {
         let chunks = lend(chunks)?;
         // SAFETY: chunks of their number, and an empty handle to write to.
-        answer(|tree: &mut Owned<_>| unsafe {
+        answer(|tree: &mut Shared<_>| unsafe {
             ffi::yurewha_hash_tree_from_chunks(chunks.as_ptr(), chunks.len(), tree.get_mut())
         })
         .map(HashTree)
-    }
-
-    // The handle, for one call.
-    fn lock(&self) -> MutexGuard<'_, ffi::yurewha_hash_tree> {
-        self.0.lock()
     }
 
     /// Returns the root of the chunks. With no chunks it is the default hash.
@@ -73,9 +67,10 @@ impl HashTree {
     /// assert_eq!(HashTree::from_chunks(&chunks)?.root(), xorb_hash(&chunks));
     /// # Ok::<(), yurewha::error::CoreError>(())
     /// ```
+    #[must_use]
     pub fn root(&self) -> MerkleHash {
         // SAFETY: a handle, and a hash to write to.
-        told(|root: &mut MerkleHash| unsafe { ffi::yurewha_hash_tree_root(&mut *self.lock(), root.out()) })
+        told(|root: &mut MerkleHash| unsafe { ffi::yurewha_hash_tree_root(&mut self.0.copy(), root.out()) })
     }
 
     /// Returns the file hash of the chunks. With no chunks it is the default hash.
@@ -88,6 +83,7 @@ impl HashTree {
     /// assert_eq!(HashTree::from_chunks(&chunks)?.file_hash(), file_hash(&chunks));
     /// # Ok::<(), yurewha::error::CoreError>(())
     /// ```
+    #[must_use]
     pub fn file_hash(&self) -> MerkleHash {
         self.file_hash_with_salt(&[0; 32])
     }
@@ -103,10 +99,11 @@ impl HashTree {
     /// assert_eq!(tree.file_hash_with_salt(&[7; 32]), file_hash_with_salt(&chunks, &[7; 32]));
     /// # Ok::<(), yurewha::error::CoreError>(())
     /// ```
+    #[must_use]
     pub fn file_hash_with_salt(&self, salt: &[u8; 32]) -> MerkleHash {
         let salt = ptr::from_ref(salt).cast();
         // SAFETY: a handle, 32 bytes, as the header's struct has them, and a hash to write to.
-        told(|hash: &mut MerkleHash| unsafe { ffi::yurewha_hash_tree_file_hash(&mut *self.lock(), salt, hash.out()) })
+        told(|hash: &mut MerkleHash| unsafe { ffi::yurewha_hash_tree_file_hash(&mut self.0.copy(), salt, hash.out()) })
     }
 
     /// Returns the number of chunks.
@@ -117,9 +114,10 @@ impl HashTree {
     /// assert_eq!(HashTree::from_chunks(&[])?.num_chunks(), 0);
     /// # Ok::<(), yurewha::error::CoreError>(())
     /// ```
+    #[must_use]
     pub fn num_chunks(&self) -> usize {
         // SAFETY: a handle, and a number to write to.
-        told(|count| unsafe { ffi::yurewha_hash_tree_num_chunks(&mut *self.lock(), count) })
+        told(|count| unsafe { ffi::yurewha_hash_tree_num_chunks(&mut self.0.copy(), count) })
     }
 
     /// Returns the sum of the chunks' sizes: the size of the file in bytes.
@@ -131,9 +129,10 @@ impl HashTree {
     /// assert_eq!(HashTree::from_chunks(&[(MerkleHash::marker(), 100); 3])?.total_size(), 300);
     /// # Ok::<(), yurewha::error::CoreError>(())
     /// ```
+    #[must_use]
     pub fn total_size(&self) -> u64 {
         // SAFETY: a handle, and a number to write to.
-        told(|size| unsafe { ffi::yurewha_hash_tree_total_size(&mut *self.lock(), size) })
+        told(|size| unsafe { ffi::yurewha_hash_tree_total_size(&mut self.0.copy(), size) })
     }
 
     /// Returns the least range of chunks that holds these bytes of the file, or those of them that are in the file. Returns
@@ -149,10 +148,11 @@ impl HashTree {
     /// assert_eq!([tree.chunks_at(300..400), tree.chunks_at(7..7)], [None, None]);
     /// # Ok::<(), yurewha::error::CoreError>(())
     /// ```
+    #[must_use]
     pub fn chunks_at(&self, bytes: Range<u64>) -> Option<Range<usize>> {
         // SAFETY: a handle, and two numbers to write to.
         told_if_there(|Range { start, end }| unsafe {
-            ffi::yurewha_hash_tree_chunks_at(&mut *self.lock(), bytes.start, bytes.end, start, end)
+            ffi::yurewha_hash_tree_chunks_at(&mut self.0.copy(), bytes.start, bytes.end, start, end)
         })
     }
 
@@ -168,10 +168,11 @@ impl HashTree {
     /// assert_eq!([tree.bytes_of(1..4), tree.bytes_of(1..1)], [None, None]);
     /// # Ok::<(), yurewha::error::CoreError>(())
     /// ```
+    #[must_use]
     pub fn bytes_of(&self, chunks: Range<usize>) -> Option<Range<u64>> {
         // SAFETY: a handle, and two numbers to write to.
         told_if_there(|Range { start, end }| unsafe {
-            ffi::yurewha_hash_tree_bytes_of(&mut *self.lock(), chunks.start, chunks.end, start, end)
+            ffi::yurewha_hash_tree_bytes_of(&mut self.0.copy(), chunks.start, chunks.end, start, end)
         })
     }
 
@@ -203,7 +204,7 @@ impl HashTree {
         // SAFETY: a handle, two rooms with their lengths, and two numbers to write to.
         let counts = answer(|(level_count, node_count)| unsafe {
             ffi::yurewha_hash_tree_proof(
-                &mut *self.lock(),
+                &mut self.0.copy(),
                 start,
                 end,
                 levels,
@@ -217,6 +218,53 @@ impl HashTree {
         rooms.proof(counts)
     }
 }
+
+impl HashTree {
+    /// Does the same as [`clone`](Clone::clone), but returns an error if an allocation fails.
+    ///
+    /// ```
+    /// use yurewha::merklehash::MerkleHash;
+    /// use yurewha::own::HashTree;
+    ///
+    /// let tree = HashTree::from_chunks(&[(MerkleHash::marker(), 100); 3])?;
+    /// assert_eq!(tree.try_clone()?, tree);
+    /// # Ok::<(), yurewha::error::CoreError>(())
+    /// ```
+    ///
+    /// # Errors
+    ///
+    /// [`OutOfMemory`](crate::error::CoreError::OutOfMemory) if an allocation fails
+    pub fn try_clone(&self) -> Result<Self> {
+        match self.num_chunks() {
+            0 => Self::from_chunks(&[]),
+            count => Self::from_chunks(self.proof(0..count)?.chunks()),
+        }
+    }
+}
+
+/// Makes the tree anew from its chunks, which takes as long as [`from_chunks`](HashTree::from_chunks). Threads need no
+/// clone, and owners can share an `Arc` of the tree.
+///
+/// # Panics
+///
+/// If an allocation fails; see [`try_clone`](HashTree::try_clone).
+impl Clone for HashTree {
+    #[track_caller]
+    fn clone(&self) -> Self {
+        plain("HashTree::clone", self.try_clone())
+    }
+}
+
+/// Trees are equal if they are over the same chunks. They are compared by their roots and by the number and the size of
+/// their chunks. So trees over other chunks are taken for equal only if two messages with one BLAKE3 hash were found.
+impl PartialEq for HashTree {
+    fn eq(&self, other: &Self) -> bool {
+        let told = |it: &Self| (it.num_chunks(), it.total_size(), it.root());
+        told(self) == told(other)
+    }
+}
+
+impl Eq for HashTree {}
 
 /// Shows the number of chunks and their size.
 impl fmt::Debug for HashTree {

@@ -1,12 +1,13 @@
 //! A range of a file's chunks that a range proof shows.
 
 use super::RangeProof;
+use crate::error::{CoreError, Result};
 use crate::ffi;
-use crate::handle::Owned;
-use crate::status::{told, told_if_shown, told_if_there};
+use crate::handle::Shared;
+use crate::merklehash::MerkleHash;
+use crate::status::{plain, told, told_if_shown, told_if_there};
 use std::fmt;
 use std::ops::Range;
-use std::sync::MutexGuard;
 
 /// A range of a file's chunks, and where in the file it is, as a range proof shows it. It checks the chunks' data as they
 /// arrive, in any order.
@@ -34,21 +35,24 @@ use std::sync::MutexGuard;
 /// # Ok::<(), Box<dyn std::error::Error>>(())
 /// ```
 ///
-/// Threads may share an opened range. Threads that read it at once take turns, call by call.
+/// An opened range never changes, so threads that share it check data at once, and none waits for another.
 pub struct OpenedRange {
-    handle: Owned<ffi::yurewha_opened_range>,
+    handle: Shared<ffi::yurewha_opened_range>,
     proof: RangeProof,
+    shown: Shown,
+}
+
+// What a proof was opened with.
+#[derive(Clone, Copy)]
+pub(super) enum Shown {
+    FileHash(MerkleHash, [u8; 32]),
+    Root(MerkleHash),
 }
 
 impl OpenedRange {
     // The range of a handle that another call has filled.
-    pub(super) fn new(handle: Owned<ffi::yurewha_opened_range>, proof: RangeProof) -> Self {
-        OpenedRange { handle, proof }
-    }
-
-    // The handle, for one call.
-    fn lock(&self) -> MutexGuard<'_, ffi::yurewha_opened_range> {
-        self.handle.lock()
+    pub(super) fn new(handle: Shared<ffi::yurewha_opened_range>, proof: RangeProof, shown: Shown) -> Self {
+        OpenedRange { handle, proof, shown }
     }
 
     /// Returns the proof that was opened.
@@ -62,6 +66,7 @@ impl OpenedRange {
     /// assert_eq!(range.proof().chunks(), [chunk]);
     /// # Ok::<(), Box<dyn std::error::Error>>(())
     /// ```
+    #[must_use]
     pub fn proof(&self) -> &RangeProof {
         &self.proof
     }
@@ -76,9 +81,10 @@ impl OpenedRange {
     /// assert_eq!(RangeProof::from_chunks(&chunks, 1..2)?.open_root(&xorb_hash(&chunks))?.file_size(), 300);
     /// # Ok::<(), Box<dyn std::error::Error>>(())
     /// ```
+    #[must_use]
     pub fn file_size(&self) -> u64 {
         // SAFETY: a handle, and a number to write to.
-        told(|size| unsafe { ffi::yurewha_opened_range_file_size(&mut *self.lock(), size) })
+        told(|size| unsafe { ffi::yurewha_opened_range_file_size(&mut self.handle.copy(), size) })
     }
 
     /// Returns the number of chunks of the range. There is at least one.
@@ -91,9 +97,10 @@ impl OpenedRange {
     /// assert_eq!(RangeProof::from_chunks(&chunks, 1..3)?.open_root(&xorb_hash(&chunks))?.num_chunks(), 2);
     /// # Ok::<(), Box<dyn std::error::Error>>(())
     /// ```
+    #[must_use]
     pub fn num_chunks(&self) -> usize {
         // SAFETY: a handle, and a number to write to.
-        told(|count| unsafe { ffi::yurewha_opened_range_num_chunks(&mut *self.lock(), count) })
+        told(|count| unsafe { ffi::yurewha_opened_range_num_chunks(&mut self.handle.copy(), count) })
     }
 
     /// Returns where in the file a chunk of the range begins, in bytes, or `None` if there is no such chunk. The chunks of
@@ -108,6 +115,7 @@ impl OpenedRange {
     /// assert_eq!([0, 1, 2].map(|chunk| range.begins(chunk)), [Some(100), Some(200), None]);
     /// # Ok::<(), Box<dyn std::error::Error>>(())
     /// ```
+    #[must_use]
     pub fn begins(&self, chunk: usize) -> Option<u64> {
         Some(self.bytes_of(chunk)?.start)
     }
@@ -123,6 +131,7 @@ impl OpenedRange {
     /// assert_eq!([0, 1, 2].map(|chunk| range.ends(chunk)), [Some(200), Some(300), None]);
     /// # Ok::<(), Box<dyn std::error::Error>>(())
     /// ```
+    #[must_use]
     pub fn ends(&self, chunk: usize) -> Option<u64> {
         Some(self.bytes_of(chunk)?.end)
     }
@@ -131,7 +140,7 @@ impl OpenedRange {
     fn bytes_of(&self, chunk: usize) -> Option<Range<u64>> {
         // SAFETY: a handle, and two numbers to write to.
         told_if_there(|Range { start, end }| unsafe {
-            ffi::yurewha_opened_range_bytes_of(&mut *self.lock(), chunk, start, end)
+            ffi::yurewha_opened_range_bytes_of(&mut self.handle.copy(), chunk, start, end)
         })
     }
 
@@ -149,10 +158,11 @@ impl OpenedRange {
     /// assert_eq!([range.check(0, b"a chuck"), range.check(1, b"a chunk")], [None, None]);
     /// # Ok::<(), Box<dyn std::error::Error>>(())
     /// ```
+    #[must_use]
     pub fn check(&self, chunk: usize, data: &[u8]) -> Option<u64> {
         // SAFETY: a handle, data of its length, and a number to write to.
         told_if_shown(|place| unsafe {
-            ffi::yurewha_opened_range_check(&mut *self.lock(), chunk, data.as_ptr(), data.len(), place)
+            ffi::yurewha_opened_range_check(&mut self.handle.copy(), chunk, data.as_ptr(), data.len(), place)
         })
     }
 
@@ -172,11 +182,12 @@ impl OpenedRange {
     /// assert_eq!(range.read(8..10, b"another one"), None); // data is left over
     /// # Ok::<(), Box<dyn std::error::Error>>(())
     /// ```
+    #[must_use]
     pub fn read<'d>(&self, bytes: Range<u64>, data: &'d [u8]) -> Option<&'d [u8]> {
         // SAFETY: a handle, data of its length, and a number to write to.
         let start: usize = told_if_shown(|start| unsafe {
             ffi::yurewha_opened_range_read(
-                &mut *self.lock(),
+                &mut self.handle.copy(),
                 bytes.start,
                 bytes.end,
                 data.as_ptr(),
@@ -186,6 +197,45 @@ impl OpenedRange {
         })?;
         let length = usize::try_from(bytes.end - bytes.start).ok()?;
         data.get(start..)?.get(..length)
+    }
+}
+
+impl OpenedRange {
+    /// Does the same as [`clone`](Clone::clone), but returns an error if an allocation fails.
+    ///
+    /// ```
+    /// use yurewha::merklehash::compute_data_hash;
+    /// use yurewha::own::RangeProof;
+    ///
+    /// let chunk = (compute_data_hash(b"a chunk"), 7);
+    /// let range = RangeProof::from_chunks(&[chunk], 0..1)?.open_root(&chunk.0)?;
+    /// assert_eq!(range.try_clone()?.check(0, b"a chunk"), Some(0));
+    /// # Ok::<(), Box<dyn std::error::Error>>(())
+    /// ```
+    ///
+    /// # Errors
+    ///
+    /// [`OutOfMemory`](CoreError::OutOfMemory) if an allocation fails
+    pub fn try_clone(&self) -> Result<Self> {
+        let proof = self.proof.try_clone()?;
+        let opened = match &self.shown {
+            Shown::FileHash(hash, salt) => proof.open_with_salt(hash, salt),
+            Shown::Root(root) => proof.open_root(root),
+        };
+        // The proof shows the hash, since it was opened before.
+        opened.map_err(|_| CoreError::OutOfMemory)
+    }
+}
+
+/// Opens the proof again. Threads need no clone, and owners can share an `Arc` of the range.
+///
+/// # Panics
+///
+/// If an allocation fails; see [`try_clone`](OpenedRange::try_clone).
+impl Clone for OpenedRange {
+    #[track_caller]
+    fn clone(&self) -> Self {
+        plain("OpenedRange::clone", self.try_clone())
     }
 }
 

@@ -1,0 +1,91 @@
+//! Hashing the chunks of a reader on several threads.
+
+use super::Node;
+use crate::merklehash::compute_data_hash;
+use std::io::{self, ErrorKind, Read};
+use std::num::NonZeroUsize;
+use std::sync::mpsc::{sync_channel, Receiver, SyncSender};
+use std::sync::{Mutex, PoisonError};
+use std::thread;
+
+// The data of a chunk, and its number.
+type Chunk = (usize, Vec<u8>);
+
+/// Reads chunks of these lengths, one after another, and hashes them on so many threads. The calling thread reads
+/// meanwhile. What it returns is in the order of the reader, and
+/// [`file_hash`](crate::merklehash::file_hash) or [`xorb_hash`](crate::merklehash::xorb_hash) takes it.
+///
+/// Nothing here cuts chunks: the lengths are those of a Xet client's chunks. What comes after the last chunk isn't read.
+/// Memory grows with the data that comes, not with a length that is only claimed.
+///
+/// ```
+/// use std::num::NonZeroUsize;
+/// use std::thread::available_parallelism;
+/// use yurewha::merklehash::{compute_data_hash, file_hash};
+/// use yurewha::own::hash_chunks;
+///
+/// let chunks = hash_chunks(&b"a chunkanother"[..], [7, 7], available_parallelism().unwrap_or(NonZeroUsize::MIN))?;
+/// assert_eq!(chunks, [&b"a chunk"[..], b"another"].map(|data| (compute_data_hash(data), 7)));
+/// println!("{}", file_hash(&chunks));
+/// # Ok::<(), std::io::Error>(())
+/// ```
+///
+/// # Errors
+///
+/// - the error of the reader, unless it was interrupted, which is repeated
+/// - [`UnexpectedEof`](ErrorKind::UnexpectedEof) if the reader ends before the last chunk does
+/// - the error of starting a thread
+/// - [`OutOfMemory`](ErrorKind::OutOfMemory) if there is no memory for the data
+pub fn hash_chunks(
+    reader: impl Read,
+    lengths: impl IntoIterator<Item = usize>,
+    threads: NonZeroUsize,
+) -> io::Result<Vec<Node>> {
+    let (chunks, taken) = sync_channel(threads.get());
+    let taken = Mutex::new(taken);
+    let mut hashed = thread::scope(|scope| {
+        let start = |_| thread::Builder::new().spawn_scoped(scope, || hash_each(&taken));
+        let workers = (0..threads.get()).map(start).collect::<io::Result<Vec<_>>>()?;
+        send_chunks(reader, lengths, chunks)?;
+        let parts = workers
+            .into_iter()
+            .map(|worker| worker.join().expect("hashing panics nowhere"));
+        Ok::<_, io::Error>(parts.flatten().collect::<Vec<_>>())
+    })?;
+    hashed.sort_unstable_by_key(|(number, _)| *number);
+    Ok(hashed.into_iter().map(|(_, node)| node).collect())
+}
+
+// Reads the chunks, and sends each with its number. The channel is closed at the end, also after an error.
+fn send_chunks(
+    mut reader: impl Read,
+    lengths: impl IntoIterator<Item = usize>,
+    chunks: SyncSender<Chunk>,
+) -> io::Result<()> {
+    for (number, length) in lengths.into_iter().enumerate() {
+        let mut data = Vec::new();
+        reader.by_ref().take(length as u64).read_to_end(&mut data)?;
+        if data.len() < length {
+            let end = format!("the data ends before chunk {number} is whole");
+            return Err(io::Error::new(ErrorKind::UnexpectedEof, end));
+        }
+        chunks
+            .send((number, data))
+            .expect("a thread takes chunks until there are none");
+    }
+    drop(chunks);
+    Ok(())
+}
+
+// Hashes chunks until the channel is closed.
+fn hash_each(taken: &Mutex<Receiver<Chunk>>) -> Vec<(usize, Node)> {
+    let mut hashed = Vec::new();
+    loop {
+        // In a `while let`, the lock would be held while the chunk is hashed.
+        let next = taken.lock().unwrap_or_else(PoisonError::into_inner).recv();
+        match next {
+            Ok((number, data)) => hashed.push((number, (compute_data_hash(&data), data.len() as u64))),
+            Err(_) => return hashed,
+        }
+    }
+}
