@@ -9,6 +9,6 @@ int main(int words, char **word)
     char text[64];
     size_t length;
     yurewha_hash hash;
-    yurewha_data_hash((const uint8_t *)word[words - 1], strlen(word[words - 1]), &hash);
+    yurewha_data_hash(word[words - 1], strlen(word[words - 1]), &hash);
     return yurewha_hex(&hash, text, sizeof text, &length) != YUREWHA_DONE || printf("%.*s\n", (int)length, text) < 0;
 }

@@ -149,7 +149,7 @@ static void known(struct runs *it)
 
 static void data_hashes(struct runs *it)
 {
-    EXPECT_STATUS(YUREWHA_DONE, yurewha_data_hashes((const uint8_t *)it->chunks, it->count * sizeof *it->chunks, it->offsets,
+    EXPECT_STATUS(YUREWHA_DONE, yurewha_data_hashes(it->chunks, it->count * sizeof *it->chunks, it->offsets,
                                                     it->count + 1, it->hashes, it->count));
 }
 

@@ -69,7 +69,7 @@ bool same(const yurewha_hash &first, const yurewha_hash &second) { return yurewh
 void hashes(Checks &check)
 {
     const std::string message = "abc";
-    const auto *const bytes = reinterpret_cast<const std::uint8_t *>(message.data());
+    const auto *const bytes = message.data();
     yurewha_hash data{}, internal{}, keyed{}, drawn{}, back{};
     yurewha_bytes raw{};
     yurewha_data_hash(bytes, message.size(), &data);
@@ -203,7 +203,7 @@ void trees(Checks &check)
 void ranges(Checks &check)
 {
     const std::string data = "abcdefghijklmnopqrstuvwxyz0123456789";
-    const auto *const bytes = reinterpret_cast<const std::uint8_t *>(data.data());
+    const auto *const bytes = data.data();
     std::array<yurewha_chunk, 12> all{};
     for (std::size_t i = 0; i < all.size(); i++) {
         yurewha_data_hash(bytes + 3 * i, 3, &all[i].hash);

@@ -530,10 +530,10 @@ void test_empty_slices(void)
     row("null with length 0");
 
     yurewha_data_hash(NULL, 0, &hash);
-    yurewha_data_hash((const uint8_t *)"", 0, &same);
+    yurewha_data_hash("", 0, &same);
     EXPECT(same_hash(&hash, &same) && !same_hash(&hash, &before));
     yurewha_internal_node_hash(NULL, 0, &hash);
-    yurewha_internal_node_hash((const uint8_t *)"", 0, &same);
+    yurewha_internal_node_hash("", 0, &same);
     EXPECT(same_hash(&hash, &same) && !same_hash(&hash, &before));
     yurewha_hasher_begin_data(&hasher);
     copy = hasher;

@@ -211,7 +211,7 @@ static void pieces(void)
         yurewha_hasher_finalize(&hasher, &hash);
         EXPECT(same_hash(&hash, &wanted));
         EXPECT(memcmp(&copy, &hasher, sizeof copy) == 0);
-        EXPECT_STATUS(YUREWHA_DONE, yurewha_hasher_update(&hasher, (const uint8_t *)"more", 4));
+        EXPECT_STATUS(YUREWHA_DONE, yurewha_hasher_update(&hasher, "more", 4));
         yurewha_hasher_finalize(&hasher, &hash);
         EXPECT(!same_hash(&hash, &wanted));
         yurewha_hasher_finalize(&copy, &hash);

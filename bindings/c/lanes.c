@@ -120,7 +120,7 @@ static yurewha_chunk parent_of(const yurewha_chunk *nodes, size_t count)
         length += (size_t)sprintf(text + length, " : %" PRIu64 "\n", nodes[i].size);
         parent.size += nodes[i].size;
     }
-    yurewha_internal_node_hash((const uint8_t *)text, length, &parent.hash);
+    yurewha_internal_node_hash(text, length, &parent.hash);
     return parent;
 }
 

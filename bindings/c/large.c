@@ -373,7 +373,7 @@ static struct file file_of(size_t count)
         file.offsets[i] = i * sizeof *file.bytes;
     for (size_t i = 0; i < count; i++)
         file.bytes[i] = (uint32_t)i;
-    EXPECT_STATUS(YUREWHA_DONE, yurewha_data_hashes((const uint8_t *)file.bytes, count * sizeof *file.bytes, file.offsets, count + 1,
+    EXPECT_STATUS(YUREWHA_DONE, yurewha_data_hashes(file.bytes, count * sizeof *file.bytes, file.offsets, count + 1,
                                                     file.hashes, count));
     for (size_t i = 0; i < count; i++)
         file.chunks[i] = (yurewha_chunk){file.hashes[i], sizeof *file.bytes};
@@ -409,7 +409,7 @@ static void proofs(struct list *it)
                                                             &level_count, &node_count));
         EXPECT_STATUS(YUREWHA_DONE, yurewha_range_proof_open_root(levels, level_count, nodes, node_count, &root, &range));
         EXPECT_STATUS(YUREWHA_DONE, yurewha_opened_range_num_chunks(&range, &count));
-        EXPECT_STATUS(YUREWHA_DONE, yurewha_opened_range_read(&range, first * bytes, end * bytes, (const uint8_t *)(file.bytes + first),
+        EXPECT_STATUS(YUREWHA_DONE, yurewha_opened_range_read(&range, first * bytes, end * bytes, file.bytes + first,
                                                               (end - first) * bytes, &start));
         EXPECT(count == end - first && start == 0);
     }

@@ -1,10 +1,10 @@
 /* Eight threads with objects of their own, handles that go from one thread to another and back, and one subtree's flat lists,
- * which all threads read. */
+ * one hash tree and one opened range, which all threads read. */
 #include "harness.h"
 
 #include <pthread.h>
 
-enum { THREADS = 8, TURNS = 20, SHARED = 200 };
+enum { THREADS = 8, TURNS = 20, SHARED = 200, FIRST = 50, PROVED = 60 };
 
 /* A subtree's flat lists. */
 struct lists {
@@ -21,10 +21,19 @@ static struct {
 } wanted[LENGTH(list_rows)];
 static yurewha_hash wanted_message;
 
+/* A hash tree of SHARED chunks, the data of those from FIRST on, and the opened proof of these. */
+struct kept {
+    yurewha_hash_tree tree;
+    yurewha_opened_range range;
+    yurewha_hash root;
+    uint8_t data[PROVED];
+};
+
 struct work {
     pthread_t thread;
     size_t number;
     const struct lists *lists; /* those of the first SHARED chunks, closed, which all threads read */
+    const struct kept *kept;   /* this, too */
     yurewha_subtree handed; /* made by the first thread, freed by it */
     bool holds;
 };
@@ -57,7 +66,7 @@ static bool is_right(size_t number, size_t size)
     text = block(length);
     holds = holds && yurewha_subtree_to_json(&whole, text, length, &length) == YUREWHA_DONE
             && yurewha_subtree_from_json(text, length, &read) == YUREWHA_DONE && same_subtree(&read, &whole);
-    yurewha_data_hash((const uint8_t *)"\0\1\2", 3, &message);
+    yurewha_data_hash("\0\1\2", 3, &message);
     holds = holds && same_hash(&message, &wanted_message);
     free(text);
     free(chunks);
@@ -83,6 +92,48 @@ static bool reads_shared(const struct lists *it)
     return holds;
 }
 
+/* What all threads ask one hash tree, each by a copy of the handle. The header doesn't let a program use two copies of a handle,
+ * but the Rust crate does so for hash trees and opened ranges, which no call changes. It may, if a call that reads writes to the
+ * handle alone, and finds it as it was. Helgrind shows that. */
+static bool reads_one_tree(const struct kept *it)
+{
+    yurewha_hash_tree tree = it->tree;
+    yurewha_opened_range opened = {0};
+    yurewha_level levels[64];
+    yurewha_chunk nodes[PROVED + 1024];
+    yurewha_hash root, file;
+    yurewha_bytes salt = {{0}};
+    size_t level_count = 0, node_count = 0, count = 0, first = 0, end = 0;
+    uint64_t size = 0, from = 0, to = 0;
+    const bool holds =
+        yurewha_hash_tree_root(&tree, &root) == YUREWHA_DONE && same_hash(&root, &it->root)
+        && yurewha_hash_tree_file_hash(&tree, &salt, &file) == YUREWHA_DONE
+        && yurewha_hash_tree_num_chunks(&tree, &count) == YUREWHA_DONE && count == SHARED
+        && yurewha_hash_tree_total_size(&tree, &size) == YUREWHA_DONE && size == SHARED
+        && yurewha_hash_tree_chunks_at(&tree, FIRST, FIRST + PROVED, &first, &end) == YUREWHA_DONE && first == FIRST
+        && yurewha_hash_tree_bytes_of(&tree, first, end, &from, &to) == YUREWHA_DONE && to == FIRST + PROVED
+        && yurewha_hash_tree_proof(&tree, first, end, levels, LENGTH(levels), nodes, LENGTH(nodes), &level_count, &node_count)
+               == YUREWHA_DONE
+        && yurewha_range_proof_open(levels, level_count, nodes, node_count, &file, &salt, &opened) == YUREWHA_DONE;
+    yurewha_opened_range_free(&opened);
+    return holds && tree.at == it->tree.at;
+}
+
+/* What all threads ask one opened range, in the same way. */
+static bool reads_one_range(const struct kept *it)
+{
+    yurewha_opened_range range = it->range;
+    size_t count = 0, start = 0;
+    uint64_t size = 0, from = 0, to = 0, place = 0;
+    const bool holds = yurewha_opened_range_file_size(&range, &size) == YUREWHA_DONE && size == SHARED
+                       && yurewha_opened_range_num_chunks(&range, &count) == YUREWHA_DONE && count == PROVED
+                       && yurewha_opened_range_bytes_of(&range, 3, &from, &to) == YUREWHA_DONE && from == FIRST + 3
+                       && yurewha_opened_range_check(&range, 3, it->data + 3, 1, &place) == YUREWHA_DONE && place == from
+                       && yurewha_opened_range_check(&range, 3, it->data + 4, 1, &place) == YUREWHA_MISMATCH
+                       && yurewha_opened_range_read(&range, from, to, it->data, PROVED, &start) == YUREWHA_DONE && start == 3;
+    return holds && range.at == it->range.at;
+}
+
 static void *work_on(void *given)
 {
     struct work *work = given;
@@ -93,6 +144,7 @@ static void *work_on(void *given)
         if (list_rows[number].count != 0)
             work->holds = is_right(number, 1 + (work->number + 3 * i) % 50) && work->holds;
         work->holds = reads_shared(work->lists) && work->holds;
+        work->holds = reads_one_tree(work->kept) && reads_one_range(work->kept) && work->holds;
     }
     yurewha_subtree other = {0};
     work->holds = work->holds && yurewha_subtree_from_chunks(false, NULL, 0, true, &other) == YUREWHA_DONE
@@ -113,12 +165,35 @@ static struct lists lists_of(yurewha_chunk *chunks)
     return made;
 }
 
+/* Chunks of one byte, each of which is another one. */
+static struct kept kept_of(void)
+{
+    struct kept made = {.tree = {0}};
+    yurewha_chunk chunks[SHARED], nodes[PROVED + 1024];
+    yurewha_level levels[64];
+    size_t level_count = 0, node_count = 0;
+    for (size_t i = 0; i < SHARED; i++) {
+        const uint8_t byte = (uint8_t)i;
+        yurewha_data_hash(&byte, 1, &chunks[i].hash);
+        chunks[i].size = 1;
+        if (FIRST <= i && i < FIRST + PROVED)
+            made.data[i - FIRST] = byte;
+    }
+    EXPECT_STATUS(YUREWHA_DONE, yurewha_xorb_hash(chunks, SHARED, &made.root));
+    EXPECT_STATUS(YUREWHA_DONE, yurewha_hash_tree_from_chunks(chunks, SHARED, &made.tree));
+    EXPECT_STATUS(YUREWHA_DONE, yurewha_hash_tree_proof(&made.tree, FIRST, FIRST + PROVED, levels, LENGTH(levels), nodes,
+                                                        LENGTH(nodes), &level_count, &node_count));
+    EXPECT_STATUS(YUREWHA_DONE, yurewha_range_proof_open_root(levels, level_count, nodes, node_count, &made.root, &made.range));
+    return made;
+}
+
 void test_threads(void)
 {
     struct work works[THREADS];
     yurewha_hash root_of_40;
+    struct kept kept = kept_of();
     const struct lists lists = lists_of(list_of(NULL, SHARED));
-    yurewha_data_hash((const uint8_t *)"\0\1\2", 3, &wanted_message);
+    yurewha_data_hash("\0\1\2", 3, &wanted_message);
     for (size_t i = 0; i < LENGTH(list_rows); i++) {
         yurewha_chunk *chunks = list_of(list_rows[i].pattern, list_rows[i].count);
         row("list %zu", i);
@@ -129,7 +204,7 @@ void test_threads(void)
     for (size_t i = 0; i < THREADS; i++) {
         yurewha_chunk *chunks = list_of(NULL, 40);
         row("thread %zu", i);
-        works[i] = (struct work){.number = i, .lists = &lists, .handed = range_of(chunks, 0, 40, true, false)};
+        works[i] = (struct work){.number = i, .lists = &lists, .kept = &kept, .handed = range_of(chunks, 0, 40, true, false)};
         EXPECT_STATUS(YUREWHA_DONE, yurewha_xorb_hash(chunks, 40, &root_of_40));
         free(chunks);
         EXPECT(pthread_create(&works[i].thread, NULL, work_on, &works[i]) == 0);
@@ -143,4 +218,6 @@ void test_threads(void)
         EXPECT(same_hash(&root, &root_of_40));
         yurewha_subtree_free(&works[i].handed);
     }
+    yurewha_hash_tree_free(&kept.tree);
+    yurewha_opened_range_free(&kept.range);
 }

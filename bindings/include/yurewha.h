@@ -16,6 +16,7 @@
  * - No object that a call writes to may overlap another argument of the call. In particular, the two handles of a call
  *   must be two objects; only yurewha_subtree_equal may get one handle twice, and finds it equal to itself. No call reads the
  *   old value of an out parameter, unless it is a handle.
+ * - Data is a `const void *` with a length in bytes, so that an array of any type is passed as it is.
  * - A text is an array of bytes with a length. It needs no 0 byte at its end, and the library writes none.
  * - For callers in other languages: a `bool` is one byte, which is 0 or 1, and a `size_t` has 8 bytes.
  *
@@ -195,7 +196,7 @@ const char *yurewha_processor_level(void);
 
 /* Writes the hash of a chunk. `bytes` is its data. The hash is keyed BLAKE3 under the data key. Allocates nothing. */
 YUREWHA_NONNULL(3) YUREWHA_SINCE(1.0)
-void yurewha_data_hash(const uint8_t *bytes, size_t length, yurewha_hash *hash);
+void yurewha_data_hash(const void *bytes, size_t length, yurewha_hash *hash);
 
 /* Writes the hashes of `count` chunks, whose data is in one buffer. The data of chunk i starts at `offsets[i]` and ends
  * before `offsets[i + 1]`, so there is one more offset than there are chunks. Allocates nothing.
@@ -203,13 +204,13 @@ void yurewha_data_hash(const uint8_t *bytes, size_t length, yurewha_hash *hash);
  *   ARGUMENTS  if and only if `offset_count` isn't `count` + 1, an offset is less than the one before it, or an offset is
  *              greater than `length` */
 YUREWHA_NODISCARD YUREWHA_SINCE(1.1)
-yurewha_status yurewha_data_hashes(const uint8_t *bytes, size_t length, const size_t *offsets, size_t offset_count,
+yurewha_status yurewha_data_hashes(const void *bytes, size_t length, const size_t *offsets, size_t offset_count,
                                    yurewha_hash *hashes, size_t count);
 
 /* Writes the hash of an inner node of the tree. `bytes` is its text. The hash is keyed BLAKE3 under the internal key.
  * Allocates nothing. */
 YUREWHA_NONNULL(3) YUREWHA_SINCE(1.0)
-void yurewha_internal_node_hash(const uint8_t *bytes, size_t length, yurewha_hash *hash);
+void yurewha_internal_node_hash(const void *bytes, size_t length, yurewha_hash *hash);
 
 /* Writes the keyed BLAKE3 hash of the bytes of `hash`, under the bytes of `key`. Allocates nothing. */
 YUREWHA_NONNULL(1, 2, 3) YUREWHA_SINCE(1.0)
@@ -286,7 +287,7 @@ uint64_t yurewha_hasher_count(const yurewha_hasher *hasher);
  *   DONE   the message now has at most 2^64 - 1 bytes
  *   SIZES  it would have more */
 YUREWHA_NODISCARD YUREWHA_NONNULL(1) YUREWHA_SINCE(1.0)
-yurewha_status yurewha_hasher_update(yurewha_hasher *hasher, const uint8_t *piece, size_t length);
+yurewha_status yurewha_hasher_update(yurewha_hasher *hasher, const void *piece, size_t length);
 
 /* Writes the keyed hash of the message. The hasher is unchanged, so it can take more pieces, and be finalized again. */
 YUREWHA_NONNULL(1, 2) YUREWHA_SINCE(1.0)
@@ -704,7 +705,7 @@ yurewha_status yurewha_opened_range_bytes_of(yurewha_opened_range *range, size_t
  *   MISMATCH      they aren't, or the range has no such chunk
  *   EMPTY_HANDLE  if and only if the handle is empty */
 YUREWHA_NODISCARD YUREWHA_NONNULL(1, 5) YUREWHA_SINCE(1.1)
-yurewha_status yurewha_opened_range_check(yurewha_opened_range *range, size_t chunk, const uint8_t *data, size_t length,
+yurewha_status yurewha_opened_range_check(yurewha_opened_range *range, size_t chunk, const void *data, size_t length,
                                           uint64_t *place);
 
 /* Checks the data of all chunks of the range, which come one after another with nothing else, and finds in it the bytes of the
@@ -716,7 +717,7 @@ yurewha_status yurewha_opened_range_check(yurewha_opened_range *range, size_t ch
  *   MISMATCH      the data isn't, or the range doesn't hold the places, or `to` is less than `from`
  *   EMPTY_HANDLE  if and only if the handle is empty */
 YUREWHA_NODISCARD YUREWHA_NONNULL(1, 6) YUREWHA_SINCE(1.1)
-yurewha_status yurewha_opened_range_read(yurewha_opened_range *range, uint64_t from, uint64_t to, const uint8_t *data,
+yurewha_status yurewha_opened_range_read(yurewha_opened_range *range, uint64_t from, uint64_t to, const void *data,
                                          size_t length, size_t *start);
 
 /* Frees what the handle owns, and leaves it empty. */

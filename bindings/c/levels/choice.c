@@ -19,9 +19,9 @@ static void *call(void *number)
 {
     const size_t i = (size_t)number;
     pthread_barrier_wait(&barrier);
-    yurewha_data_hash((const uint8_t *)text, sizeof text - 1, &before[i]);
+    yurewha_data_hash(text, sizeof text - 1, &before[i]);
     levels[i] = yurewha_processor_level();
-    yurewha_data_hash((const uint8_t *)text, sizeof text - 1, &after[i]);
+    yurewha_data_hash(text, sizeof text - 1, &after[i]);
     return NULL;
 }
 
