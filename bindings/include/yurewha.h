@@ -449,6 +449,26 @@ void yurewha_subtree_free(yurewha_subtree *subtree);
 
 /* ---- Sessions: chunks by their positions, which come in any order */
 
+/* A session takes the chunks of a file in any order, and returns the hash of the file:
+ *
+ *     yurewha_chunk chunks[2] = {{.size = 7}, {.size = 7}};
+ *     yurewha_session session = {0};
+ *     yurewha_hash file = {{0}};
+ *     uint64_t new_hashes = 0;
+ *
+ *     yurewha_data_hash("a chunk", 7, &chunks[0].hash);
+ *     yurewha_data_hash("another", 7, &chunks[1].hash);
+ *     yurewha_status status = yurewha_session_new(&session);
+ *     if (status == YUREWHA_DONE) // the second chunk was ready first
+ *         status = yurewha_session_put(&session, 1, &chunks[1], 1, &new_hashes);
+ *     if (status == YUREWHA_DONE)
+ *         status = yurewha_session_put(&session, 0, &chunks[0], 1, &new_hashes);
+ *     if (status == YUREWHA_DONE)
+ *         status = yurewha_session_finish(&session, 2, &file);
+ *     yurewha_session_free(&session);
+ *
+ * `new_hashes` says after each put how many hashes the session didn't know, so that a client sends only these chunks. */
+
 /* Makes a session without chunks. The handle owns it.
  *   DONE    it is made
  *   MEMORY  an allocation failed */
