@@ -3,6 +3,7 @@
 
 #include <array>
 #include <cstdio>
+#include <cstdlib>
 #include <cstring>
 #include <string>
 #include <type_traits>
@@ -254,6 +255,7 @@ void ranges(Checks &check)
 int main()
 {
     Checks check;
+    check(yurewha_set_allocator(std::malloc, std::realloc, std::free) == YUREWHA_DONE, "set_allocator");
     hashes(check);
     trees(check);
     ranges(check);

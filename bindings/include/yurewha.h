@@ -3,8 +3,8 @@
  * adjacent ranges of chunks without the chunks, and makes and opens range proofs, by which whoever knows the hash of a file
  * checks a part of it. The header is for C11 and C++17.
  *
- * Each call but yurewha_processor_level is proved to satisfy the contract of its export in crates/yurewha_c. The comments
- * state these contracts in words.
+ * Each call but yurewha_processor_level and yurewha_set_allocator is proved to satisfy the contract of its export in
+ * crates/yurewha_c. The comments state these contracts in words.
  *
  * Rules for all calls
  *
@@ -37,8 +37,8 @@
  *
  * Memory
  *
- * - The library allocates by malloc and realloc, and frees by free. These must belong together. They must align a block to
- *   each power of two up to 16 that divides its size.
+ * - The library allocates by malloc and realloc, and frees by free, or by the functions that yurewha_set_allocator got. These
+ *   must belong together. They must align a block to each power of two up to 16 that divides its size.
  * - No call may be made from a signal handler. None may be made in the forked child of a process with several threads.
  */
 #ifndef YUREWHA_H
@@ -191,6 +191,22 @@ yurewha_status yurewha_status_text(yurewha_status status, char *text, size_t roo
  * says so on standard error, and chooses as it does without the variable. All levels give the same results. */
 YUREWHA_NODISCARD YUREWHA_SINCE(1.1)
 const char *yurewha_processor_level(void);
+
+/* ---- Memory of the caller's own */
+
+/* What malloc, realloc and free do: the second also keeps the content of a block, and the block itself if it returns a null pointer.
+ * No size is 0, and no block that is handed over is a null pointer. Any thread that calls the library calls them. They may not call
+ * the library. */
+typedef void *(*yurewha_allocate)(size_t size);
+typedef void *(*yurewha_reallocate)(void *block, size_t size);
+typedef void (*yurewha_release)(void *block);
+
+/* Makes the library allocate by these functions, for all of the program. A program calls it before any other call of the library,
+ * and while no other thread calls the library.
+ *   DONE       the library allocates by them from now on
+ *   ARGUMENTS  a pointer is null, or the library has allocated before; it goes on as it did */
+YUREWHA_NODISCARD YUREWHA_SINCE(1.1)
+yurewha_status yurewha_set_allocator(yurewha_allocate allocate, yurewha_reallocate reallocate, yurewha_release release);
 
 /* ---- Hashes */
 

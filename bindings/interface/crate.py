@@ -8,12 +8,12 @@ import re
 from collections.abc import Iterable, Iterator
 from pathlib import Path
 
-from header import ROOT, Export, Header, Member, Struct, Unreadable
+from header import FOR_C, ROOT, Export, Header, Member, Struct, Unreadable
 
 CRATE = ROOT / "crates/yurewha_c/src"
 HASHER_CRATE = ROOT / "crates/keyed_blake3/src"
-#: The call that isn't proved: dist/processor_level.c has it.
-UNPROVED = "yurewha_processor_level"
+#: The calls that aren't proved: dist/processor_level.c and dist/heap.c have them.
+UNPROVED = ("yurewha_processor_level", FOR_C)
 #: The struct whose members are private to the library, which uses the bytes that the header says.
 HASHER = "yurewha_hasher"
 SCALARS = {"u8": "uint8_t", "u32": "uint32_t", "u64": "uint64_t", "i32": "int32_t", "usize": "size_t", "bool": "bool"}
@@ -117,7 +117,7 @@ def flattened(struct: Struct, structs: dict[str, Struct]) -> list[Member]:
 
 
 def of_exports(header: Header, text: str) -> Iterator[str]:
-    wanted = {it.name: wanted_of(it) for it in header.exports if it.name != UNPROVED}
+    wanted = {it.name: wanted_of(it) for it in header.exports if it.name not in UNPROVED}
     found = signatures(text)
     for name in sorted({*wanted, *found}):
         if wanted.get(name) != found.get(name):

@@ -52,6 +52,10 @@ class Export:
     heading: str
 
 
+#: The call that is for C alone: what it takes are functions of C.
+FOR_C = "yurewha_set_allocator"
+
+
 @dataclass(frozen=True)
 class Header:
     """What the header declares, in its order."""
@@ -67,6 +71,11 @@ class Header:
     #: Its declarations and macros, and its comments.
     cursors: tuple[Cursor, ...]
     comments: tuple[Token, ...]
+
+    @property
+    def for_languages(self) -> tuple[Export, ...]:
+        """The calls that other languages declare."""
+        return tuple(it for it in self.exports if it.name != FOR_C)
 
 
 def spelled(c_type: Type) -> str:

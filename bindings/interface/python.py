@@ -68,7 +68,7 @@ def members(struct: Struct) -> str:
 def declarations(header: Header, made: str) -> str:
     sizes = numbers({struct.name: struct.size for struct in header.structs})
     tables = (
-        f"DECLARATIONS: Dict[str, Declaration] = {{\n{calls(header.exports)}}}\n",
+        f"DECLARATIONS: Dict[str, Declaration] = {{\n{calls(header.for_languages)}}}\n",
         f"{STATUSES}STATUSES: Dict[str, int] = {{\n{numbers(header.statuses)}}}\n",
         f"{LENGTHS}LENGTHS: Dict[str, int] = {{\n{numbers(header.lengths)}}}\n",
         f"{MEMBERS}MEMBERS: Dict[str, Tuple[Member, ...]] = {{\n{''.join(map(members, header.structs))}}}\n",

@@ -101,7 +101,7 @@ def declarations(header: Header, made: str) -> str:
     parts = [
         f"// {made}\n\n{HEAD}", constants(header.statuses, "yurewha_status"), constants(header.lengths, "usize"),
         *map(struct_of, header.structs), *(room(it) for it in header.structs if is_long(it)), *map(empty_handle, handles),
-        layouts(header.structs), f'extern "C" {{\n{"".join(map(function, header.exports))}}}\n',
+        layouts(header.structs), f'extern "C" {{\n{"".join(map(function, header.for_languages))}}}\n',
         "#[cfg(test)]\nmod tests;\n",
     ]
     return "\n".join(parts)

@@ -41,6 +41,8 @@ thread_local! {
     // How many requests of this thread come before the one in which it waits for another thread; it waits in none,
     // where nothing is said.
     static BEFORE_MEETING: Cell<Option<u64>> = const { Cell::new(None) };
+    // Whether another thread waited as well, or had waited, while this one did.
+    static HAS_MET: Cell<bool> = const { Cell::new(false) };
     // The file of the last panic of this thread.
     static PLACE: Cell<Option<String>> = const { Cell::new(None) };
 }
@@ -55,6 +57,7 @@ fn meet() {
     while MEETING.load(Ordering::SeqCst) < 2 && begun.elapsed() < Duration::from_secs(10) {
         thread::yield_now();
     }
+    HAS_MET.set(MEETING.load(Ordering::SeqCst) == 2);
 }
 
 // Counts a request of this size, and tells whether it is refused.
@@ -485,7 +488,7 @@ fn proofs_of_one_tree_are_made_at_once() {
             scope.spawn(move || {
                 BEFORE_MEETING.set(Some(2));
                 let proof = tree.proof(first..first + 10);
-                assert_eq!((BEFORE_MEETING.get(), MEETING.load(Ordering::SeqCst)), (None, 2));
+                assert!(BEFORE_MEETING.get().is_none() && HAS_MET.get());
                 assert_eq!(
                     proof.unwrap().open_root(&tree.root()).unwrap().begins(0),
                     Some(first as u64)
