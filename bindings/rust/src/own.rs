@@ -33,7 +33,7 @@
 //!     let range = proof.open(file_hash)?;
 //!     let place = range.begins(0).zip(range.ends(range.num_chunks() - 1)).ok_or("a range has a chunk")?;
 //!     // So far these places are the server's word, so a reader looks at them before it fetches.
-//!     if place.0 + (1 << 20) < bytes.start || place.1 > bytes.end.saturating_add(1 << 20) {
+//!     if place.0.saturating_add(1 << 20) < bytes.start || place.1 > bytes.end.saturating_add(1 << 20) {
 //!         return Err("the server's chunks go far beyond what was asked for".into());
 //!     }
 //!     let data = server.data(place.0..place.1).await?;

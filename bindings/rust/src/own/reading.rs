@@ -8,6 +8,9 @@ use std::sync::mpsc::{sync_channel, Receiver, SyncSender};
 use std::sync::{Mutex, PoisonError};
 use std::thread;
 
+// The name of the threads, as debuggers show it.
+const NAME: &str = "yurewha";
+
 // The data of a chunk, and its number.
 type Chunk = (usize, Vec<u8>);
 
@@ -44,7 +47,8 @@ pub fn hash_chunks(
     let (chunks, taken) = sync_channel(threads.get());
     let taken = Mutex::new(taken);
     let mut hashed = thread::scope(|scope| {
-        let start = |_| thread::Builder::new().spawn_scoped(scope, || hash_each(&taken));
+        let named = || thread::Builder::new().name(NAME.to_owned());
+        let start = |_| named().spawn_scoped(scope, || hash_each(&taken));
         let workers = (0..threads.get()).map(start).collect::<io::Result<Vec<_>>>()?;
         send_chunks(reader, lengths, chunks)?;
         let parts = workers

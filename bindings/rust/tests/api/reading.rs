@@ -65,6 +65,31 @@ fn chunks_of_a_reader_have_their_hashes_in_order() {
     }
 }
 
+// A reader of zeros that counts the threads that wait for chunks meanwhile.
+#[cfg(target_os = "linux")]
+struct Counting(usize);
+
+#[cfg(target_os = "linux")]
+impl Read for Counting {
+    fn read(&mut self, room: &mut [u8]) -> io::Result<usize> {
+        let tasks = std::fs::read_dir("/proc/self/task")?;
+        // A thread may end before its name is read.
+        let names = tasks.filter_map(|task| std::fs::read_to_string(task.ok()?.path().join("comm")).ok());
+        self.0 = self.0.max(names.filter(|name| name == "yurewha\n").count());
+        room.fill(0);
+        Ok(room.len())
+    }
+}
+
+// More threads than all other tests here have together.
+#[cfg(target_os = "linux")]
+#[test]
+fn so_many_threads_hash_as_are_asked_for() {
+    let mut reader = Counting(0);
+    hash_chunks(&mut reader, [10; 200], threads(100)).unwrap();
+    assert!(reader.0 >= 100, "{}", reader.0);
+}
+
 #[test]
 fn what_comes_after_the_last_chunk_is_left_in_the_reader() {
     let mut rest = &b"a chunkanother"[..];
