@@ -28,17 +28,17 @@ static struct tried tried(uint8_t *at)
     return found;
 }
 
-/* The functions of the caller's own, or null pointers; and whether a block was asked for, after which they stay. */
+/* The functions of the caller's own, or null pointers; and whether a block was asked for, after which they stay as they are. */
 static struct {
     yurewha_allocate allocate;
     yurewha_reallocate reallocate;
     yurewha_release release;
+    atomic_bool was_asked;
 } own;
-static atomic_bool was_asked;
 
 yurewha_status yurewha_set_allocator(yurewha_allocate allocate, yurewha_reallocate reallocate, yurewha_release release)
 {
-    if (allocate == NULL || reallocate == NULL || release == NULL || atomic_load_explicit(&was_asked, memory_order_relaxed))
+    if (allocate == NULL || reallocate == NULL || release == NULL || atomic_load_explicit(&own.was_asked, memory_order_relaxed))
         return YUREWHA_ARGUMENTS;
     own.allocate = allocate;
     own.reallocate = reallocate;
@@ -49,8 +49,8 @@ yurewha_status yurewha_set_allocator(yurewha_allocate allocate, yurewha_realloca
 struct tried yurewha_heap_alloc(size_t size, size_t alignment)
 {
     /* Threads that only read this don't slow each other down. */
-    if (!atomic_load_explicit(&was_asked, memory_order_relaxed))
-        atomic_store_explicit(&was_asked, true, memory_order_relaxed);
+    if (!atomic_load_explicit(&own.was_asked, memory_order_relaxed))
+        atomic_store_explicit(&own.was_asked, true, memory_order_relaxed);
     if (own.allocate != NULL)
         return tried(own.allocate(size != 0 ? size : alignment));
     return tried(malloc(size != 0 ? size : alignment));
