@@ -5,8 +5,10 @@ use std::future::Future;
 use std::io::{self, Write};
 use std::panic::{RefUnwindSafe, UnwindSafe};
 use std::rc::Rc;
+use std::sync::atomic::{AtomicBool, Ordering};
 use std::sync::{Arc, OnceLock};
 use std::thread;
+use std::time::{Duration, Instant};
 use yurewha::merklehash::{
     compute_data_hash, file_hash, xorb_hash, DataHash, HashedWrite, MerkleHashSubtree, PassThroughHashMap,
 };
@@ -226,6 +228,39 @@ fn threads_check_long_data_with_the_same_range() {
             });
         }
     });
+}
+
+// Whether a call takes less than a quarter of the time for which another thread checks long data with the same range.
+fn overtakes_a_check(range: &OpenedRange, data: &[u8]) -> bool {
+    let is_begun = AtomicBool::new(false);
+    thread::scope(|scope| {
+        let check = scope.spawn(|| {
+            let begun = Instant::now();
+            is_begun.store(true, Ordering::SeqCst);
+            assert_eq!(range.check(0, data), Some(0));
+            begun.elapsed()
+        });
+        while !is_begun.load(Ordering::SeqCst) {
+            thread::yield_now();
+        }
+        // By then the other thread is in its call, unless the machine has no time for it.
+        thread::sleep(Duration::from_millis(5));
+        let begun = Instant::now();
+        assert_eq!(range.begins(0), Some(0));
+        let waited = begun.elapsed();
+        4 * waited < check.join().unwrap()
+    })
+}
+
+// A check takes tens of milliseconds. On a machine that has much to do, either thread may be late.
+#[test]
+fn a_range_tells_its_place_while_data_is_checked() {
+    let data = vec![7; 64 << 20];
+    let chunk = (compute_data_hash(&data), data.len() as u64);
+    let range = RangeProof::from_chunks(&[chunk], 0..1).unwrap();
+    let range = range.open_root(&chunk.0).unwrap();
+    let overtaken = (0..20).filter(|_| overtakes_a_check(&range, &data)).count();
+    assert!(overtaken > 5, "{overtaken}");
 }
 
 #[test]
