@@ -269,11 +269,3 @@ def test_the_example_of_the_readme():
     text = (REPOSITORY / "bindings" / "python" / "README.md").read_text(encoding="utf-8")
     (example,) = re.findall(r"```python\n(.*?)```", text, flags=re.S)
     exec(compile(example, "README.md", "exec"), {})
-
-
-def test_the_picture_of_the_readme(tmp_path):
-    folder = REPOSITORY / "bindings" / "python"
-    text = (folder / "draw_merge").read_text(encoding="utf-8")
-    names = {"__name__": "draw_merge", "__file__": str(folder / "draw_merge")}
-    exec(compile(text, "draw_merge", "exec"), names)
-    assert names["merge"]() == (folder / "merge.svg").read_text(encoding="utf-8")

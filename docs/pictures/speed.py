@@ -1,0 +1,87 @@
+"""The picture of speeds beside other code, from what bench/results says."""
+
+from __future__ import annotations
+
+import re
+from pathlib import Path
+from typing import Iterator, NamedTuple
+
+from svg import box, path, picture, text
+
+RESULTS = Path(__file__).resolve().parents[2] / "bench" / "results"
+LEFT, RIGHT, BAR, ROW, HEAD = 150, 725, 18, 26, 34
+MOST = 250  # the highest percentage on the axis
+
+
+class Bar(NamedTuple):
+    """What was measured, and the peer's time in percent of ours."""
+
+    name: str
+    percent: float
+
+
+def rows(file: str) -> list[list[str]]:
+    """The cells of each line of the tables in a file of results."""
+    lines = (RESULTS / file).read_text(encoding="utf-8").splitlines()
+    return [[cell.strip() for cell in line.split("|")[1:-1]] for line in lines if line.startswith("|")]
+
+
+def when(file: str) -> tuple[str, str]:
+    """The day and the processor of a file of results."""
+    found = re.search(r"on ([\d-]+): (.*?), ", (RESULTS / file).read_text(encoding="utf-8"))
+    assert found, file
+    return found[1], found[2].replace("(R)", "")
+
+
+def hashing() -> Iterator[Bar]:
+    """A chunk of 64 KiB that isn't in a cache, at each level of processors, beside `blake3` with the same instructions."""
+    table = rows("hashes.md")
+    column = table[0].index("64 KiB, cold")
+    for level, peer, name in (
+        ("x86-64", "SSE2", "SSE2"), ("x86-64-v2", "SSE4.1", "SSE4.1"), ("x86-64-v3", "AVX2", "AVX2"), ("x86-64-v4", "SIMD", "AVX-512")
+    ):
+        (ratio,) = (row[column] for row in table if row[:2] == [level, f"`blake3`, {peer}"])
+        yield Bar(name, 100 / float(ratio))
+
+
+def roots() -> Iterator[Bar]:
+    """Roots of lists, beside a loop over `blake3` with all that the processor has; these rows come last."""
+    found = {row[0]: row for row in rows("roots.md") if len(row) > 4 and row[2] == "a loop, the crate `hex`"}
+    for task, name in (("10^4", "10,000 chunks"), ("10^5", "100,000 chunks"), ("10^6", "1,000,000 chunks")):
+        yield Bar(name, 100 / float(found[f"`xorb_hash`, {task} chunks"][4].split(" ")[0]))
+
+
+def across(percent: float) -> float:
+    return LEFT + percent / MOST * (RIGHT - LEFT)
+
+
+def bars(top: int, head: str, peer: str, all_bars: list[Bar]) -> Iterator[str]:
+    """A heading and its bars before an axis, from a height on."""
+    yield text(20, top, head, "bold")
+    yield text(20, top + 18, peer, "quiet")
+    base = top + HEAD + len(all_bars) * ROW
+    for percent in range(0, MOST + 1, 50):
+        yield path("thin", (across(percent), top + HEAD - 4), (across(percent), base))
+        yield text(across(percent), base + 16, f"{percent} %", "bold" if percent == 100 else "quiet", "middle")
+    for number, bar in enumerate(all_bars):
+        y = top + HEAD + number * ROW
+        yield text(LEFT - 12, y + 14, bar.name, "", "end")
+        yield box(LEFT, y, round(across(bar.percent) - LEFT, 1), BAR, "blue" if bar.percent >= 100 else "orange", 2)
+        yield text(round(across(bar.percent) - 6, 1), y + 14, f"{bar.percent:.0f} %", "bold", "end")
+
+
+def speed() -> str:
+    """Bars of speed: 100 % is as fast as the other code."""
+    (day, processor), (other_day, other) = when("hashes.md"), when("roots.md")
+    days = day if day == other_day else f"{day} and {other_day}"
+    assert processor == other
+    first, second = list(hashing()), list(roots())
+    top = 62
+    next_top = top + HEAD + ROW * len(first) + 54
+    last = next_top + HEAD + ROW * len(second) + 48
+    title = "Speed, in percent of that of other code on the same machine"
+    return picture(title, "; ".join(f"{bar.name}: {bar.percent:.0f} %" for bar in first + second), last + 18, [
+        *bars(top, "Hash of a chunk of 64 KiB that isn't in a cache", "beside the crate blake3 with the same instructions", first),
+        *bars(next_top, "Root of a list", "beside a plain loop over blake3, which uses all that the processor has", second),
+        text(20, last, f"bench/results/hashes.md and roots.md, {days}, {processor}", "quiet"),
+    ])
