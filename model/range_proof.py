@@ -2,7 +2,7 @@
 
 Whoever reads some adjacent chunks of a file can't check them against the file
 hash without the hashes of all other chunks.  A proof has the few nodes that
-are needed instead: those beside the paths from these chunks up to the root.
+are needed instead: the other nodes of each group on the way up to the root.
 
 Vocabulary, beside that of xet_model.py
 
