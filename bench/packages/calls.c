@@ -10,7 +10,7 @@ enum { MESSAGE = 64 << 10, MESSAGES = 2048, CHUNKS = 100000, TURNS = 7 };
 
 static yurewha_hash hash;
 static yurewha_chunk chunks[CHUNKS];
-/* As much as no cache holds. */
+/* More bytes than any cache holds. */
 static uint8_t *messages;
 
 static double now(void)

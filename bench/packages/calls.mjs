@@ -4,7 +4,7 @@ import { load } from "../../bindings/wasm/yurewha/index.js";
 
 const y = await load();
 const [MESSAGE, MESSAGES, CHUNKS, TURNS] = [64 << 10, 2048, 100_000, 7];
-// As much as no cache holds.
+// More bytes than any cache holds.
 const messages = Uint8Array.from({ length: MESSAGE * MESSAGES }, (_, i) => i % 251);
 const views = Array.from({ length: MESSAGES }, (_, i) => messages.subarray(i * MESSAGE, (i + 1) * MESSAGE));
 const chunks = y.Chunks.from(Array.from({ length: CHUNKS }, (_, i) => [y.Hash.randomFromSeed(i), 100 + (i % 9900)]));

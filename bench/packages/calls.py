@@ -10,7 +10,7 @@ from yurewha import Chunks, Hash, data_hash, xorb_hash
 
 MESSAGE, MESSAGES, CHUNKS, TURNS = 64 << 10, 2048, 100_000, 7
 
-#: As much as no cache holds.
+#: More bytes than any cache holds.
 messages = bytes(range(251)) * (MESSAGE * MESSAGES // 251 + 1)
 views = [memoryview(messages)[i * MESSAGE : (i + 1) * MESSAGE] for i in range(MESSAGES)]
 chunks = Chunks([(Hash.random_from_seed(i), 100 + i % 9900) for i in range(CHUNKS)])

@@ -360,7 +360,7 @@ void test_handles(void)
     filled_again();
 }
 
-/* ---- Rooms: from nothing to one more than is needed. Each is a block of its own, so that a checker sees its end. */
+/* ---- Tests every room from 0 to one more than is needed. Each is a block of its own, so that a checker sees its end. */
 
 static bool is_only(const void *room, size_t size, unsigned char byte)
 {

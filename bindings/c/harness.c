@@ -4,7 +4,7 @@
 #include <inttypes.h>
 #include <stdarg.h>
 
-/* How many of the failures of a row are told. */
+/* How many failures of one row are reported. */
 enum { TOLD = 10 };
 
 static struct {

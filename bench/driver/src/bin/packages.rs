@@ -19,7 +19,7 @@ fn print(name: &str, count: usize, mut calls: impl FnMut()) {
 }
 
 fn main() {
-    // As much as no cache holds.
+    // More bytes than any cache holds.
     let messages: Vec<u8> = (0..MESSAGE * MESSAGES).map(|i| (i % 251) as u8).collect();
     let plain_chunks: Vec<plain::Node> = drawn::chunks(1, Cuts::Drawn).take(CHUNKS).collect();
     let chunks: Vec<(MerkleHash, u64)> =

@@ -31,7 +31,7 @@ const LENGTHS: [(&str, usize); 8] = [
     ("1 MiB", 1 << 20),
 ];
 
-/// As much as no cache holds, in which the chunks of an upload follow each other.
+/// More bytes than any cache holds. In them the chunks of an upload follow each other.
 const COLD_BYTES: usize = 128 << 20;
 
 /// Where chunks begin and end that follow each other in so many bytes. Their lengths are those of the store: 8 KiB and a random
