@@ -72,7 +72,7 @@ def places(tree: Tree) -> list[list[float]]:
     return rows
 
 
-def drawn(tree: Tree, top: int, node_kind: Callable[[Place], str], group_kind: Callable[[Place], str]) -> Iterator[str]:
+def parts_of(tree: Tree, top: int, node_kind: Callable[[Place], str], group_kind: Callable[[Place], str]) -> Iterator[str]:
     """The tree from a height on. A group has the place of its parent. A dot marks a natural cut."""
     rows, last = places(tree), len(tree.levels) - 1
     for level, row in enumerate(rows):
@@ -109,21 +109,27 @@ def under_a_range(row: Sequence[float], y: float, kind: str, name: str, kept: in
     yield text((begin + end) / 2, y + 24, f"{name} range: {len(row)} chunks, kept as {kept} nodes", "bold", "middle")
 
 
+def counts_of_merge(chunks: Sequence[tuple[yurewha.Hash, int]], tree: Tree, groups: range) -> tuple[int, int, int]:
+    """How many nodes each range keeps, and how many groups a merge hashes, if these groups of chunks aren't certain before."""
+    first, end = tree.bounds[0][groups.start], tree.bounds[0][groups.stop]
+    left, right = yurewha.Subtree.from_chunks(True, chunks[:MEETING], False), yurewha.Subtree.from_chunks(False, chunks[MEETING:], True)
+    kept = (MEETING - first + groups.start, end - MEETING + len(tree.levels[1]) - groups.stop)
+    hashed = len(groups) + sum(map(len, tree.levels[2:]))
+    same("the nodes that ranges keep", kept, (left.num_nodes, right.num_nodes))
+    same("the groups that the merge hashes", hashed, left.merge_counted(right))
+    return *kept, hashed
+
+
 def merge() -> str:
     """Two ranges, and the groups that a merge of them hashes."""
     chunks, tree = list_and_tree()
-    left, right = yurewha.Subtree.from_chunks(True, chunks[:MEETING], False), yurewha.Subtree.from_chunks(False, chunks[MEETING:], True)
     first, end = known(yurewha.find_stable_end(chunks[:MEETING])), MEETING + known(yurewha.find_stable_start(chunks[MEETING:]))
-    groups_left, groups_right = tree.bounds[0].index(first), tree.bounds[0].index(end)
-    kept = [MEETING - first + groups_left, end - MEETING + len(tree.levels[1]) - groups_right]
-    hashed = groups_right - groups_left + sum(map(len, tree.levels[2:]))
-    merged = left.copy()
-    same("the nodes that ranges keep", kept, [left.num_nodes, right.num_nodes])
-    same("the groups that the merge hashes", hashed, merged.merge_counted(right))
+    groups = range(tree.bounds[0].index(first), tree.bounds[0].index(end))
+    kept_left, kept_right, hashed = counts_of_merge(chunks, tree, groups)
 
     def group_kind(parent: Place) -> str:
         level, number = parent
-        return "orange" if level > 1 or groups_left <= number < groups_right else "blue" if number < groups_left else "green"
+        return "orange" if level > 1 or number in groups else "blue" if number < groups.start else "green"
 
     def node_kind(place: Place) -> str:
         level, number = place
@@ -133,10 +139,11 @@ def merge() -> str:
 
     under = TOP + (len(tree.levels) - 1) * ROW + HIGH + 14
     row = places(tree)[0]
-    sides = [*under_a_range(row[:MEETING], under, "blue", "left", kept[0]), *under_a_range(row[MEETING:], under, "green", "right", kept[1])]
     title = "Two ranges are merged, and only the groups where they meet are hashed"
     return picture(title, f"A tree of {len(chunks)} chunks. A merge of two ranges hashes {hashed} of its groups.", under + 152, [
-        *drawn(tree, TOP, node_kind, group_kind), *sides,
+        *parts_of(tree, TOP, node_kind, group_kind),
+        *under_a_range(row[:MEETING], under, "blue", "left", kept_left),
+        *under_a_range(row[MEETING:], under, "green", "right", kept_right),
         *legend(under + 48, [
             ("blue", "filled: a node that the left range keeps (blue) or that the right range keeps (green)"),
             ("blue-line", "empty: a chunk that no range keeps, because its group was hashed before, and the parent is kept"),
@@ -169,7 +176,7 @@ def path_to_the_root() -> str:
     title = f"The path from a chunk to the root of {len(chunks)} chunks"
     description = f"A range proof of one chunk has {nodes} nodes: the chunk's, and the other nodes of each group on the way up."
     return picture(title, description, under + 108, [
-        *drawn(tree, TOP, node_kind, lambda parent: "orange" if parent in on_path else "grey"),
+        *parts_of(tree, TOP, node_kind, lambda parent: "orange" if parent in on_path else "grey"),
         *legend(under + 4, [
             ("orange", "the chunk that is read, and the parents that the reader computes, up to the root"),
             ("blue", f"sides: the other nodes of each group on the way up. With the chunk's node, the proof has {nodes} nodes"),
