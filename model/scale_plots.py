@@ -108,7 +108,7 @@ def write(mean: Points, high: Points, measured_mean: Points, measured_greatest: 
     top = 100 * math.ceil(max(nodes for _, nodes in high) / 100)
     lines = [Series("mean, simulated", "a", mean, True), Series("99.9th percentile, simulated", "b", high, True)]
     nodes = plain_axis("nodes kept", top, 200 if top > 800 else 100)
-    kept = picture("Nodes that a range of drawn chunks keeps", (chunks, nodes),
+    kept = picture("Nodes that a range of random chunks keeps", (chunks, nodes),
                    [*lines, Series("mean, measured by the model", "p", measured_mean, False),
                     Series("greatest, measured by the model", "q", measured_greatest, False)])
     whole = [(value, value) for value, _ in mean]
