@@ -8,7 +8,7 @@ use std::rc::Rc;
 use std::sync::atomic::{AtomicBool, Ordering};
 use std::sync::{Arc, OnceLock};
 use std::thread;
-use std::time::{Duration, Instant};
+use std::time::Duration;
 use yurewha::merklehash::{
     compute_data_hash, file_hash, xorb_hash, DataHash, HashedWrite, MerkleHashSubtree, PassThroughHashMap,
 };
@@ -230,25 +230,22 @@ fn threads_check_long_data_with_the_same_range() {
     });
 }
 
-// Whether a call takes less than a quarter of the time for which another thread checks long data with the same range.
+// Whether a call returns while another thread checks long data with the same range.
 fn overtakes_a_check(range: &OpenedRange, data: &[u8]) -> bool {
-    let is_begun = AtomicBool::new(false);
+    let (is_begun, is_done) = (AtomicBool::new(false), AtomicBool::new(false));
     thread::scope(|scope| {
-        let check = scope.spawn(|| {
-            let begun = Instant::now();
+        scope.spawn(|| {
             is_begun.store(true, Ordering::SeqCst);
             assert_eq!(range.check(0, data), Some(0));
-            begun.elapsed()
+            is_done.store(true, Ordering::SeqCst);
         });
         while !is_begun.load(Ordering::SeqCst) {
             thread::yield_now();
         }
         // By then the other thread is in its call, unless the machine has no time for it.
         thread::sleep(Duration::from_millis(5));
-        let begun = Instant::now();
         assert_eq!(range.begins(0), Some(0));
-        let waited = begun.elapsed();
-        4 * waited < check.join().unwrap()
+        !is_done.load(Ordering::SeqCst)
     })
 }
 
