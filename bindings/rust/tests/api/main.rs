@@ -7,6 +7,8 @@ mod draws;
 #[cfg(feature = "serde")]
 mod forms;
 mod hashed_write;
+#[cfg(target_os = "linux")]
+mod held_up;
 mod json;
 mod long;
 mod map;

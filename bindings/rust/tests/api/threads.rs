@@ -5,10 +5,8 @@ use std::future::Future;
 use std::io::{self, Write};
 use std::panic::{RefUnwindSafe, UnwindSafe};
 use std::rc::Rc;
-use std::sync::atomic::{AtomicBool, Ordering};
 use std::sync::{Arc, OnceLock};
 use std::thread;
-use std::time::Duration;
 use yurewha::merklehash::{
     compute_data_hash, file_hash, xorb_hash, DataHash, HashedWrite, MerkleHashSubtree, PassThroughHashMap,
 };
@@ -228,36 +226,6 @@ fn threads_check_long_data_with_the_same_range() {
             });
         }
     });
-}
-
-// Whether a call returns while another thread checks long data with the same range.
-fn overtakes_a_check(range: &OpenedRange, data: &[u8]) -> bool {
-    let (is_begun, is_done) = (AtomicBool::new(false), AtomicBool::new(false));
-    thread::scope(|scope| {
-        scope.spawn(|| {
-            is_begun.store(true, Ordering::SeqCst);
-            assert_eq!(range.check(0, data), Some(0));
-            is_done.store(true, Ordering::SeqCst);
-        });
-        while !is_begun.load(Ordering::SeqCst) {
-            thread::yield_now();
-        }
-        // By then the other thread is in its call, unless the machine has no time for it.
-        thread::sleep(Duration::from_millis(5));
-        assert_eq!(range.begins(0), Some(0));
-        !is_done.load(Ordering::SeqCst)
-    })
-}
-
-// A check takes tens of milliseconds. On a machine that has much to do, either thread may be late.
-#[test]
-fn a_range_tells_its_place_while_data_is_checked() {
-    let data = vec![7; 64 << 20];
-    let chunk = (compute_data_hash(&data), data.len() as u64);
-    let range = RangeProof::from_chunks(&[chunk], 0..1).unwrap();
-    let range = range.open_root(&chunk.0).unwrap();
-    let overtaken = (0..20).filter(|_| overtakes_a_check(&range, &data)).count();
-    assert!(overtaken > 5, "{overtaken}");
 }
 
 #[test]
