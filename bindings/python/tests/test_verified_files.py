@@ -195,7 +195,7 @@ def test_long_reads_are_fetched_by_pieces(monkeypatch):
     great = Source(bytes(40 << 20), range(0, (40 << 20) + 1, 1 << 20))
     assert len(great.open().read()) == 40 << 20
     assert all(stop - start <= 17 << 20 for start, stop in great.fetched) and len(great.fetched) <= 5
-    monkeypatch.setattr("yurewha._verified_file.PIECE", 500)
+    monkeypatch.setattr("yurewha._checked_parts.PIECE", 500)
     source = drawn(7, 100)
     assert source.open().read() == source.data
     assert len(source.fetched) > len(source.data) // 700 and all(stop - start < 500 + 200 for start, stop in source.fetched)
@@ -345,7 +345,7 @@ def test_a_proof_that_goes_too_far_is_refused_before_anything_is_fetched():
 
 
 def test_a_mismatch_later_returns_nothing_and_leaves_the_position(monkeypatch):
-    monkeypatch.setattr("yurewha._verified_file.PIECE", 500)
+    monkeypatch.setattr("yurewha._checked_parts.PIECE", 500)
     source = drawn(11, 100)
     bad = changed(source.data, 2500)
     file = y.VerifiedFile(source.tree.file_hash(), lambda a, b: bad[a:b], source.prove)
@@ -530,7 +530,7 @@ class Ended(Exception):
     """What a signal handler raises."""
 
 
-MODULES = ("_verified_file.py", "_kept_parts.py")
+MODULES = ("_verified_file.py", "_checked_parts.py", "_kept_parts.py")
 
 
 @pytest.mark.parametrize("cache_size", [0, 250, 1000])

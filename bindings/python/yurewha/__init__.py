@@ -12,6 +12,7 @@ True
 from __future__ import annotations
 
 from . import _names
+from ._async_verified_file import AsyncVerifiedFile
 from ._chunks import Chunks
 from ._errors import (
     DivisionByZero,
@@ -53,6 +54,7 @@ from ._verified_file import VerifiedFile
 __version__ = "1.1.0"
 
 __all__ = [
+    "AsyncVerifiedFile",
     "Chunks",
     "DivisionByZero",
     "EmptyHandle",

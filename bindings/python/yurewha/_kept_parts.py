@@ -76,6 +76,15 @@ class KeptParts:
         while self.total > self._most:
             self._forget_one()
 
+    def parts(self) -> List[Part]:
+        """Returns all parts. The one that was used longest ago is the first.
+
+        >>> kept = KeptParts(10)
+        >>> kept.keep(0, b"abcd"); kept.keep(7, b"h"); kept.parts()
+        [(0, b'abcd'), (7, b'h')]
+        """
+        return list(self._data.items())
+
     def _end(self, begin: int) -> int:
         return begin + len(self._data[begin])
 

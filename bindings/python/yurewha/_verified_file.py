@@ -5,21 +5,18 @@ from __future__ import annotations
 import errno
 import io
 import os
-from typing import TYPE_CHECKING, BinaryIO, Callable, List, NoReturn, Optional, SupportsIndex, final
+from typing import TYPE_CHECKING, BinaryIO, Callable, Iterable, List, NoReturn, Optional, SupportsIndex, final
 
-from ._errors import InvalidArguments, ProofMismatch
+from ._checked_parts import CheckedParts, checked_places, done, joined
+from ._errors import InvalidArguments
 from ._guard import Guarded
-from ._hash import Hash, HashLike, checked_32, checked_u64, own_bytes, raw_of, whole_number
-from ._kept_parts import KeptParts, Part
+from ._hash import Hash, HashLike, checked_u64, whole_number
 from ._lent import bytes_of
 from ._range_proof import RangeProof
+from ._read_ahead import ReadAhead
 from ._types import BytesLike, Room
 
 __all__ = ["VerifiedFile"]
-
-#: How many bytes are fetched and checked at once, if more are asked for.
-PIECE = 1 << 24
-_MAX_U64 = 2**64 - 1
 
 if TYPE_CHECKING:
 
@@ -31,7 +28,7 @@ else:
 
 
 @final
-class VerifiedFile(_Raw):
+class VerifiedFile(CheckedParts, _Raw):  # type: ignore[misc]
     """A read-only file that is somewhere else. What is read of it is checked against the file hash before it is returned.
 
     `fetch(start, stop)` returns the bytes of the file from `start` up to, but without, `stop`. `prove(start, stop)` returns the
@@ -41,11 +38,17 @@ class VerifiedFile(_Raw):
     returned.
 
     `zipfile`, `pyarrow`, `fsspec` and others read through it, because it is an `io.RawIOBase` that can seek. A read returns all
-    bytes that are asked for, unless the file ends.
+    bytes that are asked for, unless the file ends. Threads share a file by `read_at`.
 
     - The size of the file is known once something was checked. So seeking from the end may fetch the first chunk. So does a read for
       which `prove` raises an error: if it turns out to begin at or after the end, it returns no bytes, else it raises that error.
     - What was used last is kept, at most `cache_size` bytes of it, so that a reader of small pieces fetches each chunk once.
+    - Each read that isn't kept costs two requests, whatever its length. So over a network read a megabyte or more at once, let
+      `io.BufferedReader(file, 1 << 20)` do so for a reader of small pieces or of lines, or give `read_ahead`.
+    - With `read_ahead`, a read that begins where the last one ended has up to so many bytes after it fetched and checked meanwhile,
+      in up to nine threads. So `fetch` and `prove` must then be callable by several threads at once.
+    - If a read fails, what it had checked before is kept, whatever the `cache_size`, until a read of it succeeds. So reading again
+      fetches the rest alone, also if an answer was cut off in the middle.
     - A proof is refused if its chunks go more than `chunk_limit` bytes beyond what is asked for. So a server can't make a reader
       fetch a whole file for one byte.
 
@@ -68,24 +71,45 @@ class VerifiedFile(_Raw):
         *,
         cache_size: SupportsIndex = 1 << 22,
         chunk_limit: SupportsIndex = 1 << 20,
+        read_ahead: SupportsIndex = 0,
+        name: Optional[str] = None,
     ) -> None:
-        for call, what in ((fetch, "fetch"), (prove, "prove")):
-            if not callable(call):
-                raise TypeError(f"{what} is a callable, not {type(call).__name__}")
-        self._hash = Hash._of(raw_of(file_hash, "a file hash"))
-        self._salt = bytes(32) if salt is None else checked_32(salt, "a salt")
-        self._fetch, self._prove = fetch, prove
-        self._cache_size, self._chunk_limit = checked_u64(cache_size, "a size"), checked_u64(chunk_limit, "a limit")
+        if name is not None and not isinstance(name, str):
+            raise TypeError(f"a name is a str, not {type(name).__name__}")
+        ahead = checked_u64(read_ahead, "a number of bytes")
+        self._begin(file_hash, fetch, prove, salt, cache_size, chunk_limit)
+        self._name = self._hash.hex() if name is None else name
         self._guarded = Guarded()
         self._guarded._guard()
         self._position = 0
-        # The default hash is the hash of the empty file.
-        self._size: Optional[int] = 0 if self._hash == Hash() else None
-        # What was checked and is kept, or None while a call uses it.
-        self._kept: Optional[KeptParts] = None
+        self._ahead = ReadAhead(ahead) if ahead else None
+        # Where the last read ended.
+        self._after_last: Optional[int] = None
 
     def __init_subclass__(cls) -> None:
         raise TypeError("VerifiedFile can't be subclassed")
+
+    @property
+    def name(self) -> str:
+        """The name that the file was given, or else the hex text of its hash.
+
+        >>> from yurewha import HashTree, data_hash
+        >>> tree = HashTree([(data_hash(b"abc"), 3)])
+        >>> VerifiedFile(tree.file_hash(), lambda start, stop: b"abc"[start:stop], tree.proof_of_bytes, name="abc.txt").name
+        'abc.txt'
+        """
+        return self._name
+
+    @property
+    def mode(self) -> str:
+        """The mode that `open` takes for such a file, which is `rb`.
+
+        >>> from yurewha import HashTree, data_hash
+        >>> tree = HashTree([(data_hash(b"abc"), 3)])
+        >>> VerifiedFile(tree.file_hash(), lambda start, stop: b"abc"[start:stop], tree.proof_of_bytes).mode
+        'rb'
+        """
+        return "rb"
 
     @property
     def file_hash(self) -> Hash:
@@ -109,13 +133,7 @@ class VerifiedFile(_Raw):
         """
         with self._guarded._locked():
             self._check_open()
-            return self._found_size()
-
-    def _found_size(self) -> int:
-        if self._size is None:
-            self._part(0, 1)
-        assert self._size is not None, "a part was checked"
-        return self._size
+            return done(self._found_size())
 
     # ---- Reading
 
@@ -141,8 +159,7 @@ class VerifiedFile(_Raw):
         count = -1 if size is None else whole_number(size, "a size")
         with self._guarded._locked():
             self._check_open()
-            parts = self._parts(self.size - self._position if count < 0 else count)
-            return bytes_of(parts[0]) if len(parts) == 1 else b"".join(parts)
+            return joined(self._next(self.size - self._position if count < 0 else count))
 
     def readall(self) -> bytes:
         """Returns all bytes up to the end.
@@ -168,73 +185,84 @@ class VerifiedFile(_Raw):
             if room.readonly:
                 raise TypeError("the buffer is read-only")
             filled = 0
-            for part in self._parts(len(room)):
+            for part in self._next(len(room)):
                 room[filled:filled + len(part)] = part
                 filled += len(part)
             return filled
 
-    def _parts(self, count: int) -> List[memoryview]:
+    def _next(self, count: int) -> List[memoryview]:
         """Returns the next `count` bytes in parts, fewer only at the end, and moves the position behind them."""
-        parts, position = [], self._position
-        while count > 0:
-            part = self._part(position, min(count, PIECE))
-            if not part:
-                break
-            parts.append(part)
-            position, count = position + len(part), count - len(part)
-        self._position = position
+        position = self._position
+        parts = self._parts_from(position, count)
+        self._position = self._after_last = position + sum(map(len, parts))
         return parts
 
-    def _part(self, start: int, most: int) -> memoryview:
-        """Returns bytes from a place on: at least one and at most `most`, or none at the end of the file."""
-        limit = _MAX_U64 if self._size is None else self._size
-        if start >= limit:
-            return memoryview(b"")
-        kept = self._taken()
-        part = kept.at(start)
-        self._kept = kept
-        if part is None:
-            stop = min(start + most, limit)
-            proof = self._proof(start, stop)
-            if proof is None:
-                return memoryview(b"")
-            part = self._fetched(proof, start, stop)
-        begin, data = part
-        return memoryview(data)[start - begin:start - begin + most]
+    def _parts_from(self, position: int, count: int) -> List[memoryview]:
+        """Returns bytes in parts: what is kept, what was read ahead, or what is fetched now."""
+        kept = self._at_once(position, count)
+        if kept is not None:
+            return [kept]
+        if self._ahead is None or self._size is None:
+            return done(self._parts(position, count))
+        if position != self._after_last:
+            self._ahead.forget()
+            return done(self._parts(position, count))
+        return self._ahead.parts(self._read_piece, position, min(count, self._size - position), self._size)
 
-    def _taken(self) -> KeptParts:
-        """Takes what is kept away, until it is put back. So a signal handler that reads meanwhile sees nothing half changed."""
-        kept, self._kept = self._kept, None
-        return KeptParts(self._cache_size) if kept is None else kept
+    def _read_piece(self, start: int, stop: int) -> memoryview:
+        return memoryview(joined(done(self._parts(start, stop - start))))
 
-    def _proof(self, start: int, stop: int) -> Optional[RangeProof]:
-        """Returns the proof of the chunks with the bytes from `start` up to `stop`, or None if the file ends before them."""
-        try:
-            proof = self._prove(start, stop)
-        except Exception:
-            # Perhaps there are no such bytes. The first chunk shows where the file ends.
-            if start == 0 or start < self._found_size():
-                raise
-            return None
-        if not isinstance(proof, RangeProof):
-            raise TypeError(f"prove returns a RangeProof, not {type(proof).__name__}")
-        return proof
+    def read_at(self, start: int, stop: int) -> bytes:
+        """Returns the bytes from `start` up to, but without, `stop`, or those of them that the file has. The position stays.
 
-    def _fetched(self, proof: RangeProof, start: int, stop: int) -> Part:
-        """Returns the data of a proof's chunks, once it is checked, and keeps it. They have the bytes from `start` up to `stop`."""
-        opened = proof.open(self._hash, self._salt)
-        begin, end, size = opened.begins(0), opened.ends(opened.num_chunks - 1), opened.file_size
-        if not begin <= start < min(stop, size) <= end:
-            raise ProofMismatch(f"{_told(begin, end)}, and not of those from {start} up to {stop}")
-        if start - begin > self._chunk_limit or end - stop > self._chunk_limit:
-            raise ProofMismatch(f"{_told(begin, end)}, too far beyond those from {start} up to {stop}: see chunk_limit")
-        data = own_bytes(self._fetch(begin, end))
-        opened.read(begin, end, data)
-        self._size = size
-        kept = self._taken()
-        kept.keep(begin, data)
-        self._kept = kept
-        return begin, data
+        Threads may call it at once, also while another call reads: nobody waits while something is fetched. `fetch` and `prove` are
+        called in the thread of the caller. Raises `InvalidArguments` if `stop` is less than `start`.
+
+        >>> from yurewha import HashTree, data_hash
+        >>> tree = HashTree([(data_hash(b"abc"), 3)])
+        >>> VerifiedFile(tree.file_hash(), lambda start, stop: b"abc"[start:stop], tree.proof_of_bytes).read_at(1, 7)
+        b'bc'
+        """
+        begin, end = checked_places(start, stop)
+        self._check_open()
+        kept = self._at_once(begin, end - begin)
+        return bytes_of(kept) if kept is not None else joined(done(self._parts(begin, end - begin)))
+
+    # ---- What it can't do
+
+    def write(self, data: BytesLike) -> NoReturn:
+        """Raises `io.UnsupportedOperation`, as the file is read-only.
+
+        >>> from yurewha import HashTree, data_hash
+        >>> tree = HashTree([(data_hash(b"abc"), 3)])
+        >>> VerifiedFile(tree.file_hash(), lambda start, stop: b"abc"[start:stop], tree.proof_of_bytes).write(b"a")
+        Traceback (most recent call last):
+        io.UnsupportedOperation: a VerifiedFile can't be written to
+        """
+        self._check_open()
+        raise io.UnsupportedOperation("a VerifiedFile can't be written to")
+
+    def writelines(self, lines: Iterable[BytesLike]) -> NoReturn:
+        """Raises `io.UnsupportedOperation`, as `write` does.
+
+        >>> from yurewha import HashTree, data_hash
+        >>> tree = HashTree([(data_hash(b"abc"), 3)])
+        >>> VerifiedFile(tree.file_hash(), lambda start, stop: b"abc"[start:stop], tree.proof_of_bytes).writelines([])
+        Traceback (most recent call last):
+        io.UnsupportedOperation: a VerifiedFile can't be written to
+        """
+        self.write(b"")
+
+    def truncate(self, size: Optional[int] = None) -> NoReturn:
+        """Raises `io.UnsupportedOperation`, as `write` does.
+
+        >>> from yurewha import HashTree, data_hash
+        >>> tree = HashTree([(data_hash(b"abc"), 3)])
+        >>> VerifiedFile(tree.file_hash(), lambda start, stop: b"abc"[start:stop], tree.proof_of_bytes).truncate()
+        Traceback (most recent call last):
+        io.UnsupportedOperation: a VerifiedFile can't be written to
+        """
+        self.write(b"")
 
     # ---- The position
 
@@ -279,6 +307,20 @@ class VerifiedFile(_Raw):
         self._check_open()
         return self._position
 
+    def close(self) -> None:
+        """Closes the file. What is being read ahead is given up. Closing it again does nothing.
+
+        >>> from yurewha import HashTree, data_hash
+        >>> tree = HashTree([(data_hash(b"abc"), 3)])
+        >>> file = VerifiedFile(tree.file_hash(), lambda start, stop: b"abc"[start:stop], tree.proof_of_bytes)
+        >>> file.close(); file.closed
+        True
+        """
+        super().close()
+        ahead = getattr(self, "_ahead", None)  # it wasn't completely made if there is none
+        if ahead is not None:
+            ahead.forget()
+
     def _check_open(self) -> None:
         if self.closed:
             raise ValueError("I/O operation on a closed file")
@@ -288,7 +330,3 @@ class VerifiedFile(_Raw):
 
     def __repr__(self) -> str:
         return f"<yurewha.VerifiedFile {self._hash}>"
-
-
-def _told(begin: int, end: int) -> str:
-    return f"the proof is of the bytes from {begin} up to {end}"

@@ -1,0 +1,592 @@
+"""Files over a network: parts read by threads at once, by tasks, and ahead; and servers that lie, cut off, come late or die."""
+
+import asyncio
+import contextlib
+import io
+import os
+import random
+import threading
+import time
+
+import pytest
+from test_verified_files import OTHER, Ended, Source, at_each_line, changed, drawn
+
+import yurewha as y
+
+MIB = 1 << 20
+
+
+def plainly(source, **options):
+    """A file, and a call that reads a part of it and waits for no other."""
+    file = source.open(**options)
+    return file, file.read_at
+
+
+def by_tasks(source, **options):
+    """The same by an async file, each of whose calls is awaited."""
+    async def fetch(start, stop):
+        await asyncio.sleep(0)
+        return source.fetch(start, stop)
+
+    async def prove(start, stop):
+        await asyncio.sleep(0)
+        return source.prove(start, stop)
+
+    file = y.AsyncVerifiedFile(source.tree.file_hash(), fetch, prove, **options)
+    return file, lambda start, stop: asyncio.run(file.read_at(start, stop))
+
+
+READERS = pytest.mark.parametrize("reader", [plainly, by_tasks])
+
+
+@READERS
+@pytest.mark.parametrize("options", [{}, {"cache_size": 0}, {"cache_size": 150}], ids=str)
+def test_each_part_is_that_of_the_file(reader, options):
+    source, rng = drawn(31, 200), random.Random(32)
+    _, read_at = reader(source, **options)
+    end = len(source.data)
+    for _ in range(300):
+        start = rng.choice((0, rng.randrange(end + 50), end, 2**64 - 1))
+        stop = min(start + rng.choice((0, 1, 7, rng.randrange(500), end, 2**64)), 2**64 - 1)
+        assert read_at(start, stop) == source.data[start:stop]
+
+
+@READERS
+@pytest.mark.parametrize("start, stop, error", [
+    (5, 4, y.InvalidArguments), (-1, 4, y.InvalidArguments), (0, -1, y.InvalidArguments), (0, 2**64, y.InvalidArguments),
+    (2**63, 0, y.InvalidArguments), (0.0, 4, TypeError), (0, "4", TypeError), (None, 4, TypeError), (0, None, TypeError)])
+def test_wrong_places(reader, start, stop, error):
+    source = drawn(31, 20)
+    _, read_at = reader(source)
+    with pytest.raises(error):
+        read_at(start, stop)
+    assert source.proved == source.fetched == []
+
+
+def test_a_part_leaves_the_position():
+    file = drawn(31, 20).open()
+    file.seek(7)
+    assert file.read_at(100, 200) == file.read_at(100, 200) and file.tell() == 7
+    file.close()
+    with pytest.raises(ValueError, match="closed"):
+        file.read_at(0, 1)
+
+
+def test_the_size_of_an_async_file():
+    source = drawn(31, 20)
+    file, _ = by_tasks(source)
+    assert asyncio.run(file.size()) == len(source.data) and source.fetched == [(0, source.cuts[1])]
+    assert file.file_hash == source.tree.file_hash() and repr(file) == f"<yurewha.AsyncVerifiedFile {file.file_hash}>"
+    for call in (lambda: file.__reduce__(), lambda: type("Other", (y.AsyncVerifiedFile,), {})):
+        with pytest.raises(TypeError):
+            call()
+
+
+def test_an_async_file_takes_plain_calls_and_a_salt():
+    source, salt = drawn(31, 20), bytes(range(32))
+    file = y.AsyncVerifiedFile(source.tree.file_hash(salt), source.fetch, source.prove, salt)
+    assert asyncio.run(file.read_at(0, 2**63)) == source.data
+
+
+# ---- At once
+
+def all_at_once(count):
+    """A call that returns once it was called `count` times at once."""
+    barrier = threading.Barrier(count)
+    return lambda: barrier.wait(10)
+
+
+def started(*calls):
+    """Runs each call in a thread, and returns what they returned or raised."""
+    results = [None] * len(calls)
+
+    def run(number, call):
+        try:
+            results[number] = call()
+        except BaseException as error:
+            results[number] = error
+
+    threads = [threading.Thread(target=run, args=given) for given in enumerate(calls)]
+    for thread in threads:
+        thread.start()
+    for thread in threads:
+        thread.join(60)
+        assert not thread.is_alive(), "a thread waits for ever"
+    return results
+
+
+@pytest.mark.parametrize("what", ["fetch", "prove"])
+def test_threads_ask_at_once(what):
+    """No thread gets its answer before four have asked."""
+    source, meet = Source(random.Random(33).randbytes(400), range(0, 401, 100)), all_at_once(4)
+    calls = {"fetch": source.fetch, "prove": source.prove}
+    asked = calls[what]
+    calls[what] = lambda start, stop: (meet(), asked(start, stop))[1]
+    file = y.VerifiedFile(source.tree.file_hash(), calls["fetch"], calls["prove"])
+    results = started(*(lambda at=at: file.read_at(at, at + 100) for at in range(0, 400, 100)))
+    assert results == [source.data[at:at + 100] for at in range(0, 400, 100)]
+
+
+def test_a_part_is_read_while_a_read_waits():
+    source, meet = Source(random.Random(33).randbytes(400), range(0, 401, 100)), all_at_once(2)
+    file = y.VerifiedFile(source.tree.file_hash(), lambda a, b: (meet(), source.fetch(a, b))[1], source.prove)
+    assert started(lambda: file.read(100), lambda: file.read_at(200, 300)) == [source.data[:100], source.data[200:300]]
+
+
+def test_tasks_ask_at_once():
+    source, waiting = Source(random.Random(34).randbytes(400), range(0, 401, 100)), []
+
+    async def main():
+        everyone = asyncio.Event()
+
+        async def fetch(start, stop):
+            waiting.append(start)
+            if len(waiting) == 4:
+                everyone.set()
+            await asyncio.wait_for(everyone.wait(), 10)
+            return source.fetch(start, stop)
+
+        file = y.AsyncVerifiedFile(source.tree.file_hash(), fetch, source.prove)
+        return await asyncio.gather(*(file.read_at(at, at + 100) for at in range(0, 400, 100)))
+
+    assert b"".join(asyncio.run(main())) == source.data
+
+
+@pytest.mark.parametrize("options", [{}, {"cache_size": 3000}], ids=str)
+def test_threads_read_one_file_by_parts(options):
+    source = drawn(35, 500, 1000)
+    file = source.open(**options)
+
+    def work(seed):
+        rng = random.Random(seed)
+        for _ in range(300):
+            start = rng.randrange(len(source.data))
+            stop = start + rng.randrange(3000)
+            if file.read_at(start, stop) != source.data[start:stop]:
+                return "wrong"
+        return "right"
+
+    assert started(*(lambda seed=seed: work(seed) for seed in range(6))) == 6 * ["right"]
+    assert file._kept.total == sum(map(len, file._kept._data.values())) <= file._cache_size
+
+
+# ---- What was checked before a failure
+
+class Dying:
+    """A server that dies after so many bytes: it sends what it has left, and then nothing."""
+
+    def __init__(self, source, left):
+        self.source, self.left, self.sent = source, left, 0
+
+    def fetch(self, start, stop):
+        if self.left == 0:
+            raise ConnectionError("the server is gone")
+        data = self.source.data[start:stop][:self.left]
+        self.left -= len(data)
+        self.sent += len(data)
+        return data
+
+
+def file_of(reader, source, server, **options):
+    """A file that is read from a server, and the call that reads its parts."""
+    shown = Source.__new__(Source)
+    shown.__dict__.update(source.__dict__)
+    shown.fetch = lambda start, stop: server[0].fetch(start, stop)
+    return reader(shown, **options)
+
+
+@READERS
+@pytest.mark.parametrize("cache_size", [0, 1 << 22])
+@pytest.mark.parametrize("left", [0, 1, 500, 2000, 2999, 5000, 9999])
+def test_a_server_that_dies_in_the_middle(monkeypatch, reader, cache_size, left):
+    """The next one is asked for the rest alone: for less than a chunk more."""
+    monkeypatch.setattr("yurewha._checked_parts.PIECE", 1000)
+    source = Source(random.Random(36).randbytes(10_000), range(0, 10_001, 50))
+    server = [Dying(source, left)]
+    _, read_at = file_of(reader, source, server, cache_size=cache_size)
+    with pytest.raises((y.ProofMismatch, ConnectionError)):
+        read_at(0, 10_000)
+    first, server[0] = server[0], Dying(source, 1 << 60)
+    assert read_at(0, 10_000) == source.data and first.sent + server[0].sent < 10_000 + 50
+
+
+@READERS
+def test_a_server_that_dies_again_and_again(monkeypatch, reader):
+    monkeypatch.setattr("yurewha._checked_parts.PIECE", 1000)
+    source = Source(random.Random(36).randbytes(10_000), range(0, 10_001, 50))
+    server, sent = [Dying(source, 700)], 0
+    _, read_at = file_of(reader, source, server, cache_size=0)
+    for _ in range(30):
+        try:
+            assert read_at(0, 10_000) == source.data
+            break
+        except (y.ProofMismatch, ConnectionError):
+            sent += server[0].sent
+            server[0] = Dying(source, 700)
+    assert 10_000 <= sent + server[0].sent < 10_000 + 30 * 50
+
+
+@READERS
+def test_what_is_rescued_was_checked(reader):
+    """A server sends a wrong byte once. Of its answer only the chunks before this byte are used later."""
+    source = Source(random.Random(37).randbytes(1000), range(0, 1001, 50))
+    sent = [changed(source.data, 420)]
+
+    class Lying:
+        @staticmethod
+        def fetch(start, stop):
+            source.fetched.append((start, stop))
+            return sent[0][start:stop]
+
+    _, read_at = file_of(reader, source, [Lying], cache_size=0)
+    with pytest.raises(y.ProofMismatch):
+        read_at(0, 1000)
+    sent[0] = source.data
+    assert read_at(0, 1000) == source.data and source.fetched == [(0, 1000), (400, 1000)]
+
+
+def test_what_is_rescued_is_forgotten_once_it_was_read(monkeypatch):
+    monkeypatch.setattr("yurewha._checked_parts.PIECE", 1000)
+    source = Source(random.Random(38).randbytes(10_000), range(0, 10_001, 50))
+    server = [Dying(source, 3000)]
+    file, read_at = file_of(plainly, source, server, cache_size=0)
+    with pytest.raises(ConnectionError):
+        read_at(0, 10_000)
+    assert file._rescued.total == 3000
+    server[0] = Dying(source, 1 << 60)
+    assert read_at(5000, 6000) == source.data[5000:6000] and file._rescued.total == 3000
+    assert read_at(0, 10_000) == source.data and file._rescued is None and file._kept.total == 0
+
+
+def test_what_is_rescued_is_bounded(monkeypatch):
+    """A server that dies in each read makes a reader keep no more than the last one had, and a fixed number of bytes."""
+    monkeypatch.setattr("yurewha._checked_parts.PIECE", 1000)
+    monkeypatch.setattr("yurewha._checked_parts._RESCUED", 2500)
+    source = Source(random.Random(38).randbytes(100_000), range(0, 100_001, 50))
+    server = [None]
+    file, read_at = file_of(plainly, source, server, cache_size=0)
+    for start in range(0, 90_000, 5000):
+        server[0] = Dying(source, 2000)
+        with pytest.raises(ConnectionError):
+            read_at(start, start + 5000)
+        assert 2000 <= file._rescued.total <= 2000 + 2500
+
+
+def test_reads_by_position_rescue_too(monkeypatch):
+    monkeypatch.setattr("yurewha._checked_parts.PIECE", 1000)
+    source = Source(random.Random(36).randbytes(10_000), range(0, 10_001, 50))
+    for read in (lambda file: file.read(), lambda file: file.readinto(bytearray(10_000)), lambda file: file.read(10_000)):
+        server = [Dying(source, 6050)]
+        file, _ = file_of(plainly, source, server, cache_size=0)
+        assert file.size == 10_000
+        with pytest.raises(ConnectionError):
+            read(file)
+        first, server[0] = server[0], Dying(source, 1 << 60)
+        assert file.tell() == 0 and read(file) and first.sent + server[0].sent <= 10_000 + 50
+
+
+# ---- Late answers
+
+def test_answers_that_come_late_and_exchanged():
+    """Two threads ask at once, and each gets the answer to the other one's request."""
+    source, meet = Source(random.Random(39).randbytes(400), range(0, 401, 100)), all_at_once(2)
+    asked = []
+
+    def fetch(start, stop):
+        asked.append((start, stop))
+        meet()
+        other = next(given for given in asked if given != (start, stop))
+        return source.data[other[0]:other[1]]
+
+    file = y.VerifiedFile(source.tree.file_hash(), fetch, source.prove)
+    results = started(lambda: file.read_at(0, 100), lambda: file.read_at(200, 300))
+    assert [type(result) for result in results] == 2 * [y.ProofMismatch] and file._kept.total == 0 and file._rescued is None
+
+
+def test_a_late_answer_is_right_where_it_belongs():
+    source, go_on = Source(random.Random(39).randbytes(400), range(0, 401, 100)), threading.Event()
+
+    def fetch(start, stop):
+        if start == 0:
+            assert go_on.wait(10)
+        return source.fetch(start, stop)
+
+    file = y.VerifiedFile(source.tree.file_hash(), fetch, source.prove)
+
+    def later():
+        assert file.read_at(100, 400) == source.data[100:400]
+        go_on.set()
+
+    assert started(lambda: file.read_at(0, 250), later)[0] == source.data[:250]
+    assert file.read_at(0, 400) == source.data
+
+
+def test_a_task_that_waits_no_longer(monkeypatch):
+    """What it had checked isn't asked for again."""
+    monkeypatch.setattr("yurewha._checked_parts.PIECE", 1000)
+    source, late = Source(random.Random(40).randbytes(5000), range(0, 5001, 50)), [3000]
+
+    async def fetch(start, stop):
+        if start == late[0]:
+            await asyncio.sleep(60)
+        return source.fetch(start, stop)
+
+    async def main():
+        file = y.AsyncVerifiedFile(source.tree.file_hash(), fetch, source.prove, cache_size=0)
+        with pytest.raises(asyncio.TimeoutError):
+            await asyncio.wait_for(file.read_at(0, 5000), 0.2)
+        late[0] = -1
+        return await file.read_at(0, 5000)
+
+    assert asyncio.run(main()) == source.data and sorted(source.fetched) == [(at, at + 1000) for at in range(0, 5000, 1000)]
+
+
+DISHONEST = {
+    "a byte changed": lambda s: (lambda a, b: changed(s.data[a:b], (b - a) // 2), s.prove),
+    "a byte less": lambda s: (lambda a, b: s.data[a:b - 1], s.prove),
+    "a byte more": lambda s: (lambda a, b: s.data[a:b + 1], s.prove),
+    "no bytes": lambda s: (lambda a, b: b"", s.prove),
+    "another part and its proof": lambda s: (s.fetch, lambda a, b: s.tree.proof_of_bytes(a + 500, b + 500)),
+    "fewer chunks and their proof": lambda s: (s.fetch, lambda a, b: s.tree.proof_of_bytes(a, a + 1)),
+    "another file": lambda s: (OTHER.fetch, lambda a, b: OTHER.tree.proof_of_bytes(a, b)),
+    "the whole file for a part": lambda s: (s.fetch, lambda a, b: s.tree.proof(0, s.tree.num_chunks)),
+    "a parent for a chunk": lambda s: (s.fetch, lambda a, b: y.RangeProof.from_flat([], [(s.tree.root, 2**64 - 1)])),
+}
+
+
+@READERS
+@pytest.mark.parametrize("name", DISHONEST)
+def test_dishonest_servers(reader, name):
+    source = drawn(9, 150)
+    source.fetch, source.prove = DISHONEST[name](source)
+    file, read_at = reader(source, chunk_limit=2500)
+    for _ in range(3):
+        with pytest.raises(y.ProofMismatch):
+            read_at(2000, 2300)
+    assert not (file._kept and file._kept.total)
+
+
+@READERS
+def test_a_server_that_dies_at_once(reader):
+    source = drawn(9, 20)
+    for broken in ("fetch", "prove"):
+        def dead(start, stop):
+            raise ConnectionError("mine")
+
+        setattr(source, broken, dead)
+        _, read_at = reader(source)
+        with pytest.raises(ConnectionError, match="mine"):
+            read_at(0, 10)
+        delattr(source, broken)
+
+
+# ---- Reading ahead
+
+GREAT = Source(random.Random(41).randbytes(12 * MIB), range(0, 12 * MIB + 1, 1 << 16))
+
+
+def in_steps(file, length):
+    return b"".join(iter(lambda: file.read(length), b""))
+
+
+@pytest.mark.parametrize("read_ahead", [1, 1 << 20, 4 << 20, 1 << 40])
+@pytest.mark.parametrize("length", [50_000, 1 << 16, 5_000_000])
+def test_a_file_that_is_read_ahead_is_the_same(read_ahead, length):
+    GREAT.fetched.clear()
+    assert in_steps(GREAT.open(read_ahead=read_ahead), length) == GREAT.data
+    assert sum(stop - start for start, stop in GREAT.fetched) < 1.3 * len(GREAT.data)
+
+
+def test_reading_ahead_asks_few_times():
+    """192 reads of a chunk each are 192 requests without it."""
+    for read_ahead, most in ((0, 192), (8 << 20, 14), (64 << 20, 10)):
+        GREAT.fetched.clear()
+        assert in_steps(GREAT.open(read_ahead=read_ahead), 1 << 16) == GREAT.data
+        assert len(GREAT.fetched) <= most and (read_ahead or len(GREAT.fetched) == most)
+
+
+def test_pieces_are_read_ahead_at_once():
+    """No piece comes before eight were asked for."""
+    source, meet = GREAT, all_at_once(8)
+
+    def fetch(start, stop):
+        if stop - start > 1 << 16 and start < 8 << 18:
+            meet()
+        return source.data[start:stop]
+
+    file = y.VerifiedFile(source.tree.file_hash(), fetch, source.prove, read_ahead=8 << 18)
+    assert file.read(1) + file.read(1) == source.data[:2]
+
+
+def test_no_more_is_read_ahead_than_was_said():
+    GREAT.fetched.clear()
+    file = GREAT.open(read_ahead=2 << 20)
+    for place in range(2, 2 * MIB, 1 << 16):
+        file.read(1 << 16)
+        assert max(stop for _, stop in GREAT.fetched) <= place + (1 << 16) + (2 << 20) + (1 << 18) + (1 << 16)
+        assert len(file._ahead._pieces) <= 9
+
+
+def test_what_is_far_away_is_read_by_itself():
+    """Only a read that begins where the last one ended reads ahead."""
+    GREAT.fetched.clear()
+    file = GREAT.open(read_ahead=8 << 20, cache_size=0)
+    for place in (0, 5 * MIB, 3 * MIB, 7 * MIB):
+        file.seek(place)
+        assert file.read(100) == GREAT.data[place:place + 100]
+    assert GREAT.fetched == [(place, place + (1 << 16)) for place in (0, 5 * MIB, 3 * MIB, 7 * MIB)]
+    assert file.read(100) == GREAT.data[7 * MIB + 100:7 * MIB + 200] and file._ahead._pieces
+    file.seek(0)
+    assert file.read(100) == GREAT.data[:100] and not file._ahead._pieces
+
+
+def test_readers_of_lines_and_buffers_read_ahead():
+    file = GREAT.open(read_ahead=4 << 20)
+    assert io.BufferedReader(file, 1 << 16).read() == GREAT.data
+    room = bytearray(12 * MIB)
+    file = GREAT.open(read_ahead=4 << 20)
+    assert file.readinto(memoryview(room)[:5]) == 5 and file.readinto(memoryview(room)[5:]) == 12 * MIB - 5 and room == GREAT.data
+
+
+def test_an_error_ahead_is_raised_where_it_is_reached():
+    """The bytes before it are read, the position stays, and reading again asks again for this piece alone."""
+    wrong, fetched = [True], []
+
+    def fetch(start, stop):
+        fetched.append(start)
+        data = GREAT.data[start:stop]
+        return changed(data, 5 * MIB - start) if wrong[0] and start <= 5 * MIB < stop else data
+
+    file = y.VerifiedFile(GREAT.tree.file_hash(), fetch, GREAT.prove, read_ahead=8 << 20)
+    read = b""
+    with pytest.raises(y.ProofMismatch, match="this isn't the data of the range"):
+        while True:
+            read += file.read(1 << 16)
+    assert read == GREAT.data[:len(read)] and 4 * MIB <= file.tell() == len(read) <= 5 * MIB
+    wrong[0], before = False, len(fetched)
+    assert read + in_steps(file, 1 << 16) == GREAT.data and 4.5 * MIB <= min(fetched[before:]) <= 5 * MIB
+
+
+@pytest.mark.parametrize("length", [1 << 16, 12 * MIB])
+def test_pieces_that_came_before_an_error_are_not_read_again(length):
+    """Nothing is asked for twice but the piece that failed."""
+    left, fetched = [1], []
+
+    def fetch(start, stop):
+        if start > 6 * MIB and left[0]:
+            left[0] = 0
+            raise ConnectionError("mine")
+        fetched.append((start, stop))
+        return GREAT.data[start:stop]
+
+    file = y.VerifiedFile(GREAT.tree.file_hash(), fetch, GREAT.prove, read_ahead=8 << 20, cache_size=0)
+    read = file.read(1 << 16)
+    for _ in range(2):
+        with contextlib.suppress(ConnectionError):
+            while part := file.read(length):
+                read += part
+    assert read == GREAT.data and sum(stop - start for start, stop in fetched) == len(GREAT.data)
+
+
+def test_a_file_that_is_closed_reads_no_further_ahead():
+    file = GREAT.open(read_ahead=8 << 20)
+    assert file.read(5) + file.read(5) == GREAT.data[:10]
+    file.close()
+    assert not file._ahead._pieces
+    GREAT.fetched.clear()
+    with pytest.raises(ValueError, match="closed"):
+        file.read(1)
+    unmade = y.VerifiedFile.__new__(y.VerifiedFile)
+    unmade.close()
+
+
+@pytest.mark.skipif(not hasattr(os, "fork"), reason="there is no fork")
+def test_a_forked_process_reads_ahead_by_itself():
+    """What its parent reads ahead never comes there."""
+    go_on = threading.Event()
+
+    def fetch(start, stop):
+        if start >= 1 << 18 and os.getpid() == parent:
+            go_on.wait(20)
+        return GREAT.data[start:stop]
+
+    parent = os.getpid()
+    file = y.VerifiedFile(GREAT.tree.file_hash(), fetch, GREAT.prove, read_ahead=2 << 20)
+    assert file.read(5) + file.read(5) == GREAT.data[:10]
+    child = os.fork()
+    if not child:
+        os._exit(0 if file.read(MIB) == GREAT.data[10:10 + MIB] else 1)
+    deadline = time.monotonic() + 20
+    status = (0, 0)
+    while status[0] == 0 and time.monotonic() < deadline:
+        status = os.waitpid(child, os.WNOHANG)
+        time.sleep(0.01)
+    if status[0] == 0:
+        os.kill(child, 9)
+        os.waitpid(child, 0)
+    go_on.set()
+    assert status == (child, 0)
+
+
+def test_where_no_thread_can_be_started(monkeypatch):
+    def start(self):
+        raise RuntimeError("can't start new thread")
+
+    file = GREAT.open(read_ahead=8 << 20)
+    monkeypatch.setattr(threading.Thread, "start", start)
+    assert in_steps(file, 1 << 20) == GREAT.data
+
+
+@pytest.mark.parametrize("act", ["raises", "reads"])
+def test_a_handler_between_any_two_lines_of_reading_ahead(monkeypatch, act):
+    monkeypatch.setattr("yurewha._read_ahead._LEAST", 100)
+    source = Source(random.Random(42).randbytes(1000), range(0, 1001, 50))
+    file = source.open(read_ahead=300, cache_size=100)
+
+    def interrupt():
+        if act == "raises":
+            raise Ended
+        position = file.tell()
+        for place in (0, 5, 330):
+            file.seek(place)
+            assert file.read(5) == source.data[place:place + 5]
+        file.seek(position)
+
+    def work():
+        with contextlib.suppress(Ended):
+            file.seek(0)
+            for place in (0, 40, 80, 120):
+                assert file.read(40) == source.data[place:place + 40]
+
+    # Before a line that leaves a `with`, a trace raises where no signal handler can, and the lock that the threads need stays taken.
+    modules = ("_verified_file.py", "_read_ahead.py") + (() if act == "raises" else ("_checked_parts.py", "_kept_parts.py"))
+    assert at_each_line(modules, work, interrupt) > 80
+    file.seek(0)
+    assert in_steps(file, 40) == source.data
+
+
+# ---- What a file is called, and what it can't do
+
+def test_names_and_modes():
+    source = drawn(31, 20)
+    assert (source.open().name, source.open().mode) == (source.tree.file_hash().hex(), "rb")
+    assert source.open(name="a.zip").name == "a.zip" == io.BufferedReader(source.open(name="a.zip")).name
+    for name in (7, b"a", ["a"]):
+        with pytest.raises(TypeError, match="^a name is a str, not "):
+            source.open(name=name)
+    for read_ahead, error in ((-1, y.InvalidArguments), (2**64, y.InvalidArguments), (1.5, TypeError), ("1", TypeError)):
+        with pytest.raises(error):
+            source.open(read_ahead=read_ahead)
+
+
+@pytest.mark.parametrize("call", [
+    lambda file: file.write(b"a"), lambda file: file.write(b""), lambda file: file.writelines([b"a"]),
+    lambda file: file.writelines([]), lambda file: file.truncate(), lambda file: file.truncate(0)])
+def test_a_file_can_not_be_written_to(call):
+    file = drawn(31, 20).open()
+    with pytest.raises(io.UnsupportedOperation, match="^a VerifiedFile can't be written to$"):
+        call(file)
+    assert not file.writable() and file.read(3) == drawn(31, 20).data[:3]
+    file.close()
+    with pytest.raises(ValueError, match="closed"):
+        call(file)
