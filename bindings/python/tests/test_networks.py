@@ -12,6 +12,7 @@ import pytest
 from test_verified_files import OTHER, Ended, Source, at_each_line, changed, drawn
 
 import yurewha as y
+from yurewha._kept_parts import KeptParts
 
 MIB = 1 << 20
 
@@ -150,6 +151,18 @@ def test_tasks_ask_at_once():
         return await asyncio.gather(*(file.read_at(at, at + 100) for at in range(0, 400, 100)))
 
     assert b"".join(asyncio.run(main())) == source.data
+
+
+def test_the_lock_is_held_while_kept_parts_are_used(monkeypatch):
+    held, file = [], drawn(31, 20).open()
+    for name in ("at", "keep"):
+        def spied(kept, *given, call=getattr(KeptParts, name), name=name):
+            held.append((name, file._keeping._lock._is_owned()))
+            return call(kept, *given)
+
+        monkeypatch.setattr(KeptParts, name, spied)
+    assert file.read_at(3, 5) == file.read_at(3, 5) and {name for name, _ in held} == {"at", "keep"} and all(lock for _, lock in held)
+    assert not file._keeping._lock._is_owned()
 
 
 @pytest.mark.parametrize("options", [{}, {"cache_size": 3000}], ids=str)
@@ -415,7 +428,7 @@ def test_pieces_are_read_ahead_at_once():
         return source.data[start:stop]
 
     file = y.VerifiedFile(source.tree.file_hash(), fetch, source.prove, read_ahead=8 << 18)
-    assert file.read(1) + file.read(1) == source.data[:2]
+    assert file.read(1 << 16) + file.read(1) == source.data[:(1 << 16) + 1]
 
 
 def test_no_more_is_read_ahead_than_was_said():
@@ -490,7 +503,7 @@ def test_pieces_that_came_before_an_error_are_not_read_again(length):
 
 def test_a_file_that_is_closed_reads_no_further_ahead():
     file = GREAT.open(read_ahead=8 << 20)
-    assert file.read(5) + file.read(5) == GREAT.data[:10]
+    assert file.read(1 << 16) + file.read(5) == GREAT.data[:(1 << 16) + 5] and file._ahead._pieces
     file.close()
     assert not file._ahead._pieces
     GREAT.fetched.clear()
@@ -506,16 +519,17 @@ def test_a_forked_process_reads_ahead_by_itself():
     go_on = threading.Event()
 
     def fetch(start, stop):
-        if start >= 1 << 18 and os.getpid() == parent:
+        if start > 1 << 18 and os.getpid() == parent:
             go_on.wait(20)
         return GREAT.data[start:stop]
 
     parent = os.getpid()
     file = y.VerifiedFile(GREAT.tree.file_hash(), fetch, GREAT.prove, read_ahead=2 << 20)
-    assert file.read(5) + file.read(5) == GREAT.data[:10]
+    assert file.read(1 << 16) + file.read(5) == GREAT.data[:(1 << 16) + 5]
     child = os.fork()
     if not child:
-        os._exit(0 if file.read(MIB) == GREAT.data[10:10 + MIB] else 1)
+        file.seek((1 << 16) + 5)
+        os._exit(0 if file.read(MIB) == GREAT.data[(1 << 16) + 5:][:MIB] else 1)
     deadline = time.monotonic() + 20
     status = (0, 0)
     while status[0] == 0 and time.monotonic() < deadline:

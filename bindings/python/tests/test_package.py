@@ -27,6 +27,8 @@ MODULES = sorted(module.name for module in pkgutil.iter_modules([str(PACKAGE)]))
 
 @pytest.mark.parametrize("name", ["", *MODULES])
 def test_doctests(name):
+    if name == "filesystem":
+        pytest.importorskip("fsspec")
     module = importlib.import_module("yurewha" + ("." + name if name else ""))
     failed, _ = doctest.testmod(module)
     assert failed == 0
@@ -114,6 +116,9 @@ def test_nothing_but_the_standard_library():
     taken = set(re.findall(r"^\s*(?:import|from) (\w+)", text, flags=re.M))
     standard = getattr(sys, "stdlib_module_names", taken)
     taken -= {"_typeshed", "typing_extensions"}  # for type checkers alone
+    taken -= {"fsspec"}  # for its file system alone, which nothing else here imports
+    others = (path.read_text(encoding="utf-8") for path in PACKAGE.glob("*.py") if path.name != "filesystem.py")
+    assert not any(re.search(r"import fsspec|from fsspec|filesystem import|import filesystem", text) for text in others)
     assert taken <= set(standard), taken - set(standard)
     assert (PACKAGE / "py.typed").exists()
 

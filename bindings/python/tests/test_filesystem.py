@@ -1,0 +1,227 @@
+"""The file system for fsspec: what it says of its files, what it reads, and readers over it."""
+
+import io
+import os
+import pickle
+import random
+import subprocess
+import sys
+
+import pytest
+from test_networks import Dying, all_at_once
+from test_verified_files import OTHER, Source, changed, drawn
+
+import yurewha as y
+
+fsspec = pytest.importorskip("fsspec")
+filesystem = pytest.importorskip("yurewha.filesystem")
+
+FILES = {"a.bin": drawn(51, 100), "folder/b.bin": drawn(52, 50), "folder/in/c.bin": drawn(53, 3), "none": Source(b"", [0])}
+HASHES = {path: source.tree.file_hash() for path, source in FILES.items()}
+
+
+def fetch(path, start, stop):
+    return FILES[path].fetch(start, stop)
+
+
+def prove(path, start, stop):
+    return FILES[path].prove(start, stop)
+
+
+def made(hashes=HASHES, fetch=fetch, prove=prove, **options):
+    return filesystem.VerifiedFileSystem(hashes, fetch, prove, skip_instance_cache=True, **options)
+
+
+@pytest.fixture(autouse=True)
+def nothing_fetched():
+    for source in FILES.values():
+        source.fetched.clear(), source.proved.clear()
+
+
+def test_what_it_has():
+    files = made()
+    assert files.ls("", detail=False) == files.ls("yurewha://", detail=False) == files.ls("/", detail=False) == ["a.bin", "folder", "none"]
+    assert files.ls("folder", detail=False) == files.ls("/folder/", detail=False) == ["folder/b.bin", "folder/in"]
+    assert files.ls("a.bin", detail=False) == ["a.bin"] and files.find("") == sorted(FILES)
+    assert files.glob("folder/**.bin") == ["folder/b.bin", "folder/in/c.bin"]
+    assert files.isdir("folder") and files.isdir("") and files.isfile("folder/in/c.bin") and not files.isfile("folder")
+    assert files.exists("yurewha://a.bin") and not any(files.exists(path) for path in ("b.bin", "folder/b", "fold", "a.bin/"[:-2]))
+    for call in (files.info, files.ls, files.cat_file, files.open, files.ukey):
+        with pytest.raises(FileNotFoundError):
+            call("folder/d.bin")
+
+
+def test_sizes_are_checked_and_found_once():
+    files = made()
+    assert [entry["size"] for entry in files.ls("folder")] == [None, 0] and FILES["folder/b.bin"].fetched == []
+    assert files.info("folder/b.bin") == {"name": "folder/b.bin", "size": len(FILES["folder/b.bin"].data), "type": "file"}
+    assert files.size("folder/b.bin") == files.ls("folder")[0]["size"] == files.ls("folder/b.bin")[0]["size"]
+    assert len(FILES["folder/b.bin"].fetched) == 1 and files.info("folder") == {"name": "folder", "size": 0, "type": "directory"}
+    assert files.ukey("a.bin") == HASHES["a.bin"].hex() and files.size("none") == 0
+
+
+def test_hashes_in_each_form():
+    for form in (lambda hash_: hash_, lambda hash_: hash_.hex(), lambda hash_: hash_.bytes):
+        files = made({f"yurewha://{path}": form(hash_) for path, hash_ in HASHES.items()})
+        assert files.cat_file("a.bin", 5, 50) == FILES["a.bin"].data[5:50]
+    for hashes, error in (({"a": "00"}, y.InvalidText), ({"a": bytes(31)}, y.InvalidArguments), ({"a": 7}, TypeError)):
+        with pytest.raises(error):
+            made(hashes)
+    for options, error in (({"fetch": None}, TypeError), ({"prove": 7}, TypeError), ({"threads": 0}, y.InvalidArguments),
+                           ({"threads": -1}, y.InvalidArguments), ({"threads": "1"}, TypeError)):
+        with pytest.raises(error):
+            made(**options)
+
+
+def test_a_salt():
+    salt, source = bytes(range(32)), FILES["a.bin"]
+    files = made({"a.bin": source.tree.file_hash(salt)}, salt=salt)
+    assert files.cat_file("a.bin") == source.data
+    with pytest.raises(y.ProofMismatch):
+        made(salt=salt).cat_file("a.bin")
+
+
+def test_parts_of_files():
+    files, rng = made(), random.Random(54)
+    for path, source in FILES.items():
+        end = len(source.data)
+        assert files.cat_file(path) == source.data and files.cat(path) == source.data
+        for _ in range(100):
+            start, stop = (rng.choice((None, rng.randint(-end - 5, end + 5))) for _ in range(2))
+            assert files.cat_file(path, start, stop) == source.data[start:stop]
+    assert files.cat(["a.bin", "folder/b.bin"]) == {path: FILES[path].data for path in ("a.bin", "folder/b.bin")}
+    assert files.head("a.bin", 7) == FILES["a.bin"].data[:7] and files.tail("a.bin", 7) == FILES["a.bin"].data[-7:]
+
+
+@pytest.mark.parametrize("gap", [None, 0, 100])
+def test_ranges_of_files(gap):
+    files, rng = made(cache_size=0), random.Random(55)
+    for _ in range(20):
+        paths = [rng.choice(list(FILES)) for _ in range(rng.randrange(30))]
+        starts = [rng.choice((None, rng.randrange(3000), -rng.randrange(100))) for _ in paths]
+        ends = [rng.choice((None, rng.randrange(3000), -rng.randrange(100))) for _ in paths]
+        expected = [FILES[path].data[start:end] for path, start, end in zip(paths, starts, ends)]
+        assert files.cat_ranges(paths, starts, ends, max_gap=gap) == expected
+    assert files.cat_ranges(["a.bin"] * 2, 3, [5, 9]) == [FILES["a.bin"].data[3:5], FILES["a.bin"].data[3:9]]
+    assert files.cat_ranges([], [], []) == []
+
+
+def test_ranges_that_are_near_are_fetched_together():
+    source = Source(random.Random(56).randbytes(1 << 20), range(0, (1 << 20) + 1, 1 << 12))
+    files = made({"a": source.tree.file_hash()}, lambda path, a, b: source.fetch(a, b), lambda path, a, b: source.prove(a, b))
+    starts = [0, 4096, 10_000, 500_000, 504_096, 9000]
+    ranges = files.cat_ranges(["a"] * 6, starts, [start + 4096 for start in starts])
+    assert ranges == [source.data[start:start + 4096] for start in starts]
+    assert sorted(source.fetched) == [(0, 4 << 12), (499_712, 4096 * 125)]
+
+
+def test_ranges_that_are_far_apart_are_fetched_at_once():
+    source, meet = Source(random.Random(56).randbytes(1 << 20), range(0, (1 << 20) + 1, 1 << 12)), all_at_once(4)
+    files = made({"a": source.tree.file_hash()}, lambda path, a, b: (meet(), source.fetch(a, b))[1], lambda path, a, b: source.prove(a, b),
+                 threads=4)
+    starts = [0, 200_000, 400_000, 600_000]
+    assert files.cat_ranges(["a"] * 4, starts, [at + 9 for at in starts]) == [source.data[at:at + 9] for at in starts]
+
+
+def test_wrong_ranges():
+    files = made()
+    for call in (lambda: files.cat_ranges(["a.bin"], [0, 1], [1]), lambda: files.cat_ranges(["a.bin"], 0, []),
+                 lambda: files.cat_ranges(["a.bin"], 0, 1, max_gap=-1), lambda: files.cat_ranges(["a.bin"], 0, 1, on_error="omit"),
+                 lambda: files.cat_file("a.bin", 2**64, 2**65)):
+        with pytest.raises(y.InvalidArguments):
+            call()
+    with pytest.raises(FileNotFoundError):
+        files.cat_ranges(["a.bin", "b"], 0, 1)
+    first, second = files.cat_ranges(["a.bin", "b"], 0, 1, on_error="return")
+    assert first == FILES["a.bin"].data[:1] and isinstance(second, FileNotFoundError)
+
+
+LIES = {
+    "a byte changed": lambda s: (lambda p, a, b: changed(s.data[a:b], (b - a) // 2), lambda p, a, b: s.prove(a, b)),
+    "a byte less": lambda s: (lambda p, a, b: s.data[a:b - 1], lambda p, a, b: s.prove(a, b)),
+    "another file": lambda s: (lambda p, a, b: OTHER.fetch(a, b), lambda p, a, b: OTHER.tree.proof_of_bytes(a, b)),
+    "another file of the system": lambda s: (lambda p, a, b: fetch("folder/b.bin", a, b), lambda p, a, b: prove("folder/b.bin", a, b)),
+}
+
+
+@pytest.mark.parametrize("name", LIES)
+def test_dishonest_servers(name):
+    files = made(HASHES, *LIES[name](FILES["a.bin"]))
+    for call in (lambda: files.cat_file("a.bin", 0, 9), lambda: files.cat_ranges(["a.bin"], 0, 9), lambda: files.size("a.bin"),
+                 lambda: files.open("a.bin").read(9), lambda: files.open("a.bin", "r").read(9), lambda: files.info("a.bin")):
+        with pytest.raises(y.ProofMismatch):
+            call()
+    (answer,) = files.cat_ranges(["a.bin"], 0, 9, on_error="return")
+    assert isinstance(answer, y.ProofMismatch)
+
+
+def test_a_server_that_dies():
+    server = Dying(FILES["a.bin"], 1000)
+    files = made(HASHES, lambda path, start, stop: server.fetch(start, stop), cache_size=0)
+    for call in (lambda: files.cat_file("a.bin"), lambda: files.cat_ranges(["a.bin"], 0, None), lambda: files.open("a.bin").read()):
+        with pytest.raises((ConnectionError, y.ProofMismatch)):
+            call()
+
+
+def test_files_that_are_opened():
+    files, source = made(), FILES["a.bin"]
+    with files.open("a.bin") as file:
+        assert file.read(5) == source.data[:5] and file.seek(-5, 2) and file.read() == source.data[-5:]
+        assert file.name == "a.bin" and file.mode == "rb" and not file.writable()
+    with files.open("a.bin", block_size=7) as file, files.open("a.bin") as other:
+        assert (file.read(3), other.read(4), file.read(2)) == (source.data[:3], source.data[:4], source.data[3:5])
+    for mode in ("wb", "ab", "xb", "r+b", "w"):
+        with pytest.raises(io.UnsupportedOperation):
+            files.open("a.bin", mode)
+
+
+def test_fsspec_knows_it(tmp_path):
+    fsspec.register_implementation("yurewha", filesystem.VerifiedFileSystem, clobber=True)
+    files = fsspec.filesystem("yurewha", hashes=HASHES, fetch=fetch, prove=prove)
+    again = pickle.loads(pickle.dumps(files))
+    assert again.cat_file("a.bin") == files.cat_file("a.bin") == FILES["a.bin"].data
+    with fsspec.open("yurewha://folder/b.bin", hashes=HASHES, fetch=fetch, prove=prove) as file:
+        assert file.read() == FILES["folder/b.bin"].data
+    files.get("folder", str(tmp_path / "copy"), recursive=True)
+    assert (tmp_path / "copy" / "in" / "c.bin").read_bytes() == FILES["folder/in/c.bin"].data
+
+
+@pytest.mark.skipif(not os.environ.get("YUREWHA_INSTALLED"), reason="the package isn't installed")
+def test_fsspec_finds_the_installed_package():
+    told = subprocess.run([sys.executable, "-c", "import fsspec; print(fsspec.get_filesystem_class('yurewha'))"], capture_output=True,
+                          text=True, check=True).stdout
+    assert told == "<class 'yurewha.filesystem.VerifiedFileSystem'>\n"
+
+
+LINES = b"name,number\n" + b"".join(b"line%d,%d\n" % (number, number * number) for number in range(20_000))
+TABLE = Source(LINES, [*range(0, len(LINES), 5000), len(LINES)])
+OPTIONS = {"hashes": {"table.csv": TABLE.tree.file_hash()}, "fetch": lambda path, start, stop: TABLE.fetch(start, stop),
+           "prove": lambda path, start, stop: TABLE.prove(start, stop)}
+
+
+def test_pandas_reads_through_it():
+    pandas = pytest.importorskip("pandas")
+    fsspec.register_implementation("yurewha", filesystem.VerifiedFileSystem, clobber=True)
+    frame = pandas.read_csv("yurewha://table.csv", storage_options=OPTIONS)
+    assert len(frame) == 20_000 and frame["number"].iloc[-1] == 19_999**2
+
+
+def test_dask_reads_through_it():
+    dataframe = pytest.importorskip("dask.dataframe")
+    fsspec.register_implementation("yurewha", filesystem.VerifiedFileSystem, clobber=True)
+    frame = dataframe.read_csv("yurewha://table.csv", storage_options=OPTIONS, blocksize=100_000)
+    assert frame.npartitions > 2 and frame["number"].sum().compute(scheduler="threads") == sum(k * k for k in range(20_000))
+
+
+def test_zarr_reads_through_it(tmp_path):
+    zarr, numpy = pytest.importorskip("zarr"), pytest.importorskip("numpy")
+    numbers = numpy.arange(100_000, dtype="i8").reshape(100, 1000)
+    zarr.save_array(str(tmp_path), numbers, chunks=(10, 1000))
+    sources = {path.name: Source(path.read_bytes(), [*range(0, path.stat().st_size, 999), path.stat().st_size]) for path in tmp_path.iterdir()}
+    files = made({name: source.tree.file_hash() for name, source in sources.items()}, lambda path, a, b: sources[path].fetch(a, b),
+                 lambda path, a, b: sources[path].prove(a, b), cache_size=0)
+    read = zarr.open_array(zarr.storage.FSStore("", fs=files, mode="r"), mode="r")
+    assert numpy.array_equal(read[:], numbers) and numpy.array_equal(read[33:55, 7:9], numbers[33:55, 7:9])
+    sources["3.0"].data = changed(sources["3.0"].data, 50)
+    with pytest.raises(y.ProofMismatch):
+        files.cat_file("3.0", 0, 1)
