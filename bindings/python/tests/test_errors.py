@@ -605,8 +605,9 @@ print("refused", len(calls))
 
 @pytest.mark.skipif(not Path("/proc/self/statm").exists(), reason="it needs /proc")
 def test_out_of_memory():
-    # Large blocks that are freed go back to the system, so that no later call finds them.
-    environment = {**os.environ, "MALLOC_MMAP_THRESHOLD_": "65536", "MALLOC_TRIM_THRESHOLD_": "65536"}
+    # Large blocks that are freed go back to the system, so that no later call finds them. Nor does a thread find room that was set
+    # aside for threads before.
+    environment = {**os.environ, "MALLOC_MMAP_THRESHOLD_": "65536", "MALLOC_TRIM_THRESHOLD_": "65536", "MALLOC_ARENA_MAX": "1"}
     done = subprocess.run(
         [sys.executable, "-c", OUT_OF_MEMORY.format(path=sys.path)], capture_output=True, text=True, check=False,
         env=environment)

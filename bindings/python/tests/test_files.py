@@ -8,10 +8,12 @@ import random
 import signal
 import subprocess
 import sys
+import threading
 
 import pytest
 
 import yurewha as y
+from yurewha import _hashes
 
 MIB = 1 << 20
 rng = random.Random(51)
@@ -38,13 +40,18 @@ def test_the_same_hashes_as_of_the_bytes(written, end, count):
         assert y.hash_chunks(name, offsets) == expected
     assert y.hash_chunks(path, array.array("Q", offsets)) == y.hash_chunks(path, iter(offsets)) == expected
     assert y.hash_chunks(path, offsets[1:]) == expected[1:] and y.hash_chunks(path, offsets[:1]) == y.Hashes()
+    for threads in (2, 4, 100):
+        assert y.hash_chunks(path, offsets, threads=threads) == y.data_hashes(data, offsets, threads=threads) == expected
+        assert y.data_hashes(bytearray(data), offsets, threads=threads) == expected
+        assert y.data_hashes(memoryview(data * 2)[::2] if not end else memoryview(data), offsets, threads=threads) == expected
 
 
 @pytest.mark.parametrize("offsets", [
     [0], [0, 0], [7, 7, 7], [0, 9 * MIB], [3, 4, 8 * MIB, 8 * MIB + 1], range(0, 9 * MIB, 1 << 16), range(0, 9 * MIB, 3 * MIB)])
-def test_progress_goes_from_the_first_offset_to_the_last(written, offsets):
+@pytest.mark.parametrize("threads", [1, 3])
+def test_progress_goes_from_the_first_offset_to_the_last(written, offsets, threads):
     path, told = written(bytes(9 * MIB)), []
-    hashes = y.hash_chunks(path, offsets, progress=lambda done, total: told.append((done, total)))
+    hashes = y.hash_chunks(path, offsets, progress=lambda done, total: told.append((done, total)), threads=threads)
     assert hashes == y.hash_chunks(path, offsets, progress=None)
     total = list(offsets)[-1] - list(offsets)[0]
     done = [done for done, _ in told]
@@ -52,7 +59,8 @@ def test_progress_goes_from_the_first_offset_to_the_last(written, offsets):
     assert all(after - before <= MIB for before, after in zip([0, *done], done)) and len(done) <= 2 + 2 * total // MIB
 
 
-def test_an_error_of_progress_ends_the_call(written):
+@pytest.mark.parametrize("threads", [1, 3])
+def test_an_error_of_progress_ends_the_call(written, threads):
     path, told = written(bytes(9 * MIB)), []
 
     def progress(done, total):
@@ -61,8 +69,55 @@ def test_an_error_of_progress_ends_the_call(written):
             raise LookupError("enough")
 
     with pytest.raises(LookupError, match="enough"):
-        y.hash_chunks(path, [0, 9 * MIB], progress=progress)
+        y.hash_chunks(path, [0, 9 * MIB], progress=progress, threads=threads)
     assert told == [MIB, 2 * MIB]
+    told.clear()
+    with pytest.raises(LookupError, match="enough"):
+        y.hash_chunks(path, range(0, 9 * MIB + 1, MIB), progress=progress, threads=threads)
+    assert told == [MIB, 2 * MIB]
+
+
+@pytest.mark.parametrize("call", [
+    lambda path, data, offsets: y.hash_chunks(path, offsets, threads=4),
+    lambda path, data, offsets: y.data_hashes(data, offsets, threads=4)])
+def test_pieces_are_hashed_at_once(written, monkeypatch, call):
+    """No piece is done before four were begun."""
+    data, meet = rng.randbytes(32 * MIB), threading.Barrier(4)
+    begun, hashed = [], _hashes._hashed
+
+    def spied(start, length, places):
+        begun.append(threading.current_thread())
+        if len(begun) <= 4:
+            meet.wait(10)
+        return hashed(start, length, places)
+
+    expected = y.data_hashes(data, range(0, 32 * MIB + 1, MIB))
+    monkeypatch.setattr("yurewha._hashes._hashed", spied)
+    assert call(written(data), data, range(0, 32 * MIB + 1, MIB)) == expected
+    assert 1 < len(set(begun)) <= 4 and threading.main_thread() not in begun
+
+
+def test_progress_is_told_in_the_thread_of_the_caller(written):
+    seen = set()
+    y.hash_chunks(written(bytes(9 * MIB)), range(0, 9 * MIB + 1, MIB), threads=3, progress=lambda done, total: seen.add(threading.current_thread()))
+    assert seen == {threading.current_thread()}
+
+
+def test_no_thread_stays_and_no_file(written):
+    path = written(bytes(20 * MIB))
+    before = threading.active_count()
+    for _ in range(3):
+        with pytest.raises(ZeroDivisionError):
+            y.hash_chunks(path, range(0, 20 * MIB + 1, MIB), progress=lambda done, total: 1 / 0, threads=4)
+        assert threading.active_count() == before
+
+
+@pytest.mark.parametrize("threads, error", [
+    (0, y.InvalidArguments), (-1, y.InvalidArguments), (2**64, y.InvalidArguments), (1.5, TypeError), ("2", TypeError), (None, TypeError)])
+def test_wrong_threads(written, threads, error):
+    for call in (lambda: y.hash_chunks(written(bytes(3)), [0, 3], threads=threads), lambda: y.data_hashes(b"abc", [0, 3], threads=threads)):
+        with pytest.raises(error):
+            call()
 
 
 ENDED = """
@@ -147,8 +202,11 @@ def test_a_system_that_reads_less_than_it_is_asked_to(written, monkeypatch, most
     monkeypatch.setattr("yurewha._files.open", lambda name, mode, buffering: Short(name, mode), raising=False)
     length = min(3 * MIB, 3000 * most)
     data = rng.randbytes(length)
+    pread = os.pread
+    monkeypatch.setattr("os.pread", lambda file, size, at: pread(file, min(size, most), at))
     for offsets in ([0, 7, length], [0, length], [3, length // 2, length // 2 + 1, length]):
-        assert y.hash_chunks(written(data), offsets) == y.data_hashes(data, offsets)
+        for threads in (1, 3):
+            assert y.hash_chunks(written(data), offsets, threads=threads) == y.data_hashes(data, offsets)
 
 
 def test_a_file_that_becomes_shorter(written):
@@ -161,6 +219,9 @@ def test_a_file_that_becomes_shorter(written):
         path.write_bytes(bytes(5 * MIB))
         with pytest.raises(y.InvalidArguments, match="the file became shorter while it was read"):
             y.hash_chunks(path, offsets, progress=progress)
+    path.write_bytes(bytes(90 * MIB))
+    with pytest.raises(y.InvalidArguments, match="the file became shorter while it was read"):
+        y.hash_chunks(path, range(0, 90 * MIB + 1, MIB), progress=progress, threads=2)
 
 
 def test_the_file_is_closed_also_after_an_error(written):

@@ -3,26 +3,32 @@
 from __future__ import annotations
 
 import os
-from typing import BinaryIO, Callable, Iterator, List, Optional, Tuple, Union
+import threading
+from contextlib import closing
+from typing import BinaryIO, Callable, Generator, Iterator, List, Optional, SupportsIndex, Tuple, Union
 
 from ._errors import InvalidArguments
 from ._hash import PIECE, Hasher
 from ._hashes import Hashes, OffsetsLike, checked_offsets, hashed_piece, pieces_of
+from ._in_threads import Stopped, checked_threads, in_threads
 
 __all__ = ["hash_chunks"]
 
 _Path = Union[str, bytes, "os.PathLike[str]", "os.PathLike[bytes]"]
 
 
-def hash_chunks(path: _Path, offsets: OffsetsLike, *, progress: Optional[Callable[[int, int], object]] = None) -> Hashes:
+def hash_chunks(
+    path: _Path, offsets: OffsetsLike, *, progress: Optional[Callable[[int, int], object]] = None, threads: SupportsIndex = 1
+) -> Hashes:
     """Returns the hash of each chunk of a file, as `data_hash` does.
 
     Chunk i starts at offset i and ends before offset i + 1. Raises `InvalidArguments` if there is no offset, if an offset is
     less than the one before it, or if one is past the end of the file. Also raises it if the file becomes shorter. Opening and
     reading the file raise `OSError`.
 
-    The file is read in pieces of at most a MiB. After each, `progress(done, total)` gets the number of bytes that are hashed, and
-    of all bytes to hash. Ctrl-C ends the call there, and so does an error that `progress` raises.
+    The file is read in pieces of at most a MiB, by as many `threads` at once. (A chunk of more than a MiB is the caller's alone.)
+    After each piece, `progress(done, total)` gets the number of bytes that are hashed from the first offset on, and of all bytes to
+    hash, in the thread of the caller. Ctrl-C ends the call there, and so does an error that `progress` raises.
 
     >>> import tempfile, os.path
     >>> with tempfile.TemporaryDirectory() as folder:
@@ -33,41 +39,67 @@ def hash_chunks(path: _Path, offsets: OffsetsLike, *, progress: Optional[Callabl
     4 4
     True
     """
-    name = os.fspath(path)
+    name, count = os.fspath(path), checked_threads(threads)
     if progress is not None and not callable(progress):
         raise TypeError(f"progress is a callable, not {type(progress).__name__}")
     hashes = bytearray()
     with open(name, "rb", buffering=0) as file:
         places = checked_offsets(offsets, file.seek(0, os.SEEK_END))
-        file.seek(places[0])
-        for end, hashed in _hashed(file, places):
-            hashes += hashed
-            if progress is not None:
-                progress(end - places[0], places[-1] - places[0])
+        with closing(_hashed(_Shared(file, count), places, count)) as pieces:
+            for end, hashed in pieces:
+                hashes += hashed
+                if progress is not None:
+                    progress(end - places[0], places[-1] - places[0])
     return Hashes._of(bytes(hashes))
 
 
-def _hashed(file: BinaryIO, places: List[int]) -> Iterator[Tuple[int, bytes]]:
-    """Yields where each piece ends that was read, and the hashes of the chunks whose last bytes it has."""
-    for piece in pieces_of(places):
+class _Shared:
+    """A file that threads read, each where it likes."""
+
+    def __init__(self, file: BinaryIO, threads: int) -> None:
+        self._file, self._lock = file, threading.Lock()
+        self._some = self._at_once if threads > 1 and hasattr(os, "pread") else self._by_turns
+
+    def read(self, start: int, stop: int) -> bytes:
+        """Returns the bytes from `start` up to `stop`. Raises `InvalidArguments` if the file ends before."""
+        parts: List[bytes] = []
+        while start < stop:
+            part = self._some(start, stop - start)
+            if not part:
+                raise InvalidArguments("the file became shorter while it was read")
+            parts.append(part)
+            start += len(part)
+        return parts[0] if len(parts) == 1 else b"".join(parts)
+
+    def _at_once(self, start: int, length: int) -> bytes:
+        return os.pread(self._file.fileno(), length, start)
+
+    def _by_turns(self, start: int, length: int) -> bytes:
+        with self._lock:
+            self._file.seek(start)
+            return self._file.read(length)
+
+
+def _hashed(file: _Shared, places: List[int], threads: int) -> Generator[Tuple[int, bytes], None, None]:
+    """Yields where each piece ends that was hashed, and the hashes of the chunks whose last bytes it has."""
+    def hash_piece(piece: List[int], stopped: Stopped) -> Optional[bytes]:
         start, end = piece[0], piece[-1]
-        if end - start <= PIECE:
-            yield end, hashed_piece(_read(file, end - start), piece)
-            continue
-        chunk = Hasher()
-        for place in range(start, end, PIECE):
-            chunk.update(_read(file, min(PIECE, end - place)))
-            if place + PIECE < end:
-                yield place + PIECE, b""
-        yield end, chunk.hash()._raw
+        return None if end - start > PIECE else hashed_piece(file.read(start, end), piece)
+
+    pieces = list(pieces_of(places))
+    with closing(in_threads(hash_piece, pieces, min(threads, len(pieces)))) as results:
+        for piece, hashed in zip(pieces, results):
+            if hashed is None:
+                yield from _hashed_chunk(file, piece[0], piece[-1])
+            else:
+                yield piece[-1], hashed
 
 
-def _read(file: BinaryIO, length: int) -> bytes:
-    parts: List[bytes] = []
-    while length:
-        part = file.read(length)
-        if not part:
-            raise InvalidArguments("the file became shorter while it was read")
-        parts.append(part)
-        length -= len(part)
-    return parts[0] if len(parts) == 1 else b"".join(parts)
+def _hashed_chunk(file: _Shared, start: int, end: int) -> Iterator[Tuple[int, bytes]]:
+    """Does the same with a chunk of more than one piece. The caller reads it, while other threads go on with what follows."""
+    chunk = Hasher()
+    for place in range(start, end, PIECE):
+        chunk.update(file.read(place, min(place + PIECE, end)))
+        if place + PIECE < end:
+            yield place + PIECE, b""
+    yield end, chunk.hash()._raw

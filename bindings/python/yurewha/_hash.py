@@ -20,6 +20,8 @@ __all__ = ["Hash", "Hasher", "data_hash", "internal_node_hash"]
 _MAX_U64 = 2**64 - 1
 #: How many bytes are copied at once.
 PIECE = 1 << 20
+#: How many bytes are hashed at once, in hundredths of a second. Between two of these Ctrl-C ends a call.
+STEP = 1 << 25
 # Shorter data is always copied. That is faster than lending it.
 _SHORT = 2048
 _HEX_LENGTH = LENGTHS["YUREWHA_HEX_LENGTH"]
@@ -344,7 +346,8 @@ def data_hash(data: BytesLike, *, nobody_writes: bool = False) -> Hash:
     """Returns the hash of a chunk with these bytes.
 
     Read-only bytes are hashed in place. Other bytes are copied, a MiB at a time, because another thread may write to them
-    during the call. With `nobody_writes=True` the caller promises that nobody does, and they aren't copied.
+    during the call. With `nobody_writes=True` the caller promises that nobody does, and they aren't copied. Ctrl-C ends the call,
+    however long the data is.
 
     >>> data_hash(b"abc").hex()[:16]
     'a8803506f7aff014'
@@ -364,12 +367,16 @@ def internal_node_hash(data: BytesLike, *, nobody_writes: bool = False) -> Hash:
 
 
 def _data_hashed(start: Start, length: int) -> Hash:
+    if length > STEP:
+        return Hasher()._hash_in_steps(start, length)
     out = CHash()
     calls_for(length, LONG_BYTES).yurewha_data_hash(start, length, out)
     return Hash._of(bytes(out))
 
 
 def _node_hashed(start: Start, length: int) -> Hash:
+    if length > STEP:
+        return Hasher.internal_node()._hash_in_steps(start, length)
     out = CHash()
     calls_for(length, LONG_BYTES).yurewha_internal_node_hash(start, length, out)
     return Hash._of(bytes(out))
@@ -411,6 +418,30 @@ def _handed_view(
     with Lent(view) as lent:
         lent.hold()
         return by_pieces(lent)
+
+
+def place_of(start: Start) -> int:
+    """Returns the address of the first of some bytes.
+
+    >>> data = b"abc"
+    >>> ctypes.string_at(place_of(data), 3)
+    b'abc'
+    """
+    return ctypes.cast(ctypes.c_char_p(start) if isinstance(start, bytes) else start, ctypes.c_void_p).value or 0
+
+
+def _add_copies(state: CHasher, lent: Lent) -> None:
+    """Appends bytes that others may change, in copies."""
+    for start in range(0, lent.length, PIECE):
+        stop = min(start + PIECE, lent.length)
+        _add(state, lent.piece(start, stop), stop - start)
+
+
+def _add_in_steps(state: CHasher, start: Start, length: int) -> None:
+    """Appends bytes in steps, between which a signal handler may end the call. The bytes stay where they are."""
+    place = place_of(start)
+    for at in range(0, length, STEP):
+        _add(state, ctypes.c_char_p(place + at), min(STEP, length - at))
 
 
 def _add(state: CHasher, start: Start, length: int) -> None:
@@ -502,8 +533,9 @@ class Hasher(Guarded):
     def update(self, data: BytesLike, *, nobody_writes: bool = False) -> None:
         """Appends a piece to the message. Raises `SizeOverflow` if it would have more than 2^64 - 1 bytes.
 
-        Bytes are read as by `data_hash`. While more than a MiB is being copied, `update` in a signal handler raises
-        `ReentrantCall`. Any other update in a handler takes effect.
+        Bytes are read as by `data_hash`. While more than a MiB is being copied, or more than 32 MiB is being hashed, `update` in a
+        signal handler raises `ReentrantCall`. Any other update in a handler takes effect. A handler that raises, as Ctrl-C does,
+        ends the call within hundredths of a second, and nothing is appended.
 
         >>> Hasher(bytearray(b"abc")).count
         3
@@ -517,17 +549,25 @@ class Hasher(Guarded):
 
     def _add(self, start: Start, length: int) -> None:
         self._refuse_reentry()
-        _add(self._state, start, length)
+        if length <= STEP:
+            _add(self._state, start, length)
+        else:
+            self._add_all(lambda state: _add_in_steps(state, start, length))
 
     def _add_by_pieces(self, lent: Lent) -> None:
-        """Appends all of it, or nothing if it ends early."""
         self._refuse_reentry()
+        self._add_all(lambda state: _add_copies(state, lent))
+
+    def _add_all(self, add: Callable[[CHasher], None]) -> None:
+        """Appends all that a call adds to a state, or nothing if the call ends early."""
         with self._by_pieces:
             state = CHasher.from_buffer_copy(self._state)
-            for start in range(0, lent.length, PIECE):
-                stop = min(start + PIECE, lent.length)
-                _add(state, lent.piece(start, stop), stop - start)
+            add(state)
             memmove(ctypes.byref(self._state), ctypes.byref(state), ctypes.sizeof(CHasher))
+
+    def _hash_in_steps(self, start: Start, length: int) -> Hash:
+        _add_in_steps(self._state, start, length)
+        return self.hash()
 
     def _hash_by_pieces(self, lent: Lent) -> Hash:
         self._add_by_pieces(lent)

@@ -9,6 +9,7 @@ from ._chunks import Chunks, ChunksLike
 from ._errors import YurewhaError, error_of
 from ._guard import Guarded
 from ._hash import Hash, checked_32, checked_u64
+from ._interrupts import MANY_NODES, interruptible
 from ._library import LONG_CHUNKS, LONG_NODES, CChunk, CHash, CHashTree, CLevel, calls_for, short
 from ._range_proof import MOST_LEVELS, RangeProof
 from ._types import BytesLike
@@ -41,11 +42,15 @@ class HashTree(Guarded):
     _handle: CHashTree
 
     def __new__(cls, chunks: ChunksLike) -> HashTree:
+        packed = Chunks(chunks).packed
+        count = len(packed) // _CHUNK_SIZE
+        return interruptible(lambda: cls._made(packed, count), count >= MANY_NODES)
+
+    @classmethod
+    def _made(cls, packed: bytes, count: int) -> HashTree:
         self = object.__new__(cls)
         self._guard()
         self._handle = CHashTree()
-        packed = Chunks(chunks).packed
-        count = len(packed) // _CHUNK_SIZE
         status = calls_for(count, LONG_CHUNKS).yurewha_hash_tree_from_chunks(packed, count, self._handle)
         if status:
             raise error_of(status)
@@ -172,6 +177,9 @@ class HashTree(Guarded):
         """
         number, after = checked_u64(first, "the number of a chunk"), checked_u64(end, "the number of a chunk")
         room = max(min(after, self.num_chunks) - number, 0) + _MOST_BESIDE
+        return interruptible(lambda: self._proof(number, after, room), room >= MANY_NODES, self)
+
+    def _proof(self, number: int, after: int, room: int) -> RangeProof:
         levels, nodes = (CLevel * MOST_LEVELS)(), (CChunk * room)()
         level_count, node_count = ctypes.c_size_t(), ctypes.c_size_t()
         with self._locked():

@@ -8,9 +8,10 @@ from typing import Dict, Iterable, Iterator, List, SupportsIndex, Union, cast, f
 
 from ._arrow_out import Capsules, capsules_of_hashes, schema_of_hashes
 from ._errors import InvalidArguments, InvalidText, error_of
-from ._hash import PIECE, Hash, HashLike, Start, checked_bool, raw_of, whole_number
+from ._hash import PIECE, STEP, Hash, Hasher, HashLike, Start, checked_bool, raw_of, whole_number
 from ._lent import Lent, is_read_only
 from ._library import LONG_BYTES, CHash, calls_for
+from ._in_threads import Stopped, checked_threads, in_threads
 from ._packed import BYTE, HASH, WORD, Packed, block_or_items, checked_block, is_column
 from ._types import BytesLike, Texts
 
@@ -26,6 +27,8 @@ HexTexts = Union[Texts, Iterator[str]]
 OffsetsLike = Union[Iterable[SupportsIndex], BytesLike]
 
 _SIZE = 32
+#: How many bytes a thread hashes at once where they are, if there are several threads.
+_SHARE = 1 << 22
 _FORMS = ((1, re.compile(BYTE)), (8, re.compile(WORD)), (_SIZE, re.compile(HASH)))
 _EXPECTED = (
     "packed hashes are bytes, four unsigned words of 8 bytes in a row, each with its least byte first, or plain items of 32 "
@@ -161,7 +164,7 @@ def column_of(hashes: Union[HashesLike, HexTexts]) -> Hashes:
 
 
 def data_hashes(
-    data: BytesLike, offsets: OffsetsLike, *, nobody_writes: bool = False
+    data: BytesLike, offsets: OffsetsLike, *, nobody_writes: bool = False, threads: SupportsIndex = 1
 ) -> Hashes:
     """Returns the hash of each chunk of some bytes, as `data_hash` does.
 
@@ -170,22 +173,48 @@ def data_hashes(
 
     Read-only bytes are hashed in place. Other bytes are copied, a MiB or a chunk at a time. With `nobody_writes=True` the
     caller promises that nobody writes to them, and they aren't copied. From 16 KiB on, the interpreter's lock is released.
+    `threads` is how many threads hash at once, each a piece of at most 4 MiB or one chunk. Ctrl-C ends the call.
 
     >>> from yurewha import data_hash
     >>> data_hashes(b"abcd", [0, 3, 4]) == Hashes([data_hash(b"abc"), data_hash(b"d")])
     True
     """
     checked_bool(nobody_writes, "nobody_writes")
+    count = checked_threads(threads)
     with Lent(data) as lent:
         view = lent.view
         places = checked_offsets(offsets, lent.length)
         if not view.c_contiguous:
-            return data_hashes(view.tobytes(), places)
+            return data_hashes(view.tobytes(), places, threads=count)
         lent.hold()
-        if nobody_writes or is_read_only(view):
+        in_place = nobody_writes or is_read_only(view)
+        if in_place and count == 1 and places[-1] - places[0] <= STEP:
             return Hashes._of(_hashed(lent.at(0), lent.length, places))
-        copies = (hashed_piece(lent.piece(piece[0], piece[-1]), piece) for piece in pieces_of(places))
-        return Hashes._of(b"".join(copies))
+
+        def hash_piece(piece: List[int], stopped: Stopped) -> bytes:
+            start, end = piece[0], piece[-1]
+            if len(piece) == 2 and end - start > STEP:
+                return _hashed_in_steps(lent, start, end, in_place, stopped)
+            if in_place:
+                return _hashed(lent.at(start), end - start, [place - start for place in piece])
+            return hashed_piece(lent.piece(start, end), piece)
+
+        most = PIECE if not in_place else STEP if count == 1 else _SHARE
+        return Hashes._of(b"".join(in_threads(hash_piece, pieces_of(places, most), count)))
+
+
+def _hashed_in_steps(lent: Lent, start: int, end: int, in_place: bool, stopped: Stopped) -> bytes:
+    """Returns the hash of a long chunk. Between two steps it looks whether it has to stop."""
+    chunk = Hasher()
+    for at in range(start, end, STEP if in_place else PIECE):
+        if stopped():
+            break
+        stop = min(at + (STEP if in_place else PIECE), end)
+        if in_place:
+            chunk._add(lent.at(at), stop - at)
+        else:
+            chunk.update(lent.piece(at, stop))
+    return chunk.hash()._raw
 
 
 def _hashed(start: Start, length: int, places: List[int]) -> bytes:
@@ -208,15 +237,15 @@ def hashed_piece(copy: bytes, places: List[int]) -> bytes:
     return _hashed(copy, len(copy), [place - places[0] for place in places])
 
 
-def pieces_of(places: List[int]) -> Iterator[List[int]]:
-    """Yields the offsets of chunks that are copied together: at most a MiB, or one chunk.
+def pieces_of(places: List[int], most: int = PIECE) -> Iterator[List[int]]:
+    """Yields the offsets of chunks that are copied or hashed together: at most so many bytes, a MiB, or one chunk.
 
     >>> list(pieces_of([0, 1, 2 << 20, 3 << 20, (3 << 20) + 1]))
     [[0, 1], [1, 2097152], [2097152, 3145728], [3145728, 3145729]]
     """
     piece = places[:1]
     for place in places[1:]:
-        if len(piece) > 1 and place - piece[0] > PIECE:
+        if len(piece) > 1 and place - piece[0] > most:
             yield piece
             piece = piece[-1:]
         piece.append(place)

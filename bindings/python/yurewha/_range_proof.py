@@ -23,6 +23,7 @@ from ._errors import InvalidArguments, YurewhaError, error_of
 from ._guard import Guarded
 from ._hash import HashLike, Start, checked_32, checked_bool, checked_text, checked_u64, own_bytes, raw_of
 from ._lent import in_place, is_read_only, view_of_bytes
+from ._interrupts import MANY_BYTES, MANY_NODES, interruptible
 from ._levels import LEVEL, Counts, packed_levels
 from ._library import LONG_BYTES, LONG_NODES, CChunk, CLevel, COpenedRange, calls_for, short
 from ._types import BytesLike
@@ -181,7 +182,8 @@ class RangeProof:
     def _opened(self, which: str, mismatch: str, *hashes: bytes) -> OpenedRange:
         opened, count = OpenedRange._empty(), len(self._nodes)
         call = getattr(calls_for(count, LONG_NODES), which)
-        status = call(self._levels, self.num_levels, self._nodes.packed, count, *hashes, opened._handle)
+        given = (self._levels, self.num_levels, self._nodes.packed, count, *hashes)
+        status = interruptible(lambda: int(call(*given, opened._handle)), count >= MANY_NODES)
         if status:
             raise error_of(status, mismatch)
         return opened
@@ -216,6 +218,10 @@ class RangeProof:
         ()
         """
         data = checked_text(text, "JSON") if isinstance(text, str) else own_bytes(text)
+        return interruptible(lambda: RangeProof._from_json(data), len(data) >= MANY_BYTES)
+
+    @staticmethod
+    def _from_json(data: bytes) -> RangeProof:
         levels, nodes = (CLevel * MOST_LEVELS)(), (CChunk * (len(data) // _LEAST_NODE + 1))()
         level_count, node_count = ctypes.c_size_t(), ctypes.c_size_t()
         status = calls_for(len(data), LONG_BYTES).yurewha_range_proof_from_json(
@@ -452,7 +458,7 @@ class OpenedRange(Guarded):
             with self._locked():
                 return int(calls.yurewha_opened_range_check(self._handle, number, start, length, place))
 
-        status = _passed(data, nobody_writes, check)
+        status = interruptible(lambda: _passed(data, nobody_writes, check), _is_great(data), self)
         if status:
             self._bytes_of(number)  # raises if there is no such chunk
             raise error_of(status, f"this isn't the data of chunk {number} of the range")
@@ -481,7 +487,7 @@ class OpenedRange(Guarded):
             with self._locked():
                 return int(calls.yurewha_opened_range_read(self._handle, begin, end, first, length, at))
 
-        status = in_place(view, read)
+        status = interruptible(lambda: in_place(view, read), view.nbytes >= MANY_BYTES, self)
         if status:
             raise error_of(status, self._told(begin, end, view.nbytes))
         return view[at.value:at.value + end - begin]
@@ -511,6 +517,11 @@ class OpenedRange(Guarded):
         except YurewhaError:
             return "<yurewha.OpenedRange that can't be read>"
         return f"<yurewha.OpenedRange of {_counted(count, 'chunk')}: {places}, by the proof's word>"
+
+
+def _is_great(data: BytesLike) -> bool:
+    with view_of_bytes(data) as view:
+        return view.nbytes >= MANY_BYTES
 
 
 def _passed(data: BytesLike, nobody_writes: bool, call: Callable[[Start, int], int]) -> int:

@@ -11,6 +11,7 @@ from ._errors import InvalidArguments, SessionOverlap, SessionSizes, YurewhaErro
 from ._guard import Guarded, both_locked
 from ._hash import Hash, checked_32, checked_u64
 from ._hashes import Hashes, HashesLike
+from ._interrupts import MANY_NODES, interruptible
 from ._library import LONG_CHUNKS, LONG_NODES, CChunk, CHash, CSession, calls_for, long, short
 from ._session_json import Span, json_of, parts_of
 from ._subtree import Subtree
@@ -148,7 +149,11 @@ class Session(Guarded):
         """
         place = checked_u64(first, "a position")
         packed = Chunks(chunks).packed
-        count, out = len(packed) // _CHUNK_SIZE, ctypes.c_uint64()
+        count = len(packed) // _CHUNK_SIZE
+        return interruptible(lambda: self._put(place, packed, count), count >= MANY_NODES, self)
+
+    def _put(self, place: int, packed: bytes, count: int) -> int:
+        out = ctypes.c_uint64()
         with self._locked():
             self._changes += 1
             status = calls_for(count, LONG_CHUNKS).yurewha_session_put(self._handle, place, packed, count, out)
@@ -322,7 +327,11 @@ class Session(Guarded):
         return root.hmac(key) if number else root  # the file hash of no chunks is their root, with a salt, too
 
     def _of_all(self, total: int, which: str) -> Hash:
-        number, out = checked_u64(total, "the total"), CHash()
+        number = checked_u64(total, "the total")
+        return interruptible(lambda: self._hash_of_all(number, which), number >= MANY_NODES, self)
+
+    def _hash_of_all(self, number: int, which: str) -> Hash:
+        out = CHash()
         with self._locked():
             status = getattr(long, which)(self._handle, number, out)
         if status:
@@ -336,6 +345,15 @@ class Session(Guarded):
         >>> other.put(4, [(Hash(), 1)]), one.taken(4), other.taken(4)
         (0, False, True)
         """
+        return interruptible(self._copy, self._knows_many(), self)
+
+    def _knows_many(self) -> bool:
+        count = ctypes.c_size_t()
+        with self._locked():
+            short.yurewha_session_num_known_hashes(self._handle, count)
+        return count.value >= MANY_NODES
+
+    def _copy(self) -> Session:
         other, count = Session(), ctypes.c_size_t()
         with self._locked():
             short.yurewha_session_num_known_hashes(self._handle, count)
@@ -376,6 +394,9 @@ class Session(Guarded):
         place, after = checked_u64(first, "a position"), checked_u64(end, "a position")
         if not isinstance(subtree, Subtree):
             raise TypeError(f"{what} is a Subtree, not {type(subtree).__name__}")
+        interruptible(lambda: self._pushed(what, place, after, subtree), subtree._has_many_nodes(), self, subtree)
+
+    def _pushed(self, what: str, place: int, after: int, subtree: Subtree) -> None:
         one, other = both_locked(self, subtree)
         with one, other:
             self._changes += 1
@@ -393,6 +414,9 @@ class Session(Guarded):
         """
         packed = Hashes(hashes).packed
         count = len(packed) // _HASH_SIZE
+        interruptible(lambda: self._keep(packed, count), count >= MANY_NODES, self)
+
+    def _keep(self, packed: bytes, count: int) -> None:
         with self._locked():
             self._changes += 1
             status = calls_for(count, LONG_CHUNKS).yurewha_session_keep_hashes(self._handle, packed, count)
@@ -408,6 +432,9 @@ class Session(Guarded):
         >>> list(session.known_hashes()) == [Hash()]
         True
         """
+        return interruptible(self._all_known_hashes, self._knows_many(), self)
+
+    def _all_known_hashes(self) -> Hashes:
         with self._locked():
             status, hashes = self._known_hashes()
             if status == STATUSES["YUREWHA_ARGUMENTS"]:  # a handler changed their number between the two calls

@@ -26,6 +26,7 @@ from ._declarations import STATUSES
 from ._errors import InvalidArguments, YurewhaError, error_of
 from ._guard import Guarded, all_locked, both_locked
 from ._hash import Hash, checked_32, checked_bool, checked_text, checked_u64, own_bytes
+from ._interrupts import MANY_BYTES, MANY_NODES, interruptible
 from ._levels import LEVEL, Counts, packed_levels
 from ._library import (
     LONG_BYTES,
@@ -55,7 +56,12 @@ def xorb_hash(chunks: ChunksLike) -> Hash:
     '90f8313ef12df385'
     """
     packed = Chunks(chunks).packed
-    count, out = len(packed) // _CHUNK_SIZE, CHash()
+    count = len(packed) // _CHUNK_SIZE
+    return interruptible(lambda: _xorb_hash(packed, count), count >= MANY_NODES)
+
+
+def _xorb_hash(packed: bytes, count: int) -> Hash:
+    out = CHash()
     status = calls_for(count, LONG_CHUNKS).yurewha_xorb_hash(packed, count, out)
     if status:
         raise error_of(status)
@@ -71,12 +77,16 @@ def file_hash(chunks: ChunksLike, salt: Optional[BytesLike] = None) -> Hash:
     True
     """
     packed = Chunks(chunks).packed
-    count, out = len(packed) // _CHUNK_SIZE, CHash()
-    calls = calls_for(count, LONG_CHUNKS)
+    count, key = len(packed) // _CHUNK_SIZE, None if salt is None else checked_32(salt, "a salt")
+    return interruptible(lambda: _file_hash(packed, count, key), count >= MANY_NODES)
+
+
+def _file_hash(packed: bytes, count: int, salt: Optional[bytes]) -> Hash:
+    calls, out = calls_for(count, LONG_CHUNKS), CHash()
     if salt is None:
         status = calls.yurewha_file_hash(packed, count, out)
     else:
-        status = calls.yurewha_file_hash_with_salt(packed, count, checked_32(salt, "a salt"), out)
+        status = calls.yurewha_file_hash_with_salt(packed, count, salt, out)
     if status:
         raise error_of(status)
     return Hash._of(bytes(out))
@@ -85,7 +95,8 @@ def file_hash(chunks: ChunksLike, salt: Optional[BytesLike] = None) -> Hash:
 def _stable_point(nodes: ChunksLike, which: str) -> Optional[int]:
     packed = Chunks(nodes).packed
     count, out = len(packed) // _CHUNK_SIZE, ctypes.c_size_t()
-    status = getattr(calls_for(count, LONG_CHUNKS), which)(packed, count, out)
+    call = getattr(calls_for(count, LONG_CHUNKS), which)
+    status = interruptible(lambda: int(call(packed, count, out)), count >= MANY_NODES)
     if status == 1:
         return None
     if status:
@@ -197,7 +208,12 @@ class Subtree(Guarded):
         checked_bool(at_start, "at_start")
         checked_bool(at_end, "at_end")
         packed = Chunks(chunks).packed
-        count, self = len(packed) // _CHUNK_SIZE, Subtree._empty()
+        count = len(packed) // _CHUNK_SIZE
+        return interruptible(lambda: Subtree._from_chunks(at_start, packed, count, at_end), count >= MANY_NODES)
+
+    @staticmethod
+    def _from_chunks(at_start: bool, packed: bytes, count: int, at_end: bool) -> Subtree:
+        self = Subtree._empty()
         status = calls_for(count, LONG_CHUNKS).yurewha_subtree_from_chunks(at_start, packed, count, at_end, self._handle)
         if status:
             raise error_of(status)
@@ -376,6 +392,13 @@ class Subtree(Guarded):
     def _merge(self, other: Subtree, parents: Optional[ctypes.c_uint64]) -> None:
         if not isinstance(other, Subtree):
             raise TypeError(f"a Subtree is merged with a Subtree, not with {type(other).__name__}")
+        interruptible(lambda: self._merged(other, parents), self._has_many_nodes() or other._has_many_nodes(), self, other)
+
+    def _has_many_nodes(self) -> bool:
+        with self._locked():
+            return self._nodes() >= MANY_NODES
+
+    def _merged(self, other: Subtree, parents: Optional[ctypes.c_uint64]) -> None:
         first, second = both_locked(self, other)
         with first, second:
             if other is self:  # a call needs two different handles
@@ -422,6 +445,11 @@ class Subtree(Guarded):
             # A repeated object is copied, because a call needs different handles.
             items.append(item.copy() if id(item) in seen else item)
             seen.add(id(item))
+        many = any(item._has_many_nodes() for item in items)
+        return interruptible(lambda: Subtree._merged_all(items), many, *items)
+
+    @staticmethod
+    def _merged_all(items: List[Subtree]) -> Subtree:
         merged = Subtree._empty()
         with all_locked(items):
             nodes = sum(item._nodes() for item in items)
@@ -505,6 +533,10 @@ class Subtree(Guarded):
         True
         """
         data = checked_text(text, "JSON") if isinstance(text, str) else own_bytes(text)
+        return interruptible(lambda: Subtree._from_json(data), len(data) >= MANY_BYTES)
+
+    @staticmethod
+    def _from_json(data: bytes) -> Subtree:
         self = Subtree._empty()
         status = calls_for(len(data), LONG_BYTES).yurewha_subtree_from_json(data, len(data), self._handle)
         if status:

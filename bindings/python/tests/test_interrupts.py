@@ -1,0 +1,226 @@
+"""Ctrl-C, and any other signal handler that raises, ends each call that takes long, and nothing is left half done."""
+
+import contextlib
+import random
+import signal
+import threading
+import time
+
+import pytest
+from drawn import MAX
+
+import yurewha as y
+from yurewha import _hash, _interrupts
+
+pytestmark = pytest.mark.skipif(not hasattr(signal, "setitimer"), reason="there are no timers")
+
+COUNT = 1_200_000
+#: A handler has to end a call so many seconds after the signal. The tests allow for a busy machine, too.
+SOON, SLACK = 0.2, 0.3
+
+
+class Ended(Exception):
+    """What the handler raises."""
+
+
+@pytest.fixture(scope="module")
+def chunks():
+    """Chunks without a stable point, so that each call on their subtree has all of them before it."""
+    packed = bytearray(random.Random(61).randbytes(40 * COUNT))
+    packed[24::40] = bytes([1]) * COUNT
+    for place in range(35, 40):
+        packed[place::40] = bytes(COUNT)
+    return y.Chunks(bytes(packed))
+
+
+def seconds(call, after):
+    """How long a call takes if a handler raises after so many seconds, and whether it was ended."""
+    def handler(number, frame):
+        raise Ended
+
+    before = signal.signal(signal.SIGALRM, handler)
+    begun = time.perf_counter()
+    try:
+        signal.setitimer(signal.ITIMER_REAL, after)
+        call()
+        ended = False
+    except Ended:
+        ended = True
+    finally:
+        took = time.perf_counter() - begun
+        signal.setitimer(signal.ITIMER_REAL, 0)
+        signal.signal(signal.SIGALRM, before)
+    return took, ended
+
+
+def whole(chunks):
+    return y.Subtree.from_chunks(False, chunks, False)
+
+
+def known(chunks):
+    session = y.Session()
+    session.put(0, chunks)
+    return session
+
+
+#: A call, made of what it needs. Making that isn't part of it.
+CALLS = {
+    "xorb_hash": lambda chunks: lambda: y.xorb_hash(chunks),
+    "file_hash": lambda chunks: lambda: y.file_hash(chunks),
+    "file_hash with a salt": lambda chunks: lambda: y.file_hash(chunks, bytes(32)),
+    "Subtree.from_chunks": lambda chunks: lambda: y.Subtree.from_chunks(True, chunks, True),
+    "HashTree": lambda chunks: lambda: y.HashTree(chunks),
+    "Session.put": lambda chunks: (lambda session: lambda: session.put(7, chunks))(y.Session()),
+    "Session.keep_hashes": lambda chunks: (lambda session, hashes: lambda: session.keep_hashes(hashes))(y.Session(), chunks.hashes),
+    "Session.copy": lambda chunks: known(chunks).copy,
+    "Session.root": lambda chunks: (lambda session: lambda: session.root(COUNT))(known(chunks)),
+}
+
+
+@pytest.mark.parametrize("name", CALLS)
+def test_calls_of_many_chunks(name, chunks):
+    call = CALLS[name](chunks)
+    took, ended = seconds(call, 0.02)
+    assert ended and took < 0.02 + SOON + SLACK
+
+
+GREAT = bytes(1 << 31)  # of pages that nobody wrote to, which take no memory
+OF_BYTES = {
+    "data_hash": lambda: y.data_hash(GREAT),
+    "data_hash of a view": lambda: y.data_hash(memoryview(GREAT)[1:]),
+    "internal_node_hash": lambda: y.internal_node_hash(GREAT),
+    "Hasher.update": lambda: y.Hasher().update(GREAT),
+    "data_hashes": lambda: y.data_hashes(GREAT, range(0, len(GREAT) + 1, 1 << 16)),
+    "data_hashes of one": lambda: y.data_hashes(GREAT, [0, len(GREAT)]),
+    "data_hashes in threads": lambda: y.data_hashes(GREAT, range(0, len(GREAT) + 1, 1 << 16), threads=2),
+    "data_hashes of one in threads": lambda: y.data_hashes(GREAT, [0, len(GREAT)], threads=2),
+}
+
+
+@pytest.mark.parametrize("name", OF_BYTES)
+def test_calls_of_many_bytes(name):
+    took, ended = seconds(OF_BYTES[name], 0.03)
+    assert ended and took < 0.03 + SOON + SLACK
+
+
+@pytest.mark.parametrize("name", OF_BYTES)
+def test_no_work_goes_on_that_can_be_ended(name, monkeypatch):
+    """After the call nothing more is hashed."""
+    made = []
+    for calls in (_hash.calls_for(0, 1), _hash.calls_for(1, 1)):
+        for call in ("yurewha_hasher_update", "yurewha_data_hashes", "yurewha_data_hash", "yurewha_internal_node_hash"):
+            monkeypatch.setattr(calls, call, lambda *given, made_by=getattr(calls, call): made.append(1) or made_by(*given))
+    threads = threading.active_count()
+    _, ended = seconds(OF_BYTES[name], 0.03)
+    count = len(made)
+    assert ended
+    deadline = time.monotonic() + 10
+    while threading.active_count() > threads and time.monotonic() < deadline:
+        time.sleep(0.01)
+    assert threading.active_count() == threads and len(made) <= count + 2  # a thread ends the step that it is at
+
+
+def test_a_long_update_that_is_ended_appends_nothing():
+    hasher = y.Hasher(b"abc")
+    assert seconds(lambda: hasher.update(GREAT), 0.03)[1] and hasher.count == 3 and hasher.hash() == y.data_hash(b"abc")
+    hasher.update(b"d")
+    assert hasher.hash() == y.data_hash(b"abcd")
+
+
+def test_the_same_hashes_in_steps(monkeypatch):
+    data = random.Random(62).randbytes(100_000)
+    expected = [y.data_hash(data[:end]) for end in (99, 100, 101, 1000, 100_000)]
+    nodes = [y.internal_node_hash(data[:end]) for end in (99, 100, 101, 1000, 100_000)]
+    lists = y.data_hashes(data, [3, 50, 250, 251, 99_999])
+    monkeypatch.setattr("yurewha._hash.STEP", 100)
+    monkeypatch.setattr("yurewha._hashes.STEP", 100)
+    for show in (lambda data: data, memoryview, bytearray, lambda data: memoryview(b"x" + data)[1:]):
+        for end, hash_, node in zip((99, 100, 101, 1000, 100_000), expected, nodes):
+            assert y.data_hash(show(data[:end])) == hash_ and y.internal_node_hash(show(data[:end])) == node
+            hasher = y.Hasher()
+            hasher.update(show(data[:end // 2]), nobody_writes=True)
+            hasher.update(show(data[end // 2:end]))
+            assert hasher.hash() == hash_ and hasher.count == end
+        for threads in (1, 3):
+            assert y.data_hashes(show(data), [3, 50, 250, 251, 99_999], threads=threads) == lists
+
+
+def test_a_put_that_is_ended_is_done_or_not_done(chunks):
+    """The session is as before or after it, also for whoever uses it at once."""
+    for after in (0.001, 0.02, 0.1):
+        session = y.Session()
+        ended = seconds(lambda: session.put(7, chunks), after)[1]
+        if session.taken(7):
+            assert session.num_chunks == COUNT and session.run(0)[1] == y.Subtree.from_chunks(False, chunks, False)
+        else:
+            assert ended and session.num_runs == 0 and session.put(7, chunks) > 0
+
+
+def test_who_uses_an_object_meanwhile_waits(chunks):
+    session = y.Session()
+    assert seconds(lambda: session.put(7, chunks), 0.02)[1]
+    waited = []
+    thread = threading.Thread(target=lambda: waited.append(session.num_runs))
+    thread.start()
+    thread.join(60)
+    assert waited in ([0], [1]) and session.num_runs in (0, 1)
+    tree = whole(chunks)
+    with contextlib.suppress(Ended):
+        seconds(lambda: tree.merge(tree), 0.01)
+    assert tree.total_size in (sum(chunks.sizes), 2 * sum(chunks.sizes))
+
+
+def test_an_object_that_nobody_has_any_more(chunks):
+    """Its memory is given back once the call that goes on has ended."""
+    for _ in range(3):
+        assert seconds(lambda: y.HashTree(chunks), 0.02)[1] and seconds(lambda: y.Session().put(0, chunks), 0.02)[1]
+    deadline = time.monotonic() + 60
+    while threading.active_count() > 1 and time.monotonic() < deadline:
+        time.sleep(0.01)
+    assert time.monotonic() < deadline
+
+
+def test_errors_of_long_calls_are_the_same():
+    great = y.Chunks.from_columns(bytes(32 * _interrupts.MANY_NODES), [MAX] * _interrupts.MANY_NODES)
+    for call in (lambda: y.xorb_hash(great), lambda: y.HashTree(great), lambda: y.Subtree.from_chunks(True, great, True)):
+        with pytest.raises(y.SizeOverflow):
+            call()
+    session = y.Session()
+    with pytest.raises(y.SessionSizes):
+        session.put(0, great)
+    session.put(1000, [(y.Hash(), 1)])
+    with pytest.raises(y.SessionOverlap, match="^position 1000 is taken$"):
+        session.put(0, bytes(40 * _interrupts.MANY_NODES))
+    with pytest.raises(y.InvalidText):
+        y.Subtree.from_json(b" " * _interrupts.MANY_BYTES)
+
+
+def test_handlers_and_threads_do_long_work_themselves(chunks):
+    """A handler in the middle of another call on the object, and every thread but the main one."""
+    session, used = y.Session(), []
+
+    def handler(number, frame):
+        used.append(session.put(7, chunks))
+
+    def work():
+        with session._locked():
+            signal.raise_signal(signal.SIGUSR1)
+
+    before = signal.signal(signal.SIGUSR1, handler)
+    try:
+        assert not seconds(work, 60)[1], "it waits for itself"
+    finally:
+        signal.signal(signal.SIGUSR1, before)
+    assert used == [COUNT] and session.num_chunks == COUNT
+    seen = []
+    thread = threading.Thread(target=lambda: seen.append(_interrupts.interruptible(threading.current_thread, True)))
+    thread.start(), thread.join()
+    assert seen == [thread] and _interrupts.interruptible(threading.current_thread, False) is threading.main_thread()
+
+
+def test_where_no_thread_can_be_started(monkeypatch):
+    def start(self):
+        raise RuntimeError("can't start new thread")
+
+    monkeypatch.setattr(threading.Thread, "start", start)
+    assert _interrupts.interruptible(lambda: 7, True) == 7
