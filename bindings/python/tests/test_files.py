@@ -9,6 +9,7 @@ import signal
 import subprocess
 import sys
 import threading
+import time
 
 import pytest
 
@@ -92,6 +93,7 @@ def test_pieces_are_hashed_at_once(written, monkeypatch, call):
         return hashed(start, length, places)
 
     expected = y.data_hashes(data, range(0, 32 * MIB + 1, MIB))
+    assert len(set(expected)) == 32
     monkeypatch.setattr("yurewha._hashes._hashed", spied)
     assert call(written(data), data, range(0, 32 * MIB + 1, MIB)) == expected
     assert 1 < len(set(begun)) <= 4 and threading.main_thread() not in begun
@@ -109,6 +111,9 @@ def test_no_thread_stays_and_no_file(written):
     for _ in range(3):
         with pytest.raises(ZeroDivisionError):
             y.hash_chunks(path, range(0, 20 * MIB + 1, MIB), progress=lambda done, total: 1 / 0, threads=4)
+        deadline = time.monotonic() + 20
+        while threading.active_count() > before and time.monotonic() < deadline:
+            time.sleep(0.01)
         assert threading.active_count() == before
 
 

@@ -10,13 +10,13 @@ import pytest
 from drawn import MAX
 
 import yurewha as y
-from yurewha import _hash, _interrupts
+from yurewha import _declarations, _hash, _interrupts, _library
 
 pytestmark = pytest.mark.skipif(not hasattr(signal, "setitimer"), reason="there are no timers")
 
-COUNT = 1_200_000
+COUNT = 2 * _interrupts.MANY_NODES
 #: A handler has to end a call so many seconds after the signal. The tests allow for a busy machine, too.
-SOON, SLACK = 0.2, 0.3
+SOON, SLACK = 0.2, 0.8
 
 
 class Ended(Exception):
@@ -57,6 +57,11 @@ def whole(chunks):
     return y.Subtree.from_chunks(False, chunks, False)
 
 
+def opened():
+    tree = y.HashTree([(y.Hash.random_from_seed(1), 7)])
+    return tree.proof(0, 1).open_root(tree.root)
+
+
 def known(chunks):
     session = y.Session()
     session.put(0, chunks)
@@ -73,15 +78,39 @@ CALLS = {
     "Session.put": lambda chunks: (lambda session: lambda: session.put(7, chunks))(y.Session()),
     "Session.keep_hashes": lambda chunks: (lambda session, hashes: lambda: session.keep_hashes(hashes))(y.Session(), chunks.hashes),
     "Session.copy": lambda chunks: known(chunks).copy,
+    "Session.known_hashes": lambda chunks: known(chunks).known_hashes,
     "Session.root": lambda chunks: (lambda session: lambda: session.root(COUNT))(known(chunks)),
+    "Session.push_run": lambda chunks: (lambda session, tree: lambda: session.push_run(0, COUNT, tree))(y.Session(), whole(chunks)),
+    "Subtree.merge": lambda chunks: (lambda tree, other: lambda: tree.merge(other))(whole(chunks), whole(chunks)),
+    "Subtree.merge_all": lambda chunks: (lambda tree: lambda: y.Subtree.merge_all([tree, tree]))(whole(chunks)),
+    "Subtree.from_json": lambda chunks: (lambda text: lambda: y.Subtree.from_json(text))(bytes(_interrupts.MANY_BYTES)),
+    "HashTree.proof": lambda chunks: (lambda tree: lambda: tree.proof(0, COUNT))(y.HashTree(chunks)),
+    "RangeProof.open": lambda chunks: (lambda proof: lambda: proof.open_root(y.Hash()))(y.HashTree(chunks).proof(0, COUNT)),
+    "RangeProof.from_json": lambda chunks: (lambda text: lambda: y.RangeProof.from_json(text))(bytes(_interrupts.MANY_BYTES)),
+    "OpenedRange.read": lambda chunks: (lambda opened, data: lambda: opened.read(0, 1, data))(opened(), bytes(_interrupts.MANY_BYTES)),
+    "OpenedRange.check": lambda chunks: (lambda opened, data: lambda: opened.check(0, data))(opened(), bytes(_interrupts.MANY_BYTES)),
+    "find_stable_start": lambda chunks: lambda: y.find_stable_start(chunks),
 }
 
 
 @pytest.mark.parametrize("name", CALLS)
-def test_calls_of_many_chunks(name, chunks):
-    call = CALLS[name](chunks)
-    took, ended = seconds(call, 0.02)
-    assert ended and took < 0.02 + SOON + SLACK
+def test_calls_of_many_chunks(name, chunks, monkeypatch):
+    """Each call of the library takes 20 seconds, unless the test is over before."""
+    call, over = CALLS[name](chunks), threading.Event()
+    for long in _declarations.DECLARATIONS:
+        monkeypatch.setattr(_library.long, long, lambda *given, made=getattr(_library.long, long): over.wait(20) and made(*given))
+    try:
+        took, ended = seconds(call, 0.02)
+        assert ended and took < 10
+    finally:
+        over.set()
+
+
+def test_a_call_ends_soon_after_the_signal():
+    """The root of many chunks takes seconds."""
+    chunks = y.Chunks(bytes(40 * 6_000_000))
+    took, ended = seconds(lambda: y.xorb_hash(chunks), 0.05)
+    assert ended and took < 0.05 + SOON + SLACK
 
 
 GREAT = bytes(1 << 31)  # of pages that nobody wrote to, which take no memory
@@ -110,14 +139,10 @@ def test_no_work_goes_on_that_can_be_ended(name, monkeypatch):
     for calls in (_hash.calls_for(0, 1), _hash.calls_for(1, 1)):
         for call in ("yurewha_hasher_update", "yurewha_data_hashes", "yurewha_data_hash", "yurewha_internal_node_hash"):
             monkeypatch.setattr(calls, call, lambda *given, made_by=getattr(calls, call): made.append(1) or made_by(*given))
-    threads = threading.active_count()
     _, ended = seconds(OF_BYTES[name], 0.03)
     count = len(made)
-    assert ended
-    deadline = time.monotonic() + 10
-    while threading.active_count() > threads and time.monotonic() < deadline:
-        time.sleep(0.01)
-    assert threading.active_count() == threads and len(made) <= count + 2  # a thread ends the step that it is at
+    time.sleep(0.2)
+    assert ended and count == len(made)
 
 
 def test_a_long_update_that_is_ended_appends_nothing():
@@ -147,7 +172,7 @@ def test_the_same_hashes_in_steps(monkeypatch):
 
 def test_a_put_that_is_ended_is_done_or_not_done(chunks):
     """The session is as before or after it, also for whoever uses it at once."""
-    for after in (0.001, 0.02, 0.1):
+    for after in (0.001, 0.05):
         session = y.Session()
         ended = seconds(lambda: session.put(7, chunks), after)[1]
         if session.taken(7):
@@ -156,9 +181,34 @@ def test_a_put_that_is_ended_is_done_or_not_done(chunks):
             assert ended and session.num_runs == 0 and session.put(7, chunks) > 0
 
 
+def test_work_that_is_ended_before_it_begins():
+    """Another thread has the object until after the handler has raised. So the work is never done."""
+    session, done = y.Session(), []
+    go_on, taken = threading.Event(), threading.Event()
+
+    def hold():
+        with session._locked():
+            taken.set()
+            go_on.wait(20)
+
+    thread = threading.Thread(target=hold)
+    thread.start()
+    assert taken.wait(10) and seconds(lambda: _interrupts.interruptible(lambda: done.append(1), True, session), 0.05)[1]
+    go_on.set()
+    thread.join()
+    time.sleep(0.1)
+    assert done == [] and not session.num_runs
+
+
+def test_the_objects_of_long_work_are_locked_before_it_begins():
+    session, other = y.Session(), y.Session()
+    seen = _interrupts.interruptible(lambda: [item._lock._is_owned() for item in (session, other)], True, session)
+    assert seen == [True, False] and not session._lock._is_owned()
+
+
 def test_who_uses_an_object_meanwhile_waits(chunks):
     session = y.Session()
-    assert seconds(lambda: session.put(7, chunks), 0.02)[1]
+    seconds(lambda: session.put(7, chunks), 0.02)
     waited = []
     thread = threading.Thread(target=lambda: waited.append(session.num_runs))
     thread.start()
@@ -170,14 +220,20 @@ def test_who_uses_an_object_meanwhile_waits(chunks):
     assert tree.total_size in (sum(chunks.sizes), 2 * sum(chunks.sizes))
 
 
-def test_an_object_that_nobody_has_any_more(chunks):
-    """Its memory is given back once the call that goes on has ended."""
-    for _ in range(3):
-        assert seconds(lambda: y.HashTree(chunks), 0.02)[1] and seconds(lambda: y.Session().put(0, chunks), 0.02)[1]
+def test_an_object_that_nobody_has_any_more(chunks, monkeypatch):
+    """It is freed once the call that goes on has ended."""
+    freed = []
+    for kind in (y.HashTree, y.Session):
+        monkeypatch.setattr(kind, "_free", staticmethod(lambda handle, free=kind._free: freed.append(1) or free(handle)))
+    over = threading.Event()
+    for long in ("yurewha_hash_tree_from_chunks", "yurewha_session_put"):
+        monkeypatch.setattr(_library.long, long, lambda *given, made=getattr(_library.long, long): over.wait(20) and made(*given))
+    assert seconds(lambda: y.HashTree(chunks), 0.02)[1] and seconds(lambda: y.Session().put(0, chunks), 0.02)[1] and freed == []
+    over.set()
     deadline = time.monotonic() + 60
-    while threading.active_count() > 1 and time.monotonic() < deadline:
+    while len(freed) < 2 and time.monotonic() < deadline:
         time.sleep(0.01)
-    assert time.monotonic() < deadline
+    assert len(freed) == 2
 
 
 def test_errors_of_long_calls_are_the_same():
@@ -213,14 +269,14 @@ def test_handlers_and_threads_do_long_work_themselves(chunks):
         signal.signal(signal.SIGUSR1, before)
     assert used == [COUNT] and session.num_chunks == COUNT
     seen = []
-    thread = threading.Thread(target=lambda: seen.append(_interrupts.interruptible(threading.current_thread, True)))
+    thread = threading.Thread(target=lambda: seen.append(_interrupts.interruptible(threading.get_ident, True)))
     thread.start(), thread.join()
-    assert seen == [thread] and _interrupts.interruptible(threading.current_thread, False) is threading.main_thread()
+    assert seen == [thread.ident] and _interrupts.interruptible(threading.get_ident, False) == threading.get_ident()
 
 
 def test_where_no_thread_can_be_started(monkeypatch):
-    def start(self):
+    def start(call, given):
         raise RuntimeError("can't start new thread")
 
-    monkeypatch.setattr(threading.Thread, "start", start)
+    monkeypatch.setattr("_thread.start_new_thread", start)
     assert _interrupts.interruptible(lambda: 7, True) == 7

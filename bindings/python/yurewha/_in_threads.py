@@ -4,11 +4,12 @@ from __future__ import annotations
 
 from collections import deque
 from concurrent.futures import Future, ThreadPoolExecutor
-from threading import Event
-from typing import Callable, Deque, Generator, Iterable, SupportsIndex, TypeVar
+from threading import Condition
+from typing import Callable, Deque, Generator, Generic, Iterable, Optional, SupportsIndex, TypeVar
 
 from ._errors import InvalidArguments
 from ._hash import checked_u64
+from ._interrupts import waited
 
 _Piece = TypeVar("_Piece")
 _Result = TypeVar("_Result")
@@ -45,16 +46,55 @@ def in_threads(work: Callable[[_Piece, Stopped], _Result], pieces: Iterable[_Pie
         for piece in pieces:
             yield work(piece, bool)
         return
-    stop = Event()
+    crew: _Crew[_Piece, _Result] = _Crew(work)
     coming: Deque[Future[_Result]] = deque()
     pool = ThreadPoolExecutor(threads)
     try:
         for piece in pieces:
-            coming.append(pool.submit(work, piece, stop.is_set))
+            coming.append(pool.submit(crew.do, piece))
             if len(coming) > _QUEUED * threads:
-                yield coming.popleft().result()
+                yield waited(coming.popleft())
         while coming:
-            yield coming.popleft().result()
+            yield waited(coming.popleft())
     finally:
-        stop.set()
-        pool.shutdown(cancel_futures=True)
+        crew.stop()
+        pool.shutdown(wait=False, cancel_futures=True)
+
+
+class _Crew(Generic[_Piece, _Result]):
+    """Threads at work. A handler that raises while the pool starts a thread makes the pool forget it, so each is counted here."""
+
+    def __init__(self, work: Callable[[_Piece, Stopped], _Result]) -> None:
+        self._work, self._changed = work, Condition()
+        self._working, self._stopped = 0, False
+
+    def is_stopped(self) -> bool:
+        """Returns whether nobody waits any more."""
+        return self._stopped
+
+    def do(self, piece: _Piece) -> _Result:
+        """Does the work on a piece, unless nobody waits for it."""
+        with self._changed:
+            if self._stopped:
+                raise RuntimeError("nobody waits for this piece")
+            self._working += 1
+        try:
+            return self._work(piece, self.is_stopped)
+        finally:
+            with self._changed:
+                self._working -= 1
+                self._changed.notify_all()
+
+    def stop(self) -> None:
+        """Waits until no thread works. A handler that raises meanwhile ends nothing, since they may read memory of the caller."""
+        raised: Optional[BaseException] = None
+        self._stopped = True
+        while True:
+            try:
+                with self._changed:
+                    self._changed.wait_for(lambda: not self._working)
+                break
+            except BaseException as error:
+                raised = error
+        if raised is not None:
+            raise raised

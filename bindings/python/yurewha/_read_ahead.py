@@ -7,6 +7,8 @@ from concurrent.futures import Future
 from threading import Thread
 from typing import Callable, List, Optional
 
+from ._interrupts import waited
+
 #: Reads the bytes from a place up to another one.
 Read = Callable[[int, int], memoryview]
 
@@ -103,7 +105,7 @@ def _come(read: Read, piece: _Piece) -> memoryview:
     if coming is None:
         return read(piece.begin, piece.end)
     try:
-        return coming.result()
+        return waited(coming)
     except BaseException:
         if coming.done():
             piece.coming = None
