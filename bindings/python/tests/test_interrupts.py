@@ -1,6 +1,7 @@
 """Ctrl-C, and any other signal handler that raises, ends each call that takes long, and nothing is left half done."""
 
 import contextlib
+import functools
 import random
 import signal
 import threading
@@ -81,6 +82,7 @@ CALLS = {
     "Session.known_hashes": lambda chunks: known(chunks).known_hashes,
     "Session.root": lambda chunks: (lambda session: lambda: session.root(COUNT))(known(chunks)),
     "Session.push_run": lambda chunks: (lambda session, tree: lambda: session.push_run(0, COUNT, tree))(y.Session(), whole(chunks)),
+    "Subtree.copy": lambda chunks: whole(chunks).copy,
     "Subtree.merge": lambda chunks: (lambda tree, other: lambda: tree.merge(other))(whole(chunks), whole(chunks)),
     "Subtree.merge_all": lambda chunks: (lambda tree: lambda: y.Subtree.merge_all([tree, tree]))(whole(chunks)),
     "Subtree.from_json": lambda chunks: (lambda text: lambda: y.Subtree.from_json(text))(bytes(_interrupts.MANY_BYTES)),
@@ -96,12 +98,17 @@ CALLS = {
 @pytest.mark.parametrize("name", CALLS)
 def test_calls_of_many_chunks(name, chunks, monkeypatch):
     """Each call of the library takes 20 seconds, unless the test is over before."""
-    call, over = CALLS[name](chunks), threading.Event()
+    call, over, where = CALLS[name](chunks), threading.Event(), set()
+
+    def slowly(*given, made):
+        where.add(threading.get_ident())
+        return over.wait(20) and made(*given)
+
     for long in _declarations.DECLARATIONS:
-        monkeypatch.setattr(_library.long, long, lambda *given, made=getattr(_library.long, long): over.wait(20) and made(*given))
+        monkeypatch.setattr(_library.long, long, functools.partial(slowly, made=getattr(_library.long, long)))
     try:
-        took, ended = seconds(call, 0.02)
-        assert ended and took < 10
+        took, ended = seconds(call, 0.3)
+        assert ended and took < 10 and where and threading.get_ident() not in where
     finally:
         over.set()
 
@@ -134,15 +141,24 @@ def test_calls_of_many_bytes(name):
 
 @pytest.mark.parametrize("name", OF_BYTES)
 def test_no_work_goes_on_that_can_be_ended(name, monkeypatch):
-    """After the call nothing more is hashed."""
-    made = []
+    """After the call nothing is hashed any more."""
+    made, over = [], []
+
+    def counted(*given, call):
+        made.append(1)
+        try:
+            return call(*given)
+        finally:
+            over.append(1)
+
     for calls in (_hash.calls_for(0, 1), _hash.calls_for(1, 1)):
         for call in ("yurewha_hasher_update", "yurewha_data_hashes", "yurewha_data_hash", "yurewha_internal_node_hash"):
-            monkeypatch.setattr(calls, call, lambda *given, made_by=getattr(calls, call): made.append(1) or made_by(*given))
+            monkeypatch.setattr(calls, call, functools.partial(counted, call=getattr(calls, call)))
     _, ended = seconds(OF_BYTES[name], 0.03)
-    count = len(made)
+    counts = len(made), len(over)
     time.sleep(0.2)
-    assert ended and count == len(made)
+    assert ended and counts[0] == counts[1] == len(made) > 0
+    assert name != "data_hashes of one in threads" or len(made) < len(GREAT) // _hash.STEP // 2
 
 
 def test_a_long_update_that_is_ended_appends_nothing():

@@ -35,6 +35,7 @@ from ._errors import (
 )
 from ._files import hash_chunks
 from ._hash import Hash, Hasher, data_hash, internal_node_hash
+from ._hash_index import HashIndex
 from ._hash_tree import HashTree
 from ._hashes import Hashes, data_hashes
 from ._range_proof import OpenedRange, RangeProof
@@ -60,6 +61,7 @@ __all__ = [
     "EmptyHandle",
     "Flat",
     "Hash",
+    "HashIndex",
     "HashTree",
     "Hasher",
     "Hashes",

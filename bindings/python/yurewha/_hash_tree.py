@@ -12,6 +12,7 @@ from ._hash import Hash, checked_32, checked_u64
 from ._interrupts import MANY_NODES, interruptible
 from ._library import LONG_CHUNKS, LONG_NODES, CChunk, CHash, CHashTree, CLevel, calls_for, short
 from ._range_proof import MOST_LEVELS, RangeProof
+from ._saving import Path, read_whole, write_whole
 from ._types import BytesLike
 
 __all__ = ["HashTree"]
@@ -129,6 +130,43 @@ class HashTree(Guarded):
             raise error_of(status)
         return out.value
 
+    @property
+    def chunks(self) -> Chunks:
+        """The chunks that the tree was made of. They are copied.
+
+        >>> list(HashTree([(Hash(), 7), (Hash(), 8)]).chunks) == [(Hash(), 7), (Hash(), 8)]
+        True
+        """
+        count = self.num_chunks
+        return self.proof(0, count).chunks if count else Chunks()
+
+    def save(self, path: Path) -> None:
+        """Writes the chunks of the tree to a file, whole or not at all: an error or a crash leaves the file that was there before.
+
+        >>> import tempfile, os.path
+        >>> with tempfile.TemporaryDirectory() as folder:
+        ...     tree, path = HashTree([(Hash(), 7), (Hash(), 8)]), os.path.join(folder, "tree")
+        ...     tree.save(path)
+        ...     HashTree.load(path) == tree
+        True
+        """
+        write_whole(path, b"hash tree", self.chunks.packed)
+
+    @staticmethod
+    def load(path: Path) -> HashTree:
+        """Returns the tree of the chunks that `save` wrote to a file. Its levels are made again.
+
+        Raises `InvalidText` if the file is of another kind, was cut off or was changed. Opening and reading it raise `OSError`.
+
+        >>> import tempfile, os.path
+        >>> with tempfile.TemporaryDirectory() as folder:
+        ...     path = os.path.join(folder, "tree")
+        ...     HashTree([(Hash(), 7), (Hash(), 8)]).save(path)
+        ...     HashTree.load(path).total_size
+        15
+        """
+        return HashTree(read_whole(path, b"hash tree"))
+
     # ---- Places
 
     def chunks_at(self, start: int, stop: int) -> Tuple[int, int]:
@@ -199,6 +237,15 @@ class HashTree(Guarded):
         """
         return self.proof(*self.chunks_at(start, stop))
 
+    def __eq__(self, other: object) -> bool:
+        if not isinstance(other, HashTree):
+            return NotImplemented
+        # Two lists with one root are two faces of a collision, or one of them has parents for chunks.
+        return self is other or (self.root == other.root and self.chunks == other.chunks)
+
+    def __hash__(self) -> int:
+        return hash(self.root)
+
     def __copy__(self) -> HashTree:
         return self
 
@@ -206,8 +253,7 @@ class HashTree(Guarded):
         return self
 
     def __reduce__(self) -> Tuple[Type[HashTree], Tuple[bytes]]:
-        count = self.num_chunks
-        return HashTree, (self.proof(0, count).chunks.packed if count else b"",)
+        return HashTree, (self.chunks.packed,)
 
     def __repr__(self) -> str:
         try:

@@ -86,7 +86,7 @@ class Hashes(Packed[Hash]):
             packed = b""
         if len(packed) != _SIZE * len(listed) or any(len(text) != 2 * _SIZE for text in listed):
             return Hashes(_read_hex(text, place) for place, text in enumerate(listed))
-        return Hashes._of(_words_reversed(packed))
+        return Hashes._of(words_reversed(packed))
 
     def hex(self) -> List[str]:
         """Returns the hex text of each hash, as `Hash.hex` writes it.
@@ -94,7 +94,7 @@ class Hashes(Packed[Hash]):
         >>> Hashes([Hash(bytes(range(32)))]).hex()[0][:16]
         '0706050403020100'
         """
-        text = _words_reversed(self._packed).hex()
+        text = words_reversed(self._packed).hex()
         return [text[start:start + 2 * _SIZE] for start in range(0, len(text), 2 * _SIZE)]
 
     @property
@@ -130,8 +130,12 @@ def _raw_items(hashes: Iterable[object]) -> Iterator[bytes]:
         yield hash_._raw if type(hash_) is Hash else raw_of(hash_, f"hash {place}")
 
 
-def _words_reversed(packed: bytes) -> bytes:
-    """Reverses each group of eight bytes, as hex texts do."""
+def words_reversed(packed: bytes) -> bytes:
+    """Reverses each group of eight bytes, as hex texts do.
+
+    >>> words_reversed(bytes(range(8))) == bytes(range(7, -1, -1))
+    True
+    """
     out = bytearray(len(packed))
     for place in range(8):
         out[place::8] = packed[7 - place::8]

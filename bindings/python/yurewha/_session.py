@@ -3,25 +3,52 @@
 from __future__ import annotations
 
 import ctypes
-from typing import Callable, Iterable, Iterator, List, Optional, Tuple, Type, Union, final
+import struct
+import threading
+from typing import Callable, ClassVar, Iterable, Iterator, List, Optional, Set, Tuple, Type, Union, final
 
 from ._chunks import Chunks, ChunksLike
 from ._declarations import STATUSES
-from ._errors import InvalidArguments, SessionOverlap, SessionSizes, YurewhaError, error_of
+from ._errors import InvalidArguments, ReentrantCall, SessionGap, SessionOverlap, SessionSizes, YurewhaError, error_of
 from ._guard import Guarded, both_locked
-from ._hash import Hash, checked_32, checked_u64
+from ._hash import Hash, HashLike, checked_32, checked_bool, checked_u64, raw_of
+from ._hash_index import raws_of
 from ._hashes import Hashes, HashesLike
 from ._interrupts import MANY_NODES, interruptible
 from ._library import LONG_CHUNKS, LONG_NODES, CChunk, CHash, CSession, calls_for, long, short
-from ._session_json import Span, json_of, parts_of
+from ._saving import Path, read_whole, write_whole
+from ._session_json import Span, body_of, json_of, parts_of, parts_of_body
 from ._subtree import Subtree
 from ._types import BytesLike
 
 __all__ = ["Run", "Session"]
 
+_CHUNK = struct.Struct("<32sQ")
 _CHUNK_SIZE = ctypes.sizeof(CChunk)
 _HASH_SIZE = ctypes.sizeof(CHash)
-_Restore = Callable[[Iterable[Span], HashesLike], "Session"]
+_Restore = Callable[[Iterable[Span], HashesLike, bool], "Session"]
+
+#: A session that keeps no hashes forgets those that it has once so many chunks were put.
+_FORGOTTEN = 1 << 16
+
+
+def raws_of_chunks(packed: bytes) -> List[bytes]:
+    """Returns the 32 bytes of the hash of each chunk of a block.
+
+    >>> raws_of_chunks(bytes(40)) == [bytes(32)]
+    True
+    """
+    return [raw for raw, _ in _CHUNK.iter_unpack(packed)]
+
+
+def _told_of_gap(gaps: List[range], total: int, beyond: Optional[Span]) -> str:
+    """Returns why the taken positions aren't those below the total."""
+    if gaps:
+        gap = gaps[0]
+        missing = f"position {gap.start} has" if len(gap) == 1 else f"the positions from {gap.start} to {gap.stop - 1} have"
+        return f"{missing} no chunk" + (f", and neither have others in {len(gaps) - 1} more gaps" if len(gaps) > 1 else "")
+    taken = total if beyond is None else max(total, beyond[0])
+    return f"position {taken} is taken, and the total is {total}"
 
 
 @final
@@ -103,20 +130,34 @@ class Session(Guarded):
 
     >>> Session.from_json(session.to_json()).put(4, [one, two])
     0
+
+    To count new hashes, a session keeps each distinct one. With `keep_hashes=False` it keeps none, so that it has some kilobytes for
+    each run, and so does what is saved of it. It then takes each hash of a put for new.
     """
 
-    __slots__ = ("_handle", "_changes")
+    __slots__ = ("_handle", "_changes", "_keeps", "_put_since", "_forgetting", "_index", "_indexed")
 
     _handle: CSession
+    # Whether hashes are kept. If they aren't, how many chunks were put since they were last forgotten; and what is held meanwhile.
+    _keeps: bool
+    _put_since: int
+    _forgetting: threading.Lock
+    # The known hashes, once somebody asked for one of them, and how many calls had begun to change the session by then.
+    _index: Optional[Set[bytes]]
+    _indexed: int
     # How many calls that change the session began. A call that reads several times notices by it that a signal handler made
     # one. Then it reads a copy, which no handler changes.
     _changes: int
+    # An instance is mutable, so it has no hash.
+    __hash__: ClassVar[None] = None  # type: ignore[assignment]
 
-    def __new__(cls) -> Session:
+    def __new__(cls, *, keep_hashes: bool = True) -> Session:
+        keeps = checked_bool(keep_hashes, "keep_hashes")
         self = object.__new__(cls)
         self._guard()
         self._handle = CSession()
-        self._changes = 0
+        self._changes = self._put_since = self._indexed = 0
+        self._keeps, self._index, self._forgetting = keeps, None, threading.Lock()
         status = short.yurewha_session_new(self._handle)
         if status:
             raise error_of(status)
@@ -142,7 +183,7 @@ class Session(Guarded):
 
         Raises `SessionOverlap` if a position is taken. Otherwise raises `SessionPositions` if `first` plus the number of
         chunks is more than 2^64 - 1. Otherwise raises `SessionSizes` if the sizes of all chunks add up to more than
-        2^64 - 1. After an error nothing has changed.
+        2^64 - 1. After an error nothing has changed. A session that keeps no hashes returns how many distinct ones these chunks have.
 
         >>> Session().put(0, [(Hash(), 1), (Hash(), 1)])
         1
@@ -155,8 +196,11 @@ class Session(Guarded):
     def _put(self, place: int, packed: bytes, count: int) -> int:
         out = ctypes.c_uint64()
         with self._locked():
+            self._refuse_reentry()
+            index = self._valid_index()
             self._changes += 1
             status = calls_for(count, LONG_CHUNKS).yurewha_session_put(self._handle, place, packed, count, out)
+            self._indexed_too(index, () if status else raws_of_chunks(packed))
             if status == STATUSES["YUREWHA_SESSION_OVERLAP"]:
                 run = None if self.taken(place) else self._run_from(place)
                 raise SessionOverlap(f"position {run[0] if run else place} is taken")
@@ -164,7 +208,50 @@ class Session(Guarded):
             raise SessionSizes("the sizes of all chunks add up to more than 2^64 - 1")
         if status:
             raise error_of(status)
-        return out.value
+        if self._keeps:
+            return out.value
+        self._forget(count)
+        return len(set(raws_of_chunks(packed)))
+
+    def _refuse_reentry(self) -> None:
+        if self._forgetting.locked():
+            raise ReentrantCall("a signal handler changed a session that keeps no hashes while it forgot some")
+
+    def _forget(self, count: int) -> None:
+        """Forgets the hashes of a put, now and then: a session is made again from its runs."""
+        with self._locked():
+            self._put_since += count
+            if self._put_since < _FORGOTTEN or self._forgetting.locked():
+                return
+            with self._forgetting:
+                fresh = Session()
+                for first, end, subtree in self._walk():
+                    fresh._push("the run", first, end, subtree)
+                # Each object has one handle at each moment, or none is freed: a handler that raises between leaves one too many.
+                old, new, fresh._handle = self._handle, fresh._handle, CSession()
+                self._handle = new
+                self._free(old)
+                self._put_since = 0
+
+    def _valid_index(self) -> Optional[Set[bytes]]:
+        return self._index if self._indexed == self._changes else None
+
+    def _indexed_too(self, index: Optional[Set[bytes]], raws: Iterable[bytes]) -> None:
+        """Notes further hashes in a valid index."""
+        if index is not None:
+            index.update(raws)
+            self._indexed = self._changes
+
+    def __contains__(self, hash_: HashLike) -> bool:
+        """Returns whether the session knows a hash. The first call, and the first one after a run was pushed, looks at all of them."""
+        raw = raw_of(hash_, "a hash")
+        with self._locked():
+            index = self._valid_index()
+            if index is None:
+                changes = self._changes
+                index = set(raws_of(self.known_hashes().packed))
+                self._index, self._indexed = index, changes
+            return raw in index
 
     def taken(self, position: int) -> bool:
         """Returns whether a position is taken.
@@ -334,6 +421,8 @@ class Session(Guarded):
         out = CHash()
         with self._locked():
             status = getattr(long, which)(self._handle, number, out)
+            if status == STATUSES["YUREWHA_SESSION_GAP"]:
+                raise SessionGap(_told_of_gap(self.gaps(number), number, self._run_from(number)))
         if status:
             raise error_of(status)
         return Hash._of(bytes(out))
@@ -360,7 +449,18 @@ class Session(Guarded):
             status = calls_for(count.value, LONG_CHUNKS).yurewha_session_copy(self._handle, other._handle)
         if status:
             raise error_of(status)
+        other._keeps, other._put_since = self._keeps, self._put_since
         return other
+
+    def __eq__(self, other: object) -> bool:
+        if not isinstance(other, Session):
+            return NotImplemented
+        if self is other:
+            return True
+        one, two = self.copy(), other.copy()
+        if list(one._walk()) != list(two._walk()):
+            return False
+        return set(raws_of(one.known_hashes().packed)) == set(raws_of(two.known_hashes().packed))
 
     def __copy__(self) -> Session:
         return self.copy()
@@ -399,6 +499,7 @@ class Session(Guarded):
     def _pushed(self, what: str, place: int, after: int, subtree: Subtree) -> None:
         one, other = both_locked(self, subtree)
         with one, other:
+            self._refuse_reentry()
             self._changes += 1
             calls = calls_for(subtree._nodes(), LONG_NODES)
             status = calls.yurewha_session_push_run(self._handle, place, after, subtree._handle)
@@ -408,30 +509,38 @@ class Session(Guarded):
     def keep_hashes(self, hashes: HashesLike) -> None:
         """Keeps hashes, as if an earlier put had had them. The session then knows them. After an error nothing has changed.
 
+        Raises `InvalidArguments` if there are any and the session keeps none.
+
         >>> session = Session(); session.keep_hashes([Hash()])
         >>> session.put(0, [(Hash(), 1), (Hash.random_from_seed(1), 1)])
         1
         """
         packed = Hashes(hashes).packed
         count = len(packed) // _HASH_SIZE
+        if count and not self._keeps:
+            raise InvalidArguments("this session keeps no hashes")
         interruptible(lambda: self._keep(packed, count), count >= MANY_NODES, self)
 
     def _keep(self, packed: bytes, count: int) -> None:
         with self._locked():
+            index = self._valid_index()
             self._changes += 1
             status = calls_for(count, LONG_CHUNKS).yurewha_session_keep_hashes(self._handle, packed, count)
+            self._indexed_too(index, () if status else raws_of(packed))
         if status:
             raise error_of(status)
 
     def known_hashes(self) -> Hashes:
         """Returns the hashes that this session knows, each once, in no particular order.
 
-        They are the hashes of all chunks that were put, and those that were kept.
+        They are the hashes of all chunks that were put, and those that were kept; or none if the session keeps none.
 
         >>> session = Session(); _ = session.put(3, [(Hash(), 1), (Hash(), 1)])
         >>> list(session.known_hashes()) == [Hash()]
         True
         """
+        if not self._keeps:
+            return Hashes()
         return interruptible(self._all_known_hashes, self._knows_many(), self)
 
     def _all_known_hashes(self) -> Hashes:
@@ -451,8 +560,11 @@ class Session(Guarded):
             status = status or calls_for(len(out), LONG_CHUNKS).yurewha_session_known_hashes(self._handle, out, len(out))
         return status, Hashes._of(bytes(out))
 
-    def to_json(self) -> str:
-        """Returns the session as compact JSON text: its runs and the hashes that it knows.
+    def to_json(self, *, hashes: bool = True) -> str:
+        """Returns the session as compact JSON text: its runs and, unless `hashes` is False, the hashes that it knows.
+
+        The runs take some kilobytes each, and a hash about 80 bytes. Whoever resumes hashing needs the runs alone. Without the hashes
+        each of them counts as new again.
 
         It has the form of the Rust crate's sessions. `runs` has objects with the positions `first` and `end`, and with
         `chunks`, the subtree. `known_hashes` has the four words of each hash, by rising order.
@@ -460,34 +572,70 @@ class Session(Guarded):
         >>> session = Session(); session.keep_hashes([Hash()]); session.to_json()
         '{"runs":[],"known_hashes":[[0,0,0,0]]}'
         """
-        saved = self.copy()
-        return json_of(saved._walk(), saved.known_hashes())
+        with_hashes, saved = checked_bool(hashes, "hashes"), self.copy()
+        return json_of(saved._walk(), saved.known_hashes() if with_hashes else Hashes())
 
     @staticmethod
-    def from_json(text: Union[str, BytesLike]) -> Session:
+    def from_json(text: Union[str, BytesLike], *, keep_hashes: bool = True) -> Session:
         """Returns the session that a JSON text describes. The text is a `str` or its bytes.
 
         Raises `InvalidText` if the text isn't JSON or doesn't have the form of `to_json`, except that there may be other
         members. Raises `InvalidJson` if a subtree breaks a rule. Raises `InvalidArguments` or `SizeOverflow` if `push_run`
-        refuses a run. That a run has as many chunks as positions can't be checked.
+        refuses a run. That a run has as many chunks as positions can't be checked. With `keep_hashes=False` the hashes of the text are
+        left out, and the session keeps none.
 
         >>> Session.from_json('{"runs":[],"known_hashes":[[0,0,0,0]]}').put(7, [(Hash(), 1)])
         0
         """
-        return Session._restored(*parts_of(text))
+        keeps = checked_bool(keep_hashes, "keep_hashes")
+        runs, hashes = parts_of(text)
+        return Session._restored(runs, hashes if keeps else (), keeps)
+
+    def save(self, path: Path, *, hashes: bool = True) -> None:
+        """Writes the session to a file, whole or not at all: an error or a crash leaves the file that was there before.
+
+        The file has 32 bytes for each known hash, unless `hashes` is False, and the runs as JSON.
+
+        >>> import tempfile, os.path
+        >>> with tempfile.TemporaryDirectory() as folder:
+        ...     session, path = Session(), os.path.join(folder, "session")
+        ...     _ = session.put(3, [(Hash(), 1)])
+        ...     session.save(path)
+        ...     Session.load(path) == session
+        True
+        """
+        with_hashes, saved = checked_bool(hashes, "hashes"), self.copy()
+        known = saved.known_hashes() if with_hashes else Hashes()
+        write_whole(path, b"session", body_of(saved._walk(), known, saved._keeps))
 
     @staticmethod
-    def _restored(runs: Iterable[Span], hashes: HashesLike) -> Session:
-        session = Session()
+    def load(path: Path) -> Session:
+        """Returns the session that `save` wrote to a file. It keeps hashes if that one did.
+
+        Raises `InvalidText` if the file is of another kind, was cut off or was changed. Opening and reading it raise `OSError`.
+
+        >>> import tempfile, os.path
+        >>> with tempfile.TemporaryDirectory() as folder:
+        ...     session, path = Session(keep_hashes=False), os.path.join(folder, "session")
+        ...     _ = session.put(3, [(Hash(), 1)])
+        ...     session.save(path)
+        ...     Session.load(path).gaps(4)
+        [range(0, 3)]
+        """
+        return Session._restored(*parts_of_body(read_whole(path, b"session")))
+
+    @staticmethod
+    def _restored(runs: Iterable[Span], hashes: HashesLike, keeps: bool = True) -> Session:
+        session = Session(keep_hashes=keeps)
         for place, run in enumerate(runs):
             session._push(f"run {place}", *run)
         session.keep_hashes(hashes)
         return session
 
-    def __reduce__(self) -> Tuple[_Restore, Tuple[Tuple[Span, ...], Hashes]]:
+    def __reduce__(self) -> Tuple[_Restore, Tuple[Tuple[Span, ...], Hashes, bool]]:
         # The runs of a pickle are checked when it is read, and so are their subtrees.
         saved = self.copy()
-        return Session._restored, (tuple(saved._walk()), saved.known_hashes())
+        return Session._restored, (tuple(saved._walk()), saved.known_hashes(), saved._keeps)
 
     def __repr__(self) -> str:
         try:

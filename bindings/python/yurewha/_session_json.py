@@ -8,7 +8,7 @@ from typing import Dict, Iterable, List, Tuple, Union, cast
 
 from ._errors import InvalidJson, InvalidText
 from ._hash import checked_text, own_bytes
-from ._hashes import Hashes
+from ._hashes import Hashes, words_reversed
 from ._subtree import Subtree
 from ._types import BytesLike
 
@@ -16,6 +16,8 @@ from ._types import BytesLike
 Span = Tuple[int, int, Subtree]
 
 _WORDS = struct.Struct("<4Q")
+_EACH = struct.Struct("32s")
+_HEAD = struct.Struct("<?Q")
 _MAX_U64 = 2**64 - 1
 #: Stands for each number that isn't a whole number from 0 to 2^64 - 1. No member may be this number.
 _OTHER = 0.5
@@ -27,9 +29,42 @@ def json_of(runs: Iterable[Span], hashes: Hashes) -> str:
     >>> json_of([], Hashes())
     '{"runs":[],"known_hashes":[]}'
     """
-    words = json.dumps(sorted(_WORDS.iter_unpack(hashes.packed)), separators=(",", ":"))
+    words = _words_of(hashes)
     texts = (f'{{"first":{first},"end":{end},"chunks":{subtree.to_json()}}}' for first, end, subtree in runs)
     return f'{{"runs":[{",".join(texts)}],"known_hashes":{words}}}'
+
+
+def _words_of(hashes: Hashes) -> str:
+    """Returns the JSON text of the words of hashes, by rising order, which is that of their hex texts."""
+    ordered = b"".join(sorted(raw for raw, in _EACH.iter_unpack(words_reversed(hashes.packed))))
+    # One format for all of them takes a fraction of the time of one for each.
+    return f"[{(len(hashes) * '[%d,%d,%d,%d],')[:-1]}]" % tuple(memoryview(words_reversed(ordered)).cast("Q"))
+
+
+def body_of(runs: Iterable[Span], hashes: Hashes, keeps: bool) -> bytes:
+    """Returns the body of a saved session: whether it keeps hashes, the length of the JSON of its runs, this JSON, and known hashes.
+
+    >>> len(body_of([], Hashes(), True))
+    38
+    """
+    text = json_of(runs, Hashes()).encode("ascii")
+    return _HEAD.pack(keeps, len(text)) + text + hashes.packed
+
+
+def parts_of_body(body: bytes) -> Tuple[List[Span], Hashes, bool]:
+    """Returns the runs and known hashes of the body of a saved session, and whether it keeps hashes.
+
+    >>> parts_of_body(body_of([], Hashes(), True))
+    ([], <yurewha.Hashes of 0>, True)
+    """
+    if len(body) < _HEAD.size:
+        raise InvalidText("the saved session has no head")
+    keeps, length = _HEAD.unpack_from(body)
+    end = _HEAD.size + length
+    if len(body) < end or (len(body) - end) % _EACH.size:
+        raise InvalidText("the saved session has another length than it says")
+    runs, _ = parts_of(body[_HEAD.size:end])
+    return runs, Hashes(body[end:]), keeps
 
 
 def parts_of(text: Union[str, BytesLike]) -> Tuple[List[Span], Hashes]:

@@ -40,6 +40,7 @@ from ._library import (
     short,
 )
 from ._picture import picture_of
+from ._saving import Path, read_whole, write_whole
 from ._types import BytesLike, Texts
 
 __all__ = ["Flat", "Subtree", "file_hash", "find_stable_end", "find_stable_start", "xorb_hash"]
@@ -475,6 +476,9 @@ class Subtree(Guarded):
         >>> one.copy() == one, one.copy() is one
         (True, False)
         """
+        return interruptible(self._copied, self._has_many_nodes(), self)
+
+    def _copied(self) -> Subtree:
         other = Subtree._empty()
         with self._locked():
             calls = calls_for(self._nodes(), LONG_NODES)
@@ -542,6 +546,33 @@ class Subtree(Guarded):
         if status:
             raise error_of(status, "the text isn't JSON")
         return self
+
+    def save(self, path: Path) -> None:
+        """Writes the subtree to a file, whole or not at all: an error or a crash leaves the file that was there before.
+
+        >>> import tempfile, os.path
+        >>> with tempfile.TemporaryDirectory() as folder:
+        ...     one, path = Subtree.from_chunks(True, [(Hash(), 7)], False), os.path.join(folder, "subtree")
+        ...     one.save(path)
+        ...     Subtree.load(path) == one
+        True
+        """
+        write_whole(path, b"subtree", self.to_json().encode("ascii"))
+
+    @staticmethod
+    def load(path: Path) -> Subtree:
+        """Returns the subtree that `save` wrote to a file.
+
+        Raises `InvalidText` if the file is of another kind, was cut off or was changed. Opening and reading it raise `OSError`.
+
+        >>> import tempfile, os.path
+        >>> with tempfile.TemporaryDirectory() as folder:
+        ...     path = os.path.join(folder, "subtree")
+        ...     Subtree.from_chunks(True, [(Hash(), 7)], False).save(path)
+        ...     Subtree.load(path).total_size
+        7
+        """
+        return Subtree.from_json(read_whole(path, b"subtree"))
 
     def to_flat(self) -> Flat:
         """Returns the subtree as flat lists.

@@ -1,0 +1,423 @@
+"""What is saved: whole or not at all, and refused if a byte of it is missing or wrong. Sessions that keep no hashes. Indexes of hashes."""
+
+import copy
+import json
+import os
+import pickle
+import random
+import signal
+import stat
+import sys
+import threading
+
+import pytest
+from drawn import MAX
+
+import yurewha as y
+from yurewha import _saving, _session
+
+Z = y.Hash()
+
+
+def seeded(k):
+    return y.Hash.random_from_seed(k), 100 * k
+
+
+def session(**options):
+    made = y.Session(**options)
+    made.put(7, [seeded(3)]), made.put(2, [seeded(1), seeded(2)])
+    return made
+
+
+SAVED = {
+    "session": session, "session without hashes": lambda: session(keep_hashes=False), "empty session": y.Session,
+    "subtree": lambda: y.Subtree.from_chunks(True, [seeded(k) for k in range(40)], False),
+    "hash tree": lambda: y.HashTree([seeded(k) for k in range(40)]), "empty hash tree": lambda: y.HashTree([]),
+    "hash index": lambda: y.HashIndex(seeded(k)[0] for k in range(40)), "empty hash index": y.HashIndex,
+}
+EACH = pytest.mark.parametrize("name", SAVED)
+
+
+@EACH
+def test_what_is_loaded_is_what_was_saved(name, tmp_path):
+    made, path = SAVED[name](), tmp_path / "saved"
+    for form in (path, str(path), os.fsencode(path)):
+        made.save(form)
+        assert type(made).load(form) == made
+    assert os.listdir(tmp_path) == ["saved"]
+
+
+@EACH
+def test_a_file_that_is_cut_anywhere_is_refused(name, tmp_path):
+    made, path = SAVED[name](), tmp_path / "saved"
+    made.save(path)
+    whole = path.read_bytes()
+    for end in range(len(whole)):
+        path.write_bytes(whole[:end])
+        with pytest.raises(y.InvalidText):
+            type(made).load(path)
+    for more in (b"\n", bytes(32), whole):
+        path.write_bytes(whole + more)
+        with pytest.raises(y.InvalidText):
+            type(made).load(path)
+
+
+@EACH
+def test_a_file_with_a_wrong_byte_is_refused(name, tmp_path):
+    made, path = SAVED[name](), tmp_path / "saved"
+    made.save(path)
+    whole = path.read_bytes()
+    for place in range(0, len(whole), 3):
+        path.write_bytes(whole[:place] + bytes([whole[place] ^ 1]) + whole[place + 1:])
+        with pytest.raises(y.InvalidText):
+            type(made).load(path)
+
+
+@EACH
+def test_a_file_of_another_kind_is_refused(name, tmp_path):
+    path = tmp_path / "saved"
+    SAVED[name]().save(path)
+    for kind in (y.Session, y.Subtree, y.HashTree, y.HashIndex):
+        if kind is not type(SAVED[name]()):
+            with pytest.raises(y.InvalidText, match="^the file isn't a saved "):
+                kind.load(path)
+
+
+FORGED = [
+    (y.Session, b"session", b""), (y.Session, b"session", b"\1" + (1 << 62).to_bytes(8, "little")),
+    (y.Session, b"session", b"\1" + (2).to_bytes(8, "little") + b"[]"),
+    (y.Session, b"session", b"\1" + (29).to_bytes(8, "little") + b'{"runs":[],"known_hashes":[]}' + bytes(31)),
+    (y.Subtree, b"subtree", b""), (y.Subtree, b"subtree", b"[]"), (y.HashTree, b"hash tree", bytes(39)),
+    (y.HashTree, b"hash tree", 2 * (bytes(32) + b"\xff" * 8)), (y.HashIndex, b"hash index", bytes(31)),
+]
+
+
+@pytest.mark.parametrize("number", range(len(FORGED)))
+def test_a_forged_file_raises_an_error_of_the_package(number, tmp_path):
+    """Its hash is right, as anybody can compute it."""
+    kind, name, body = FORGED[number]
+    _saving.write_whole(tmp_path / "saved", name, body)
+    with pytest.raises(y.YurewhaError):
+        kind.load(tmp_path / "saved")
+
+
+class Ended(Exception):
+    """What a system raises that fails."""
+
+
+@pytest.mark.parametrize("what", ["fsync", "replace", "chmod"])
+def test_after_an_error_the_old_file_is_there(what, tmp_path, monkeypatch):
+    old, path = SAVED["hash tree"](), tmp_path / "saved"
+    old.save(path)
+
+    def broken(*given):
+        raise Ended
+
+    monkeypatch.setattr(f"os.{what}", broken)
+    with pytest.raises(Ended):
+        y.HashTree([seeded(7)]).save(path)
+    monkeypatch.undo()
+    assert y.HashTree.load(path) == old and os.listdir(tmp_path) == ["saved"]
+
+
+def test_the_bytes_are_on_the_disk_before_the_name(tmp_path, monkeypatch):
+    """What a crash leaves is one of two whole files."""
+    path, calls = tmp_path / "saved", []
+
+    def fsync(file, call=os.fsync):
+        calls.append(("fsync", os.fstat(file).st_size if not stat.S_ISDIR(os.fstat(file).st_mode) else "folder"))
+        call(file)
+
+    def replace(old, new, call=os.replace):
+        calls.append(("replace", os.path.basename(new)))
+        call(old, new)
+
+    monkeypatch.setattr("os.fsync", fsync), monkeypatch.setattr("os.replace", replace)
+    SAVED["session"]().save(path)
+    assert calls == [("fsync", path.stat().st_size), ("replace", "saved"), ("fsync", "folder")]
+
+
+KILLED = """
+import os, sys
+import yurewha as y
+old, new = y.HashTree([(y.Hash(), 1)] * 5), y.HashTree([(y.Hash.random_from_seed(k), 1) for k in range(2000)])
+path, last = sys.argv[1], int(sys.argv[2])
+lines = 0
+def trace(frame, event, argument):
+    global lines
+    if not frame.f_code.co_filename.endswith("_saving.py"):
+        return None
+    lines += event == "line"
+    if lines == last:
+        os._exit(3)
+    return trace
+sys.settrace(trace)
+new.save(path)
+"""
+
+
+def test_a_process_that_dies_at_any_line_leaves_the_old_or_the_new_file(tmp_path):
+    old, new = y.HashTree([(Z, 1)] * 5), y.HashTree([(y.Hash.random_from_seed(k), 1) for k in range(2000)])
+    path, seen, package = tmp_path / "saved", set(), os.path.dirname(os.path.dirname(y.__file__))
+    for last in range(1, 100):
+        old.save(path)
+        pid = os.spawnve(os.P_NOWAIT, sys.executable, [sys.executable, "-c", KILLED, str(path), str(last)], {**os.environ, "PYTHONPATH": package})
+        status = os.waitstatus_to_exitcode(os.waitpid(pid, 0)[1])
+        found = y.HashTree.load(path)
+        assert found in (old, new)
+        seen.add(found.num_chunks)
+        if status == 0:
+            break
+    assert status == 0 and last > 10 and seen == {5, 2000}
+
+
+def test_permissions_stay_and_folders_must_be_there(tmp_path):
+    path = tmp_path / "saved"
+    y.HashIndex().save(path)
+    mask = os.umask(0)
+    os.umask(mask)
+    assert path.stat().st_mode & 0o777 == 0o666 & ~mask
+    os.chmod(path, 0o600)
+    y.HashIndex([Z]).save(path)
+    assert path.stat().st_mode & 0o777 == 0o600
+    with pytest.raises(FileNotFoundError):
+        y.HashIndex().save(tmp_path / "none" / "saved")
+    with pytest.raises(FileNotFoundError):
+        y.HashIndex.load(tmp_path / "none")
+    for wrong in (7, None, [], 1.5):
+        with pytest.raises(TypeError):
+            y.HashIndex().save(wrong)
+
+
+# ---- Sessions that keep no hashes
+
+def test_a_session_without_hashes_is_the_same_but_for_them(monkeypatch):
+    rng = random.Random(71)
+    for forgotten in (1, 5, 1 << 16):
+        monkeypatch.setattr(_session, "_FORGOTTEN", forgotten)
+        for _ in range(30):
+            one, none, free = y.Session(), y.Session(keep_hashes=False), list(range(60))
+            for _ in range(rng.randrange(12)):
+                first, chunks = rng.randrange(60), [seeded(rng.randrange(30)) for _ in range(rng.randrange(8))]
+                try:
+                    one.put(first, chunks)
+                except y.SessionOverlap as error:
+                    with pytest.raises(y.SessionOverlap, match=str(error)):
+                        none.put(first, chunks)
+                else:
+                    assert none.put(first, chunks) == len({hash_ for hash_, _ in chunks})
+            assert none.runs() == one.runs() and none.gaps(70) == one.gaps(70) and none.total_size == one.total_size
+            assert none.known_hashes() == y.Hashes() and json.loads(none.to_json())["known_hashes"] == []
+            assert json.loads(none.to_json())["runs"] == json.loads(one.to_json(hashes=False))["runs"]
+            for other in (none.copy(), copy.deepcopy(none), pickle.loads(pickle.dumps(none)), y.Session.from_json(one.to_json(), keep_hashes=False)):
+                assert other == none and other.known_hashes() == y.Hashes()
+                other.put(200, [seeded(1)] * 2)
+                assert other.known_hashes() == y.Hashes() and other.put(300, [seeded(1)] * 2) == 1
+
+
+def test_what_a_session_without_hashes_holds_is_bounded():
+    """The library has few of them at any time."""
+    one = y.Session(keep_hashes=False)
+    for first in range(0, 400_000, 20_000):
+        one.put(first, b"".join(number.to_bytes(32, "little") + bytes(8) for number in range(first, first + 20_000)))
+        assert one._all_known_hashes() is not None and len(one._all_known_hashes()) < _session._FORGOTTEN + 20_000
+    assert one.num_chunks == 400_000 and one.num_runs == 1
+
+
+def test_a_session_without_hashes_keeps_none():
+    one = y.Session(keep_hashes=False)
+    one.keep_hashes([])
+    with pytest.raises(y.InvalidArguments, match="^this session keeps no hashes$"):
+        one.keep_hashes([Z])
+    one.put(0, [(Z, 1)])
+    assert Z not in one
+    for wrong in (0, 1, None, "no"):
+        for call in (lambda: y.Session(keep_hashes=wrong), lambda: one.to_json(hashes=wrong), lambda: one.save("a", hashes=wrong),
+                     lambda: y.Session.from_json("{}", keep_hashes=wrong)):
+            with pytest.raises(TypeError):
+                call()
+    with pytest.raises(TypeError):
+        y.Session(False)
+
+
+def test_saved_runs_are_short(tmp_path):
+    chunks = b"".join(number.to_bytes(24, "little") + (number % 4).to_bytes(8, "little") + b"\1" + bytes(7) for number in range(50_000))
+    one = y.Session()
+    one.put(0, chunks)
+    one.save(tmp_path / "whole"), one.save(tmp_path / "runs", hashes=False)
+    sizes = [(tmp_path / name).stat().st_size for name in ("whole", "runs")]
+    assert sizes[0] - sizes[1] == 32 * 50_000 and sizes[1] == len(one.to_json(hashes=False)) + 8 + 1 + 32 + len(b"yurewha session 1\n")
+    assert len(one.to_json(hashes=False)) < 100_000 < len(one.to_json()) and y.Session.load(tmp_path / "runs").runs() == one.runs()
+
+
+def test_a_handler_that_changes_a_session_while_it_forgets(monkeypatch):
+    """It is refused, so that nothing is lost."""
+    monkeypatch.setattr(_session, "_FORGOTTEN", 1)
+    one, told = session(keep_hashes=False), []
+
+    def handler(number, frame):
+        for call in (lambda: one.put(100, [seeded(1)]), lambda: one.push_run(100, 101, y.Subtree.from_chunks(False, [seeded(1)], False))):
+            try:
+                call()
+            except y.ReentrantCall:
+                told.append(1)
+
+    walk = y.Session._walk
+
+    def walking(self):
+        if self is one:
+            signal.raise_signal(signal.SIGUSR1)
+        return walk(self)
+
+    before = signal.signal(signal.SIGUSR1, handler)
+    try:
+        monkeypatch.setattr(y.Session, "_walk", walking)
+        one.put(50, [seeded(4)])
+    finally:
+        signal.signal(signal.SIGUSR1, before)
+    monkeypatch.undo()
+    assert told == [1, 1] and [run.first for run in one.runs()] == [2, 7, 50]
+
+
+# ---- Comparing, looking for hashes, and what is said of gaps
+
+def test_equal_sessions():
+    assert session() == session() != y.Session() and session() != session(keep_hashes=False) and y.Session() == y.Session()
+    other = session()
+    assert other == session() and other.put(100, [seeded(1)]) == 0 and other != session()
+    knowing = session()
+    knowing.keep_hashes([Z])
+    assert knowing != session() and session() != 7 and not session() == "session"
+    turned = y.Session()
+    turned.put(2, [seeded(1)]), turned.put(7, [seeded(3)]), turned.put(3, [seeded(2)])
+    assert turned == session()
+    with pytest.raises(TypeError):
+        hash(session())
+
+
+def test_equal_hash_trees():
+    trees = [y.HashTree([seeded(k) for k in range(count)]) for count in (0, 1, 2, 40)]
+    for place, tree in enumerate(trees):
+        assert tree == tree == y.HashTree(tree.chunks) and hash(tree) == hash(y.HashTree(tree.chunks))
+        assert [tree == other for other in trees] == [number == place for number in range(4)]
+        assert list(tree.chunks) == [seeded(k) for k in range(tree.num_chunks)] and tree != 7
+    assert len({*trees, y.HashTree([])}) == 4
+    one = y.HashTree([(trees[2].root, trees[2].total_size)])
+    assert one.root == trees[2].root and one != trees[2]
+
+
+def test_hashes_in_a_session():
+    one, rng, known = y.Session(), random.Random(72), set()
+    for place in range(200):
+        assert all((seeded(k)[0] in one) == (k in known) for k in rng.sample(range(60), 5)), place
+        chosen, call = [rng.randrange(60) for _ in range(rng.randrange(4))], rng.randrange(4)
+        if call == 0:
+            one.keep_hashes(seeded(k)[0] for k in chosen)
+        elif call == 1:
+            with pytest.raises(y.SessionPositions):
+                one.put(MAX, [seeded(k) for k in chosen] or [seeded(0)] * 2)
+            continue
+        else:
+            one.put(10 * place, [seeded(k) for k in chosen])
+        known |= set(chosen)
+    assert seeded(1)[0].bytes in one and Z not in one
+    assert seeded(1)[0] in one.copy()
+    for wrong in (7, "00", None, (Z, 1)):
+        with pytest.raises(TypeError):
+            wrong in one  # noqa: B015
+    with pytest.raises(y.InvalidArguments):
+        bytes(31) in one  # noqa: B015
+
+
+@pytest.mark.parametrize("total, said", [
+    (10, "the positions from 0 to 1 have no chunk, and neither have others in 2 more gaps"),
+    (8, "the positions from 0 to 1 have no chunk, and neither have others in 1 more gaps"),
+    (2, "the positions from 0 to 1 have no chunk"), (1, "position 0 has no chunk"),
+])
+def test_what_is_said_of_gaps(total, said):
+    for call in (session().finish, session().root, lambda total: session().finish(total, bytes(32))):
+        with pytest.raises(y.SessionGap) as raised:
+            call(total)
+        assert str(raised.value) == said
+
+
+def test_what_is_said_of_positions_beyond_the_total():
+    one = y.Session()
+    one.put(0, [seeded(k) for k in range(5)])
+    for total, taken in ((4, 4), (0, 0)):
+        with pytest.raises(y.SessionGap, match=f"^position {taken} is taken, and the total is {total}$"):
+            one.finish(total)
+    one.put(9, [seeded(1)])
+    with pytest.raises(y.SessionGap, match="^position 9 is taken, and the total is 5$"):
+        one.finish(5)
+    with pytest.raises(y.SessionGap, match="^position 6 has no chunk$" if False else "^the positions from 5 to 8 have no chunk$"):
+        one.finish(10)
+
+
+def test_subtrees_can_be_summed():
+    parts = [y.Subtree.from_chunks(False, [seeded(k), seeded(k + 1)], False) for k in range(9)]
+    start = y.Subtree.from_chunks(True, [], False)
+    assert sum(parts, start) == y.Subtree.merge_all([start, *parts]) and start.is_empty
+
+
+# ---- Indexes
+
+def test_an_index_is_a_set():
+    rng, index, known = random.Random(73), y.HashIndex(), set()
+    for _ in range(300):
+        chosen = [seeded(rng.randrange(80))[0] for _ in range(rng.randrange(6))]
+        call = rng.randrange(4)
+        if call == 0 and chosen:
+            assert index.add(rng.choice((chosen[0], chosen[0].bytes))) == (chosen[0] not in known)
+            known.add(chosen[0])
+        elif call == 1:
+            assert index.add_all(rng.choice((chosen, y.Hashes(chosen), iter(chosen)))) == len(set(chosen) - known)
+            known |= set(chosen)
+        elif call == 2:
+            assert index.contains(chosen) == [hash_ in known for hash_ in chosen]
+            assert all((hash_ in index) == (hash_.bytes in index) == (hash_ in known) for hash_ in chosen)
+        else:
+            assert list(index.new(chosen)) == [hash_ for hash_ in dict.fromkeys(chosen) if hash_ not in known]
+        assert len(index) == len(known)
+    assert set(index) == set(index.hashes()) == known and index == y.HashIndex(known) and repr(index) == f"<yurewha.HashIndex of {len(known)}>"
+    for other in (copy.copy(index), copy.deepcopy(index), pickle.loads(pickle.dumps(index)), index.copy()):
+        assert other == index and other.add(Z) and other != index and Z not in index
+    assert y.HashIndex() != 7 and not y.HashIndex()
+
+
+def test_wrong_hashes_of_an_index():
+    index = y.HashIndex([Z])
+    for call, error in (
+        (lambda: index.add("00"), TypeError), (lambda: index.add(bytes(31)), y.InvalidArguments), (lambda: index.add(None), TypeError),
+        (lambda: index.add_all([seeded(1)[0], None]), TypeError), (lambda: index.add_all(bytes(33)), y.InvalidArguments),
+        (lambda: "00" in index, TypeError), (lambda: bytes(33) in index, y.InvalidArguments), (lambda: index.contains(7), TypeError),
+        (lambda: hash(index), TypeError), (lambda: type("Other", (y.HashIndex,), {}), TypeError),
+    ):
+        with pytest.raises(error):
+            call()
+        assert list(index) == [Z]
+
+
+def test_threads_share_an_index():
+    index, news = y.HashIndex(), []
+    hashes = [seeded(k)[0] for k in range(3000)]
+
+    def work(seed):
+        mine = hashes[:]
+        random.Random(seed).shuffle(mine)
+        news.append(sum(map(index.add, mine[:1500])) + index.add_all(mine[1500:]))
+
+    threads = [threading.Thread(target=work, args=(seed,)) for seed in range(6)]
+    for thread in threads:
+        thread.start()
+    for thread in threads:
+        thread.join()
+    assert sum(news) == len(index) == 3000
+
+
+def test_an_index_has_little_more_than_a_set():
+    """By what sys.getsizeof says of the sets and of what is in them."""
+    raws = [random.Random(74).randbytes(32) for _ in range(2)] + [number.to_bytes(32, "big") for number in range(50_000)]
+    plain, index = set(raws), y.HashIndex(b"".join(raws))
+    sizes = [sys.getsizeof(them) + sum(map(sys.getsizeof, them)) for them in (plain, index._raws)]
+    assert sizes[1] <= 1.5 * sizes[0]

@@ -1,0 +1,168 @@
+"""An index of hashes that are known, for finding out which are new."""
+
+from __future__ import annotations
+
+import struct
+import threading
+from typing import ClassVar, Iterator, List, Set, Tuple, Type, final
+
+from ._errors import InvalidText
+from ._hash import Hash, HashLike, raw_of
+from ._hashes import Hashes, HashesLike
+from ._saving import Path, read_whole, write_whole
+
+__all__ = ["HashIndex"]
+
+_SIZE = 32
+_EACH = struct.Struct(f"{_SIZE}s")
+
+
+def raws_of(packed: bytes) -> List[bytes]:
+    """Returns the 32 bytes of each hash of a block.
+
+    >>> raws_of(bytes(64)) == [bytes(32), bytes(32)]
+    True
+    """
+    return [raw for raw, in _EACH.iter_unpack(packed)]
+
+
+@final
+class HashIndex:
+    """A set of hashes, each kept once. It says which hashes of a list are new, as one does before an upload.
+
+    A hash is a `Hash` or its 32 bytes, and a list is what `Hashes` accepts. It takes the memory of a set of `bytes`, about 120 bytes
+    for each hash. Threads may use one index at once.
+
+    >>> index = HashIndex([Hash()])
+    >>> index.add(Hash()), index.add(Hash.random_from_seed(1)), Hash() in index, len(index)
+    (False, True, True, 2)
+    """
+
+    __slots__ = ("_raws", "_lock", "__weakref__")
+
+    _raws: Set[bytes]
+    _lock: threading.RLock
+    # An instance is mutable, so it has no hash.
+    __hash__: ClassVar[None] = None  # type: ignore[assignment]
+
+    def __init__(self, hashes: HashesLike = ()) -> None:
+        self._raws, self._lock = set(raws_of(Hashes(hashes).packed)), threading.RLock()
+
+    def __init_subclass__(cls) -> None:
+        raise TypeError("HashIndex can't be subclassed")
+
+    def add(self, hash_: HashLike) -> bool:
+        """Adds a hash. Returns whether it is new.
+
+        >>> index = HashIndex()
+        >>> index.add(Hash()), index.add(Hash())
+        (True, False)
+        """
+        raw = hash_._raw if type(hash_) is Hash else raw_of(hash_, "a hash")
+        with self._lock:
+            before = len(self._raws)
+            self._raws.add(raw)
+            return len(self._raws) > before
+
+    def add_all(self, hashes: HashesLike) -> int:
+        """Adds the hashes of a list. Returns how many of them are new, each counted once. After an error nothing was added.
+
+        >>> HashIndex([Hash()]).add_all([Hash(), Hash.random_from_seed(1), Hash.random_from_seed(1)])
+        1
+        """
+        raws = raws_of(Hashes(hashes).packed)
+        with self._lock:
+            before = len(self._raws)
+            self._raws.update(raws)
+            return len(self._raws) - before
+
+    def __contains__(self, hash_: HashLike) -> bool:
+        return (hash_._raw if type(hash_) is Hash else raw_of(hash_, "a hash")) in self._raws
+
+    def contains(self, hashes: HashesLike) -> List[bool]:
+        """Returns of each hash of a list whether it is in the index. `hashes[index.contains(hashes)]` has those that are.
+
+        >>> HashIndex([Hash()]).contains([Hash(), Hash.random_from_seed(1)])
+        [True, False]
+        """
+        return list(map(self._raws.__contains__, raws_of(Hashes(hashes).packed)))
+
+    def new(self, hashes: HashesLike) -> Hashes:
+        """Returns the hashes of a list that aren't in the index, each once, in their order.
+
+        >>> list(HashIndex([Hash()]).new([Hash(), Hash.random_from_seed(1)])) == [Hash.random_from_seed(1)]
+        True
+        """
+        known = self._raws
+        return Hashes._of(b"".join(raw for raw in dict.fromkeys(raws_of(Hashes(hashes).packed)) if raw not in known))
+
+    def hashes(self) -> Hashes:
+        """Returns all hashes, in no particular order.
+
+        >>> list(HashIndex([Hash()]).hashes()) == [Hash()]
+        True
+        """
+        with self._lock:
+            return Hashes._of(b"".join(self._raws))
+
+    def __len__(self) -> int:
+        return len(self._raws)
+
+    def __iter__(self) -> Iterator[Hash]:
+        return iter(self.hashes())
+
+    def __eq__(self, other: object) -> bool:
+        if not isinstance(other, HashIndex):
+            return NotImplemented
+        return self._raws == other._raws
+
+    def save(self, path: Path) -> None:
+        """Writes the index to a file, whole or not at all: an error or a crash leaves the file that was there before.
+
+        >>> import tempfile, os.path
+        >>> with tempfile.TemporaryDirectory() as folder:
+        ...     index, path = HashIndex([Hash()]), os.path.join(folder, "index")
+        ...     index.save(path)
+        ...     HashIndex.load(path) == index
+        True
+        """
+        write_whole(path, b"hash index", self.hashes().packed)
+
+    @staticmethod
+    def load(path: Path) -> HashIndex:
+        """Returns the index that `save` wrote to a file.
+
+        Raises `InvalidText` if the file is of another kind, was cut off or was changed. Opening and reading it raise `OSError`.
+
+        >>> import tempfile, os.path
+        >>> with tempfile.TemporaryDirectory() as folder:
+        ...     path = os.path.join(folder, "index")
+        ...     HashIndex([Hash()]).save(path)
+        ...     len(HashIndex.load(path))
+        1
+        """
+        packed = read_whole(path, b"hash index")
+        if len(packed) % _SIZE:
+            raise InvalidText("a saved hash index has 32 bytes for each hash")
+        return HashIndex(packed)
+
+    def copy(self) -> HashIndex:
+        """Returns an independent index with the same hashes.
+
+        >>> one = HashIndex([Hash()]); other = one.copy()
+        >>> other.add(Hash.random_from_seed(1)), len(one), len(other)
+        (True, 1, 2)
+        """
+        return HashIndex(self.hashes())
+
+    def __copy__(self) -> HashIndex:
+        return self.copy()
+
+    def __deepcopy__(self, memo: object) -> HashIndex:
+        return self.copy()
+
+    def __reduce__(self) -> Tuple[Type[HashIndex], Tuple[bytes]]:
+        return HashIndex, (self.hashes().packed,)
+
+    def __repr__(self) -> str:
+        return f"<yurewha.HashIndex of {len(self)}>"
