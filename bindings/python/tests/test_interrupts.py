@@ -145,8 +145,8 @@ def test_no_work_goes_on_that_can_be_ended(name, monkeypatch):
     made, over = [], []
 
     def counted(*given, call):
-        made.append(1)
         try:
+            made.append(1)
             return call(*given)
         finally:
             over.append(1)

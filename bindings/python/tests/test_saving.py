@@ -84,20 +84,21 @@ def test_a_file_of_another_kind_is_refused(name, tmp_path):
 
 
 FORGED = [
-    (y.Session, b"session", b""), (y.Session, b"session", b"\1" + (1 << 62).to_bytes(8, "little")),
-    (y.Session, b"session", b"\1" + (2).to_bytes(8, "little") + b"[]"),
-    (y.Session, b"session", b"\1" + (29).to_bytes(8, "little") + b'{"runs":[],"known_hashes":[]}' + bytes(31)),
-    (y.Subtree, b"subtree", b""), (y.Subtree, b"subtree", b"[]"), (y.HashTree, b"hash tree", bytes(39)),
-    (y.HashTree, b"hash tree", 2 * (bytes(32) + b"\xff" * 8)), (y.HashIndex, b"hash index", bytes(31)),
+    (y.InvalidText, y.Session, b"session", b""), (y.InvalidText, y.Session, b"session", b"\1" + (1 << 62).to_bytes(8, "little")),
+    (y.InvalidText, y.Session, b"session", b"\1" + (2).to_bytes(8, "little") + b"[]"),
+    (y.InvalidText, y.Session, b"session", b"\1" + (29).to_bytes(8, "little") + b'{"runs":[],"known_hashes":[]}' + bytes(31)),
+    (y.InvalidText, y.Subtree, b"subtree", b""), (y.InvalidJson, y.Subtree, b"subtree", b"[]"),
+    (y.InvalidArguments, y.HashTree, b"hash tree", bytes(39)), (y.SizeOverflow, y.HashTree, b"hash tree", 2 * (bytes(32) + b"\xff" * 8)),
+    (y.InvalidText, y.HashIndex, b"hash index", bytes(31)),
 ]
 
 
 @pytest.mark.parametrize("number", range(len(FORGED)))
 def test_a_forged_file_raises_an_error_of_the_package(number, tmp_path):
     """Its hash is right, as anybody can compute it."""
-    kind, name, body = FORGED[number]
+    error, kind, name, body = FORGED[number]
     _saving.write_whole(tmp_path / "saved", name, body)
-    with pytest.raises(y.YurewhaError):
+    with pytest.raises(error):
         kind.load(tmp_path / "saved")
 
 

@@ -38,6 +38,7 @@ from ._hash import Hash, Hasher, data_hash, internal_node_hash
 from ._hash_index import HashIndex
 from ._hash_tree import HashTree
 from ._hashes import Hashes, data_hashes
+from ._many_lists import file_hashes, xorb_hashes
 from ._range_proof import OpenedRange, RangeProof
 from ._session import Run, Session
 from ._subtree import (
@@ -89,6 +90,7 @@ __all__ = [
     "data_hash",
     "data_hashes",
     "file_hash",
+    "file_hashes",
     "find_stable_end",
     "find_stable_start",
     "hash_chunks",
@@ -96,6 +98,7 @@ __all__ = [
     "svg_of",
     "write_svg",
     "xorb_hash",
+    "xorb_hashes",
 ]
 
 _names.publish(__name__, [globals()[name] for name in __all__])

@@ -11,7 +11,7 @@ from ._arrow_out import Capsules, capsules_of_chunks, schema_of_chunks
 from ._errors import InvalidArguments
 from ._hash import Hash, HashLike, checked_u64, out_of_range, raw_of
 from ._hashes import Hashes, HashesLike, HexTexts, column_of
-from ._packed import BYTE, HASH, WORD, Packed, block_or_items, checked_block, is_column
+from ._packed import BYTE, HASH, WORD, Packed, block_or_items, checked_block, is_column, told_format
 from ._types import BytesLike
 
 __all__ = ["Chunks"]
@@ -88,7 +88,7 @@ def _packed_sizes(sizes: SizesLike) -> bytes:
                 return given.tobytes()
         elif given.ndim == 1 and _NUMBER.fullmatch(given.format):
             return _widened(given.tobytes(), given.itemsize, given.format[-1].islower())
-        raise InvalidArguments(f"{_EXPECTED_SIZES}, not '{given.format}'")
+        raise InvalidArguments(f"{_EXPECTED_SIZES}, not {told_format(given)}")
 
 
 def _widened(numbers: bytes, width: int, signed: bool) -> bytes:

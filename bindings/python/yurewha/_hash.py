@@ -44,7 +44,18 @@ def whole_number(value: SupportsIndex, what: str) -> int:
     try:
         return index(value)
     except TypeError:
-        raise TypeError(f"{what} is a whole number, not {type(value).__name__}") from None
+        raise TypeError(f"{what} is a whole number, not {told_type(value)}") from None
+
+
+def told_type(value: object) -> str:
+    """Returns how an error names the type of a value. It says so if the value stands for none in a column.
+
+    >>> told_type(None), told_type(float("nan")), told_type(0.5)
+    ('NoneType: it is null', 'float: it is null', 'float')
+    """
+    name = type(value).__name__
+    is_null = value is None or name in ("NAType", "NaTType") or isinstance(value, float) and value != value
+    return name + ": it is null" * is_null
 
 
 def out_of_range(what: str) -> InvalidArguments:
@@ -335,7 +346,7 @@ def raw_of(hash_: object, what: str) -> bytes:
         return hash_._raw
     if type(hash_) is bytes:
         return checked_32(hash_, what)
-    raise TypeError(f"{what} is a Hash or 32 bytes, not {type(hash_).__name__}")
+    raise TypeError(f"{what} is a Hash or 32 bytes, not {told_type(hash_)}")
 
 
 # Sets the bytes of a new hash. It takes half the time of `object.__setattr__`.

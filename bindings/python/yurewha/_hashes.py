@@ -12,7 +12,7 @@ from ._hash import PIECE, STEP, Hash, Hasher, HashLike, Start, checked_bool, raw
 from ._lent import Lent, is_read_only
 from ._library import LONG_BYTES, CHash, calls_for
 from ._in_threads import Stopped, checked_threads, in_threads
-from ._packed import BYTE, HASH, WORD, Packed, block_or_items, checked_block, is_column
+from ._packed import BYTE, HASH, WORD, Packed, block_or_items, checked_block, is_column, told_format
 from ._types import BytesLike, Texts
 
 __all__ = ["Hashes", "data_hashes"]
@@ -256,19 +256,19 @@ def pieces_of(places: List[int], most: int = PIECE) -> Iterator[List[int]]:
     yield piece
 
 
-def checked_offsets(offsets: OffsetsLike, end: int) -> List[int]:
-    """Returns the offsets of chunks in `end` bytes. Raises the errors of `data_hashes`.
+def checked_offsets(offsets: OffsetsLike, end: int, of: str = "bytes") -> List[int]:
+    """Returns the offsets of chunks in `end` bytes, or of lists in `end` chunks. Raises the errors of `data_hashes`.
 
     >>> checked_offsets(range(3), 2)
     [0, 1, 2]
     """
-    expected = "offsets are whole numbers, one more than there are chunks"
+    expected = f"offsets are whole numbers, one more than there are {'chunks' if of == 'bytes' else 'lists'}"
     given = block_or_items(offsets, expected)
     if isinstance(given, memoryview):
         with given:
             kinds = "@?[bBhHiIlLqQ]" if is_column(offsets) else "@?[hHiIlLqQ]"
             if not re.fullmatch(kinds, given.format) or given.ndim != 1:
-                raise InvalidArguments(f"{expected}, not '{given.format}'")
+                raise InvalidArguments(f"{expected}, not {told_format(given)}")
             places = given.tolist()
     else:
         listed = cast(Iterable[SupportsIndex], given)
@@ -281,5 +281,5 @@ def checked_offsets(offsets: OffsetsLike, end: int) -> List[int]:
             raise InvalidArguments(f"offset {number} is {place}, which is less than {before}")
         before = place
     if before > end:
-        raise InvalidArguments(f"the last offset is {before}, and there are {end} bytes")
+        raise InvalidArguments(f"the last offset is {before}, and there are {end} {of}")
     return places

@@ -2,14 +2,33 @@
 
 from __future__ import annotations
 
+import re
 from array import array
 from operator import index
-from typing import TYPE_CHECKING, Any, ClassVar, Iterable, Pattern, Sequence, Tuple, Type, TypeVar, Union, cast, overload
+from typing import (
+    TYPE_CHECKING,
+    Any,
+    ClassVar,
+    Iterable,
+    List,
+    Pattern,
+    Sequence,
+    SupportsIndex,
+    Tuple,
+    Type,
+    TypeVar,
+    Union,
+    cast,
+    overload,
+)
 
 from ._arrow import block_of_array, block_of_stream
 from ._errors import InvalidArguments
 from ._lent import bytes_of
-from ._types import view_of
+from ._types import Array, view_of
+
+#: What picks items of a list: their numbers, or a bool for each, as a list or a column of NumPy.
+Picked = Union[Sequence[SupportsIndex], Array]
 
 _Item = TypeVar("_Item")
 _Self = TypeVar("_Self", bound="Packed[Any]")
@@ -64,6 +83,18 @@ def is_column(values: object) -> bool:
     return isinstance(owner, array) or any(hasattr(owner, name) for name in _COLUMNS)
 
 
+def told_format(view: memoryview) -> str:
+    """Returns how an error names the format of a column that isn't one of numbers.
+
+    >>> from array import array
+    >>> told_format(memoryview(array("d"))), told_format(memoryview(b""))
+    ("'d': floats, as pandas makes of numbers with nulls", "'B': bytes")
+    """
+    told = {"d": "floats, as pandas makes of numbers with nulls", "f": "floats, as pandas makes of numbers with nulls",
+            "s": "bytes", "x": "bytes", "c": "bytes", "B": "bytes", "b": "bytes"}.get(view.format[-1:])
+    return f"'{view.format}'" + (f": {told}" if told else "")
+
+
 def checked_block(view: memoryview, size: int, forms: Forms, expected: str) -> bytes:
     """Returns the bytes of a block of items of one size. If the block has rows, each row is an item.
 
@@ -81,6 +112,41 @@ def checked_block(view: memoryview, size: int, forms: Forms, expected: str) -> b
     if not fits:
         raise InvalidArguments(f"{expected}, and there are {size} bytes for each")
     return bytes_of(view)
+
+
+def numbers_of(at: Picked, count: int) -> List[int]:
+    """Returns the numbers of items that are picked from so many, by their numbers or by as many bools.
+
+    >>> numbers_of([2, -1, 0], 3), numbers_of([True, False, True], 3)
+    ([2, 2, 0], [0, 2])
+    """
+    expected = "items are picked by whole numbers, or by a bool for each"
+    if isinstance(at, (str, bytes, bytearray)):
+        raise TypeError(f"{expected}, not by {type(at).__name__}")
+    given = block_or_items(at, expected)
+    if isinstance(given, memoryview):
+        listed: List[object]
+        with given:
+            if given.ndim != 1 or not re.fullmatch("[@=<]?[?bBhHiIlLqQ]", given.format):
+                raise TypeError(f"{expected}, not by {told_format(given)}")
+            listed = [*given.tolist()]
+    else:
+        listed = list(given)
+    # NumPy's own bools aren't Python's.
+    if listed and all(isinstance(item, bool) or type(item).__name__ in ("bool_", "bool") for item in listed):
+        if len(listed) != count:
+            raise IndexError(f"there are {count} items and {len(listed)} bools")
+        return [number for number, item in enumerate(listed) if item]
+    return [_number_of(item, place, count, expected) for place, item in enumerate(listed)]
+
+
+def _number_of(item: object, place: int, count: int, expected: str) -> int:
+    if isinstance(item, bool) or not hasattr(item, "__index__"):
+        raise TypeError(f"{expected}, and item {place} is {type(item).__name__}")
+    number = index(cast(SupportsIndex, item))
+    if not -count <= number < count:
+        raise IndexError(f"item {place} is {number}, and there are {count} items")
+    return number + count if number < 0 else number
 
 
 class Packed(Sequence[_Item]):
@@ -127,9 +193,9 @@ class Packed(Sequence[_Item]):
     def __getitem__(self, at: int) -> _Item: ...
 
     @overload
-    def __getitem__(self: _Self, at: slice) -> _Self: ...
+    def __getitem__(self: _Self, at: Union[slice, Picked]) -> _Self: ...
 
-    def __getitem__(self: _Self, at: Union[int, slice]) -> Union[_Item, _Self]:
+    def __getitem__(self: _Self, at: Union[int, slice, Picked]) -> Union[_Item, _Self]:
         size = self._SIZE
         if isinstance(at, slice):
             start, stop, step = at.indices(len(self))
@@ -137,12 +203,23 @@ class Packed(Sequence[_Item]):
                 return self._of(self._packed[size * start:size * max(start, stop)])
             places = range(start, stop, step)
             return self._of(b"".join(self._packed[size * place:size * (place + 1)] for place in places))
-        number = index(at)
+        if not hasattr(at, "__index__") and hasattr(at, "__iter__") or getattr(cast(object, at), "shape", None):
+            return self._picked(cast(Picked, at))
+        number = index(cast(int, at))
         place = number + len(self) if number < 0 else number
         if not 0 <= place < len(self):
             raise IndexError(f"there is no item {number} in {self!r}")
         item: _Item = self._item(size * place)
         return item
+
+    def _picked(self: _Self, at: Picked) -> _Self:
+        """Returns the items at some numbers, in their order, or those for which a list of as many bools has True."""
+        size, numbers = self._SIZE, numbers_of(at, len(self))
+        return self._of(b"".join([self._packed[size * number:size * (number + 1)] for number in numbers]))
+
+    def __buffer__(self, flags: int) -> memoryview:
+        """Lends the block to `memoryview` and other readers of buffers, from Python 3.12 on."""
+        return memoryview(self._packed)
 
     def __eq__(self, other: object) -> bool:
         if not isinstance(other, type(self)):

@@ -32,6 +32,7 @@ else:
     BytesLike = Union[bytes, bytearray, memoryview]
     Room = Union[bytearray, memoryview]
     Texts = Iterable[str]
+    Array = Union[bytes, bytearray, memoryview]
 
 
 def view_of(data: object) -> memoryview:
