@@ -3,13 +3,14 @@
 
     ./client.py URL FILE_HASH START STOP > PART
 
-It writes the bytes from START up to STOP to standard output, if all of them are the file's, and nothing otherwise. On standard error
-it says what it fetched.
+It writes the bytes from START up to STOP to standard output, if all of them are the file's, and nothing otherwise. If an answer is cut
+off, it asks again, for what it doesn't have yet. On standard error it says what it fetched.
 """
 
 from __future__ import annotations
 
 import sys
+from http.client import IncompleteRead
 from pathlib import Path
 from urllib.error import URLError
 from urllib.request import Request, urlopen
@@ -21,6 +22,8 @@ from yurewha import Hash, ProofMismatch, RangeProof, VerifiedFile, YurewhaError 
 
 #: Longer proofs aren't read.
 LONGEST_PROOF = 1 << 20
+#: How often it asks for a part.
+TRIES = 3
 
 
 class Remote:
@@ -28,13 +31,17 @@ class Remote:
 
     def __init__(self, url: str) -> None:
         self.url = url
-        self.data_bytes = self.proof_bytes = 0
+        self.data_bytes = self.proof_bytes = self.cut_answers = 0
 
     def fetch(self, start: int, stop: int) -> bytes:
         """Returns some bytes of the file. If more come than were asked for, it reads one of them, so that they are refused."""
         with urlopen(Request(f"{self.url}/data", headers={"Range": f"bytes={start}-{stop - 1}"})) as answer:
-            data: bytes = answer.read(stop - start + 1)
+            try:
+                data: bytes = answer.read(stop - start + 1)
+            except IncompleteRead as error:
+                data = error.partial
         self.data_bytes += len(data)
+        self.cut_answers += len(data) < stop - start
         return data
 
     def prove(self, start: int, stop: int) -> RangeProof:
@@ -48,10 +55,15 @@ class Remote:
 
 
 def read(remote: Remote, file_hash: Hash, start: int, stop: int) -> tuple[bytes, int]:
-    """Returns a part of the file, and the size of the file."""
+    """Returns a part of the file, and the size of the file. What was checked of an answer that was cut off isn't fetched again."""
     file = VerifiedFile(file_hash, remote.fetch, remote.prove)
-    file.seek(start)
-    return file.read(stop - start), file.size
+    while True:
+        cut = remote.cut_answers
+        try:
+            return file.read_at(start, stop), file.size
+        except ProofMismatch:
+            if not cut < remote.cut_answers < TRIES:
+                raise
 
 
 def main(url: str, file_hash: str, start: str, stop: str) -> int:
@@ -63,6 +75,8 @@ def main(url: str, file_hash: str, start: str, stop: str) -> int:
         return 1
     sys.stdout.buffer.write(part)
     fetched = f"{remote.data_bytes:,} bytes and {remote.proof_bytes:,} of proofs were fetched"
+    if remote.cut_answers:
+        fetched += f", and answers were cut off: {remote.cut_answers}"
     print(f"{len(part):,} bytes of {size:,} are verified; {fetched}", file=sys.stderr)
     return 0
 

@@ -18,6 +18,7 @@ sys.path.insert(0, str(ROOT / "bindings" / "python"))
 from yurewha import Chunks, Hash, file_hash, hash_chunks  # noqa: E402
 
 PIECE = 1 << 20
+LONGEST_CHUNK = 128 << 10
 
 
 def make_file(folder: Path, size: int, seed: int = 1) -> Hash:
@@ -27,9 +28,9 @@ def make_file(folder: Path, size: int, seed: int = 1) -> Hash:
         for start in range(0, size, PIECE):
             file.write(rng.randbytes(min(PIECE, size - start)))
     while cuts[-1] < size:
-        cuts.append(min(size, cuts[-1] + rng.randrange(8 << 10, 128 << 10)))
+        cuts.append(min(size, cuts[-1] + rng.randrange(8 << 10, LONGEST_CHUNK)))
     sizes = [after - before for before, after in zip(cuts, cuts[1:])]
-    chunks = Chunks.from_columns(hash_chunks(folder / "data", cuts), sizes)
+    chunks = Chunks.from_columns(hash_chunks(folder / "data", cuts, threads=4), sizes)
     (folder / "chunks").write_bytes(chunks.packed)
     return file_hash(chunks)
 

@@ -56,6 +56,9 @@ class Handler(BaseHTTPRequestHandler):
         self.send_response(status)
         self.send_header("Content-Length", str(len(body)))
         self.end_headers()
+        self.send(body)
+
+    def send(self, body: bytes) -> None:
         self.wfile.write(body)
 
     def proof(self, start: int, stop: int) -> bytes:

@@ -165,3 +165,30 @@ total = file.seek(-3, io.SEEK_END) + file.tell() + file.size + file.readinto(byt
 with y.VerifiedFile(root, fetch, hash_tree.proof_of_bytes, chunk_limit=1 << 20) as raw:
     texts = zipfile.ZipFile(raw).namelist()
 buffered: io.BufferedReader = io.BufferedReader(file)
+
+
+async def fetch_later(start: int, stop: int) -> bytes:
+    return bytes(stop - start)
+
+
+async def read_later() -> int:
+    later: y.AsyncVerifiedFile = y.AsyncVerifiedFile(root, fetch_later, hash_tree.proof_of_bytes, cache_size=0)
+    return len(await later.read_at(0, 7)) + await later.size() + len(later.file_hash.bytes)
+
+
+read = file.read_at(0, 7)
+text = file.name + file.mode
+ahead = y.VerifiedFile(root, fetch, hash_tree.proof_of_bytes, read_ahead=8 << 20, name="data")
+many: y.Hashes = y.data_hashes(b"abc", [0, 3], threads=4) + y.hash_chunks("data", [0, 3], threads=4)
+many = y.file_hashes(packed, [0, 1], salt=bytes(32)) + y.xorb_hashes(packed, [0, 1])
+picked: y.Chunks = packed[[0, 0]] + packed[[True]] + packed[1:]
+few: y.Session = y.Session(keep_hashes=False)
+few = y.Session.from_json(few.to_json(hashes=False), keep_hashes=False)
+few.save("session", hashes=False)
+few = y.Session.load(b"session")
+same: bool = few == y.Session() or root in few or hash_tree == y.HashTree.load("tree")
+hash_tree.save("tree")
+all_chunks: y.Chunks = hash_tree.chunks
+index: y.HashIndex = y.HashIndex([root, bytes(32)])
+found: List[bool] = index.contains(many)
+fresh: int = index.add_all(many) + index.add(root) + len(index) + len(index.new(many)) + len(many[found])

@@ -484,3 +484,49 @@ class MyFile(y.VerifiedFile): pass
 y.InvalidProof()
 y.InvalidProof("5")
 y.ProofMismatch("").rule
+
+# Files over networks, and threads.
+file.read_at(0)
+file.read_at("0", 7)
+file.read_at(0.5, 7)
+piece: str = file.read_at(0, 7)
+file.name = "other"
+file.mode = "wb"
+y.VerifiedFile(hash_, lambda start, stop: b"", hash_tree.proof_of_bytes, read_ahead=0.5)
+y.VerifiedFile(hash_, lambda start, stop: b"", hash_tree.proof_of_bytes, name=7)
+y.AsyncVerifiedFile(hash_)
+y.AsyncVerifiedFile(hash_, b"data", hash_tree.proof_of_bytes)
+y.AsyncVerifiedFile(hash_, lambda start, stop: "text", hash_tree.proof_of_bytes)
+y.AsyncVerifiedFile(hash_, lambda start, stop: b"", hash_tree)
+y.AsyncVerifiedFile(hash_, lambda start, stop: b"", hash_tree.proof_of_bytes, read_ahead=7)
+y.data_hashes(b"abc", [0, 3], threads="4")
+y.data_hashes(b"abc", [0, 3], threads=None)
+y.hash_chunks("data", [0, 3], threads=0.5)
+y.hash_chunks("data", [0, 3], None, 4)
+
+# Many lists, items that are picked, and what is saved.
+y.file_hashes(chunks)
+y.file_hashes(chunks, 7)
+y.file_hashes(chunks, [0], "salt")
+y.xorb_hashes(chunks, [0], bytes(32))
+y.xorb_hashes("chunks", [0])
+chunks["0"]
+chunks[0.5]
+chunks[["0"]]
+hashes[None]
+y.Session(False)
+y.Session(keep_hashes=0)
+session.to_json(False)
+session.to_json(hashes=0)
+session.save()
+session.save(7)
+session.load(["session"])
+7 in y.HashIndex()
+y.HashIndex("00")
+y.HashIndex().add("00")
+y.HashIndex().add_all(hash_)
+index_key: Hashable = y.HashIndex()
+class MyIndex(y.HashIndex): pass
+class MyAsyncFile(y.AsyncVerifiedFile): pass
+hash_tree.chunks = chunks
+hash_tree.save(None)

@@ -11,7 +11,7 @@ from ._errors import InvalidText
 from ._hash import Hash, data_hash
 
 #: What a call takes as the path of a file.
-Path = Union[str, bytes, "os.PathLike[str]", "os.PathLike[bytes]"]
+Path = Union[str, bytes, os.PathLike[str], os.PathLike[bytes]]
 
 _HASH = 32
 

@@ -16,6 +16,8 @@ from ._types import BytesLike
 Span = Tuple[int, int, Subtree]
 
 _WORDS = struct.Struct("<4Q")
+#: How many hashes are written at once.
+_BLOCK = 4096
 _EACH = struct.Struct("32s")
 _HEAD = struct.Struct("<?Q")
 _MAX_U64 = 2**64 - 1
@@ -37,8 +39,10 @@ def json_of(runs: Iterable[Span], hashes: Hashes) -> str:
 def _words_of(hashes: Hashes) -> str:
     """Returns the JSON text of the words of hashes, by rising order, which is that of their hex texts."""
     ordered = b"".join(sorted(raw for raw, in _EACH.iter_unpack(words_reversed(hashes.packed))))
-    # One format for all of them takes a fraction of the time of one for each.
-    return f"[{(len(hashes) * '[%d,%d,%d,%d],')[:-1]}]" % tuple(memoryview(words_reversed(ordered)).cast("Q"))
+    words = memoryview(words_reversed(ordered)).cast("Q")
+    blocks = (tuple(words[start:start + 4 * _BLOCK]) for start in range(0, len(words), 4 * _BLOCK))
+    # One format for many of them takes a fraction of the time of one for each.
+    return f"[{''.join((len(block) // 4 * '[%d,%d,%d,%d],') % block for block in blocks)[:-1]}]"
 
 
 def body_of(runs: Iterable[Span], hashes: Hashes, keeps: bool) -> bytes:
