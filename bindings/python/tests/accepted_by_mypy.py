@@ -190,5 +190,5 @@ same: bool = few == y.Session() or root in few or hash_tree == y.HashTree.load("
 hash_tree.save("tree")
 all_chunks: y.Chunks = hash_tree.chunks
 index: y.HashIndex = y.HashIndex([root, bytes(32)])
-found: List[bool] = index.contains(many)
-fresh: int = index.add_all(many) + index.add(root) + len(index) + len(index.new(many)) + len(many[found])
+are_known: List[bool] = index.contains(many)
+fresh: int = index.add_all(many) + index.add(root) + len(index) + len(index.new(many)) + len(many[are_known])
