@@ -101,7 +101,8 @@ def test_pieces_are_hashed_at_once(written, monkeypatch, call):
 
 def test_progress_is_told_in_the_thread_of_the_caller(written):
     seen = set()
-    y.hash_chunks(written(bytes(9 * MIB)), range(0, 9 * MIB + 1, MIB), threads=3, progress=lambda done, total: seen.add(threading.current_thread()))
+    path = written(bytes(9 * MIB))
+    y.hash_chunks(path, range(0, 9 * MIB + 1, MIB), threads=3, progress=lambda done, total: seen.add(threading.current_thread()))
     assert seen == {threading.current_thread()}
 
 

@@ -217,7 +217,10 @@ def test_zarr_reads_through_it(tmp_path):
     zarr, numpy = pytest.importorskip("zarr"), pytest.importorskip("numpy")
     numbers = numpy.arange(100_000, dtype="i8").reshape(100, 1000)
     zarr.save_array(str(tmp_path), numbers, chunks=(10, 1000))
-    sources = {path.name: Source(path.read_bytes(), [*range(0, path.stat().st_size, 999), path.stat().st_size]) for path in tmp_path.iterdir()}
+    sources = {}
+    for path in tmp_path.iterdir():
+        data = path.read_bytes()
+        sources[path.name] = Source(data, [*range(0, len(data), 999), len(data)])
     files = made({name: source.tree.file_hash() for name, source in sources.items()}, lambda path, a, b: sources[path].fetch(a, b),
                  lambda path, a, b: sources[path].prove(a, b), cache_size=0)
     read = zarr.open_array(zarr.storage.FSStore("", fs=files, mode="r"), mode="r")

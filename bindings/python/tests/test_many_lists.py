@@ -95,7 +95,8 @@ def test_what_is_said_of_nulls_and_bytes():
             continue
         with pytest.raises(error, match=text):
             y.Chunks.from_columns(hashes, column)
-    for column in (pandas.Series([*hashes[:3], None]), [*hashes[:3], None], [*hashes[:3], float("nan")], pandas.Series([*hashes[:3], pandas.NA])):
+    first = hashes[:3]
+    for column in (pandas.Series([*first, None]), [*first, None], [*first, float("nan")], pandas.Series([*first, pandas.NA])):
         with pytest.raises(TypeError, match="^hash 3 is a Hash or 32 bytes, not .*: it is null"):
             y.Chunks.from_columns(column, [1, 2, 3, 4])
     numpy = pytest.importorskip("numpy")
@@ -132,7 +133,8 @@ def test_single_items_are_picked_as_before():
 
 
 @pytest.mark.parametrize("at, error", [
-    ([60], IndexError), ([0, -61], IndexError), ([2**63], IndexError), ([True] * 59, IndexError), ([True] * 61, IndexError), ([False], IndexError),
+    ([60], IndexError), ([0, -61], IndexError), ([2**63], IndexError),
+    ([True] * 59, IndexError), ([True] * 61, IndexError), ([False], IndexError),
     ([0, None], TypeError), ([0.5], TypeError), (["0"], TypeError), ([True, 0], TypeError), ("0", TypeError), (b"\0", TypeError),
     (bytearray(60), TypeError), (1.5, TypeError), (None, TypeError), (array.array("d", [1]), TypeError), ({0}.__class__, TypeError)])
 def test_wrong_picks(at, error):

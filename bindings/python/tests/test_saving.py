@@ -7,6 +7,7 @@ import pickle
 import random
 import signal
 import stat
+import subprocess
 import sys
 import threading
 
@@ -162,8 +163,8 @@ def test_a_process_that_dies_at_any_line_leaves_the_old_or_the_new_file(tmp_path
     path, seen, package = tmp_path / "saved", set(), os.path.dirname(os.path.dirname(y.__file__))
     for last in range(1, 100):
         old.save(path)
-        pid = os.spawnve(os.P_NOWAIT, sys.executable, [sys.executable, "-c", KILLED, str(path), str(last)], {**os.environ, "PYTHONPATH": package})
-        status = os.waitstatus_to_exitcode(os.waitpid(pid, 0)[1])
+        words = [sys.executable, "-c", KILLED, str(path), str(last)]
+        status = subprocess.run(words, env={**os.environ, "PYTHONPATH": package}, check=False).returncode
         found = y.HashTree.load(path)
         assert found in (old, new)
         seen.add(found.num_chunks)
@@ -210,7 +211,8 @@ def test_a_session_without_hashes_is_the_same_but_for_them(monkeypatch):
             assert none.runs() == one.runs() and none.gaps(70) == one.gaps(70) and none.total_size == one.total_size
             assert none.known_hashes() == y.Hashes() and json.loads(none.to_json())["known_hashes"] == []
             assert json.loads(none.to_json())["runs"] == json.loads(one.to_json(hashes=False))["runs"]
-            for other in (none.copy(), copy.deepcopy(none), pickle.loads(pickle.dumps(none)), y.Session.from_json(one.to_json(), keep_hashes=False)):
+            read = y.Session.from_json(one.to_json(), keep_hashes=False)
+            for other in (none.copy(), copy.deepcopy(none), pickle.loads(pickle.dumps(none)), read):
                 assert other == none and other.known_hashes() == y.Hashes()
                 other.put(200, [seeded(1)] * 2)
                 assert other.known_hashes() == y.Hashes() and other.put(300, [seeded(1)] * 2) == 1
@@ -351,7 +353,7 @@ def test_what_is_said_of_positions_beyond_the_total():
     one.put(9, [seeded(1)])
     with pytest.raises(y.SessionGap, match="^position 9 is taken, and the total is 5$"):
         one.finish(5)
-    with pytest.raises(y.SessionGap, match="^position 6 has no chunk$" if False else "^the positions from 5 to 8 have no chunk$"):
+    with pytest.raises(y.SessionGap, match="^the positions from 5 to 8 have no chunk$"):
         one.finish(10)
 
 
@@ -380,7 +382,8 @@ def test_an_index_is_a_set():
         else:
             assert list(index.new(chosen)) == [hash_ for hash_ in dict.fromkeys(chosen) if hash_ not in known]
         assert len(index) == len(known)
-    assert set(index) == set(index.hashes()) == known and index == y.HashIndex(known) and repr(index) == f"<yurewha.HashIndex of {len(known)}>"
+    assert set(index) == set(index.hashes()) == known and index == y.HashIndex(known)
+    assert repr(index) == f"<yurewha.HashIndex of {len(known)}>"
     for other in (copy.copy(index), copy.deepcopy(index), pickle.loads(pickle.dumps(index)), index.copy()):
         assert other == index and other.add(Z) and other != index and Z not in index
     assert y.HashIndex() != 7 and not y.HashIndex()

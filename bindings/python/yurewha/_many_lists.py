@@ -3,6 +3,7 @@
 from __future__ import annotations
 
 import ctypes
+from functools import partial
 from typing import Callable, Optional
 
 from ._chunks import Chunks, ChunksLike
@@ -57,6 +58,11 @@ def file_hashes(chunks: ChunksLike, offsets: OffsetsLike, salt: Optional[BytesLi
     return _each(chunks, offsets, call)
 
 
+def _made(packed: bytes, call: _Call, start: ctypes.c_char_p, count: int, out: CHash) -> int:
+    """Makes a call. It has the block too, since the call may go on when nobody else has it any more."""
+    return call(start, count, out)
+
+
 def _each(chunks: ChunksLike, offsets: OffsetsLike, call: _Call) -> Hashes:
     """Makes the call for each list."""
     packed = Chunks(chunks).packed
@@ -69,8 +75,7 @@ def _each(chunks: ChunksLike, offsets: OffsetsLike, call: _Call) -> Hashes:
         if count < MANY_NODES:
             status = call(start, count, to)
         else:
-            kept = packed  # by the work, which may go on after this call
-            status = interruptible(lambda: (kept, call(start, count, to))[1], True)
+            status = interruptible(partial(_made, packed, call, start, count, to), True)
         if status:
             error = error_of(status)
             raise type(error)(f"list {place}: {error}")
