@@ -26,7 +26,7 @@ __all__ = ["Run", "Session"]
 _CHUNK = struct.Struct("<32sQ")
 _CHUNK_SIZE = ctypes.sizeof(CChunk)
 _HASH_SIZE = ctypes.sizeof(CHash)
-_Restore = Callable[[Iterable[Span], HashesLike, bool], "Session"]
+_Restore = Callable[..., "Session"]
 
 #: A session that keeps no hashes forgets those that it has once so many chunks were put.
 _FORGOTTEN = 1 << 16
@@ -632,10 +632,11 @@ class Session(Guarded):
         session.keep_hashes(hashes)
         return session
 
-    def __reduce__(self) -> Tuple[_Restore, Tuple[Tuple[Span, ...], Hashes, bool]]:
+    def __reduce__(self) -> Tuple[_Restore, Union[Tuple[Tuple[Span, ...], Hashes], Tuple[Tuple[Span, ...], Hashes, bool]]]:
         # The runs of a pickle are checked when it is read, and so are their subtrees.
         saved = self.copy()
-        return Session._restored, (tuple(saved._walk()), saved.known_hashes(), saved._keeps)
+        runs, hashes = tuple(saved._walk()), saved.known_hashes()
+        return Session._restored, (runs, hashes) if saved._keeps else (runs, hashes, False)
 
     def __repr__(self) -> str:
         try:
