@@ -97,17 +97,18 @@ CALLS = {
 
 @pytest.mark.parametrize("name", CALLS)
 def test_calls_of_many_chunks(name, chunks, monkeypatch):
-    """Each call of the library takes 20 seconds, unless the test is over before."""
+    """Each call of the library takes 20 seconds, unless the test is over before. The signal comes once it has begun."""
     call, over, where = CALLS[name](chunks), threading.Event(), set()
 
     def slowly(*given, made):
         where.add(threading.get_ident())
+        signal.setitimer(signal.ITIMER_REAL, 0.05)
         return over.wait(20) and made(*given)
 
     for long in _declarations.DECLARATIONS:
         monkeypatch.setattr(_library.long, long, functools.partial(slowly, made=getattr(_library.long, long)))
     try:
-        took, ended = seconds(call, 0.3)
+        took, ended = seconds(call, 15)
         assert ended and took < 10 and where and threading.get_ident() not in where
     finally:
         over.set()
