@@ -41,10 +41,18 @@ def test_the_same_hashes_as_of_the_bytes(written, end, count):
         assert y.hash_chunks(name, offsets) == expected
     assert y.hash_chunks(path, array.array("Q", offsets)) == y.hash_chunks(path, iter(offsets)) == expected
     assert y.hash_chunks(path, offsets[1:]) == expected[1:] and y.hash_chunks(path, offsets[:1]) == y.Hashes()
-    for threads in (2, 4, 100):
-        assert y.hash_chunks(path, offsets, threads=threads) == y.data_hashes(data, offsets, threads=threads) == expected
-        assert y.data_hashes(bytearray(data), offsets, threads=threads) == expected
-        assert y.data_hashes(memoryview(data * 2)[::2] if not end else memoryview(data), offsets, threads=threads) == expected
+
+
+@pytest.mark.parametrize("threads", [2, 4, 100])
+@pytest.mark.parametrize("end, count", [(0, 1), (0, 5), (1, 3), (1000, 100), (MIB + 1, 1), (3 * MIB + 5, 2), (5 * MIB, 300), (9 * MIB, 4)])
+def test_the_same_hashes_in_threads(written, end, count, threads):
+    data = rng.randbytes(end)
+    offsets = [0, *sorted(rng.randrange(end + 1) for _ in range(count - 1)), end]
+    expected = y.data_hashes(data, offsets)
+    assert y.hash_chunks(written(data), offsets, threads=threads) == expected
+    for show in (bytes, bytearray, memoryview, lambda data: memoryview(bytes(2 * len(data)))[::2]):
+        shown = show(data)
+        assert y.data_hashes(shown, offsets, threads=threads) == y.data_hashes(bytes(shown), offsets)
 
 
 @pytest.mark.parametrize("offsets", [
@@ -81,7 +89,7 @@ def test_an_error_of_progress_ends_the_call(written, threads):
 @pytest.mark.parametrize("call", [
     lambda path, data, offsets: y.hash_chunks(path, offsets, threads=4),
     lambda path, data, offsets: y.data_hashes(data, offsets, threads=4)])
-def test_pieces_are_hashed_at_once(written, monkeypatch, call):
+def test_threads_hash_pieces_at_once(written, monkeypatch, call):
     """No piece is done before four were begun."""
     data, meet = rng.randbytes(32 * MIB), threading.Barrier(4)
     begun, hashed = [], _hashes._hashed
