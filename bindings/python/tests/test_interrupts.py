@@ -146,6 +146,8 @@ def test_no_work_goes_on_that_can_be_ended(name, monkeypatch):
     made, over = [], []
 
     def counted(*given, call):
+        if not made:  # the signal comes once the work has begun
+            signal.setitimer(signal.ITIMER_REAL, 0.1)
         try:
             made.append(1)
             return call(*given)
@@ -155,7 +157,7 @@ def test_no_work_goes_on_that_can_be_ended(name, monkeypatch):
     for calls in (_hash.calls_for(0, 1), _hash.calls_for(1, 1)):
         for call in ("yurewha_hasher_update", "yurewha_data_hashes", "yurewha_data_hash", "yurewha_internal_node_hash"):
             monkeypatch.setattr(calls, call, functools.partial(counted, call=getattr(calls, call)))
-    _, ended = seconds(OF_BYTES[name], 0.15)
+    _, ended = seconds(OF_BYTES[name], 15)
     counts = len(made), len(over)
     time.sleep(0.2)
     assert ended and counts[0] == counts[1] == len(made) > 0
