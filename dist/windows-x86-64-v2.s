@@ -1,5 +1,5 @@
 /* Yurewha 1.1.0 for windows-x86-64-v2: the kernels of the proved library, as the toolchain compiles it. Made by dist/make, not by hand.
-   The sum of its sources: 5c55f545d99342ca1bf1aba8179833cd023a430f66531f1e59683ce155209bfd */
+   The sum of its sources: 6a7d7b4cde4f1e619f0baa164db6dbc3cd00b24c74f5f3fe08f9ff88dbd3434c */
 	.section	.text
 	.p2align	4
 	.def	"keyed_blake3::keyed_hash";
@@ -24,35 +24,34 @@
 	.seh_pushreg %rbp
 	pushq	%rbx
 	.seh_pushreg %rbx
-	movl	$7608, %eax
-	callq	yurewha_stack_probe
-	subq	%rax, %rsp
-	.seh_stackalloc 7608
-	movaps	%xmm7, 7584(%rsp)
-	.seh_savexmm %xmm7, 7584
-	movaps	%xmm6, 7568(%rsp)
-	.seh_savexmm %xmm6, 7568
+	subq	$2200, %rsp
+	.seh_stackalloc 2200
+	movaps	%xmm7, 2176(%rsp)
+	.seh_savexmm %xmm7, 2176
+	movaps	%xmm6, 2160(%rsp)
+	.seh_savexmm %xmm6, 2160
 	.seh_endprologue
 	movq	%r9, %rdi
 	movq	%r8, %rbx
+	movq	%rdx, %r14
 	movq	%rcx, %rsi
-	xorps	%xmm6, %xmm6
-	movaps	%xmm6, 80(%rsp)
-	movaps	%xmm6, 64(%rsp)
+	xorps	%xmm0, %xmm0
+	movaps	%xmm0, 80(%rsp)
+	movaps	%xmm0, 64(%rsp)
 	cmpq	$1025, %r9
-	jae	.LBB3_10
-	movups	(%rdx), %xmm6
-	movups	16(%rdx), %xmm7
+	jae	.LBB3_1
+	movups	(%r14), %xmm6
+	movups	16(%r14), %xmm7
 	cmpq	$1, %rdi
 	movq	%rdi, %r14
 	adcq	$-1, %r14
 	movq	%r14, %r15
 	shrq	$6, %r15
-	je	.LBB3_2
+	je	.LBB3_4
 	xorl	%r12d, %r12d
 	movq	%rbx, %r13
 	.p2align	4
-.LBB3_4:
+.LBB3_6:
 	cmpq	$1, %r12
 	movl	$0, %eax
 	adcl	$16, %eax
@@ -60,61 +59,42 @@
 	movups	16(%r13), %xmm1
 	movups	32(%r13), %xmm2
 	movups	48(%r13), %xmm3
-	movaps	%xmm3, 2032(%rsp)
-	movaps	%xmm2, 2016(%rsp)
-	movaps	%xmm1, 2000(%rsp)
-	movaps	%xmm0, 1984(%rsp)
-	movaps	%xmm7, 160(%rsp)
-	movaps	%xmm6, 176(%rsp)
+	movaps	%xmm3, 176(%rsp)
+	movaps	%xmm2, 160(%rsp)
+	movaps	%xmm1, 144(%rsp)
+	movaps	%xmm0, 128(%rsp)
+	movaps	%xmm7, 256(%rsp)
+	movaps	%xmm6, 272(%rsp)
 	movl	%eax, 48(%rsp)
 	movl	$64, 40(%rsp)
 	movq	$0, 32(%rsp)
-	leaq	192(%rsp), %rcx
-	leaq	176(%rsp), %rdx
-	leaq	160(%rsp), %r8
-	leaq	1984(%rsp), %r9
+	leaq	96(%rsp), %rcx
+	leaq	272(%rsp), %rdx
+	leaq	256(%rsp), %r8
+	leaq	128(%rsp), %r9
 	callq	"keyed_blake3::compression::compress"
-	movaps	192(%rsp), %xmm6
-	movaps	208(%rsp), %xmm7
+	movaps	96(%rsp), %xmm6
+	movaps	112(%rsp), %xmm7
 	incq	%r12
 	addq	$64, %r13
 	cmpq	%r12, %r15
-	jne	.LBB3_4
+	jne	.LBB3_6
 	movl	$26, %ebp
-	jmp	.LBB3_6
-.LBB3_10:
-	movups	(%rdx), %xmm0
-	movups	16(%rdx), %xmm1
-	movaps	%xmm1, 240(%rsp)
-	movaps	%xmm0, 224(%rsp)
-	movups	(%rdx), %xmm0
-	movups	16(%rdx), %xmm1
-	movaps	%xmm0, 192(%rsp)
-	movaps	%xmm1, 208(%rsp)
-	leaq	256(%rsp), %rcx
-	movl	$1728, %r8d
+	jmp	.LBB3_8
+.LBB3_1:
+	leaq	352(%rsp), %rcx
+	movl	$1800, %r8d
 	xorl	%edx, %edx
 	callq	memset
-	leaq	1984(%rsp), %r14
-	leaq	192(%rsp), %rdx
-	movl	$1792, %r8d
-	movq	%r14, %rcx
-	callq	memcpy
-	movups	%xmm6, 3776(%rsp)
-	movups	%xmm6, 3792(%rsp)
-	movups	%xmm6, 3808(%rsp)
-	movups	%xmm6, 3824(%rsp)
-	leaq	5712(%rsp), %r15
-	movl	$1856, %r8d
-	movq	%r15, %rcx
-	movq	%r14, %rdx
-	callq	memcpy
-	leaq	3848(%rsp), %r14
-	movl	$1856, %r8d
-	movq	%r14, %rcx
-	movq	%r15, %rdx
-	callq	memcpy
-	movq	$0, 5704(%rsp)
+	movups	(%r14), %xmm0
+	movups	16(%r14), %xmm1
+	movaps	%xmm0, 320(%rsp)
+	movaps	%xmm1, 336(%rsp)
+	movups	(%r14), %xmm0
+	movups	16(%r14), %xmm1
+	movaps	%xmm0, 288(%rsp)
+	movaps	%xmm1, 304(%rsp)
+	leaq	288(%rsp), %r14
 	movq	%r14, %rcx
 	movq	%rbx, %rdx
 	movq	%rdi, %r8
@@ -126,61 +106,61 @@
 	movaps	80(%rsp), %xmm1
 	movups	%xmm1, 16(%rsi)
 	movups	%xmm0, (%rsi)
-	jmp	.LBB3_11
-.LBB3_2:
+	jmp	.LBB3_2
+.LBB3_4:
 	movl	$27, %ebp
-.LBB3_6:
+.LBB3_8:
 	andl	$1984, %r14d
 	addq	%r14, %rbx
 	subq	%r14, %rdi
 	xorps	%xmm0, %xmm0
-	movaps	%xmm0, 192(%rsp)
-	movaps	%xmm0, 208(%rsp)
+	movaps	%xmm0, 96(%rsp)
+	movaps	%xmm0, 112(%rsp)
 	cmpq	$64, %rdi
-	jne	.LBB3_8
+	jne	.LBB3_10
 	movups	(%rbx), %xmm0
 	movups	16(%rbx), %xmm1
 	movups	32(%rbx), %xmm2
 	movups	48(%rbx), %xmm3
-	movaps	%xmm3, 2032(%rsp)
-	movaps	%xmm2, 2016(%rsp)
-	movaps	%xmm1, 2000(%rsp)
-	movaps	%xmm0, 1984(%rsp)
-	movaps	%xmm7, 96(%rsp)
-	movaps	%xmm6, 112(%rsp)
+	movaps	%xmm3, 176(%rsp)
+	movaps	%xmm2, 160(%rsp)
+	movaps	%xmm1, 144(%rsp)
+	movaps	%xmm0, 128(%rsp)
+	movaps	%xmm7, 192(%rsp)
+	movaps	%xmm6, 208(%rsp)
 	movl	%ebp, 48(%rsp)
 	movl	$64, 40(%rsp)
 	movq	$0, 32(%rsp)
-	leaq	192(%rsp), %rcx
-	leaq	112(%rsp), %rdx
-	leaq	96(%rsp), %r8
-	leaq	1984(%rsp), %r9
-	jmp	.LBB3_9
-.LBB3_8:
-	movaps	%xmm0, 2032(%rsp)
-	movaps	%xmm0, 2016(%rsp)
-	movaps	%xmm0, 2000(%rsp)
-	movaps	%xmm0, 1984(%rsp)
-	leaq	1984(%rsp), %r14
+	leaq	96(%rsp), %rcx
+	leaq	208(%rsp), %rdx
+	leaq	192(%rsp), %r8
+	leaq	128(%rsp), %r9
+	jmp	.LBB3_11
+.LBB3_10:
+	movaps	%xmm0, 176(%rsp)
+	movaps	%xmm0, 160(%rsp)
+	movaps	%xmm0, 144(%rsp)
+	movaps	%xmm0, 128(%rsp)
+	leaq	128(%rsp), %r14
 	movq	%r14, %rcx
 	movq	%rbx, %rdx
 	movq	%rdi, %r8
 	callq	memcpy
-	movaps	%xmm7, 128(%rsp)
-	movaps	%xmm6, 144(%rsp)
+	movaps	%xmm7, 224(%rsp)
+	movaps	%xmm6, 240(%rsp)
 	movl	%ebp, 48(%rsp)
 	movl	%edi, 40(%rsp)
 	movq	$0, 32(%rsp)
-	leaq	192(%rsp), %rcx
-	leaq	144(%rsp), %rdx
-	leaq	128(%rsp), %r8
+	leaq	96(%rsp), %rcx
+	leaq	240(%rsp), %rdx
+	leaq	224(%rsp), %r8
 	movq	%r14, %r9
-.LBB3_9:
+.LBB3_11:
 	callq	"keyed_blake3::compression::compress"
-	movups	196(%rsp), %xmm0
-	movsd	212(%rsp), %xmm1
-	movl	220(%rsp), %eax
-	movl	192(%rsp), %ecx
+	movups	100(%rsp), %xmm0
+	movsd	116(%rsp), %xmm1
+	movl	124(%rsp), %eax
+	movl	96(%rsp), %ecx
 	movl	%ecx, 64(%rsp)
 	movups	%xmm0, 68(%rsp)
 	movlps	%xmm1, 84(%rsp)
@@ -197,10 +177,10 @@
 	movq	%rax, 4(%rsi)
 	movl	76(%rsp), %eax
 	movl	%eax, 12(%rsi)
-.LBB3_11:
-	movaps	7568(%rsp), %xmm6
-	movaps	7584(%rsp), %xmm7
-	addq	$7608, %rsp
+.LBB3_2:
+	movaps	2160(%rsp), %xmm6
+	movaps	2176(%rsp), %xmm7
+	addq	$2200, %rsp
 	popq	%rbx
 	popq	%rbp
 	popq	%rdi
@@ -7945,14 +7925,14 @@
 	cmpq	$1, %rcx
 	adcq	$-1, %rcx
 	shrq	$6, %rcx
-	cmpq	%rcx, %r14
-	cmovaq	%r14, %rcx
+	cmpq	%r14, %rcx
+	cmovbeq	%r14, %rcx
 	movq	16(%r12), %r14
 	cmpq	$1, %r14
 	adcq	$-1, %r14
 	shrq	$6, %r14
-	cmpq	%r14, %rcx
-	cmovaq	%rcx, %r14
+	cmpq	%rcx, %r14
+	cmovbeq	%rcx, %r14
 	addq	$32, %r12
 	addq	$-2, %rax
 	jne	.LBB18_23
@@ -7962,8 +7942,8 @@
 	cmpq	$1, %rax
 	adcq	$-1, %rax
 	shrq	$6, %rax
-	cmpq	%rax, %r14
-	cmovbeq	%rax, %r14
+	cmpq	%r14, %rax
+	cmovaq	%rax, %r14
 .LBB18_26:
 	movaps	368(%rsp), %xmm0
 	movaps	%xmm0, 800(%rsp)

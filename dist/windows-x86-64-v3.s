@@ -1,5 +1,5 @@
 /* Yurewha 1.1.0 for windows-x86-64-v3: the kernels of the proved library, as the toolchain compiles it. Made by dist/make, not by hand.
-   The sum of its sources: 5c55f545d99342ca1bf1aba8179833cd023a430f66531f1e59683ce155209bfd */
+   The sum of its sources: 6a7d7b4cde4f1e619f0baa164db6dbc3cd00b24c74f5f3fe08f9ff88dbd3434c */
 	.section	.text
 	.p2align	4
 	.def	"keyed_blake3::keyed_hash";
@@ -24,165 +24,146 @@
 	.seh_pushreg %rbp
 	pushq	%rbx
 	.seh_pushreg %rbx
-	movl	$7608, %eax
-	callq	yurewha_stack_probe
-	subq	%rax, %rsp
-	.seh_stackalloc 7608
-	vmovaps	%xmm7, 7584(%rsp)
-	.seh_savexmm %xmm7, 7584
-	vmovaps	%xmm6, 7568(%rsp)
-	.seh_savexmm %xmm6, 7568
+	subq	$2200, %rsp
+	.seh_stackalloc 2200
+	vmovaps	%xmm7, 2176(%rsp)
+	.seh_savexmm %xmm7, 2176
+	vmovaps	%xmm6, 2160(%rsp)
+	.seh_savexmm %xmm6, 2160
 	.seh_endprologue
 	movq	%r9, %rdi
 	movq	%r8, %rbx
+	movq	%rdx, %r14
 	movq	%rcx, %rsi
 	vxorps	%xmm0, %xmm0, %xmm0
-	vmovups	%ymm0, 64(%rsp)
+	vmovups	%ymm0, 96(%rsp)
 	cmpq	$1025, %r9
-	jae	.LBB3_10
-	vmovups	(%rdx), %xmm6
-	vmovups	16(%rdx), %xmm7
+	jae	.LBB3_1
+	vmovups	(%r14), %xmm6
+	vmovups	16(%r14), %xmm7
 	cmpq	$1, %rdi
 	movq	%rdi, %r14
 	adcq	$-1, %r14
 	movq	%r14, %r15
 	shrq	$6, %r15
-	je	.LBB3_2
+	je	.LBB3_4
 	xorl	%r12d, %r12d
 	movq	%rbx, %r13
 	.p2align	4
-.LBB3_4:
+.LBB3_6:
 	cmpq	$1, %r12
 	movl	$0, %eax
 	adcl	$16, %eax
 	vmovups	(%r13), %ymm0
 	vmovups	32(%r13), %ymm1
-	vmovups	%ymm1, 2016(%rsp)
-	vmovups	%ymm0, 1984(%rsp)
-	vmovaps	%xmm7, 160(%rsp)
-	vmovaps	%xmm6, 176(%rsp)
+	vmovups	%ymm1, 160(%rsp)
+	vmovups	%ymm0, 128(%rsp)
+	vmovaps	%xmm7, 256(%rsp)
+	vmovaps	%xmm6, 272(%rsp)
 	movl	%eax, 48(%rsp)
 	movl	$64, 40(%rsp)
 	movq	$0, 32(%rsp)
-	leaq	192(%rsp), %rcx
-	leaq	176(%rsp), %rdx
-	leaq	160(%rsp), %r8
-	leaq	1984(%rsp), %r9
+	leaq	64(%rsp), %rcx
+	leaq	272(%rsp), %rdx
+	leaq	256(%rsp), %r8
+	leaq	128(%rsp), %r9
 	vzeroupper
 	callq	"keyed_blake3::compression::compress"
-	vmovaps	192(%rsp), %xmm6
-	vmovaps	208(%rsp), %xmm7
+	vmovaps	64(%rsp), %xmm6
+	vmovaps	80(%rsp), %xmm7
 	incq	%r12
 	addq	$64, %r13
 	cmpq	%r12, %r15
-	jne	.LBB3_4
+	jne	.LBB3_6
 	movl	$26, %ebp
-	jmp	.LBB3_6
-.LBB3_10:
-	vmovups	(%rdx), %ymm0
-	vmovups	%ymm0, 224(%rsp)
-	vmovups	(%rdx), %ymm0
-	vmovups	%ymm0, 192(%rsp)
-	leaq	256(%rsp), %rcx
-	movl	$1728, %r8d
+	jmp	.LBB3_8
+.LBB3_1:
+	leaq	352(%rsp), %rcx
+	movl	$1800, %r8d
 	xorl	%edx, %edx
 	vzeroupper
 	callq	memset
-	leaq	1984(%rsp), %r14
-	leaq	192(%rsp), %rdx
-	movl	$1792, %r8d
-	movq	%r14, %rcx
-	callq	memcpy
-	vxorps	%xmm0, %xmm0, %xmm0
-	vmovups	%ymm0, 3776(%rsp)
-	vmovups	%ymm0, 3808(%rsp)
-	leaq	5712(%rsp), %r15
-	movl	$1856, %r8d
-	movq	%r15, %rcx
-	movq	%r14, %rdx
-	vzeroupper
-	callq	memcpy
-	leaq	3848(%rsp), %r14
-	movl	$1856, %r8d
-	movq	%r14, %rcx
-	movq	%r15, %rdx
-	callq	memcpy
-	movq	$0, 5704(%rsp)
+	vmovups	(%r14), %ymm0
+	vmovups	%ymm0, 320(%rsp)
+	vmovups	(%r14), %ymm0
+	vmovups	%ymm0, 288(%rsp)
+	leaq	288(%rsp), %r14
 	movq	%r14, %rcx
 	movq	%rbx, %rdx
 	movq	%rdi, %r8
+	vzeroupper
 	callq	"keyed_blake3::hasher::Hasher::update"
-	leaq	64(%rsp), %rcx
+	leaq	96(%rsp), %rcx
 	movq	%r14, %rdx
 	callq	"keyed_blake3::hasher::Hasher::finalize"
-	vmovups	64(%rsp), %ymm0
+	vmovups	96(%rsp), %ymm0
 	vmovups	%ymm0, (%rsi)
-	jmp	.LBB3_11
-.LBB3_2:
+	jmp	.LBB3_2
+.LBB3_4:
 	movl	$27, %ebp
-.LBB3_6:
+.LBB3_8:
 	andl	$1984, %r14d
 	addq	%r14, %rbx
 	subq	%r14, %rdi
 	vxorps	%xmm0, %xmm0, %xmm0
-	vmovups	%ymm0, 192(%rsp)
+	vmovups	%ymm0, 64(%rsp)
 	cmpq	$64, %rdi
-	jne	.LBB3_8
+	jne	.LBB3_10
 	vmovups	(%rbx), %ymm0
 	vmovups	32(%rbx), %ymm1
-	vmovups	%ymm1, 2016(%rsp)
-	vmovups	%ymm0, 1984(%rsp)
-	vmovaps	%xmm7, 96(%rsp)
-	vmovaps	%xmm6, 112(%rsp)
+	vmovups	%ymm1, 160(%rsp)
+	vmovups	%ymm0, 128(%rsp)
+	vmovaps	%xmm7, 192(%rsp)
+	vmovaps	%xmm6, 208(%rsp)
 	movl	%ebp, 48(%rsp)
 	movl	$64, 40(%rsp)
 	movq	$0, 32(%rsp)
-	leaq	192(%rsp), %rcx
-	leaq	112(%rsp), %rdx
-	leaq	96(%rsp), %r8
-	leaq	1984(%rsp), %r9
-	jmp	.LBB3_9
-.LBB3_8:
-	vmovups	%ymm0, 2016(%rsp)
-	vmovups	%ymm0, 1984(%rsp)
-	leaq	1984(%rsp), %r14
+	leaq	64(%rsp), %rcx
+	leaq	208(%rsp), %rdx
+	leaq	192(%rsp), %r8
+	leaq	128(%rsp), %r9
+	jmp	.LBB3_11
+.LBB3_10:
+	vmovups	%ymm0, 160(%rsp)
+	vmovups	%ymm0, 128(%rsp)
+	leaq	128(%rsp), %r14
 	movq	%r14, %rcx
 	movq	%rbx, %rdx
 	movq	%rdi, %r8
 	vzeroupper
 	callq	memcpy
-	vmovaps	%xmm7, 128(%rsp)
-	vmovaps	%xmm6, 144(%rsp)
+	vmovaps	%xmm7, 224(%rsp)
+	vmovaps	%xmm6, 240(%rsp)
 	movl	%ebp, 48(%rsp)
 	movl	%edi, 40(%rsp)
 	movq	$0, 32(%rsp)
-	leaq	192(%rsp), %rcx
-	leaq	144(%rsp), %rdx
-	leaq	128(%rsp), %r8
+	leaq	64(%rsp), %rcx
+	leaq	240(%rsp), %rdx
+	leaq	224(%rsp), %r8
 	movq	%r14, %r9
-.LBB3_9:
+.LBB3_11:
 	vzeroupper
 	callq	"keyed_blake3::compression::compress"
-	vmovups	196(%rsp), %xmm0
-	vmovsd	212(%rsp), %xmm1
-	movl	220(%rsp), %eax
-	movl	192(%rsp), %ecx
-	movl	%ecx, 64(%rsp)
-	vmovups	%xmm0, 68(%rsp)
-	vmovlps	%xmm1, 84(%rsp)
-	movl	%eax, 92(%rsp)
-	movl	64(%rsp), %eax
-	movl	%eax, (%rsi)
 	vmovups	68(%rsp), %xmm0
-	vmovups	%xmm0, 4(%rsi)
-	movq	84(%rsp), %rax
-	movq	%rax, 20(%rsi)
+	vmovsd	84(%rsp), %xmm1
 	movl	92(%rsp), %eax
+	movl	64(%rsp), %ecx
+	movl	%ecx, 96(%rsp)
+	vmovups	%xmm0, 100(%rsp)
+	vmovlps	%xmm1, 116(%rsp)
+	movl	%eax, 124(%rsp)
+	movl	96(%rsp), %eax
+	movl	%eax, (%rsi)
+	vmovups	100(%rsp), %xmm0
+	vmovups	%xmm0, 4(%rsi)
+	movq	116(%rsp), %rax
+	movq	%rax, 20(%rsi)
+	movl	124(%rsp), %eax
 	movl	%eax, 28(%rsi)
-.LBB3_11:
-	vmovaps	7568(%rsp), %xmm6
-	vmovaps	7584(%rsp), %xmm7
-	addq	$7608, %rsp
+.LBB3_2:
+	vmovaps	2160(%rsp), %xmm6
+	vmovaps	2176(%rsp), %xmm7
+	addq	$2200, %rsp
 	popq	%rbx
 	popq	%rbp
 	popq	%rdi
@@ -8736,8 +8717,8 @@
 	vpsrlq	$6, %ymm1, %ymm1
 	vpor	%ymm3, %ymm1, %ymm2
 	vpxor	%ymm3, %ymm0, %ymm3
-	vpcmpgtq	%ymm2, %ymm3, %ymm2
-	vblendvpd	%ymm2, %ymm0, %ymm1, %ymm0
+	vpcmpgtq	%ymm3, %ymm2, %ymm2
+	vblendvpd	%ymm2, %ymm1, %ymm0, %ymm0
 	addq	$64, %rdx
 	addq	$-4, %rcx
 	jne	.LBB20_32
@@ -8768,8 +8749,8 @@
 	movq	%r14, %rcx
 	adcq	$-1, %rcx
 	shrq	$6, %rcx
-	cmpq	%rcx, %rdx
-	cmovaq	%rdx, %rcx
+	cmpq	%rdx, %rcx
+	cmovbeq	%rdx, %rcx
 	addq	$16, %rbp
 	decq	%rax
 	jne	.LBB20_34

@@ -1,5 +1,5 @@
 /* Yurewha 1.1.0 for x86-64-v2: the kernels of the proved library, as the toolchain compiles it. Made by dist/make, not by hand.
-   The sum of its sources: 5c55f545d99342ca1bf1aba8179833cd023a430f66531f1e59683ce155209bfd */
+   The sum of its sources: 6a7d7b4cde4f1e619f0baa164db6dbc3cd00b24c74f5f3fe08f9ff88dbd3434c */
 	.section	.note.gnu.property,"a",@note
 	.p2align	3, 0x0
 	.long	4, 16, 5
@@ -24,14 +24,8 @@
 	.cfi_def_cfa_offset 48
 	pushq	%rbx
 	.cfi_def_cfa_offset 56
-	subq	$3072, %rsp
-	.cfi_adjust_cfa_offset 3072
-	movq	$0, (%rsp)
-	subq	$3072, %rsp
-	.cfi_adjust_cfa_offset 3072
-	movq	$0, (%rsp)
-	subq	$1288, %rsp
-	.cfi_def_cfa_offset 7488
+	subq	$2024, %rsp
+	.cfi_def_cfa_offset 2080
 	.cfi_offset %rbx, -56
 	.cfi_offset %r12, -48
 	.cfi_offset %r13, -40
@@ -40,25 +34,26 @@
 	.cfi_offset %rbp, -16
 	movq	%rcx, %r14
 	movq	%rdx, %rbx
+	movq	%rsi, %r12
 	movq	%rdi, %r15
 	xorps	%xmm0, %xmm0
 	movaps	%xmm0, 16(%rsp)
 	movaps	%xmm0, (%rsp)
 	cmpq	$1025, %rcx
-	jae	.LBB3_10
-	movups	(%rsi), %xmm0
-	movups	16(%rsi), %xmm1
+	jae	.LBB3_1
+	movups	(%r12), %xmm0
+	movups	16(%r12), %xmm1
 	cmpq	$1, %r14
 	movq	%r14, %r12
 	adcq	$-1, %r12
 	movq	%r12, %r13
 	shrq	$6, %r13
-	je	.LBB3_2
-	movq	%r15, 32(%rsp)
+	je	.LBB3_4
+	movq	%r15, 64(%rsp)
 	xorl	%ebp, %ebp
 	movq	%rbx, %r15
 	.p2align	4
-.LBB3_4:
+.LBB3_6:
 	cmpq	$1, %rbp
 	movl	$0, %r8d
 	adcl	$16, %r8d
@@ -66,58 +61,38 @@
 	movups	16(%r15), %xmm4
 	movups	32(%r15), %xmm2
 	movups	48(%r15), %xmm3
-	movaps	%xmm3, 1904(%rsp)
-	movaps	%xmm2, 1888(%rsp)
-	movaps	%xmm4, 1872(%rsp)
-	movaps	%xmm5, 1856(%rsp)
-	leaq	64(%rsp), %rdi
-	leaq	1856(%rsp), %rsi
+	movaps	%xmm3, 128(%rsp)
+	movaps	%xmm2, 112(%rsp)
+	movaps	%xmm4, 96(%rsp)
+	movaps	%xmm5, 80(%rsp)
+	leaq	32(%rsp), %rdi
+	leaq	80(%rsp), %rsi
 	xorl	%edx, %edx
 	movl	$64, %ecx
 	callq	"keyed_blake3::compression::compress"
-	movaps	64(%rsp), %xmm0
-	movaps	80(%rsp), %xmm1
+	movaps	32(%rsp), %xmm0
+	movaps	48(%rsp), %xmm1
 	incq	%rbp
 	addq	$64, %r15
 	cmpq	%rbp, %r13
-	jne	.LBB3_4
+	jne	.LBB3_6
 	movl	$26, %ebp
-	movq	32(%rsp), %r15
-	jmp	.LBB3_6
-.LBB3_10:
-	movups	(%rsi), %xmm0
-	movups	16(%rsi), %xmm1
-	movaps	%xmm1, 112(%rsp)
-	movaps	%xmm0, 96(%rsp)
-	movups	(%rsi), %xmm0
-	movups	16(%rsi), %xmm1
-	movaps	%xmm0, 64(%rsp)
-	movaps	%xmm1, 80(%rsp)
-	leaq	128(%rsp), %rdi
-	movl	$1728, %edx
+	movq	64(%rsp), %r15
+	jmp	.LBB3_8
+.LBB3_1:
+	leaq	224(%rsp), %rdi
+	movl	$1800, %edx
 	xorl	%esi, %esi
 	callq	memset@PLT
-	leaq	1856(%rsp), %r12
-	leaq	64(%rsp), %rsi
-	movl	$1792, %edx
-	movq	%r12, %rdi
-	callq	memcpy@PLT
-	xorps	%xmm0, %xmm0
-	movups	%xmm0, 3648(%rsp)
-	movups	%xmm0, 3664(%rsp)
-	movups	%xmm0, 3680(%rsp)
-	movups	%xmm0, 3696(%rsp)
-	leaq	5576(%rsp), %r13
-	movl	$1856, %edx
-	movq	%r13, %rdi
-	movq	%r12, %rsi
-	callq	memcpy@PLT
-	leaq	3712(%rsp), %r12
-	movl	$1856, %edx
-	movq	%r12, %rdi
-	movq	%r13, %rsi
-	callq	memcpy@PLT
-	movq	$0, 5568(%rsp)
+	movups	(%r12), %xmm0
+	movups	16(%r12), %xmm1
+	movaps	%xmm0, 192(%rsp)
+	movaps	%xmm1, 208(%rsp)
+	movups	(%r12), %xmm0
+	movups	16(%r12), %xmm1
+	movaps	%xmm0, 160(%rsp)
+	movaps	%xmm1, 176(%rsp)
+	leaq	160(%rsp), %r12
 	movq	%r12, %rdi
 	movq	%rbx, %rsi
 	movq	%r14, %rdx
@@ -129,56 +104,56 @@
 	movaps	16(%rsp), %xmm1
 	movups	%xmm1, 16(%r15)
 	movups	%xmm0, (%r15)
-	jmp	.LBB3_11
-.LBB3_2:
+	jmp	.LBB3_2
+.LBB3_4:
 	movl	$27, %ebp
-.LBB3_6:
+.LBB3_8:
 	andl	$1984, %r12d
 	addq	%r12, %rbx
 	subq	%r12, %r14
 	xorps	%xmm2, %xmm2
-	movaps	%xmm2, 64(%rsp)
-	movaps	%xmm2, 80(%rsp)
+	movaps	%xmm2, 32(%rsp)
+	movaps	%xmm2, 48(%rsp)
 	cmpq	$64, %r14
-	jne	.LBB3_8
+	jne	.LBB3_10
 	movups	(%rbx), %xmm5
 	movups	16(%rbx), %xmm4
 	movups	32(%rbx), %xmm2
 	movups	48(%rbx), %xmm3
-	movaps	%xmm3, 1904(%rsp)
-	movaps	%xmm2, 1888(%rsp)
-	movaps	%xmm4, 1872(%rsp)
-	movaps	%xmm5, 1856(%rsp)
-	leaq	64(%rsp), %rdi
-	leaq	1856(%rsp), %rsi
+	movaps	%xmm3, 128(%rsp)
+	movaps	%xmm2, 112(%rsp)
+	movaps	%xmm4, 96(%rsp)
+	movaps	%xmm5, 80(%rsp)
+	leaq	32(%rsp), %rdi
+	leaq	80(%rsp), %rsi
 	xorl	%edx, %edx
 	movl	$64, %ecx
-	jmp	.LBB3_9
-.LBB3_8:
-	movaps	%xmm2, 1904(%rsp)
-	movaps	%xmm2, 1888(%rsp)
-	movaps	%xmm2, 1872(%rsp)
-	movaps	%xmm2, 1856(%rsp)
-	leaq	1856(%rsp), %r12
+	jmp	.LBB3_11
+.LBB3_10:
+	movaps	%xmm2, 128(%rsp)
+	movaps	%xmm2, 112(%rsp)
+	movaps	%xmm2, 96(%rsp)
+	movaps	%xmm2, 80(%rsp)
+	leaq	80(%rsp), %r12
 	movq	%r12, %rdi
 	movq	%rbx, %rsi
 	movq	%r14, %rdx
-	movaps	%xmm1, 32(%rsp)
-	movaps	%xmm0, 48(%rsp)
+	movaps	%xmm1, 64(%rsp)
+	movaps	%xmm0, 144(%rsp)
 	callq	memcpy@PLT
-	leaq	64(%rsp), %rdi
-	movaps	48(%rsp), %xmm0
-	movaps	32(%rsp), %xmm1
+	leaq	32(%rsp), %rdi
+	movaps	144(%rsp), %xmm0
+	movaps	64(%rsp), %xmm1
 	movq	%r12, %rsi
 	xorl	%edx, %edx
 	movl	%r14d, %ecx
-.LBB3_9:
+.LBB3_11:
 	movl	%ebp, %r8d
 	callq	"keyed_blake3::compression::compress"
-	movups	68(%rsp), %xmm0
-	movsd	84(%rsp), %xmm1
-	movl	92(%rsp), %eax
-	movl	64(%rsp), %ecx
+	movups	36(%rsp), %xmm0
+	movsd	52(%rsp), %xmm1
+	movl	60(%rsp), %eax
+	movl	32(%rsp), %ecx
 	movl	%ecx, (%rsp)
 	movups	%xmm0, 4(%rsp)
 	movlps	%xmm1, 20(%rsp)
@@ -195,8 +170,8 @@
 	movq	%rax, 4(%r15)
 	movl	12(%rsp), %eax
 	movl	%eax, 12(%r15)
-.LBB3_11:
-	addq	$7432, %rsp
+.LBB3_2:
+	addq	$2024, %rsp
 	.cfi_def_cfa_offset 56
 	popq	%rbx
 	.cfi_def_cfa_offset 48
@@ -7771,14 +7746,14 @@
 	cmpq	$1, %rcx
 	adcq	$-1, %rcx
 	shrq	$6, %rcx
-	cmpq	%rcx, %r12
-	cmovaq	%r12, %rcx
+	cmpq	%r12, %rcx
+	cmovbeq	%r12, %rcx
 	movq	16(%rdx), %r12
 	cmpq	$1, %r12
 	adcq	$-1, %r12
 	shrq	$6, %r12
-	cmpq	%r12, %rcx
-	cmovaq	%rcx, %r12
+	cmpq	%rcx, %r12
+	cmovbeq	%rcx, %r12
 	addq	$32, %rdx
 	addq	$-2, %rax
 	jne	.LBB18_23
@@ -7789,8 +7764,8 @@
 	cmpq	$1, %rax
 	adcq	$-1, %rax
 	shrq	$6, %rax
-	cmpq	%rax, %r12
-	cmovbeq	%rax, %r12
+	cmpq	%r12, %rax
+	cmovaq	%rax, %r12
 .LBB18_26:
 	movaps	352(%rsp), %xmm8
 	movaps	%xmm8, 800(%rsp)

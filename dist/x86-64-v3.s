@@ -1,5 +1,5 @@
 /* Yurewha 1.1.0 for x86-64-v3: the kernels of the proved library, as the toolchain compiles it. Made by dist/make, not by hand.
-   The sum of its sources: 5c55f545d99342ca1bf1aba8179833cd023a430f66531f1e59683ce155209bfd */
+   The sum of its sources: 6a7d7b4cde4f1e619f0baa164db6dbc3cd00b24c74f5f3fe08f9ff88dbd3434c */
 	.section	.note.gnu.property,"a",@note
 	.p2align	3, 0x0
 	.long	4, 16, 5
@@ -24,14 +24,8 @@
 	.cfi_def_cfa_offset 48
 	pushq	%rbx
 	.cfi_def_cfa_offset 56
-	subq	$3072, %rsp
-	.cfi_adjust_cfa_offset 3072
-	movq	$0, (%rsp)
-	subq	$3072, %rsp
-	.cfi_adjust_cfa_offset 3072
-	movq	$0, (%rsp)
-	subq	$1288, %rsp
-	.cfi_def_cfa_offset 7488
+	subq	$2024, %rsp
+	.cfi_def_cfa_offset 2080
 	.cfi_offset %rbx, -56
 	.cfi_offset %r12, -48
 	.cfi_offset %r13, -40
@@ -40,144 +34,127 @@
 	.cfi_offset %rbp, -16
 	movq	%rcx, %r14
 	movq	%rdx, %rbx
+	movq	%rsi, %r12
 	movq	%rdi, %r15
 	vxorps	%xmm0, %xmm0, %xmm0
-	vmovups	%ymm0, (%rsp)
+	vmovups	%ymm0, 32(%rsp)
 	cmpq	$1025, %rcx
-	jae	.LBB3_10
-	vmovups	(%rsi), %xmm0
-	vmovups	16(%rsi), %xmm1
+	jae	.LBB3_1
+	vmovups	(%r12), %xmm0
+	vmovups	16(%r12), %xmm1
 	cmpq	$1, %r14
 	movq	%r14, %r12
 	adcq	$-1, %r12
 	movq	%r12, %r13
 	shrq	$6, %r13
-	je	.LBB3_2
-	movq	%r15, 32(%rsp)
+	je	.LBB3_4
+	movq	%r15, 64(%rsp)
 	xorl	%ebp, %ebp
 	movq	%rbx, %r15
 	.p2align	4
-.LBB3_4:
+.LBB3_6:
 	cmpq	$1, %rbp
 	movl	$0, %r8d
 	adcl	$16, %r8d
 	vmovups	(%r15), %ymm3
 	vmovups	32(%r15), %ymm2
-	vmovups	%ymm2, 1888(%rsp)
-	vmovups	%ymm3, 1856(%rsp)
-	leaq	64(%rsp), %rdi
-	leaq	1856(%rsp), %rsi
+	vmovups	%ymm2, 112(%rsp)
+	vmovups	%ymm3, 80(%rsp)
+	movq	%rsp, %rdi
+	leaq	80(%rsp), %rsi
 	xorl	%edx, %edx
 	movl	$64, %ecx
 	vzeroupper
 	callq	"keyed_blake3::compression::compress"
-	vmovaps	64(%rsp), %xmm0
-	vmovaps	80(%rsp), %xmm1
+	vmovaps	(%rsp), %xmm0
+	vmovaps	16(%rsp), %xmm1
 	incq	%rbp
 	addq	$64, %r15
 	cmpq	%rbp, %r13
-	jne	.LBB3_4
+	jne	.LBB3_6
 	movl	$26, %ebp
-	movq	32(%rsp), %r15
-	jmp	.LBB3_6
-.LBB3_10:
-	vmovups	(%rsi), %ymm0
-	vmovups	%ymm0, 96(%rsp)
-	vmovups	(%rsi), %ymm0
-	vmovups	%ymm0, 64(%rsp)
-	leaq	128(%rsp), %rdi
-	movl	$1728, %edx
+	movq	64(%rsp), %r15
+	jmp	.LBB3_8
+.LBB3_1:
+	leaq	224(%rsp), %rdi
+	movl	$1800, %edx
 	xorl	%esi, %esi
 	vzeroupper
 	callq	memset@PLT
-	leaq	1856(%rsp), %r12
-	leaq	64(%rsp), %rsi
-	movl	$1792, %edx
-	movq	%r12, %rdi
-	callq	memcpy@PLT
-	vxorps	%xmm0, %xmm0, %xmm0
-	vmovups	%ymm0, 3648(%rsp)
-	vmovups	%ymm0, 3680(%rsp)
-	leaq	5576(%rsp), %r13
-	movl	$1856, %edx
-	movq	%r13, %rdi
-	movq	%r12, %rsi
-	vzeroupper
-	callq	memcpy@PLT
-	leaq	3712(%rsp), %r12
-	movl	$1856, %edx
-	movq	%r12, %rdi
-	movq	%r13, %rsi
-	callq	memcpy@PLT
-	movq	$0, 5568(%rsp)
+	vmovups	(%r12), %ymm0
+	vmovups	%ymm0, 192(%rsp)
+	vmovups	(%r12), %ymm0
+	vmovups	%ymm0, 160(%rsp)
+	leaq	160(%rsp), %r12
 	movq	%r12, %rdi
 	movq	%rbx, %rsi
 	movq	%r14, %rdx
+	vzeroupper
 	callq	"keyed_blake3::hasher::Hasher::update"
-	movq	%rsp, %rdi
+	leaq	32(%rsp), %rdi
 	movq	%r12, %rsi
 	callq	"keyed_blake3::hasher::Hasher::finalize"
-	vmovups	(%rsp), %ymm0
+	vmovups	32(%rsp), %ymm0
 	vmovups	%ymm0, (%r15)
-	jmp	.LBB3_11
-.LBB3_2:
+	jmp	.LBB3_2
+.LBB3_4:
 	movl	$27, %ebp
-.LBB3_6:
+.LBB3_8:
 	andl	$1984, %r12d
 	addq	%r12, %rbx
 	subq	%r12, %r14
 	vxorps	%xmm2, %xmm2, %xmm2
-	vmovups	%ymm2, 64(%rsp)
+	vmovups	%ymm2, (%rsp)
 	cmpq	$64, %r14
-	jne	.LBB3_8
+	jne	.LBB3_10
 	vmovups	(%rbx), %ymm3
 	vmovups	32(%rbx), %ymm2
-	vmovups	%ymm2, 1888(%rsp)
-	vmovups	%ymm3, 1856(%rsp)
-	leaq	64(%rsp), %rdi
-	leaq	1856(%rsp), %rsi
+	vmovups	%ymm2, 112(%rsp)
+	vmovups	%ymm3, 80(%rsp)
+	movq	%rsp, %rdi
+	leaq	80(%rsp), %rsi
 	xorl	%edx, %edx
 	movl	$64, %ecx
-	jmp	.LBB3_9
-.LBB3_8:
-	vmovups	%ymm2, 1888(%rsp)
-	vmovups	%ymm2, 1856(%rsp)
-	leaq	1856(%rsp), %r12
+	jmp	.LBB3_11
+.LBB3_10:
+	vmovups	%ymm2, 112(%rsp)
+	vmovups	%ymm2, 80(%rsp)
+	leaq	80(%rsp), %r12
 	movq	%r12, %rdi
 	movq	%rbx, %rsi
 	movq	%r14, %rdx
-	vmovaps	%xmm1, 32(%rsp)
-	vmovaps	%xmm0, 48(%rsp)
+	vmovaps	%xmm1, 64(%rsp)
+	vmovaps	%xmm0, 144(%rsp)
 	vzeroupper
 	callq	memcpy@PLT
-	leaq	64(%rsp), %rdi
-	vmovaps	48(%rsp), %xmm0
-	vmovaps	32(%rsp), %xmm1
+	movq	%rsp, %rdi
+	vmovaps	144(%rsp), %xmm0
+	vmovaps	64(%rsp), %xmm1
 	movq	%r12, %rsi
 	xorl	%edx, %edx
 	movl	%r14d, %ecx
-.LBB3_9:
+.LBB3_11:
 	movl	%ebp, %r8d
 	vzeroupper
 	callq	"keyed_blake3::compression::compress"
-	vmovups	68(%rsp), %xmm0
-	vmovsd	84(%rsp), %xmm1
-	movl	92(%rsp), %eax
-	movl	64(%rsp), %ecx
-	movl	%ecx, (%rsp)
-	vmovups	%xmm0, 4(%rsp)
-	vmovlps	%xmm1, 20(%rsp)
-	movl	%eax, 28(%rsp)
-	movl	(%rsp), %eax
-	movl	%eax, (%r15)
 	vmovups	4(%rsp), %xmm0
-	vmovups	%xmm0, 4(%r15)
-	movq	20(%rsp), %rax
-	movq	%rax, 20(%r15)
+	vmovsd	20(%rsp), %xmm1
 	movl	28(%rsp), %eax
+	movl	(%rsp), %ecx
+	movl	%ecx, 32(%rsp)
+	vmovups	%xmm0, 36(%rsp)
+	vmovlps	%xmm1, 52(%rsp)
+	movl	%eax, 60(%rsp)
+	movl	32(%rsp), %eax
+	movl	%eax, (%r15)
+	vmovups	36(%rsp), %xmm0
+	vmovups	%xmm0, 4(%r15)
+	movq	52(%rsp), %rax
+	movq	%rax, 20(%r15)
+	movl	60(%rsp), %eax
 	movl	%eax, 28(%r15)
-.LBB3_11:
-	addq	$7432, %rsp
+.LBB3_2:
+	addq	$2024, %rsp
 	.cfi_def_cfa_offset 56
 	popq	%rbx
 	.cfi_def_cfa_offset 48
@@ -8503,8 +8480,8 @@
 	vpsrlq	$6, %ymm1, %ymm1
 	vpor	%ymm3, %ymm1, %ymm2
 	vpxor	%ymm3, %ymm0, %ymm3
-	vpcmpgtq	%ymm2, %ymm3, %ymm2
-	vblendvpd	%ymm2, %ymm0, %ymm1, %ymm0
+	vpcmpgtq	%ymm3, %ymm2, %ymm2
+	vblendvpd	%ymm2, %ymm1, %ymm0, %ymm0
 	addq	$64, %rdx
 	addq	$-4, %rcx
 	jne	.LBB20_34
@@ -8536,8 +8513,8 @@
 	movq	%r12, %rcx
 	adcq	$-1, %rcx
 	shrq	$6, %rcx
-	cmpq	%rcx, %rdx
-	cmovaq	%rdx, %rcx
+	cmpq	%rdx, %rcx
+	cmovbeq	%rdx, %rcx
 	addq	$16, %rdi
 	decq	%rax
 	jne	.LBB20_36

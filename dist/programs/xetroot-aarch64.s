@@ -1,5 +1,5 @@
 /* Yurewha 1.1.0 for aarch64: the proved program xetroot, as the toolchain compiles it. Made by dist/make, not by hand.
-   The sum of its sources: 1d349a6c271d2496f83fe733a090b4f94b1ea5a7cd7be662cc10a7bc4a0a3460 */
+   The sum of its sources: c1fce453351cd955ee50bcb69cd6b476edcd1efc36e613590d9c221ae68ff22a */
 	.section	.note.gnu.property,"a",@note
 	.p2align	3, 0x0
 	.long	4, 16, 5
@@ -846,25 +846,6 @@
 	.byte	(.LBB4_4-.LBB4_3)>>2
 	.byte	(.LBB4_8-.LBB4_3)>>2
 
-	.section	.rodata.cst16,"aM",@progbits,16
-	.p2align	4, 0x0
-.LCPI5_0:
-	.byte	0
-	.byte	0
-	.byte	0
-	.byte	0
-	.byte	0
-	.byte	0
-	.byte	0
-	.byte	255
-	.byte	255
-	.byte	255
-	.byte	255
-	.byte	255
-	.byte	255
-	.byte	255
-	.byte	255
-	.byte	255
 	.section	".text.pair_text::said_lines::SaidLinesTakeLines::end_line::<#a10fcec3e4a5dd02>","ax",@progbits
 	.p2align	2
 	.type	"pair_text::said_lines::SaidLinesTakeLines::end_line::<#a10fcec3e4a5dd02>",@function
@@ -872,355 +853,388 @@
 	.cfi_startproc
 	hint	#25
 	.cfi_escape 0x2d
-	sub	sp, sp, #192
-	.cfi_def_cfa sp, 192
+	sub	sp, sp, #208
+	.cfi_def_cfa sp, 208
 	movi	v0.2d, #0000000000000000
-	stp	x20, x19, [sp, #176]
-	.cfi_offset x19, -8
-	.cfi_offset x20, -16
-	mov	x20, x1
-	ldrb	w8, [x20, #88]!
-	stp	x22, x21, [sp, #160]
+	stp	x22, x21, [sp, #176]
 	.cfi_offset x21, -24
 	.cfi_offset x22, -32
-	mov	x21, x1
-	mov	x19, x0
+	mov	x22, x1
+	ldrb	w8, [x22, #88]!
 	stp	x29, x30, [sp, #112]
-	.cfi_offset x29, -80
-	.cfi_offset x30, -72
-	str	x25, [sp, #128]
-	.cfi_offset x25, -64
+	.cfi_offset x29, -96
+	.cfi_offset x30, -88
+	stp	x20, x19, [sp, #192]
+	.cfi_offset x19, -8
+	.cfi_offset x20, -16
 	add	x29, sp, #112
-	.cfi_def_cfa x29, 80
-	stp	x24, x23, [sp, #144]
+	.cfi_def_cfa x29, 96
+	mov	x20, x1
+	mov	x19, x0
+	add	x21, x22, #8
+	str	x28, [sp, #128]
+	.cfi_offset x28, -80
+	stp	x26, x25, [sp, #144]
+	.cfi_offset x25, -56
+	.cfi_offset x26, -64
+	stp	x24, x23, [sp, #160]
 	.cfi_offset x23, -40
 	.cfi_offset x24, -48
-	stp	q0, q0, [sp, #32]
+	stp	q0, q0, [x29, #-48]
 	cbz	w8, .LBB5_3
-	add	x0, sp, #32
-	add	x1, x20, #8
+	sub	x0, x29, #48
+	add	x1, x22, #8
 	bl	"keyed_blake3::hasher::Hasher::finalize"
-	ldp	q1, q0, [sp, #32]
-	ldr	x22, [x21, #1952]
-	ldr	x24, [x21, #64]
-	adds	x23, x24, #1
-	b.lo	.LBB5_35
+	ldp	q0, q1, [x29, #-48]
+	ldr	x23, [x20, #1952]
+	ldr	x25, [x20, #64]
+	adds	x24, x25, #1
+	b.lo	.LBB5_18
 .LBB5_2:
-	mov	w25, wzr
+	mov	w26, wzr
 	mov	w8, wzr
-	b	.LBB5_67
+	b	.LBB5_52
 .LBB5_3:
-	ldr	x8, [x21, #184]
-	cbz	x8, .LBB5_30
+	ldr	x8, [x20, #184]
+	cbz	x8, .LBB5_43
 	cmp	x8, #2
 	b.ne	.LBB5_7
-	ldurb	w9, [x20, #8]
+	ldrb	w9, [x21]
 	cmp	w9, #45
-	b.eq	.LBB5_29
+	b.eq	.LBB5_42
 	cmp	w9, #64
 	b.eq	.LBB5_8
-	b	.LBB5_30
+	b	.LBB5_43
 .LBB5_7:
-	ldurb	w9, [x20, #8]
+	ldrb	w9, [x21]
 	cmp	w9, #64
 	b.ne	.LBB5_12
 .LBB5_8:
 	sub	x1, x8, #1
-	add	x0, x21, #97
+	add	x0, x20, #97
 	bl	"pair_text::line::parse_decimal"
-	tbz	w0, #0, .LBB5_30
-	ldr	x8, [x21, #64]
+	tbz	w0, #0, .LBB5_43
+	ldr	x8, [x20, #64]
 	cmp	x1, x8
-	b.eq	.LBB5_71
-	mov	x0, x21
-	mov	x22, x1
+	b.eq	.LBB5_56
+	mov	x0, x20
+	mov	x23, x1
 	bl	"xetroot_text::placed_pairs::PlacedPairs::end_range::<#ca9445b3ca2ffbf0>"
 	and	w8, w0, #0xff
-	tbnz	w8, #0, .LBB5_66
-	stp	x22, x22, [x21, #56]
-	b	.LBB5_71
+	tbnz	w8, #0, .LBB5_51
+	stp	x23, x23, [x20, #56]
+	b	.LBB5_56
 .LBB5_12:
 	cmp	x8, #64
-	b.lo	.LBB5_30
-	mov	x9, xzr
-	add	x10, x21, #97
-	stp	q0, q0, [x29, #-48]
-	b	.LBB5_16
-.LBB5_14:
-	sub	w13, w12, #55
-.LBB5_15:
-	add	w12, w13, w11, lsl #4
-	sub	x11, x29, #48
-	add	x10, x10, #2
-	strb	w12, [x11, x9]
-	add	x9, x9, #1
-	cmp	x9, #32
-	b.eq	.LBB5_31
-.LBB5_16:
-	ldurb	w13, [x10, #-1]
-	subs	w11, w13, #48
-	b.lo	.LBB5_30
-	ldrb	w12, [x10]
-	cmp	w13, #57
-	b.ls	.LBB5_23
-	cmp	w13, #65
-	b.lo	.LBB5_30
-	cmp	w13, #70
-	b.hi	.LBB5_21
-	sub	w11, w13, #55
-	b	.LBB5_23
-.LBB5_21:
-	sub	w11, w13, #97
-	cmp	w11, #5
-	b.hi	.LBB5_30
-	sub	w11, w13, #87
-.LBB5_23:
-	subs	w13, w12, #48
-	b.lo	.LBB5_30
-	cmp	w12, #57
-	b.ls	.LBB5_15
-	cmp	w12, #65
-	b.lo	.LBB5_30
-	cmp	w12, #70
-	b.ls	.LBB5_14
-	sub	w13, w12, #97
-	cmp	w13, #5
-	b.hi	.LBB5_30
-	sub	w13, w12, #87
-	b	.LBB5_15
-.LBB5_29:
-	ldrb	w8, [x21, #97]
-	cmp	w8, #45
-	b.eq	.LBB5_71
-.LBB5_30:
-	mov	w8, #1
-	strh	w8, [x19]
-	b	.LBB5_72
-.LBB5_31:
+	b.lo	.LBB5_43
+	movi	v0.16b, #223
+	ldp	q1, q2, [x20, #96]
+	movi	v3.16b, #208
+	movi	v4.16b, #191
+	movi	v6.16b, #10
+	ldp	q17, q18, [x20, #128]
+	movi	v16.16b, #6
+	and	v5.16b, v1.16b, v0.16b
+	and	v7.16b, v2.16b, v0.16b
+	add	v1.16b, v1.16b, v3.16b
+	add	v2.16b, v2.16b, v3.16b
+	and	v19.16b, v17.16b, v0.16b
+	and	v0.16b, v18.16b, v0.16b
+	add	v17.16b, v17.16b, v3.16b
+	add	v3.16b, v18.16b, v3.16b
+	add	v5.16b, v5.16b, v4.16b
+	add	v7.16b, v7.16b, v4.16b
+	cmhi	v1.16b, v6.16b, v1.16b
+	cmhi	v2.16b, v6.16b, v2.16b
+	add	v18.16b, v19.16b, v4.16b
+	add	v0.16b, v0.16b, v4.16b
+	cmhi	v17.16b, v6.16b, v17.16b
+	cmhi	v3.16b, v6.16b, v3.16b
+	cmhi	v5.16b, v16.16b, v5.16b
+	cmhi	v4.16b, v16.16b, v7.16b
+	movi	v7.16b, #1
+	cmhi	v0.16b, v16.16b, v0.16b
+	orr	v1.16b, v1.16b, v5.16b
+	cmhi	v5.16b, v16.16b, v18.16b
+	orr	v2.16b, v2.16b, v4.16b
+	orr	v0.16b, v3.16b, v0.16b
+	and	v1.16b, v1.16b, v7.16b
+	and	v2.16b, v2.16b, v7.16b
+	orr	v4.16b, v17.16b, v5.16b
+	sub	v1.16b, v1.16b, v4.16b
+	sub	v0.16b, v2.16b, v0.16b
+	add	v0.16b, v0.16b, v1.16b
+	addv	b0, v0.16b
+	fmov	w9, s0
+	cmp	w9, #64
+	b.ne	.LBB5_43
 	cmp	x8, #64
-	b.eq	.LBB5_30
-	ldrb	w9, [x21, #160]
+	b.eq	.LBB5_43
+	ldrb	w9, [x20, #160]
 	cmp	w9, #32
-	b.ne	.LBB5_30
-	ldur	d0, [x29, #-41]
-	adrp	x9, .LCPI5_0
-	ldur	d1, [x29, #-48]
-	ldr	q2, [x9, :lo12:.LCPI5_0]
-	orr	x9, x11, #0xf
-	add	x10, x11, #24
-	ext	v0.16b, v0.16b, v0.16b, #9
+	b.ne	.LBB5_43
+	ld2	{ v0.16b, v1.16b }, [x21]
+	add	x9, x20, #128
+	add	x10, sp, #32
 	sub	x1, x8, #65
-	add	x0, x21, #161
-	bif	v0.16b, v1.16b, v2.16b
-	ldur	d1, [x29, #-32]
-	ld1	{ v1.d }[1], [x10]
-	ld1	{ v0.b }[15], [x9]
-	stp	q1, q0, [sp]
+	add	x0, x20, #161
+	st1	{ v0.2d, v1.2d }, [x10]
+	ld2	{ v0.16b, v1.16b }, [x9]
+	mov	x9, sp
+	st1	{ v0.2d, v1.2d }, [x9]
 	bl	"pair_text::line::parse_decimal"
-	tbz	w0, #0, .LBB5_30
-	ldp	q0, q1, [sp]
-	mov	x22, x1
+	tbz	w0, #0, .LBB5_43
+	add	x8, sp, #32
+	movi	v0.16b, #9
+	movi	v3.16b, #15
+	ld1	{ v5.2d, v6.2d }, [x8]
+	mov	x8, sp
+	mov	x23, x1
+	ld1	{ v16.2d, v17.2d }, [x8]
+	ushr	v1.16b, v5.16b, #6
+	ushr	v2.16b, v16.16b, #6
+	mla	v5.16b, v1.16b, v0.16b
+	and	v1.16b, v6.16b, v3.16b
+	mla	v16.16b, v2.16b, v0.16b
+	and	v2.16b, v17.16b, v3.16b
+	ushr	v3.16b, v6.16b, #6
+	ushr	v4.16b, v17.16b, #6
+	mla	v1.16b, v3.16b, v0.16b
+	mla	v2.16b, v4.16b, v0.16b
+	shl	v0.16b, v5.16b, #4
+	shl	v3.16b, v16.16b, #4
+	add	v0.16b, v1.16b, v0.16b
+	add	v1.16b, v2.16b, v3.16b
 	rev64	v0.16b, v0.16b
 	rev64	v1.16b, v1.16b
-	ldr	x24, [x21, #64]
-	adds	x23, x24, #1
+	ldr	x25, [x20, #64]
+	adds	x24, x25, #1
 	b.hs	.LBB5_2
-.LBB5_35:
-	ldrb	w8, [x21]
+.LBB5_18:
+	ldrb	w8, [x20]
 	cmp	w8, #1
-	b.ne	.LBB5_62
-	mov	x3, x21
+	b.ne	.LBB5_47
+	mov	x3, x20
 	ldr	x8, [x3, #8]!
 	ldrh	w10, [x8]
-	cbz	x10, .LBB5_43
+	cbz	x10, .LBB5_26
 	mov	x9, xzr
-.LBB5_38:
+.LBB5_21:
 	add	x11, x8, x9, lsl #3
 	ldr	x11, [x11, #8]
-	cmp	x24, x11
-	b.lo	.LBB5_41
+	cmp	x25, x11
+	b.lo	.LBB5_24
 	add	x9, x9, #1
 	cmp	x10, x9
-	b.ne	.LBB5_38
+	b.ne	.LBB5_21
 	mov	x9, x10
-.LBB5_41:
+.LBB5_24:
 	ldrh	w10, [x8, #2]
-	cbnz	w10, .LBB5_45
-	cbnz	x9, .LBB5_54
-	b	.LBB5_62
-.LBB5_43:
+	cbnz	w10, .LBB5_28
+	cbnz	x9, .LBB5_37
+	b	.LBB5_47
+.LBB5_26:
 	ldrh	w9, [x8, #2]
-	cbz	w9, .LBB5_62
+	cbz	w9, .LBB5_47
 	mov	x9, xzr
-.LBB5_45:
+.LBB5_28:
 	mov	x1, xzr
 	mov	x10, x3
-	b	.LBB5_47
-.LBB5_46:
+	b	.LBB5_30
+.LBB5_29:
 	ldrh	w11, [x8, #2]
 	mov	x9, xzr
-	cbz	w11, .LBB5_55
-.LBB5_47:
+	cbz	w11, .LBB5_38
+.LBB5_30:
 	add	x12, x8, x9, lsl #3
 	add	x1, x9, x1, lsl #4
 	mov	x2, x10
 	ldr	x8, [x12, #848]
 	add	x10, x12, #848
 	ldrh	w11, [x8]
-	cbz	x11, .LBB5_46
+	cbz	x11, .LBB5_29
 	mov	x9, xzr
-.LBB5_49:
+.LBB5_32:
 	add	x12, x8, x9, lsl #3
 	ldr	x12, [x12, #8]
-	cmp	x24, x12
-	b.lo	.LBB5_52
+	cmp	x25, x12
+	b.lo	.LBB5_35
 	add	x9, x9, #1
 	cmp	x11, x9
-	b.ne	.LBB5_49
+	b.ne	.LBB5_32
 	mov	x9, x11
-.LBB5_52:
+.LBB5_35:
 	ldrh	w11, [x8, #2]
-	cbnz	w11, .LBB5_47
-	cbz	x9, .LBB5_55
-.LBB5_54:
+	cbnz	w11, .LBB5_30
+	cbz	x9, .LBB5_38
+.LBB5_37:
 	mov	w10, #48
 	madd	x8, x9, x10, x8
 	add	x8, x8, #80
 	ldr	x8, [x8]
-	cmp	x24, x8
-	b.hs	.LBB5_62
-	b	.LBB5_61
-.LBB5_55:
-	stp	q1, q0, [sp]
+	cmp	x25, x8
+	b.hs	.LBB5_47
+	b	.LBB5_46
+.LBB5_38:
+	str	q0, [sp, #32]
 	movi	v0.2d, #0000000000000000
 	sub	x0, x29, #48
 	mov	x4, #-1
+	str	q1, [sp]
 	stp	q0, q0, [x29, #-32]
 	stur	q0, [x29, #-48]
 	bl	"std_collections::btree::iter::Cursor::retreat::<#4f04a9971a4b2638>"
 	ldurb	w9, [x29, #-24]
 	ldurb	w8, [x29, #-48]
 	cmp	w9, #1
-	b.ne	.LBB5_59
-	ldp	q1, q0, [sp]
+	b.ne	.LBB5_44
+	ldr	q0, [sp, #32]
+	ldr	q1, [sp]
 	cmp	w8, #1
-	b.eq	.LBB5_60
+	b.eq	.LBB5_45
 	ldp	x9, x8, [x29, #-16]
 	ldr	x8, [x8]
 	ubfiz	x9, x9, #3, #4
 	add	x8, x8, x9
 	ldr	x8, [x8, #848]
 	ldrh	w9, [x8]
-	cbz	w9, .LBB5_62
+	cbz	w9, .LBB5_47
 	mov	w10, #48
 	umaddl	x8, w9, w10, x8
 	add	x8, x8, #80
 	ldr	x8, [x8]
-	cmp	x24, x8
-	b.hs	.LBB5_62
+	cmp	x25, x8
+	b.hs	.LBB5_47
+	b	.LBB5_46
+.LBB5_42:
+	ldrb	w8, [x20, #97]
+	cmp	w8, #45
+	b.eq	.LBB5_56
+.LBB5_43:
+	mov	w8, #1
+	strh	w8, [x19]
 	b	.LBB5_61
-.LBB5_59:
-	ldp	q1, q0, [sp]
+.LBB5_44:
+	ldr	q0, [sp, #32]
+	ldr	q1, [sp]
 	cmp	w8, #1
-	b.ne	.LBB5_62
-.LBB5_60:
+	b.ne	.LBB5_47
+.LBB5_45:
 	ldur	x8, [x29, #-32]
 	ldr	x8, [x8]
-	cmp	x24, x8
-	b.hs	.LBB5_62
-.LBB5_61:
-	mov	w25, wzr
+	cmp	x25, x8
+	b.hs	.LBB5_47
+.LBB5_46:
+	mov	w26, wzr
 	mov	w8, #1
-	b	.LBB5_67
-.LBB5_62:
-	ldr	x8, [x21, #80]
-	adds	x24, x22, x8
-	b.lo	.LBB5_64
-	mov	w25, wzr
+	b	.LBB5_52
+.LBB5_47:
+	ldr	x8, [x20, #80]
+	adds	x25, x23, x8
+	b.lo	.LBB5_49
+	mov	w26, wzr
 	mov	w8, #2
-	b	.LBB5_67
-.LBB5_64:
-	ldr	x8, [x21, #40]
+	b	.LBB5_52
+.LBB5_49:
+	ldr	x8, [x20, #40]
 	cmp	x8, #1, lsl #12
-	b.lo	.LBB5_69
-	mov	x0, x21
-	stp	q1, q0, [sp]
+	b.lo	.LBB5_54
+	mov	x0, x20
+	str	q1, [sp]
+	str	q0, [sp, #32]
 	bl	"xetroot_text::placed_pairs::PlacedPairs::end_range::<#ca9445b3ca2ffbf0>"
 	and	w8, w0, #0xff
-	tbz	w8, #0, .LBB5_68
-.LBB5_66:
+	tbz	w8, #0, .LBB5_53
+.LBB5_51:
 	mov	w8, wzr
-	mov	w25, #1
-.LBB5_67:
+	mov	w26, #1
+.LBB5_52:
 	mov	w9, #1
-	strb	w25, [x19, #1]
+	strb	w26, [x19, #1]
 	strb	w9, [x19]
 	strb	w8, [x19, #2]
-	b	.LBB5_73
-.LBB5_68:
-	ldp	q1, q0, [sp]
-	ldr	x8, [x21, #40]
-.LBB5_69:
-	ldr	x9, [x21, #48]
+	b	.LBB5_62
+.LBB5_53:
+	ldr	x8, [x20, #40]
+	ldr	q0, [sp, #32]
+	ldr	q1, [sp]
+.LBB5_54:
+	ldr	x9, [x20, #48]
 	cmp	x9, x8
-	b.eq	.LBB5_74
-.LBB5_70:
+	b.eq	.LBB5_63
+.LBB5_55:
 	mov	w9, #40
-	ldr	x10, [x21, #32]
+	ldr	x10, [x20, #32]
 	madd	x9, x8, x9, x10
 	add	x8, x8, #1
-	stp	q1, q0, [x9]
-	str	x22, [x9, #32]
-	ldr	x9, [x21, #72]
-	str	x8, [x21, #40]
-	str	x24, [x21, #80]
+	stp	q0, q1, [x9]
+	str	x23, [x9, #32]
+	ldr	x9, [x20, #72]
+	str	x8, [x20, #40]
+	str	x25, [x20, #80]
 	adds	x8, x9, #1
 	csinv	x8, x8, xzr, lo
-	stp	x23, x8, [x21, #64]
-.LBB5_71:
-	mov	x0, x20
+	stp	x24, x8, [x20, #64]
+.LBB5_56:
+	ldrb	w8, [x22]
+	cbz	w8, .LBB5_58
+	mov	x0, x22
 	mov	w1, wzr
 	mov	w2, #1872
 	bl	memset
+	b	.LBB5_60
+.LBB5_58:
+	ldr	x2, [x20, #184]
+	cbz	x2, .LBB5_60
+	mov	x0, x21
+	mov	w1, wzr
+	bl	memset
+	str	xzr, [x20, #184]
+.LBB5_60:
 	strh	wzr, [x19]
-.LBB5_72:
+.LBB5_61:
 	strb	wzr, [x19, #2]
-.LBB5_73:
-	ldp	x20, x19, [sp, #176]
+.LBB5_62:
+	ldp	x20, x19, [sp, #192]
 	.cfi_remember_state
 	.cfi_restore x19
 	.cfi_restore x20
-	ldr	x25, [sp, #128]
-	.cfi_restore x25
-	ldp	x22, x21, [sp, #160]
+	ldr	x28, [sp, #128]
+	.cfi_restore x28
+	ldp	x22, x21, [sp, #176]
 	.cfi_restore x21
 	.cfi_restore x22
-	ldp	x24, x23, [sp, #144]
+	ldp	x24, x23, [sp, #160]
 	.cfi_restore x23
 	.cfi_restore x24
+	ldp	x26, x25, [sp, #144]
+	.cfi_restore x25
+	.cfi_restore x26
 	ldp	x29, x30, [sp, #112]
-	.cfi_def_cfa sp, 192
+	.cfi_def_cfa sp, 208
 	.cfi_restore x29
 	.cfi_restore x30
-	add	sp, sp, #192
+	add	sp, sp, #208
 	.cfi_def_cfa sp, 0
 	hint	#29
 	.cfi_escape 0x2d
 	ret
-.LBB5_74:
+.LBB5_63:
 	.cfi_restore_state
-	add	x0, x21, #32
+	add	x0, x20, #32
 	mov	w1, #1
-	stp	q1, q0, [sp]
-	mov	w25, #1
+	str	q1, [sp]
+	str	q0, [sp, #32]
+	mov	w26, #1
 	bl	"std_alloc::vec::Vec::grow_amortized::<#1ed62de40e111fb4>"
-	cbz	w0, .LBB5_76
-	ldp	q1, q0, [sp]
-	ldr	x8, [x21, #40]
-	b	.LBB5_70
-.LBB5_76:
+	cbz	w0, .LBB5_65
+	ldr	x8, [x20, #40]
+	ldr	q0, [sp, #32]
+	ldr	q1, [sp]
+	b	.LBB5_55
+.LBB5_65:
 	mov	w8, wzr
-	b	.LBB5_67
+	b	.LBB5_52
 .Lfunc_end5:
 	.size	"pair_text::said_lines::SaidLinesTakeLines::end_line::<#a10fcec3e4a5dd02>", .Lfunc_end5-"pair_text::said_lines::SaidLinesTakeLines::end_line::<#a10fcec3e4a5dd02>"
 	.cfi_endproc
@@ -5664,8 +5678,8 @@
 	sub	x9, x10, x9
 	lsr	x12, x9, #6
 	mov	x9, x8
-	cmp	x8, x12
-	csel	x8, x8, x12, hi
+	cmp	x12, x8
+	csel	x8, x12, x8, hi
 	subs	x11, x11, #1
 	b.ne	.LBB17_24
 	mov	w8, #21322
@@ -7260,144 +7274,109 @@
 	.cfi_startproc
 	hint	#25
 	.cfi_escape 0x2d
-	stp	x29, x30, [sp, #-96]!
-	.cfi_def_cfa sp, 96
-	.cfi_offset x29, -96
-	.cfi_offset x30, -88
-	str	x28, [sp, #16]
-	.cfi_offset x28, -80
-	mov	x29, sp
-	.cfi_def_cfa x29, 96
-	stp	x26, x25, [sp, #32]
+	stp	x29, x30, [sp, #-80]!
+	.cfi_def_cfa sp, 80
+	.cfi_offset x29, -80
+	.cfi_offset x30, -72
+	stp	x28, x25, [sp, #16]
 	.cfi_offset x25, -56
-	.cfi_offset x26, -64
-	stp	x24, x23, [sp, #48]
+	.cfi_offset x28, -64
+	mov	x29, sp
+	.cfi_def_cfa x29, 80
+	stp	x24, x23, [sp, #32]
 	.cfi_offset x23, -40
 	.cfi_offset x24, -48
-	stp	x22, x21, [sp, #64]
+	stp	x22, x21, [sp, #48]
 	.cfi_offset x21, -24
 	.cfi_offset x22, -32
-	stp	x20, x19, [sp, #80]
+	stp	x20, x19, [sp, #64]
 	.cfi_offset x19, -8
 	.cfi_offset x20, -16
-	sub	sp, sp, #3072
-	str	xzr, [sp]
-	sub	sp, sp, #3072
-	str	xzr, [sp]
-	sub	sp, sp, #1296
+	sub	sp, sp, #2032
 	movi	v0.2d, #0000000000000000
 	mov	x21, x3
 	mov	x20, x2
+	mov	x22, x1
 	mov	x19, x0
-	add	x23, sp, #3760
 	cmp	x3, #1025
 	str	xzr, [sp]
-	stp	q0, q0, [x23]
+	stp	q0, q0, [x29, #-128]
 	b.hs	.LBB20_5
 	cmp	x21, #0
-	ldp	q0, q1, [x1]
+	ldp	q0, q1, [x22]
 	cset	w8, ne
-	sub	x24, x21, x8
-	lsr	x22, x24, #6
-	cbz	x22, .LBB20_6
-	mov	x25, xzr
-	mov	x26, x20
+	sub	x23, x21, x8
+	lsr	x24, x23, #6
+	cbz	x24, .LBB20_6
+	mov	x22, xzr
+	mov	x25, x20
 .LBB20_3:
-	ldp	q2, q3, [x26]
-	cmp	x25, #0
+	ldp	q2, q3, [x25]
+	cmp	x22, #0
 	mov	w8, #16
-	add	x1, sp, #1, lsl #12
-	add	x0, sp, #3792
+	sub	x0, x29, #96
+	sub	x1, x29, #64
 	cinc	w4, w8, eq
-	add	x1, x1, #1488
 	mov	x2, xzr
-	str	q2, [x23, #1824]
-	ldp	q4, q2, [x26, #32]
 	mov	w3, #64
-	str	q3, [x23, #1840]
-	str	q4, [x23, #1856]
-	str	q2, [x23, #1872]
+	stp	q2, q3, [x29, #-64]
+	ldp	q4, q2, [x25, #32]
+	stp	q4, q2, [x29, #-32]
 	bl	"keyed_blake3::compression::compress"
-	ldp	q0, q1, [x23, #32]
-	add	x25, x25, #1
-	cmp	x22, x25
-	add	x26, x26, #64
+	ldp	q0, q1, [x29, #-96]
+	add	x22, x22, #1
+	cmp	x24, x22
+	add	x25, x25, #64
 	b.ne	.LBB20_3
 	mov	w22, #26
 	b	.LBB20_7
 .LBB20_5:
-	ldp	q0, q1, [x1]
-	add	x8, sp, #3792
-	add	x0, x8, #64
+	add	x8, sp, #32
 	mov	w1, wzr
-	mov	w2, #1728
-	stp	q0, q1, [x23, #32]
-	stp	q0, q1, [x23, #64]
+	mov	w2, #1800
+	add	x0, x8, #64
 	bl	memset
-	add	x0, sp, #1, lsl #12
-	add	x1, sp, #3792
-	mov	w2, #1792
-	add	x0, x0, #1488
-	bl	memcpy
-	movi	v0.2d, #0000000000000000
-	add	x1, sp, #1, lsl #12
-	add	x0, sp, #40
-	add	x1, x1, #1488
-	mov	w2, #1856
-	str	q0, [x23, #3616]
-	str	q0, [x23, #3632]
-	str	q0, [x23, #3648]
-	str	q0, [x23, #3664]
-	bl	memcpy
-	add	x0, sp, #1896
-	add	x1, sp, #40
-	mov	w2, #1856
-	bl	memcpy
-	add	x0, sp, #1896
+	ldp	q0, q1, [x22]
+	add	x0, sp, #32
 	mov	x1, x20
 	mov	x2, x21
-	str	xzr, [sp, #3752]
+	stp	q0, q1, [sp, #32]
+	stp	q0, q1, [sp, #64]
 	bl	"keyed_blake3::hasher::Hasher::update"
-	add	x0, sp, #3760
-	add	x1, sp, #1896
+	sub	x0, x29, #128
+	add	x1, sp, #32
 	bl	"keyed_blake3::hasher::Hasher::finalize"
 	b	.LBB20_11
 .LBB20_6:
 	mov	w22, #27
 .LBB20_7:
 	movi	v2.2d, #0000000000000000
-	and	x8, x24, #0x7c0
+	and	x8, x23, #0x7c0
+	sub	x23, x29, #128
 	sub	x21, x21, x8
 	add	x1, x20, x8
 	cmp	x21, #64
-	stp	q2, q2, [x23, #32]
+	stp	q2, q2, [x29, #-96]
 	b.ne	.LBB20_9
 	ldp	q2, q3, [x1]
-	add	x0, sp, #3792
+	sub	x0, x29, #96
 	mov	x2, xzr
 	mov	w3, #64
-	str	q2, [x23, #1824]
+	stp	q2, q3, [x29, #-64]
 	ldp	q4, q2, [x1, #32]
-	add	x1, sp, #1, lsl #12
-	str	q3, [x23, #1840]
-	add	x1, x1, #1488
-	str	q4, [x23, #1856]
-	str	q2, [x23, #1872]
+	sub	x1, x29, #64
+	stp	q4, q2, [x29, #-32]
 	b	.LBB20_10
 .LBB20_9:
-	add	x0, sp, #1, lsl #12
+	sub	x0, x29, #64
 	mov	x2, x21
-	str	q2, [x23, #1872]
-	add	x0, x0, #1488
-	str	q2, [x23, #1856]
-	str	q2, [x23, #1840]
-	str	q2, [x23, #1824]
+	stp	q2, q2, [x29, #-64]
+	stp	q2, q2, [x29, #-32]
 	stp	q0, q1, [sp]
 	bl	memcpy
 	ldp	q0, q1, [sp]
-	add	x1, sp, #1, lsl #12
-	add	x0, sp, #3792
-	add	x1, x1, #1488
+	sub	x0, x29, #96
+	sub	x1, x29, #64
 	mov	x2, xzr
 	mov	w3, w21
 .LBB20_10:
@@ -7405,33 +7384,30 @@
 	bl	"keyed_blake3::compression::compress"
 	ldur	q0, [x23, #36]
 	ldur	d1, [x23, #52]
-	ldr	w8, [sp, #3820]
-	ldr	w9, [sp, #3792]
+	ldur	w8, [x29, #-68]
+	ldur	w9, [x29, #-96]
 	stur	q0, [x23, #4]
 	stur	d1, [x23, #20]
-	str	w9, [sp, #3760]
-	str	w8, [sp, #3788]
+	stur	w9, [x29, #-128]
+	stur	w8, [x29, #-100]
 .LBB20_11:
-	ldp	q0, q1, [x23]
+	ldp	q0, q1, [x29, #-128]
 	stp	q0, q1, [x19]
-	add	sp, sp, #1, lsl #12
-	add	sp, sp, #3344
-	ldp	x20, x19, [sp, #80]
+	add	sp, sp, #2032
+	ldp	x20, x19, [sp, #64]
 	.cfi_remember_state
 	.cfi_restore x19
 	.cfi_restore x20
-	ldr	x28, [sp, #16]
-	.cfi_restore x28
-	ldp	x22, x21, [sp, #64]
+	ldp	x22, x21, [sp, #48]
 	.cfi_restore x21
 	.cfi_restore x22
-	ldp	x24, x23, [sp, #48]
+	ldp	x24, x23, [sp, #32]
 	.cfi_restore x23
 	.cfi_restore x24
-	ldp	x26, x25, [sp, #32]
+	ldp	x28, x25, [sp, #16]
 	.cfi_restore x25
-	.cfi_restore x26
-	ldp	x29, x30, [sp], #96
+	.cfi_restore x28
+	ldp	x29, x30, [sp], #80
 	.cfi_def_cfa sp, 0
 	.cfi_restore x29
 	.cfi_restore x30
@@ -20077,8 +20053,7 @@
 	.cfi_offset x20, -16
 	sub	sp, sp, #3072
 	str	xzr, [sp]
-	sub	sp, sp, #2448
-	str	xzr, [sp]
+	sub	sp, sp, #656
 	ldrb	w8, [x1, #88]
 	cbz	w8, .LBB54_5
 	ldr	x8, [x1, #1952]
@@ -20119,33 +20094,24 @@
 	ldrb	w8, [x2]
 	cmp	w8, #43
 	b.ne	.LBB54_8
-	adrp	x8, .Lstatic.17
-	add	x8, x8, :lo12:.Lstatic.17
-	add	x22, sp, #1872
-	ldp	q0, q1, [x8]
 	add	x8, sp, #1872
 	mov	x19, x0
-	add	x0, x8, #64
 	mov	x20, x1
+	add	x0, x8, #64
 	mov	w1, wzr
 	mov	x23, x2
-	mov	w2, #1728
-	stp	q0, q1, [x22]
-	mov	x21, x3
-	stp	q0, q1, [x22, #32]
-	bl	memset
-	add	x0, sp, #3664
-	add	x1, sp, #1872
 	mov	w2, #1792
-	bl	memcpy
-	movi	v0.2d, #0000000000000000
+	add	x22, sp, #1872
+	mov	x21, x3
+	bl	memset
+	adrp	x8, .Lstatic.17
+	add	x8, x8, :lo12:.Lstatic.17
 	add	x0, sp, #8
-	add	x1, sp, #3664
+	ldp	q0, q1, [x8]
+	add	x1, sp, #1872
 	mov	w2, #1856
-	str	q0, [x22, #3584]
-	str	q0, [x22, #3600]
-	str	q0, [x22, #3616]
-	str	q0, [x22, #3632]
+	stp	q0, q1, [x22]
+	stp	q0, q1, [x22, #32]
 	bl	memcpy
 	add	x0, sp, #8
 	add	x1, x23, #1
@@ -20227,8 +20193,7 @@
 	stp	xzr, xzr, [x0, #8]
 .LBB54_19:
 	strb	wzr, [x0, #24]
-	add	sp, sp, #1, lsl #12
-	add	sp, sp, #1424
+	add	sp, sp, #3728
 	ldp	x20, x19, [sp, #48]
 	.cfi_remember_state
 	.cfi_restore x19

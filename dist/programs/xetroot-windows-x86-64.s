@@ -1,5 +1,5 @@
 /* Yurewha 1.1.0 for windows-x86-64: the proved program xetroot, as the toolchain compiles it. Made by dist/make, not by hand.
-   The sum of its sources: 1d349a6c271d2496f83fe733a090b4f94b1ea5a7cd7be662cc10a7bc4a0a3460 */
+   The sum of its sources: c1fce453351cd955ee50bcb69cd6b476edcd1efc36e613590d9c221ae68ff22a */
 	.section	.text
 	.p2align	4
 	.def	"std_alloc::vec::Vec::grow_amortized::<#bc82ad78765e08fe>";
@@ -756,6 +756,26 @@
 	.long	.LBB4_40-.LJTI4_0
 	.long	.LBB4_39-.LJTI4_0
 
+	.section	.rdata,"dr"
+	.p2align	4, 0x0
+.LCPI5_0:
+	.zero	16,208
+.LCPI5_1:
+	.zero	16,9
+.LCPI5_2:
+	.zero	16,223
+.LCPI5_3:
+	.zero	16,191
+.LCPI5_4:
+	.zero	16,5
+.LCPI5_5:
+	.zero	16,1
+.LCPI5_6:
+	.zero	16,3
+.LCPI5_7:
+	.zero	16,240
+.LCPI5_8:
+	.zero	16,15
 	.section	.text
 	.p2align	4
 	.def	"pair_text::said_lines::SaidLinesTakeLines::end_line::<#a10fcec3e4a5dd02>";
@@ -780,244 +800,376 @@
 	.seh_pushreg %rbp
 	pushq	%rbx
 	.seh_pushreg %rbx
-	subq	$168, %rsp
-	.seh_stackalloc 168
+	subq	$248, %rsp
+	.seh_stackalloc 248
+	movdqa	%xmm11, 224(%rsp)
+	.seh_savexmm %xmm11, 224
+	movdqa	%xmm10, 208(%rsp)
+	.seh_savexmm %xmm10, 208
+	movdqa	%xmm9, 192(%rsp)
+	.seh_savexmm %xmm9, 192
+	movdqa	%xmm8, 176(%rsp)
+	.seh_savexmm %xmm8, 176
+	movdqa	%xmm7, 160(%rsp)
+	.seh_savexmm %xmm7, 160
+	movdqa	%xmm6, 144(%rsp)
+	.seh_savexmm %xmm6, 144
 	.seh_endprologue
 	movq	%rdx, %rdi
 	movq	%rcx, %rsi
-	xorps	%xmm0, %xmm0
-	movaps	%xmm0, 144(%rsp)
-	movaps	%xmm0, 128(%rsp)
-	leaq	96(%rdx), %rax
+	pxor	%xmm0, %xmm0
+	movdqa	%xmm0, 128(%rsp)
+	movdqa	%xmm0, 112(%rsp)
+	leaq	96(%rdx), %r12
 	cmpb	$0, 88(%rdx)
 	je	.LBB5_4
-	leaq	128(%rsp), %rcx
-	movq	%rax, %rdx
+	leaq	112(%rsp), %rcx
+	movq	%r12, %rdx
 	callq	yurewha_stub_of_finalize
-	movq	128(%rsp), %rax
-	movq	136(%rsp), %r12
-	movq	144(%rsp), %r13
-	movq	152(%rsp), %r15
-	movq	1952(%rdi), %rbx
-	movq	64(%rdi), %rbp
-	movq	%rbp, %r14
-	incq	%r14
-	jne	.LBB5_38
+	movq	112(%rsp), %rax
+	movq	120(%rsp), %rcx
+	movq	128(%rsp), %r13
+	movq	136(%rsp), %rbp
+	movq	1952(%rdi), %r14
+	movq	64(%rdi), %rbx
+	movq	%rbx, %r15
+	incq	%r15
+	jne	.LBB5_21
 .LBB5_2:
 	xorl	%eax, %eax
 .LBB5_3:
 	xorl	%ecx, %ecx
-	jmp	.LBB5_70
+	jmp	.LBB5_55
 .LBB5_4:
 	movq	184(%rdi), %rdx
 	testq	%rdx, %rdx
-	je	.LBB5_33
+	je	.LBB5_47
 	cmpq	$2, %rdx
 	jne	.LBB5_8
-	movzbl	(%rax), %eax
+	movzbl	(%r12), %eax
 	cmpl	$45, %eax
-	je	.LBB5_32
+	je	.LBB5_46
 	cmpl	$64, %eax
 	je	.LBB5_9
-	jmp	.LBB5_33
+	jmp	.LBB5_47
 .LBB5_8:
-	cmpb	$64, (%rax)
+	cmpb	$64, (%r12)
 	jne	.LBB5_13
 .LBB5_9:
 	decq	%rdx
 	leaq	97(%rdi), %rcx
 	callq	"pair_text::line::parse_decimal"
 	cmpb	$1, %al
-	jne	.LBB5_33
+	jne	.LBB5_47
 	cmpq	64(%rdi), %rdx
-	je	.LBB5_77
+	je	.LBB5_62
 	movq	%rdx, %rbx
 	movq	%rdi, %rcx
 	callq	"xetroot_text::placed_pairs::PlacedPairs::end_range::<#ca9445b3ca2ffbf0>"
 	testb	%al, %al
-	jne	.LBB5_73
+	jne	.LBB5_58
 	movq	%rbx, 56(%rdi)
 	movq	%rbx, 64(%rdi)
-	jmp	.LBB5_77
+	jmp	.LBB5_62
 .LBB5_13:
 	cmpq	$64, %rdx
-	jb	.LBB5_33
-	movaps	%xmm0, 64(%rsp)
-	movaps	%xmm0, 48(%rsp)
+	jb	.LBB5_47
+	movdqa	.LCPI5_0(%rip), %xmm3
+	movdqu	96(%rdi), %xmm6
+	movdqu	112(%rdi), %xmm9
+	movdqu	128(%rdi), %xmm2
+	movdqu	144(%rdi), %xmm0
+	movdqa	%xmm6, %xmm4
+	paddb	%xmm3, %xmm4
+	movdqa	%xmm9, %xmm5
+	paddb	%xmm3, %xmm5
+	movdqa	.LCPI5_1(%rip), %xmm1
+	movdqa	%xmm4, %xmm10
+	pminub	%xmm1, %xmm10
+	pcmpeqb	%xmm4, %xmm10
+	movdqa	%xmm5, %xmm11
+	pminub	%xmm1, %xmm11
+	pcmpeqb	%xmm5, %xmm11
+	movdqa	.LCPI5_2(%rip), %xmm7
+	pand	%xmm7, %xmm6
+	pand	%xmm7, %xmm9
+	movdqa	.LCPI5_3(%rip), %xmm8
+	paddb	%xmm8, %xmm6
+	paddb	%xmm8, %xmm9
+	movdqa	.LCPI5_4(%rip), %xmm5
+	movdqa	%xmm6, %xmm4
+	pminub	%xmm5, %xmm4
+	pcmpeqb	%xmm6, %xmm4
+	por	%xmm10, %xmm4
+	movdqa	%xmm9, %xmm6
+	pminub	%xmm5, %xmm6
+	pcmpeqb	%xmm9, %xmm6
+	por	%xmm11, %xmm6
+	movdqa	.LCPI5_5(%rip), %xmm9
+	pand	%xmm9, %xmm4
+	pand	%xmm9, %xmm6
+	movdqa	%xmm2, %xmm9
+	paddb	%xmm3, %xmm9
+	paddb	%xmm0, %xmm3
+	movdqa	%xmm9, %xmm10
+	pminub	%xmm1, %xmm10
+	pcmpeqb	%xmm9, %xmm10
+	pminub	%xmm3, %xmm1
+	pcmpeqb	%xmm3, %xmm1
+	pand	%xmm7, %xmm2
+	pand	%xmm7, %xmm0
+	paddb	%xmm8, %xmm2
+	paddb	%xmm8, %xmm0
+	movdqa	%xmm2, %xmm3
+	pminub	%xmm5, %xmm3
+	pcmpeqb	%xmm2, %xmm3
+	por	%xmm10, %xmm3
+	psubb	%xmm3, %xmm4
+	pminub	%xmm0, %xmm5
+	pcmpeqb	%xmm0, %xmm5
+	por	%xmm1, %xmm5
+	psubb	%xmm5, %xmm6
+	paddb	%xmm4, %xmm6
+	pshufd	$238, %xmm6, %xmm1
+	paddb	%xmm6, %xmm1
+	pxor	%xmm0, %xmm0
+	psadbw	%xmm0, %xmm1
+	movd	%xmm1, %eax
+	cmpb	$64, %al
+	jne	.LBB5_47
+	movdqa	%xmm0, 64(%rsp)
+	movdqa	%xmm0, 48(%rsp)
 	xorl	%eax, %eax
-	jmp	.LBB5_17
-.LBB5_15:
-	addb	$-48, %r8b
+	.p2align	4
 .LBB5_16:
-	shlb	$4, %cl
-	addb	%r8b, %cl
-	movb	%cl, 48(%rsp,%rax)
-	incq	%rax
-	cmpq	$32, %rax
-	je	.LBB5_34
-.LBB5_17:
+	movzbl	126(%rdi,%rax,2), %ecx
+	movd	%ecx, %xmm0
+	movzbl	124(%rdi,%rax,2), %ecx
+	movd	%ecx, %xmm1
+	punpcklbw	%xmm0, %xmm1
+	movzbl	122(%rdi,%rax,2), %ecx
+	movd	%ecx, %xmm0
+	movzbl	120(%rdi,%rax,2), %ecx
+	movd	%ecx, %xmm2
+	punpcklbw	%xmm0, %xmm2
+	punpcklwd	%xmm1, %xmm2
+	movzbl	118(%rdi,%rax,2), %ecx
+	movd	%ecx, %xmm0
+	movzbl	116(%rdi,%rax,2), %ecx
+	movd	%ecx, %xmm1
+	punpcklbw	%xmm0, %xmm1
+	movzbl	114(%rdi,%rax,2), %ecx
+	movd	%ecx, %xmm3
+	movzbl	112(%rdi,%rax,2), %ecx
+	movd	%ecx, %xmm0
+	punpcklbw	%xmm3, %xmm0
+	punpcklwd	%xmm1, %xmm0
+	punpckldq	%xmm2, %xmm0
+	movzbl	110(%rdi,%rax,2), %ecx
+	movd	%ecx, %xmm1
+	movzbl	108(%rdi,%rax,2), %ecx
+	movd	%ecx, %xmm2
+	punpcklbw	%xmm1, %xmm2
+	movzbl	106(%rdi,%rax,2), %ecx
+	movd	%ecx, %xmm1
+	movzbl	104(%rdi,%rax,2), %ecx
+	movd	%ecx, %xmm3
+	punpcklbw	%xmm1, %xmm3
+	punpcklwd	%xmm2, %xmm3
+	movzbl	102(%rdi,%rax,2), %ecx
+	movd	%ecx, %xmm1
+	movzbl	100(%rdi,%rax,2), %ecx
+	movd	%ecx, %xmm2
+	punpcklbw	%xmm1, %xmm2
+	movzbl	98(%rdi,%rax,2), %ecx
+	movd	%ecx, %xmm1
 	movzbl	96(%rdi,%rax,2), %ecx
-	cmpb	$48, %cl
-	jb	.LBB5_33
-	movzbl	97(%rdi,%rax,2), %r8d
-	cmpb	$57, %cl
-	ja	.LBB5_20
-	addb	$-48, %cl
-	jmp	.LBB5_25
-.LBB5_20:
-	cmpb	$65, %cl
-	jb	.LBB5_33
-	cmpb	$70, %cl
-	ja	.LBB5_23
-	addb	$-55, %cl
-	jmp	.LBB5_25
-.LBB5_23:
-	leal	-97(%rcx), %r9d
-	cmpb	$5, %r9b
-	ja	.LBB5_33
-	addb	$-87, %cl
-.LBB5_25:
-	cmpb	$48, %r8b
-	jb	.LBB5_33
-	cmpb	$57, %r8b
-	jbe	.LBB5_15
-	cmpb	$65, %r8b
-	jb	.LBB5_33
-	cmpb	$70, %r8b
-	ja	.LBB5_30
-	addb	$-55, %r8b
-	jmp	.LBB5_16
-.LBB5_30:
-	leal	-97(%r8), %r9d
-	cmpb	$5, %r9b
-	ja	.LBB5_33
-	addb	$-87, %r8b
-	jmp	.LBB5_16
-.LBB5_32:
-	cmpb	$45, 97(%rdi)
-	je	.LBB5_77
-.LBB5_33:
-	movw	$1, (%rsi)
-	jmp	.LBB5_78
-.LBB5_34:
-	movl	48(%rsp), %eax
-	movl	51(%rsp), %ecx
-	movl	%eax, 96(%rsp)
-	movl	%ecx, 99(%rsp)
-	movzbl	71(%rsp), %eax
-	movq	72(%rsp), %r15
-	movups	55(%rsp), %xmm0
-	movups	%xmm0, 103(%rsp)
-	movb	%al, 119(%rsp)
+	movd	%ecx, %xmm4
+	punpcklbw	%xmm1, %xmm4
+	punpcklwd	%xmm2, %xmm4
+	punpckldq	%xmm3, %xmm4
+	punpcklqdq	%xmm0, %xmm4
+	movdqa	%xmm4, %xmm2
+	psrlw	$6, %xmm2
+	movdqa	.LCPI5_6(%rip), %xmm1
+	pand	%xmm1, %xmm2
+	movdqa	%xmm2, %xmm0
+	psllw	$3, %xmm0
+	por	%xmm2, %xmm0
+	paddb	%xmm4, %xmm0
+	psllw	$4, %xmm0
+	pand	.LCPI5_7(%rip), %xmm0
+	movzbl	127(%rdi,%rax,2), %ecx
+	movd	%ecx, %xmm2
+	movzbl	125(%rdi,%rax,2), %ecx
+	movd	%ecx, %xmm3
+	punpcklbw	%xmm2, %xmm3
+	movzbl	123(%rdi,%rax,2), %ecx
+	movd	%ecx, %xmm2
+	movzbl	121(%rdi,%rax,2), %ecx
+	movd	%ecx, %xmm4
+	punpcklbw	%xmm2, %xmm4
+	punpcklwd	%xmm3, %xmm4
+	movzbl	119(%rdi,%rax,2), %ecx
+	movd	%ecx, %xmm2
+	movzbl	117(%rdi,%rax,2), %ecx
+	movd	%ecx, %xmm3
+	punpcklbw	%xmm2, %xmm3
+	movzbl	115(%rdi,%rax,2), %ecx
+	movd	%ecx, %xmm5
+	movzbl	113(%rdi,%rax,2), %ecx
+	movd	%ecx, %xmm2
+	punpcklbw	%xmm5, %xmm2
+	punpcklwd	%xmm3, %xmm2
+	punpckldq	%xmm4, %xmm2
+	movzbl	111(%rdi,%rax,2), %ecx
+	movd	%ecx, %xmm3
+	movzbl	109(%rdi,%rax,2), %ecx
+	movd	%ecx, %xmm4
+	punpcklbw	%xmm3, %xmm4
+	movzbl	107(%rdi,%rax,2), %ecx
+	movd	%ecx, %xmm3
+	movzbl	105(%rdi,%rax,2), %ecx
+	movd	%ecx, %xmm5
+	punpcklbw	%xmm3, %xmm5
+	punpcklwd	%xmm4, %xmm5
+	movzbl	103(%rdi,%rax,2), %ecx
+	movd	%ecx, %xmm3
+	movzbl	101(%rdi,%rax,2), %ecx
+	movd	%ecx, %xmm4
+	punpcklbw	%xmm3, %xmm4
+	movzbl	99(%rdi,%rax,2), %ecx
+	movd	%ecx, %xmm3
+	movzbl	97(%rdi,%rax,2), %ecx
+	movd	%ecx, %xmm6
+	punpcklbw	%xmm3, %xmm6
+	punpcklwd	%xmm4, %xmm6
+	punpckldq	%xmm5, %xmm6
+	punpcklqdq	%xmm2, %xmm6
+	movdqa	.LCPI5_8(%rip), %xmm2
+	pand	%xmm6, %xmm2
+	psrlw	$6, %xmm6
+	pand	%xmm1, %xmm6
+	movdqa	%xmm6, %xmm1
+	psllw	$3, %xmm1
+	por	%xmm6, %xmm1
+	paddb	%xmm2, %xmm1
+	paddb	%xmm0, %xmm1
+	movdqu	%xmm1, 48(%rsp,%rax)
+	addq	$16, %rax
+	cmpq	$32, %rax
+	jne	.LBB5_16
 	cmpq	$64, %rdx
-	je	.LBB5_33
+	je	.LBB5_47
 	cmpb	$32, 160(%rdi)
-	jne	.LBB5_33
-	movq	96(%rsp), %r14
-	movq	104(%rsp), %r12
-	movq	112(%rsp), %r13
+	jne	.LBB5_47
+	movq	48(%rsp), %rbx
+	movq	56(%rsp), %r15
+	movq	64(%rsp), %r13
+	movq	72(%rsp), %rbp
 	addq	$-65, %rdx
 	leaq	161(%rdi), %rcx
 	callq	"pair_text::line::parse_decimal"
 	cmpb	$1, %al
-	jne	.LBB5_33
-	movq	%rdx, %rbx
-	bswapq	%r14
-	bswapq	%r12
-	bswapq	%r13
+	jne	.LBB5_47
+	movq	%rdx, %r14
+	bswapq	%rbx
 	bswapq	%r15
-	movq	%r14, %rax
-	movq	64(%rdi), %rbp
-	movq	%rbp, %r14
-	incq	%r14
+	bswapq	%r13
+	bswapq	%rbp
+	movq	%rbx, %rax
+	movq	%r15, %rcx
+	movq	64(%rdi), %rbx
+	movq	%rbx, %r15
+	incq	%r15
 	je	.LBB5_2
-.LBB5_38:
+.LBB5_21:
 	cmpb	$1, (%rdi)
-	movq	%rax, 120(%rsp)
-	jne	.LBB5_68
+	movq	%rax, 104(%rsp)
+	movq	%rcx, 96(%rsp)
+	jne	.LBB5_53
 	movq	8(%rdi), %rax
 	movzwl	(%rax), %edx
 	testq	%rdx, %rdx
-	movq	%r15, 40(%rsp)
-	je	.LBB5_46
+	je	.LBB5_29
 	xorl	%ecx, %ecx
 	.p2align	4
-.LBB5_41:
-	cmpq	8(%rax,%rcx,8), %rbp
-	jb	.LBB5_44
+.LBB5_24:
+	cmpq	8(%rax,%rcx,8), %rbx
+	jb	.LBB5_27
 	incq	%rcx
 	cmpq	%rcx, %rdx
-	jne	.LBB5_41
+	jne	.LBB5_24
 	movq	%rdx, %rcx
-.LBB5_44:
+.LBB5_27:
 	cmpw	$0, 2(%rax)
-	jne	.LBB5_48
+	jne	.LBB5_31
 	testq	%rcx, %rcx
-	jne	.LBB5_57
-	jmp	.LBB5_63
-.LBB5_46:
+	jne	.LBB5_40
+	jmp	.LBB5_48
+.LBB5_29:
 	cmpw	$0, 2(%rax)
-	je	.LBB5_63
+	je	.LBB5_48
 	xorl	%ecx, %ecx
-.LBB5_48:
+.LBB5_31:
 	leaq	8(%rdi), %r9
 	xorl	%edx, %edx
 	movq	%rcx, %r10
 	movq	%r9, %r11
-	jmp	.LBB5_50
+	jmp	.LBB5_33
 	.p2align	4
-.LBB5_49:
+.LBB5_32:
 	shlq	$4, %rdx
 	addq	%r10, %rdx
 	xorl	%r10d, %r10d
 	cmpw	$0, 2(%rax)
-	je	.LBB5_60
-.LBB5_50:
+	je	.LBB5_43
+.LBB5_33:
 	movq	%r11, %r8
 	leaq	(%rax,%r10,8), %r11
 	addq	$848, %r11
 	movq	848(%rax,%r10,8), %rax
-	movzwl	(%rax), %r15d
-	testq	%r15, %r15
-	je	.LBB5_49
+	movzwl	(%rax), %r12d
+	testq	%r12, %r12
+	je	.LBB5_32
 	xorl	%ecx, %ecx
 	.p2align	4
-.LBB5_52:
-	cmpq	8(%rax,%rcx,8), %rbp
-	jb	.LBB5_55
+.LBB5_35:
+	cmpq	8(%rax,%rcx,8), %rbx
+	jb	.LBB5_38
 	incq	%rcx
-	cmpq	%rcx, %r15
-	jne	.LBB5_52
-	movq	%r15, %rcx
-.LBB5_55:
+	cmpq	%rcx, %r12
+	jne	.LBB5_35
+	movq	%r12, %rcx
+.LBB5_38:
 	shlq	$4, %rdx
 	addq	%r10, %rdx
 	cmpw	$0, 2(%rax)
 	movq	%rcx, %r10
-	jne	.LBB5_50
+	jne	.LBB5_33
 	testq	%rcx, %rcx
-	je	.LBB5_60
-.LBB5_57:
+	je	.LBB5_43
+.LBB5_40:
 	leaq	(%rcx,%rcx,2), %rcx
 	shlq	$4, %rcx
 	addq	%rcx, %rax
 	addq	$80, %rax
-	movq	40(%rsp), %r15
-	jmp	.LBB5_58
-.LBB5_60:
-	xorps	%xmm0, %xmm0
-	movaps	%xmm0, 80(%rsp)
-	movaps	%xmm0, 64(%rsp)
-	movaps	%xmm0, 48(%rsp)
+	leaq	96(%rdi), %r12
+	jmp	.LBB5_41
+.LBB5_43:
+	pxor	%xmm0, %xmm0
+	movdqa	%xmm0, 80(%rsp)
+	movdqa	%xmm0, 64(%rsp)
+	movdqa	%xmm0, 48(%rsp)
 	movq	$-1, 32(%rsp)
 	leaq	48(%rsp), %rcx
 	callq	"std_collections::btree::iter::Cursor::retreat::<#4f04a9971a4b2638>"
 	movzbl	48(%rsp), %eax
 	cmpb	$1, 72(%rsp)
-	jne	.LBB5_64
+	jne	.LBB5_49
 	testb	$1, %al
-	movq	40(%rsp), %r15
-	jne	.LBB5_62
+	leaq	96(%rdi), %r12
+	jne	.LBB5_45
 	movq	88(%rsp), %rax
 	movl	80(%rsp), %ecx
 	movq	(%rax), %rax
@@ -1025,83 +1177,107 @@
 	movq	848(%rax,%rcx,8), %rax
 	movzwl	(%rax), %ecx
 	testq	%rcx, %rcx
-	je	.LBB5_68
+	je	.LBB5_53
 	leaq	(%rcx,%rcx,2), %rcx
 	shll	$4, %ecx
 	addq	%rcx, %rax
 	addq	$80, %rax
-	jmp	.LBB5_58
-.LBB5_63:
-	movq	40(%rsp), %r15
+	jmp	.LBB5_41
+.LBB5_46:
+	cmpb	$45, 97(%rdi)
+	je	.LBB5_62
+.LBB5_47:
+	movw	$1, (%rsi)
 	jmp	.LBB5_68
-.LBB5_64:
+.LBB5_48:
+	leaq	96(%rdi), %r12
+	jmp	.LBB5_53
+.LBB5_49:
 	testb	$1, %al
-	movq	40(%rsp), %r15
-	je	.LBB5_68
-.LBB5_62:
+	leaq	96(%rdi), %r12
+	je	.LBB5_53
+.LBB5_45:
 	movq	64(%rsp), %rax
-.LBB5_58:
-	cmpq	(%rax), %rbp
-	jae	.LBB5_68
+.LBB5_41:
+	cmpq	(%rax), %rbx
+	jae	.LBB5_53
 	movb	$1, %cl
 	xorl	%eax, %eax
-	jmp	.LBB5_70
-.LBB5_68:
-	movq	80(%rdi), %rbp
-	addq	%rbx, %rbp
-	jae	.LBB5_71
+	jmp	.LBB5_55
+.LBB5_53:
+	movq	80(%rdi), %rbx
+	addq	%r14, %rbx
+	jae	.LBB5_56
 	xorl	%eax, %eax
 	movb	$2, %cl
-.LBB5_70:
+.LBB5_55:
 	movb	$1, (%rsi)
 	movb	%al, 1(%rsi)
 	movb	%cl, 2(%rsi)
-	jmp	.LBB5_79
-.LBB5_71:
+	jmp	.LBB5_69
+.LBB5_56:
 	movq	40(%rdi), %rax
 	cmpq	$4096, %rax
-	jb	.LBB5_75
+	jb	.LBB5_60
 	movq	%rdi, %rcx
 	callq	"xetroot_text::placed_pairs::PlacedPairs::end_range::<#ca9445b3ca2ffbf0>"
 	testb	%al, %al
-	je	.LBB5_74
-.LBB5_73:
+	je	.LBB5_59
+.LBB5_58:
 	movb	$1, %al
 	jmp	.LBB5_3
-.LBB5_74:
+.LBB5_59:
 	movq	40(%rdi), %rax
-.LBB5_75:
+.LBB5_60:
 	cmpq	%rax, 48(%rdi)
-	je	.LBB5_80
-.LBB5_76:
+	je	.LBB5_70
+.LBB5_61:
 	movq	32(%rdi), %rcx
 	leaq	(%rax,%rax,4), %rdx
-	movq	120(%rsp), %r8
+	movq	104(%rsp), %r8
 	movq	%r8, (%rcx,%rdx,8)
-	movq	%r12, 8(%rcx,%rdx,8)
+	movq	96(%rsp), %r8
+	movq	%r8, 8(%rcx,%rdx,8)
 	movq	%r13, 16(%rcx,%rdx,8)
-	movq	%r15, 24(%rcx,%rdx,8)
-	movq	%rbx, 32(%rcx,%rdx,8)
+	movq	%rbp, 24(%rcx,%rdx,8)
+	movq	%r14, 32(%rcx,%rdx,8)
 	incq	%rax
 	movq	%rax, 40(%rdi)
-	movq	%r14, 64(%rdi)
+	movq	%r15, 64(%rdi)
 	movq	72(%rdi), %rax
 	incq	%rax
 	movq	$-1, %rcx
 	cmovneq	%rax, %rcx
 	movq	%rcx, 72(%rdi)
-	movq	%rbp, 80(%rdi)
-.LBB5_77:
-	addq	$88, %rdi
+	movq	%rbx, 80(%rdi)
+.LBB5_62:
+	leaq	88(%rdi), %rcx
+	cmpb	$0, (%rcx)
+	je	.LBB5_65
 	movl	$1872, %r8d
-	movq	%rdi, %rcx
 	xorl	%edx, %edx
 	callq	memset
+	jmp	.LBB5_67
+.LBB5_65:
+	movq	184(%rdi), %r8
+	testq	%r8, %r8
+	je	.LBB5_67
+	movq	%r12, %rcx
+	xorl	%edx, %edx
+	callq	memset
+	movq	$0, 184(%rdi)
+.LBB5_67:
 	movw	$0, (%rsi)
-.LBB5_78:
+.LBB5_68:
 	movb	$0, 2(%rsi)
-.LBB5_79:
-	addq	$168, %rsp
+.LBB5_69:
+	movaps	144(%rsp), %xmm6
+	movaps	160(%rsp), %xmm7
+	movaps	176(%rsp), %xmm8
+	movaps	192(%rsp), %xmm9
+	movaps	208(%rsp), %xmm10
+	movaps	224(%rsp), %xmm11
+	addq	$248, %rsp
 	popq	%rbx
 	popq	%rbp
 	popq	%rdi
@@ -1111,14 +1287,14 @@
 	popq	%r14
 	popq	%r15
 	retq
-.LBB5_80:
+.LBB5_70:
 	leaq	32(%rdi), %rcx
 	movl	$1, %edx
 	callq	"std_alloc::vec::Vec::grow_amortized::<#1ed62de40e111fb4>"
 	testb	%al, %al
-	je	.LBB5_73
+	je	.LBB5_58
 	movq	40(%rdi), %rax
-	jmp	.LBB5_76
+	jmp	.LBB5_61
 	.seh_endproc
 
 	.section	.text
@@ -15773,8 +15949,6 @@
 	.seh_pushreg %r15
 	pushq	%r14
 	.seh_pushreg %r14
-	pushq	%r13
-	.seh_pushreg %r13
 	pushq	%r12
 	.seh_pushreg %r12
 	pushq	%rsi
@@ -15783,10 +15957,10 @@
 	.seh_pushreg %rdi
 	pushq	%rbx
 	.seh_pushreg %rbx
-	movl	$5552, %eax
+	movl	$3752, %eax
 	callq	yurewha_stack_probe
 	subq	%rax, %rsp
-	.seh_stackalloc 5552
+	.seh_stackalloc 3752
 	.seh_endprologue
 	testq	%r9, %r9
 	je	.LBB53_32
@@ -15815,51 +15989,41 @@
 	jne	.LBB53_7
 	leaq	-1(%r9), %rsi
 	incq	%r8
-	movups	static.17+16(%rip), %xmm0
-	movaps	%xmm0, 80(%rsp)
-	movups	static.17(%rip), %xmm1
-	movaps	%xmm1, 64(%rsp)
-	movaps	%xmm1, 32(%rsp)
-	movaps	%xmm0, 48(%rsp)
 	leaq	96(%rsp), %rax
 	movq	%r8, %rdi
-	movl	$1728, %r8d
-	movq	%rcx, %r15
-	movq	%rax, %rcx
-	movq	%rdx, %r12
-	xorl	%edx, %edx
-	movq	%r9, %r13
-	callq	memset
-	leaq	1832(%rsp), %rbx
-	leaq	32(%rsp), %rdx
 	movl	$1792, %r8d
+	movq	%rcx, %r14
+	movq	%rax, %rcx
+	movq	%rdx, %r15
+	xorl	%edx, %edx
+	movq	%r9, %r12
+	callq	memset
+	movups	static.17(%rip), %xmm0
+	movaps	%xmm0, 64(%rsp)
+	movups	static.17+16(%rip), %xmm1
+	movaps	%xmm1, 80(%rsp)
+	movaps	%xmm0, 32(%rsp)
+	movaps	%xmm1, 48(%rsp)
+	leaq	1888(%rsp), %rbx
+	leaq	32(%rsp), %rdx
+	movl	$1856, %r8d
 	movq	%rbx, %rcx
 	callq	memcpy
-	xorps	%xmm0, %xmm0
-	movups	%xmm0, 3624(%rsp)
-	movups	%xmm0, 3640(%rsp)
-	movups	%xmm0, 3656(%rsp)
-	movups	%xmm0, 3672(%rsp)
-	leaq	3688(%rsp), %r14
-	movl	$1856, %r8d
-	movq	%r14, %rcx
-	movq	%rbx, %rdx
-	callq	memcpy
-	movq	$0, 5544(%rsp)
-	movq	%r14, %rcx
+	movq	$0, 3744(%rsp)
+	movq	%rbx, %rcx
 	movq	%rdi, %rdx
 	movq	%rsi, %r8
 	callq	yurewha_stub_of_update
-	movq	5544(%rsp), %rsi
-	movq	$1, 88(%r12)
-	leaq	96(%r12), %rcx
+	movq	3744(%rsp), %rsi
+	movq	$1, 88(%r15)
+	leaq	96(%r15), %rcx
 	movl	$1856, %r8d
-	movq	%r14, %rdx
+	movq	%rbx, %rdx
 	callq	memcpy
-	movq	%r13, %r9
-	movq	%r12, %rdx
-	movq	%r15, %rcx
-	movq	%rsi, 1952(%r12)
+	movq	%r12, %r9
+	movq	%r15, %rdx
+	movq	%r14, %rcx
+	movq	%rsi, 1952(%r15)
 	jmp	.LBB53_31
 .LBB53_7:
 	movl	$85, %eax
@@ -15947,12 +16111,11 @@
 	movups	%xmm0, 8(%rcx)
 .LBB53_33:
 	movb	$0, 24(%rcx)
-	addq	$5552, %rsp
+	addq	$3752, %rsp
 	popq	%rbx
 	popq	%rdi
 	popq	%rsi
 	popq	%r12
-	popq	%r13
 	popq	%r14
 	popq	%r15
 	retq

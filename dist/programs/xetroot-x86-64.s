@@ -1,5 +1,5 @@
 /* Yurewha 1.1.0 for x86-64: the proved program xetroot, as the toolchain compiles it. Made by dist/make, not by hand.
-   The sum of its sources: 1d349a6c271d2496f83fe733a090b4f94b1ea5a7cd7be662cc10a7bc4a0a3460 */
+   The sum of its sources: c1fce453351cd955ee50bcb69cd6b476edcd1efc36e613590d9c221ae68ff22a */
 	.section	.note.gnu.property,"a",@note
 	.p2align	3, 0x0
 	.long	4, 16, 5
@@ -792,6 +792,26 @@
 	.long	.LBB4_40-.LJTI4_0
 	.long	.LBB4_39-.LJTI4_0
 
+	.section	.rodata.cst16,"aM",@progbits,16
+	.p2align	4, 0x0
+.LCPI5_0:
+	.zero	16,208
+.LCPI5_1:
+	.zero	16,9
+.LCPI5_2:
+	.zero	16,223
+.LCPI5_3:
+	.zero	16,191
+.LCPI5_4:
+	.zero	16,5
+.LCPI5_5:
+	.zero	16,1
+.LCPI5_6:
+	.zero	16,3
+.LCPI5_7:
+	.zero	16,240
+.LCPI5_8:
+	.zero	16,15
 	.section	".text.pair_text::said_lines::SaidLinesTakeLines::end_line::<#a10fcec3e4a5dd02>","ax",@progbits
 	.p2align	4
 	.type	"pair_text::said_lines::SaidLinesTakeLines::end_line::<#a10fcec3e4a5dd02>",@function
@@ -809,8 +829,8 @@
 	.cfi_def_cfa_offset 48
 	pushq	%rbx
 	.cfi_def_cfa_offset 56
-	subq	$152, %rsp
-	.cfi_def_cfa_offset 208
+	subq	$120, %rsp
+	.cfi_def_cfa_offset 176
 	.cfi_offset %rbx, -56
 	.cfi_offset %r12, -48
 	.cfi_offset %r13, -40
@@ -819,260 +839,385 @@
 	.cfi_offset %rbp, -16
 	movq	%rsi, %r14
 	movq	%rdi, %rbx
-	xorps	%xmm0, %xmm0
-	movaps	%xmm0, 128(%rsp)
-	movaps	%xmm0, 112(%rsp)
-	leaq	96(%rsi), %rax
+	pxor	%xmm0, %xmm0
+	movdqa	%xmm0, 96(%rsp)
+	movdqa	%xmm0, 80(%rsp)
+	leaq	96(%rsi), %r12
 	cmpb	$0, 88(%rsi)
-	je	.LBB5_1
-	leaq	112(%rsp), %rdi
-	movq	%rax, %rsi
+	je	.LBB5_4
+	leaq	80(%rsp), %rdi
+	movq	%r12, %rsi
 	callq	yurewha_stub_of_finalize
-	movq	112(%rsp), %r12
-	movq	120(%rsp), %rax
-	movq	128(%rsp), %rcx
-	movq	136(%rsp), %r11
-	movq	1952(%r14), %r15
-	movq	64(%r14), %r13
-	movq	%r13, %rbp
-	incq	%rbp
-	jne	.LBB5_42
-.LBB5_41:
+	movq	80(%rsp), %r11
+	movq	88(%rsp), %r13
+	movq	96(%rsp), %rax
+	movq	104(%rsp), %rcx
+	movq	1952(%r14), %r12
+	movq	64(%r14), %rbp
+	movq	%rbp, %r15
+	incq	%r15
+	jne	.LBB5_21
+.LBB5_2:
 	xorl	%eax, %eax
-.LBB5_13:
+.LBB5_3:
 	xorl	%ecx, %ecx
-	jmp	.LBB5_14
-.LBB5_1:
+	jmp	.LBB5_55
+.LBB5_4:
 	movq	184(%r14), %rsi
 	testq	%rsi, %rsi
-	je	.LBB5_5
+	je	.LBB5_48
 	cmpq	$2, %rsi
 	jne	.LBB5_8
-	movzbl	(%rax), %eax
+	movzbl	(%r12), %eax
 	cmpl	$45, %eax
-	je	.LBB5_81
+	je	.LBB5_47
 	cmpl	$64, %eax
 	je	.LBB5_9
-	jmp	.LBB5_5
+	jmp	.LBB5_48
 .LBB5_8:
-	cmpb	$64, (%rax)
-	jne	.LBB5_15
+	cmpb	$64, (%r12)
+	jne	.LBB5_13
 .LBB5_9:
 	decq	%rsi
 	leaq	97(%r14), %rdi
 	callq	"pair_text::line::parse_decimal"
 	cmpb	$1, %al
-	jne	.LBB5_5
+	jne	.LBB5_48
 	cmpq	64(%r14), %rdx
-	je	.LBB5_82
+	je	.LBB5_62
 	movq	%rdx, %r15
 	movq	%r14, %rdi
 	callq	"xetroot_text::placed_pairs::PlacedPairs::end_range::<#ca9445b3ca2ffbf0>"
 	testb	%al, %al
-	jne	.LBB5_12
+	jne	.LBB5_58
 	movq	%r15, 56(%r14)
 	movq	%r15, 64(%r14)
-	jmp	.LBB5_82
-.LBB5_15:
+	jmp	.LBB5_62
+.LBB5_13:
 	cmpq	$64, %rsi
-	jb	.LBB5_5
-	movaps	%xmm0, 32(%rsp)
-	movaps	%xmm0, 16(%rsp)
+	jb	.LBB5_48
+	movdqa	.LCPI5_0(%rip), %xmm3
+	movdqu	96(%r14), %xmm6
+	movdqu	112(%r14), %xmm9
+	movdqu	128(%r14), %xmm2
+	movdqu	144(%r14), %xmm0
+	movdqa	%xmm6, %xmm4
+	paddb	%xmm3, %xmm4
+	movdqa	%xmm9, %xmm5
+	paddb	%xmm3, %xmm5
+	movdqa	.LCPI5_1(%rip), %xmm1
+	movdqa	%xmm4, %xmm10
+	pminub	%xmm1, %xmm10
+	pcmpeqb	%xmm4, %xmm10
+	movdqa	%xmm5, %xmm11
+	pminub	%xmm1, %xmm11
+	pcmpeqb	%xmm5, %xmm11
+	movdqa	.LCPI5_2(%rip), %xmm7
+	pand	%xmm7, %xmm6
+	pand	%xmm7, %xmm9
+	movdqa	.LCPI5_3(%rip), %xmm8
+	paddb	%xmm8, %xmm6
+	paddb	%xmm8, %xmm9
+	movdqa	.LCPI5_4(%rip), %xmm5
+	movdqa	%xmm6, %xmm4
+	pminub	%xmm5, %xmm4
+	pcmpeqb	%xmm6, %xmm4
+	por	%xmm10, %xmm4
+	movdqa	%xmm9, %xmm6
+	pminub	%xmm5, %xmm6
+	pcmpeqb	%xmm9, %xmm6
+	por	%xmm11, %xmm6
+	movdqa	.LCPI5_5(%rip), %xmm9
+	pand	%xmm9, %xmm4
+	pand	%xmm9, %xmm6
+	movdqa	%xmm2, %xmm9
+	paddb	%xmm3, %xmm9
+	paddb	%xmm0, %xmm3
+	movdqa	%xmm9, %xmm10
+	pminub	%xmm1, %xmm10
+	pcmpeqb	%xmm9, %xmm10
+	pminub	%xmm3, %xmm1
+	pcmpeqb	%xmm3, %xmm1
+	pand	%xmm7, %xmm2
+	pand	%xmm7, %xmm0
+	paddb	%xmm8, %xmm2
+	paddb	%xmm8, %xmm0
+	movdqa	%xmm2, %xmm3
+	pminub	%xmm5, %xmm3
+	pcmpeqb	%xmm2, %xmm3
+	por	%xmm10, %xmm3
+	psubb	%xmm3, %xmm4
+	pminub	%xmm0, %xmm5
+	pcmpeqb	%xmm0, %xmm5
+	por	%xmm1, %xmm5
+	psubb	%xmm5, %xmm6
+	paddb	%xmm4, %xmm6
+	pshufd	$238, %xmm6, %xmm1
+	paddb	%xmm6, %xmm1
+	pxor	%xmm0, %xmm0
+	psadbw	%xmm0, %xmm1
+	movd	%xmm1, %eax
+	cmpb	$64, %al
+	jne	.LBB5_48
+	movdqa	%xmm0, 32(%rsp)
+	movdqa	%xmm0, 16(%rsp)
 	xorl	%eax, %eax
-	jmp	.LBB5_17
-.LBB5_27:
-	addb	$-48, %dl
-.LBB5_33:
-	shlb	$4, %cl
-	addb	%dl, %cl
-	movb	%cl, 16(%rsp,%rax)
-	incq	%rax
-	cmpq	$32, %rax
-	je	.LBB5_34
-.LBB5_17:
+	.p2align	4
+.LBB5_16:
+	movzbl	126(%r14,%rax,2), %ecx
+	movd	%ecx, %xmm0
+	movzbl	124(%r14,%rax,2), %ecx
+	movd	%ecx, %xmm1
+	punpcklbw	%xmm0, %xmm1
+	movzbl	122(%r14,%rax,2), %ecx
+	movd	%ecx, %xmm0
+	movzbl	120(%r14,%rax,2), %ecx
+	movd	%ecx, %xmm2
+	punpcklbw	%xmm0, %xmm2
+	punpcklwd	%xmm1, %xmm2
+	movzbl	118(%r14,%rax,2), %ecx
+	movd	%ecx, %xmm0
+	movzbl	116(%r14,%rax,2), %ecx
+	movd	%ecx, %xmm1
+	punpcklbw	%xmm0, %xmm1
+	movzbl	114(%r14,%rax,2), %ecx
+	movd	%ecx, %xmm3
+	movzbl	112(%r14,%rax,2), %ecx
+	movd	%ecx, %xmm0
+	punpcklbw	%xmm3, %xmm0
+	punpcklwd	%xmm1, %xmm0
+	punpckldq	%xmm2, %xmm0
+	movzbl	110(%r14,%rax,2), %ecx
+	movd	%ecx, %xmm1
+	movzbl	108(%r14,%rax,2), %ecx
+	movd	%ecx, %xmm2
+	punpcklbw	%xmm1, %xmm2
+	movzbl	106(%r14,%rax,2), %ecx
+	movd	%ecx, %xmm1
+	movzbl	104(%r14,%rax,2), %ecx
+	movd	%ecx, %xmm3
+	punpcklbw	%xmm1, %xmm3
+	punpcklwd	%xmm2, %xmm3
+	movzbl	102(%r14,%rax,2), %ecx
+	movd	%ecx, %xmm1
+	movzbl	100(%r14,%rax,2), %ecx
+	movd	%ecx, %xmm2
+	punpcklbw	%xmm1, %xmm2
+	movzbl	98(%r14,%rax,2), %ecx
+	movd	%ecx, %xmm1
 	movzbl	96(%r14,%rax,2), %ecx
-	cmpb	$48, %cl
-	jb	.LBB5_5
-	movzbl	97(%r14,%rax,2), %edx
-	cmpb	$57, %cl
-	ja	.LBB5_20
-	addb	$-48, %cl
-	jmp	.LBB5_25
-.LBB5_20:
-	cmpb	$65, %cl
-	jb	.LBB5_5
-	cmpb	$70, %cl
-	ja	.LBB5_23
-	addb	$-55, %cl
-	jmp	.LBB5_25
-.LBB5_23:
-	leal	-97(%rcx), %edi
-	cmpb	$5, %dil
-	ja	.LBB5_5
-	addb	$-87, %cl
-.LBB5_25:
-	cmpb	$48, %dl
-	jb	.LBB5_5
-	cmpb	$57, %dl
-	jbe	.LBB5_27
-	cmpb	$65, %dl
-	jb	.LBB5_5
-	cmpb	$70, %dl
-	ja	.LBB5_31
-	addb	$-55, %dl
-	jmp	.LBB5_33
-.LBB5_31:
-	leal	-97(%rdx), %edi
-	cmpb	$5, %dil
-	ja	.LBB5_5
-	addb	$-87, %dl
-	jmp	.LBB5_33
-.LBB5_81:
-	cmpb	$45, 97(%r14)
-	je	.LBB5_82
-.LBB5_5:
-	movw	$1, (%rbx)
-	jmp	.LBB5_6
-.LBB5_34:
-	movl	16(%rsp), %eax
-	movl	19(%rsp), %ecx
-	movl	%eax, 72(%rsp)
-	movl	%ecx, 75(%rsp)
-	movzbl	39(%rsp), %eax
-	movq	40(%rsp), %rcx
-	movups	23(%rsp), %xmm0
-	movups	%xmm0, 79(%rsp)
-	movb	%al, 95(%rsp)
+	movd	%ecx, %xmm4
+	punpcklbw	%xmm1, %xmm4
+	punpcklwd	%xmm2, %xmm4
+	punpckldq	%xmm3, %xmm4
+	punpcklqdq	%xmm0, %xmm4
+	movdqa	%xmm4, %xmm2
+	psrlw	$6, %xmm2
+	movdqa	.LCPI5_6(%rip), %xmm1
+	pand	%xmm1, %xmm2
+	movdqa	%xmm2, %xmm0
+	psllw	$3, %xmm0
+	por	%xmm2, %xmm0
+	paddb	%xmm4, %xmm0
+	psllw	$4, %xmm0
+	pand	.LCPI5_7(%rip), %xmm0
+	movzbl	127(%r14,%rax,2), %ecx
+	movd	%ecx, %xmm2
+	movzbl	125(%r14,%rax,2), %ecx
+	movd	%ecx, %xmm3
+	punpcklbw	%xmm2, %xmm3
+	movzbl	123(%r14,%rax,2), %ecx
+	movd	%ecx, %xmm2
+	movzbl	121(%r14,%rax,2), %ecx
+	movd	%ecx, %xmm4
+	punpcklbw	%xmm2, %xmm4
+	punpcklwd	%xmm3, %xmm4
+	movzbl	119(%r14,%rax,2), %ecx
+	movd	%ecx, %xmm2
+	movzbl	117(%r14,%rax,2), %ecx
+	movd	%ecx, %xmm3
+	punpcklbw	%xmm2, %xmm3
+	movzbl	115(%r14,%rax,2), %ecx
+	movd	%ecx, %xmm5
+	movzbl	113(%r14,%rax,2), %ecx
+	movd	%ecx, %xmm2
+	punpcklbw	%xmm5, %xmm2
+	punpcklwd	%xmm3, %xmm2
+	punpckldq	%xmm4, %xmm2
+	movzbl	111(%r14,%rax,2), %ecx
+	movd	%ecx, %xmm3
+	movzbl	109(%r14,%rax,2), %ecx
+	movd	%ecx, %xmm4
+	punpcklbw	%xmm3, %xmm4
+	movzbl	107(%r14,%rax,2), %ecx
+	movd	%ecx, %xmm3
+	movzbl	105(%r14,%rax,2), %ecx
+	movd	%ecx, %xmm5
+	punpcklbw	%xmm3, %xmm5
+	punpcklwd	%xmm4, %xmm5
+	movzbl	103(%r14,%rax,2), %ecx
+	movd	%ecx, %xmm3
+	movzbl	101(%r14,%rax,2), %ecx
+	movd	%ecx, %xmm4
+	punpcklbw	%xmm3, %xmm4
+	movzbl	99(%r14,%rax,2), %ecx
+	movd	%ecx, %xmm3
+	movzbl	97(%r14,%rax,2), %ecx
+	movd	%ecx, %xmm6
+	punpcklbw	%xmm3, %xmm6
+	punpcklwd	%xmm4, %xmm6
+	punpckldq	%xmm5, %xmm6
+	punpcklqdq	%xmm2, %xmm6
+	movdqa	.LCPI5_8(%rip), %xmm2
+	pand	%xmm6, %xmm2
+	psrlw	$6, %xmm6
+	pand	%xmm1, %xmm6
+	movdqa	%xmm6, %xmm1
+	psllw	$3, %xmm1
+	por	%xmm6, %xmm1
+	paddb	%xmm2, %xmm1
+	paddb	%xmm0, %xmm1
+	movdqu	%xmm1, 16(%rsp,%rax)
+	addq	$16, %rax
+	cmpq	$32, %rax
+	jne	.LBB5_16
 	cmpq	$64, %rsi
-	je	.LBB5_5
+	je	.LBB5_48
 	cmpb	$32, 160(%r14)
-	jne	.LBB5_5
-	movq	72(%rsp), %r12
-	movq	80(%rsp), %r13
-	movq	88(%rsp), %rbp
+	jne	.LBB5_48
+	movq	16(%rsp), %rax
+	movq	%rax, 8(%rsp)
+	movq	24(%rsp), %r13
+	movq	32(%rsp), %rbp
+	movq	40(%rsp), %r15
 	addq	$-65, %rsi
 	leaq	161(%r14), %rdi
-	movq	%rcx, %r15
 	callq	"pair_text::line::parse_decimal"
 	cmpb	$1, %al
-	jne	.LBB5_5
-	movq	%r15, %r11
-	movq	%rdx, %r15
-	bswapq	%r12
+	jne	.LBB5_48
+	movq	%rdx, %r12
+	movq	8(%rsp), %r11
+	bswapq	%r11
 	bswapq	%r13
 	bswapq	%rbp
-	bswapq	%r11
-	movq	%r13, %rax
-	movq	%rbp, %rcx
-	movq	64(%r14), %r13
-	movq	%r13, %rbp
-	incq	%rbp
-	je	.LBB5_41
-.LBB5_42:
-	movq	%rcx, 96(%rsp)
-	movq	%rax, 104(%rsp)
+	bswapq	%r15
+	movq	%rbp, %rax
+	movq	%r15, %rcx
+	movq	64(%r14), %rbp
+	movq	%rbp, %r15
+	incq	%r15
+	je	.LBB5_2
+.LBB5_21:
+	movq	%rcx, 72(%rsp)
+	movq	%rax, 8(%rsp)
 	cmpb	$1, (%r14)
-	jne	.LBB5_50
+	jne	.LBB5_53
 	movq	8(%r14), %rax
 	movzwl	(%rax), %ecx
 	testq	%rcx, %rcx
-	je	.LBB5_52
+	je	.LBB5_29
 	xorl	%edi, %edi
 	.p2align	4
-.LBB5_45:
-	cmpq	8(%rax,%rdi,8), %r13
-	jb	.LBB5_48
+.LBB5_24:
+	cmpq	8(%rax,%rdi,8), %rbp
+	jb	.LBB5_27
 	incq	%rdi
 	cmpq	%rdi, %rcx
-	jne	.LBB5_45
+	jne	.LBB5_24
 	movq	%rcx, %rdi
-.LBB5_48:
+.LBB5_27:
 	cmpw	$0, 2(%rax)
-	jne	.LBB5_54
+	jne	.LBB5_31
 	testq	%rdi, %rdi
-	jne	.LBB5_62
-	jmp	.LBB5_50
-.LBB5_52:
+	jne	.LBB5_40
+	jmp	.LBB5_53
+.LBB5_29:
 	cmpw	$0, 2(%rax)
-	je	.LBB5_50
+	je	.LBB5_53
 	xorl	%edi, %edi
-.LBB5_54:
+.LBB5_31:
 	leaq	8(%r14), %rcx
 	xorl	%esi, %esi
 	movq	%rdi, %r8
 	movq	%rcx, %r9
-	jmp	.LBB5_55
+	jmp	.LBB5_33
 	.p2align	4
-.LBB5_63:
+.LBB5_32:
 	shlq	$4, %rsi
 	addq	%r8, %rsi
 	xorl	%r8d, %r8d
 	cmpw	$0, 2(%rax)
-	je	.LBB5_64
-.LBB5_55:
+	je	.LBB5_44
+.LBB5_33:
 	movq	%r9, %rdx
 	leaq	(%rax,%r8,8), %r9
 	addq	$848, %r9
 	movq	848(%rax,%r8,8), %rax
 	movzwl	(%rax), %r10d
 	testq	%r10, %r10
-	je	.LBB5_63
+	je	.LBB5_32
 	xorl	%edi, %edi
 	.p2align	4
-.LBB5_57:
-	cmpq	8(%rax,%rdi,8), %r13
-	jb	.LBB5_60
+.LBB5_35:
+	cmpq	8(%rax,%rdi,8), %rbp
+	jb	.LBB5_38
 	incq	%rdi
 	cmpq	%rdi, %r10
-	jne	.LBB5_57
+	jne	.LBB5_35
 	movq	%r10, %rdi
-.LBB5_60:
+.LBB5_38:
 	shlq	$4, %rsi
 	addq	%r8, %rsi
 	cmpw	$0, 2(%rax)
 	movq	%rdi, %r8
-	jne	.LBB5_55
+	jne	.LBB5_33
 	testq	%rdi, %rdi
-	je	.LBB5_64
-.LBB5_62:
+	je	.LBB5_44
+.LBB5_40:
 	leaq	(%rdi,%rdi,2), %rcx
 	shlq	$4, %rcx
-.LBB5_71:
+.LBB5_41:
 	addq	%rcx, %rax
 	addq	$80, %rax
-.LBB5_72:
-	cmpq	(%rax), %r13
-	jae	.LBB5_50
+.LBB5_42:
+	cmpq	(%rax), %rbp
+	jae	.LBB5_53
 	movb	$1, %cl
 	xorl	%eax, %eax
-	jmp	.LBB5_14
-.LBB5_64:
-	movq	%r12, 8(%rsp)
-	movq	%r11, %r12
-	xorps	%xmm0, %xmm0
-	movaps	%xmm0, 48(%rsp)
-	movaps	%xmm0, 32(%rsp)
-	movaps	%xmm0, 16(%rsp)
+	jmp	.LBB5_55
+.LBB5_44:
+	movq	%r13, (%rsp)
+	movq	%r11, %r13
+	pxor	%xmm0, %xmm0
+	movdqa	%xmm0, 48(%rsp)
+	movdqa	%xmm0, 32(%rsp)
+	movdqa	%xmm0, 16(%rsp)
 	leaq	16(%rsp), %rdi
 	movq	$-1, %r8
 	callq	"std_collections::btree::iter::Cursor::retreat::<#4f04a9971a4b2638>"
 	movzbl	16(%rsp), %eax
 	cmpb	$1, 40(%rsp)
-	jne	.LBB5_67
+	jne	.LBB5_49
 	testb	$1, %al
-	movq	%r12, %r11
-	je	.LBB5_69
+	movq	%r13, %r11
+	je	.LBB5_51
 	movq	32(%rsp), %rax
-	movq	8(%rsp), %r12
-	jmp	.LBB5_72
-.LBB5_67:
+	movq	(%rsp), %r13
+	jmp	.LBB5_42
+.LBB5_47:
+	cmpb	$45, 97(%r14)
+	je	.LBB5_62
+.LBB5_48:
+	movw	$1, (%rbx)
+	jmp	.LBB5_68
+.LBB5_49:
 	testb	$1, %al
-	movq	%r12, %r11
-	movq	8(%rsp), %r12
-	je	.LBB5_50
+	movq	%r13, %r11
+	movq	(%rsp), %r13
+	je	.LBB5_53
 	movq	32(%rsp), %rax
-	jmp	.LBB5_72
-.LBB5_69:
+	jmp	.LBB5_42
+.LBB5_51:
 	movq	56(%rsp), %rax
 	movl	48(%rsp), %ecx
 	movq	(%rax), %rax
@@ -1080,72 +1225,84 @@
 	movq	848(%rax,%rcx,8), %rax
 	movzwl	(%rax), %ecx
 	testq	%rcx, %rcx
-	movq	8(%rsp), %r12
-	je	.LBB5_50
+	movq	(%rsp), %r13
+	je	.LBB5_53
 	leaq	(%rcx,%rcx,2), %rcx
 	shll	$4, %ecx
-	jmp	.LBB5_71
-.LBB5_50:
-	movq	80(%r14), %r13
-	addq	%r15, %r13
-	jae	.LBB5_74
+	jmp	.LBB5_41
+.LBB5_53:
+	movq	80(%r14), %rbp
+	addq	%r12, %rbp
+	jae	.LBB5_56
 	xorl	%eax, %eax
 	movb	$2, %cl
-.LBB5_14:
+.LBB5_55:
 	movb	$1, (%rbx)
 	movb	%al, 1(%rbx)
 	movb	%cl, 2(%rbx)
-	jmp	.LBB5_7
-.LBB5_74:
+	jmp	.LBB5_69
+.LBB5_56:
 	movq	40(%r14), %rax
 	cmpq	$4096, %rax
-	jb	.LBB5_77
-	movq	%r12, 8(%rsp)
-	movq	%r11, %r12
+	jb	.LBB5_60
+	movq	%r13, (%rsp)
+	movq	%r11, %r13
 	movq	%r14, %rdi
 	callq	"xetroot_text::placed_pairs::PlacedPairs::end_range::<#ca9445b3ca2ffbf0>"
 	testb	%al, %al
-	je	.LBB5_76
-.LBB5_12:
+	je	.LBB5_59
+.LBB5_58:
 	movb	$1, %al
-	jmp	.LBB5_13
-.LBB5_76:
+	jmp	.LBB5_3
+.LBB5_59:
 	movq	40(%r14), %rax
-	movq	%r12, %r11
-	movq	8(%rsp), %r12
-.LBB5_77:
+	movq	%r13, %r11
+	movq	(%rsp), %r13
+.LBB5_60:
 	cmpq	%rax, 48(%r14)
-	je	.LBB5_78
-.LBB5_80:
+	je	.LBB5_70
+.LBB5_61:
 	movq	32(%r14), %rcx
 	leaq	(%rax,%rax,4), %rdx
-	movq	%r12, (%rcx,%rdx,8)
-	movq	104(%rsp), %rsi
-	movq	%rsi, 8(%rcx,%rdx,8)
-	movq	96(%rsp), %rsi
+	movq	%r11, (%rcx,%rdx,8)
+	movq	%r13, 8(%rcx,%rdx,8)
+	movq	8(%rsp), %rsi
 	movq	%rsi, 16(%rcx,%rdx,8)
-	movq	%r11, 24(%rcx,%rdx,8)
-	movq	%r15, 32(%rcx,%rdx,8)
+	movq	72(%rsp), %rsi
+	movq	%rsi, 24(%rcx,%rdx,8)
+	movq	%r12, 32(%rcx,%rdx,8)
 	incq	%rax
 	movq	%rax, 40(%r14)
-	movq	%rbp, 64(%r14)
+	movq	%r15, 64(%r14)
 	movq	72(%r14), %rax
 	incq	%rax
 	movq	$-1, %rcx
 	cmovneq	%rax, %rcx
 	movq	%rcx, 72(%r14)
-	movq	%r13, 80(%r14)
-.LBB5_82:
-	addq	$88, %r14
+	movq	%rbp, 80(%r14)
+	leaq	96(%r14), %r12
+.LBB5_62:
+	leaq	88(%r14), %rdi
+	cmpb	$0, (%rdi)
+	je	.LBB5_65
 	movl	$1872, %edx
-	movq	%r14, %rdi
 	xorl	%esi, %esi
 	callq	memset@PLT
+	jmp	.LBB5_67
+.LBB5_65:
+	movq	184(%r14), %rdx
+	testq	%rdx, %rdx
+	je	.LBB5_67
+	movq	%r12, %rdi
+	xorl	%esi, %esi
+	callq	memset@PLT
+	movq	$0, 184(%r14)
+.LBB5_67:
 	movw	$0, (%rbx)
-.LBB5_6:
+.LBB5_68:
 	movb	$0, 2(%rbx)
-.LBB5_7:
-	addq	$152, %rsp
+.LBB5_69:
+	addq	$120, %rsp
 	.cfi_def_cfa_offset 56
 	popq	%rbx
 	.cfi_def_cfa_offset 48
@@ -1160,19 +1317,19 @@
 	popq	%rbp
 	.cfi_def_cfa_offset 8
 	retq
-.LBB5_78:
-	.cfi_def_cfa_offset 208
-	movq	%r12, 8(%rsp)
-	movq	%r11, %r12
+.LBB5_70:
+	.cfi_def_cfa_offset 176
+	movq	%r13, (%rsp)
+	movq	%r11, %r13
 	leaq	32(%r14), %rdi
 	movl	$1, %esi
 	callq	"std_alloc::vec::Vec::grow_amortized::<#1ed62de40e111fb4>"
 	testb	%al, %al
-	je	.LBB5_12
+	je	.LBB5_58
 	movq	40(%r14), %rax
-	movq	%r12, %r11
-	movq	8(%rsp), %r12
-	jmp	.LBB5_80
+	movq	%r13, %r11
+	movq	(%rsp), %r13
+	jmp	.LBB5_61
 .Lfunc_end5:
 	.size	"pair_text::said_lines::SaidLinesTakeLines::end_line::<#a10fcec3e4a5dd02>", .Lfunc_end5-"pair_text::said_lines::SaidLinesTakeLines::end_line::<#a10fcec3e4a5dd02>"
 	.cfi_endproc
@@ -16090,8 +16247,8 @@
 	subq	$3072, %rsp
 	.cfi_adjust_cfa_offset 3072
 	movq	$0, (%rsp)
-	subq	$2456, %rsp
-	.cfi_def_cfa_offset 5584
+	subq	$648, %rsp
+	.cfi_def_cfa_offset 3776
 	.cfi_offset %rbx, -56
 	.cfi_offset %r12, -48
 	.cfi_offset %r13, -40
@@ -16129,7 +16286,7 @@
 	movb	$0, 24(%rdi)
 	retq
 .LBB53_5:
-	.cfi_def_cfa_offset 5584
+	.cfi_def_cfa_offset 3776
 	.cfi_offset %rbx, -56
 	.cfi_offset %rbp, -16
 	.cfi_offset %r12, -48
@@ -16141,54 +16298,43 @@
 	jne	.LBB53_8
 	cmpb	$43, (%rdx)
 	jne	.LBB53_8
-	leaq	-1(%rcx), %rax
-	movq	%rax, 8(%rsp)
+	leaq	-1(%rcx), %rbx
 	incq	%rdx
-	movups	.Lstatic.17+16(%rip), %xmm0
-	movaps	%xmm0, 64(%rsp)
-	movups	.Lstatic.17(%rip), %xmm1
-	movaps	%xmm1, 48(%rsp)
-	movaps	%xmm1, 16(%rsp)
-	movaps	%xmm0, 32(%rsp)
-	leaq	80(%rsp), %rax
+	leaq	64(%rsp), %rax
 	movq	%rdx, %r14
-	movl	$1728, %edx
-	movq	%rdi, %r13
-	movq	%rax, %rdi
-	movq	%rsi, %rbp
-	xorl	%esi, %esi
-	movq	%rcx, %rbx
-	callq	memset@PLT
-	leaq	1808(%rsp), %r15
-	leaq	16(%rsp), %rsi
 	movl	$1792, %edx
+	movq	%rdi, %r12
+	movq	%rax, %rdi
+	movq	%rsi, %r13
+	xorl	%esi, %esi
+	movq	%rcx, %rbp
+	callq	memset@PLT
+	movups	.Lstatic.17(%rip), %xmm0
+	movaps	%xmm0, 32(%rsp)
+	movups	.Lstatic.17+16(%rip), %xmm1
+	movaps	%xmm1, 48(%rsp)
+	movaps	%xmm0, (%rsp)
+	movaps	%xmm1, 16(%rsp)
+	leaq	1856(%rsp), %r15
+	movq	%rsp, %rsi
+	movl	$1856, %edx
 	movq	%r15, %rdi
 	callq	memcpy@PLT
-	xorps	%xmm0, %xmm0
-	movups	%xmm0, 3600(%rsp)
-	movups	%xmm0, 3616(%rsp)
-	movups	%xmm0, 3632(%rsp)
-	movups	%xmm0, 3648(%rsp)
-	leaq	3664(%rsp), %r12
+	movq	$0, 3712(%rsp)
+	movq	%r15, %rdi
+	movq	%r14, %rsi
+	movq	%rbx, %rdx
+	callq	yurewha_stub_of_update
+	movq	3712(%rsp), %rbx
+	movq	$1, 88(%r13)
+	leaq	96(%r13), %rdi
 	movl	$1856, %edx
-	movq	%r12, %rdi
 	movq	%r15, %rsi
 	callq	memcpy@PLT
-	movq	$0, 5520(%rsp)
+	movq	%rbp, %rcx
+	movq	%r13, %rsi
 	movq	%r12, %rdi
-	movq	%r14, %rsi
-	movq	8(%rsp), %rdx
-	callq	yurewha_stub_of_update
-	movq	5520(%rsp), %r14
-	movq	$1, 88(%rbp)
-	leaq	96(%rbp), %rdi
-	movl	$1856, %edx
-	movq	%r12, %rsi
-	callq	memcpy@PLT
-	movq	%rbx, %rcx
-	movq	%rbp, %rsi
-	movq	%r13, %rdi
-	movq	%r14, 1952(%rbp)
+	movq	%rbx, 1952(%r13)
 	jmp	.LBB53_32
 .LBB53_8:
 	movl	$85, %eax
@@ -16275,7 +16421,7 @@
 	movups	%xmm0, 8(%rdi)
 .LBB53_33:
 	movb	$0, 24(%rdi)
-	addq	$5528, %rsp
+	addq	$3720, %rsp
 	.cfi_def_cfa_offset 56
 	popq	%rbx
 	.cfi_def_cfa_offset 48
@@ -16291,7 +16437,7 @@
 	.cfi_def_cfa_offset 8
 	retq
 .LBB53_16:
-	.cfi_def_cfa_offset 5584
+	.cfi_def_cfa_offset 3776
 	cmpq	$32, %rcx
 	jae	.LBB53_18
 	xorl	%r8d, %r8d
