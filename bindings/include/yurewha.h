@@ -657,7 +657,7 @@ void yurewha_hash_tree_free(yurewha_hash_tree *tree);
 
 /* ---- Range proofs: with one, whoever knows the hash of a file checks a part of it */
 
-/* A range proof has the nodes of some adjacent chunks, and those that stand beside the paths from them to the root. Its flat
+/* A range proof has the nodes of some adjacent chunks, and the other nodes of each group on the way up to the root. Its flat
  * lists are those that yurewha_hash_tree_proof writes. They may come from anybody. */
 
 /* Writes a range proof as compact JSON text to the beginning of `text`, which has room for `room` bytes, and the length of

@@ -41,7 +41,7 @@ _FromFlat = Callable[[Iterable[Sequence[SupportsIndex]], ChunksLike], "RangeProo
 
 @final
 class RangeProof:
-    """The nodes of some adjacent chunks of a file, the *range*, and the few nodes beside the paths from them to the root.
+    """The nodes of some adjacent chunks of a file, the *range*, and the other nodes of each group on the way up.
 
     With it, whoever knows the file hash checks these chunks, where in the file they are, and how long the file is. A
     `HashTree` makes it. It may come from anybody: until it is opened, nothing is known but that it has the right form. It is

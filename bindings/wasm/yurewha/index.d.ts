@@ -553,8 +553,8 @@ export interface HashTreeConstructor {
 }
 
 /**
- * The nodes of some adjacent chunks of a file, and the nodes beside the paths from them to the root. Whoever knows the file hash opens
- * the proof, and then checks the data of these chunks without the other chunks.
+ * The nodes of some adjacent chunks of a file, and the other nodes of each group on the way up to the root. Whoever knows the file hash
+ * opens the proof, and then checks the data of these chunks without the other chunks.
  *
  * A proof may come from anybody: making one of bytes, JSON or lists checks its form alone. A node alone shows nothing, since the
  * parents of a level pass as chunks of their own list. Only data that an `OpenedRange` accepted is part of the file.

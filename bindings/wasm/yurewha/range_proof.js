@@ -1,4 +1,4 @@
-// Range proofs: the nodes of some adjacent chunks of a file, and those beside the paths to the root.
+// Range proofs: the nodes of some adjacent chunks of a file, and the other nodes of each group on the way up to the root.
 
 import { bytes, text, u64 } from "./arguments.js";
 import { CHUNK_LENGTH } from "./chunks.js";

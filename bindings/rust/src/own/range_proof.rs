@@ -26,7 +26,7 @@ use opened_range::Shown;
 const MOST_LEVELS: usize = 64;
 const MOST_BESIDE: usize = 2 * 8 * MOST_LEVELS;
 
-/// The nodes of some adjacent chunks of a file, and the nodes beside the paths from them to the root.
+/// The nodes of some adjacent chunks of a file, and the other nodes of each group on the way up to the root.
 ///
 /// Whoever knows the file hash opens the proof, and then checks the data of these chunks without the other chunks. For
 /// one chunk of a hundred thousand a proof has 36 nodes on average.
