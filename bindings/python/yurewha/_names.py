@@ -1,4 +1,7 @@
-"""The names of public classes and functions, which are the package's own, wherever their code stands."""
+"""The names of public classes and functions, which are the package's own, wherever their code stands.
+
+So a pickle outlives a move of code. Python's `inspect` then finds the source of methods, but not of classes.
+"""
 
 from __future__ import annotations
 

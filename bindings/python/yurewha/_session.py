@@ -218,7 +218,7 @@ class Session(Guarded):
             raise ReentrantCall("a signal handler changed a session that keeps no hashes while it forgot some")
 
     def _forget(self, count: int) -> None:
-        """Forgets the hashes of a put, now and then: a session is made again from its runs."""
+        """Forgets the hashes of a put, now and then: a session is made again from its runs, because no export forgets hashes."""
         with self._locked():
             self._put_since += count
             if self._put_since < _FORGOTTEN or self._forgetting.locked():

@@ -34,7 +34,8 @@ class Lists {
     }
 }
 
-/** The lists that packed bytes have. Whether they are those of a proof isn't known yet. */
+/** The lists that packed bytes have: a byte for each count, as no count is greater than 64. Whether they are those of a proof isn't known
+ * yet. */
 function unpacked(packed) {
     const [count] = packed;
     const start = 1 + 2 * count;
