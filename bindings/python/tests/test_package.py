@@ -4,6 +4,7 @@ import ctypes
 import doctest
 import importlib
 import inspect
+import io
 import os
 import pkgutil
 import re
@@ -274,3 +275,20 @@ def test_the_example_of_the_readme():
     text = (REPOSITORY / "bindings" / "python" / "README.md").read_text(encoding="utf-8")
     (example,) = re.findall(r"```python\n(.*?)```", text, flags=re.S)
     exec(compile(example, "README.md", "exec"), {})
+
+
+def test_the_readme_lists_each_public_call():
+    text = (REPOSITORY / "bindings" / "python" / "README.md").read_text(encoding="utf-8")
+    section = text.split("## All calls\n")[1].split("\n## ")[0]
+    listed = {}
+    for names, calls in re.findall(r"^\| (`.*?) \| .*? \| (.*)\|$", section, flags=re.M):
+        for name in re.findall(r"`([\w.]+)`", names):
+            listed[name] = set(re.findall(r"`(?:\w+\.)?(\w+)`", calls))
+    public = {name: getattr(y, name) for name in y.__all__}
+    errors = {name for name, item in public.items() if inspect.isclass(item) and issubclass(item, Exception)}
+    assert set(listed) == set(public) - errors | {"yurewha.filesystem.VerifiedFileSystem"}
+    for name in public.keys() - errors:
+        members = set(vars(public[name])) if inspect.isclass(public[name]) else set()
+        if name == "VerifiedFile":
+            members -= set(dir(io.RawIOBase))
+        assert {member for member in members if not member.startswith("_")} <= listed[name], name
