@@ -73,7 +73,15 @@ export interface Yurewha {
      */
     dataHash(data: Data): Hash;
 
-    /** Returns the hash of an inner node of the tree. `data` is its text. The hash is keyed BLAKE3 under the internal key. */
+    /**
+     * Returns the hash of an inner node of the tree. `data` is its text. The hash is keyed BLAKE3 under the internal key.
+     *
+     * @example
+     * ```js
+     * const data = new TextEncoder().encode("a text");
+     * console.log(y.internalNodeHash(data).hex()); // 1444c463273e6f4b5822b866e0448c14ac3a54c090633ae08b79ed8d4ddc85ae
+     * ```
+     */
     internalNodeHash(data: Data): Hash;
 
     /**
@@ -130,11 +138,25 @@ export interface Yurewha {
      */
     fileHash(chunks: ChunkList, salt?: Uint8Array): Hash;
 
-    /** Returns the first stable point, as the number of nodes before it, or null if there is none. At a stable point a group ends,
-     * no matter which nodes come before and after the given ones. */
+    /**
+     * Returns the first stable point, as the number of nodes before it, or null if there is none. At a stable point a group ends,
+     * no matter which nodes come before and after the given ones.
+     *
+     * @example
+     * ```js
+     * // The last word of every fourth hash is a multiple of 4, so that it is a natural cut.
+     * const nodes = Array.from({ length: 20 }, (_, i) => {
+     *     const bytes = new Uint8Array(32);
+     *     [bytes[0], bytes[24]] = [i, i % 4 === 3 ? 0 : 1];
+     *     return [new y.Hash(bytes), 1];
+     * });
+     * console.log(y.findStableStart(nodes), y.findStableEnd(nodes)); // 8 16
+     * console.log(y.findStableStart(nodes.slice(0, 3))); // null
+     * ```
+     */
     findStableStart(nodes: ChunkList): number | null;
 
-    /** Returns the last stable point, as the number of nodes before it, or null if there is none. */
+    /** Returns the last stable point, as the number of nodes before it, or null if there is none. `findStableStart` has an example. */
     findStableEnd(nodes: ChunkList): number | null;
 }
 
@@ -711,6 +733,16 @@ export interface OpenedRange extends Freed {
      * first chunk and `ends` of the last one with the places that you asked for. The stream keeps the data of one chunk, which a
      * stranger's proof may name with any size; compare that, too, if you know how long a chunk may be. Don't free the range before the
      * stream has ended.
+     *
+     * @example
+     * ```js
+     * const text = new TextEncoder();
+     * const chunks = ["a chunk", "another"].map((it) => [y.dataHash(text.encode(it)), it.length]);
+     * const range = y.RangeProof.fromChunks(chunks, 1, 2).open(y.fileHash(chunks));
+     * const checked = new Blob(["another"]).stream().pipeThrough(range.checking());
+     * console.log(await new Response(checked).text(), range.begins(0), range.ends(0)); // another 7n 14n
+     * range.free();
+     * ```
      */
     checking(): TransformStream<Uint8Array, Uint8Array>;
 }
