@@ -144,7 +144,7 @@ export interface Yurewha {
      *
      * @example
      * ```js
-     * // The last word of every fourth hash is a multiple of 4, so that it is a natural cut.
+     * // Every fourth hash is a natural cut, because its last word is 0.
      * const nodes = Array.from({ length: 20 }, (_, i) => {
      *     const bytes = new Uint8Array(32);
      *     [bytes[0], bytes[24]] = [i, i % 4 === 3 ? 0 : 1];
