@@ -75,6 +75,8 @@ def header():
 @pytest.mark.skipif(not HEADER.exists(), reason="there is no header beside the package")
 def test_the_declarations_are_those_of_the_header():
     calls, constants = header()
+    # A package's memory is nobody else's, so that call is for C alone.
+    del calls["yurewha_set_allocator"]
     assert calls == _declarations.DECLARATIONS
     assert constants == {**_declarations.STATUSES, **_declarations.LENGTHS}
 
