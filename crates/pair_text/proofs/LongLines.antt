@@ -1,5 +1,5 @@
 -- A line that is too long says nothing.
-use Rattle.std.proofs.Common.{Option, Some, None, IfNone, ℕ, ◌≡◌, ◌<◌, List, [], ◌∷◌, ◌++◌, length, ap, inl, inr, arith, length-append, codes, decimal}
+use Rattle.std.proofs.Common.{ℕ, ◌≡◌, ◌<◌, List, [], ◌∷◌, ◌++◌, length, ap, inl, inr, arith, length-append, codes, decimal}
 use Rattle.std.proofs.lemmas.Fmt.{length-decimal-le}
 use Rattle.xet_roots.specs.Groups.{Node}
 use Rattle.line_io.specs.Lines.{NoNewline, content}
