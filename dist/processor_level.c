@@ -5,7 +5,8 @@
  * processors there is nothing to choose.
  *
  * The environment variable YUREWHA_LEVEL may name a lower level, for tests, or to do without AVX-512. If the processor lacks the level
- * that is named, or there is no such level, a line on standard error says so, and the choice is the one without the variable.
+ * that is named, or there is no such level, a line on standard error says so, and the choice is the one without the variable. A library
+ * shouldn't end a process for an environment variable, and silence would let a test believe that it ran another level.
  *
  * This file isn't proved. With heap.c it is all that lies between a caller, the proved code and the C library.
  */

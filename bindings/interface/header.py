@@ -1,4 +1,7 @@
-"""Reads the header of the library, include/yurewha.h, by libclang, of which Debian's package python3-clang has the Python bindings."""
+"""Reads the header of the library, include/yurewha.h, by libclang, of which Debian's package python3-clang has the Python bindings.
+
+pycparser wouldn't do: it doesn't show macros, comments, and the sizes of structs.
+"""
 from __future__ import annotations
 
 import re

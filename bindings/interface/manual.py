@@ -1,4 +1,7 @@
-"""The manual page of the header, yurewha.h(3): its comments, and its declarations without attributes."""
+"""The manual page of the header, yurewha.h(3): its comments, and its declarations without attributes.
+
+The pages of the calls lead to this one. A page for each would need the rules at the top of the header again.
+"""
 from __future__ import annotations
 
 import re

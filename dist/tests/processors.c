@@ -1,6 +1,7 @@
 /*
- * The choice of a level, on processors that the test makes up: each has all features but one, or lacks what its system saves. This
- * includes processor_level.c, whose questions to the processor come here. The tables of the levels have their names alone.
+ * The choice of a level, on processors that the test makes up: each has all features but one, or its system doesn't save some
+ * registers. No emulator has such a system, nor AVX-512. This includes processor_level.c, whose questions to the processor come here.
+ * The tables of the levels have their names alone.
  */
 #define _POSIX_C_SOURCE 200809L
 #include "checks.h"

@@ -1,7 +1,8 @@
 """What two assemblers make of a file for Windows.
 
-Each object is linked alone, at one place. If the jumps are as long in both, then instructions, constants and unwind tables have the same
-addresses, and are compared byte by byte. Each assembler chooses the lengths of jumps, so it gets a copy of the file in which all are long.
+In COFF the two assemblers write down the place of one reference in several ways. So each object is linked alone, at one place. If
+the jumps are as long in both, then instructions, constants and unwind tables have the same addresses, and are compared byte by
+byte. Each assembler chooses the lengths of jumps, so it gets a copy of the file in which all are long.
 """
 
 from __future__ import annotations

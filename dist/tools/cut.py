@@ -2,7 +2,8 @@
 
 The library for x86-64 is one file, and its first level's kernels are in it. For each further level there is a file with that level's
 kernels and what they alone call. The rest of the library calls a kernel by a stub, which jumps to where the table of the chosen level
-says. The choice is that of dist/processor_level.c. A program has no kernels: its stubs lead to those of the library.
+says. The choice is that of dist/processor_level.c. There is one table for all kernels, so the choice is one store, and no two kernels
+are of different levels. A program has no kernels: its stubs lead to those of the library.
 """
 
 from __future__ import annotations

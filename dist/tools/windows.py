@@ -6,7 +6,9 @@ In the module, the target is another one, as are the calls of what isn't proved:
 - C for Windows returns a pair by its place in memory, and LLVM in two registers. So two functions call the heap's for the library.
 
 Functions are called by Windows' rules, by which callees keep other registers, nothing lies below the stack pointer, and vectors are
-passed by their places. The assembly is in COFF, with Windows' directives for unwinding.
+passed by their places. Functions of the library keep these rules among themselves, too. By the rules of Linux they would save fewer
+registers, but each export, and each call of heap.c, would save ten vectors, and data could lie below the stack pointer, where Windows
+may write. The assembly is in COFF, with Windows' directives for unwinding.
 """
 
 from __future__ import annotations
@@ -35,7 +37,8 @@ define internal {pair} @in_registers_of_{name}({parameters}) noinline nounwind u
 """
 #: What has another name here: what a program calls of programs/windows.c, since the C library's take other numbers.
 OWN_NAMES = {"read": "yurewha_run_read", "write": "yurewha_run_write"}
-#: Touches each page of a frame, from the stack pointer down, whose size is in rax, and changes nothing but flags.
+#: Touches each page of a frame, from the stack pointer down, whose size is in rax, and changes nothing but flags. It is ours,
+#: because those of gcc and of Microsoft have two names, and each comes with its own compiler.
 PROBE_TEXT = f"""\
 	.section	.text
 	.globl	{PROBE}
@@ -72,7 +75,8 @@ PROBE_TEXT = f"""\
 NEEDLESS = re.compile(r"(?m)^\t\.globl\t@feat\.00\n@feat\.00 = 0\n|^\t\.seh_(?:start|end)epilogue\n")
 #: What COFF says of a symbol.
 DEFINITION = re.compile(r"(?m)^\t\.def\t(.*);\n\t\.scl\t\d+;\n\t\.type\t\d+;\n\t\.endef\n")
-#: Where a function, or data, have a section with a name of its own, and what stands there in its place.
+#: Where a function or some data has a section with a name of its own, and what replaces that: gas and clang disagree on names with
+#: colons. A linker then takes the library as a whole. It would anyway, since the unwind tables lead to each function.
 CODE_SECTION = re.compile(r'(?m)^\t\.section\t\.text\$.*$')
 DATA_SECTION = re.compile(r'(?m)^\t\.section\t\.rdata[$,].*$')
 CODE, DATA = "\t.section\t.text", '\t.section\t.rdata,"dr"'

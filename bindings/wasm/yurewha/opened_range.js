@@ -91,6 +91,7 @@ export function makeOpenedRange(library) {
             const given = dataOf(data, "data");
             const { pointer } = this.#handle;
             // What was checked is the module's copy of the data, so the bytes are taken from there.
+            // The caller's array may be shared with a thread that writes to it meanwhile.
             return library.over([given, 8], (at, out) => {
                 const place = accepted(library.call("yurewha_opened_range_read", pointer, start, stop, at, BigInt(given.length), out), out);
                 return place === null ? null : library.read(BigInt(at) + place, Number(stop - start));
