@@ -21,7 +21,7 @@ class Alteration(NamedTuple):
 
 
 # --------------------------------------------------------------------------
-# Of one list of nodes
+# Alterations of one list of nodes
 # --------------------------------------------------------------------------
 
 def exchanged(rng: random.Random, nodes: Nodes, other: m.Node) -> Optional[Nodes]:
@@ -61,7 +61,7 @@ def larger(rng: random.Random, nodes: Nodes, _: m.Node) -> Optional[Nodes]:
 
 
 # --------------------------------------------------------------------------
-# Of a proof
+# Alterations of a proof
 # --------------------------------------------------------------------------
 
 def of_chunks(change: NodesChange) -> Change:

@@ -4,7 +4,7 @@ Whoever reads some adjacent chunks of a file can't check them against the file
 hash without the hashes of all other chunks.  A proof has the few nodes that
 are needed instead: the other nodes of each group on the way up to the root.
 
-Vocabulary, beside that of xet_model.py
+Vocabulary, in addition to that of xet_model.py
 
 * the levels of a list of nodes are the list, the parents of its groups, the
   parents of their groups, and so on, down to a list of at most one node;

@@ -103,7 +103,7 @@ def picture(title: str, axes: tuple[Axis, Axis], all_series: Sequence[Series]) -
 
 
 def write(mean: Points, high: Points, measured_mean: Points, measured_greatest: Points) -> Iterator[str]:
-    """Writes both pictures, and tells where."""
+    """Writes both pictures, and prints where."""
     chunks = power_axis("chunks of a range", 1, 12)
     top = 100 * math.ceil(max(nodes for _, nodes in high) / 100)
     lines = [Series("mean, simulated", "a", mean, True), Series("99.9th percentile, simulated", "b", high, True)]

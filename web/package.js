@@ -1,4 +1,4 @@
-// The package, which is beside this folder in the repository.
+// The package, which is in another folder of the repository.
 
 /** The package over an instance of its module. */
 export async function loaded() {

@@ -29,7 +29,7 @@ LAYOUT = 'target datalayout = "e-m:e-p:32:32-p10:8:8-p20:8:8-i64:64-i128:128-n32
 
 
 def narrowed_pair(result: str, types: List[str], place: str, number: int) -> List[str]:
-    """The lines for a load of two values of which one or both are pointers."""
+    """The lines for a load of two values, one or both of which are pointers."""
     wide = ["i64" if kind == "ptr" else kind for kind in types]
     loaded = f"{{ {wide[0]}, {wide[1]} }}"
     lines = [f"  %load.{number} = load {loaded}, {place}"]
@@ -47,7 +47,7 @@ def narrowed_pair(result: str, types: List[str], place: str, number: int) -> Lis
 
 
 def narrowed(line: str, number: int) -> List[str]:
-    """The lines in the place of one line of the module."""
+    """The lines that replace one line of the module."""
     if found := LOAD.fullmatch(line):
         # A pointer's metadata says nothing of an i64, but that it isn't undefined.
         kept = "".join(re.findall(r", !noundef !\d+", found[3]))

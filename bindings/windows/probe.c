@@ -1,6 +1,6 @@
 /*
  * The stack probe of the library, which functions with large frames call: it touches each page of a frame, since Windows gives a stack its
- * pages one after the other, and it changes neither memory nor registers. Here a block of memory stands for the stack. Windows tells which
+ * pages one after the other, and it changes neither memory nor registers. Here a block of memory stands for the stack. Windows says which
  * of its pages were written.
  */
 #include <stdbool.h>

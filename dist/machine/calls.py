@@ -77,15 +77,15 @@ def check_hash(library: Library, name: str, length: int, shifts: Tuple[int, int]
 
 
 def lanes_for(chunks: int, most: int) -> Set[int]:
-    """In how many lanes some chunks are hashed where there are so many at most: in the fewest that hold them. Two go as a pair, and three
-    or four as two pairs, where there could be more lanes than four."""
+    """The numbers of lanes in which some chunks may be hashed: the fewest that hold them, and at most `most`. If there could be more
+    lanes than four, two chunks go as a pair, and three or four as two pairs."""
     if chunks <= (2 if most == 4 else 4):
         return set()
     return {next(lanes for lanes in WIDTHS if lanes >= min(chunks, most))}
 
 
 def must_take(library: Library, wanted: Set[int], run: Callable[[], Machine], what: str) -> Machine:
-    """Runs a call, which has to take chunks in so many lanes. Nothing else can show that: a hash is right in any."""
+    """Runs a call, which has to take chunks in this number of lanes. Nothing else can show that: a hash is right in any."""
     kept = dict(library.decoded)
     library.decoded.clear()
     m = run()

@@ -1,4 +1,4 @@
-"""Compares what is said here of instructions with what a processor does, each from random states."""
+"""Compares what this folder says of instructions with what a processor does, each from random states."""
 
 from __future__ import annotations
 
@@ -18,7 +18,7 @@ SCRATCH_WORDS = 128
 
 @dataclass
 class State:
-    """Of a processor: the place of an instruction, registers, flags, and the words of memory that instructions may use."""
+    """The state of a processor: the place of an instruction, registers, flags, and the memory that instructions may use."""
 
     place: int
     general: List[int]
@@ -74,7 +74,7 @@ def put_state(m: Machine, state: State, scratch: int) -> None:
 
 
 def differences(m: Machine, to: int, after: State, scratch: int) -> List[str]:
-    """In what the machine differs from the state after an instruction, if it goes on at `to`."""
+    """What differs between the machine and the state after an instruction, if the machine goes on at `to`."""
     found = [f"it goes on at {after.place:#x}"] if to != after.place else []
     found += [f"register {i}" for i, value in enumerate(after.general) if m.general[i] != value]
     found += [f"vector {i}" for i, words in enumerate(after.vectors) if m.vectors[i] != words]

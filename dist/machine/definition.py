@@ -1,6 +1,6 @@
 """The definition of keyed BLAKE3 on words of words.py, in the order and by the names of crates/keyed_blake3/specs/Blake3.antt.
 
-With numbers in the place of symbols, it computes the hash itself: test_definition.py compares it with published vectors.
+With numbers instead of symbols, it computes the hash itself: test_definition.py compares it with published vectors.
 """
 
 from __future__ import annotations

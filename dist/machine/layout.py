@@ -26,12 +26,12 @@ _OPTIONS: Dict[str, List[str]] = {"x86_64": ["-Mintel"], "aarch64": []}
 _MACHINES: "Dict[str, Type[Machine]]" = {"x86_64": X86, "aarch64": Aarch64, "windows-x86_64": WindowsX86}
 #: For each platform, the level whose file has the library, and its own kernels.
 _LIBRARIES = {level.platform: level for level in LEVELS.values() if level.is_library}
-#: The choice of a level, in the place of what processor_level.c does.
+#: The choice of a level, instead of processor_level.c's.
 _CHOICE = "\t.data\n\t.globl\tyurewha_kernels\nyurewha_kernels:\n\t.quad\t{}\n"
 
 
 class Library:
-    """The library as it is linked, with the kernels of a level, or with what a text in the place of the level's file gives."""
+    """The library as it is linked, with the kernels of a level, or with a text that replaces the level's file."""
 
     def __init__(self, level: Level, assembler: str, work: Path, text: Optional[str] = None) -> None:
         self.level = level
@@ -62,7 +62,7 @@ class Library:
         return self.kind(self.image, self.decoded)
 
     def branches_of_kernels(self) -> List[int]:
-        """Where the functions that each level has of its own have branches with a condition."""
+        """The places of branches with a condition in the functions that each level has of its own."""
         names = inner(""), of_groups("")
         return [at for at, it in self.image.instructions.items() if it.function.startswith(names) and self.kind.BRANCH.match(it.text)]
 

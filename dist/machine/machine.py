@@ -15,7 +15,7 @@ from image import OUTSIDE, Image
 from memory import Memory
 from words import Value, Word, byte, from_bytes, high, low, pair, unknown
 
-#: Where a call returns to that `call` makes.
+#: The address to which a call returns that `call` makes.
 RETURN = 0x7000F00
 _OUTSIDE = {place: name for name, place in OUTSIDE.items()}
 
@@ -57,7 +57,7 @@ class Machine(ABC):
         self.steps = 0
         #: Branches that were run, and whether each was taken.
         self.branches: Set[Tuple[int, bool]] = set()
-        #: Functions, by their places, in the place of which something else is done.
+        #: Functions that are replaced, by their places, and what is done instead.
         self.stand_ins: Dict[int, Callable[[], Value]] = {}
         self._heap = 0x60000000
         for segment in image.segments:

@@ -1,7 +1,7 @@
 """Groups of nodes: the hashes of the texts of several groups, and these texts.
 
 What writes a text has branches and reads tables that depend on sizes and hashes, so it runs on numbers. For the hashes, any text of some
-length stands in the place of what it writes. The definition of the text reads beside crates/xet_roots/specs/Roots.antt.
+length stands for what it writes. The definition of the text can be compared with crates/xet_roots/specs/Roots.antt line by line.
 """
 
 from __future__ import annotations

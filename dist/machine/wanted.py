@@ -9,7 +9,7 @@ from words import Node, Word, number_of
 
 
 def numbers_of(given: Any) -> Any:
-    """The same lists and tuples, with numbers in the place of words."""
+    """The same lists and tuples, with numbers instead of words."""
     if isinstance(given, (list, tuple)):
         return type(given)(map(numbers_of, given))
     return number_of(given) if isinstance(given, Node) else given

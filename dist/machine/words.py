@@ -12,7 +12,7 @@ A word is an int, or a `Node`. Two nodes with the same normal form are one objec
 Each function gives a word that stands for exactly what its name says, for every value of the symbols. So two words that are the same
 object have the same value. Words that differ may still be equal; that would be a false alarm.
 
-Each symbol also has a number, which is drawn when it is made, and so has each node: what its form gives for these numbers. Each operation
+Each symbol also has a random number, which it gets when it is made. Each node has the number that its form gives for these. Each operation
 compares the number of its result with what plain arithmetic gives for the numbers of its operands. So a normal form that stands for
 something else is found where it is made, unless that happens to agree for these numbers.
 

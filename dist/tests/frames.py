@@ -8,7 +8,7 @@ called. It prints each place where they aren't, and at last how many places were
 import gdb
 
 GENERAL = (*(f"x{number}" for number in range(19, 30)), "sp")
-#: Of these a call keeps the lower halves.
+#: A call keeps the lower halves of these.
 VECTORS = tuple(f"v{number}" for number in range(8, 16))
 
 

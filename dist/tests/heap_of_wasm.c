@@ -31,7 +31,7 @@ void *malloc(size_t size) { return call("malloc", NULL, size); }
 void *realloc(void *old, size_t size) { return call("realloc", old, size); }
 void free(void *old) { (void)call("free", old, 0); }
 
-/* So many calls were made, and the last one was that of this name, with this block and this size. */
+/* Checks the number of calls, and that the last one has this name, this block and this size. */
 static void expect_calls(unsigned wanted, const char *name, const void *old, uint64_t size)
 {
     expect(calls == wanted, "the C library is called once, and not for more than there can be", name);

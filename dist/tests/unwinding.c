@@ -44,7 +44,7 @@ void *__wrap_malloc(size_t size)
 static yurewha_chunk chunks[MOST_CHUNKS];
 static size_t count;
 
-/* Of the functions of the library, those with large frames, with frames that are aligned, and with tables of jumps are among them. */
+/* Calls functions of the library, among them some with large frames, with frames that are aligned, and with tables of jumps. */
 __attribute__((noinline)) void merge(void)
 {
     static const char text[] = "{\"chunks\": [1, 2.5, {\"null\": null}, \"\\u00e4\"]}";

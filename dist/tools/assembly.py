@@ -84,8 +84,8 @@ def clang(part: Part, module: Path, to: Path, *more: str) -> None:
 
 
 def module_of(part: Part, work: Path) -> Path:
-    """The part's module. For x86-64, its functions ask for unwind tables, and those that get AVX-512 stay apart. For Windows, it is
-    changed as windows.py says.
+    """The part's module. For x86-64, its functions ask for unwind tables, and LLVM moves none that gets AVX-512 into another one. For
+    Windows, it is changed as windows.py says.
 
     On aarch64 unwind tables would change the order of instructions; there, they are made of the assembly.
     """
@@ -163,7 +163,7 @@ def in_file(part: Level | Program, text: str) -> str:
 
 
 def what_is(part: Level | Program) -> str:
-    """For which processors the file of a part is, and what it has."""
+    """The processors that the file of a part is for, and what the file has."""
     if isinstance(part, Program):
         return f"{part.library.name}: the proved program {part.crate}"
     return f"{part.name}: {'the proved library' if part.is_library else 'the kernels of the proved library'}"
@@ -187,7 +187,7 @@ def with_branch_targets(text: str, targets: Iterable[str]) -> str:
 def instructions_alone(part: Level | Program, text: str) -> str:
     """A part's file without what dist/make adds to the proved instructions, so that each has the address that it has there.
 
-    It has the toolchain's names. In the place of a program's stubs are kernels without instructions.
+    It has the toolchain's names. Instead of stubs, a program has kernels without instructions.
     """
     text = text.replace(PROTECTION_NOTE, "").replace(marks.NOTE, "")
     text = renamed(text, {own: name for name, own in OWN_NAMES.items()})

@@ -29,7 +29,7 @@ def with_long_jumps(text: str) -> str:
 
 
 def linked(objdump: str, path: Path) -> Path:
-    """An object, linked alone, beside it."""
+    """The file of an object that was linked alone. It is written next to the object."""
     binutils, to = objdump.removesuffix("objdump"), path.with_suffix(".exe")
     names = sorted(UNDEFINED.findall(printed(f"{binutils}nm", "-u", path)))
     outside = [word for at, name in enumerate(names) for word in ("--defsym", f"{name}={OUTSIDE + 16 * at:#x}")]

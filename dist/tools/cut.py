@@ -172,7 +172,7 @@ def kernels_alone(text: str) -> str:
 
 
 def program_alone(text: str, entry: str) -> str:
-    """What a program reaches from its entry, with stubs in the place of the kernels."""
+    """What a program reaches from its entry, with stubs instead of the kernels."""
     before, parts, end = sections(with_stubs(text))
     return before + "".join(reached(parts, [entry])) + end
 

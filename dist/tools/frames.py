@@ -1,6 +1,6 @@
 """Tables for unwinding of functions for aarch64, made of their instructions alone.
 
-If LLVM is asked for such tables, it puts instructions in another order. So what they tell is found here, along each way through a function:
+If LLVM is asked for such tables, it puts instructions in another order. So what they say is found here, along each way through a function:
 how far above the stack pointer or the frame pointer the caller's frame begins, where the caller's registers are kept, and whether the
 address to return to is signed. Two ways that meet have to agree in this, and a function has to leave everything as it was.
 """
@@ -35,7 +35,7 @@ END = re.compile(r"(?:b|br|brk|udf|ret)\b(?!\.)")
 
 @dataclass(frozen=True)
 class Frame:
-    """What holds before an instruction. The caller's frame begins so many bytes above a register: above `base`, as the table tells it,
+    """What holds before an instruction. The caller's frame begins some bytes above a register: above `base`, as the table says,
     and above the stack pointer, if that is known."""
 
     base: str = "sp"
@@ -48,7 +48,7 @@ class Frame:
     limit: tuple[str, int] = ("", 0)
 
     def told(self) -> Frame:
-        """The frame as far as the table tells it."""
+        """The part of the frame that the table says."""
         return replace(self, above_sp=None, limit=("", 0))
 
     def is_left(self) -> bool:

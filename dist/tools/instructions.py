@@ -44,7 +44,7 @@ def dumped(objdump: str, path: Path, *flags: str) -> dict[str, list[str]]:
 
 
 class Object:
-    """An object file for x86-64 or aarch64, of which each function has a section."""
+    """An object file for x86-64 or aarch64, in which each function has a section."""
 
     def __init__(self, objdump: str, path: Path) -> None:
         self.objdump, self.path = objdump, path

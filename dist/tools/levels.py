@@ -44,7 +44,7 @@ class Part:
 
     @property
     def folder(self) -> Path:
-        """Where what the toolchain makes of the crate is kept. For Windows it makes nothing of its own."""
+        """The folder that keeps what the toolchain makes of the crate. For Windows it makes nothing of its own."""
         return OUT / self.name_for_linux
 
     @property

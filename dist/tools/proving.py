@@ -14,11 +14,11 @@ from levels import OUT, ROOT, Level, Part, Program
 
 #: The proofs are checked by this logic, whatever the version of the kit. (`rt version` prints both.)
 LOGIC = "logic dac8208d650f15bf"
-#: Where the toolchain keeps what it proved on this machine: beside its folder.
+#: Where the toolchain keeps what it proved on this machine, next to its own folder.
 STORE = "rattle-kept"
 #: The file that says how many lanes are used at most.
 WIDEST = "crates/keyed_blake3/src/compression/width.rt"
-#: In the place of clang: keeps the LLVM module that it is handed last, and the words with which it is called, and then calls it.
+#: This replaces clang. It keeps the last LLVM module that clang gets, and the words with which it is called, and then calls clang.
 KEEPING_CLANG = """\
 #!/bin/sh
 for word; do
@@ -30,7 +30,7 @@ for word; do
 done
 exec '{clang}' "$@"
 """
-#: In the place of the linker, which `rt` calls for x86-64 alone, before it runs the program: makes a program that does nothing.
+#: This replaces the linker, which `rt` calls for x86-64 alone, before it runs the program. It makes a program that does nothing.
 NO_LINKER = """\
 #!/bin/sh
 while [ "$1" != -o ]; do shift; done

@@ -22,7 +22,7 @@ LEFT, BOXES, RIGHT, SPACE, LINE = 20, 164, 740, 8, 18
 
 
 class Layer(NamedTuple):
-    """How the layer's row in the table begins, its lines in the picture, and how wide it is beside others."""
+    """How the layer's row in the table begins, its lines in the picture, and how wide it is compared with others."""
 
     row: str
     lines: tuple[str, ...]

@@ -1,4 +1,4 @@
-"""The picture of speeds beside other code, from what bench/results says."""
+"""The picture of speeds compared with other code, from what bench/results says."""
 
 from __future__ import annotations
 
@@ -34,7 +34,7 @@ def when(file: str) -> tuple[str, str]:
 
 
 def hashing() -> Iterator[Bar]:
-    """A chunk of 64 KiB that isn't in a cache, at each level of processors, beside `blake3` with the same instructions."""
+    """A chunk of 64 KiB that isn't in a cache, at each level of processors, compared with `blake3` with the same instructions."""
     table = rows("hashes.md")
     column = table[0].index("64 KiB, cold")
     for level, peer, name in (
@@ -45,7 +45,7 @@ def hashing() -> Iterator[Bar]:
 
 
 def roots() -> Iterator[Bar]:
-    """Roots of lists, beside a loop over `blake3` with all that the processor has; these rows come last."""
+    """Roots of lists, compared with a loop over `blake3` with all that the processor has; these rows come last."""
     found = {row[0]: row for row in rows("roots.md") if len(row) > 4 and row[2] == "a loop, the crate `hex`"}
     for task, name in (("10^4", "10,000 chunks"), ("10^5", "100,000 chunks"), ("10^6", "1,000,000 chunks")):
         yield Bar(name, 100 / float(found[f"`xorb_hash`, {task} chunks"][4].split(" ")[0]))

@@ -154,7 +154,7 @@ def merge() -> str:
 
 
 def path_to_the_root() -> str:
-    """The path from a chunk to the root, and the nodes of a proof beside it."""
+    """The path from a chunk to the root, and the nodes of a proof next to it."""
     chunks, tree = list_and_tree()
     proof = yurewha.HashTree(chunks).proof(READ, READ + 1)
     sides: set[Place] = set()

@@ -1,5 +1,5 @@
 /* Compares the library's hashes with a second reading of the definition: of every length up to 20,000, of lengths around all
- * multiples of 16,384 and some of 1024, 4096 and 8192 up to 2^20, of drawn messages that are cut into drawn pieces, and of messages
+ * multiples of 16,384 and some of 1024, 4096 and 8192 up to 2^20, of random messages that are cut into random pieces, and of messages
  * of about 2^32 chunks, from a state that is written into the hasher. */
 #include "../fuzz/second/hash.h"
 #include "yurewha.h"
@@ -43,7 +43,7 @@ void whole(std::string_view message)
     expect(hash, second::data_hash(message), "whole", message.size());
 }
 
-/* Cuts a message into pieces of up to `longest` bytes. Now and then the hash of what came so far is asked for. */
+/* Cuts a message into pieces of up to `longest` bytes. Sometimes it asks for the hash of what came before. */
 void cut(std::mt19937_64 &random, std::string_view message, size_t longest)
 {
     yurewha_hasher hasher;

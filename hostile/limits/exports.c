@@ -1,6 +1,6 @@
 /*
  * Measures what calls of the static library take, and prints a line for each family: its name, the stack in bytes, and the
- * memory in bytes that is held at most beside the arguments, for COUNT chunks or bytes.
+ * memory in bytes that is held at most in addition to the arguments, for COUNT chunks or bytes.
  *
  * The stack is one that was filled before: what isn't as it was has been used. The linker puts the allocator here before
  * malloc, by -Wl,--wrap=malloc,--wrap=realloc,--wrap=free.
@@ -55,7 +55,7 @@ void __wrap_free(void *old)
     __real_free(old);
 }
 
-/* What calls are made on: drawn chunks, chunks without a natural cut, texts, and rooms. */
+/* The arguments of the calls: random chunks, chunks without a natural cut, texts, and room for results. */
 static struct {
     yurewha_chunk *chunks[2];
     char *bytes;
@@ -179,7 +179,7 @@ static void flat_lists(void)
     yurewha_subtree_free(&subtree);
 }
 
-/* In pieces from the last to the first. */
+/* Puts pieces of this length, from the last to the first. */
 static void session_of(size_t piece)
 {
     yurewha_session session = {0};

@@ -66,7 +66,7 @@ def make(arguments: list[str]) -> int:
 
 
 def check(arguments: list[str]) -> int:
-    """Tells whether the stored files are those that are made, and keep their schemas."""
+    """Checks that the stored files are those that are made, and keep their schemas."""
     jobs = jobs_of("Makes the test vectors again, compares them with the stored ones, and validates those.", arguments)
     try:
         faults = [fault for name in FILES for fault in faults_of(name)]

@@ -208,7 +208,7 @@ def broken() -> Group:
 
 
 def drawn() -> Group:
-    """Drawn changes of drawn values, some for each rule."""
+    """Random changes of random values, some for each rule."""
     wanted = {rule: 6 for rule in (*RULES, 0)}
     tests = []
     for line in drawn_cases.cases("json", 1, 20000):  # type: ignore[no-untyped-call]

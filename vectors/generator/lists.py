@@ -1,4 +1,4 @@
-"""Lists of chunks, each told by one of four rules, and what the model says of them."""
+"""Lists of chunks, each described by one of four rules, and what the model says of them."""
 
 from __future__ import annotations
 
@@ -12,14 +12,14 @@ MAX = 2**64 - 1
 
 
 class Told(NamedTuple):
-    """A list of chunks: the object by which a vector tells it, and its nodes."""
+    """A list of chunks: the object that describes it in a vector, and its nodes."""
 
     said: dict[str, Any]
     nodes: tuple[m.Node, ...]
 
 
 class ToldData(NamedTuple):
-    """A list of chunks whose data is told: the object by which a vector tells it, its nodes, and each chunk's bytes."""
+    """A list of chunks with their data: the object that describes it in a vector, its nodes, and each chunk's bytes."""
 
     said: dict[str, Any]
     nodes: tuple[m.Node, ...]
@@ -73,7 +73,7 @@ def _nodes_of(chunks: Sequence[bytes]) -> tuple[m.Node, ...]:
 
 
 def of_rule(said: dict[str, Any]) -> Told:
-    """The list that an object tells by its rule, `pattern` or `drawn`."""
+    """The list that an object describes by its rule, `pattern` or `drawn`."""
     if "pattern" in said:
         return pattern(said["pattern"])
     return drawn(int(said["drawn"]["firstSeed"]), said["drawn"]["count"])
@@ -95,7 +95,7 @@ def numbered(first: int, end: int) -> tuple[m.Node, ...]:
 
 
 def all_patterns(length: int) -> list[str]:
-    """Every pattern of natural cuts of this length; bit i of its number tells whether node i is a cut."""
+    """Every pattern of natural cuts of this length; bit i of its number says whether node i is a cut."""
     return ["".join("|" if number >> i & 1 else "." for i in range(length)) for number in range(2**length)]
 
 
@@ -151,7 +151,7 @@ def hex_or_none(value: m.Hash | None) -> str | None:
 
 
 def subtree_fields(tree: m.Subtree) -> dict[str, Any]:
-    """What a vector tells of a subtree: its levels, size, final hash, and the data hash of its JSON text."""
+    """What a vector says of a subtree: its levels, size, final hash, and the data hash of its JSON text."""
     text = m.to_json_text(tree)
     return {
         "levels": [list(counts) for counts in tree.counts()],

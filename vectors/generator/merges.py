@@ -109,7 +109,7 @@ def longer() -> Group:
 
 
 def range_said(told: Told, at_start: bool, at_end: bool) -> dict[str, Any]:
-    """A range as a vector tells it."""
+    """A range as a vector describes it."""
     return {"list": told.said, "atStart": at_start, "atEnd": at_end}
 
 

@@ -180,7 +180,7 @@ def drawn_ranges(rng: m.Xoshiro256PlusPlus, count: int, ranges: int) -> list[Ran
 
 
 def drawn() -> Group:
-    """Lists of 1 to 2,000 chunks, mostly of drawn lengths."""
+    """Lists of 1 to 2,000 chunks, mostly of random lengths."""
     rng, tests = m.Xoshiro256PlusPlus(69), []
     most = [9] * 4 + [30] * 8 + [100] * 6 + [400] * 4 + [1200] * 3
     for number, count in enumerate([1, 2, 2000, *(1 + rng.below(it) for it in most)]):

@@ -122,7 +122,7 @@ def faults() -> list[Test]:
 
 
 def drawn_order(seed: int, told: Told, pieces: int) -> Test:
-    """The chunks of a list by pieces in drawn order."""
+    """The chunks of a list, put in pieces in random order."""
     rng = m.Xoshiro256PlusPlus(seed)
     count = len(told.nodes)
     places = sorted({0, count, *(rng.below(count) for _ in range(pieces))})
@@ -135,7 +135,7 @@ def drawn_order(seed: int, told: Told, pieces: int) -> Test:
 
 
 def drawn() -> list[Test]:
-    """Lists by pieces in drawn order."""
+    """Lists, put in pieces in random order."""
     chosen = [lists.pattern("...|" * 6), lists.drawn(1, 60), lists.pattern("." * 20), lists.pattern("|" * 14),
               lists.pattern(lists.by_gaps((3, 7), 40)), lists.drawn(5000, 90)]
     return [drawn_order(seed, told, pieces) for seed, told in enumerate(chosen) for pieces in (3, 8)]

@@ -6,7 +6,7 @@ use std::path::{Path, PathBuf};
 use std::process::{Command, Output};
 use std::sync::OnceLock;
 
-// In the place of the crate `cc`: prints what it should compile.
+// This replaces the crate `cc`, and prints what that should compile.
 const CC: &str = r#"
     pub struct Build;
     impl Build {

@@ -60,7 +60,7 @@ fn meet() {
     HAS_MET.set(MEETING.load(Ordering::SeqCst) == 2);
 }
 
-// Counts a request of this size, and tells whether it is refused.
+// Counts a request of this size, and returns whether it is refused.
 fn is_refused(size: usize) -> bool {
     let before = BEFORE_MEETING.get();
     BEFORE_MEETING.set(before.and_then(|before| before.checked_sub(1)));
@@ -110,7 +110,7 @@ pub unsafe extern "C" fn free(block: *mut c_void) {
     unsafe { __libc_free(block) }
 }
 
-// What a call answers where the request after so many is refused, and whether one was.
+// What a call returns if the request after this many is refused, and whether one was.
 fn with_refusal<T>(before: u64, call: impl FnOnce() -> T) -> (T, bool) {
     BEFORE.set(Some(before));
     let answer = call();

@@ -71,7 +71,7 @@ fn of_seed(seed: u64) -> Node {
     }
 }
 
-// The chunks that a rule tells; vectors/README.md has the rules.
+// The chunks that a rule describes; vectors/README.md has the rules.
 fn chunks(said: &Value) -> Vec<Node> {
     if let Some(pattern) = said["pattern"].as_str() {
         let node = |(i, letter)| {
@@ -110,7 +110,7 @@ fn nodes(it: &Value, name: &str) -> Vec<Node> {
     array(it, name).iter().map(node).collect()
 }
 
-// The data of the chunks that a rule tells.
+// The data of the chunks that a rule describes.
 fn data_of(said: &Value) -> Vec<Vec<u8>> {
     if said["chunkBytes"].is_array() {
         return texts(said, "chunkBytes").map(unhex).collect();

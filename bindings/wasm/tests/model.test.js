@@ -1,4 +1,4 @@
-// Drawn cases with what the model gives for them, which `make_cases` printed to the file YUREWHA_CASES, through each module.
+// Random cases with what the model gives for them, which `make_cases` printed to the file YUREWHA_CASES, through each module.
 
 import assert from "node:assert/strict";
 import { readFileSync } from "node:fs";

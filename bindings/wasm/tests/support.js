@@ -40,7 +40,7 @@ const readLeb = (bytes, at) => {
     }
 };
 
-/** The module with a memory of at most so many pages. */
+/** The module with a memory of at most this many pages. */
 export function capped(bytes, pages) {
     const MEMORY = 5;
     for (let at = 8; at < bytes.length; ) {

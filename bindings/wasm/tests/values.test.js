@@ -22,7 +22,7 @@ const single = y.HashTree.fromChunks([[y.dataHash(chunk), chunk.length]]);
 const openedBlob = (salt = new Uint8Array(32)) => y.VerifiedBlob.open(single.fileHash(salt), () => chunk, () => single.proof(0, 1), { salt });
 const [blob, salted] = [await openedBlob(), await openedBlob(new Uint8Array(32).fill(1))];
 
-/** Of each class, calls that make objects of different values. */
+/** For each class, calls that make objects of different values. */
 const KINDS = {
     Hash: [() => new y.Hash(), () => y.Hash.randomFromSeed(1), () => y.Hash.randomFromSeed(2)],
     Chunks: [() => new y.Chunks(), () => y.Chunks.from(list(3)), () => y.Chunks.from(list(4))],

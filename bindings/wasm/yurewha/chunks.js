@@ -7,7 +7,7 @@ import { inspected, showing } from "./shown.js";
 
 export const CHUNK_LENGTH = 40;
 
-/** How many chunks Node's console shows unless it was told another number. */
+/** How many chunks Node's console shows by default. */
 const MOST_SHOWN = 100;
 
 /** The class `Chunks` and `packedOf`, the bytes of a list: in 40 bytes a hash, and its size as eight bytes, the least first. */

@@ -9,7 +9,7 @@ import { readAll } from "./streams.js";
 
 /** The size of `yurewha_hasher`, which holds no pointers: a copy of its bytes is a copy of the hasher. */
 const STATE_LENGTH = 2048;
-/** So many bytes and so many chunks go to the module at once, so that they fit its area. */
+/** How many bytes and how many chunks go to the module at once, so that they fit its area. */
 const PIECE = AREA / 2;
 const MOST_CHUNKS = 4096;
 /** Pieces of a stream that are shorter are gathered into pieces of this length, since a call costs as much as hashing some kilobytes. */

@@ -1,9 +1,9 @@
 // Parts of a file that were checked and are kept.
 
-/** So many parts are kept at most. A file of tiny chunks has many parts for its bytes, and each is looked at. */
+/** How many parts are kept at most. A file of tiny chunks has many parts for its bytes, and each is looked at. */
 const MOST_PARTS = 64;
 
-/** The parts of a file that were used last, with at most so many bytes together. */
+/** The parts of a file that were used last, with a limit on their bytes together. */
 export class KeptParts {
     #most;
     #total = 0;

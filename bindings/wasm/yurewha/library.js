@@ -3,7 +3,7 @@
 import { LAST_STATUS, STATUS, Trapped, errorOf, outOfMemory } from "./errors.js";
 import { STATUS_TEXT_LENGTH } from "./constants.js";
 
-/** So many bytes are kept for the arguments and results of a call. */
+/** How many bytes are kept for the arguments and results of a call. */
 export const AREA = 1 << 20;
 const ALIGNMENT = 16;
 const decoder = new TextDecoder();

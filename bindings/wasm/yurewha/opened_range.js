@@ -15,7 +15,7 @@ class Pieces {
         this.length += piece.length;
     }
 
-    /** The first bytes, so many of them, which aren't kept any more. */
+    /** Returns the first `length` bytes, which aren't kept any more. */
     take(length) {
         const taken = new Uint8Array(length);
         let [used, at] = [0, 0];

@@ -44,7 +44,7 @@ function unpacked(packed) {
     return new Lists(packedLevels(counts), packed.slice(start));
 }
 
-/** The class `RangeProof` over a library, and `written`, the proof that a call writes to rooms for so many nodes. */
+/** The class `RangeProof` over a library, and `written`, the proof that a call writes to room for some number of nodes. */
 export function makeRangeProof(library, { rawOf }, { Chunks, packedOf }, { opened }, HashTree) {
     class RangeProof {
         #lists;
@@ -178,7 +178,7 @@ export function makeRangeProof(library, { rawOf }, { Chunks, packedOf }, { opene
         return lists;
     }
 
-    /** The proof that a call writes to rooms for at most so many nodes. The call gets pointers to parts, too. */
+    /** The proof that a call writes, of at most this many nodes. The call gets pointers to parts, too. */
     function written(most, parts, run) {
         const rooms = [LEVEL_LENGTH * MOST_LEVELS, CHUNK_LENGTH * most];
         return library.over([...parts, ...rooms, 8, 8], (...pointers) => {

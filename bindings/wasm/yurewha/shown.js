@@ -9,7 +9,7 @@ export function showing(kind, names) {
     return (object) => shown.forEach(([name, getter]) => Object.defineProperty(object, name, getter));
 }
 
-/** Lets Node's console show objects of a class as `tell` tells. An object that can't be asked any more is shown by its error. */
+/** Lets Node's console show objects of a class as `tell` says. An object that can't be read any more is shown by its error. */
 export function inspected(kind, name, tell) {
     const value = function (depth, options, inspect) {
         if (depth < 0) return `[${name}]`;

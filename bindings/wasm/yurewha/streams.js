@@ -2,7 +2,7 @@
 
 import { ProofMismatch } from "./errors.js";
 
-/** So many bytes of a body have room at first. */
+/** How many bytes of a body there is room for at first. */
 const FIRST_ROOM = 1 << 16;
 
 /** Takes each piece of a stream, which may not be iterable itself, and cancels it for what `take` throws. */
@@ -22,7 +22,7 @@ export async function readAll(stream, take) {
     }
 }
 
-/** The body of a response. If it has more than so many bytes, it is cancelled, so that nobody can fill the memory with it. */
+/** The body of a response. If it is longer than it may be, it is cancelled, so that nobody can fill the memory with it. */
 export async function bodyOf(response, most) {
     if (!response.ok) {
         response.body?.cancel().catch(() => {});

@@ -51,7 +51,7 @@ export function makeSubtree(library, { Hash, rawOf, result, hmac }, { Chunks, pa
         static merge(ranges) {
             const seen = new Set();
             const copies = [];
-            // The handles of one call are distinct, so a range that comes again is copied.
+            // The handles of one call are distinct, so a range that occurs twice is copied.
             const distinct = (range) => {
                 if (!seen.has(range)) {
                     seen.add(range);

@@ -7,11 +7,11 @@ import { KeptParts } from "./kept_parts.js";
 import { inspected, showing } from "./shown.js";
 import { bodyOf, readAll } from "./streams.js";
 
-/** So many bytes are fetched and checked at once, if more are asked for. */
+/** How many bytes are fetched and checked at once, if more are asked for. */
 const PIECE = 1 << 22;
 const CACHE_SIZE = 1 << 22;
 const CHUNK_LIMIT = 1 << 20;
-/** The JSON of a proof may have so many bytes. */
+/** How many bytes the JSON of a proof may have. */
 const PROOF_LIMIT = 1 << 24;
 
 /** What fetches bytes of the file at an address. */

@@ -84,7 +84,7 @@ class Place:
     """A memory operand: what its address is the sum of, and whether the base register changes before or after the access."""
 
     def __init__(self, operands: List[str]) -> None:
-        """Of the last operands of an instruction: the one in brackets, and perhaps a number after it."""
+        """Reads the last operands of an instruction: the one in brackets, and perhaps a number after it."""
         found = re.match(r"\[([^,\]]*)(?:, ([^,\]]*))?(?:, (\w+)(?: #(\d+))?)?\](!?)$", operands[0])
         if not found or len(operands) > 2 or found[5] and len(operands) > 1:
             raise Fault(f"the operand {', '.join(operands)}")

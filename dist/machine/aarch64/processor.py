@@ -1,4 +1,4 @@
-"""An aarch64 processor, as qemu-aarch64 imitates it: its stub for debuggers sets a state, and tells it after one instruction."""
+"""An aarch64 processor, as qemu-aarch64 imitates it: its stub for debuggers sets a state, and reads it after one instruction."""
 
 from __future__ import annotations
 
@@ -17,7 +17,7 @@ from fault import Fault
 from layout import Library
 from words import M64
 
-#: Registers 0 to 30, the stack pointer, the place and the flags, as the stub tells them; the number of its first vector register.
+#: Registers 0 to 30, the stack pointer, the place and the flags, as the stub returns them; the number of its first vector register.
 _GENERAL, _FIRST_VECTOR = struct.Struct("<33QI"), 34
 _FLAGS = {"n": 31, "z": 30, "c": 29, "v": 28}
 _ADDRESSES = (1 << 47) - 4
@@ -70,7 +70,7 @@ class Qemu(Processor):
 
     def __init__(self, library: Library, work: Path) -> None:
         self.image, self.stub = library.image, Stub(library.image.path, work)
-        self.stub.ask("qXfer:features:read:target.xml:0,ffb")  # the stub tells vectors only to those that ask for this
+        self.stub.ask("qXfer:features:read:target.xml:0,ffb")  # the stub returns vectors only after this request
         self.scratch = self._general()[SP] // 4096 * 4096 - 65536
         self.vectors = [self.stub.words(f"p{_FIRST_VECTOR + i:x}") for i in range(32)]
         draws = random.Random(13)

@@ -64,7 +64,7 @@ def _each_byte(f: Callable[..., Any]) -> OfVectors:
 
 
 def _exchanged(of_four: List[int], of_two: List[int], unit: int) -> OfVectors:
-    """Units of so many words of two vectors, at places in both of them: those for vectors of four units, or of two."""
+    """Units of this many words of two vectors, at places in both of them: those for vectors of four units, or of two."""
     def of_vectors(x: Words, y: Words) -> Words:
         both = [*x, *y]
         return [word for place in (of_four if len(x) == 4 * unit else of_two) for word in both[unit * place:unit * place + unit]]
@@ -72,7 +72,7 @@ def _exchanged(of_four: List[int], of_two: List[int], unit: int) -> OfVectors:
     return of_vectors
 
 
-#: For vectors of four units and of two, which unit of both vectors comes to which place.
+#: Which unit of both vectors comes to which place, for vectors of four units and of two.
 _EXCHANGES = {
     "zip1": ([0, 4, 1, 5], [0, 2]), "zip2": ([2, 6, 3, 7], [1, 3]), "uzp1": ([0, 2, 4, 6], [0, 2]), "uzp2": ([1, 3, 5, 7], [1, 3]),
     "trn1": ([0, 4, 2, 6], [0, 2]), "trn2": ([1, 5, 3, 7], [1, 3]),
@@ -109,7 +109,7 @@ _OF_THREE: Dict[str, OfVectors] = {
 
 
 def _reversed(unit: int, part: int) -> OfVectors:
-    """The parts of each unit of so many bytes in the other order."""
+    """The parts of each unit of this many bytes, in the other order."""
     def f(x: Words) -> Words:
         if part == 4:
             return [word for i in range(0, len(x), 2) for word in (x[i + 1], x[i])]

@@ -65,7 +65,7 @@ class Form:
         return self.source(0), self.source(1, is_aligned=True), self.source(2)
 
     def into(self, width: int, result: Callable[["X86"], Vector], place: int = 0) -> "Step":
-        """What writes a result of so many words to a register. What is above it becomes 0 by AVX, and stays by SSE."""
+        """Writes a result of this many words to a register. What is above it becomes 0 by AVX, and stays by SSE."""
         register = self.register(place)
 
         def step(m: "X86") -> None:
@@ -75,7 +75,7 @@ class Form:
         return step
 
     def to_memory(self, count: int, result: Callable[["X86"], Vector], is_aligned: bool = False) -> "Step":
-        """What writes a result of so many words to the first operand, a place in memory."""
+        """Writes a result of this many words to the first operand, a place in memory."""
         place = Place(self.operands[0], self.following).sized(4 * count)
         return lambda m: m.memory.store(place.address(m, 4 * count if is_aligned else 1), result(m))
 
@@ -193,7 +193,7 @@ def _shufpd(k: int) -> OfTwo:
 
 
 def _blend(unit: int) -> Callable[[int], OfTwo]:
-    """Chooses units of so many words by the bits of a number."""
+    """Chooses units of this many words by the bits of a number."""
     return lambda k: lambda a, b: [b[i] if k >> i // unit & 1 else a[i] for i in range(len(a))]
 
 

@@ -32,7 +32,7 @@ size_t group_length(const Nodes &nodes, size_t first)
     return most;
 }
 
-/* Of a text, which is remembered, as the same groups come again and again. */
+/* The hash of a text. It is remembered, because the same groups are hashed many times. */
 Hash hash_of_group(const std::string &text)
 {
     static std::unordered_map<std::string, Hash> told;
@@ -118,7 +118,7 @@ bool right_side_is_lawful(const Nodes &side)
     return !cuts.empty() && is_stable_gap(0, cuts[0] + 1) && stable_triples(joined(front, side)).empty();
 }
 
-/* Of a subtree that has a level. */
+/* The least broken rule of the levels of a subtree, which has a level; 0 if there is none. */
 unsigned broken_level_rule(const Subtree &subtree)
 {
     const Level &top = subtree.levels.back();

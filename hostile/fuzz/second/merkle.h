@@ -40,7 +40,7 @@ std::optional<uint64_t> total_size(const Nodes &nodes);
 std::optional<uint64_t> total_size(const Subtree &subtree);
 size_t node_count(const Subtree &subtree);
 
-/* Where each group of a list begins, and last the length of the list. */
+/* The places where the groups of a list begin, and last the length of the list. */
 std::vector<size_t> group_bounds(const Nodes &nodes);
 Nodes parents_of(const Nodes &nodes);
 

@@ -6,7 +6,7 @@
 
 namespace second {
 
-/* The nodes of a range, and the nodes beside it on each level, from the chunks up. */
+/* The nodes of a range, and the nodes on its sides on each level, from the chunks up. */
 struct Proof {
     Nodes chunks;
     std::vector<Level> levels;

@@ -242,7 +242,7 @@ struct Test {
     }
 };
 
-/* A list that is told without its seeds, or nothing. */
+/* A list that a vector gives without seeds, or nothing. */
 std::optional<second::Nodes> list_of(const second::Value &said)
 {
     second::Nodes nodes;

@@ -147,7 +147,7 @@ void Ranges::hold(size_t which, Range range)
     kept[which] = std::move(range);
 }
 
-/* All that the library tells of a subtree is what is kept of it. */
+/* All that the library returns of a subtree is what the target keeps of it. */
 void Ranges::compare(size_t which)
 {
     compare_marks(which);
@@ -289,7 +289,7 @@ void Ranges::merge_into(Input &input, bool is_counted)
     compare(back);
 }
 
-/* Of adjacent handles to one that isn't among them. */
+/* Merges adjacent handles to one that isn't among them. */
 void Ranges::merge(Input &input)
 {
     const size_t first = input.below(COUNT - 1), count = input.below(COUNT - first), to = first + count;
@@ -307,7 +307,7 @@ void Ranges::merge(Input &input)
     compare_all();
 }
 
-/* With room enough, just enough, or less. */
+/* Writes the text to more room than it needs, to just enough, or to less. */
 void Ranges::to_json(Input &input)
 {
     const size_t which = input.below(COUNT);
@@ -329,7 +329,7 @@ void Ranges::to_json(Input &input)
     compare(which);
 }
 
-/* Of the text of another subtree. */
+/* Reads the text of another subtree. */
 void Ranges::from_json(Input &input)
 {
     const size_t from = input.below(COUNT), to = input.below(COUNT);
@@ -365,7 +365,7 @@ void Ranges::to_flat(Input &input)
     compare(which);
 }
 
-/* Of the lists of another subtree, with some changes. */
+/* Reads the lists of another subtree, with some changes. */
 void Ranges::from_flat(Input &input)
 {
     const size_t from = input.below(COUNT), to = input.below(COUNT);

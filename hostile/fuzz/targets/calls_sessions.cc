@@ -5,7 +5,7 @@ namespace {
 
 constexpr size_t MOST_CHUNKS = 400;
 
-/* Positions near the beginning, and now and then anywhere. */
+/* Positions near the beginning, and sometimes anywhere. */
 uint64_t drawn_position(Input &input)
 {
     const uint8_t kind = input.byte();
@@ -236,7 +236,7 @@ void Sessions::restore(size_t which)
     hash(which, nothing, true);
 }
 
-/* Each run, and whether the positions beside it are taken, after the session was restored. */
+/* Each run, and whether the positions next to it are taken, after the session was restored. */
 void Sessions::compare_all()
 {
     for (size_t which = 0; which < COUNT; which++) {

@@ -26,7 +26,7 @@ public:
     }
 
 private:
-    /* A canonical one, or one of levels that are drawn; in either some nodes may be changed. */
+    /* A canonical one, or one of random levels; in either some nodes may be changed. */
     second::Subtree some_subtree(bool at_start, bool at_end)
     {
         second::Subtree subtree = {at_start, at_end, {}};
@@ -63,7 +63,7 @@ private:
     }
 };
 
-/* The handle holds a subtree that was read; all that is told of it is what the second reading has. */
+/* The handle holds a subtree that was read. All that the library returns of it is what the second reading has. */
 void compare_subtree(yurewha_subtree &handle, const second::Subtree &wanted)
 {
     const std::string text = second::json_text(wanted);

@@ -62,7 +62,7 @@ public:
             continue;
     }
 
-    /* What a shell tells of its end. */
+    /* The exit status that a shell would show. */
     unsigned exit_status() const
     {
         return static_cast<unsigned>(WIFEXITED(status) ? WEXITSTATUS(status) : 128 + WTERMSIG(status));
@@ -159,7 +159,7 @@ private:
             text += line;
     }
 
-    /* Of a byte in the last line. */
+    /* Changes a byte in the last line. */
     void change(uint64_t how)
     {
         const size_t first = last_line(), length = text.size() - first;
@@ -197,7 +197,7 @@ bool is_output(const std::string &text)
            && second::from_hex(text.substr(5, 64)) && second::from_hex(text.substr(75, 64));
 }
 
-/* Of ranges of which some come from no list, hashes aren't known. */
+/* The hashes of ranges aren't known if some of them come from no list. */
 bool is_right(size_t command, const std::string &written, const second::Answer &answer)
 {
     if (answer.is_known)

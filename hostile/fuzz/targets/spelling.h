@@ -1,4 +1,4 @@
-/* Spells parts of JSON texts, for which the bytes of an input say the members, the numbers and the nodes. Now and then a part isn't as
+/* Spells parts of JSON texts, for which the bytes of an input say the members, the numbers and the nodes. Sometimes a part isn't as
  * it should be. */
 #ifndef SPELLING_H
 #define SPELLING_H
@@ -12,7 +12,7 @@ public:
 protected:
     Input &input;
 
-    /* Now and then. */
+    /* True for some inputs. */
     bool odd() { return input.byte() > 0xE0; }
 
     std::string space() { return odd() ? (input.flag() ? " " : "\n\t") : ""; }

@@ -7,7 +7,7 @@
 
 #include <cstring>
 
-/* Tells a difference between the library and the second reading, and ends the process: libFuzzer then keeps the input. */
+/* Prints a difference between the library and the second reading, and ends the process: libFuzzer then keeps the input. */
 [[noreturn]] void differ(const char *what, const char *file, int line);
 #define EXPECT(condition) ((condition) ? void() : differ(#condition, __FILE__, __LINE__))
 

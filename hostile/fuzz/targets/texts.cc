@@ -16,7 +16,7 @@ void compare_read(Read read, std::string_view text, const std::optional<second::
         EXPECT(hash.is_untouched());
 }
 
-/* With so much room. */
+/* Compares a text that is written to this much room. */
 void compare_written(Write write, const second::Hash &hash, const std::string &wanted, size_t room)
 {
     const yurewha_hash given = hash_to_c(hash);

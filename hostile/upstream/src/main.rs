@@ -1,5 +1,5 @@
 //! Compares the crate `yurewha` with the crate `xet-core-structures` 1.5.2, on the lists of vectors/upstream.json and on
-//! lists that are drawn by a seed.
+//! random lists of a seed.
 
 use serde_json::Value;
 use std::fmt::Debug;
@@ -141,7 +141,7 @@ impl Draws {
     }
 
     /// A list of fewer than 10, 40, 100, 300 or 1000 chunks. On average none to all of four are natural cuts, or
-    /// the gaps between natural cuts are drawn from 1 to 10.
+    /// the gaps between natural cuts are random, from 1 to 10.
     fn list(&mut self) -> Vec<Chunk> {
         let most = [10, 40, 100, 300, 1000][self.below(5)];
         let (count, kind) = (self.below(most), self.below(8));

@@ -17,7 +17,7 @@ use std::fmt;
 #[derive(Clone, Copy, Debug, PartialEq, Eq)]
 #[non_exhaustive]
 pub enum HexError {
-    /// The text has so many bytes, and not 64.
+    /// The text has this number of bytes, and not 64.
     Length(usize),
     /// A character isn't a hex digit.
     Digit {

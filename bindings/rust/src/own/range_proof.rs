@@ -70,7 +70,7 @@ struct Rooms {
 }
 
 impl Rooms {
-    // Rooms for a proof of at most so many nodes.
+    // Room for a proof of at most this many nodes.
     fn of(nodes: usize) -> Result<Self> {
         Ok(Rooms {
             levels: zeros(MOST_LEVELS)?,
@@ -596,7 +596,7 @@ mod tests {
         }
     }
 
-    // Levels of these numbers of nodes on both sides, and so many nodes of one size.
+    // Levels of these numbers of nodes on both sides, and this many nodes of one size.
     #[cfg(feature = "serde")]
     #[test]
     fn lists_of_no_proof_are_refused_by_the_lowest_rule() {

@@ -14,7 +14,7 @@ const NAME: &str = "yurewha";
 // The data of a chunk, and its number.
 type Chunk = (usize, Vec<u8>);
 
-/// Reads chunks of these lengths, one after another, and hashes them on so many threads. The calling thread reads
+/// Reads chunks of these lengths, one after another, and hashes them on the given number of threads. The calling thread reads
 /// meanwhile. What it returns is in the order of the reader, and
 /// [`file_hash`](crate::merklehash::file_hash) or [`xorb_hash`](crate::merklehash::xorb_hash) takes it.
 ///

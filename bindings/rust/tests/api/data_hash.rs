@@ -199,7 +199,7 @@ fn hashes_are_the_reference_hashes() {
     assert_ne!(compute_internal_node_hash(b"abc"), compute_data_hash(b"abc"));
 }
 
-// A message of so many bytes.
+// A message of this length.
 fn message(length: usize) -> Vec<u8> {
     (0..length).map(|i| (i % 251) as u8).collect()
 }
@@ -253,7 +253,7 @@ fn a_hasher_begins_again_under_its_key() {
     assert_eq!(keyed, DataHash::default().hmac(DataHash::from(key)));
 }
 
-// A reader that is interrupted before each piece of so many bytes, and fails at its end if it is told to.
+// A reader that is interrupted before each piece of this many bytes, and fails at its end if it should.
 struct Pieces<'a>(&'a [u8], usize, bool, Option<ErrorKind>);
 
 impl Read for Pieces<'_> {

@@ -1,4 +1,4 @@
-//! Drawn values, the same in every run, and the nodes of the worked examples.
+//! Random values, the same in every run, and the nodes of the worked examples.
 
 use yurewha::merklehash::DataHash;
 use yurewha::own::Node;
@@ -23,7 +23,7 @@ impl Draws {
         self.below(2) == 0
     }
 
-    /// Nodes of drawn hashes, a quarter of which are natural cuts as in real lists.
+    /// Nodes of random hashes, a quarter of which are natural cuts as in real lists.
     pub fn nodes(&mut self, count: usize) -> Vec<Node> {
         (0..count).map(|_| self.node()).collect()
     }
@@ -33,7 +33,7 @@ impl Draws {
         (words.into(), self.number() % 1_000_000)
     }
 
-    /// A list cut at drawn places into drawn many ranges, some of them empty.
+    /// A list cut at random places into a random number of ranges, some of them empty.
     pub fn pieces<'a>(&mut self, nodes: &'a [Node]) -> Vec<&'a [Node]> {
         let mut places: Vec<_> = (0..self.below(6)).map(|_| self.below(nodes.len() + 1)).collect();
         places.extend([0, nodes.len()]);
@@ -49,7 +49,7 @@ pub fn numbered(indices: std::ops::Range<u64>) -> Vec<Node> {
         .collect()
 }
 
-/// So many nodes of size 1 with natural cuts at these places alone.
+/// Nodes of size 1, with natural cuts at these places alone.
 pub fn with_cuts(count: u64, cuts: &[u64]) -> Vec<Node> {
     (0..count)
         .map(|i| {
@@ -59,7 +59,7 @@ pub fn with_cuts(count: u64, cuts: &[u64]) -> Vec<Node> {
         .collect()
 }
 
-/// A reference list: hash number 0 is the default one of size 0, number `i` is drawn from the seed `i` and has the
+/// A reference list: hash number 0 is the default one of size 0, number `i` is that of the seed `i` and has the
 /// size 100 `i`.
 pub fn reference(numbers: &[u64]) -> Vec<Node> {
     numbers

@@ -225,7 +225,7 @@ fn pointers(value: &Value, at: &str, found: &mut Vec<String>) {
     }
 }
 
-// The value with another one at a drawn place.
+// The value with another one at a random place.
 fn forged_at_random(draws: &mut Draws, value: &Value) -> Value {
     let others = [
         json!(null),
@@ -441,7 +441,7 @@ fn a_map_is_a_sequence_of_pairs() {
     );
 }
 
-// An iterator that claims to have so many elements.
+// An iterator that claims to have this many elements.
 struct Claiming<I>(I, usize);
 
 impl<I: Iterator> Iterator for Claiming<I> {

@@ -61,7 +61,7 @@ fn ranges_that_the_rust_crate_merges_wrongly_have_one_root() {
     assert_eq!(MerkleHashSubtree::merge(&ranges).unwrap().final_hash(), Some(root));
 }
 
-// Merges two neighbours at drawn places until one range is left.
+// Merges two neighbours at random places until one range is left.
 fn merged_in_a_drawn_order(draws: &mut Draws, mut ranges: Vec<MerkleHashSubtree>) -> MerkleHashSubtree {
     while ranges.len() > 1 {
         let place = draws.below(ranges.len() - 1);

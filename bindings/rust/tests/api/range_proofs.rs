@@ -14,7 +14,7 @@ fn with_cuts_everywhere(count: u64) -> Vec<Node> {
 // A list, a range of it, the numbers of nodes on both sides of each level, the place of the range, and the file's size.
 type Example = (Vec<Node>, Range<usize>, &'static [(usize, usize)], u64, u64);
 
-// By the model.
+// The model computed these values.
 fn examples() -> Vec<Example> {
     let of_three = || reference(&[1, 2, 3]);
     let with_zeros = || reference(&[0, 1, 0, 1]);
@@ -443,7 +443,7 @@ fn a_proof_that_keeps_the_rules_has_room() {
     assert_ne!(great, proof);
 }
 
-// A file of drawn chunks, and the data of each.
+// A file of random chunks, and the data of each.
 fn drawn_file(draws: &mut Draws) -> (Vec<Node>, Vec<Vec<u8>>) {
     let count = 1 + draws.below(120);
     let data: Vec<Vec<u8>> = (0..count)

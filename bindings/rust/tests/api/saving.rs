@@ -11,7 +11,7 @@ fn open(numbers: &[u64]) -> MerkleHashSubtree {
     MerkleHashSubtree::from_chunks(false, &reference(numbers), false)
 }
 
-/// A session of drawn puts. Positions are below 120, and hashes come again.
+/// A session of random puts. Positions are below 120, and hashes are repeated.
 pub fn drawn_session(draws: &mut Draws) -> Session {
     let mut session = Session::new();
     for _ in 0..draws.below(12) {
@@ -102,7 +102,7 @@ fn a_run_that_does_not_fit_is_refused_and_changes_nothing() {
         (8..9, open(&[1]), CoreError::InvalidArguments),
         (4..10, open(&[1]), CoreError::InvalidArguments),
         (9..10, great.clone(), CoreError::SizeOverflow),
-        // Of two errors this one comes.
+        // Two errors are possible, and this one is returned.
         (8..9, great, CoreError::InvalidArguments),
         (0..u64::MAX, open(&[1]), CoreError::InvalidArguments),
     ];

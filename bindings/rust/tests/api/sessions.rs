@@ -90,7 +90,7 @@ fn each_fault_is_told_and_changes_nothing() {
         (session.put(u64::MAX, &[one]), SessionFault::Positions),
         (session.put(u64::MAX - 1, &[one; 2]), SessionFault::Positions),
         (session.put(0, &[great]), SessionFault::Sizes),
-        // The least fault of several is told.
+        // Of several faults, the least one is returned.
         (session.put(5, &[great]), SessionFault::Overlap),
         (session.put(u64::MAX, &[great]), SessionFault::Positions),
     ];

@@ -119,7 +119,7 @@ fn threads_work_on_values_of_their_own() {
     });
 }
 
-// So many threads that look at the same values at once.
+// How many threads look at the same values at once.
 const THREADS: usize = 8;
 
 #[test]
