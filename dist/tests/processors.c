@@ -21,7 +21,7 @@ static struct {
     unsigned asked; /* how often the processor was asked */
 } processor;
 
-/* What the choice said on standard error. */
+/* What the choice printed to standard error. */
 static char said[200];
 
 static int cpuid_of(unsigned leaf, unsigned part, unsigned *eax, unsigned *ebx, unsigned *ecx, unsigned *edx)
@@ -181,7 +181,7 @@ static void levels_are_named(void)
     }
 }
 
-/* Another thread's choice that comes first is kept, and nothing is said. */
+/* Another thread's choice that comes first is kept, and nothing is printed. */
 static void another_thread_chooses_first(void)
 {
     have("x86-64-v3");

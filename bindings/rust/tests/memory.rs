@@ -30,7 +30,7 @@ extern "C" {
 }
 
 thread_local! {
-    // How many requests of this thread come before the one that is refused; none is, where nothing is said.
+    // How many requests of this thread come before the one that is refused. By default none is refused.
     static BEFORE: Cell<Option<u64>> = const { Cell::new(None) };
     // How many requests of this thread were counted.
     static REQUESTS: Cell<u64> = const { Cell::new(0) };
@@ -38,8 +38,8 @@ thread_local! {
     static GREATEST: Cell<usize> = const { Cell::new(0) };
     // How many more blocks this thread took by `malloc` than it freed.
     static BLOCKS: Cell<i64> = const { Cell::new(0) };
-    // How many requests of this thread come before the one in which it waits for another thread; it waits in none,
-    // where nothing is said.
+    // How many requests of this thread come before the one in which it waits for another thread. By default it
+    // never waits.
     static BEFORE_MEETING: Cell<Option<u64>> = const { Cell::new(None) };
     // Whether another thread waited as well, or had waited, while this one did.
     static HAS_MET: Cell<bool> = const { Cell::new(false) };
