@@ -3,4 +3,3 @@
 pub mod drawn;
 pub mod plain;
 pub mod rows;
-pub mod xet_bench;

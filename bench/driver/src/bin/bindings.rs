@@ -1,10 +1,8 @@
-//! Times calls of the Rust crate `yurewha`, whose handles cross to the proved library, beside calls of the libraries that
-//! cross nothing, in one process and in turn, and prints the tables.
+//! Times calls of the Rust crate `yurewha` beside the calls in C that they make, in one process and in turn, and prints the
+//! tables.
 
 use driver::drawn::{self, Cuts};
-use driver::plain::Node;
 use driver::rows::seconds_of;
-use driver::xet_bench::{xet_bench_from_chunks, xet_bench_xorb_hash};
 use std::hint::black_box;
 use yurewha::merklehash::{xorb_hash, MerkleHash, MerkleHashSubtree};
 
@@ -12,12 +10,44 @@ const TURNS: usize = 25;
 
 type Chunk = (MerkleHash, u64);
 
-// Drawn chunks, and the words that `xet_bench` takes for them.
-fn drawn(seed: u64, count: usize) -> (Vec<Chunk>, Vec<u64>) {
-    let nodes: Vec<Node> = drawn::chunks(seed, Cuts::Drawn).take(count).collect();
-    let chunks = nodes.iter().map(|&(hash, size)| (MerkleHash::from(hash), size)).collect();
-    let words = nodes.iter().flat_map(|(hash, size)| hash.iter().chain([size]));
-    (chunks, words.copied().collect())
+/// A chunk as `yurewha.h` declares it.
+#[repr(C)]
+struct ChunkOfC {
+    hash: [u64; 4],
+    size: u64,
+}
+
+// Of the library that the crate links.
+extern "C" {
+    fn yurewha_xorb_hash(chunks: *const ChunkOfC, count: usize, root: *mut [u64; 4]) -> u32;
+    fn yurewha_subtree_from_chunks(
+        at_start: bool,
+        chunks: *const ChunkOfC,
+        count: usize,
+        at_end: bool,
+        subtree: *mut *mut u8,
+    ) -> u32;
+    fn yurewha_subtree_free(subtree: *mut *mut u8);
+}
+
+fn xorb_hash_in_c(chunks: &[ChunkOfC]) -> [u64; 4] {
+    let mut root = [0; 4];
+    // SAFETY: chunks of their count, and four words to write to.
+    assert_eq!(unsafe { yurewha_xorb_hash(chunks.as_ptr(), chunks.len(), &mut root) }, 0);
+    root
+}
+
+fn make_open_subtree_in_c(chunks: &[ChunkOfC]) {
+    let mut subtree = std::ptr::null_mut();
+    // SAFETY: chunks of their count, and a handle to write to.
+    let status = unsafe { yurewha_subtree_from_chunks(false, chunks.as_ptr(), chunks.len(), false, &mut subtree) };
+    assert_eq!(status, 0);
+    // SAFETY: the handle that the call above made.
+    unsafe { yurewha_subtree_free(&mut subtree) };
+}
+
+fn drawn(seed: u64, count: usize) -> Vec<Chunk> {
+    drawn::chunks(seed, Cuts::Drawn).take(count).map(|(hash, size)| (hash.into(), size)).collect()
 }
 
 // The best time of each task for one of `count` calls, in nanoseconds, the tasks taken in turn.
@@ -34,7 +64,7 @@ fn best<const N: usize>(count: usize, mut tasks: [&mut dyn FnMut(); N]) -> [f64;
 
 // Calls that take about as long as crossing does.
 fn short_calls() {
-    let (chunks, _) = drawn(1, 100_000);
+    let chunks = drawn(1, 100_000);
     let closed = MerkleHashSubtree::from_chunks(true, &chunks, true);
     let open = MerkleHashSubtree::from_chunks(false, &chunks, false);
     let empty = MerkleHashSubtree::from_chunks(false, &[], false);
@@ -49,40 +79,32 @@ fn short_calls() {
     println!("| `merge_into` of an empty range, {} nodes kept | {merge:.1} |", open.num_nodes());
 }
 
-// Long calls beside what they are without crossing.
 fn long_calls() {
-    println!("\n| Call | through the crate, µs | nothing crosses, µs | ratio |\n|---|---|---|---|");
+    println!("\n| Call | through the crate, µs | the call in C, µs | ratio |\n|---|---|---|---|");
     for count in [1000, 1_000_000] {
-        let (chunks, words) = drawn(2, count);
-        let mut out = [0u8; 32];
-        let native_out = out.as_mut_ptr();
+        let chunks = drawn(2, count);
+        let of_c: Vec<ChunkOfC> = chunks.iter().map(|&(hash, size)| ChunkOfC { hash: *hash, size }).collect();
         let calls = 1_000_000 / count;
         let mut through = || drop(black_box(MerkleHashSubtree::from_chunks(false, black_box(&chunks), false)));
-        let mut native = || {
-            // SAFETY: five words for each node, and room for 32 bytes.
-            let done = unsafe { xet_bench_from_chunks(false, words.as_ptr(), words.len(), false, native_out, 32) };
-            assert!(black_box(done));
-        };
-        row(&format!("`from_chunks` of {count}, open"), best(calls, [&mut through, &mut native]));
+        let mut in_c = || make_open_subtree_in_c(black_box(&of_c));
+        row(&format!("`from_chunks` of {count}, open"), best(calls, [&mut through, &mut in_c]));
         let mut through = || {
             black_box(xorb_hash(black_box(&chunks)));
         };
-        let mut native = || {
-            // SAFETY: as above.
-            let done = unsafe { xet_bench_xorb_hash(words.as_ptr(), words.len(), native_out, 32) };
-            assert!(black_box(done));
+        let mut in_c = || {
+            black_box(xorb_hash_in_c(black_box(&of_c)));
         };
-        row(&format!("`xorb_hash` of {count}"), best(calls, [&mut through, &mut native]));
+        row(&format!("`xorb_hash` of {count}"), best(calls, [&mut through, &mut in_c]));
     }
 }
 
-fn row(name: &str, [crossing, native]: [f64; 2]) {
-    println!("| {name} | {:.1} | {:.1} | {:.3} |", crossing / 1e3, native / 1e3, crossing / native);
+fn row(name: &str, [through, in_c]: [f64; 2]) {
+    println!("| {name} | {:.1} | {:.1} | {:.3} |", through / 1e3, in_c / 1e3, through / in_c);
 }
 
 // A copy with another range merged into it, and what a copy takes of that.
 fn merging() {
-    let (chunks, _) = drawn(3, 20_000);
+    let chunks = drawn(3, 20_000);
     let (front, back) = chunks.split_at(12_000);
     let [front, back] = [front, back].map(|range| MerkleHashSubtree::from_chunks(false, range, false));
     let mut merge = || {

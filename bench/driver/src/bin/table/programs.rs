@@ -57,7 +57,7 @@ struct Folder(PathBuf);
 
 impl Folder {
     fn new() -> Self {
-        let path = std::env::temp_dir().join(format!("xet_bench_texts_{}", std::process::id()));
+        let path = std::env::temp_dir().join(format!("yurewha_bench_texts_{}", std::process::id()));
         fs::create_dir(&path).expect("a new folder");
         Folder(path)
     }
