@@ -1,4 +1,4 @@
-/* The types that heap.c and malloc64.c use: the toolchain's clang comes without headers. */
+/* The types that heap.c uses: the toolchain's clang comes without headers. */
 #define NULL ((void *)0)
 #define PTRDIFF_MAX __PTRDIFF_MAX__
 typedef __SIZE_TYPE__ size_t;

@@ -1,11 +1,10 @@
-// Prints the least time of each task of the table in nanoseconds, by the package over the module that is named.
+// Prints the least time of each task of the table in nanoseconds, by the package.
 
-import { readFileSync } from "node:fs";
 import { load } from "../yurewha/index.js";
 
 const [CHUNK_BYTES, CHUNKS] = [65536, 100_000];
 const REPEATS = { data_hash: 2000, xorb_hash: 20, from_chunks: 20, merge_into: 2000 };
-const y = await load(readFileSync(process.argv[2]));
+const y = await load();
 const data = Uint8Array.from({ length: CHUNK_BYTES }, (_, k) => k % 251);
 const chunks = y.Chunks.from(Array.from({ length: CHUNKS }, (_, k) => [y.Hash.randomFromSeed(k), 100 + (k % 9900)]));
 const [front, back] = [chunks.slice(0, CHUNKS / 2), chunks.slice(CHUNKS / 2)].map((half) => y.Subtree.fromChunks(false, half, false));

@@ -31,8 +31,8 @@ test("a bundle for browsers names no module of Node, and works", async () => {
     const text = bundled("browser.mjs", "--platform=browser");
     assert.ok(!text.includes("node:"));
     const { load } = await import(pathToFileURL(join(folder, "browser.mjs")));
-    const y = await load(BYTES.wasm32);
-    assert.equal(y.dataHash(new Uint8Array()).hex(), (await errors.load(BYTES.wasm32)).dataHash(new Uint8Array()).hex());
+    const y = await load(BYTES);
+    assert.equal(y.dataHash(new Uint8Array()).hex(), (await errors.load(BYTES)).dataHash(new Uint8Array()).hex());
 });
 
 test("a bundle for Node reads the module from a file", async () => {
@@ -41,7 +41,7 @@ test("a bundle for Node reads the module from a file", async () => {
     const y = await load(new URL("bindings/wasm/yurewha/yurewha.wasm", ROOT));
     assert.ok(y.xorbHash([]).equals(new y.Hash()));
     await assert.rejects(load(), { code: "ENOENT" });
-    writeFileSync(join(folder, "yurewha.wasm"), BYTES.wasm32);
+    writeFileSync(join(folder, "yurewha.wasm"), BYTES);
     assert.equal((await load()).dataHash(new Uint8Array()).hex(), y.dataHash(new Uint8Array()).hex());
 });
 
@@ -62,13 +62,13 @@ test("the package exports its own description and the module", () => {
     const { resolve } = createRequire(join(folder, "entry.js"));
     const description = JSON.parse(readFileSync(resolve("yurewha/package.json"), "utf8"));
     assert.equal(description.name, "yurewha");
-    assert.deepEqual(readFileSync(resolve("yurewha/yurewha.wasm")), BYTES.wasm32);
+    assert.deepEqual(readFileSync(resolve("yurewha/yurewha.wasm")), BYTES);
     assert.throws(() => resolve("yurewha/library.js"));
 });
 
 test("both entries export the same names", async () => {
     const browser = await import("../yurewha/browser.js");
     assert.deepEqual(Object.keys(browser), Object.keys(errors));
-    const given = await browser.load(BYTES.wasm32);
+    const given = await browser.load(BYTES);
     assert.ok(given.dataHash(new Uint8Array(3)).hex().length === 64);
 });

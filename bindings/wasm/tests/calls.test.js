@@ -13,11 +13,10 @@ import { runInNewContext } from "node:vm";
 import * as errors from "../yurewha/index.js";
 import { STATUS, errorOf } from "../yurewha/errors.js";
 import { AREA } from "../yurewha/library.js";
-import { BYTES, ROOT, chunksOf, loadAll, wrapped } from "./support.js";
+import { BYTES, ROOT, chunksOf, wrapped } from "./support.js";
 
 const MAX = 2n ** 64n - 1n;
-const all = await loadAll();
-const [[, y]] = all;
+const y = await errors.load(BYTES);
 const list = (count) => chunksOf(y, { drawn: { firstSeed: "1", count } });
 const counting = (length) => Uint8Array.from({ length }, (_, k) => k % 251);
 /** The model's hashes of chunks of `counting`, each from one offset to another. */
@@ -137,7 +136,7 @@ test("texts are strings, marks are true or false, and lists are of pairs", () =>
 });
 
 test("an object of another instance is none of this one", async () => {
-    const [[, other]] = await loadAll();
+    const other = await errors.load(BYTES);
     const [here, there] = [y, other].map((it) => it.Subtree.fromChunks(false, [[new it.Hash(), 1]], false));
     assert.throws(() => new y.Hash().compare(new other.Hash()), TypeError);
     assert.throws(() => new y.Hash().hmac(new other.Hash()), TypeError);
@@ -209,18 +208,16 @@ test("an error says what the library says of its status", async () => {
         ...rules(STATUS.RULE, 13),
         ...rules(STATUS.PROOF_RULE, 8),
     ];
-    for (const [module, bytes] of Object.entries(BYTES)) {
-        let status;
-        const { exports, yurewha } = await wrapped(bytes, (it) => ({ ...it, yurewha_subtree_from_json: () => status }));
-        const room = exports.allocate(104n);
-        const out = typeof room === "bigint" ? room + 96n : room + 96;
-        for (const [given, name, rule] of table) {
-            assert.equal(exports.yurewha_status_text(given, room, 96n, out), STATUS.DONE);
-            const [length] = new Uint32Array(exports.memory.buffer, Number(out), 1);
-            const message = Buffer.from(exports.memory.buffer, Number(room), length).toString();
-            status = given;
-            assert.throws(() => yurewha.Subtree.fromJSON("{}"), { name, message, ...(rule && { rule }) }, `${module}: ${given}`);
-        }
+    let status;
+    const { exports, yurewha } = await wrapped(BYTES, (it) => ({ ...it, yurewha_subtree_from_json: () => status }));
+    const room = exports.allocate(104n);
+    const out = room + 96;
+    for (const [given, name, rule] of table) {
+        assert.equal(exports.yurewha_status_text(given, room, 96n, out), STATUS.DONE);
+        const [length] = new Uint32Array(exports.memory.buffer, out, 1);
+        const message = Buffer.from(exports.memory.buffer, room, length).toString();
+        status = given;
+        assert.throws(() => yurewha.Subtree.fromJSON("{}"), { name, message, ...(rule && { rule }) }, `${given}`);
     }
     assert.throws(() => y.Subtree.fromJSON("[]"), { message: "rule 1: the value isn't an object" });
     assert.throws(() => y.RangeProof.fromFlat({ levels: [], nodes: [] }), { message: "rule 5: there is no chunk" });
@@ -262,25 +259,16 @@ test("chunks are packed once, and sliced as arrays are", () => {
     assert.equal(new y.Chunks().length, 0);
 });
 
-test("long messages and lists go through every module alike", () => {
+test("long messages and lists go through the module in pieces and at once alike", () => {
     const data = bytesOf(3_000_001);
-    const hashes = all.map(([, it]) => {
-        const pieces = new it.Hasher();
-        for (let at = 0; at < data.length; at += 100_000) pieces.update(data.subarray(at, at + 100_000));
-        const internal = it.Hasher.internalNode().update(data);
-        return [it.dataHash(data), it.internalNodeHash(data), new it.Hasher().update(data).digest(), pieces.digest(), internal.digest()].map(String);
-    });
-    const roots = all.map(([, it]) => {
-        const chunks = it.Chunks.from(chunksOf(it, { drawn: { firstSeed: "9", count: 60_000 } }));
-        const [front, back] = [it.Subtree.fromChunks(true, chunks.slice(0, 31_000), false), it.Subtree.fromChunks(false, chunks.slice(31_000), true)];
-        const parents = front.mergeInto(back);
-        assert.ok(front.finalHash().equals(it.xorbHash(chunks)));
-        return [front.finalHash().hex(), parents, front.toJSON()];
-    });
-    for (const found of hashes) assert.deepEqual(found, hashes[0]);
-    for (const found of roots) assert.deepEqual(found, roots[0]);
-    const [atOnce, internalAtOnce, updated, inPieces, internalUpdated] = hashes[0];
-    assert.deepEqual([updated, inPieces, internalUpdated], [atOnce, atOnce, internalAtOnce]);
+    const pieces = new y.Hasher();
+    for (let at = 0; at < data.length; at += 100_000) pieces.update(data.subarray(at, at + 100_000));
+    for (const hash of [new y.Hasher().update(data).digest(), pieces.digest()]) assert.deepEqual(hash, y.dataHash(data));
+    assert.deepEqual(y.Hasher.internalNode().update(data).digest(), y.internalNodeHash(data));
+    const chunks = y.Chunks.from(chunksOf(y, { drawn: { firstSeed: "9", count: 60_000 } }));
+    const [front, back] = [y.Subtree.fromChunks(true, chunks.slice(0, 31_000), false), y.Subtree.fromChunks(false, chunks.slice(31_000), true)];
+    front.mergeInto(back);
+    assert.ok(front.finalHash().equals(y.xorbHash(chunks)));
 });
 
 test("the model gives the same hash of a message that goes to the module in two pieces", () => {
@@ -293,7 +281,7 @@ test("a hasher keeps all bytes of the state that the header has", async () => {
     const [, words] = /struct yurewha_hasher \{\s*uint64_t state\[(\d+)\];/.exec(header);
     const written = counting(8 * Number(words));
     const seen = [];
-    const { yurewha } = await wrapped(BYTES.wasm32, (exports) => {
+    const { yurewha } = await wrapped(BYTES, (exports) => {
         const stateAt = (at) => new Uint8Array(exports.memory.buffer, at, written.length);
         return {
             ...exports,
@@ -356,7 +344,7 @@ test("whatever gives pieces is hashed, and ended at a piece that is none", async
 
 test("short pieces of a stream go to the module in long ones, in their order", async () => {
     const lengths = [];
-    const { yurewha: it } = await wrapped(BYTES.wasm32, (exports) => ({
+    const { yurewha: it } = await wrapped(BYTES, (exports) => ({
         ...exports,
         yurewha_hasher_update: (state, at, length) => (lengths.push(Number(length)), exports.yurewha_hasher_update(state, at, length)),
     }));
@@ -389,14 +377,12 @@ test("the hashes of many chunks are those of each", () => {
         [0], [5], [0, 0, 0], [0, 1000], [3, 4, 4, 70_000, 600_000, 600_001, 1_999_999, 2_000_003],
         Array.from({ length: 9001 }, (_, k) => 7 * k), [0, 2_000_003], [2_000_003, 2_000_003],
     ];
-    for (const [name, it] of all) {
-        for (const form of [offsets, offsets.map(BigInt), offsets.values()]) {
-            assert.deepEqual(it.dataHashes(counting(9000), form).map(String), wanted, name);
-        }
-        for (const list of lists) {
-            const each = list.slice(1).map((end, k) => it.dataHash(data.subarray(list[k], end)).hex());
-            assert.deepEqual(it.dataHashes(data, list).map(String), each, name);
-        }
+    for (const form of [offsets, offsets.map(BigInt), offsets.values()]) {
+        assert.deepEqual(y.dataHashes(counting(9000), form).map(String), wanted);
+    }
+    for (const list of lists) {
+        const each = list.slice(1).map((end, k) => y.dataHash(data.subarray(list[k], end)).hex());
+        assert.deepEqual(y.dataHashes(data, list).map(String), each);
     }
 });
 
@@ -434,21 +420,19 @@ test("ranges are equal only if their marks and nodes are", () => {
 });
 
 test("deep and long texts are refused, and thousands of levels merged, without a trap", () => {
-    for (const [name, it] of all) {
-        for (const text of ["[".repeat(1e6), '{"a":'.repeat(1e6), "[".repeat(1e6) + "]".repeat(1e6)]) {
-            assert.throws(() => it.Subtree.fromJSON(text), errors.InvalidText, name);
-        }
-        assert.throws(() => it.Subtree.fromJSON(JSON.stringify("a".repeat(1e7))), errors.InvalidJson, name);
-        const hash = (last) => new it.Hash(Uint8Array.from({ length: 32 }, (_, k) => (k === 24 ? last : 0)));
-        const [plain, cut] = [[hash(5), 1], [hash(4), 1]];
-        const count = 20_000;
-        const levels = Array(count).fill([0, 3]);
-        const nodes = [plain, ...Array(count).fill([plain, plain, cut]).flat()];
-        const front = it.Subtree.fromFlat({ atStart: true, levels: [...levels, [1, 0]], nodes, atEnd: false });
-        front.mergeInto(it.Subtree.fromChunks(false, [plain], true));
-        assert.equal(front.totalSize, BigInt(nodes.length + 1));
-        assert.ok(it.Subtree.fromJSON(front.toJSON()).equals(front));
+    for (const text of ["[".repeat(1e6), '{"a":'.repeat(1e6), "[".repeat(1e6) + "]".repeat(1e6)]) {
+        assert.throws(() => y.Subtree.fromJSON(text), errors.InvalidText);
     }
+    assert.throws(() => y.Subtree.fromJSON(JSON.stringify("a".repeat(1e7))), errors.InvalidJson);
+    const hash = (last) => new y.Hash(Uint8Array.from({ length: 32 }, (_, k) => (k === 24 ? last : 0)));
+    const [plain, cut] = [[hash(5), 1], [hash(4), 1]];
+    const count = 20_000;
+    const levels = Array(count).fill([0, 3]);
+    const nodes = [plain, ...Array(count).fill([plain, plain, cut]).flat()];
+    const front = y.Subtree.fromFlat({ atStart: true, levels: [...levels, [1, 0]], nodes, atEnd: false });
+    front.mergeInto(y.Subtree.fromChunks(false, [plain], true));
+    assert.equal(front.totalSize, BigInt(nodes.length + 1));
+    assert.ok(y.Subtree.fromJSON(front.toJSON()).equals(front));
 });
 
 test("a thousand ranges are merged at once", () => {
@@ -543,21 +527,19 @@ test("a file hash under a salt is that of the chunks, also of none and of a defa
 });
 
 test("a session is restored by its runs and the hashes that it knows", () => {
-    for (const [, it] of all) {
-        const chunks = chunksOf(it, { drawn: { firstSeed: "1", count: 60 } });
-        const [session, restored] = [new it.Session(), new it.Session()];
-        session.put(40, chunks.slice(40));
-        session.put(0, chunks.slice(0, 30));
-        session.runs().forEach((run) => restored.pushRun(...run));
-        assert.deepEqual(restored.knownHashes(), []);
-        restored.keepHashes(session.knownHashes());
-        const known = session.knownHashes().map((hash) => hash.hex());
-        assert.equal(new Set(known).size, 50);
-        assert.deepEqual(restored.knownHashes().map((hash) => hash.hex()).sort(), known.sort());
-        assert.deepEqual([restored.runFrom(35).slice(0, 2), restored.runFrom(60)], [[40n, 60n], null]);
-        for (const each of [session, restored]) assert.equal(each.put(30, chunks.slice(25, 35)), 5);
-        assert.ok(restored.root(60).equals(session.root(60)));
-    }
+    const chunks = chunksOf(y, { drawn: { firstSeed: "1", count: 60 } });
+    const [session, restored] = [new y.Session(), new y.Session()];
+    session.put(40, chunks.slice(40));
+    session.put(0, chunks.slice(0, 30));
+    session.runs().forEach((run) => restored.pushRun(...run));
+    assert.deepEqual(restored.knownHashes(), []);
+    restored.keepHashes(session.knownHashes());
+    const known = session.knownHashes().map((hash) => hash.hex());
+    assert.equal(new Set(known).size, 50);
+    assert.deepEqual(restored.knownHashes().map((hash) => hash.hex()).sort(), known.sort());
+    assert.deepEqual([restored.runFrom(35).slice(0, 2), restored.runFrom(60)], [[40n, 60n], null]);
+    for (const each of [session, restored]) assert.equal(each.put(30, chunks.slice(25, 35)), 5);
+    assert.ok(restored.root(60).equals(session.root(60)));
 });
 
 test("a session knows as many hashes as it was given", () => {
@@ -589,7 +571,7 @@ test("a run that doesn't fit is refused", () => {
 });
 
 test("load takes an address, bytes, a compiled module and a response", async () => {
-    const bytes = BYTES.wasm32;
+    const bytes = BYTES;
     const file = new URL("bindings/wasm/yurewha/yurewha.wasm", ROOT);
     const buffer = bytes.buffer.slice(bytes.byteOffset, bytes.byteOffset + bytes.length);
     const sources = [undefined, file, file.href, bytes, buffer, await WebAssembly.compile(bytes), new Response(bytes), Promise.resolve(bytes)];
@@ -599,7 +581,7 @@ test("load takes an address, bytes, a compiled module and a response", async () 
 });
 
 test("load fetches a module, but not out of a response of failure", async () => {
-    const server = createServer((request, response) => response.writeHead(request.url === "/found" ? 200 : 404).end(BYTES.wasm32));
+    const server = createServer((request, response) => response.writeHead(request.url === "/found" ? 200 : 404).end(BYTES));
     await once(server.listen(0, "127.0.0.1"), "listening");
     const address = `http://127.0.0.1:${server.address().port}`;
     try {
@@ -641,7 +623,7 @@ test("the examples of the declarations print what they say", async () => {
     for (const example of examples) {
         const printed = [];
         const run = new (async () => {}).constructor("y", "load", "console", example);
-        await run(await errors.load(BYTES.wasm32), () => errors.load(BYTES.wasm32), { log: (...values) => printed.push(format(...values)) });
+        await run(await errors.load(BYTES), () => errors.load(BYTES), { log: (...values) => printed.push(format(...values)) });
         assert.deepEqual(printed, [...example.matchAll(/console\.log.*; \/\/ (.*)$/gm)].map(([, said]) => said), example);
     }
 });

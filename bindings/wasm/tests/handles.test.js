@@ -34,7 +34,7 @@ async function counted() {
             },
         });
     // An object whose members can be replaced; those of an instance can't.
-    return { ...(await wrapped(BYTES.wasm32, (exports) => wrap({ ...exports }))), seen };
+    return { ...(await wrapped(BYTES, (exports) => wrap({ ...exports }))), seen };
 }
 const list = (y, count) => chunksOf(y, { drawn: { firstSeed: "1", count } });
 

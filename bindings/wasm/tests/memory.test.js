@@ -84,117 +84,114 @@ function filled(exports) {
     return blocks;
 }
 
-for (const [name, bytes] of Object.entries(BYTES)) {
-    // The heap of wasm64 joins no freed blocks to greater ones, so that it can't be emptied little by little.
-    test(`${name}: each block refused in turn`, { skip: name === "wasm64" }, async () => {
-        const expected = scene(await load(bytes)).calls;
-        const { exports: free } = await wrapped(bytes, (exports) => exports);
-        const cap = pagesOf(free) + 64;
-        const { exports, yurewha } = await wrapped(capped(bytes, cap), (it) => it);
-        const { state, calls } = scene(yurewha);
-        let refusals = 0;
-        for (const [call, run] of Object.entries(calls)) {
-            const wanted = expected[call]();
-            const before = state();
-            const blocks = filled(exports);
-            let found;
-            let refused = 0;
-            while (found === undefined) {
-                try {
-                    found = run();
-                } catch (error) {
-                    assert.ok(error instanceof OutOfMemory, `${call}: ${error.stack}`);
-                    assert.deepEqual(state(), before, call);
-                    refused++;
-                    assert.ok(blocks.length > 0, `${call}: never done`);
-                    exports.release(blocks.pop());
-                }
-            }
-            assert.deepEqual(found, wanted, call);
-            if (!TAKE_NONE.includes(call)) assert.ok(refused > 0, `${call}: never refused`);
-            refusals += refused;
-            blocks.forEach((block) => exports.release(block));
-        }
-        assert.ok(refusals > 50, `${refusals} refusals`);
-    });
-
-    test(`${name}: each growth refused in turn`, async () => {
-        const big = (y) => y.Chunks.from(chunksOf(y, { drawn: { firstSeed: "1", count: 30_000 } }));
-        const work = (y, chunks) => {
-            const [front, back] = [y.Subtree.fromChunks(true, chunks.slice(0, 20_000), false), y.Subtree.fromChunks(false, chunks.slice(20_000), true)];
-            front.mergeInto(back);
-            return front.finalHash().hex();
-        };
-        const whole = await wrapped(bytes, (it) => it);
-        const least = pagesOf(whole.exports);
-        const wanted = work(whole.yurewha, big(whole.yurewha));
-        const most = pagesOf(whole.exports);
-        assert.ok(most > least);
-        for (let pages = least; pages <= most; pages++) {
-            const { exports, yurewha } = await wrapped(capped(bytes, pages), (it) => it);
-            const chunks = big(yurewha);
-            const kept = yurewha.Subtree.fromChunks(false, chunks.slice(0, 50), false);
-            const before = plain(kept);
+test("wasm32: each block refused in turn", async () => {
+    const expected = scene(await load(BYTES)).calls;
+    const { exports: free } = await wrapped(BYTES, (exports) => exports);
+    const cap = pagesOf(free) + 64;
+    const { exports, yurewha } = await wrapped(capped(BYTES, cap), (it) => it);
+    const { state, calls } = scene(yurewha);
+    let refusals = 0;
+    for (const [call, run] of Object.entries(calls)) {
+        const wanted = expected[call]();
+        const before = state();
+        const blocks = filled(exports);
+        let found;
+        let refused = 0;
+        while (found === undefined) {
             try {
-                assert.equal(work(yurewha, chunks), wanted);
-                assert.ok(pages > least);
+                found = run();
             } catch (error) {
-                assert.ok(error instanceof OutOfMemory, `${pages}: ${error.stack}`);
+                assert.ok(error instanceof OutOfMemory, `${call}: ${error.stack}`);
+                assert.deepEqual(state(), before, call);
+                refused++;
+                assert.ok(blocks.length > 0, `${call}: never done`);
+                exports.release(blocks.pop());
             }
-            assert.deepEqual(plain(kept), before);
-            assert.equal(kept.mergeInto(kept.clone()) >= 0, true);
-            assert.ok(pagesOf(exports) <= pages);
         }
-    });
+        assert.deepEqual(found, wanted, call);
+        if (!TAKE_NONE.includes(call)) assert.ok(refused > 0, `${call}: never refused`);
+        refusals += refused;
+        blocks.forEach((block) => exports.release(block));
+    }
+    assert.ok(refusals > 50, `${refusals} refusals`);
+});
 
-    test(`${name}: no call writes where another block is`, async () => {
-        const { exports, yurewha: y } = await wrapped(bytes, (it) => it);
-        // The area of calls is the last block so far, so this one stands behind it.
-        const room = 4 * AREA;
-        const place = Number(exports.allocate(BigInt(room)));
-        const block = () => Buffer.from(exports.memory.buffer, place, room);
-        block().fill(7);
-        const root = y.dataHash(new Uint8Array(AREA + 500));
-        const range = y.RangeProof.fromChunks([[root, AREA + 500]], 0, 1).openRoot(root);
-        for (const length of [AREA - 40, AREA, AREA + 500, 2 * AREA]) {
-            y.xorbHash(new y.Chunks(new Uint8Array(40 * Math.floor(length / 40))));
-            range.read(0, length, new Uint8Array(length));
-            assert.throws(() => y.Subtree.fromJSON(" ".repeat(length)));
+test("wasm32: each growth refused in turn", async () => {
+    const big = (y) => y.Chunks.from(chunksOf(y, { drawn: { firstSeed: "1", count: 30_000 } }));
+    const work = (y, chunks) => {
+        const [front, back] = [y.Subtree.fromChunks(true, chunks.slice(0, 20_000), false), y.Subtree.fromChunks(false, chunks.slice(20_000), true)];
+        front.mergeInto(back);
+        return front.finalHash().hex();
+    };
+    const whole = await wrapped(BYTES, (it) => it);
+    const least = pagesOf(whole.exports);
+    const wanted = work(whole.yurewha, big(whole.yurewha));
+    const most = pagesOf(whole.exports);
+    assert.ok(most > least);
+    for (let pages = least; pages <= most; pages++) {
+        const { exports, yurewha } = await wrapped(capped(BYTES, pages), (it) => it);
+        const chunks = big(yurewha);
+        const kept = yurewha.Subtree.fromChunks(false, chunks.slice(0, 50), false);
+        const before = plain(kept);
+        try {
+            assert.equal(work(yurewha, chunks), wanted);
+            assert.ok(pages > least);
+        } catch (error) {
+            assert.ok(error instanceof OutOfMemory, `${pages}: ${error.stack}`);
         }
-        assert.ok(block().equals(Buffer.alloc(room, 7)));
-    });
+        assert.deepEqual(plain(kept), before);
+        assert.equal(kept.mergeInto(kept.clone()) >= 0, true);
+        assert.ok(pagesOf(exports) <= pages);
+    }
+});
 
-    test(`${name}: what an object held is used again after it was freed`, async () => {
-        const { exports, yurewha: y } = await wrapped(bytes, (it) => it);
-        // Without a natural cut every node is kept.
-        const chunks = y.Chunks.from(chunksOf(y, { counted: { count: 5000, cutEvery: 0 } }));
-        const put = (session) => session.put(0, chunks) && session;
-        const proof = y.RangeProof.fromChunks(chunks, 0, 5000);
-        const root = y.xorbHash(chunks);
-        const makers = [
-            () => y.Subtree.fromChunks(false, chunks, false), () => put(new y.Session()), () => y.HashTree.fromChunks(chunks), () => proof.openRoot(root),
-        ];
-        for (const make of makers) {
-            make().free();
-            const before = pagesOf(exports);
-            for (let k = 0; k < 100; k++) make().free();
-            assert.ok(pagesOf(exports) <= before + 16, `${make}: ${pagesOf(exports) - before} pages`);
-        }
-    });
+test("wasm32: no call writes where another block is", async () => {
+    const { exports, yurewha: y } = await wrapped(BYTES, (it) => it);
+    // The area of calls is the last block so far, so this one stands behind it.
+    const room = 4 * AREA;
+    const place = exports.allocate(BigInt(room));
+    const block = () => Buffer.from(exports.memory.buffer, place, room);
+    block().fill(7);
+    const root = y.dataHash(new Uint8Array(AREA + 500));
+    const range = y.RangeProof.fromChunks([[root, AREA + 500]], 0, 1).openRoot(root);
+    for (const length of [AREA - 40, AREA, AREA + 500, 2 * AREA]) {
+        y.xorbHash(new y.Chunks(new Uint8Array(40 * Math.floor(length / 40))));
+        range.read(0, length, new Uint8Array(length));
+        assert.throws(() => y.Subtree.fromJSON(" ".repeat(length)));
+    }
+    assert.ok(block().equals(Buffer.alloc(room, 7)));
+});
 
-    test(`${name}: no memory at all is refused by load, and no view outlives a growth`, async () => {
-        const { exports, yurewha: y } = await wrapped(bytes, (it) => it);
-        const hash = y.Hash.randomFromSeed(3);
-        const range = y.Subtree.fromChunks(true, [[hash, 7]], true);
-        const text = hash.hex();
-        for (let k = 0; k < 5; k++) {
-            const { buffer } = exports.memory;
-            exports.allocate(1n << 23n);
-            assert.equal(buffer.byteLength, 0);
-            assert.equal(hash.hex(), text);
-            assert.equal(range.finalHash().hex(), text);
-            assert.equal(y.dataHash(new Uint8Array(70_000)).hex(), y.dataHash(new Uint8Array(70_000)).hex());
-        }
-        await assert.rejects(load(capped(bytes, 1)), OutOfMemory);
-    });
-}
+test("wasm32: what an object held is used again after it was freed", async () => {
+    const { exports, yurewha: y } = await wrapped(BYTES, (it) => it);
+    // Without a natural cut every node is kept.
+    const chunks = y.Chunks.from(chunksOf(y, { counted: { count: 5000, cutEvery: 0 } }));
+    const put = (session) => session.put(0, chunks) && session;
+    const proof = y.RangeProof.fromChunks(chunks, 0, 5000);
+    const root = y.xorbHash(chunks);
+    const makers = [
+        () => y.Subtree.fromChunks(false, chunks, false), () => put(new y.Session()), () => y.HashTree.fromChunks(chunks), () => proof.openRoot(root),
+    ];
+    for (const make of makers) {
+        make().free();
+        const before = pagesOf(exports);
+        for (let k = 0; k < 100; k++) make().free();
+        assert.ok(pagesOf(exports) <= before + 16, `${make}: ${pagesOf(exports) - before} pages`);
+    }
+});
+
+test("wasm32: no memory at all is refused by load, and no view outlives a growth", async () => {
+    const { exports, yurewha: y } = await wrapped(BYTES, (it) => it);
+    const hash = y.Hash.randomFromSeed(3);
+    const range = y.Subtree.fromChunks(true, [[hash, 7]], true);
+    const text = hash.hex();
+    for (let k = 0; k < 5; k++) {
+        const { buffer } = exports.memory;
+        exports.allocate(1n << 23n);
+        assert.equal(buffer.byteLength, 0);
+        assert.equal(hash.hex(), text);
+        assert.equal(range.finalHash().hex(), text);
+        assert.equal(y.dataHash(new Uint8Array(70_000)).hex(), y.dataHash(new Uint8Array(70_000)).hex());
+    }
+    await assert.rejects(load(capped(BYTES, 1)), OutOfMemory);
+});

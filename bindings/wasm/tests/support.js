@@ -1,20 +1,11 @@
-// The modules that `dist/make` made, and instances of them.
+// The module that `dist/make` made, and instances of it.
 
-import { existsSync, readFileSync } from "node:fs";
-import { load } from "../yurewha/index.js";
+import { readFileSync } from "node:fs";
 import { instanceOver } from "../yurewha/instance.js";
 import { Library } from "../yurewha/library.js";
 
 export const ROOT = new URL("../../../", import.meta.url);
-const PATHS = {
-    wasm32: "bindings/wasm/yurewha/yurewha.wasm",
-    "wasm32 without SIMD": "bindings/out/wasm/yurewha_plain.wasm",
-    wasm64: "bindings/out/wasm/yurewha64.wasm",
-};
-const urls = Object.entries(PATHS).map(([name, path]) => [name, new URL(path, ROOT)]);
-/** The bytes of those that are there. */
-export const BYTES = Object.fromEntries(urls.filter(([, url]) => existsSync(url)).map(([name, url]) => [name, readFileSync(url)]));
-export const loadAll = () => Promise.all(Object.entries(BYTES).map(async ([name, bytes]) => [name, await load(bytes)]));
+export const BYTES = readFileSync(new URL("bindings/wasm/yurewha/yurewha.wasm", ROOT));
 
 /** A library whose exports pass through `wrap`, and the package over it. */
 export async function wrapped(bytes, wrap) {

@@ -7,7 +7,7 @@ import { MessageChannel, receiveMessageOnPort } from "node:worker_threads";
 import * as errors from "../yurewha/index.js";
 import { BYTES, chunksOf } from "./support.js";
 
-const [y, other] = await Promise.all([errors.load(BYTES.wasm32), errors.load(BYTES.wasm32)]);
+const [y, other] = await Promise.all([errors.load(BYTES), errors.load(BYTES)]);
 const list = (count, it = y) => chunksOf(it, { drawn: { firstSeed: "1", count } });
 const sessionOf = (...puts) => {
     const session = new y.Session();

@@ -1,10 +1,10 @@
-// The test vectors of vectors/, through each module.
+// The test vectors of vectors/, through the module.
 
 import assert from "node:assert/strict";
 import { readFileSync } from "node:fs";
 import { test } from "node:test";
 import * as errors from "../yurewha/index.js";
-import { ROOT, chunksOf, loadAll } from "./support.js";
+import { BYTES, ROOT, chunksOf } from "./support.js";
 
 const FILES = ["hashes", "texts", "roots", "subtrees", "merges", "subtree_json", "range_proofs", "sessions", "upstream"];
 const ERRORS = {
@@ -246,23 +246,21 @@ function checksOver(y) {
     };
 }
 
-for (const [name, y] of await loadAll()) {
-    const checks = checksOver(y);
-    for (const file of FILES) {
-        test(`${name} meets each vector of ${file}.json`, () => {
-            const { testGroups, numberOfTests } = JSON.parse(readFileSync(new URL(`vectors/${file}.json`, ROOT)));
-            let done = 0;
-            for (const group of testGroups) {
-                for (const it of group.tests) {
-                    try {
-                        checks[group.type](group, it);
-                    } catch (error) {
-                        throw new Error(`tcId ${it.tcId}: ${it.comment}`, { cause: error });
-                    }
-                    done++;
+const checks = checksOver(await errors.load(BYTES));
+for (const file of FILES) {
+    test(`wasm32 meets each vector of ${file}.json`, () => {
+        const { testGroups, numberOfTests } = JSON.parse(readFileSync(new URL(`vectors/${file}.json`, ROOT)));
+        let done = 0;
+        for (const group of testGroups) {
+            for (const it of group.tests) {
+                try {
+                    checks[group.type](group, it);
+                } catch (error) {
+                    throw new Error(`tcId ${it.tcId}: ${it.comment}`, { cause: error });
                 }
+                done++;
             }
-            assert.equal(done, numberOfTests);
-        });
-    }
+        }
+        assert.equal(done, numberOfTests);
+    });
 }

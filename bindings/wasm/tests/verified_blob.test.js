@@ -12,9 +12,9 @@ import { setTimeout } from "node:timers/promises";
 import { fileURLToPath } from "node:url";
 import { promisify } from "node:util";
 import * as errors from "../yurewha/index.js";
-import { BYTES, ROOT, chunksOf, dataOf, loadAll, wrapped } from "./support.js";
+import { BYTES, ROOT, chunksOf, dataOf, wrapped } from "./support.js";
 
-const [[, y]] = await loadAll();
+const y = await errors.load(BYTES);
 /** A file of 6.6 million bytes in 300 chunks, some of them empty. A stream fetches it in two pieces. */
 const FILE = { numbers: { first: 1, count: 300, lengths: [30_000, 1, 0, 60_000, 20_000] } };
 const chunks = dataOf(FILE);
@@ -292,7 +292,7 @@ test("a file that no Blob could be is refused before it is fetched", async () =>
 
 test("each opened range is freed, also after an error", async () => {
     let open = 0;
-    const { yurewha: it } = await wrapped(BYTES.wasm32, (exports) => ({
+    const { yurewha: it } = await wrapped(BYTES, (exports) => ({
         ...exports,
         yurewha_range_proof_open: (...given) => (open++, exports.yurewha_range_proof_open(...given)),
         yurewha_opened_range_free: (...given) => (open--, exports.yurewha_opened_range_free(...given)),
@@ -326,6 +326,6 @@ test("arguments have their types, and results too", async () => {
     await assert.rejects(y.VerifiedBlob.open(hash, bytesOf, proofOf, { salt: new Uint8Array(31) }), errors.InvalidArguments);
     await assert.rejects(y.VerifiedBlob.open(hash, bytesOf, proofOf, { salt: null }), TypeError);
     assert.throws(() => new y.VerifiedBlob(), TypeError);
-    const other = await errors.load(BYTES.wasm32);
+    const other = await errors.load(BYTES);
     await assert.rejects(other.VerifiedBlob.open(other.Hash.fromHex(hash.hex()), bytesOf, proofOf), TypeError);
 });

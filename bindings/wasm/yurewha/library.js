@@ -12,8 +12,8 @@ const decoder = new TextDecoder();
 const aligned = (size) => Math.ceil(size / ALIGNMENT) * ALIGNMENT;
 
 /**
- * The only place that calls the module and looks into its memory. A pointer is a Number in wasm32 and a BigInt in wasm64. Each
- * view of the memory is made where it is used and kept nowhere, since a growth detaches it; what is read is copied.
+ * The only place that calls the module and looks into its memory. A pointer is a Number. Each view of the memory is made where it
+ * is used and kept nowhere, since a growth detaches it; what is read is copied.
  */
 export class Library {
     #exports;
@@ -53,7 +53,7 @@ export class Library {
     allocate(size) {
         const block = this.call("allocate", BigInt(size));
         if (!block) throw outOfMemory();
-        return typeof block === "number" ? block >>> 0 : block;
+        return block >>> 0;
     }
 
     /** Gives a block back; after a trap it does nothing. */
@@ -75,7 +75,7 @@ export class Library {
         const inArea = size <= AREA;
         const block = inArea ? this.#area : this.allocate(size);
         try {
-            const pointers = offsets.map((offset) => (typeof block === "number" ? block + offset : block + BigInt(offset)));
+            const pointers = offsets.map((offset) => block + offset);
             parts.forEach((part, k) => part.length && this.#view(pointers[k], part.length).set(part));
             return run(...pointers);
         } finally {
@@ -92,7 +92,7 @@ export class Library {
     }
 
     #view(pointer, length) {
-        return new Uint8Array(this.#exports.memory.buffer, Number(pointer), length);
+        return new Uint8Array(this.#exports.memory.buffer, pointer, length);
     }
 
     /** A copy of some bytes of the memory. */
@@ -105,7 +105,7 @@ export class Library {
     }
 
     u64(pointer) {
-        return new DataView(this.#exports.memory.buffer).getBigUint64(Number(pointer), true);
+        return new DataView(this.#exports.memory.buffer).getBigUint64(pointer, true);
     }
 
     /** A number that counts objects in the memory, so that it is a safe integer. */

@@ -94,7 +94,7 @@ export function makeOpenedRange(library) {
             // The caller's array may be shared with a thread that writes to it meanwhile.
             return library.over([given, 8], (at, out) => {
                 const place = accepted(library.call("yurewha_opened_range_read", pointer, start, stop, at, BigInt(given.length), out), out);
-                return place === null ? null : library.read(BigInt(at) + place, Number(stop - start));
+                return place === null ? null : library.read(at + Number(place), Number(stop - start));
             });
         }
 
