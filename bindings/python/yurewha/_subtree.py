@@ -39,7 +39,6 @@ from ._library import (
     calls_for,
     short,
 )
-from ._picture import picture_of
 from ._saving import Path, read_whole, write_whole
 from ._types import BytesLike, Texts
 
@@ -691,6 +690,8 @@ def svg_of(subtrees: Sequence[Subtree], captions: Texts = ()) -> str:
     >>> svg_of([Subtree.from_chunks(True, [(Hash(), 7)], True)], ["one chunk"]).count("one chunk")
     1
     """
+    from ._picture import picture_of  # which programs that only hash don't load
+
     if isinstance(captions, str):
         raise TypeError("captions are a list of them, not a str")
     shown, texts = list(subtrees), list(captions)
