@@ -1,6 +1,10 @@
 //! Compares the crate `yurewha` with the crate `xet-core-structures` 1.5.2, on the lists of vectors/upstream.json and on
 //! random lists of a seed.
 
+#[path = "../../../bindings/rust/tests/api/numbers.rs"]
+mod numbers;
+
+use numbers::Draws;
 use serde_json::Value;
 use std::fmt::Debug;
 use std::process::ExitCode;
@@ -120,23 +124,9 @@ impl Found {
     }
 }
 
-/// SplitMix64.
-struct Draws(u64);
-
 impl Draws {
-    fn next(&mut self) -> u64 {
-        self.0 = self.0.wrapping_add(0x9e37_79b9_7f4a_7c15);
-        let mixed = (self.0 ^ (self.0 >> 30)).wrapping_mul(0xbf58_476d_1ce4_e5b9);
-        let mixed = (mixed ^ (mixed >> 27)).wrapping_mul(0x94d0_49bb_1331_11eb);
-        mixed ^ (mixed >> 31)
-    }
-
-    fn below(&mut self, end: usize) -> usize {
-        (self.next() % end as u64) as usize
-    }
-
     fn bytes(&mut self) -> [u8; 32] {
-        let words = [self.next(), self.next(), self.next(), self.next()].map(u64::to_le_bytes);
+        let words = [self.number(), self.number(), self.number(), self.number()].map(u64::to_le_bytes);
         std::array::from_fn(|i| words[i / 8][i % 8])
     }
 
@@ -154,7 +144,7 @@ impl Draws {
             until_cut -= 1;
             let is_cut = if kind < 5 { self.below(4) < kind } else { until_cut == 0 };
             hash[24] = if is_cut { hash[24] & !3 } else { hash[24] | 1 };
-            (hash, self.next() >> (14 + self.below(50)))
+            (hash, self.number() >> (14 + self.below(50)))
         };
         (0..count).map(&mut chunk).collect()
     }

@@ -13,6 +13,7 @@ mod json;
 mod long;
 mod map;
 mod merging;
+mod numbers;
 mod own;
 mod panics;
 #[cfg(feature = "serde")]

@@ -37,11 +37,11 @@ const COLD_BYTES: usize = 128 << 20;
 /// Where chunks begin and end that follow each other in so many bytes. Their lengths are those of the store: 8 KiB and a random
 /// number of bytes, 56 KiB on average and with exponential distribution, but at most 128 KiB in all.
 fn chunk_places(bytes: usize) -> Vec<Range<usize>> {
-    let mut draws = Draws::new(1);
+    let mut draws = Draws(1);
     let mut places = Vec::new();
     let mut start = 0;
     loop {
-        let unit = (draws.word() >> 11) as f64 / (1u64 << 53) as f64;
+        let unit = (draws.number() >> 11) as f64 / (1u64 << 53) as f64;
         let length = (8 << 10) + (-(1.0 - unit).ln() * (56 << 10) as f64) as usize;
         let end = start + length.min(128 << 10);
         if end > bytes {

@@ -94,7 +94,7 @@ fn separated(count: usize, text: &mut dyn Write) -> io::Result<()> {
 
 fn shuffled(count: usize, text: &mut dyn Write) -> io::Result<()> {
     let mut numbers: Vec<usize> = (0..count / LENGTH).collect();
-    Draws::new(9).shuffle(&mut numbers);
+    Draws(9).shuffle(&mut numbers);
     for number in numbers {
         writeln!(text, "@{}", number * LENGTH)?;
         pairs(Cuts::Drawn, number as u64, LENGTH, text)?;
@@ -104,12 +104,12 @@ fn shuffled(count: usize, text: &mut dyn Write) -> io::Result<()> {
 
 // Lines of drawn bytes without a newline.
 fn chunks(count: usize, text: &mut dyn Write) -> io::Result<()> {
-    let mut draws = Draws::new(11);
+    let mut draws = Draws(11);
     for _ in 0..count {
         let mut line = Vec::with_capacity(CHUNK + 2);
         line.push(b'+');
         while line.len() <= CHUNK {
-            line.extend(draws.word().to_le_bytes().map(|byte| if byte == b'\n' { b' ' } else { byte }));
+            line.extend(draws.number().to_le_bytes().map(|byte| if byte == b'\n' { b' ' } else { byte }));
         }
         line.push(b'\n');
         text.write_all(&line)?;

@@ -25,7 +25,7 @@ pub fn print() {
 
 fn drawn_order(count: u64) -> Vec<u64> {
     let mut order: Vec<u64> = (0..count).collect();
-    Draws::new(7).shuffle(&mut order);
+    Draws(7).shuffle(&mut order);
     order
 }
 
