@@ -1,4 +1,4 @@
-/* The test vectors of vectors/, as lines that make_vector_lines prints; YUREWHA_VECTORS is their file. */
+/* The test vectors of tests/vectors/, as lines that make_vector_lines prints; YUREWHA_VECTORS is their file. */
 #include "vectors.h"
 
 #include <inttypes.h>

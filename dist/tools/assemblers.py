@@ -36,7 +36,7 @@ ASSEMBLERS = {
 def refuse_other_avx512(level: Part, work: Path) -> None:
     """Refuses the file of a translated level that has AVX-512 where it may not."""
     tools = ASSEMBLERS[level.platform]
-    run(ROOT / "bindings/install_packages", *tools.packages)
+    run(ROOT / "tools/install_packages", *tools.packages)
     for assembler in (tools.gcc, tools.clang):
         run(*assembler, "-c", level.assembly, "-o", work / "whole.o")
         if found := fault_of(tools.objdump, work / "whole.o"):

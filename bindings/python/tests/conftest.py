@@ -8,4 +8,4 @@ HERE = Path(__file__).resolve().parent
 if not os.environ.get("YUREWHA_INSTALLED"):
     sys.path.insert(0, str(HERE.parent))
 sys.path.insert(0, str(HERE))
-sys.path.insert(0, str(HERE.parents[2] / "model"))
+sys.path.insert(0, str(HERE.parents[2] / "tests/model"))

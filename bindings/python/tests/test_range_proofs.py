@@ -435,8 +435,8 @@ def test_representations():
 
 
 def campaign():
-    """The script of hostile/ as a module."""
-    loader = importlib.machinery.SourceFileLoader("campaign", str(REPOSITORY / "hostile" / "proofs"))
+    """The script of tests/hostile/ as a module."""
+    loader = importlib.machinery.SourceFileLoader("campaign", str(REPOSITORY / "tests/hostile" / "proofs"))
     module, path = importlib.util.module_from_spec(importlib.util.spec_from_loader("campaign", loader)), list(sys.path)
     loader.exec_module(module)
     sys.path[:] = path

@@ -1,4 +1,4 @@
-"""The test vectors of vectors/, through the package. Skipped where there is no library."""
+"""The test vectors of tests/vectors/, through the package. Skipped where there is no library."""
 
 import json
 from pathlib import Path
@@ -7,7 +7,7 @@ import pytest
 
 y = pytest.importorskip("yurewha", reason="there is no libyurewha: run make -C bindings, or set YUREWHA_LIB_DIR")
 
-FOLDER = Path(__file__).resolve().parents[3] / "vectors"
+FOLDER = Path(__file__).resolve().parents[3] / "tests/vectors"
 FILES = ("hashes", "texts", "roots", "subtrees", "merges", "subtree_json", "range_proofs", "sessions", "upstream")
 ERRORS = {"SizeOverflow": y.SizeOverflow, "InvalidArguments": y.InvalidArguments, "NotJson": y.InvalidText,
           "Overlap": y.SessionOverlap, "Positions": y.SessionPositions, "Sizes": y.SessionSizes, "Gap": y.SessionGap}
@@ -22,7 +22,7 @@ def hash_of_words(*words):
 
 
 def chunks_of(said):
-    """The chunks that a rule tells; vectors/README.md has the rules."""
+    """The chunks that a rule tells; tests/vectors/README.md has the rules."""
     (rule, told), = said.items()
     if rule == "pattern":
         return [(hash_of_words(i, 2 * i, 3 * i, 4 * i + (letter != "|")), 100 * i - 93) for i, letter in enumerate(told, 1)]

@@ -71,7 +71,7 @@ fn of_seed(seed: u64) -> Node {
     }
 }
 
-// The chunks that a rule describes; vectors/README.md has the rules.
+// The chunks that a rule describes; tests/vectors/README.md has the rules.
 fn chunks(said: &Value) -> Vec<Node> {
     if let Some(pattern) = said["pattern"].as_str() {
         let node = |(i, letter)| {
@@ -596,7 +596,7 @@ fn check(group: &Value, it: &Value) {
 
 // All tests of a file. Where one fails, it is named before.
 fn check_file(name: &str) {
-    let folder = Path::new(env!("CARGO_MANIFEST_DIR")).join("vectors");
+    let folder = Path::new(env!("CARGO_MANIFEST_DIR")).join("tests/vectors");
     let value: Value = serde_json::from_slice(&fs::read(folder.join(name)).unwrap()).unwrap();
     let mut done = 0;
     for group in array(&value, "testGroups") {

@@ -16,7 +16,7 @@ after(() => rmSync(folder, { recursive: true }));
 mkdirSync(join(folder, "node_modules"));
 symlinkSync(fileURLToPath(new URL("bindings/wasm/yurewha", ROOT)), join(folder, "node_modules/yurewha"));
 writeFileSync(join(folder, "entry.js"), 'export * from "yurewha";\n');
-execFileSync(fileURLToPath(new URL("bindings/install_packages", ROOT)), ["esbuild"], { stdio: "inherit" });
+execFileSync(fileURLToPath(new URL("tools/install_packages", ROOT)), ["esbuild"], { stdio: "inherit" });
 
 /** The text of a bundle of the whole package. */
 function bundled(name, ...options) {

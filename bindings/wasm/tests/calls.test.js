@@ -21,7 +21,7 @@ const list = (count) => chunksOf(y, { drawn: { firstSeed: "1", count } });
 const counting = (length) => Uint8Array.from({ length }, (_, k) => k % 251);
 /** The model's hashes of chunks of `counting`, each from one offset to another. */
 const hashesOfModel = (chunks) => {
-    const model = `import sys; sys.path.insert(0, "model"); import xet_model as m
+    const model = `import sys; sys.path.insert(0, "tests/model"); import xet_model as m
 for a, b in ${JSON.stringify(chunks)}: print(m.to_hex(m.compute_data_hash(bytes(k % 251 for k in range(a, b)))))`;
     return execFileSync("python3", ["-c", model], { cwd: fileURLToPath(ROOT), encoding: "utf8" }).trim().split("\n");
 };

@@ -17,7 +17,7 @@ from pathlib import Path
 from typing import Any, Callable, List, Union
 
 ROOT = Path(__file__).resolve().parents[3]
-sys.path[:0] = [str(ROOT / "model"), str(Path(__file__).parent)]
+sys.path[:0] = [str(ROOT / "tests/model"), str(Path(__file__).parent)]
 import range_proof as r  # noqa: E402
 import xet_model as m  # noqa: E402
 from browsers import Chromium, Firefox  # noqa: E402

@@ -48,7 +48,7 @@ export function capped(bytes, pages) {
 
 export const pagesOf = (exports) => exports.memory.buffer.byteLength / 65536;
 
-/** The chunks that a rule of the vectors says; vectors/README.md has the rules. */
+/** The chunks that a rule of the vectors says; tests/vectors/README.md has the rules. */
 export function chunksOf({ Hash, dataHash }, list) {
     const [[rule, said]] = Object.entries(list);
     const ofWords = (...words) => {

@@ -1,4 +1,4 @@
-// The test vectors of vectors/, through the module.
+// The test vectors of tests/vectors/, through the module.
 
 import assert from "node:assert/strict";
 import { readFileSync } from "node:fs";
@@ -20,7 +20,7 @@ const ERRORS = {
 const unhex = (text) => Uint8Array.from(Buffer.from(text, "hex"));
 const message = (length) => Uint8Array.from({ length }, (_, k) => k % 251);
 
-/** The check of each type of group; vectors/README.md says what each asks for. */
+/** The check of each type of group; tests/vectors/README.md says what each asks for. */
 function checksOver(y) {
     const subtreeOf = (it) => y.Subtree.fromChunks(it.atStart, chunksOf(y, it.list), it.atEnd);
     const checkSubtree = (tree, it) => {

@@ -83,7 +83,7 @@ fn lists_have_the_hashes_of_the_rust_crate(rt: HostRuntime) {
 }
 
 // Each row has a list and what the Rust crate computes for it: the root, the file hash, and the data hash of the JSON text
-// of its subtree, which is open at both ends. vectors/upstream.json has these lists, and longer ones.
+// of its subtree, which is open at both ends. tests/vectors/upstream.json has these lists, and longer ones.
 const LISTS: &str =
     "1000003,1 2ea55c532dcb06b01c7334775d697f4e60ef21c683c300582876c50816f09ad8 87ce126aadb78ce124ecd60ebb606f4d222c74909b9c362170ffe96fad66b344 21b9858412bcf667b233be9e55cdb1c7d7727b2edefed6947b74af99f60350e9
 2000006,2 ef4020834434927a24549bd3c2e3ed07eafdcb80bc48e3791f3955f5902a020f 36828e6e69b96699413b4cf54784e59bf296aa680018b9672d60553a31eeb955 9bc683fe67e74cb683c8ee7a7919ba165d0dd622c5e75e8759a1fee9cdebdaee

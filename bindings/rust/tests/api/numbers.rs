@@ -1,4 +1,4 @@
-//! Drawn numbers, the same in every run. `bench/driver` and `hostile/upstream` have this module, too.
+//! Drawn numbers, the same in every run. `bench/driver` and `tests/hostile/upstream` have this module, too.
 
 /// A generator of numbers (SplitMix64).
 pub struct Draws(pub u64);

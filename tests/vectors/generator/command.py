@@ -1,0 +1,78 @@
+"""What `tests/vectors/make_vectors` and `tests/vectors/check` do."""
+
+from __future__ import annotations
+
+import argparse
+import concurrent.futures
+import json
+import sys
+from typing import Callable, Iterable
+
+from . import hashes, json_texts, merges, range_proofs, roots, schemas, sessions, subtrees, texts, upstream
+from .files import FOLDER, File, differences
+
+Maker = Callable[[], File]
+# What makes each file, the longest ones first. The answers of upstream.json aren't the model's: they are kept, and compared.
+FILES: dict[str, Maker] = {
+    "upstream": upstream.kept_file, "subtrees": subtrees.file, "roots": roots.file, "merges": merges.file, "hashes": hashes.file,
+    "range_proofs": range_proofs.file, "subtree_json": json_texts.file, "sessions": sessions.file, "texts": texts.file}
+BY_MODEL = {**FILES, "upstream": upstream.model_file}
+
+
+def made(maker: Maker) -> tuple[str, str]:
+    """The name and the text of a file of vectors."""
+    file = maker()
+    return f"{file.name}.json", file.text()
+
+
+def all_texts(makers: dict[str, Maker], jobs: int) -> dict[str, str]:
+    """The texts of files of vectors and of their schemas, by path."""
+    found = {f"schemas/{name}_schema.json": schemas.text(name) for name in makers}
+    if jobs == 1:
+        return {**dict(map(made, makers.values())), **found}
+    with concurrent.futures.ProcessPoolExecutor(jobs) as pool:
+        return {**dict(pool.map(made, makers.values())), **found}
+
+
+def faults_of(name: str) -> Iterable[str]:
+    """What a stored file has against its schema, and against the rules that a schema can't say."""
+    import jsonschema  # type: ignore[import]
+
+    value = json.loads((FOLDER / f"{name}.json").read_text())
+    schema = json.loads((FOLDER / f"schemas/{name}_schema.json").read_text())
+    jsonschema.Draft202012Validator.check_schema(schema)
+    for error in jsonschema.Draft202012Validator(schema).iter_errors(value):
+        yield f"{name}.json: {'/'.join(map(str, error.absolute_path))}: {error.message[:200]}"
+    tests = [test for group in value["testGroups"] for test in group["tests"]]
+    if [test["tcId"] for test in tests] != list(range(1, value["numberOfTests"] + 1)):
+        yield f"{name}.json: the numbers of the tests aren't 1 to numberOfTests"
+
+
+def jobs_of(description: str, arguments: list[str]) -> int:
+    """How many processes are asked for."""
+    parser = argparse.ArgumentParser(description=description)
+    parser.add_argument("--jobs", type=int, default=2, help="processes at a time (2)")
+    return int(parser.parse_args(arguments).jobs)
+
+
+def make(arguments: list[str]) -> int:
+    """Writes all files."""
+    made_texts = all_texts(FILES, jobs_of("Makes the test vectors and their schemas from tests/model/.", arguments))
+    (FOLDER / "schemas").mkdir(exist_ok=True)
+    for name, text in sorted(made_texts.items()):
+        (FOLDER / name).write_text(text)
+        print(f"{name}: {len(text)} bytes")
+    return 0
+
+
+def check(arguments: list[str]) -> int:
+    """Checks that the stored files are those that are made, and keep their schemas."""
+    jobs = jobs_of("Makes the test vectors again, compares them with the stored ones, and validates those.", arguments)
+    try:
+        faults = [fault for name in FILES for fault in faults_of(name)]
+    except ImportError:
+        print("tests/vectors/check: install jsonschema (Debian: python3-jsonschema)", file=sys.stderr)
+        return 1
+    faults += differences(all_texts(BY_MODEL, jobs))
+    print("\n".join(faults) or f"{len(FILES)} files are what the model says, and keep their schemas")
+    return 1 if faults else 0
