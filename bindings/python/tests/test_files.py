@@ -2,6 +2,7 @@
 
 import array
 import io
+import itertools
 import os
 import pathlib
 import random
@@ -14,7 +15,7 @@ import time
 import pytest
 
 import yurewha as y
-from yurewha import _hashes
+from yurewha import _hashes, _in_threads
 
 MIB = 1 << 20
 rng = random.Random(51)
@@ -105,6 +106,55 @@ def test_threads_hash_pieces_at_once(written, monkeypatch, call):
     monkeypatch.setattr("yurewha._hashes._hashed", spied)
     assert call(written(data), data, range(0, 32 * MIB + 1, MIB)) == expected
     assert 1 < len(set(begun)) <= 4 and threading.main_thread() not in begun
+
+
+def test_few_bytes_are_shared_among_all_threads(monkeypatch):
+    """Each of four threads has a part of 8 MiB."""
+    meet, begun, hashed = threading.Barrier(4), [], _hashes._hashed
+
+    def spied(start, length, places):
+        begun.append(length)
+        if len(begun) <= 4:
+            meet.wait(10)
+        return hashed(start, length, places)
+
+    data, offsets = rng.randbytes(8 * MIB), range(0, 8 * MIB + 1, 1 << 16)
+    expected = y.data_hashes(data, offsets)
+    monkeypatch.setattr("yurewha._hashes._hashed", spied)
+    assert y.data_hashes(data, offsets, threads=4) == expected and len(begun) >= 12
+
+
+def test_a_thread_is_handed_several_pieces_of_a_long_file(written, monkeypatch):
+    handed, do = [], _in_threads._Crew.do
+
+    def spied(crew, pieces):
+        handed.append(len(pieces))
+        return do(crew, pieces)
+
+    monkeypatch.setattr("yurewha._in_threads._Crew.do", spied)
+    for mebibytes, batches in ((9, 9 * [1]), (64, 16 * [4])):
+        path, offsets = written(bytes(mebibytes * MIB)), range(0, mebibytes * MIB + 1, 1 << 18)
+        handed.clear()
+        assert y.hash_chunks(path, offsets, threads=4 if mebibytes == 64 else 2) == y.hash_chunks(path, offsets)
+        assert handed == batches
+
+
+@pytest.mark.parametrize("threads, batch", [(1, 1), (2, 1), (2, 4), (3, 100)])
+def test_what_comes_before_an_error_is_yielded(threads, batch):
+    results = _in_threads.in_threads(lambda piece, stopped: 60 // (10 - piece), range(20), threads, batch)
+    assert list(itertools.islice(results, 10)) == [60 // (10 - piece) for piece in range(10)]
+    with pytest.raises(ZeroDivisionError):
+        next(results)
+    assert list(results) == []
+
+
+@pytest.mark.parametrize("batch", [1, 4])
+def test_pieces_are_taken_as_they_are_needed(batch):
+    pieces = itertools.count()
+    results = _in_threads.in_threads(lambda piece, stopped: piece, pieces, 2, batch)
+    assert list(itertools.islice(results, 100)) == list(range(100))
+    results.close()
+    assert next(pieces) <= 100 + 20 * batch
 
 
 def test_progress_is_told_in_the_thread_of_the_caller(written):

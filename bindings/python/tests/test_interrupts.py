@@ -11,7 +11,7 @@ import pytest
 from drawn import MAX
 
 import yurewha as y
-from yurewha import _declarations, _hash, _interrupts, _library
+from yurewha import _declarations, _hash, _in_threads, _interrupts, _library
 
 pytestmark = pytest.mark.skipif(not hasattr(signal, "setitimer"), reason="there are no timers")
 
@@ -162,6 +162,17 @@ def test_no_work_goes_on_that_can_be_ended(name, monkeypatch):
     time.sleep(0.2)
     assert ended and counts[0] == counts[1] == len(made) > 0
     assert name != "data_hashes of one in threads" or len(made) < len(GREAT) // _hash.STEP // 2
+
+
+def test_no_further_piece_of_a_batch_is_begun():
+    begun = []
+
+    def work(piece, stopped):
+        begun.append(piece)
+        time.sleep(0.05)
+
+    took, ended = seconds(lambda: list(_in_threads.in_threads(work, range(100), 2, 50)), 0.12)
+    assert ended and took < 0.12 + SOON + SLACK and len(begun) < 60
 
 
 def test_a_long_update_that_is_ended_appends_nothing():

@@ -16,6 +16,10 @@ __all__ = ["hash_chunks"]
 
 _Path = Union[str, bytes, "os.PathLike[str]", "os.PathLike[bytes]"]
 
+#: How many pieces a thread is handed at once, if each thread then gets so many batches.
+_BATCH = 4
+_BATCHES = 4
+
 
 def hash_chunks(
     path: _Path, offsets: OffsetsLike, *, progress: Optional[Callable[[int, int], object]] = None, threads: SupportsIndex = 1
@@ -28,7 +32,8 @@ def hash_chunks(
 
     The file is read in pieces of at most a MiB, by as many `threads` at once. (A chunk of more than a MiB is the caller's alone.)
     After each piece, `progress(done, total)` gets the number of bytes that are hashed from the first offset on, and of all bytes to
-    hash, in the thread of the caller. Ctrl-C ends the call there, and so does an error that `progress` raises.
+    hash, in the thread of the caller. Threads are handed up to four pieces at a time, and then it is called for these one after
+    another. Ctrl-C ends the call there, and so does an error that `progress` raises.
 
     >>> import tempfile, os.path
     >>> with tempfile.TemporaryDirectory() as folder:
@@ -87,7 +92,8 @@ def _hashed(file: _Shared, places: List[int], threads: int) -> Generator[Tuple[i
         return None if end - start > PIECE else hashed_piece(file.read(start, end), piece)
 
     pieces = list(pieces_of(places))
-    with closing(in_threads(hash_piece, pieces, min(threads, len(pieces)))) as results:
+    batch = max(min(len(pieces) // (threads * _BATCHES), _BATCH), 1)
+    with closing(in_threads(hash_piece, pieces, min(threads, len(pieces)), batch)) as results:
         for piece, hashed in zip(pieces, results):
             if hashed is None:
                 yield from _hashed_chunk(file, piece[0], piece[-1])

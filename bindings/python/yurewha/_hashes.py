@@ -27,8 +27,10 @@ HexTexts = Union[Texts, Iterator[str]]
 OffsetsLike = Union[Iterable[SupportsIndex], BytesLike]
 
 _SIZE = 32
-#: How many bytes a thread hashes at once where they are, if there are several threads.
-_SHARE = 1 << 22
+#: How many bytes a thread hashes at once where they are, if there are several threads: at least, and at most.
+_LEAST_SHARE, _SHARE = 1 << 19, 1 << 22
+#: How many pieces each thread gets between these bounds, so that all end at about the same time.
+_PIECES_EACH = 4
 _FORMS = ((1, re.compile(BYTE)), (8, re.compile(WORD)), (_SIZE, re.compile(HASH)))
 _EXPECTED = (
     "packed hashes are bytes, four unsigned words of 8 bytes in a row, each with its least byte first, or plain items of 32 "
@@ -203,8 +205,13 @@ def data_hashes(
                 return _hashed(lent.at(start), end - start, [place - start for place in piece])
             return hashed_piece(lent.piece(start, end), piece)
 
-        most = PIECE if not in_place else STEP if count == 1 else _SHARE
+        most = PIECE if not in_place else STEP if count == 1 else _share(places[-1] - places[0], count)
         return Hashes._of(b"".join(in_threads(hash_piece, pieces_of(places, most), count)))
+
+
+def _share(length: int, threads: int) -> int:
+    """Returns how many bytes of so many a thread hashes at once."""
+    return max(min(length // (threads * _PIECES_EACH), _SHARE), _LEAST_SHARE)
 
 
 def _hashed_in_steps(lent: Lent, start: int, end: int, in_place: bool, stopped: Stopped) -> bytes:

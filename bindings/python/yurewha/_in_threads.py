@@ -4,8 +4,9 @@ from __future__ import annotations
 
 from collections import deque
 from concurrent.futures import Future, ThreadPoolExecutor
+from itertools import islice
 from threading import Condition
-from typing import Callable, Deque, Generator, Generic, Iterable, Optional, SupportsIndex, TypeVar
+from typing import Callable, Deque, Generator, Generic, Iterable, Iterator, List, Optional, SupportsIndex, Tuple, TypeVar
 
 from ._errors import InvalidArguments
 from ._hash import checked_u64
@@ -17,7 +18,10 @@ _Result = TypeVar("_Result")
 #: Returns whether nobody waits for some work any more.
 Stopped = Callable[[], bool]
 
-#: How many pieces each thread has before it, so that none waits for a longer one.
+#: The results of some pieces, up to the first that raised an error, and that error.
+_Done = Tuple[List[_Result], Optional[BaseException]]
+
+#: How many batches each thread has before it, so that none waits for a longer one.
 _QUEUED = 8
 
 
@@ -33,11 +37,13 @@ def checked_threads(threads: SupportsIndex) -> int:
     return count
 
 
-def in_threads(work: Callable[[_Piece, Stopped], _Result], pieces: Iterable[_Piece], threads: int) -> Generator[_Result, None, None]:
+def in_threads(
+    work: Callable[[_Piece, Stopped], _Result], pieces: Iterable[_Piece], threads: int, batch: int = 1
+) -> Generator[_Result, None, None]:
     """Yields what the work returns of each piece, in order. Several threads work at once, or the caller alone if there is to be one.
 
-    If it is ended early, no further piece is begun, and it waits for those that were. Work that takes long should look at its second
-    argument now and then.
+    A thread is handed `batch` pieces at a time, because handing over takes tens of microseconds. If it is ended early, no further
+    piece is begun, and it waits for those that were. Work that takes long should look at its second argument now and then.
 
     >>> list(in_threads(lambda piece, stopped: piece * piece, range(4), 2))
     [0, 1, 4, 9]
@@ -47,18 +53,26 @@ def in_threads(work: Callable[[_Piece, Stopped], _Result], pieces: Iterable[_Pie
             yield work(piece, bool)
         return
     crew: _Crew[_Piece, _Result] = _Crew(work)
-    coming: Deque[Future[_Result]] = deque()
+    coming: Deque[Future[_Done[_Result]]] = deque()
     pool = ThreadPoolExecutor(threads)
+    left = iter(pieces)
     try:
-        for piece in pieces:
-            coming.append(pool.submit(crew.do, piece))
+        for several in iter(lambda: list(islice(left, batch)), []):
+            coming.append(pool.submit(crew.do, several))
             if len(coming) > _QUEUED * threads:
-                yield waited(coming.popleft())
+                yield from _results(waited(coming.popleft()))
         while coming:
-            yield waited(coming.popleft())
+            yield from _results(waited(coming.popleft()))
     finally:
         crew.stop()
         pool.shutdown(wait=False, cancel_futures=True)
+
+
+def _results(done: _Done[_Result]) -> Iterator[_Result]:
+    results, error = done
+    yield from results
+    if error is not None:
+        raise error
 
 
 class _Crew(Generic[_Piece, _Result]):
@@ -72,14 +86,19 @@ class _Crew(Generic[_Piece, _Result]):
         """Returns whether nobody waits any more."""
         return self._stopped
 
-    def do(self, piece: _Piece) -> _Result:
-        """Does the work on a piece, unless nobody waits for it."""
+    def do(self, pieces: List[_Piece]) -> _Done[_Result]:
+        """Does the work on some pieces, one after another, as long as somebody waits for them."""
+        results: List[_Result] = []
         with self._changed:
-            if self._stopped:
-                raise RuntimeError("nobody waits for this piece")
             self._working += 1
         try:
-            return self._work(piece, self.is_stopped)
+            for piece in pieces:
+                if self._stopped:
+                    break
+                results.append(self._work(piece, self.is_stopped))
+            return results, None
+        except BaseException as error:
+            return results, error
         finally:
             with self._changed:
                 self._working -= 1
