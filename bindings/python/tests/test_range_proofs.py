@@ -42,6 +42,7 @@ THREE = [(h(1), 100), (h(2), 200), (h(3), 300)]
 EXAMPLES = [
     (THREE, 1, 2, ((1, 1),), 100, 600),
     (THREE, 0, 3, ((0, 0),), 0, 600),
+    (THREE, 1, 3, ((1, 0),), 100, 600),
     ([(h(1), 100)], 0, 1, (), 0, 100),
     (n(0, 27), 5, 6, ((1, 2), (1, 2), (0, 1)), 5, 28),
     (n(0, 27), 10, 22, ((2, 2), (2, 1), (0, 0)), 10, 28),
@@ -52,6 +53,16 @@ EXAMPLES = [
     (numbered(0, 9, lambda i: 0), 4, 7, ((1, 2), (1, 1)), 4, 10),
     ([(h(1), MAX), (h(2), 0)], 0, 1, ((0, 1),), 0, MAX),
 ]
+
+
+@pytest.mark.parametrize("chunks, first, end, levels, offset, size", EXAMPLES)
+def test_all_places_of_a_range_at_once(chunks, first, end, levels, offset, size):
+    tree = y.HashTree(chunks)
+    opened = tree.proof(first, end).open_root(tree.root)
+    assert opened._places() == (opened.begins(0), opened.ends(end - first - 1), size)
+    opened.__del__()
+    with pytest.raises(y.EmptyHandle):
+        opened._places()
 
 
 @pytest.mark.parametrize("chunks, first, end, levels, offset, size", EXAMPLES)

@@ -240,7 +240,8 @@ USES = {
     ranges: [
         lambda range_: range_.file_size, lambda range_: range_.num_chunks, lambda range_: range_.begins(1),
         lambda range_: range_.ends(1), lambda range_: range_.check(0, DATA), lambda range_: range_.check(1, bytearray(b"abc")),
-        lambda range_: range_.read(0, 7, DATA + b"abc"), repr],
+        lambda range_: range_.read(0, 7, DATA + b"abc"), lambda range_: range_.read(0, 7, bytearray(DATA + b"abc")),
+        lambda range_: range_._places(), repr],
     hashers: [
         lambda hasher: hasher.update(b"abc"), lambda hasher: hasher.update(DATA), lambda hasher: hasher.update(bytearray(LONG)),
         lambda hasher: hasher.count, lambda hasher: hasher.hash(), lambda hasher: hasher.hexdigest(), repr],

@@ -192,7 +192,7 @@ class CheckedParts:
     def _fetched(self, proof: RangeProof, start: int, stop: int) -> Steps[Part]:
         """Returns the data of a proof's chunks, once it is checked, and keeps it. They have the bytes from `start` up to `stop`."""
         opened = proof.open(self._hash, self._salt)
-        begin, end, size = opened.begins(0), opened.ends(opened.num_chunks - 1), opened.file_size
+        begin, end, size = opened._places()
         if not begin <= start < min(stop, size) <= end:
             raise ProofMismatch(f"{_told(begin, end)}, and not of those from {start} up to {stop}")
         if start - begin > self._chunk_limit or end - stop > self._chunk_limit:

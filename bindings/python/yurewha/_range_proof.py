@@ -438,6 +438,19 @@ class OpenedRange(Guarded):
             raise error_of(status, f"the range has no chunk {number}")
         return begin.value, end.value
 
+    def _places(self) -> Tuple[int, int, int]:
+        """Returns where in the file the range begins and ends, and the size of the file, as `begins`, `ends` and `file_size` do."""
+        count, begin, end, size = ctypes.c_size_t(), ctypes.c_uint64(), ctypes.c_uint64(), ctypes.c_uint64()
+        with self._locked():
+            status = short.yurewha_opened_range_num_chunks(self._handle, count)
+            status = status or short.yurewha_opened_range_file_size(self._handle, size)
+            status = status or short.yurewha_opened_range_bytes_of(self._handle, 0, begin, end)
+            if count.value > 1:
+                status = status or short.yurewha_opened_range_bytes_of(self._handle, count.value - 1, ctypes.c_uint64(), end)
+        if status:
+            raise error_of(status)
+        return begin.value, end.value, size.value
+
     def check(self, chunk: int, data: BytesLike, *, nobody_writes: bool = False) -> int:
         """Checks the data of a chunk of the range. Returns where in the file it begins.
 
@@ -487,7 +500,10 @@ class OpenedRange(Guarded):
             with self._locked():
                 return int(calls.yurewha_opened_range_read(self._handle, begin, end, first, length, at))
 
-        status = interruptible(lambda: in_place(view, read), view.nbytes >= MANY_BYTES, self)
+        def read_all() -> int:
+            return read(data, len(data)) if type(data) is bytes else in_place(view, read)
+
+        status = interruptible(read_all, view.nbytes >= MANY_BYTES, self)
         if status:
             raise error_of(status, self._told(begin, end, view.nbytes))
         return view[at.value:at.value + end - begin]
@@ -538,6 +554,8 @@ def _passed(data: BytesLike, nobody_writes: bool, call: Callable[[Start, int], i
 def _unchanging(data: BytesLike, nobody_writes: bool) -> memoryview:
     """Returns a read-only view of bytes, of a copy unless they are `bytes` or the caller promises that nobody writes to them."""
     checked_bool(nobody_writes, "nobody_writes")
+    if type(data) is bytes:
+        return memoryview(data)
     view = view_of_bytes(data)
     if view.format == "B" and view.ndim == 1 and view.c_contiguous and (nobody_writes or type(view.obj) is bytes):
         return view.toreadonly()
