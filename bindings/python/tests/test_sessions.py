@@ -4,6 +4,7 @@ import copy
 import json
 import pickle
 import random
+import struct
 
 import pytest
 import xet_model as m
@@ -183,6 +184,16 @@ def test_the_form_is_that_of_the_rust_crate():
         read = y.Session.from_json(given)
         assert read.runs() == made.runs() and set(read.known_hashes()) == {Z, hash_} and read.to_json() == made.to_json()
     assert y.Session().to_json() == '{"runs":[],"known_hashes":[]}'
+
+
+@pytest.mark.parametrize("count", [0, 1, 2, 255, 40_000])
+def test_hashes_are_written_by_rising_order(count):
+    """Many hashes are sorted in parts. Some have the same first words."""
+    drawn = random.Random(count)
+    words = [(drawn.choice((1, 1 << 63, drawn.getrandbits(64))), *(drawn.getrandbits(64) for _ in range(3))) for _ in range(count)]
+    session = y.Session()
+    session.keep_hashes(b"".join(struct.pack("<4Q", *each) for each in words))
+    assert [tuple(each) for each in json.loads(session.to_json())["known_hashes"]] == sorted(words)
 
 
 def test_drawn_sessions_are_read_back():

@@ -600,6 +600,24 @@ def test_a_pickle_while_a_handler_puts(monkeypatch):
     assert session.num_runs == 2 and read.num_runs == len(read.known_hashes()) == 1
 
 
+def test_json_while_a_handler_puts(monkeypatch):
+    """The handler puts a chunk after the runs were looked at. The text has both its run and its hash, or neither."""
+    session, chunks = y.Session(), block(8, 2)
+    session.put(0, chunks[:1])
+
+    def look(self, plain=y.Session._spans):
+        spans = plain(self)
+        signal.raise_signal(signal.SIGUSR1)
+        return spans
+
+    with handled(signal.SIGUSR1, lambda number, frame: session.taken(5) or session.put(5, chunks[1:])):
+        monkeypatch.setattr(y.Session, "_spans", look)
+        text = session.to_json()
+        monkeypatch.undo()
+    read = y.Session.from_json(text)
+    assert session.num_runs == 2 and read.num_runs == len(read.known_hashes())
+
+
 def test_no_update_by_a_handler_is_lost():
     """Signals by the clock, at any place of the other updates."""
     hasher, counts = y.Hasher(), {"taken": 0, "refused": 0}

@@ -380,6 +380,15 @@ class Session(Guarded):
                     break
             return spans if changes == self._changes else list(self.copy()._walk())
 
+    def _saved(self, with_hashes: bool) -> Tuple[List[Span], Hashes]:
+        """Returns all runs and, if they are asked for, the known hashes, all of one moment."""
+        changes = self._changes
+        runs, known = self._spans(), self.known_hashes() if with_hashes else Hashes()
+        if changes == self._changes:
+            return runs, known
+        saved = self.copy()
+        return saved._spans(), saved.known_hashes() if with_hashes else Hashes()
+
     def __iter__(self) -> Iterator[Run]:
         """Iterates over the runs at the time of the call, as `runs` returns them.
 
@@ -572,8 +581,7 @@ class Session(Guarded):
         >>> session = Session(); session.keep_hashes([Hash()]); session.to_json()
         '{"runs":[],"known_hashes":[[0,0,0,0]]}'
         """
-        with_hashes, saved = checked_bool(hashes, "hashes"), self.copy()
-        return json_of(saved._walk(), saved.known_hashes() if with_hashes else Hashes())
+        return json_of(*self._saved(checked_bool(hashes, "hashes")))
 
     @staticmethod
     def from_json(text: Union[str, BytesLike], *, keep_hashes: bool = True) -> Session:

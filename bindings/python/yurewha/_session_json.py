@@ -19,6 +19,8 @@ _WORDS = struct.Struct("<4Q")
 #: How many hashes are written at once.
 _BLOCK = 4096
 _EACH = struct.Struct("32s")
+#: From so many bytes of hashes on, they are sorted in parts.
+_MANY_BYTES = 1 << 20
 _HEAD = struct.Struct("<?Q")
 _MAX_U64 = 2**64 - 1
 #: Stands for each number that isn't a whole number from 0 to 2^64 - 1. No member may be this number.
@@ -38,11 +40,24 @@ def json_of(runs: Iterable[Span], hashes: Hashes) -> str:
 
 def _words_of(hashes: Hashes) -> str:
     """Returns the JSON text of the words of hashes, by rising order, which is that of their hex texts."""
-    ordered = b"".join(sorted(raw for raw, in _EACH.iter_unpack(words_reversed(hashes.packed))))
+    ordered = _ordered(words_reversed(hashes.packed))
     words = memoryview(words_reversed(ordered)).cast("Q")
     blocks = (tuple(words[start:start + 4 * _BLOCK]) for start in range(0, len(words), 4 * _BLOCK))
     # One format for many of them takes a fraction of the time of one for each.
     return f"[{''.join((len(block) // 4 * '[%d,%d,%d,%d],') % block for block in blocks)[:-1]}]"
+
+
+def _ordered(packed: bytes) -> bytes:
+    """Returns some hashes in the order of their bytes."""
+    raws = (raw for raw, in _EACH.iter_unpack(packed))
+    if len(packed) < _MANY_BYTES:
+        return b"".join(sorted(raws))
+    # To sort a few at a time, by their first twelve bits, takes half the time: what is compared stays in the processor's cache.
+    parts: List[List[bytes]] = [[] for _ in range(1 << 12)]
+    add = [part.append for part in parts]
+    for raw, first, second in zip(raws, packed[::_EACH.size], packed[1::_EACH.size]):
+        add[first << 4 | second >> 4](raw)
+    return b"".join([b"".join(sorted(part)) for part in parts])
 
 
 def body_of(runs: Iterable[Span], hashes: Hashes, keeps: bool) -> bytes:
