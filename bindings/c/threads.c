@@ -92,9 +92,8 @@ static bool reads_shared(const struct lists *it)
     return holds;
 }
 
-/* What all threads ask one hash tree, each by a copy of the handle. The header doesn't let a program use two copies of a handle,
- * but the Rust crate does so for hash trees and opened ranges, which no call changes. It may, if a call that reads writes to the
- * handle alone, and finds it as it was. Helgrind shows that. */
+/* What all threads ask one hash tree, each by a copy of the handle. A call that reads writes to the copy alone, and leaves it as it
+ * was. allocator/read_only.c shows the same of all calls that read. */
 static bool reads_one_tree(const struct kept *it)
 {
     yurewha_hash_tree tree = it->tree;

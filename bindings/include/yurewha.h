@@ -28,12 +28,17 @@
  *   frees what the handle owned before. If it fails, the handle keeps what it owned.
  * - The call of a handle's type whose name ends with _free frees a handle and leaves it empty. Freeing an empty handle does
  *   nothing, so freeing twice is harmless. Any other call that reads an empty handle returns YUREWHA_EMPTY_HANDLE.
- * - A handle may be moved by copying its bytes. After that, only one of the copies may be used.
+ * - A handle may be moved by copying its bytes. After that, only one of the copies may be used, except as the last of
+ *   these rules says.
  * - A handle may go to another thread. No two threads may use the same handle at once, not even in two calls that only read
  *   it: while a call reads a handle, it writes to the handle, and a second call may crash. So handles are never const. Use a
  *   lock, or give each thread a handle of its own, as yurewha_subtree_clone does. Different handles are independent.
  * - Threads may share the lists that yurewha_subtree_to_flat wrote, since calls take these arrays as const. Each thread can
  *   make a handle of its own from them, by yurewha_subtree_from_flat.
+ * - Threads may read one object at once if each call gets a copy of the handle of its own, as by `yurewha_hash_tree copy = *tree;`,
+ *   for which the handle may be const. A call that leaves a handle unchanged writes to that copy, and not to what it owns. This is
+ *   tested and not proved, since each contract is for one thread. Meanwhile nobody may change or free the object by any copy.
+ *   Afterwards one copy is freed.
  *
  * Memory
  *
