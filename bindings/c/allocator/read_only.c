@@ -7,6 +7,7 @@
 #include <stdlib.h>
 #include <string.h>
 #include <sys/mman.h>
+#include <sys/resource.h>
 #include <sys/wait.h>
 #include <unistd.h>
 #include <yurewha.h>
@@ -212,6 +213,8 @@ static bool ends_by_writing(void)
     int status = 0;
     const pid_t child = fork();
     if (child == 0) {
+        const struct rlimit none = {0, 0};
+        setrlimit(RLIMIT_CORE, &none);
         signal(SIGSEGV, SIG_DFL);
         _exit(yurewha_session_keep_hashes(SESSION, &unknown, 1) == YUREWHA_DONE);
     }
