@@ -4,6 +4,7 @@ use Rattle.std.specs.Prelude.{Option, Some, None}
 use lib.Dec.{T}
 use seplogic.Ra.Ura.{Ura}
 use mir.Raw.{raw as bare}
+use mir.Syntax.{ty_ptr}
 use mir.Val.{Val, vstruct, vcons, vnil, of_list, has_ty, WT}
 use base.Logic.{ent, guard, never, never_e, fst∗, snd∗, via, guard_i}
 use types.Logic.{Logic, sem}
@@ -37,13 +38,18 @@ use Rattle.yurewha_c.proofs.AsBox.{box_of, parts_row}
 abbrev pub bits : Val → Val → Val
 bits at alloc = vstruct (vcons at (vcons alloc vnil))
 
+pub is_pointer : (at : Ptr) → T (has_ty ty_ptr (ptr_val at)) × WT (ptr_val at)
+is_pointer null_ptr = (tt, record { fits = lit< tt })
+is_pointer (block_ptr b o) = (tt, tt)
+
 module _ (R : RattleType) (L : Laws R) where
   abbrev E : Bx
   E = box_of R L
 
-  -- a null handle, and the parts of a box as an `Option`, are machine values of their types
-  pub null_typed : (a : Val) → Fits E.al a → T (has_ty (box_ty E) (bits (ptr_val null_ptr) a)) × WT (bits (ptr_val null_ptr) a)
-  null_typed a fits = (and_tt (has_ty (α E.al) a) fits.0, (record { fits = lit< tt }, (fits.1, tt)))
+  -- a handle, and the parts of a box as an `Option`, are machine values of their types
+  pub typed : (at : Ptr) (a : Val) → Fits E.al a → T (has_ty (box_ty E) (bits (ptr_val at) a)) × WT (bits (ptr_val at) a)
+  typed null_ptr a fits = (and_tt (has_ty (α E.al) a) fits.0, (record { fits = lit< tt }, (fits.1, tt)))
+  typed (block_ptr b o) a fits = box_typed E a b o fits
 
   pub some_typed : (a : Val) (b o : ℕ) → Fits E.al a → Good (layout (option.the_row (parts_row R))) (live 1 (vcons (word E a b o) vnil))
   some_typed a b o fits = (and_tt _ (box_typed E a b o fits).0, (record { fits = lit< tt }, ((box_typed E a b o fits).1, tt)))

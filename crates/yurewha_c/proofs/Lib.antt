@@ -4,7 +4,10 @@ pub mod Offsets
 pub mod RangeReading
 pub mod FlatLevels
 pub mod FlatProofs
+pub mod FactCalls
 pub mod HandleLists
 pub mod Handles
+pub mod HandleTypes
+pub mod HandleWalks
 pub mod SessionStatuses
 pub mod ProofTexts
