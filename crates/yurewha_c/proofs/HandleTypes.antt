@@ -1,4 +1,4 @@
--- What the walks of a handle's calls take of its type, and the types of handles.
+-- What the walks of a handle's calls need of its type, and the four types of handles.
 use mathlib.Core.Path.{◌≡◌, refl, ap, subst}
 use mathlib.Core.List.{List}
 use mir.Syntax.{Sym}
@@ -28,11 +28,13 @@ use Rattle.xet_merkle.proofs.merkle_hash_subtree.subtree.MerkleHashSubtree.TheLa
 abbrev pub Fields : RattleType → Type 0
 Fields R = Ptr × Global × Option R.Denot
 
+-- A handle of the type `row` owns a value of the type `kept`. The prover computes nothing of a type that is a parameter, so
+-- `owns` says what a handle owns, and `last` and `silent` that nothing is left to say of one that was passed.
 pub record HandleType : Type 2 where
-  pub kept : RattleType          -- the type that a handle owns
+  pub kept : RattleType
   pub laws : Laws kept
   pub name : Sym
-  pub row : RattleType           -- the handle's own type
+  pub row : RattleType
   pub of : Fields kept → row.Denot
   pub fields : row.Denot → Fields kept
   pub back : (f : Fields kept) → fields (of f) ≡ f

@@ -1,14 +1,14 @@
 -- The calls that make a handle and take it apart, each walked once for all types of handles.
-use Rattle.std.proofs.Common.{◌≡◌, ℕ, List, [], ◌∷◌, ◌++◌, map, refl, sym, subst, lit<}
+use Rattle.std.proofs.Common.{◌≡◌, ℕ, List, [], ◌∷◌, ◌++◌, map, refl, sym, lit<}
 use Rattle.std.specs.Prelude.{Some, None, option_map}
 use Rattle.std.specs.Global.{Global}
 use seplogic.Ra.Ura.{Ura}
 use mir.Syntax.{Ty, Fn, Callee, Body, Step, Opd, ty_ptr, ty_bool, ty_struct, tnil, tcons, local, value_local, place, field, copy, int, w64, w8, rv_opd, op2, ptr_eq, aggregate, seq, assign, cond, return}
 use mir.Val.{Val, vcons, vnil}
-use base.Logic.{SProp, ent}
+use base.Logic.{SProp}
 use prog.Model.{Model}
 use prog.Wp.{WpFn, Tables}
-use types.Logic.{Logic, sem}
+use types.Logic.{Logic}
 use types.Kit.{Goal, ‵, raw, prop, at_ret, ◌$◌, ◌∵◌, !, qed, keep, use0, use1, rewrite, regoal, done}
 use types.Match.{live}
 use types.Part.{agg, sub, whole}
@@ -85,11 +85,11 @@ module _ (Y : HandleType) where
   abbrev IsEmpty : Global → row.Denot → Type 0
   IsEmpty alloc h = (fields h).2 ≡ None
 
-  abbrev IsOf : Parts.Denot → row.Denot → Type 0
-  IsOf parts h = (fields h).2 ≡ Some parts.value
+  abbrev Holds : Parts.Denot → row.Denot → Type 0
+  Holds parts h = (fields h).2 ≡ Some parts.value
 
-  abbrev IsInto : row.Denot → Out.Denot → Type 0
-  IsInto h out = option_map (λ (parts : Parts.Denot). parts.value) out ≡ (fields h).2
+  abbrev Gives : row.Denot → Out.Denot → Type 0
+  Gives h out = option_map (λ (parts : Parts.Denot). parts.value) out ≡ (fields h).2
 
   -- ---- the walks
   module _ {M : Type 1} {𝓤 : Ura M} (𝓛 : Logic 𝓤) (𝓣 : Tables 𝓤 𝓛.H) where
@@ -109,7 +109,7 @@ module _ (Y : HandleType) where
         returns ! (look_at ! 0 refl) $ free_all ! refl $ use1 𝓛 (raw (Post w)) (ends w (Y.of f) (value_of Y f)) $ done !))
 
     -- `of_parts` moves two fields, and with them what they own
-    of_parts_walk : Walk Parts row IsOf 𝓛 𝓣 of_parts_code
+    of_parts_walk : Walk Parts row Holds 𝓛 𝓣 of_parts_code
     of_parts_walk parts vs Post ends =
         let f : Fields kept = (parts.ptr, parts.alloc, Some parts.value) in let fn = of_parts_code in
         qed 𝓛 (‵ (held kept laws f.0 f.1 f.2 vs) ∷ []) ∵
@@ -126,7 +126,7 @@ module _ (Y : HandleType) where
 
     -- `into_parts` compares the pointer with null. A handle with a null pointer owned nothing. Any other handle passes
     -- what it owned to the parts.
-    into_parts_walk : Walk row Out IsInto 𝓛 𝓣 into_parts_code
+    into_parts_walk : Walk row Out Gives 𝓛 𝓣 into_parts_code
     into_parts_walk h vs Post ends =
         let f = fields h in let fn = into_parts_code in
         qed 𝓛 (‵ (row.own_val h vs) ∷ []) ∵ rewrite ! 0 (λ F. ‵ F) (Y.owns h vs) refl $
@@ -148,14 +148,15 @@ module _ (Y : HandleType) where
         regoal ! (λ at. run fn Post (bits (ptr_val at) a ∷ [])) is refl $
         let parts : Parts.Denot = record { ptr = block_ptr b o; alloc = f.1; value = x } in
         let v = bits (ptr_val (block_ptr b o)) a in let w = live 1 (vcons v vnil) in
+        let good = typed kept laws (block_ptr b o) a fits in
         use1 𝓛 (‵ (Out.own_val (Some parts) (w ∷ []))) (Some-of 𝓛 Parts parts v) $
-        enter ! 𝓣.C 𝓣.Λ fn (v ∷ []) _ $ alloc_all ! (λ ls. pass_all ! refl (typed kept laws (block_ptr b o) a fits, tt) $
+        enter ! 𝓣.C 𝓣.Λ fn (v ∷ []) _ $ alloc_all ! (λ ls. pass_all ! refl (good, tt) $
         sets ! (of_opd ! (get_in ! (fld ! refl (stop !)) (sub ! 0 refl (whole !)))) refl (tt, tt) $
         sets ! (of_opd ! (get_in ! (fld ! refl (stop !)) (sub ! 1 refl (whole !)))) refl fits $
         sets ! (bin ! (get ! refl) (lit ! tt) (tests_null (block_ptr b o) can)) refl (tt, tt) $ first ! $ branches ! (get ! refl)
         (λ wrong. absurd wrong)
         (λ _. sets ! (of_opd ! (get ! refl)) refl (tt, tt) $
-        sets ! (agg ! (and_then ! (get ! refl) (and_then ! (get ! refl) (no_more !)))) refl (typed kept laws (block_ptr b o) a fits) $
+        sets ! (agg ! (and_then ! (get ! refl) (and_then ! (get ! refl) (no_more !)))) refl good $
         sets_last ! (agg ! (and_then ! (lit ! tt) (and_then ! (get ! refl) (no_more !)))) refl (some_typed kept laws a b o fits) $
         exec ! 𝓣.C 𝓣.Λ (env fn.locals ls) (after 4 fn.body) (at_ret (env fn.locals ls) Post) $
         sets ! (of_opd ! (get ! refl)) refl (some_typed kept laws a b o fits) $
@@ -169,8 +170,8 @@ module _ (Y : HandleType) where
     pub empty_met : Met global_row row IsEmpty 𝓛 𝓜 𝓡 key empty_code
     empty_met = met_by global_row row IsEmpty 𝓛 𝓜 𝓡 (λ x. tt) (λ x f. refl) key empty_code (empty_walk 𝓛 𝓣)
 
-    pub of_parts_met : Met Parts row IsOf 𝓛 𝓜 𝓡 key of_parts_code
-    of_parts_met = met_by Parts row IsOf 𝓛 𝓜 𝓡 (λ x. tt) (λ x f. refl) key of_parts_code (of_parts_walk 𝓛 𝓣)
+    pub of_parts_met : Met Parts row Holds 𝓛 𝓜 𝓡 key of_parts_code
+    of_parts_met = met_by Parts row Holds 𝓛 𝓜 𝓡 (λ x. tt) (λ x f. refl) key of_parts_code (of_parts_walk 𝓛 𝓣)
 
-    pub into_parts_met : Met row Out IsInto 𝓛 𝓜 𝓡 key into_parts_code
-    into_parts_met = met_by row Out IsInto 𝓛 𝓜 𝓡 Y.last Y.silent key into_parts_code (into_parts_walk 𝓛 𝓣)
+    pub into_parts_met : Met row Out Gives 𝓛 𝓜 𝓡 key into_parts_code
+    into_parts_met = met_by row Out Gives 𝓛 𝓜 𝓡 Y.last Y.silent key into_parts_code (into_parts_walk 𝓛 𝓣)
