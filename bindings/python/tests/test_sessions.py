@@ -186,7 +186,7 @@ def test_the_form_is_that_of_the_rust_crate():
     assert y.Session().to_json() == '{"runs":[],"known_hashes":[]}'
 
 
-@pytest.mark.parametrize("count", [0, 1, 2, 255, 40_000])
+@pytest.mark.parametrize("count", [0, 1, 2, 255, 4096, 40_000])
 def test_hashes_are_written_by_rising_order(count):
     """Many hashes are sorted in parts. Some have the same first words."""
     drawn = random.Random(count)

@@ -33,18 +33,19 @@ def json_of(runs: Iterable[Span], hashes: Hashes) -> str:
     >>> json_of([], Hashes())
     '{"runs":[],"known_hashes":[]}'
     """
-    words = _words_of(hashes)
     texts = (f'{{"first":{first},"end":{end},"chunks":{subtree.to_json()}}}' for first, end, subtree in runs)
-    return f'{{"runs":[{",".join(texts)}],"known_hashes":{words}}}'
+    return "".join(('{"runs":[', ",".join(texts), '],"known_hashes":[', *_words_of(hashes), "]}"))
 
 
-def _words_of(hashes: Hashes) -> str:
-    """Returns the JSON text of the words of hashes, by rising order, which is that of their hex texts."""
+def _words_of(hashes: Hashes) -> List[str]:
+    """Returns the JSON text of the words of hashes, in parts. It has them by rising order, which is that of their hex texts."""
     ordered = _ordered(words_reversed(hashes.packed))
-    words = memoryview(words_reversed(ordered)).cast("Q")
-    blocks = (tuple(words[start:start + 4 * _BLOCK]) for start in range(0, len(words), 4 * _BLOCK))
+    parts = (ordered[start:start + _EACH.size * _BLOCK] for start in range(0, len(ordered), _EACH.size * _BLOCK))
+    blocks = (struct.unpack(f">{len(part) // 8}Q", part) for part in parts)
     # One format for many of them takes a fraction of the time of one for each.
-    return f"[{''.join((len(block) // 4 * '[%d,%d,%d,%d],') % block for block in blocks)[:-1]}]"
+    texts = [(len(block) // 4 * "[%d,%d,%d,%d],") % block for block in blocks]
+    texts[-1:] = [text[:-1] for text in texts[-1:]]
+    return texts
 
 
 def _ordered(packed: bytes) -> bytes:
