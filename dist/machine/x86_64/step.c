@@ -6,6 +6,7 @@
  * A state is the place of an instruction, sixteen general registers, the flags, 32 vector registers of 64 bytes, and 512 bytes of memory
  * at SCRATCH. A result is the state after the instruction, whose place is 0 if the processor stopped at it.
  */
+#include <cpuid.h>
 #include <elf.h>
 #include <fcntl.h>
 #include <signal.h>
@@ -24,8 +25,17 @@
 #define PAGE 4096ul
 /* The flags that are compared: carry, zero, sign and overflow. */
 #define FLAGS 0x8c1u
-/* Where XSAVE's form has its parts: the low halves of the first 16 registers, their upper parts, and the last 16. */
-enum { LOWEST = 160, HEADER = 512, SECOND = 576, UPPER = 1152, LAST = 1664, XSAVE_SIZE = 8192 };
+/* Where the header of XSAVE's form is, and more than the whole form has with the registers of any processor. */
+enum { HEADER = 512, XSAVE_SIZE = 1 << 14 };
+
+/* A part of that form: its number, where it begins, the first of 16 vector registers, and which of their bytes it has. */
+typedef struct {
+    unsigned number, start;
+    int first, from, size;
+} part;
+
+static part parts[] = {{1, 160, 0, 0, 16}, {2, 0, 0, 16, 16}, {6, 0, 0, 32, 32}, {7, 0, 16, 0, 64}};
+enum { PARTS = sizeof parts / sizeof *parts };
 
 typedef struct {
     uint64_t place, general[16], flags;
@@ -72,31 +82,32 @@ static void general_of(struct user_regs_struct *r, unsigned long long *found[16]
     memcpy(found, all, sizeof all);
 }
 
+/* Asks the processor where all parts but the first begin, as makers differ. A part that it hasn't begins at 0. */
+static void find_parts(void)
+{
+    unsigned size, third, fourth;
+    for (part *it = parts + 1; it < parts + PARTS; it++)
+        __cpuid_count(13, it->number, size, it->start, third, fourth);
+}
+
 static void put_vectors(uint8_t *saved, uint8_t vectors[32][64])
 {
-    *(uint64_t *)(saved + HEADER) |= 0xe6;
-    for (int i = 0; i < 16; i++) {
-        memcpy(saved + LOWEST + 16 * i, vectors[i], 16);
-        memcpy(saved + SECOND + 16 * i, vectors[i] + 16, 16);
-        memcpy(saved + UPPER + 32 * i, vectors[i] + 32, 32);
-        memcpy(saved + LAST + 64 * i, vectors[16 + i], 64);
-    }
+    for (const part *it = parts; it < parts + PARTS; it++)
+        if (it->start) {
+            *(uint64_t *)(saved + HEADER) |= 1u << it->number;
+            for (int i = 0; i < 16; i++)
+                memcpy(saved + it->start + it->size * i, vectors[it->first + i] + it->from, it->size);
+        }
 }
 
 /* A part that the header says isn't there is 0. */
-static void get_vectors(uint8_t *saved, uint8_t vectors[32][64])
+static void get_vectors(const uint8_t *saved, uint8_t vectors[32][64])
 {
-    const struct { int bit, start, size; } parts[] = {{2, LOWEST, 256}, {4, SECOND, 256}, {64, UPPER, 512}, {128, LAST, 1024}};
-    uint64_t there = *(uint64_t *)(saved + HEADER);
-    for (size_t i = 0; i < sizeof parts / sizeof *parts; i++)
-        if (!(there & parts[i].bit))
-            memset(saved + parts[i].start, 0, parts[i].size);
-    for (int i = 0; i < 16; i++) {
-        memcpy(vectors[i], saved + LOWEST + 16 * i, 16);
-        memcpy(vectors[i] + 16, saved + SECOND + 16 * i, 16);
-        memcpy(vectors[i] + 32, saved + UPPER + 32 * i, 32);
-        memcpy(vectors[16 + i], saved + LAST + 64 * i, 64);
-    }
+    memset(vectors, 0, 32 * 64);
+    for (const part *it = parts; it < parts + PARTS; it++)
+        if (it->start && *(const uint64_t *)(saved + HEADER) & 1u << it->number)
+            for (int i = 0; i < 16; i++)
+                memcpy(vectors[it->first + i] + it->from, saved + it->start + it->size * i, it->size);
 }
 
 /* Runs one instruction of the child, whose memory is open, from a state, which becomes the one after it. */
@@ -127,7 +138,6 @@ static void step(pid_t child, int memory, state *s)
     for (int i = 0; i < 16; i++)
         s->general[i] = *general[i];
     s->flags = registers.eflags & FLAGS;
-    vectors.iov_len = sizeof saved;
     ptrace(PTRACE_GETREGSET, child, NT_X86_XSTATE, &vectors);
     get_vectors(saved, s->vectors);
     must(pread(memory, s->scratch, sizeof s->scratch, SCRATCH) == sizeof s->scratch, "memory");
@@ -140,6 +150,7 @@ int main(int count, char **words)
     char path[64];
     int status;
     must(count == 4, "three words");
+    find_parts();
     int given = open(words[1], O_RDONLY);
     must(given >= 0 && read(given, file, sizeof file) > 0, words[1]);
     pid_t child = fork();
