@@ -249,7 +249,7 @@ function checksOver(y) {
 const checks = checksOver(await errors.load(BYTES));
 for (const file of FILES) {
     test(`wasm32 meets each vector of ${file}.json`, () => {
-        const { testGroups, numberOfTests } = JSON.parse(readFileSync(new URL(`vectors/${file}.json`, ROOT)));
+        const { testGroups, numberOfTests } = JSON.parse(readFileSync(new URL(`tests/vectors/${file}.json`, ROOT)));
         let done = 0;
         for (const group of testGroups) {
             for (const it of group.tests) {
