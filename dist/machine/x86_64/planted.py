@@ -45,7 +45,7 @@ PLANTS: Dict[str, List[Plant]] = {
         Plant("a rotation in the last round", of_width("chunks::take_block", 16), r"vprold\t\$25,", r"vprold\t$24,", -1),
         Plant("two lanes of a transposition", of_width("chunks::take_block", 16), r"vshufi64x2\t\$136,", r"vshufi64x2\t$221,", 3),
         Plant("two rows of a transposition exchanged", of_width("chunks::take_block", 16), rf"(vpunpckldq|vpunpckhdq|vpunpcklqdq|vpunpckhqdq|vunpcklps)\t({Z}), ({Z}), ({Z})", r"\1\t\3, \2, \4"),
-        Plant("the message words of two sums exchanged", of_width("chunks::take_block", 16), rf"vpaddd\t({Z}), ({Z}), ({Z})\n\tvpaddd\t({Z}), ({Z}), ({Z})", r"vpaddd\t\4, \2, \3\n\tvpaddd\t\1, \5, \6", 9),
+        Plant("the message words of two sums exchanged", of_width("chunks::take_block", 16), rf"vpaddd\t({Z}), ({Z}), ({Z})\n\tvpaddd\t({Z}), ({Z}), ({Z})", r"vpaddd\t\4, \2, \3\n\tvpaddd\t\1, \5, \6", 12),
         Plant("a sum left out", of_width("chunks::take_block", 16), rf"\tvpaddd\t{Z}, {Z}, {Z}\n", "\tnop\n", 40),
         Plant("the lower half of a counter for the upper one", of_width("chunks::take_block", 16), r"vpxorq\t64\(%r8\)", r"vpxorq\t(%r8)"),
         Plant("the flags of the last block", of_width("chunks::chunk_values", 16), r"(\.LCPI\d+)_3\(", r"\1_2("),
@@ -61,7 +61,7 @@ PLANTS: Dict[str, List[Plant]] = {
         Plant("a rotation in eight lanes", of_width("chunks::take_block", 8), r"vprold\t\$20,", r"vprold\t$19,", 5),
         Plant("an exchange of words in two pairs", "compression::two::compress_two_pairs_from", r"vpshufd\t\$78,", r"vpshufd\t$57,", 3),
         Plant("sixteen lanes a chunk too early", "hasher::Hasher::update", r"cmpq\t\$9216,", r"cmpq\t$8192,"),
-        Plant("a frame that isn't aligned", of_width("chunks::take_block", 16), r"andq\t\$-64, %rsp", r"andq\t$-64, %rsp\n\tsubq\t$16, %rsp"),
+        Plant("a frame that isn't aligned", of_width("chunks::chunk_values", 16), r"andq\t\$-64, %rsp", r"andq\t$-64, %rsp\n\tsubq\t$16, %rsp"),
         Plant("a register that isn't given back", of_width("chunks::take_block", 16), r"popq\t%rbp", r"popq\t%rcx", -1),
     ],
 }
