@@ -1,4 +1,5 @@
-# A system with all that ./check needs:
+# A system with the packages that ./check asks for. They were installed in a root of Debian 13; nobody has built the image or run ./check
+# in it yet.
 #
 #     podman build -t yurewha-check .
 #     podman run --rm -v "$PWD":/yurewha yurewha-check ./check
