@@ -4,13 +4,39 @@ use Rattle.std.proofs.lemmas.List.{get_or-map as get_or-map-at}
 use Rattle.std.proofs.lemmas.Simd.{Each1-get_or}
 use Rattle.std.specs.Int.{rotate_right, w32}
 use Rattle.keyed_blake3.specs.Blake3.{add32, first_state, folded, round}
+use Rattle.keyed_blake3.specs.Steps.LaneRows.{row_at}
 use Rattle.keyed_blake3.specs.Steps.Lanes.{AreFull, lane}
 use Rattle.keyed_blake3.specs.Steps.Rows.{half_columns}
+use Rattle.keyed_blake3.specs.declared.compression.lane_rows.Row.{Row}
 use Rattle.keyed_blake3.proofs.Blake3.Lanes.{both_at, both_full, lane_at}
 use Rattle.keyed_blake3.proofs.Blake3.Rows.{columns, columns_by_halves, diagonals, diagonals_by_halves, folded-rows, four, half_columns-rows, turned, turned_back}
 use lib.Lanes.{zip2}
 
 -- ---- half of G on each column
+
+-- a row whose words are made of those of two rows, lane by lane
+pub both_row : {l : ℕ} → (f : ℕ → ℕ → ℕ) (j : ℕ) (x y : Row l) (w0 w1 w2 w3 : List ℕ) → j < l
+    → w0 ≡ zip2 f x.w0 y.w0 → w1 ≡ zip2 f x.w1 y.w1 → w2 ≡ zip2 f x.w2 y.w2 → w3 ≡ zip2 f x.w3 y.w3
+    → get_or w0 j 0 ∷ get_or w1 j 0 ∷ get_or w2 j 0 ∷ get_or w3 j 0 ∷ [] ≡ zip2 f (row_at j x) (row_at j y)
+both_row f j x y w0 w1 w2 w3 h e0 e1 e2 e3 =
+    rw (
+      e0, e1, e2, e3,
+      both_at f j x.w0 y.w0 h x.full.0 y.full.0,
+      both_at f j x.w1 y.w1 h x.full.1 y.full.1,
+      both_at f j x.w2 y.w2 h x.full.2 y.full.2,
+      both_at f j x.w3 y.w3 h x.full.3 y.full.3,
+    ) refl
+
+-- its words have all lanes
+pub both_row_full : {l : ℕ} → (f : ℕ → ℕ → ℕ) (x y : Row l) (w0 w1 w2 w3 : List ℕ)
+    → w0 ≡ zip2 f x.w0 y.w0 → w1 ≡ zip2 f x.w1 y.w1 → w2 ≡ zip2 f x.w2 y.w2 → w3 ≡ zip2 f x.w3 y.w3
+    → (length w0 ≡ l) × (length w1 ≡ l) × (length w2 ≡ l) × (length w3 ≡ l)
+both_row_full f x y w0 w1 w2 w3 e0 e1 e2 e3 = (
+  ap length e0 ∙ both_full f x.w0 y.w0 x.full.0 y.full.0,
+  ap length e1 ∙ both_full f x.w1 y.w1 x.full.1 y.full.1,
+  ap length e2 ∙ both_full f x.w2 y.w2 x.full.2 y.full.2,
+  ap length e3 ∙ both_full f x.w3 y.w3 x.full.3 y.full.3,
+)
 
 -- a lane of a rotated xor
 pub rotated_xor_at : {l : ℕ} → (j n : ℕ) (x y z : List ℕ) → j < l → length x ≡ l → length y ≡ l → z ≡ map (λ t. rotate_right w32 t n) (zip2 bit_xor x y)
