@@ -6,7 +6,7 @@ ghost use Rattle.keyed_blake3.specs.Blake3.{block, chunk_value, compress, words_
 ghost use Rattle.keyed_blake3.specs.Steps.Lanes.{AreFull, chunk_at, lane};
 
 use crate::chunk::{BLOCK_LEN, BLOCKS_PER_CHUNK, CHUNK_END, CHUNK_LEN, KEYED_HASH, start_flag};
-use crate::compression::lanes::{compress_each, counters};
+use crate::compression::lanes::{BLOCKS_OF_CHUNKS, compress_each, counters};
 use crate::compression::width::{Lanes, Width};
 
 // Returns `L` words of each chunk from place `at` on.
@@ -87,7 +87,7 @@ pub(crate) fn take_block<W: Width<L, B>, const L: usize, const B: usize>(
         (slice_index lens.now j) (slice_index flags.now j) }
 {
     let words = block_of_each::<W, L, B>(chunks, places, n);
-    *h = compress_each::<W, L, B, 0>(h, &words, counters, lens, flags);
+    *h = compress_each::<W, L, B, BLOCKS_OF_CHUNKS>(h, &words, counters, lens, flags);
 }
 
 // Returns the key's words, the same for each lane.

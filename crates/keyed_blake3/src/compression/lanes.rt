@@ -112,6 +112,11 @@ fn folded<W: Width<L, B>, const L: usize, const B: usize>(v: &LaneRows<L, B>) ->
     words_of_rows(&x, &y)
 }
 
+// The callers of `compress_each`, by what they compress.
+pub(crate) const BLOCKS_OF_CHUNKS: usize = 0;
+
+const PARENTS: usize = 1;
+
 // Returns the compression of blocks, from the chaining values `h`. `counters` has the halves of each one's counter. Each caller
 // has a copy of its own, by its number `CALLER`: LLVM inlines a function of this size at its only call alone.
 #[inline(always)]
@@ -164,7 +169,7 @@ pub(crate) fn take_in_each<W: Width<L, B>, const L: usize, const B: usize>(
         ≡ compress (lane j h.old) (lane j m.now) 0 (slice_index lens.now j) (slice_index flags.now j) }
 {
     let zero = W::each(0);
-    *h = compress_each::<W, L, B, 1>(h, m, &(zero, zero), lens, flags);
+    *h = compress_each::<W, L, B, PARENTS>(h, m, &(zero, zero), lens, flags);
 }
 
 // Returns lane j of the chaining values.
