@@ -20,7 +20,10 @@ pub both_row : {l : ℕ} → (f : ℕ → ℕ → ℕ) (j : ℕ) (x y : Row l) (
     → get_or w0 j 0 ∷ get_or w1 j 0 ∷ get_or w2 j 0 ∷ get_or w3 j 0 ∷ [] ≡ zip2 f (row_at j x) (row_at j y)
 both_row f j x y w0 w1 w2 w3 h e0 e1 e2 e3 =
     rw (
-      e0, e1, e2, e3,
+      e0,
+      e1,
+      e2,
+      e3,
       both_at f j x.w0 y.w0 h x.full.0 y.full.0,
       both_at f j x.w1 y.w1 h x.full.1 y.full.1,
       both_at f j x.w2 y.w2 h x.full.2 y.full.2,
