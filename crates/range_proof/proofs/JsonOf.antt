@@ -5,16 +5,15 @@ use Rattle.std.specs.Prelude.{All}
 use Rattle.std.specs.List.{AllZip}
 use Rattle.std.specs.Str.{str_to_ascii_lowercase}
 use Rattle.std.proofs.lemmas.List.Elements.{All-nil, All-cons, All-head, All-tail, recursion_from_All}
-use Rattle.serde_json.specs.Data.{Data, null, boolean, number, string, array, object}
+use Rattle.serde_json.specs.Data.{Data}
 use Rattle.serde_json.specs.Find.{as_object}
 use Rattle.serde_json.specs.View.{items_of}
 use Rattle.xet_hash.specs.Hash.{IsHash, IsHexText, hex_text}
 use Rattle.xet_roots.specs.Groups.{Node}
-use Rattle.xet_merkle.specs.JsonParts.{ReadsNode}
-use Rattle.xet_merkle.specs.SubtreeJson.{node_json}
-use Rattle.xet_merkle.proofs.Json.Reading.{items_of-injective}
-use Rattle.xet_merkle.proofs.Json.OneMeaning.{no_member, one_list, one_node, reads_nodes}
-use Rattle.range_proof.specs.RangeProof.{Sides, Proof, AreHashes, HasHashes, IsWellFormed, file_size_of}
+use Rattle.level_nodes.specs.NodeJson.{node_json, ReadsNode}
+use Rattle.level_nodes.proofs.Json.{items_of-injective, none_of, some_of, no_member, one_list, one_node, reads_nodes}
+use Rattle.level_nodes.specs.Level.{Level}
+use Rattle.range_proof.specs.RangeProof.{Proof, AreHashes, HasHashes, IsWellFormed, file_size_of}
 use Rattle.range_proof.specs.ProofJson.{HasMembers, HasSides, ReadsSides, ReadsProof, AreLevels, BreaksPartRule, BreaksValueRule, BreaksRule, Reads, sides_json, proof_json}
 use Rattle.range_proof.specs.ProofJson.BreaksPartRule.{no_object, no_arrays, no_levels, no_nodes}
 use Rattle.range_proof.specs.ProofJson.BreaksValueRule.{no_chunk, many_levels, many_beside, sizes_pass}
@@ -37,7 +36,7 @@ one_pair value left right other_left other_right h k =
     (items_of-injective left other_left left_items, items_of-injective right other_right right_items)
 
 -- values that are read as levels have two arrays each
-pub are_levels : (values : List Data) (levels : List Sides) → AllZip ReadsSides values levels → AreLevels values
+pub are_levels : (values : List Data) (levels : List Level) → AllZip ReadsSides values levels → AreLevels values
 are_levels [] [] h = All-nil (λ value. (left : List Data) × (right : List Data) × HasSides value left right)
 are_levels [] (sides ∷ levels) h = elim h [ ]
 are_levels (value ∷ values) [] h = elim h [ ]
@@ -88,19 +87,19 @@ hashes_read [] (node ∷ nodes) h = elim h [ ]
 hashes_read (value ∷ values) [] h = elim h [ ]
 hashes_read (value ∷ values) (node ∷ nodes) h = All-cons (λ (node : Node). IsHash node.0) node nodes h.0.is_hash (hashes_read values nodes h.1)
 
-left_hashes_read : (values : List Data) (levels : List Sides) → AllZip ReadsSides values levels → All (λ sides. AreHashes sides.left) levels
-left_hashes_read [] [] h = All-nil (λ (sides : Sides). AreHashes sides.left)
+left_hashes_read : (values : List Data) (levels : List Level) → AllZip ReadsSides values levels → All (λ sides. AreHashes sides.left) levels
+left_hashes_read [] [] h = All-nil (λ (sides : Level). AreHashes sides.left)
 left_hashes_read [] (sides ∷ levels) h = elim h [ ]
 left_hashes_read (value ∷ values) [] h = elim h [ ]
 left_hashes_read (value ∷ values) (sides ∷ levels) h =
-    All-cons (λ (sides : Sides). AreHashes sides.left) sides levels (hashes_read h.0.left_values sides.left h.0.left_are) (left_hashes_read values levels h.1)
+    All-cons (λ (sides : Level). AreHashes sides.left) sides levels (hashes_read h.0.left_values sides.left h.0.left_are) (left_hashes_read values levels h.1)
 
-right_hashes_read : (values : List Data) (levels : List Sides) → AllZip ReadsSides values levels → All (λ sides. AreHashes sides.right) levels
-right_hashes_read [] [] h = All-nil (λ (sides : Sides). AreHashes sides.right)
+right_hashes_read : (values : List Data) (levels : List Level) → AllZip ReadsSides values levels → All (λ sides. AreHashes sides.right) levels
+right_hashes_read [] [] h = All-nil (λ (sides : Level). AreHashes sides.right)
 right_hashes_read [] (sides ∷ levels) h = elim h [ ]
 right_hashes_read (value ∷ values) [] h = elim h [ ]
 right_hashes_read (value ∷ values) (sides ∷ levels) h =
-    All-cons (λ (sides : Sides). AreHashes sides.right) sides levels (hashes_read h.0.right_values sides.right h.0.right_are) (right_hashes_read values levels h.1)
+    All-cons (λ (sides : Level). AreHashes sides.right) sides levels (hashes_read h.0.right_values sides.right h.0.right_are) (right_hashes_read values levels h.1)
 
 pub HasHashes-read : (json : Data) (proof : Proof) → Reads json proof → HasHashes proof
 HasHashes-read json proof reads = record {
@@ -112,30 +111,20 @@ HasHashes-read json proof reads = record {
 -- ---- what breaks a rule of the parts
 
 pub breaks_rule_1 : (json : Data) → is_some (as_object json) ≡ false → BreaksPartRule json 1
-breaks_rule_1 null e = no_object refl
-breaks_rule_1 (boolean b) e = no_object refl
-breaks_rule_1 (number n) e = no_object refl
-breaks_rule_1 (string s) e = no_object refl
-breaks_rule_1 (array items) e = no_object refl
-breaks_rule_1 (object entries) e = cc
+breaks_rule_1 json e = no_object (none_of (as_object json) e)
 
 pub breaks_rule_2 : (json : Data) → is_some (as_object json) ≡ true →
     ((chunks levels : List Data) → HasMembers json chunks levels → ⊥) → BreaksPartRule json 2
-breaks_rule_2 null e none = cc
-breaks_rule_2 (boolean b) e none = cc
-breaks_rule_2 (number n) e none = cc
-breaks_rule_2 (string s) e none = cc
-breaks_rule_2 (array items) e none = cc
-breaks_rule_2 (object entries) e none = no_arrays refl none
+breaks_rule_2 json e none = no_arrays (some_of (as_object json) e).1 none
 
 pub no_left : (value : Data) (left right : List Data) → HasSides value left right → ((nodes : List Node) → AllZip ReadsNode left nodes → ⊥) →
-    (sides : Sides) → ReadsSides value sides → ⊥
+    (sides : Level) → ReadsSides value sides → ⊥
 no_left value left right members none sides h =
     let same = one_pair value h.left_values h.right_values left right h.members members in
     none sides.left (subst (λ (values : List Data). AllZip ReadsNode values sides.left) same.0 h.left_are)
 
 pub no_right : (value : Data) (left right : List Data) → HasSides value left right → ((nodes : List Node) → AllZip ReadsNode right nodes → ⊥) →
-    (sides : Sides) → ReadsSides value sides → ⊥
+    (sides : Level) → ReadsSides value sides → ⊥
 no_right value left right members none sides h =
     let same = one_pair value h.left_values h.right_values left right h.members members in
     none sides.right (subst (λ (values : List Data). AllZip ReadsNode values sides.right) same.1 h.right_are)
@@ -146,14 +135,14 @@ no_chunks_read json chunks levels members none proof h =
     let same = one_members json h.chunk_values h.level_values chunks levels h.members members in
     none proof.chunks (subst (λ (values : List Data). AllZip ReadsNode values proof.chunks) same.0 h.chunks_are)
 
-pub no_levels_read : (json : Data) (chunks levels : List Data) → HasMembers json chunks levels → ((all : List Sides) → AllZip ReadsSides levels all → ⊥) →
+pub no_levels_read : (json : Data) (chunks levels : List Data) → HasMembers json chunks levels → ((all : List Level) → AllZip ReadsSides levels all → ⊥) →
     (proof : Proof) → ReadsProof json proof → ⊥
 no_levels_read json chunks levels members none proof h =
     let same = one_members json h.chunk_values h.level_values chunks levels h.members members in
     none proof.levels (subst (λ (values : List Data). AllZip ReadsSides values proof.levels) same.1 h.levels_are)
 
 -- parts that were read are those of a proof
-pub parts_of : (json : Data) (chunk_values level_values : List Data) (chunks : List Node) (levels : List Sides) → HasMembers json chunk_values level_values →
+pub parts_of : (json : Data) (chunk_values level_values : List Data) (chunks : List Node) (levels : List Level) → HasMembers json chunk_values level_values →
     AllZip ReadsNode chunk_values chunks → AllZip ReadsSides level_values levels → ReadsProof json (record { chunks = chunks; levels = levels })
 parts_of json chunk_values level_values chunks levels members chunks_are levels_are = record {
   chunk_values = chunk_values;
@@ -164,7 +153,7 @@ parts_of json chunk_values level_values chunks levels members chunks_are levels_
 }
 
 module _ (apart : (a b : List ℕ) → IsHash a → IsHash b → hex_text a ≡ hex_text b → a ≡ b) where
-  one_sides : (value : Data) (a b : Sides) → ReadsSides value a → ReadsSides value b → a ≡ b
+  one_sides : (value : Data) (a b : Level) → ReadsSides value a → ReadsSides value b → a ≡ b
   one_sides value a b h k =
       let same = one_pair value h.left_values h.right_values k.left_values k.right_values h.members k.members in
       let left = one_list ReadsNode (one_node apart) k.left_values a.left b.left
@@ -208,9 +197,9 @@ module _ (apart : (a b : List ℕ) → IsHash a → IsHash b → hex_text a ≡ 
   module _ (digits : (words : List ℕ) → IsHash words → IsHexText (hex_text words))
       (lowercase : (words : List ℕ) → IsHash words → str_to_ascii_lowercase (hex_text words) ≡ hex_text words) where
     written : (nodes : List Node) → AreHashes nodes → AllZip ReadsNode (map node_json nodes) nodes
-    written nodes h = reads_nodes apart digits lowercase nodes (recursion_from_All (λ node. IsHash node.0) nodes h)
+    written nodes h = reads_nodes digits lowercase nodes (recursion_from_All (λ node. IsHash node.0) nodes h)
 
-    reads_levels : (levels : List Sides) → All (λ sides. AreHashes sides.left) levels → All (λ sides. AreHashes sides.right) levels →
+    reads_levels : (levels : List Level) → All (λ sides. AreHashes sides.left) levels → All (λ sides. AreHashes sides.right) levels →
         AllZip ReadsSides (map sides_json levels) levels
     reads_levels [] left right = tt
     reads_levels (sides ∷ levels) left right = (

@@ -10,20 +10,21 @@ use Rattle.xet_roots.specs.Roots.{total_size, parent, parent_hash, salted_root}
 use Rattle.xet_roots.specs.Steps.Scan.{AreParents}
 use Rattle.xet_roots.proofs.Grouping.OneCutting.{Groups-unique}
 use Rattle.xet_roots.proofs.Roots.Making.{total_size-append, total_size-are_parents}
-use Rattle.range_proof.specs.RangeProof.{Sides, Proof, Rises, IsTop, Shows, ShowsRoot}
+use Rattle.level_nodes.specs.Level.{Level}
+use Rattle.range_proof.specs.RangeProof.{Proof, Rises, IsTop, Shows, ShowsRoot}
 use Rattle.range_proof.specs.Steps.Opening.{HasTop}
 
 -- the sizes on both sides of a level
-abbrev pub sides_size : Sides → ℕ
+abbrev pub sides_size : Level → ℕ
 sides_size sides = total_size sides.left + total_size sides.right
 
 -- after some levels these nodes are reached: what rises from them, rises from the chunks, and the other way round
-pub record IsRisen (chunks : List Node) (levels : List Sides) (i : ℕ) (nodes : List Node) : Type 0 where
+pub record IsRisen (chunks : List Node) (levels : List Level) (i : ℕ) (nodes : List Node) : Type 0 where
   pub up : (top : List Node) → Rises (drop i levels) nodes top → Rises levels chunks top
   pub down : (top : List Node) → Rises levels chunks top → Rises (drop i levels) nodes top
   pub size : total_size nodes + sum_by sides_size (drop i levels) ≡ total_size chunks + sum_by sides_size levels
 
-pub IsRisen-none : (chunks : List Node) (levels : List Sides) (nodes : List Node) → nodes ≡ chunks → IsRisen chunks levels 0 nodes
+pub IsRisen-none : (chunks : List Node) (levels : List Level) (nodes : List Node) → nodes ≡ chunks → IsRisen chunks levels 0 nodes
 IsRisen-none chunks levels nodes e = record {
   up = λ top rises. subst (λ (l : List Node). Rises levels l top) e rises;
   down = λ top rises. subst (λ (l : List Node). Rises levels l top) (sym e) rises;
@@ -31,26 +32,26 @@ IsRisen-none chunks levels nodes e = record {
 }
 
 -- the nodes of the next level, and their size
-pub level_fits : (chunks : List Node) (levels : List Sides) (i : ℕ) (nodes : List Node) (sides : Sides) → i < length levels → sides ≡ get_or levels i sides →
+pub level_fits : (chunks : List Node) (levels : List Level) (i : ℕ) (nodes : List Node) (sides : Level) → i < length levels → sides ≡ get_or levels i sides →
     IsRisen chunks levels i nodes →
     total_size (sides.left ++ nodes ++ sides.right) + sum_by sides_size (drop (i + 1) levels) ≡ total_size chunks + sum_by sides_size levels
 level_fits chunks levels i nodes sides within here h =
-    let parts = ap (sum_by sides_size) (drop_more levels i sides within ∙ ap (λ (s : Sides). s ∷ drop (i + 1) levels) (sym here)) in
+    let parts = ap (sum_by sides_size) (drop_more levels i sides within ∙ ap (λ (s : Level). s ∷ drop (i + 1) levels) (sym here)) in
     let size = h.size in
     omega (arith, parts, sum_by-cons sides_size sides (drop (i + 1) levels), total_size-append (sides.left ++ nodes) sides.right, total_size-append sides.left nodes)
 
 -- one level more
-pub IsRisen-more : (chunks : List Node) (levels : List Sides) (i : ℕ) (nodes : List Node) (sides : Sides) (made : List Node) → i < length levels →
+pub IsRisen-more : (chunks : List Node) (levels : List Level) (i : ℕ) (nodes : List Node) (sides : Level) (made : List Node) → i < length levels →
     sides ≡ get_or levels i sides → IsRisen chunks levels i nodes → AreParents parent (sides.left ++ nodes ++ sides.right) made →
     IsRisen chunks levels (i + 1) made
 IsRisen-more chunks levels i nodes sides made within here h parents =
-    let parts : drop i levels ≡ sides ∷ drop (i + 1) levels = drop_more levels i sides within ∙ ap (λ (s : Sides). s ∷ drop (i + 1) levels) (sym here) in
+    let parts : drop i levels ≡ sides ∷ drop (i + 1) levels = drop_more levels i sides within ∙ ap (λ (s : Level). s ∷ drop (i + 1) levels) (sym here) in
     record {
       up = λ top rises. h.up top
-          (subst (λ (l : List Sides). Rises l nodes top) (sym parts)
+          (subst (λ (l : List Level). Rises l nodes top) (sym parts)
           (parents.0, parents.1, subst (λ (l : List Node). Rises (drop (i + 1) levels) l top) parents.2 rises));
       down = λ top rises.
-          let first = subst (λ (l : List Sides). Rises l nodes top) parts (h.down top rises) in
+          let first = subst (λ (l : List Level). Rises l nodes top) parts (h.down top rises) in
           subst (λ (l : List Node). Rises (drop (i + 1) levels) l top)
           (ap (map parent) (Groups-unique _ _ _ first.1 parents.1) ∙ sym parents.2) first.2;
       size =
@@ -91,16 +92,16 @@ first_hash [] = []
 first_hash (node ∷ nodes) = node.0
 
 -- all levels
-pub HasTop-all : (chunks : List Node) (levels : List Sides) (i : ℕ) (nodes : List Node) (found : Option (List ℕ)) → length levels ≤ i →
+pub HasTop-all : (chunks : List Node) (levels : List Level) (i : ℕ) (nodes : List Node) (found : Option (List ℕ)) → length levels ≤ i →
     IsRisen chunks levels i nodes → MatchOption found (¬ (length nodes ≡ 1)) (λ hash. (size : ℕ) × (nodes ≡ (hash, size) ∷ [])) →
     HasTop (record { chunks = chunks; levels = levels }) found
 HasTop-all chunks levels i nodes None all h none = λ hash top.
-    let last = subst (λ (l : List Sides). Rises l nodes ((hash, top.0) ∷ [])) (drop_all i levels all) (h.down ((hash, top.0) ∷ []) top.1) in
+    let last = subst (λ (l : List Level). Rises l nodes ((hash, top.0) ∷ [])) (drop_all i levels all) (h.down ((hash, top.0) ∷ []) top.1) in
     none (ap length last)
 HasTop-all chunks levels i nodes (Some found) all h one = (
-  (one.0, h.up ((found, one.0) ∷ []) (subst (λ (l : List Sides). Rises l nodes ((found, one.0) ∷ [])) (sym (drop_all i levels all)) one.1)),
+  (one.0, h.up ((found, one.0) ∷ []) (subst (λ (l : List Level). Rises l nodes ((found, one.0) ∷ [])) (sym (drop_all i levels all)) one.1)),
   λ hash top.
-      let last = subst (λ (l : List Sides). Rises l nodes ((hash, top.0) ∷ [])) (drop_all i levels all) (h.down ((hash, top.0) ∷ []) top.1) in
+      let last = subst (λ (l : List Level). Rises l nodes ((hash, top.0) ∷ [])) (drop_all i levels all) (h.down ((hash, top.0) ∷ []) top.1) in
       let same : (hash, top.0) ∷ [] ≡ (found, one.0) ∷ [] = sym last ∙ one.1 in
       ap first_hash same,
 )

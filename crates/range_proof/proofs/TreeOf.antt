@@ -13,7 +13,8 @@ use Rattle.xet_roots.specs.Steps.Scan.{IsFirstGroup, AreParents}
 use Rattle.xet_roots.proofs.Grouping.OneCutting.{Groups-push, Groups-unique, Groups-exist}
 use Rattle.xet_roots.proofs.Roots.Making.{total_size-are_parents}
 use Rattle.range_proof.specs.Proving.{IsRangeOfBytes}
-use Rattle.range_proof.specs.RangeProof.{Sides, AreSides, IsProofOf, joined}
+use Rattle.level_nodes.specs.Level.{Level}
+use Rattle.range_proof.specs.RangeProof.{AreSides, IsProofOf, joined}
 use Rattle.range_proof.specs.RangeProof.AreSides.{one_node, beside}
 use Rattle.range_proof.specs.Steps.Places.{ArePlaces, AreBounds}
 use Rattle.range_proof.specs.Steps.Trees.{IsLevelKept, IsKept, IsTree, lowest, IsBeside, AreSidesOf}
@@ -106,7 +107,7 @@ ends_in_order groups first end g h some e =
           absurd (omega arith)
     ]
 
-pub IsBeside-from : (nodes : List Node) (groups : List (List Node)) (first end g h begin stop : ℕ) (sides : Sides) → Groups nodes groups → first < end →
+pub IsBeside-from : (nodes : List Node) (groups : List (List Node)) (first end g h begin stop : ℕ) (sides : Level) → Groups nodes groups → first < end →
     end ≤ length nodes → AreEnds groups first end g h → begin ≡ sum_by length (take g groups) → stop ≡ sum_by length (take (h + 1) groups) →
     sides ≡ record { left = take (first - begin) (drop begin nodes); right = take (stop - end) (drop end nodes) } →
     IsBeside nodes groups first end sides g (h + 1)
@@ -118,8 +119,8 @@ IsBeside-from nodes groups first end g h begin stop sides cutting some within e 
     let h_within = e.h_within in
     let left = take (first - begin) (drop begin nodes) in
     let right = take (stop - end) (drop end nodes) in
-    let left_is : sides.left ≡ left = ap (λ (s : Sides). s.left) is in
-    let right_is : sides.right ≡ right = ap (λ (s : Sides). s.right) is in
+    let left_is : sides.left ≡ left = ap (λ (s : Level). s.left) is in
+    let right_is : sides.right ≡ right = ap (λ (s : Level). s.right) is in
     let front : take first nodes ≡ joined (take g groups) ++ left =
     sym (take-append-drop begin (take first nodes))
     ∙ (λ i. take-take begin first nodes (let b : begin ≤ first = omega arith in b) i ++ (ap (λ (k : ℕ). drop begin (take k nodes)) (let e : first ≡ begin + (first - begin) = omega arith in e) ∙ drop-take begin (first - begin) nodes) i)
@@ -153,7 +154,7 @@ three_parts xs a b order =
     ∙ take-append-drop a xs
 
 -- the sides of a level below those of its parents
-AreSides-more : (nodes : List Node) (groups : List (List Node)) (first end from to : ℕ) (sides : Sides) (levels : List Sides) → 2 ≤ length nodes → first < end →
+AreSides-more : (nodes : List Node) (groups : List (List Node)) (first end from to : ℕ) (sides : Level) (levels : List Level) → 2 ≤ length nodes → first < end →
     Groups nodes groups → IsBeside nodes groups first end sides from to → AreSidesOf (map parent groups) from to levels →
     AreSidesOf nodes first end (sides ∷ levels)
 AreSides-more nodes groups first end from to sides levels two some cutting b above =
@@ -183,15 +184,15 @@ AreSides-more nodes groups first end from to sides levels two some cutting b abo
     (subst (λ (l : List Node). AreSides l (take (to - from) (drop from (map parent groups))) (drop to (map parent groups)) levels) (take-map parent from groups) above)))
 
 -- after some levels a range of nodes is reached: whatever sides it has complete those of the chunks
-pub record IsClimbed (chunks : List Node) (first end : ℕ) (levels : List (List Node)) (i from to : ℕ) (sides : List Sides) : Type 0 where
+pub record IsClimbed (chunks : List Node) (first end : ℕ) (levels : List (List Node)) (i from to : ℕ) (sides : List Level) : Type 0 where
   pub nodes : List Node
   pub top : List Node
   pub tree : IsTree (drop i levels) top nodes
   pub order : from < to
   pub within : to ≤ length nodes
-  pub complete : (more : List Sides) → AreSidesOf nodes from to more → AreSidesOf chunks first end (sides ++ more)
+  pub complete : (more : List Level) → AreSidesOf nodes from to more → AreSidesOf chunks first end (sides ++ more)
 
-pub IsClimbed-none : (chunks : List Node) (first end : ℕ) (levels : List (List Node)) (top : List Node) (sides : List Sides) → IsTree levels top chunks →
+pub IsClimbed-none : (chunks : List Node) (first end : ℕ) (levels : List (List Node)) (top : List Node) (sides : List Level) → IsTree levels top chunks →
     first < end → end ≤ length chunks → sides ≡ [] → IsClimbed chunks first end levels 0 first end sides
 IsClimbed-none chunks first end levels top sides tree order within none = record {
   nodes = chunks;
@@ -199,7 +200,7 @@ IsClimbed-none chunks first end levels top sides tree order within none = record
   tree = tree;
   order = order;
   within = within;
-  complete = λ more h. subst (λ (l : List Sides). AreSidesOf chunks first end (l ++ more)) (sym none) h;
+  complete = λ more h. subst (λ (l : List Level). AreSidesOf chunks first end (l ++ more)) (sym none) h;
 }
 
 -- the tree over a level that is reached
@@ -209,7 +210,7 @@ at_level levels i top nodes level within here tree =
     subst (λ (l : List (List Node)). IsTree l top nodes) (drop_more levels i level within ∙ ap (λ (l : List Node). l ∷ drop (i + 1) levels) (sym here)) tree
 
 -- the range is within the level
-pub range_in_level : (chunks : List Node) (first end : ℕ) (levels : List (List Node)) (i from to : ℕ) (sides : List Sides) (level : List Node) → i < length levels →
+pub range_in_level : (chunks : List Node) (first end : ℕ) (levels : List (List Node)) (i from to : ℕ) (sides : List Level) (level : List Node) → i < length levels →
     level ≡ get_or levels i level → IsClimbed chunks first end levels i from to sides → to ≤ length level
 range_in_level chunks first end levels i from to sides level within here h =
     let tree = at_level levels i h.top h.nodes level within here h.tree in
@@ -217,7 +218,7 @@ range_in_level chunks first end levels i from to sides level within here h =
     let inside = h.within in
     omega arith
 
-pub IsClimbed-more : (chunks : List Node) (first end : ℕ) (levels : List (List Node)) (i from to : ℕ) (sides : List Sides) (level : List Node) (more : Sides)
+pub IsClimbed-more : (chunks : List Node) (first end : ℕ) (levels : List (List Node)) (i from to : ℕ) (sides : List Level) (level : List Node) (more : Level)
     (next_from next_to : ℕ) → i < length levels → level ≡ get_or levels i level → IsClimbed chunks first end levels i from to sides →
     ((groups : List (List Node)) → Groups level groups → IsBeside level groups from to more next_from next_to) →
     IsClimbed chunks first end levels (i + 1) next_from next_to (sides ++ more ∷ [])
@@ -239,7 +240,7 @@ IsClimbed-more chunks first end levels i from to sides level more next_from next
           (h.complete (more ∷ rest) (subst (λ (l : List Node). AreSidesOf l from to (more ∷ rest)) (sym tree.0) here_too));
     }
 
-pub IsClimbed-all : (chunks : List Node) (first end : ℕ) (levels : List (List Node)) (i from to : ℕ) (sides : List Sides) → length levels ≤ i →
+pub IsClimbed-all : (chunks : List Node) (first end : ℕ) (levels : List (List Node)) (i from to : ℕ) (sides : List Level) → length levels ≤ i →
     IsClimbed chunks first end levels i from to sides → AreSidesOf chunks first end sides
 IsClimbed-all chunks first end levels i from to sides all h =
     let order = h.order in
@@ -358,7 +359,7 @@ module _ (nodes : List Node) (bounds : List ℕ) (kept : IsLevelKept nodes bound
         let all = groups_sum nodes groups.0 groups.1 in
         record { begin_before = omega arith; stop_after = omega arith; stop_within = omega arith }
 
-    pub beside_of : (sides : Sides) → sides ≡ record { left = take (first - begin) (drop begin nodes); right = take (stop - end) (drop end nodes) } →
+    pub beside_of : (sides : Level) → sides ≡ record { left = take (first - begin) (drop begin nodes); right = take (stop - end) (drop end nodes) } →
         (groups : List (List Node)) → Groups nodes groups → IsBeside nodes groups first end sides g (h + 1)
     beside_of sides is groups cutting =
         let begin_at = begin_sum groups cutting in
@@ -378,7 +379,7 @@ IsKept-from levels top chunks places tree are fits =
 
 -- ---- the proof of a range
 
-pub IsProofOf-from : (nodes chunks : List Node) (first end : ℕ) (levels : List Sides) → first < end → end ≤ length nodes →
+pub IsProofOf-from : (nodes chunks : List Node) (first end : ℕ) (levels : List Level) → first < end → end ≤ length nodes →
     chunks ≡ take (end - first) (drop first nodes) → AreSidesOf nodes first end levels → IsProofOf nodes first end (record { chunks = chunks; levels = levels })
 IsProofOf-from nodes chunks first end levels some within is sides = record { some = some; within = within; chunks = is; sides = sides }
 

@@ -4,6 +4,8 @@ pub mod ProofJson
 pub mod Proving
 pub mod RangeProof
 pub mod Reading
-pub mod Sides
 pub mod Soundness
 pub mod Steps
+pub use Rattle.level_nodes.specs.FlatLevels
+pub use Rattle.level_nodes.specs.Level
+pub use Rattle.level_nodes.specs.NodeJson

@@ -5,19 +5,14 @@ use Rattle.std.specs.List.{AllZip}
 use Rattle.serde_json.specs.Data.{Data, Members, array, object, no_members, member}
 use Rattle.serde_json.specs.Find.{get, as_object}
 use Rattle.serde_json.specs.View.{items_of}
-use Rattle.xet_roots.specs.Groups.{Node}
-use Rattle.xet_merkle.specs.JsonParts.{ReadsNode}
-use Rattle.xet_merkle.specs.SubtreeJson.{node_json}
-use Rattle.range_proof.specs.RangeProof.{Sides, Proof, file_size_of}
+use Rattle.level_nodes.specs.Level.{Level}
+use Rattle.level_nodes.specs.NodeJson.{nodes_json, ReadsNode}
+use Rattle.range_proof.specs.RangeProof.{Proof, file_size_of}
 
 -- ---- Writing
 
--- the nodes in order, each an object with its hash in hex and its size
-abbrev pub nodes_json : List Node → Data
-nodes_json nodes = array (items_of (map node_json nodes))
-
 -- the sides of a level
-abbrev pub sides_json : Sides → Data
+abbrev pub sides_json : Level → Data
 sides_json sides = object (member (codes "left") (nodes_json sides.left) (member (codes "right") (nodes_json sides.right) no_members))
 
 -- the members of a proof's object
@@ -41,7 +36,7 @@ pub record HasSides (value : Data) (left right : List Data) : Type 0 where
   pub right_is : get (codes "right") value ≡ Some (array (items_of right))
 
 -- the sides of a level in a value
-pub record ReadsSides (value : Data) (sides : Sides) : Type 0 where
+pub record ReadsSides (value : Data) (sides : Level) : Type 0 where
   pub left_values : List Data
   pub right_values : List Data
   pub members : HasSides value left_values right_values
@@ -71,7 +66,7 @@ pub data BreaksPartRule (json : Data) : ℕ → Type 0 where
       ((proof : Proof) → ¬ (ReadsProof json proof)) → BreaksPartRule json 4
 
 -- all sides have at most 8 nodes
-pub record HasFewBeside (levels : List Sides) : Type 0 where
+pub record HasFewBeside (levels : List Level) : Type 0 where
   pub left : All (λ sides. length sides.left ≤ 8) levels
   pub right : All (λ sides. length sides.right ≤ 8) levels
 

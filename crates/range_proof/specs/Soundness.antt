@@ -4,17 +4,18 @@ use Rattle.xet_hash.specs.Hash.{bytes_of, data_key, internal_key}
 use Rattle.xet_roots.specs.Groups.{Node, Groups}
 use Rattle.xet_roots.specs.Roots.{group_text, parent}
 use Rattle.binding.specs.Binding.{Message, chunk_nodes}
-use Rattle.range_proof.specs.RangeProof.{Sides, Proof, IsTop, begin_of, file_size_of}
+use Rattle.level_nodes.specs.Level.{Level}
+use Rattle.range_proof.specs.RangeProof.{Proof, IsTop, begin_of, file_size_of}
 
 -- some chunks are those of the range from number k on: their hashes and lengths are those of the proof's nodes
 abbrev pub AreChunksAt : Proof → ℕ → List (List ℕ) → Type 0
 AreChunksAt proof k chunks = chunk_nodes chunks ≡ take (length chunks) (drop k proof.chunks)
 
 -- a group that is hashed on the way from the range's nodes to the top
-pub data IsGroupAbove : List Sides → List Node → List Node → Type 0 where
-  here : {sides : Sides} {levels : List Sides} {nodes group : List Node} {groups : List (List Node)} →
+pub data IsGroupAbove : List Level → List Node → List Node → Type 0 where
+  here : {sides : Level} {levels : List Level} {nodes group : List Node} {groups : List (List Node)} →
       Groups (sides.left ++ nodes ++ sides.right) groups → Contains groups group → IsGroupAbove (sides ∷ levels) nodes group
-  above : {sides : Sides} {levels : List Sides} {nodes group : List Node} {groups : List (List Node)} →
+  above : {sides : Level} {levels : List Level} {nodes group : List Node} {groups : List (List Node)} →
       Groups (sides.left ++ nodes ++ sides.right) groups → IsGroupAbove levels (map parent groups) group →
       IsGroupAbove (sides ∷ levels) nodes group
 

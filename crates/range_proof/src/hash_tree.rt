@@ -11,9 +11,9 @@ use crate::laws::{
 };
 use crate::places::places;
 use crate::proof::RangeProof;
-use crate::sides::LevelSides;
 use crate::tops::only_hash;
 use crate::tree_level::{TreeLevel, make_levels, part_at};
+use level_nodes::levels::LevelNodes;
 use std::alloc::{AllocError, Allocator, Global};
 use std::marker::Model;
 use xet_hash::data_hash::MerkleHash;
@@ -91,7 +91,7 @@ impl<A: Allocator + Clone> HashTree<A> {
     }
 
     // Returns the sides of a range of chunks on each level.
-    fn sides(&self, alloc: A, first: usize, end: usize) -> Result<Vec<LevelSides<A>, A>, AllocError>
+    fn sides(&self, alloc: A, first: usize, end: usize) -> Result<Vec<LevelNodes<A>, A>, AllocError>
         requires some { first < end }
         requires within { end ≤ length self.now }
         ensures { IfOk result (λ sides. AreSidesOf self.now first end sides.items) }

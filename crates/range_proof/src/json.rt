@@ -5,16 +5,18 @@ ghost use Rattle.std.specs.List.{AllZip};
 ghost use Rattle.serde_json.specs.Data.{Data, array};
 ghost use Rattle.serde_json.specs.View.{view, items_of};
 ghost use Rattle.xet_roots.specs.declared.error.CoreError.TheVariants.{OutOfMemory, InvalidJson};
-ghost use Rattle.range_proof.specs.RangeProof.{AreHashes, Sides};
-ghost use Rattle.range_proof.specs.ProofJson.{nodes_json, sides_json, proof_object, proof_json, HasMembers, HasSides, ReadsSides, AreLevels, Reads, BreaksRule};
+ghost use Rattle.level_nodes.specs.Level.{Level};
+ghost use Rattle.level_nodes.specs.NodeJson.{nodes_json};
+ghost use Rattle.range_proof.specs.RangeProof.{AreHashes};
+ghost use Rattle.range_proof.specs.ProofJson.{sides_json, proof_object, proof_json, HasMembers, HasSides, ReadsSides, AreLevels, Reads, BreaksRule};
 
 use crate::proof::RangeProof;
 use crate::proof_parts::from_parts;
-use crate::sides::LevelSides;
+use level_nodes::levels::LevelNodes;
+use level_nodes::node_json::{array_member, read_nodes, with_nodes};
 use serde_json::{Value, json};
 use std::alloc::{AllocError, Allocator, Global};
 use xet_hash::laws::{hex_text_is_lowercase_digits, hex_text_tells_hashes_apart};
-use xet_merkle::node_json::{array_member, read_nodes, with_nodes};
 use xet_roots::error::CoreError;
 use xet_roots::groups::Node;
 
@@ -27,7 +29,7 @@ fn nodes_to_json(alloc: Global, nodes: &[Node]) -> Result<Value, AllocError>
 }
 
 // Returns the object of a level's sides.
-fn sides_to_json<A: Allocator>(alloc: Global, sides: &LevelSides<A>) -> Result<Value, AllocError>
+fn sides_to_json<A: Allocator>(alloc: Global, sides: &LevelNodes<A>) -> Result<Value, AllocError>
     ensures json { IfOk result (λ value. view value ≡ sides_json sides.now) }
     ensures left { IfOk result (λ _. AreHashes sides.now.left) }
     ensures right { IfOk result (λ _. AreHashes sides.now.right) }
@@ -40,7 +42,7 @@ fn sides_to_json<A: Allocator>(alloc: Global, sides: &LevelSides<A>) -> Result<V
 // Returns the objects of the sides of all levels, in an array.
 fn levels_to_json<A: Allocator>(
     alloc: Global,
-    levels: &[LevelSides<A>],
+    levels: &[LevelNodes<A>],
 ) -> Result<Value, AllocError>
     ensures json { IfOk result (λ value. view value ≡ array (items_of (map sides_json levels.now))) }
     ensures left { IfOk result (λ _. All (λ sides. AreHashes sides.left) levels.now) }
@@ -107,27 +109,27 @@ fn are_levels(values: &[Value]) -> bool
 }
 
 // Returns the sides of a level in a value. Fails with rule 4 if there are none.
-fn read_sides<A: Allocator + Clone>(alloc: A, value: &Value) -> Result<LevelSides<A>, CoreError>
+fn read_sides<A: Allocator + Clone>(alloc: A, value: &Value) -> Result<LevelNodes<A>, CoreError>
     ensures read { IfOk result (ReadsSides (view value.now)) }
     ensures refused { IfErr result (λ e. (e ≡ OutOfMemory)
-        ⊎ ((e ≡ InvalidJson 4) × ((sides : Sides) → ¬ (ReadsSides (view value.now) sides)))) }
+        ⊎ ((e ≡ InvalidJson 4) × ((sides : Level) → ¬ (ReadsSides (view value.now) sides)))) }
 {
     let Some(values) = read_side_values(value) else {
         return Err(CoreError::InvalidJson(4));
     };
     let left = read_nodes(alloc.clone()?, values.left, 4)?;
     let right = read_nodes(alloc, values.right, 4)?;
-    Ok(LevelSides::new(left, right))
+    Ok(LevelNodes::new(left, right))
 }
 
 // Returns the sides of all levels in some values. Fails with rule 4 if a value has none.
 fn read_levels<A: Allocator + Clone>(
     alloc: A,
     values: &[Value],
-) -> Result<Vec<LevelSides<A>, A>, CoreError>
+) -> Result<Vec<LevelNodes<A>, A>, CoreError>
     ensures read { IfOk result (λ levels. AllZip ReadsSides (map view values.now) levels.items) }
     ensures refused { IfErr result (λ e. (e ≡ OutOfMemory)
-        ⊎ ((e ≡ InvalidJson 4) × ((levels : List Sides) → ¬ (AllZip ReadsSides (map view values.now) levels)))) }
+        ⊎ ((e ≡ InvalidJson 4) × ((levels : List Level) → ¬ (AllZip ReadsSides (map view values.now) levels)))) }
 {
     let mut levels = Vec::with_capacity(alloc.clone()?, values.len())?;
     'levels: for value in values {
@@ -171,7 +173,10 @@ impl<A: Allocator + Clone> RangeProof<A> {
         }
         let chunks = read_nodes(alloc.clone()?, members.chunks, 4)?;
         let levels = read_levels(alloc, members.levels)?;
-        Ok(from_parts(chunks, levels)?)
+        match from_parts(chunks, levels) {
+            Ok(proof) => Ok(proof),
+            Err(rule) => Err(CoreError::InvalidJson(rule)),
+        }
     }
 }
 

@@ -8,7 +8,7 @@ ghost use Rattle.xet_roots.specs.Roots.{total_size, IsRoot, IsFileHash};
 ghost use Rattle.binding.specs.Binding.{chunk_nodes, HashedForRoot, HashedForFile, Collision};
 ghost use Rattle.range_proof.specs.RangeProof.{Proof, HasHashes, IsProofOf, Shows, ShowsRoot, IsWellFormed, begin_of, file_size_of};
 ghost use Rattle.range_proof.specs.ProofJson.{Reads};
-ghost use Rattle.range_proof.specs.FlatProof.{IsFlat};
+ghost use Rattle.level_nodes.specs.FlatLevels.{IsFlat};
 ghost use Rattle.range_proof.specs.Soundness.{AreChunksAt, CheckedForRoot, CheckedForFile, HasChunksAt};
 ghost use Rattle.range_proof.specs.Reading.{IsRead};
 ghost use Rattle.range_proof.specs.Checking.{IsSoundRead, IsSoundReadForRoot};
@@ -108,5 +108,5 @@ pub fn json_says_well_formed_range_proofs()
 /// proof, unless an allocation fails.
 pub fn flat_lists_say_one_range_proof()
     ensures { (counts : List (ℕ × ℕ)) (nodes : List Node) (a b : Proof) →
-        IsFlat counts nodes a → IsFlat counts nodes b → a ≡ b }
+        IsFlat counts nodes a.levels a.chunks → IsFlat counts nodes b.levels b.chunks → a ≡ b }
 {}

@@ -1,5 +1,5 @@
 //! Range proofs. Whoever knows the hash of a file checks a part of it with a few kilobytes: the nodes of the part's
-//! chunks, and the nodes beside the paths from them to the root.
+//! chunks, and the other nodes of each group on the way up.
 #![tactic(auto)]
 
 mod flat;

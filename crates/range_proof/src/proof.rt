@@ -2,8 +2,8 @@
 
 ghost use Rattle.xet_roots.specs.Roots.{total_size};
 ghost use Rattle.std.specs.Prelude.{◌≡◌, ◌+◌, ◌^◌, ◌<◌, ◌↔◌, length, true, false, Ok, IfOk, IfErr, IsTrue};
-ghost use Rattle.range_proof.specs.RangeProof.{Shows, ShowsRoot, IsWellFormed};
-ghost use Rattle.range_proof.specs.Sides.{left_at, right_at, same_proof};
+ghost use Rattle.level_nodes.specs.Level.{left_at, right_at};
+ghost use Rattle.range_proof.specs.RangeProof.{Shows, ShowsRoot, IsWellFormed, same_proof};
 ghost use Rattle.range_proof.specs.Steps.Equality.{same_proof-per, same_proof-equiv};
 ghost use Rattle.range_proof.specs.Steps.Opening.{HasTop};
 ghost use Rattle.range_proof.specs.Steps.Places.{ArePlaces};
@@ -12,8 +12,8 @@ ghost use Rattle.range_proof.specs.declared.open_error.OpenFault.TheVariants.{Mi
 use crate::open_error::{OpenError, OpenFault};
 use crate::opened_range::OpenedRange;
 use crate::places::places;
-use crate::sides::{LevelSides, copy_levels};
 use crate::tops::{is_found, top};
+use level_nodes::levels::{LevelNodes, copy_levels, left_at, right_at};
 use std::alloc::{AllocError, Allocator, Global};
 use std::marker::Model;
 use xet_hash::data_hash::MerkleHash;
@@ -21,7 +21,7 @@ use xet_roots::aggregated_hashes::file_hash_of_root;
 use xet_roots::error::CoreError;
 use xet_roots::groups::Node;
 
-/// The nodes of some adjacent chunks of a file, and the nodes beside the paths from them to the root.
+/// The nodes of some adjacent chunks of a file, and the other nodes of each group on the way up.
 ///
 /// Whoever knows the file hash or the root opens a proof and checks the chunks with it. A proof may come from anybody:
 /// nothing but its form is assumed until it is opened.
@@ -29,7 +29,7 @@ use xet_roots::groups::Node;
 pub struct RangeProof<A: Allocator = Global> {
     chunks: Vec<Node, A>,
     // From the chunks up.
-    levels: Vec<LevelSides<A>, A>,
+    levels: Vec<LevelNodes<A>, A>,
 }
 
 impl<A: Allocator> Model for RangeProof<A> {
@@ -154,7 +154,7 @@ impl<A: Allocator + Clone> RangeProof<A> {
 
 impl<A: Allocator> RangeProof<A> {
     // Makes a proof of its chunks and levels.
-    pub(crate) fn new(chunks: Vec<Node, A>, levels: Vec<LevelSides<A>, A>) -> Self
+    pub(crate) fn new(chunks: Vec<Node, A>, levels: Vec<LevelNodes<A>, A>) -> Self
         requires { IsWellFormed (record { chunks = chunks.items; levels = levels.items }) }
         ensures { result ≡ record { chunks = chunks.items; levels = levels.items } }
     {
@@ -178,7 +178,7 @@ impl<A: Allocator> RangeProof<A> {
     }
 
     // Returns the sides of all levels, from the chunks up.
-    pub(crate) fn levels(&self) -> &[LevelSides<A>]
+    pub(crate) fn levels(&self) -> &[LevelNodes<A>]
         ensures levels { result.now ≡ self.now.levels }
         ensures well_formed { IsWellFormed self.now }
     {
@@ -190,10 +190,7 @@ impl<A: Allocator> RangeProof<A> {
     pub fn left(&self, level: usize) -> &[Node]
         ensures { result.now ≡ left_at self.now.levels level }
     {
-        match self.levels.get(level) {
-            Some(sides) => sides.left(),
-            None => &[],
-        }
+        left_at(&self.levels, level)
     }
 
     /// Returns the nodes after those of the range on a level, or none if there is no such level. Levels count from the
@@ -201,10 +198,7 @@ impl<A: Allocator> RangeProof<A> {
     pub fn right(&self, level: usize) -> &[Node]
         ensures { result.now ≡ right_at self.now.levels level }
     {
-        match self.levels.get(level) {
-            Some(sides) => sides.right(),
-            None => &[],
-        }
+        right_at(&self.levels, level)
     }
 }
 

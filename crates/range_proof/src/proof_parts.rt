@@ -1,15 +1,13 @@
 //! Makes a proof of its parts, if they keep the rules 5 to 8.
 
-ghost use Rattle.std.specs.Prelude.{◌≡◌, ◌+◌, ◌^◌, ◌<◌, ◌↔◌, ℕ, sum_by, IfOk, IfErr, IfSome, IfNone, IsTrue, SomeIff};
+ghost use Rattle.std.specs.Prelude.{◌≡◌, ◌+◌, ◌^◌, ◌<◌, ◌↔◌, sum_by, IfOk, IfErr, IfSome, IfNone, IsTrue, SomeIff};
 ghost use Rattle.xet_roots.specs.Roots.{total_size};
-ghost use Rattle.xet_roots.specs.declared.error.CoreError.TheVariants.{InvalidJson};
 ghost use Rattle.range_proof.specs.RangeProof.{IsWellFormed};
 ghost use Rattle.range_proof.specs.ProofJson.{BreaksValueRule, HasFewBeside};
 
 use crate::proof::RangeProof;
-use crate::sides::LevelSides;
+use level_nodes::levels::LevelNodes;
 use std::alloc::Allocator;
-use xet_roots::error::CoreError;
 use xet_roots::groups::{Node, total_size};
 
 // The most levels of a proof.
@@ -19,7 +17,7 @@ const MAX_LEVELS: usize = 64;
 const MAX_SIDE: usize = 8;
 
 // Returns whether each side has at most 8 nodes.
-fn have_few_beside<A: Allocator>(levels: &[LevelSides<A>]) -> bool
+fn have_few_beside<A: Allocator>(levels: &[LevelNodes<A>]) -> bool
     ensures { IsTrue result ↔ HasFewBeside levels.now }
 {
     'levels: for level in levels {
@@ -31,7 +29,7 @@ fn have_few_beside<A: Allocator>(levels: &[LevelSides<A>]) -> bool
 }
 
 // Returns the sum of the sizes on all sides, if it is at most `u64::MAX`.
-fn size_beside<A: Allocator>(levels: &[LevelSides<A>]) -> Option<u64>
+fn size_beside<A: Allocator>(levels: &[LevelNodes<A>]) -> Option<u64>
     ensures { SomeIff result (sum_by (λ sides. total_size sides.left + total_size sides.right) levels.now < 2 ^ 64)
         (sum_by (λ sides. total_size sides.left + total_size sides.right) levels.now) }
 {
@@ -45,7 +43,7 @@ fn size_beside<A: Allocator>(levels: &[LevelSides<A>]) -> Option<u64>
 }
 
 // Returns whether the sizes of all nodes add up to at most `u64::MAX`.
-fn sizes_fit<A: Allocator>(chunks: &[Node], levels: &[LevelSides<A>]) -> bool
+fn sizes_fit<A: Allocator>(chunks: &[Node], levels: &[LevelNodes<A>]) -> bool
     ensures { IsTrue result ↔ (total_size chunks.now
         + sum_by (λ sides. total_size sides.left + total_size sides.right) levels.now < 2 ^ 64) }
 {
@@ -56,7 +54,7 @@ fn sizes_fit<A: Allocator>(chunks: &[Node], levels: &[LevelSides<A>]) -> bool
 }
 
 // Returns the lowest rule from 5 to 8 that chunks and levels break.
-fn broken_rule<A: Allocator>(chunks: &[Node], levels: &[LevelSides<A>]) -> Option<u8>
+fn broken_rule<A: Allocator>(chunks: &[Node], levels: &[LevelNodes<A>]) -> Option<u8>
     ensures broken { IfSome result (BreaksValueRule (record { chunks = chunks.now; levels = levels.now })) }
     ensures kept { IfNone result (IsWellFormed (record { chunks = chunks.now; levels = levels.now })) }
 {
@@ -75,18 +73,17 @@ fn broken_rule<A: Allocator>(chunks: &[Node], levels: &[LevelSides<A>]) -> Optio
     None
 }
 
-// Makes a proof of its chunks and levels. Fails with the lowest rule from 5 to 8 that they break.
+// Makes a proof of its chunks and levels, or returns the lowest rule from 5 to 8 that they break.
 pub(crate) fn from_parts<A: Allocator>(
     chunks: Vec<Node, A>,
-    levels: Vec<LevelSides<A>, A>,
-) -> Result<RangeProof<A>, CoreError>
+    levels: Vec<LevelNodes<A>, A>,
+) -> Result<RangeProof<A>, u8>
     ensures same { IfOk result (λ proof. proof ≡ record { chunks = chunks.items; levels = levels.items }) }
     ensures well_formed { IfOk result IsWellFormed }
-    ensures errors { IfErr result (λ e. (rule : ℕ) × (e ≡ InvalidJson rule)
-        × BreaksValueRule (record { chunks = chunks.items; levels = levels.items }) rule) }
+    ensures broken { IfErr result (BreaksValueRule (record { chunks = chunks.items; levels = levels.items })) }
 {
     match broken_rule(&chunks, &levels) {
-        Some(rule) => Err(CoreError::InvalidJson(rule)),
+        Some(rule) => Err(rule),
         None => Ok(RangeProof::new(chunks, levels)),
     }
 }

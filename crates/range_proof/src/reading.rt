@@ -6,7 +6,7 @@ ghost use Rattle.range_proof.specs.RangeProof.{AreHashes, HasHashes};
 ghost use Rattle.range_proof.specs.Reading.{AreChunksOf};
 
 use crate::proof::RangeProof;
-use crate::sides::LevelSides;
+use level_nodes::levels::LevelNodes;
 use std::alloc::Allocator;
 use xet_hash::data_hash::compute_data_hash;
 use xet_roots::groups::Node;
@@ -47,7 +47,7 @@ fn read_words(nodes: &[Node])
 }
 
 // Shows a proof the same of the nodes on both sides of a level.
-fn read_side_words<A: Allocator>(level: &LevelSides<A>)
+fn read_side_words<A: Allocator>(level: &LevelNodes<A>)
     ensures left { AreHashes level.now.left }
     ensures right { AreHashes level.now.right }
 {

@@ -5,7 +5,8 @@ ghost use Rattle.xet_hash.specs.Hash.{default_hash};
 ghost use Rattle.range_proof.specs.RangeProof.{IsWellFormed};
 ghost use Rattle.range_proof.specs.Steps.Opening.{HasTop};
 
-use crate::sides::LevelSides;
+use crate::sides::parents_between;
+use level_nodes::levels::LevelNodes;
 use std::alloc::{AllocError, Allocator};
 use xet_hash::data_hash::MerkleHash;
 use xet_roots::groups::Node;
@@ -31,14 +32,14 @@ pub(crate) fn is_found(found: &MerkleHash, expected: &MerkleHash) -> bool
 pub(crate) fn top<A: Allocator + Clone>(
     alloc: A,
     chunks: &[Node],
-    levels: &[LevelSides<A>],
+    levels: &[LevelNodes<A>],
 ) -> Result<Option<MerkleHash>, AllocError>
     requires { IsWellFormed (record { chunks = chunks.now; levels = levels.now }) }
     ensures { IfOk result (HasTop (record { chunks = chunks.now; levels = levels.now })) }
 {
     let mut nodes = chunks.to_vec(alloc.clone()?)?;
     'levels: for level in levels {
-        nodes = level.parents(alloc.clone()?, &nodes)?;
+        nodes = parents_between(alloc.clone()?, level, &nodes)?;
     }
     Ok(only_hash(&nodes))
 }

@@ -7,7 +7,7 @@ ghost use Rattle.xet_roots.specs.Steps.Scan.{AreParents};
 ghost use Rattle.range_proof.specs.Steps.Places.{AreBounds};
 ghost use Rattle.range_proof.specs.Steps.Trees.{IsBeside, IsTree};
 
-use crate::sides::LevelSides;
+use level_nodes::levels::LevelNodes;
 use std::alloc::{AllocError, Allocator};
 use std::marker::Model;
 use xet_roots::aggregated_hashes::parents;
@@ -37,7 +37,7 @@ impl<A: Allocator> Model for TreeLevel<A> {
 // The sides of a range of nodes on their level, and the range of the groups that it lies in.
 #[derive(Drop)]
 pub(crate) struct Beside<A: Allocator> {
-    pub(crate) sides: LevelSides<A>,
+    pub(crate) sides: LevelNodes<A>,
     pub(crate) first: usize,
     pub(crate) end: usize,
 }
@@ -108,7 +108,7 @@ impl<A: Allocator + Clone> TreeLevel<A> {
         let last = part_at(&self.bounds, (end - 1) as u64);
         let begin = self.bounds[from] as usize;
         let stop = self.bounds[last + 1] as usize;
-        let sides = LevelSides::copied(alloc, &self.nodes[begin..first], &self.nodes[end..stop])?;
+        let sides = LevelNodes::copied(alloc, &self.nodes[begin..first], &self.nodes[end..stop])?;
         Ok(Beside {
             sides,
             first: from,

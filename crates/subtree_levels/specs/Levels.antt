@@ -1,29 +1,10 @@
 -- The levels of a subtree: what it keeps of each level on both sides, from the chunks up, as in the module
 -- `merklehash::merkle_hash_subtree` of the crate `xet-core-structures`.
-use Rattle.std.specs.Prelude.{ℕ, ◌+◌, zero, suc, List, [], ◌∷◌, ◌++◌, length}
+use Rattle.std.specs.Prelude.{ℕ, ◌+◌, List, [], ◌∷◌, ◌++◌, length}
 use Rattle.xet_hash.specs.Hash.{default_hash}
 use Rattle.xet_roots.specs.Groups.{Node}
 use Rattle.xet_roots.specs.Roots.{total_size}
-
--- the nodes that a subtree keeps on a level, on both sides
-pub record Level : Type 0 where
-  pub left : List Node
-  pub right : List Node
-
--- a level without nodes
-abbrev pub no_level : Level
-no_level = record { left = []; right = [] }
-
--- the left and the right nodes of a level, or none if there is no such level
-abbrev pub left_at : List Level → ℕ → List Node
-left_at [] i = []
-left_at (level ∷ levels) zero = level.left
-left_at (level ∷ levels) (suc i) = left_at levels i
-
-abbrev pub right_at : List Level → ℕ → List Node
-right_at [] i = []
-right_at (level ∷ levels) zero = level.right
-right_at (level ∷ levels) (suc i) = right_at levels i
+pub use Rattle.level_nodes.specs.Level.{Level, no_level, left_at, right_at}
 
 -- the last level
 abbrev pub top_of : List Level → Level

@@ -4,6 +4,7 @@ pub mod Levels
 pub mod Steps
 pub mod Subtree
 pub mod WellFormed
+pub use Rattle.level_nodes.specs.Level
 pub use Rattle.stable_points.specs.StablePoints
 pub use Rattle.xet_roots.specs.Groups
 pub use Rattle.xet_roots.specs.Roots

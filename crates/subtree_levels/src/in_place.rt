@@ -3,7 +3,6 @@
 ghost use Rattle.std.specs.Prelude.{◌≡◌, ◌<◌, ◌≤◌, ◌-◌, ◌++◌, length, map, take, drop, IfOk, IfErr};
 ghost use Rattle.subtree_levels.specs.Steps.LevelMerging.{with_side, lowest_with, with_inner, with_left, extended};
 
-use crate::left_nodes::LeftNodes;
 use crate::levels::{LevelNodes, Operand, inner, left_at};
 use std::alloc::{AllocError, Allocator};
 use xet_roots::groups::Node;
@@ -13,8 +12,8 @@ fn replace_side<A: Allocator>(level: &mut LevelNodes<A>, side: Vec<Node, A>, kep
     ensures { level.new ≡ with_side kept level.old side.items }
 {
     match kept {
-        Operand::Front => level.right = side,
-        Operand::Back => level.left = LeftNodes::new(side),
+        Operand::Front => level.set_right(side),
+        Operand::Back => level.set_left(side),
     }
 }
 
@@ -29,9 +28,9 @@ pub(crate) fn extend_inner<A: Allocator>(
     ensures unchanged { IfErr result (λ _. levels.new.items ≡ levels.old.items) }
 {
     if at + 1 == levels.len() {
-        levels[at].left.extend(more)?;
+        levels[at].extend_left(more)?;
     } else {
-        levels[at].right.extend_from_slice(more)?;
+        levels[at].extend_right(more)?;
     }
     Ok(())
 }
@@ -88,7 +87,7 @@ fn prepend<A: Allocator + Clone>(
     let mut more = Vec::with_capacity(alloc, first.len() + second.len())?;
     more.extend_from_slice(first)?;
     more.extend_from_slice(second)?;
-    levels[at].left.prepend(&more)?;
+    levels[at].prepend_left(&more)?;
     Ok(())
 }
 

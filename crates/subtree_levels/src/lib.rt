@@ -5,7 +5,6 @@ pub mod collapse;
 mod in_place;
 mod in_sight;
 pub mod laws;
-mod left_nodes;
 pub mod level_rules;
 pub mod levels;
 pub mod merge_levels;

@@ -1,26 +1,12 @@
 -- The parts of a subtree's JSON value, read before its levels and nodes are checked together: rules 1 to 4. Members
 -- with other names are ignored.
-use Rattle.std.specs.Prelude.{◌≡◌, ℕ, Bool, List, [], ◌∷◌, Option, Some, None, option_and_then, codes}
+use Rattle.std.specs.Prelude.{◌≡◌, ℕ, Bool, List, [], ◌∷◌, Some, None, codes}
 use Rattle.std.specs.List.{AllZip}
-use Rattle.std.specs.Str.{str_to_ascii_lowercase}
 use Rattle.serde_json.specs.Data.{Data, Members, boolean, array}
-use Rattle.serde_json.specs.Find.{get, as_str, as_number, as_u64, as_object}
+use Rattle.serde_json.specs.Find.{get, as_object}
 use Rattle.serde_json.specs.View.{items_of}
-use Rattle.xet_hash.specs.Hash.{IsHash, IsHexText, hex_text}
 use Rattle.xet_roots.specs.Groups.{Node}
-
--- the whole number in a value, if it is from 0 to 2 ^ 64 - 1
-abbrev pub whole : Data → Option ℕ
-whole value = option_and_then as_u64 (as_number value)
-
--- an object with `hash`, 64 hex digits in lower or upper case, and `size`, a whole number, is a node
-pub record ReadsNode (value : Data) (node : Node) : Type 0 where
-  pub text : List ℕ
-  pub text_is : option_and_then as_str (get (codes "hash") value) ≡ Some text
-  pub are_digits : IsHexText text
-  pub reads : hex_text node.0 ≡ str_to_ascii_lowercase text
-  pub is_hash : IsHash node.0
-  pub size_is : option_and_then whole (get (codes "size") value) ≡ Some node.1
+use Rattle.level_nodes.specs.NodeJson.{whole, ReadsNode}
 
 -- an array of two whole numbers is a level's counts
 pub record ReadsCounts (value : Data) (count : ℕ × ℕ) : Type 0 where

@@ -1,4 +1,3 @@
-pub mod FlatLevels
 pub mod JsonParts
 pub mod JsonRules
 pub mod Merging
@@ -7,6 +6,9 @@ pub mod SubtreeJson
 pub use Rattle.chunk_ranges.specs.MergeTree
 pub use Rattle.chunk_ranges.specs.PlainRange
 pub use Rattle.chunk_ranges.specs.Ranges
+pub use Rattle.level_nodes.specs.FlatLevels
+pub use Rattle.level_nodes.specs.Level
+pub use Rattle.level_nodes.specs.NodeJson
 pub use Rattle.stable_points.specs.StablePoints
 pub use Rattle.subtree_levels.specs.Canonical
 pub use Rattle.subtree_levels.specs.LevelRules

@@ -1,1 +1,2 @@
+pub mod FlatMaking
 pub mod SubtreeMerging

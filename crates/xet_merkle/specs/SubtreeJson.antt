@@ -1,20 +1,11 @@
 -- The JSON form of a subtree, as data of the toolchain's `serde_json`. It has the members that the module
 -- `merklehash::merkle_hash_subtree` of the crate `xet-core-structures` writes, in the order of their names.
 use Rattle.std.specs.Prelude.{ℕ, Bool, [], ◌∷◌, map, codes}
-use Rattle.serde_json.specs.Data.{Data, boolean, number, string, array, object, unsigned, no_members, member}
+use Rattle.serde_json.specs.Data.{Data, boolean, array, object, no_members, member}
 use Rattle.serde_json.specs.View.{items_of}
-use Rattle.xet_hash.specs.Hash.{hex_text}
-use Rattle.xet_roots.specs.Groups.{Node}
+use Rattle.level_nodes.specs.FlatLevels.{flat_nodes, count_of}
+use Rattle.level_nodes.specs.NodeJson.{number_json, nodes_json}
 use Rattle.subtree_levels.specs.Subtree.{Subtree}
-use Rattle.xet_merkle.specs.FlatLevels.{flat_nodes, count_of}
-
--- a whole number
-abbrev pub number_json : ℕ → Data
-number_json n = number (unsigned n)
-
--- a node: the hex text of its hash, and its size
-abbrev pub node_json : Node → Data
-node_json node = object (member (codes "hash") (string (hex_text node.0)) (member (codes "size") (number_json node.1) no_members))
 
 -- the numbers of left and right nodes of a level
 abbrev pub counts_json : ℕ × ℕ → Data
@@ -32,4 +23,4 @@ subtree_object at_start at_end levels nodes = object (
 -- the right nodes of all levels, highest level first
 abbrev pub subtree_json : Subtree → Data
 subtree_json subtree = subtree_object subtree.at_start subtree.at_end
-    (array (items_of (map counts_json (map count_of subtree.levels)))) (array (items_of (map node_json (flat_nodes subtree.levels))))
+    (array (items_of (map counts_json (map count_of subtree.levels)))) (nodes_json (flat_nodes subtree.levels []))

@@ -4,11 +4,11 @@
 
 pub mod laws;
 pub mod merkle_hash_subtree;
-pub mod node_json;
 
 pub use chunk_ranges::{
     chunk_range as chunk_range, merge_tree as merge_tree, plain_range as plain_range,
 };
+pub use level_nodes::node_json as node_json;
 pub use xet_roots::{
     CoreError, aggregated_hashes as aggregated_hashes, error as error, parent_maker as parent_maker,
 };

@@ -4,9 +4,10 @@ use Rattle.serde_json.specs.Data.{Data, array}
 use Rattle.serde_json.specs.View.{items_of}
 use Rattle.serde_json.specs.Written.{has_float}
 use Rattle.xet_merkle.specs.Groups.{Node}
-use Rattle.xet_merkle.specs.SubtreeJson.{node_json}
-use Rattle.range_proof.specs.RangeProof.{Proof, Sides}
-use Rattle.range_proof.specs.ProofJson.{nodes_json, sides_json, proof_json}
+use Rattle.xet_merkle.specs.Levels.{Level}
+use Rattle.xet_merkle.specs.NodeJson.{node_json, nodes_json}
+use Rattle.range_proof.specs.RangeProof.{Proof}
+use Rattle.range_proof.specs.ProofJson.{sides_json, proof_json}
 
 neither : (x y : Bool) → x ≡ false → y ≡ false → (x || y) ≡ false
 neither x y no_x no_y = ap (λ (b : Bool). b || y) no_x ∙ no_y
@@ -18,7 +19,7 @@ no_float json none (x ∷ xs) = neither (has_float (json x)) (has_float (array (
 nodes-no_float : (nodes : List Node) → has_float (nodes_json nodes) ≡ false
 nodes-no_float = no_float node_json (λ node. refl)
 
-sides-no_float : (sides : Sides) → has_float (sides_json sides) ≡ false
+sides-no_float : (sides : Level) → has_float (sides_json sides) ≡ false
 sides-no_float sides =
     neither (has_float (nodes_json sides.left)) (has_float (nodes_json sides.right) || false) (nodes-no_float sides.left)
     (neither (has_float (nodes_json sides.right)) false (nodes-no_float sides.right) refl)

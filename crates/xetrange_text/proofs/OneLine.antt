@@ -18,7 +18,8 @@ use Rattle.xet_merkle.specs.Levels.{Level, levels_size, node_count}
 use Rattle.xet_merkle.specs.Subtree.{Subtree}
 use Rattle.xet_merkle.specs.FlatLevels.{count_of, flat_nodes}
 use Rattle.xet_merkle.proofs.Levels.Flat.{levels_size-flat}
-use Rattle.xet_merkle.specs.SubtreeJson.{counts_json, node_json, subtree_json}
+use Rattle.xet_merkle.specs.NodeJson.{node_json, nodes_json}
+use Rattle.xet_merkle.specs.SubtreeJson.{counts_json, subtree_json}
 
 cond-of : {X : Type 0} (P : X → Type 0) (b : Bool) (x y : X) → (b ≡ true → P x) → (b ≡ false → P y) → P (cond b x y)
 cond-of P true x y first second = first refl
@@ -115,7 +116,7 @@ bool-plain false = ((λ e. omega (arith, e)), ((λ e. omega (arith, e)), ((λ e.
 pub one_line : (range : Subtree) → levels_size range.levels < 2 ^ 64 → node_count range.levels < 2 ^ 64 → NoNewline (compact_text (subtree_json range))
 one_line range size count =
     let levels = items-plain counts_json false (map count_of range.levels) (counts-low range.levels count) in
-    let nodes = items-plain node_json false (flat_nodes range.levels) (nodes-low (flat_nodes range.levels) (omega (arith, size, levels_size-flat range.levels))) in (
+    let nodes = items-plain node_json false (flat_nodes range.levels []) (nodes-low (flat_nodes range.levels []) (omega (arith, size, levels_size-flat range.levels))) in (
       (λ e. omega (arith, e)),
       NoNewline-append (quoted (codes "at_end")) _ (quoted-plain (codes "at_end")) (
         (λ e. omega (arith, e)),
@@ -131,7 +132,7 @@ one_line range size count =
                   (λ e. omega (arith, e)),
                   NoNewline-append (quoted (codes "nodes")) _ (quoted-plain (codes "nodes")) (
                     (λ e. omega (arith, e)),
-                    NoNewline-append (compact_text (array (items_of (map node_json (flat_nodes range.levels))))) _ ((λ e. omega (arith, e)), nodes)
+                    NoNewline-append (compact_text (nodes_json (flat_nodes range.levels []))) _ ((λ e. omega (arith, e)), nodes)
                         ((λ e. omega (arith, e)), tt),
                   ),
                 ),

@@ -5,12 +5,15 @@ use Rattle.std.proofs.lemmas.List.Sums.{sum_by-cons}
 use Rattle.std.proofs.lemmas.List.{length-map}
 use Rattle.std.proofs.lemmas.List.Elements.{All-nil, All-cons, All-head, All-tail}
 use Rattle.xet_roots.specs.Roots.{total_size}
-use Rattle.range_proof.specs.RangeProof.{Sides, Proof}
+use Rattle.level_nodes.specs.Level.{Level as Sides}
+use Rattle.level_nodes.specs.FlatLevels.{count_of, count_sum, IsFlat}
+use Rattle.level_nodes.proofs.FlatOf.{some_flat, IsFlat-length}
+use Rattle.range_proof.specs.RangeProof.{Proof}
 use Rattle.range_proof.specs.ProofJson.{HasFewBeside}
 use Rattle.range_proof.specs.ProofJson.BreaksValueRule.{many_levels, many_beside, sizes_pass}
-use Rattle.range_proof.specs.FlatProof.{count_of, count_sum, IsFlat, BreaksFlatRule}
+use Rattle.range_proof.specs.FlatProof.{BreaksFlatRule}
 use Rattle.range_proof.specs.FlatProof.BreaksFlatRule.{no_chunk, of_proof}
-use Rattle.range_proof.proofs.FlatOf.{some_flat_proof, IsFlat-length, IsFlat-size}
+use Rattle.range_proof.proofs.FlatOf.{IsFlat-size}
 use Rattle.yurewha_c.specs.Chunks.{node_of, nodes_of}
 use Rattle.yurewha_c.specs.FlatLists.{counts_of}
 use Rattle.yurewha_c.specs.ProofLists.{AreOfProof, HaveFewBeside}
@@ -79,13 +82,15 @@ module _ (levels : List Level) (nodes : List Chunk) where
   breaks_rule_5 none = no_chunk (let len = nodes_len in omega arith)
 
   module _ (some : count_sum (counts_of levels) < length nodes) where
-    cut : (proof : Proof) × IsFlat (counts_of levels) (nodes_of nodes) proof
-    cut = some_flat_proof (counts_of levels) (nodes_of nodes) (let len = nodes_len in omega arith)
+    cut : (proof : Proof) × IsFlat (counts_of levels) (nodes_of nodes) proof.levels proof.chunks
+    cut =
+        let parts = some_flat (counts_of levels) (nodes_of nodes) (let len = nodes_len in omega arith) in
+        (record { chunks = parts.between; levels = parts.levels }, parts.flat)
 
     cut_chunks : 0 < length cut.0.chunks
     cut_chunks =
         let len = nodes_len in
-        let all = IsFlat-length (counts_of levels) (nodes_of nodes) cut.0 cut.1 in
+        let all = IsFlat-length (counts_of levels) (nodes_of nodes) cut.0.levels cut.0.chunks cut.1 in
         omega arith
 
     cut_levels : length cut.0.levels ≡ length levels

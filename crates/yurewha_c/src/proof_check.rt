@@ -2,7 +2,8 @@
 
 ghost use Rattle.std.specs.Prelude.{◌≡◌, ◌⊎◌, ◌↔◌, ◌+◌, ◌^◌, ◌<◌, sum_by, IfSome, IfNone, IsTrue, SomeIff};
 ghost use Rattle.range_proof.specs.RangeProof.{Proof};
-ghost use Rattle.range_proof.specs.FlatProof.{count_sum, BreaksFlatRule};
+ghost use Rattle.range_proof.specs.FlatLevels.{count_sum};
+ghost use Rattle.range_proof.specs.FlatProof.{BreaksFlatRule};
 ghost use Rattle.yurewha_c.specs.Chunks.{nodes_of};
 ghost use Rattle.yurewha_c.specs.FlatLists.{counts_of};
 ghost use Rattle.yurewha_c.specs.ProofLists.{AreOfProof, HaveFewBeside, IsFlatRule};

@@ -2,7 +2,6 @@
 
 ghost use Rattle.std.specs.Prelude.{◌≡◌, ◌⊎◌, ◌<◌, ◌≤◌, ◌++◌, drop, length, map, take, IfOk, IfErr};
 ghost use Rattle.range_proof.specs.RangeProof.{Proof};
-ghost use Rattle.range_proof.specs.FlatProof.{IsFlat};
 ghost use Rattle.yurewha_c.specs.Chunks.{nodes_of};
 ghost use Rattle.yurewha_c.specs.FlatLists.{counts_of};
 ghost use Rattle.yurewha_c.specs.ProofLists.{AreOfProof, IsFlatRule, WritesProof};

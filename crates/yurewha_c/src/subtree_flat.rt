@@ -1,6 +1,6 @@
 //! Subtrees as flat lists, for binary formats.
 
-ghost use Rattle.std.specs.Prelude.{◌≡◌, ◌≢◌, ◌⊎◌, ◌↔◌, ℕ, ◌+◌, ◌<◌, ◌≤◌, None, IsSomeAnd, IfOk, ◌++◌, drop, length, map, take};
+ghost use Rattle.std.specs.Prelude.{◌≡◌, ◌≢◌, ◌⊎◌, ◌↔◌, ℕ, ◌+◌, ◌<◌, ◌≤◌, None, [], IsSomeAnd, IfOk, ◌++◌, drop, length, map, take};
 ghost use Rattle.xet_merkle.specs.FlatLevels.{IsFlat, count_of, left_nodes, right_nodes};
 ghost use Rattle.xet_merkle.specs.Levels.{node_count};
 ghost use Rattle.xet_merkle.specs.JsonRules.{BreaksValueRule};
@@ -54,7 +54,7 @@ pub extern "C" fn yurewha_subtree_from_flat(
 ) -> u32
     ensures made { result ≡ DONE → IsSomeAnd subtree.new.value (λ made. (made.at_start ≡ at_start)
         × (made.at_end ≡ at_end)
-        × IsFlat (counts_of levels.now) (nodes_of nodes.now) made.levels) }
+        × IsFlat (counts_of levels.now) (nodes_of nodes.now) made.levels []) }
     ensures statuses { (result ≡ DONE) ⊎ ((result ≡ MEMORY) ⊎ ((rule : ℕ) × (result ≡ RULE + rule)
         × BreaksValueRule at_start at_end (counts_of levels.now) (nodes_of nodes.now) rule)) }
     ensures unchanged { result ≢ DONE → subtree.new.value ≡ subtree.old.value }
@@ -135,7 +135,7 @@ fn write_flat(subtree: &MerkleHashSubtree, levels: &mut [Level], nodes: &mut [Ch
     requires levels { length subtree.now.levels ≤ length levels.old }
     requires nodes { node_count subtree.now.levels ≤ length nodes.old }
     ensures written { IsFlat (counts_of (take (length subtree.now.levels) levels.new))
-        (nodes_of (take (node_count subtree.now.levels) nodes.new)) subtree.now.levels }
+        (nodes_of (take (node_count subtree.now.levels) nodes.new)) subtree.now.levels [] }
     ensures levels_rest { drop (length subtree.now.levels) levels.new
         ≡ drop (length subtree.now.levels) levels.old }
     ensures nodes_rest { drop (node_count subtree.now.levels) nodes.new
@@ -167,7 +167,7 @@ pub extern "C" fn yurewha_subtree_to_flat(
     ensures lens { (result ≡ DONE) ⊎ (result ≡ ROOM) → IsSomeAnd subtree.old.value (λ kept.
         (level_len.new ≡ length kept.levels) × (node_len.new ≡ node_count kept.levels)) }
     ensures written { result ≡ DONE → IsSomeAnd subtree.old.value (λ kept.
-        IsFlat (counts_of (take level_len.new levels.new)) (nodes_of (take node_len.new nodes.new)) kept.levels) }
+        IsFlat (counts_of (take level_len.new levels.new)) (nodes_of (take node_len.new nodes.new)) kept.levels []) }
     ensures rest { result ≡ DONE → (drop level_len.new levels.new ≡ drop level_len.new levels.old)
         × (drop node_len.new nodes.new ≡ drop node_len.new nodes.old) }
     ensures done { result ≡ DONE → (level_len.new ≤ length levels.old) × (node_len.new ≤ length nodes.old) }

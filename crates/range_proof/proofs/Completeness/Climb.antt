@@ -11,7 +11,8 @@ use Rattle.xet_roots.specs.Roots.IsRootBy.{no_node, one_node as one_root, of_par
 use Rattle.xet_roots.proofs.Grouping.OneCutting.{AreGroups-head, AreGroups-tail, Groups-unique, group_length}
 use Rattle.xet_roots.proofs.Roots.Making.{total_size-append}
 use Rattle.xet_roots.proofs.Roots.OneRoot.{Groups-few, Groups-some}
-use Rattle.range_proof.specs.RangeProof.{Sides, AreSides, Rises, joined}
+use Rattle.level_nodes.specs.Level.{Level}
+use Rattle.range_proof.specs.RangeProof.{AreSides, Rises, joined}
 use Rattle.range_proof.specs.RangeProof.AreSides.{one_node, beside}
 use Rattle.range_proof.proofs.Parts.{total_size-parents}
 use Rattle.range_proof.proofs.Soundness.Descent.{lefts, rights}
@@ -87,7 +88,7 @@ root_of_parents nodes groups root two cutting (of_parents _ cutting' is_root) =
 -- ---- All levels up
 
 -- the range leads to the root
-pub rises : {front range back : List Node} {levels : List Sides} (root : List ℕ) → AreSides front range back levels → IsRoot (front ++ range ++ back) root →
+pub rises : {front range back : List Node} {levels : List Level} (root : List ℕ) → AreSides front range back levels → IsRoot (front ++ range ++ back) root →
     0 < length range → (size : ℕ) × Rises levels range ((root, size) ∷ [])
 rises {front} {range} {back} root (one_node few) is_root some =
     let only = alone front range back few some in
@@ -100,7 +101,7 @@ rises {front} {range} {back} root (beside {left = left} {right = right} before h
     (top.0, (hit, hit_cutting, top.1))
 
 -- the sides have the sizes of the nodes beside the range
-pub sizes_beside : {front range back : List Node} {levels : List Sides} → AreSides front range back levels → 0 < length range →
+pub sizes_beside : {front range back : List Node} {levels : List Level} → AreSides front range back levels → 0 < length range →
     (lefts levels ≡ total_size front) × (rights levels ≡ total_size back)
 sizes_beside {front} {range} {back} (one_node few) some =
     let only = alone front range back few some in
@@ -108,15 +109,15 @@ sizes_beside {front} {range} {back} (one_node few) some =
 sizes_beside {front} {range} {back} (beside {left = left} {right = right} before hit after {levels = levels} two cutting is_front is_back first last up) some =
     let hit_cutting = Groups-hit front range back left right before hit after cutting is_front is_back in
     let above = sizes_beside up (parents_some hit (hit_some left range right hit hit_cutting some)) in
-    let sides : Sides = record { left = left; right = right } in
+    let sides : Level = record { left = left; right = right } in
     let front_size = ap total_size is_front in
     let back_size = ap total_size is_back in (
-      omega (arith, total_size-append (joined before) left, total_size-parents before, sum_by-cons (λ (s : Sides). total_size s.left) sides levels),
-      omega (arith, total_size-append right (joined after), total_size-parents after, sum_by-cons (λ (s : Sides). total_size s.right) sides levels),
+      omega (arith, total_size-append (joined before) left, total_size-parents before, sum_by-cons (λ (s : Level). total_size s.left) sides levels),
+      omega (arith, total_size-append right (joined after), total_size-parents after, sum_by-cons (λ (s : Level). total_size s.right) sides levels),
     )
 
 -- at most k levels above at most 2 ^ k nodes
-pub few_levels : {front range back : List Node} {levels : List Sides} → AreSides front range back levels → (k : ℕ) → length (front ++ range ++ back) ≤ 2 ^ k → length levels ≤ k
+pub few_levels : {front range back : List Node} {levels : List Level} → AreSides front range back levels → (k : ℕ) → length (front ++ range ++ back) ≤ 2 ^ k → length levels ≤ k
 few_levels (one_node few) k h = omega arith
 few_levels (beside before hit after two cutting is_front is_back first last up) zero h = absurd (omega arith)
 few_levels (beside before hit after two cutting is_front is_back first last up) (suc k) h =
@@ -146,7 +147,7 @@ last_of_groups (group ∷ next ∷ groups) some =
     (last.0, record { more = group ∷ last.1.more; parts = ap (λ l. group ∷ l) last.1.parts })
 
 -- a side has at most 8 nodes
-pub few_beside : {front range back : List Node} {levels : List Sides} → AreSides front range back levels → 0 < length range →
+pub few_beside : {front range back : List Node} {levels : List Level} → AreSides front range back levels → 0 < length range →
     AllByRecursion (λ sides. length sides.left ≤ 8) levels × AllByRecursion (λ sides. length sides.right ≤ 8) levels
 few_beside (one_node few) some = (tt, tt)
 few_beside {front} {range} {back} (beside {left = left} {right = right} before hit after two cutting is_front is_back first last up) some =

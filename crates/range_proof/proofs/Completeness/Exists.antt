@@ -8,7 +8,8 @@ use Rattle.xet_roots.proofs.Lists.Places.{meets}
 use Rattle.xet_roots.proofs.Lists.Places.Meets.{same, earlier, later}
 use Rattle.xet_roots.proofs.Grouping.OneCutting.{Groups-exist}
 use Rattle.xet_roots.proofs.Roots.OneRoot.{Groups-few}
-use Rattle.range_proof.specs.RangeProof.{Sides, Proof, AreSides, IsProofOf, joined}
+use Rattle.level_nodes.specs.Level.{Level}
+use Rattle.range_proof.specs.RangeProof.{Proof, AreSides, IsProofOf, joined}
 use Rattle.range_proof.specs.RangeProof.AreSides.{one_node, beside}
 use Rattle.range_proof.proofs.Completeness.Climb.{joined-append, parents_parts, parents_some}
 use Rattle.range_proof.proofs.Completeness.OneProof.{IsLongFirst, IsLongLast, range_some}
@@ -110,7 +111,7 @@ cut_back (group ∷ groups) front back e some = elim (meets group (joined groups
 front_apart : (before left range back : List Node) → (before ++ left) ++ range ++ back ≡ before ++ (left ++ range ++ back)
 front_apart before left range back = simp append_assoc
 
-sides_within : (bound : ℕ) (front range back : List Node) → length (front ++ range ++ back) ≤ bound → 0 < length range → (levels : List Sides) × AreSides front range back levels
+sides_within : (bound : ℕ) (front range back : List Node) → length (front ++ range ++ back) ≤ bound → 0 < length range → (levels : List Level) × AreSides front range back levels
 sides_within zero front range back h some = ([], one_node (omega arith))
 sides_within (suc bound) front range back h some = elim (cases_lt (length (front ++ range ++ back)) 2) [
   | inl few ↦ ([], one_node (omega arith))

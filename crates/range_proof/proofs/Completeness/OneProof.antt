@@ -6,7 +6,8 @@ use Rattle.xet_roots.specs.Roots.{parent}
 use Rattle.xet_roots.proofs.Lists.Places.{meets}
 use Rattle.xet_roots.proofs.Lists.Places.Meets.{same, earlier, later}
 use Rattle.xet_roots.proofs.Grouping.OneCutting.{Groups-unique}
-use Rattle.range_proof.specs.RangeProof.{Sides, Proof, AreSides, IsProofOf, joined}
+use Rattle.level_nodes.specs.Level.{Level}
+use Rattle.range_proof.specs.RangeProof.{Proof, AreSides, IsProofOf, joined}
 use Rattle.range_proof.specs.RangeProof.AreSides.{one_node, beside}
 use Rattle.range_proof.proofs.Completeness.Climb.{joined-append, Groups-hit, hit_some, parents_some, last_of_groups}
 
@@ -77,7 +78,7 @@ first_of_rest (x ∷ hit) after left some first = λ group more e.
     let head : x ≡ group = cc in
     subst (λ (l : List Node). length left < length l) head (first x hit refl)
 
-same_sides : {front range back : List Node} {levels levels' : List Sides} → AreSides front range back levels → AreSides front range back levels' →
+same_sides : {front range back : List Node} {levels levels' : List Level} → AreSides front range back levels → AreSides front range back levels' →
     0 < length range → levels ≡ levels'
 same_sides (one_node few) (one_node few') some = refl
 same_sides (one_node few) (beside before hit after two cutting is_front is_back first last up) some = absurd (omega arith)

@@ -8,7 +8,8 @@ use Rattle.xet_roots.specs.Roots.{total_size, IsRoot, IsFileHash}
 use Rattle.xet_roots.proofs.Roots.Making.{total_size-append}
 use Rattle.binding.specs.Binding.{chunk_node, chunk_nodes}
 use Rattle.binding.proofs.Binding.Levels.{root_of_file_hash}
-use Rattle.range_proof.specs.RangeProof.{Sides, Proof, IsProofOf, IsTop, Rises, Shows, ShowsRoot, IsWellFormed, begin_of, file_size_of}
+use Rattle.level_nodes.specs.Level.{Level}
+use Rattle.range_proof.specs.RangeProof.{Proof, IsProofOf, IsTop, Rises, Shows, ShowsRoot, IsWellFormed, begin_of, file_size_of}
 use Rattle.range_proof.specs.Soundness.{AreChunksAt}
 use Rattle.range_proof.proofs.Parts.{map_part, sum_by-add}
 use Rattle.range_proof.proofs.Completeness.Climb.{rises, sizes_beside, few_levels, few_beside}
@@ -63,7 +64,7 @@ module _ (nodes : List Node) (first end : ℕ) (proof : Proof) (is_proof : IsPro
       let right = beside.1 in
       let whole = ap total_size (three_parts nodes first end is_proof.some) in
       let chunks = ap total_size is_proof.chunks in
-      omega (arith, total_size-append (take first nodes ++ range) (drop end nodes), total_size-append (take first nodes) range, sum_by-add (λ (s : Sides). total_size s.left) (λ (s : Sides). total_size s.right) proof.levels)
+      omega (arith, total_size-append (take first nodes ++ range) (drop end nodes), total_size-append (take first nodes) range, sum_by-add (λ (s : Level). total_size s.left) (λ (s : Level). total_size s.right) proof.levels)
 
   pub well_formed : length nodes < 2 ^ 64 → total_size nodes < 2 ^ 64 → IsWellFormed proof
   well_formed short small =

@@ -12,7 +12,8 @@ use Rattle.binding.specs.Binding.IsLevel.{lowest, above}
 use Rattle.binding.proofs.Binding.Texts.{hashes}
 use Rattle.binding.proofs.Binding.Messages.{each_front, each_back, each_contained, chunk_message, group_message, same_chunks, chunks_against_groups}
 use Rattle.binding.proofs.Binding.Levels.{each_chunk, each_group, top_of_chunks}
-use Rattle.range_proof.specs.RangeProof.{Sides, Proof, IsTop, HasHashes, file_size_of}
+use Rattle.level_nodes.specs.Level.{Level}
+use Rattle.range_proof.specs.RangeProof.{Proof, IsTop, HasHashes, file_size_of}
 use Rattle.range_proof.specs.Soundness.{AreChunksAt, IsGroupAbove, HasChunksAt}
 use Rattle.range_proof.proofs.Parts.{InThree, in_three, each_middle, map_part, sum_by-add}
 use Rattle.range_proof.proofs.Soundness.Descent.{lefts, rights, descend}
@@ -82,7 +83,7 @@ module _ (file : List (List ℕ)) (these : Message → Type 0) (proof : Proof) (
         size =
             let whole = ap total_size parts in
             let range_size = ap total_size range_is in
-            omega (arith, length_of_bytes file, total_size-append before (range ++ after), total_size-append range after, sum_by-add (λ (s : Sides). total_size s.left) (λ (s : Sides). total_size s.right) proof.levels);
+            omega (arith, length_of_bytes file, total_size-append before (range ++ after), total_size-append range after, sum_by-add (λ (s : Level). total_size s.left) (λ (s : Level). total_size s.right) proof.levels);
       }
 
   at_chunks : AllByRecursion (λ bytes. these (chunk_message bytes)) chunks → 0 < length chunks → AreChunksAt proof k chunks →

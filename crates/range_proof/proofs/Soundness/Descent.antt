@@ -16,7 +16,8 @@ use Rattle.binding.specs.Binding.IsLevel.{lowest, above}
 use Rattle.binding.proofs.Binding.Texts.{hashes, AllHashes, AllSizes, group_text_tells_nodes}
 use Rattle.binding.proofs.Binding.Messages.{each_append, each_contained, chunk_message, group_message, same_texts, groups_against_chunks}
 use Rattle.binding.proofs.Binding.Levels.{AllHashes-chunk_nodes, AllHashes-parents, AllHashes-level, AllHashes-groups, each_joined, each_chunk, each_group}
-use Rattle.range_proof.specs.RangeProof.{Sides, AreHashes, Rises, joined}
+use Rattle.level_nodes.specs.Level.{Level}
+use Rattle.range_proof.specs.RangeProof.{AreHashes, Rises, joined}
 use Rattle.range_proof.specs.Soundness.{IsGroupAbove}
 use Rattle.range_proof.specs.Soundness.IsGroupAbove.{here, above as further}
 use Rattle.range_proof.proofs.Parts.{in_three, each_middle, total_size-parents, AllSizes-total}
@@ -34,18 +35,18 @@ groups_from_texts (x ∷ groups) (y ∷ others) h fits k e =
     let tail = groups_from_texts groups others h.1 fits.1 k.1 tails in cc
 
 -- the sums of the sizes on the left sides, on the right sides, and on both
-abbrev pub lefts : List Sides → ℕ
+abbrev pub lefts : List Level → ℕ
 lefts levels = sum_by (λ sides. total_size sides.left) levels
 
-abbrev pub rights : List Sides → ℕ
+abbrev pub rights : List Level → ℕ
 rights levels = sum_by (λ sides. total_size sides.right) levels
 
-abbrev pub both : List Sides → ℕ
+abbrev pub both : List Level → ℕ
 both levels = sum_by (λ sides. total_size sides.left + total_size sides.right) levels
 
 -- the nodes that levels lead up from are on a level of the file, with these sizes before and after them. With a level
 -- above, the nodes are the same; with none, their hashes are.
-pub record Located (file : List (List ℕ)) (levels : List Sides) (nodes : List Node) : Type 0 where
+pub record Located (file : List (List ℕ)) (levels : List Level) (nodes : List Node) : Type 0 where
   pub level : List Node
   pub is_level : IsLevel (chunk_nodes file) level
   pub before : List Node
@@ -66,7 +67,7 @@ joined_parts first groups last left nodes right e =
 
 module _ (file : List (List ℕ)) (these : Message → Type 0) where
   -- one level down: the groups are those of the file, so their nodes are
-  step : (sides : Sides) (levels : List Sides) (nodes : List Node) (groups : List (List Node)) →
+  step : (sides : Level) (levels : List Level) (nodes : List Node) (groups : List (List Node)) →
       AllHashes (sides.left ++ nodes ++ sides.right) → total_size (sides.left ++ nodes ++ sides.right) < 2 ^ 64 → 0 < length nodes →
       Groups (sides.left ++ nodes ++ sides.right) groups →
       AllByRecursion (λ group. these (group_message group)) groups →
@@ -98,17 +99,17 @@ module _ (file : List (List ℕ)) (these : Message → Type 0) where
               same_hashes = refl;
               left =
                   let front = ap total_size own.is_front in
-                  omega (arith, total_size-parents own.first, total_size-append (joined own.first) sides.left, sum_by-cons (λ (s : Sides). total_size s.left) sides levels);
+                  omega (arith, total_size-parents own.first, total_size-append (joined own.first) sides.left, sum_by-cons (λ (s : Level). total_size s.left) sides levels);
               right =
                   let back = ap total_size own.is_back in
-                  omega (arith, total_size-parents own.last, total_size-append sides.right (joined own.last), sum_by-cons (λ (s : Sides). total_size s.right) sides levels);
+                  omega (arith, total_size-parents own.last, total_size-append sides.right (joined own.last), sum_by-cons (λ (s : Level). total_size s.right) sides levels);
               same_nodes = inr refl;
             })
         | inr collision ↦ inr collision
       ]
 
   -- all levels down
-  pub descend : (root : List ℕ) (size claimed : ℕ) → IsLevel (chunk_nodes file) ((root, size) ∷ []) → (levels : List Sides) (nodes : List Node) →
+  pub descend : (root : List ℕ) (size claimed : ℕ) → IsLevel (chunk_nodes file) ((root, size) ∷ []) → (levels : List Level) (nodes : List Node) →
       AllHashes nodes → AllByRecursion (λ sides. AreHashes sides.left) levels → AllByRecursion (λ sides. AreHashes sides.right) levels →
       total_size nodes + both levels < 2 ^ 64 → 0 < length nodes → ((group : List Node) → IsGroupAbove levels nodes group → these (group_message group)) →
       Rises levels nodes ((root, claimed) ∷ []) → Located file levels nodes ⊎ Collision these (HashedForRoot file)
@@ -128,7 +129,7 @@ module _ (file : List (List ℕ)) (these : Message → Type 0) where
       let groups = rises.0 in
       let cutting = rises.1 in
       let P : Node → Type 0 = λ node. IsHash node.0 in
-      let sum = sum_by-cons (λ (s : Sides). total_size s.left + total_size s.right) sides levels in
+      let sum = sum_by-cons (λ (s : Level). total_size s.left + total_size s.right) sides levels in
       let total = total_size-append (sides.left ++ nodes) sides.right in
       let total' = total_size-append sides.left nodes in
       let joined_total = ap total_size cutting.joined in

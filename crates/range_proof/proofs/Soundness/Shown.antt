@@ -11,7 +11,8 @@ use Rattle.binding.specs.Binding.HashedForFile.{below, root as of_root}
 use Rattle.binding.proofs.Binding.Texts.{AllHashes}
 use Rattle.binding.proofs.Binding.Messages.{same_message}
 use Rattle.binding.proofs.Binding.Levels.{AllHashes-parents, root_of_file_hash, IsHash-root, bytes_of-injective, Collision-more}
-use Rattle.range_proof.specs.RangeProof.{Sides, Proof, Rises, IsTop, ShowsRoot, Shows, HasHashes, file_size_of}
+use Rattle.level_nodes.specs.Level.{Level}
+use Rattle.range_proof.specs.RangeProof.{Proof, Rises, IsTop, ShowsRoot, Shows, HasHashes, file_size_of}
 use Rattle.range_proof.specs.Soundness.{AreChunksAt, CheckedForRoot, CheckedForFile, HasChunksAt}
 use Rattle.range_proof.specs.Soundness.CheckedForRoot.{chunk as of_chunk, group as of_group}
 use Rattle.range_proof.specs.Soundness.CheckedForFile.{below as checked_below, top as of_top}
@@ -32,7 +33,7 @@ some_chunks_of_file [] salt hash is_hash some = absurd (some is_hash)
 some_chunks_of_file (bytes ∷ file) salt hash is_hash some = omega arith
 
 -- the top's hash is a hash
-AllHashes-top : (levels : List Sides) (nodes top : List Node) → AllHashes nodes → Rises levels nodes top → AllHashes top
+AllHashes-top : (levels : List Level) (nodes top : List Node) → AllHashes nodes → Rises levels nodes top → AllHashes top
 AllHashes-top [] nodes top h rises = subst AllHashes rises h
 AllHashes-top (sides ∷ levels) nodes top h rises = AllHashes-top levels (map parent rises.0) top (AllHashes-parents rises.0) rises.2
 

@@ -2,7 +2,8 @@
 use Rattle.std.specs.Prelude.{◌≡◌, ℕ, ◌-◌, ◌^◌, ◌<◌, ◌≤◌, List, [], ◌∷◌, ◌++◌, length, map, take, drop, slice_index_or}
 use Rattle.xet_roots.specs.Groups.{Node, Groups}
 use Rattle.xet_roots.specs.Roots.{total_size, parent}
-use Rattle.range_proof.specs.RangeProof.{Sides, AreSides, joined}
+use Rattle.level_nodes.specs.Level.{Level}
+use Rattle.range_proof.specs.RangeProof.{AreSides, joined}
 use Rattle.range_proof.specs.Steps.Places.{ArePlaces, AreBounds}
 
 -- a level has two nodes or more, and the bounds are those of its groups
@@ -28,7 +29,7 @@ pub record IsKept (levels : List (List Node)) (top : List Node) (places : List �
   pub fits : total_size (lowest levels top) < 2 ^ 64
 
 -- the sides of a range of nodes on their level, and the range of the groups that it lies in
-pub record IsBeside (nodes : List Node) (groups : List (List Node)) (first end : ℕ) (sides : Sides) (from to : ℕ) : Type 0 where
+pub record IsBeside (nodes : List Node) (groups : List (List Node)) (first end : ℕ) (sides : Level) (from to : ℕ) : Type 0 where
   pub order : from < to
   pub within : to ≤ length groups
   pub left_is : take first nodes ≡ joined (take from groups) ++ sides.left
@@ -37,5 +38,5 @@ pub record IsBeside (nodes : List Node) (groups : List (List Node)) (first end :
   pub short_right : length sides.right < length (slice_index_or groups (to - 1) [])
 
 -- the sides of a range of nodes on their level and those above
-abbrev pub AreSidesOf : List Node → ℕ → ℕ → List Sides → Type 0
+abbrev pub AreSidesOf : List Node → ℕ → ℕ → List Level → Type 0
 AreSidesOf nodes first end levels = AreSides (take first nodes) (take (end - first) (drop first nodes)) (drop end nodes) levels

@@ -1,29 +1,30 @@
 -- A JSON value describes at most one subtree. The parts of a well-formed subtree break no rule, so its object describes
 -- it.
-use Rattle.std.proofs.Common.{◌≡◌, ℕ, ◌+◌, ◌<◌, ◌^◌, Bool, List, [], ◌∷◌, ◌++◌, map, Some, None, codes, refl, sym, ap, subst, ◌∙◌, arith}
+use Rattle.std.proofs.Common.{◌≡◌, ℕ, ◌<◌, ◌^◌, Bool, List, [], ◌∷◌, ◌++◌, length, map, codes, refl, sym, ap, subst, ◌∙◌, arith}
 use Rattle.std.specs.List.{AllZip, AllByRecursion}
 use Rattle.std.specs.Str.{str_to_ascii_lowercase}
 use Rattle.std.proofs.lemmas.List.{length-map}
-use Rattle.std.proofs.lemmas.List.Sums.{sum_by-cons}
-use Rattle.serde_json.specs.Data.{Data, null, boolean, number, string, array, object}
-use Rattle.serde_json.specs.Find.{get, as_object}
+use Rattle.serde_json.specs.Data.{Data}
 use Rattle.serde_json.specs.View.{items_of}
 use Rattle.xet_hash.specs.Hash.{IsHash, IsHexText, hex_text}
 use Rattle.xet_roots.specs.Groups.{Node}
-use Rattle.subtree_levels.specs.Levels.{Level, node_count, levels_size}
+use Rattle.xet_roots.specs.Roots.{total_size}
+use Rattle.subtree_levels.specs.Levels.{Level, levels_size}
 use Rattle.subtree_levels.specs.Subtree.{Subtree}
 use Rattle.subtree_levels.specs.WellFormed.{IsWellFormed}
-use Rattle.xet_merkle.specs.FlatLevels.{count_of, flat_nodes, levels_of, IsFlat}
-use Rattle.xet_merkle.specs.SubtreeJson.{node_json, counts_json, number_json, subtree_json}
-use Rattle.xet_merkle.specs.JsonParts.{ReadsNode, ReadsCounts, HasMembers, ReadsParts, BreaksPartRule, whole}
+use Rattle.level_nodes.specs.FlatLevels.{count_of, flat_nodes, IsFlat}
+use Rattle.level_nodes.specs.NodeJson.{node_json, number_json, ReadsNode, whole}
+use Rattle.level_nodes.proofs.FlatOf.{one_flat, IsFlat-length}
+use Rattle.level_nodes.proofs.Json.{items_of-injective, no_member, one_list, one_node, reads_nodes}
+use Rattle.xet_merkle.specs.SubtreeJson.{counts_json, subtree_json}
+use Rattle.xet_merkle.specs.JsonParts.{ReadsCounts, HasMembers, ReadsParts, BreaksPartRule}
 use Rattle.xet_merkle.specs.JsonParts.BreaksPartRule.{no_object, no_members, no_nodes, no_levels}
 use Rattle.subtree_levels.specs.LevelRules.{BreaksLevelRule}
-use Rattle.xet_merkle.specs.JsonRules.{Reads, count_sum, BreaksValueRule, BreaksRule}
+use Rattle.xet_merkle.specs.JsonRules.{Reads, BreaksValueRule, BreaksRule}
 use Rattle.xet_merkle.specs.JsonRules.BreaksValueRule.{no_level, wrong_counts, sizes_pass, of_levels}
 use Rattle.xet_merkle.specs.JsonRules.BreaksRule.{of_parts, of_value}
-use Rattle.xet_merkle.proofs.Levels.Flat.{levels_of-flat, levels_of-IsFlat, node_count-flat, levels_size-flat}
+use Rattle.xet_merkle.proofs.Levels.Flat.{levels_size-flat}
 use Rattle.subtree_levels.proofs.Rules.LevelRules.{levels_kept}
-use Rattle.xet_merkle.proofs.Json.Reading.{items_of-injective}
 
 -- the words of each node are those of a hash
 abbrev pub AreHashes : List Node → Type 0
@@ -35,43 +36,19 @@ AreHashes-append (node ∷ front) back h k = (h.0, AreHashes-append front back h
 
 -- ---- the rules of a value
 
-count_sum-levels : (levels : List Level) → count_sum (map count_of levels) ≡ node_count levels
-count_sum-levels [] = refl
-count_sum-levels (level ∷ levels) =
-    let rest = count_sum-levels levels in
-    omega (arith, sum_by-cons (λ (c : ℕ × ℕ). c.0 + c.1) (count_of level) (map count_of levels))
-
-value_kept : (subtree : Subtree) (rule : ℕ) → IsWellFormed subtree → levels_size subtree.levels < 2 ^ 64 →
-    BreaksValueRule subtree.at_start subtree.at_end (map count_of subtree.levels) (flat_nodes subtree.levels) rule → ⊥
-value_kept subtree rule h fits (no_level none) =
-    let some = h.some_level in omega (arith, length-map subtree.levels count_of)
-value_kept subtree rule h fits (wrong_counts some wrong) = wrong (count_sum-levels subtree.levels ∙ sym (node_count-flat subtree.levels))
-value_kept subtree rule h fits (sizes_pass some sum past) = let size = levels_size-flat subtree.levels in omega arith
-value_kept subtree rule h fits (of_levels some sum small broken) =
+value_kept : (subtree : Subtree) (counts : List (ℕ × ℕ)) (nodes : List Node) (rule : ℕ) → IsFlat counts nodes subtree.levels [] → IsWellFormed subtree →
+    levels_size subtree.levels < 2 ^ 64 → BreaksValueRule subtree.at_start subtree.at_end counts nodes rule → ⊥
+value_kept subtree counts nodes rule flat h fits (no_level none) =
+    let some = h.some_level in let count = ap length flat.counts_are in omega (arith, length-map subtree.levels count_of)
+value_kept subtree counts nodes rule flat h fits (wrong_counts some wrong) =
+    wrong (let len = IsFlat-length counts nodes subtree.levels [] flat in omega arith)
+value_kept subtree counts nodes rule flat h fits (sizes_pass some sum past) =
+    let size = ap total_size flat.nodes_are ∙ levels_size-flat subtree.levels in omega arith
+value_kept subtree counts nodes _ flat h fits (of_levels {rule} {levels} some other small broken) =
     levels_kept subtree.at_start subtree.at_end subtree.levels rule h
-    (subst (λ (l : List Level). BreaksLevelRule subtree.at_start subtree.at_end l rule) (levels_of-flat subtree.levels) broken)
+    (subst (λ (l : List Level). BreaksLevelRule subtree.at_start subtree.at_end l rule) (one_flat counts nodes levels subtree.levels [] [] other flat).0 broken)
 
 -- ---- one subtree for a value
-
-pub no_member : (json : Data) (name : List ℕ) (member : Data) → as_object json ≡ None → get name json ≡ Some member → ⊥
-no_member null name member e found = let clash : ⊥ = cc in clash
-no_member (boolean b) name member e found = let clash : ⊥ = cc in clash
-no_member (number n) name member e found = let clash : ⊥ = cc in clash
-no_member (string s) name member e found = let clash : ⊥ = cc in clash
-no_member (array items) name member e found = let clash : ⊥ = cc in clash
-no_member (object entries) name member e found = let clash : ⊥ = cc in clash
-
-pub one_list : {X : Type 0} (Reads : Data → X → Type 0) → ((value : Data) (x y : X) → Reads value x → Reads value y → x ≡ y) →
-    (values : List Data) (xs ys : List X) → AllZip Reads values xs → AllZip Reads values ys → xs ≡ ys
-one_list Reads one [] [] [] h k = refl
-one_list Reads one [] [] (y ∷ ys) h k = elim k [ ]
-one_list Reads one [] (x ∷ xs) ys h k = elim h [ ]
-one_list Reads one (value ∷ values) [] ys h k = elim h [ ]
-one_list Reads one (value ∷ values) (x ∷ xs) [] h k = elim k [ ]
-one_list Reads one (value ∷ values) (x ∷ xs) (y ∷ ys) h k =
-    let head = one value x y h.0 k.0 in
-    let tail = one_list Reads one values xs ys h.1 k.1 in
-    λ i. head i ∷ tail i
 
 one_counts : (value : Data) (a b : ℕ × ℕ) → ReadsCounts value a → ReadsCounts value b → a ≡ b
 one_counts value a b h k =
@@ -84,13 +61,6 @@ one_counts value a b h k =
     λ i. (first i, second i)
 
 module _ (apart : (a b : List ℕ) → IsHash a → IsHash b → hex_text a ≡ hex_text b → a ≡ b) where
-  pub one_node : (value : Data) (a b : Node) → ReadsNode value a → ReadsNode value b → a ≡ b
-  one_node value a b h k =
-      let text : h.text ≡ k.text = cc (sym h.text_is ∙ k.text_is) in
-      let words = apart a.0 b.0 h.is_hash k.is_hash (h.reads ∙ ap str_to_ascii_lowercase text ∙ sym k.reads) in
-      let size : a.1 ≡ b.1 = cc (sym h.size_is ∙ k.size_is) in
-      λ i. (words i, size i)
-
   -- the parts that a value says
   record SameParts (start other_start end other_end : Bool) (counts other_counts : List (ℕ × ℕ)) (nodes other_nodes : List Node) : Type 0 where
     same_start : start ≡ other_start
@@ -117,17 +87,16 @@ module _ (apart : (a b : List ℕ) → IsHash a → IsHash b → hex_text a ≡ 
         same_end = same.1;
         same_counts = one_list ReadsCounts one_counts k.level_values counts other_counts
             (subst (λ (values : List Data). AllZip ReadsCounts values counts) same.2 h.counts_are) k.counts_are;
-        same_nodes = one_list ReadsNode one_node k.node_values nodes other_nodes
+        same_nodes = one_list ReadsNode (one_node apart) k.node_values nodes other_nodes
             (subst (λ (values : List Data). AllZip ReadsNode values nodes) same.3 h.nodes_are) k.nodes_are;
       }
 
   pub one_subtree : (json : Data) (a b : Subtree) → Reads json a → Reads json b → a ≡ b
   one_subtree json a b h k =
       let same = one_parts json a.at_start a.at_end b.at_start b.at_end h.counts k.counts h.nodes k.nodes h.parts k.parts in
-      let levels = sym (levels_of-IsFlat h.counts h.nodes a.levels h.flat)
-      ∙ ap (λ (counts : List (ℕ × ℕ)). levels_of counts h.nodes) same.same_counts
-      ∙ ap (levels_of k.counts) same.same_nodes
-      ∙ levels_of-IsFlat k.counts k.nodes b.levels k.flat in
+      let flat = subst (λ (counts : List (ℕ × ℕ)). IsFlat counts k.nodes a.levels []) same.same_counts
+      (subst (λ (nodes : List Node). IsFlat h.counts nodes a.levels []) same.same_nodes h.flat) in
+      let levels = (one_flat k.counts k.nodes a.levels b.levels [] [] flat k.flat).0 in
       λ i. record { at_start = same.same_start i; at_end = same.same_end i; levels = levels i }
 
   -- ---- parts that a well formed subtree has
@@ -153,36 +122,19 @@ module _ (apart : (a b : List ℕ) → IsHash a → IsHash b → hex_text a ≡ 
         kept rule (subst (λ (n : List Node). BreaksValueRule start end counts n rule) same.same_nodes third)
 
   pub Reads-parts : (json : Data) (subtree : Subtree) (counts : List (ℕ × ℕ)) (nodes : List Node) → ReadsParts json subtree.at_start subtree.at_end counts nodes →
-      IsFlat counts nodes subtree.levels → IsWellFormed subtree → levels_size subtree.levels < 2 ^ 64 → Reads json subtree
+      IsFlat counts nodes subtree.levels [] → IsWellFormed subtree → levels_size subtree.levels < 2 ^ 64 → Reads json subtree
   Reads-parts json subtree counts nodes parts flat well_formed fits = record {
     counts = counts;
     nodes = nodes;
     parts = parts;
     flat = flat;
-    kept = all_kept json subtree.at_start subtree.at_end counts nodes parts (λ rule broken.
-        value_kept subtree rule well_formed fits
-        (subst (λ (n : List Node). BreaksValueRule subtree.at_start subtree.at_end (map count_of subtree.levels) n rule) flat.nodes_are
-        (subst (λ (c : List (ℕ × ℕ)). BreaksValueRule subtree.at_start subtree.at_end c nodes rule) flat.counts_are broken)));
+    kept = all_kept json subtree.at_start subtree.at_end counts nodes parts (λ rule broken. value_kept subtree counts nodes rule flat well_formed fits broken);
   }
 
   -- ---- the object of a subtree
 
   module _ (digits : (words : List ℕ) → IsHash words → IsHexText (hex_text words))
       (lowercase : (words : List ℕ) → IsHash words → str_to_ascii_lowercase (hex_text words) ≡ hex_text words) where
-    pub reads_nodes : (nodes : List Node) → AreHashes nodes → AllZip ReadsNode (map node_json nodes) nodes
-    reads_nodes [] h = tt
-    reads_nodes (node ∷ nodes) h = (
-      record {
-        text = hex_text node.0;
-        text_is = refl;
-        are_digits = digits node.0 h.0;
-        reads = sym (lowercase node.0 h.0);
-        is_hash = h.0;
-        size_is = refl;
-      },
-      reads_nodes nodes h.1,
-    )
-
     reads_counts : (counts : List (ℕ × ℕ)) → AllZip ReadsCounts (map counts_json counts) counts
     reads_counts [] = tt
     reads_counts (count ∷ counts) = (
@@ -191,21 +143,21 @@ module _ (apart : (a b : List ℕ) → IsHash a → IsHash b → hex_text a ≡ 
     )
 
     object_members : (subtree : Subtree) →
-        HasMembers (subtree_json subtree) subtree.at_start subtree.at_end (map counts_json (map count_of subtree.levels)) (map node_json (flat_nodes subtree.levels))
+        HasMembers (subtree_json subtree) subtree.at_start subtree.at_end (map counts_json (map count_of subtree.levels)) (map node_json (flat_nodes subtree.levels []))
     object_members subtree = record { start_is = refl; end_is = refl; levels_are = refl; nodes_are = refl }
 
-    object_parts : (subtree : Subtree) → AreHashes (flat_nodes subtree.levels) →
-        ReadsParts (subtree_json subtree) subtree.at_start subtree.at_end (map count_of subtree.levels) (flat_nodes subtree.levels)
+    object_parts : (subtree : Subtree) → AreHashes (flat_nodes subtree.levels []) →
+        ReadsParts (subtree_json subtree) subtree.at_start subtree.at_end (map count_of subtree.levels) (flat_nodes subtree.levels [])
     object_parts subtree h = record {
       level_values = map counts_json (map count_of subtree.levels);
-      node_values = map node_json (flat_nodes subtree.levels);
+      node_values = map node_json (flat_nodes subtree.levels []);
       members = object_members subtree;
       counts_are = reads_counts (map count_of subtree.levels);
-      nodes_are = reads_nodes (flat_nodes subtree.levels) h;
+      nodes_are = reads_nodes digits lowercase (flat_nodes subtree.levels []) h;
     }
 
-    pub Reads-object : (subtree : Subtree) → AreHashes (flat_nodes subtree.levels) → IsWellFormed subtree → levels_size subtree.levels < 2 ^ 64 →
+    pub Reads-object : (subtree : Subtree) → AreHashes (flat_nodes subtree.levels []) → IsWellFormed subtree → levels_size subtree.levels < 2 ^ 64 →
         Reads (subtree_json subtree) subtree
     Reads-object subtree hashes well_formed fits =
-        Reads-parts (subtree_json subtree) subtree (map count_of subtree.levels) (flat_nodes subtree.levels) (object_parts subtree hashes)
+        Reads-parts (subtree_json subtree) subtree (map count_of subtree.levels) (flat_nodes subtree.levels []) (object_parts subtree hashes)
         (record { counts_are = refl; nodes_are = refl }) well_formed fits

@@ -7,9 +7,10 @@ ghost use Rattle.std.specs.Prelude.{◌≡◌, ◌⊎◌, ℕ, Bool, List, map, 
 ghost use Rattle.std.specs.List.{AllZip};
 ghost use Rattle.xet_roots.specs.Groups.{Node};
 ghost use Rattle.xet_roots.specs.declared.error.CoreError.TheVariants.{OutOfMemory, InvalidJson};
-ghost use Rattle.xet_merkle.specs.JsonParts.{whole, ReadsCounts, HasMembers, ReadsParts, BreaksPartRule};
+ghost use Rattle.level_nodes.specs.NodeJson.{whole};
+ghost use Rattle.xet_merkle.specs.JsonParts.{ReadsCounts, HasMembers, ReadsParts, BreaksPartRule};
 
-use crate::node_json::{array_member, read_nodes};
+use level_nodes::node_json::{array_member, read_nodes};
 use serde_json::Value;
 use std::alloc::Allocator;
 use xet_roots::error::CoreError;

@@ -1,5 +1,5 @@
 use Rattle.std.proofs.Common.{◌≡◌, map, take}
-use Rattle.range_proof.specs.FlatProof.{count_of}
+use Rattle.level_nodes.specs.FlatLevels.{count_of}
 use Rattle.range_proof.proofs.flat.counts_of.Given as goal
 
 abbrev pub invariant-counts : goal.invariant-counts

@@ -1,6 +1,6 @@
 use Rattle.std.proofs.Common.{inl, inr}
 use Rattle.xet_roots.proofs.Results.{passed_on}
-use Rattle.xet_merkle.proofs.Json.Reading.{read_next, read_each}
+use Rattle.level_nodes.proofs.Json.{read_next, read_each}
 use Rattle.range_proof.specs.ProofJson.{ReadsSides}
 use Rattle.range_proof.proofs.json.read_levels.Goals as goal
 

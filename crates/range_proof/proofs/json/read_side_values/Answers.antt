@@ -1,5 +1,5 @@
 use Rattle.std.proofs.Common.{sym}
-use Rattle.xet_merkle.proofs.Json.Reading.{array-of}
+use Rattle.level_nodes.proofs.Json.{array-of}
 use Rattle.range_proof.proofs.json.read_side_values.Goals as goal
 
 pub returns-clause-some : goal.returns-clause-some

@@ -3,7 +3,7 @@ use Rattle.std.specs.Prelude.{MatchOption}
 use Rattle.xet_roots.specs.Groups.{Node}
 use Rattle.xet_roots.specs.Roots.{total_size, parent}
 use Rattle.xet_roots.specs.Steps.Scan.{AreParents}
-use Rattle.range_proof.specs.RangeProof.{Sides}
+use Rattle.level_nodes.specs.Level.{Level}
 use Rattle.range_proof.proofs.Opening.{IsRisen-none, IsRisen-more, HasTop-all, level_fits}
 use Rattle.range_proof.proofs.tops.top.Goals as goal
 
@@ -12,16 +12,16 @@ levels-init g c =
     IsRisen-none c.args.chunks.now c.args.levels.now c.in_ok-nodes.nodes.items
     (c.in_ok-nodes.ensures.items_if_clones_equal (λ x y e i. (e.0 i, e.1 i)))
 
-pub parents-requires-clause-few : goal.parents-requires-clause-few
-parents-requires-clause-few g c =
+pub parents_between-requires-clause-few : goal.parents_between-requires-clause-few
+parents_between-requires-clause-few g c =
     let left = c.requires.few_left c.levels.level-index c.level-item.result c.levels-test.true in
     let right = c.requires.few_right c.levels.level-index c.level-item.result c.levels-test.true in
-    let here_left = ap (λ (sides : Sides). length sides.left) c.level-item.is in
-    let here_right = ap (λ (sides : Sides). length sides.right) c.level-item.is in
+    let here_left = ap (λ (sides : Level). length sides.left) c.level-item.is in
+    let here_right = ap (λ (sides : Level). length sides.right) c.level-item.is in
     omega arith
 
-pub parents-requires-clause-fits : goal.parents-requires-clause-fits
-parents-requires-clause-fits g c =
+pub parents_between-requires-clause-fits : goal.parents_between-requires-clause-fits
+parents_between-requires-clause-fits g c =
     let level = c.level-item.result in
     let size = level_fits c.args.chunks.now c.args.levels.now c.levels.level-index c.levels.nodes.items level c.levels-test.true c.level-item.is c.levels.invariant in
     let fits = c.requires.fits in

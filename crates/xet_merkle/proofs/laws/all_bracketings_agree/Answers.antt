@@ -3,7 +3,8 @@ use Rattle.serde_json.specs.Data.{Data, array}
 use Rattle.serde_json.specs.View.{items_of}
 use Rattle.serde_json.specs.Written.{compact_text, has_float}
 use Rattle.subtree_levels.specs.Subtree.{Subtree}
-use Rattle.xet_merkle.specs.SubtreeJson.{subtree_json, counts_json, node_json}
+use Rattle.level_nodes.specs.NodeJson.{node_json, nodes_json}
+use Rattle.xet_merkle.specs.SubtreeJson.{subtree_json, counts_json}
 use Rattle.xet_merkle.specs.FlatLevels.{flat_nodes, count_of}
 use Rattle.xet_merkle.proofs.Merging.Ranges.{same_canonical}
 use Rattle.xet_merkle.proofs.laws.all_bracketings_agree.Goals as goal
@@ -24,6 +25,6 @@ returns-clause-texts c = λ a b nodes start end x y. ap (λ (s : Subtree). compa
 pub returns-clause-no_float : goal.returns-clause-no_float
 returns-clause-no_float c = λ subtree.
     let levels = no_float counts_json (λ count. refl) (map count_of subtree.levels) in
-    let nodes = no_float node_json (λ node. refl) (flat_nodes subtree.levels) in
-    neither (has_float (array (items_of (map counts_json (map count_of subtree.levels))))) (has_float (array (items_of (map node_json (flat_nodes subtree.levels)))) || false)
-    levels (neither (has_float (array (items_of (map node_json (flat_nodes subtree.levels))))) false nodes refl)
+    let nodes = no_float node_json (λ node. refl) (flat_nodes subtree.levels []) in
+    neither (has_float (array (items_of (map counts_json (map count_of subtree.levels))))) (has_float (nodes_json (flat_nodes subtree.levels [])) || false)
+    levels (neither (has_float (nodes_json (flat_nodes subtree.levels []))) false nodes refl)

@@ -1,26 +1,28 @@
 //! The JSON form of a subtree.
 
-ghost use Rattle.std.specs.Prelude.{◌≡◌, ℕ, Bool, ◌^◌, ◌<◌, ◌⊎◌, ◌↔◌, ◌++◌, map, length, IfOk, IfErr, SomeIff, IsTrue};
+ghost use Rattle.std.specs.Prelude.{◌≡◌, ℕ, Bool, ◌^◌, ◌<◌, ◌⊎◌, ◌↔◌, [], map, length, IfOk, IfErr, IsTrue};
 ghost use Rattle.std.specs.List.{AllByRecursion};
 ghost use Rattle.serde_json.specs.Data.{array};
 ghost use Rattle.serde_json.specs.View.{view, items_of};
 ghost use Rattle.xet_hash.specs.Hash.{IsHash};
 ghost use Rattle.xet_roots.specs.Groups.{Node};
 ghost use Rattle.xet_roots.specs.Roots.{total_size};
-ghost use Rattle.subtree_levels.specs.Levels.{levels_size};
+ghost use Rattle.level_nodes.specs.FlatLevels.{IsFlat, count_of, count_sum, flat_nodes};
+ghost use Rattle.level_nodes.specs.NodeJson.{nodes_json};
 ghost use Rattle.subtree_levels.specs.WellFormed.{IsWellFormed};
-ghost use Rattle.xet_merkle.specs.FlatLevels.{IsFlat, count_of, flat_nodes, levels_of};
-ghost use Rattle.xet_merkle.specs.JsonRules.{count_sum, Reads, BreaksValueRule, BreaksRule};
+ghost use Rattle.xet_merkle.specs.JsonRules.{Reads, BreaksValueRule, BreaksRule};
 ghost use Rattle.xet_roots.specs.declared.error.CoreError.TheVariants.{InvalidJson};
-ghost use Rattle.xet_merkle.specs.SubtreeJson.{node_json, counts_json, subtree_object, subtree_json};
+ghost use Rattle.xet_merkle.specs.SubtreeJson.{counts_json, subtree_object, subtree_json};
+ghost use Rattle.xet_merkle.specs.Steps.FlatMaking.{IsMadeOf};
 
 use super::MerkleHashSubtree;
-use crate::merkle_hash_subtree::json_parts::{Parts, read_parts};
-use crate::node_json::with_nodes;
+use crate::merkle_hash_subtree::json_parts::read_parts;
+use level_nodes::flat::{Cut, count_of, count_sum, cut_levels};
+use level_nodes::levels::LevelNodes;
+use level_nodes::node_json::with_nodes;
 use serde_json::{Value, json};
 use std::alloc::{AllocError, Allocator, Global};
 use subtree_levels::level_rules::broken_rule;
-use subtree_levels::levels::LevelNodes;
 use xet_hash::laws::{hex_text_is_lowercase_digits, hex_text_tells_hashes_apart};
 use xet_roots::error::CoreError;
 use xet_roots::groups::{Node, total_size};
@@ -29,7 +31,8 @@ use xet_roots::groups::{Node, total_size};
 fn count_to_json<A: Allocator>(alloc: Global, level: &LevelNodes<A>) -> Result<Value, AllocError>
     ensures { IfOk result (λ value. view value ≡ counts_json (count_of level.now)) }
 {
-    json!(in alloc; [level.left().len(), level.right().len()])
+    let (left, right) = count_of(level);
+    json!(in alloc; [left, right])
 }
 
 // Returns the numbers of left and right nodes of all levels.
@@ -48,8 +51,8 @@ fn counts_to_json<A: Allocator>(
 
 // Returns the nodes of all levels: the left ones, lowest level first, then the right ones, highest level first.
 fn nodes_to_json<A: Allocator>(alloc: Global, levels: &[LevelNodes<A>]) -> Result<Value, AllocError>
-    ensures json { IfOk result (λ value. view value ≡ array (items_of (map node_json (flat_nodes levels.now)))) }
-    ensures hashes { IfOk result (λ _. AllByRecursion (λ node. IsHash node.0) (flat_nodes levels.now)) }
+    ensures json { IfOk result (λ value. view value ≡ nodes_json (flat_nodes levels.now [])) }
+    ensures hashes { IfOk result (λ _. AllByRecursion (λ node. IsHash node.0) (flat_nodes levels.now [])) }
 {
     let mut values = Vec::new(alloc);
     'lefts: for level in levels {
@@ -76,17 +79,6 @@ fn object_of(
     json!(in alloc; {"at_end": at_end, "at_start": at_start, "levels": levels, "nodes": nodes})
 }
 
-// Returns the sum of all counts, if it is at most `usize::MAX`.
-fn count_sum(counts: &[(usize, usize)]) -> Option<usize>
-    ensures { SomeIff result (count_sum counts.now < 2 ^ 64) (count_sum counts.now) }
-{
-    let mut sum = 0usize;
-    'sum: for (left, right) in counts {
-        sum = sum.checked_add(*left)?.checked_add(*right)?;
-    }
-    Some(sum)
-}
-
 // Returns whether counts add up to a number of nodes.
 fn add_up(counts: &[(usize, usize)], len: usize) -> bool
     ensures { IsTrue result ↔ (count_sum counts.now ≡ len) }
@@ -94,43 +86,22 @@ fn add_up(counts: &[(usize, usize)], len: usize) -> bool
     count_sum(counts) == Some(len)
 }
 
-// Returns the sum of the sizes of flat lists. Fails unless the lists keep the rules 5 to 7.
-fn flat_size(counts: &[(usize, usize)], nodes: &[Node]) -> Result<u64, CoreError>
+// Returns the sum of the sizes of flat lists, or the lowest rule from 5 to 7 that they break.
+fn flat_size(counts: &[(usize, usize)], nodes: &[Node]) -> Result<u64, u8>
     ensures keeps { IfOk result (λ size. (0 < length counts.now) × (count_sum counts.now ≡ length nodes.now)
         × (size ≡ total_size nodes.now) × (size < 2 ^ 64)) }
-    ensures breaks { IfErr result (λ e. (rule : ℕ) × (e ≡ InvalidJson rule)
-        × ((at_start at_end : Bool) → BreaksValueRule at_start at_end counts.now nodes.now rule)) }
+    ensures breaks { IfErr result (λ rule. (at_start at_end : Bool) → BreaksValueRule at_start at_end counts.now nodes.now rule) }
 {
     if counts.is_empty() {
-        return Err(CoreError::InvalidJson(5));
+        return Err(5);
     }
     if !add_up(counts, nodes.len()) {
-        return Err(CoreError::InvalidJson(6));
+        return Err(6);
     }
     match total_size(nodes) {
         Some(size) => Ok(size),
-        None => Err(CoreError::InvalidJson(7)),
+        None => Err(7),
     }
-}
-
-// Cuts a list of nodes into levels with these counts.
-fn cut_levels<A: Allocator + Clone>(
-    alloc: A,
-    counts: &[(usize, usize)],
-    nodes: &[Node],
-) -> Result<Vec<LevelNodes<A>, A>, AllocError>
-    requires { count_sum counts.now ≡ length nodes.now }
-    ensures { IfOk result (λ levels. levels.items ≡ levels_of counts.now nodes.now) }
-{
-    let mut levels = Vec::with_capacity(alloc.clone()?, counts.len())?;
-    let mut rest = nodes;
-    'levels: for count in counts {
-        let (left, after) = rest.split_at(count.0);
-        let (inner, right) = after.split_at(after.len() - count.1);
-        levels.push(LevelNodes::copied(alloc.clone()?, left, right)?)?;
-        rest = inner;
-    }
-    Ok(levels)
 }
 
 impl<A: Allocator + Clone> MerkleHashSubtree<A> {
@@ -165,7 +136,16 @@ impl<A: Allocator + Clone> MerkleHashSubtree<A> {
         // A law of hex texts, for the clause `reads`.
         hex_text_tells_hashes_apart();
         let parts = read_parts(alloc.clone()?, value)?;
-        Ok(Self::from_parts(alloc, parts)?)
+        match Self::from_lists(
+            alloc,
+            parts.at_start,
+            &parts.counts,
+            &parts.nodes,
+            parts.at_end,
+        )? {
+            Ok(subtree) => Ok(subtree),
+            Err(rule) => Err(CoreError::InvalidJson(rule)),
+        }
     }
 
     /// Makes a subtree from marks and flat lists. `counts` has the numbers of left and right nodes of each level, from
@@ -184,44 +164,37 @@ impl<A: Allocator + Clone> MerkleHashSubtree<A> {
     ) -> Result<Self, CoreError>
         ensures start { IfOk result (λ subtree. subtree.at_start ≡ at_start) }
         ensures end { IfOk result (λ subtree. subtree.at_end ≡ at_end) }
-        ensures flat { IfOk result (λ subtree. IsFlat counts.items nodes.items subtree.levels) }
+        ensures flat { IfOk result (λ subtree. IsFlat counts.items nodes.items subtree.levels []) }
         ensures well_formed { IfOk result IsWellFormed }
         ensures errors { IfErr result (λ e. (e ≡ CoreError.OutOfMemory) ⊎ ((rule : ℕ) × (e ≡ InvalidJson rule)
             × BreaksValueRule at_start at_end counts.items nodes.items rule)) }
     {
-        Self::from_parts(
-            alloc,
-            Parts {
-                at_start,
-                at_end,
-                counts,
-                nodes,
-            },
-        )
+        match Self::from_lists(alloc, at_start, &counts, &nodes, at_end)? {
+            Ok(subtree) => Ok(subtree),
+            Err(rule) => Err(CoreError::InvalidJson(rule)),
+        }
     }
 
-    // Makes the subtree of these parts. Fails with the lowest rule from 5 to 13 that they break.
-    fn from_parts(alloc: A, parts: Parts<A>) -> Result<Self, CoreError>
-        ensures start { IfOk result (λ subtree. subtree.at_start ≡ parts.at_start) }
-        ensures end { IfOk result (λ subtree. subtree.at_end ≡ parts.at_end) }
-        ensures flat { IfOk result (λ subtree. IsFlat parts.counts.items parts.nodes.items subtree.levels) }
-        ensures well_formed { IfOk result IsWellFormed }
-        ensures fits { IfOk result (λ subtree. levels_size subtree.levels < 2 ^ 64) }
-        ensures errors { IfErr result (λ e. (e ≡ CoreError.OutOfMemory) ⊎ ((rule : ℕ) × (e ≡ InvalidJson rule)
-            × BreaksValueRule parts.at_start parts.at_end parts.counts.items parts.nodes.items rule)) }
+    // Makes a subtree from marks and flat lists, or returns the lowest rule from 5 to 13 that they break.
+    fn from_lists(
+        alloc: A,
+        at_start: bool,
+        counts: &[(usize, usize)],
+        nodes: &[Node],
+        at_end: bool,
+    ) -> Result<Result<Self, u8>, AllocError>
+        ensures made { IfOk result (λ made. IfOk made (IsMadeOf at_start at_end counts.now nodes.now)) }
+        ensures broken { IfOk result (λ made. IfErr made (BreaksValueRule at_start at_end counts.now nodes.now)) }
     {
-        let Parts {
-            at_start,
-            at_end,
-            counts,
-            nodes,
-        } = parts;
-        let total_size = flat_size(&counts, &nodes)?;
-        let levels = cut_levels(alloc, &counts, &nodes)?;
+        let total_size = match flat_size(counts, nodes) {
+            Ok(size) => size,
+            Err(rule) => return Ok(Err(rule)),
+        };
+        let Cut { levels, .. } = cut_levels(alloc, counts, nodes)?;
         if let Some(rule) = broken_rule(&levels, at_start, at_end) {
-            return Err(CoreError::InvalidJson(rule));
+            return Ok(Err(rule));
         }
-        Ok(Self::from_levels(levels, at_start, at_end, total_size)?)
+        Ok(Ok(Self::from_levels(levels, at_start, at_end, total_size)?))
     }
 }
 

@@ -1,6 +1,6 @@
 use Rattle.std.proofs.Common.{◌≡◌, ◌+◌, List, [], ◌∷◌, ◌++◌, sym, subst, rules}
 use Rattle.xet_roots.specs.Groups.{Node}
-use Rattle.range_proof.specs.RangeProof.{Sides}
+use Rattle.level_nodes.specs.Level.{Level}
 use Rattle.range_proof.specs.Steps.Trees.{IsTree}
 use Rattle.range_proof.proofs.TreeOf.{IsClimbed, IsClimbed-none, IsClimbed-more, IsClimbed-all, range_in_level}
 use Rattle.range_proof.proofs.hash_tree.HashTree.sides.Goals as goal
@@ -25,7 +25,7 @@ pub levels-preserved : goal.levels-preserved
 levels-preserved g c =
     let found = c.in_ok-found.found in
     let pushed : c.push.new.self.items ≡ c.levels.all.items ++ found.sides ∷ [] = search rules in
-    subst (λ (l : List Sides). IsClimbed c.args.self.now c.args.first c.args.end c.as_slice-levels.result.now (c.levels.level-index + 1) found.first found.end l) (sym pushed)
+    subst (λ (l : List Level). IsClimbed c.args.self.now c.args.first c.args.end c.as_slice-levels.result.now (c.levels.level-index + 1) found.first found.end l) (sym pushed)
     (IsClimbed-more c.args.self.now c.args.first c.args.end c.as_slice-levels.result.now c.levels.level-index c.levels.from c.levels.to c.levels.all.items
     c.level-item.result found.sides found.first found.end c.levels-test.true c.level-item.is c.levels.invariant c.in_ok-found.ensures)
 

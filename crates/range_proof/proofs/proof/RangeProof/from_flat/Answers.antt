@@ -1,7 +1,7 @@
-use Rattle.std.proofs.Common.{ℕ, inl, inr, ◌<◌, ◌≤◌, refl, sym, subst}
+use Rattle.std.proofs.Common.{ℕ, List, inl, inr, ◌<◌, ◌≤◌, refl, subst}
 use Rattle.std.proofs.lemmas.Bool.{false≢true, cases_lt}
-use Rattle.xet_roots.proofs.Results.{passed_on}
-use Rattle.range_proof.specs.FlatProof.{IsFlat}
+use Rattle.xet_roots.specs.Groups.{Node}
+use Rattle.range_proof.specs.ProofJson.{BreaksValueRule}
 use Rattle.range_proof.specs.FlatProof.BreaksFlatRule.{no_chunk, of_proof}
 use Rattle.range_proof.proofs.proof.RangeProof.from_flat.Goals as goal
 
@@ -12,11 +12,8 @@ pub returns-then-not-leave_a_chunk-clause-errors : goal.returns-then-not-leave_a
 returns-then-not-leave_a_chunk-clause-errors g c =
     inr (5, refl, no_chunk (not_less _ _ (λ h. false≢true (c.if-not-leave_a_chunk.ensures.1 h))))
 
-pub returns-in_err-from_parts-clause-errors : goal.returns-in_err-from_parts-clause-errors
-returns-in_err-from_parts-clause-errors g c =
-    let broken = c.in_err-from_parts.ensures.errors in
-    passed_on _ c.from_residual-in_err-from_parts.result c.in_err-from_parts.field-0.0 c.from_residual-in_err-from_parts.ensures.1
-    (inr (broken.0, broken.1, of_proof c.in_ok-parts.ensures broken.2))
-
-pub returns-clause-flat : goal.returns-clause-flat
-returns-clause-flat g c = subst (IsFlat c.args.counts.now c.args.nodes.now) (sym c.in_ok-from_parts.ensures.same) c.in_ok-parts.ensures
+pub returns-in-Err-clause-errors : goal.returns-in-Err-clause-errors
+returns-in-Err-clause-errors g c =
+    let levels = c.in_ok-cut.cut.levels.items in
+    let broken = subst (λ (chunks : List Node). BreaksValueRule (record { chunks = chunks; levels = levels }) c.in-Err.rule) (c.in_ok-chunks.ensures.items_if_clones_equal (λ x y e i. (e.0 i, e.1 i))) c.in-Err.ensures.broken in
+    inr (c.in-Err.rule, refl, of_proof c.in_ok-cut.ensures broken)

@@ -43,19 +43,16 @@ returns-in_err-levels-clause-errors g c = passed_on _ c.from_residual-in_err-lev
       )
     ])
 
-pub returns-in_err-from_parts-clause-errors : goal.returns-in_err-from_parts-clause-errors
-returns-in_err-from_parts-clause-errors g c =
-    let broken = c.in_err-from_parts.ensures.errors in
-    passed_on _ c.from_residual-in_err-from_parts.result c.in_err-from_parts.field-0.0 c.from_residual-in_err-from_parts.ensures.1
-    (inr (
-      broken.0,
-      broken.1,
-      of_value (parts_of _ _ _ _ _ c.in-Some.ensures.some c.in_ok-chunks.ensures.read c.in_ok-levels.ensures.read) broken.2,
-    ))
+pub returns-in-Err-clause-errors : goal.returns-in-Err-clause-errors
+returns-in-Err-clause-errors g c =
+    inr (
+      c.in-Err.rule,
+      refl,
+      of_value (parts_of _ _ _ _ _ c.in-Some.ensures.some c.in_ok-chunks.ensures.read c.in_ok-levels.ensures.read) c.in-Err.ensures.broken,
+    )
 
-pub returns-clause-reads : goal.returns-clause-reads
-returns-clause-reads g c =
+pub returns-in-Ok-clause-reads : goal.returns-in-Ok-clause-reads
+returns-in-Ok-clause-reads g c =
     let json = view c.args.value.now in
-    let proof = c.in_ok-from_parts.field-0 in
     let parts = parts_of _ _ _ _ _ c.in-Some.ensures.some c.in_ok-chunks.ensures.read c.in_ok-levels.ensures.read in
-    Reads-parts c.hex_text_tells_hashes_apart.ensures json proof (subst (ReadsProof json) (sym c.in_ok-from_parts.ensures.same) parts) c.in_ok-from_parts.ensures.well_formed
+    Reads-parts c.hex_text_tells_hashes_apart.ensures json c.in-Ok.proof (subst (ReadsProof json) (sym c.in-Ok.ensures.same) parts) c.in-Ok.ensures.well_formed

@@ -2,15 +2,17 @@ use Rattle.std.proofs.Common.{List, map, sym, ap, subst, ◌∙◌}
 use Rattle.std.specs.Prelude.{All}
 use Rattle.serde_json.specs.Data.{Data, array}
 use Rattle.serde_json.specs.View.{view, items_of}
-use Rattle.range_proof.specs.RangeProof.{Sides, AreHashes}
-use Rattle.range_proof.specs.ProofJson.{Reads, nodes_json, sides_json, proof_object}
+use Rattle.level_nodes.specs.Level.{Level}
+use Rattle.range_proof.specs.RangeProof.{AreHashes}
+use Rattle.level_nodes.specs.NodeJson.{nodes_json}
+use Rattle.range_proof.specs.ProofJson.{Reads, sides_json, proof_object}
 use Rattle.range_proof.proofs.JsonOf.{Reads-object}
 use Rattle.range_proof.proofs.proof.RangeProof.to_json.Goals as goal
 
 pub returns-clause-json : goal.returns-clause-json
 returns-clause-json g c =
     let chunks = c.in_ok-chunks.ensures.json ∙ ap nodes_json c.chunks.ensures.nodes in
-    let levels = c.in_ok-levels.ensures.json ∙ ap (λ (l : List Sides). array (items_of (map sides_json l))) c.levels.ensures.levels in
+    let levels = c.in_ok-levels.ensures.json ∙ ap (λ (l : List Level). array (items_of (map sides_json l))) c.levels.ensures.levels in
     ◌∙◌ {b = proof_object (view c.in_ok-chunks.chunks) (view c.in_ok-levels.levels)} c.in_ok-object_of.ensures (λ i. proof_object (chunks i) (levels i))
 
 pub returns-clause-says : goal.returns-clause-says
@@ -21,7 +23,7 @@ returns-clause-says g c =
     proof
     (record {
       chunks = subst AreHashes c.chunks.ensures.nodes c.in_ok-chunks.ensures.hashes;
-      left = subst (λ (levels : List Sides). All (λ s. AreHashes s.left) levels) c.levels.ensures.levels c.in_ok-levels.ensures.left;
-      right = subst (λ (levels : List Sides). All (λ s. AreHashes s.right) levels) c.levels.ensures.levels c.in_ok-levels.ensures.right;
+      left = subst (λ (levels : List Level). All (λ s. AreHashes s.left) levels) c.levels.ensures.levels c.in_ok-levels.ensures.left;
+      right = subst (λ (levels : List Level). All (λ s. AreHashes s.right) levels) c.levels.ensures.levels c.in_ok-levels.ensures.right;
     })
     c.chunks.ensures.well_formed)

@@ -1,6 +1,6 @@
 use Rattle.std.proofs.Common.{inr, refl}
 use Rattle.xet_merkle.specs.JsonParts.{ReadsCounts}
-use Rattle.xet_merkle.proofs.Json.Reading.{read_next, read_each}
+use Rattle.level_nodes.proofs.Json.{read_next, read_each}
 use Rattle.xet_merkle.proofs.merkle_hash_subtree.json_parts.read_levels.Goals as goal
 
 pub returns-in_default-clause-refused : goal.returns-in_default-clause-refused

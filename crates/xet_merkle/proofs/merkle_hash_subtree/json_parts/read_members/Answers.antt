@@ -1,5 +1,6 @@
 use Rattle.std.proofs.Common.{sym, ◌∙◌}
-use Rattle.xet_merkle.proofs.Json.Reading.{boolean-of, array-of}
+use Rattle.level_nodes.proofs.Json.{array-of}
+use Rattle.xet_merkle.proofs.Json.Reading.{boolean-of}
 use Rattle.xet_merkle.proofs.merkle_hash_subtree.json_parts.read_members.Goals as goal
 
 pub returns-clause-some : goal.returns-clause-some

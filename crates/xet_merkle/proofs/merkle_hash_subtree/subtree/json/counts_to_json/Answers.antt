@@ -5,7 +5,7 @@ use Rattle.serde_json.specs.Data.{array, Data}
 use Rattle.serde_json.specs.View.{items_of}
 use Rattle.serde_json.proofs.Views.{view-Array}
 use Rattle.subtree_levels.specs.Levels.{Level}
-use Rattle.xet_merkle.specs.FlatLevels.{count_of}
+use Rattle.level_nodes.specs.FlatLevels.{count_of}
 use Rattle.xet_merkle.specs.SubtreeJson.{counts_json}
 use Rattle.xet_merkle.proofs.merkle_hash_subtree.subtree.json.counts_to_json.Goals as goal
 

@@ -1,6 +1,6 @@
 use Rattle.std.proofs.Common.{◌≡◌, map, take}
 use Rattle.serde_json.specs.View.{view}
-use Rattle.xet_merkle.specs.FlatLevels.{count_of}
+use Rattle.level_nodes.specs.FlatLevels.{count_of}
 use Rattle.xet_merkle.specs.SubtreeJson.{counts_json}
 use Rattle.xet_merkle.proofs.merkle_hash_subtree.subtree.json.counts_to_json.Given as goal
 

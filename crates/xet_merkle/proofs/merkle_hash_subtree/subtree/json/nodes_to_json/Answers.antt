@@ -5,9 +5,9 @@ use Rattle.serde_json.specs.View.{items_of}
 use Rattle.serde_json.proofs.Views.{view-Array}
 use Rattle.xet_roots.specs.Groups.{Node}
 use Rattle.subtree_levels.specs.Levels.{Level}
-use Rattle.xet_merkle.specs.FlatLevels.{left_nodes, right_nodes, flat_nodes}
-use Rattle.xet_merkle.specs.SubtreeJson.{node_json}
-use Rattle.xet_merkle.proofs.Levels.Flat.{left_nodes-push}
+use Rattle.level_nodes.specs.FlatLevels.{left_nodes, right_nodes, flat_nodes}
+use Rattle.level_nodes.specs.NodeJson.{node_json}
+use Rattle.level_nodes.proofs.FlatOf.{left_nodes-push}
 use Rattle.xet_merkle.proofs.Json.OneMeaning.{AreHashes, AreHashes-append}
 use Rattle.xet_merkle.proofs.merkle_hash_subtree.subtree.json.nodes_to_json.Goals as goal
 
@@ -60,7 +60,7 @@ rights-preserved g c =
       hashes = subst AreHashes (sym next) (AreHashes-append so_far c.right.result.now c.rights.invariant.hashes c.in_ok-values-2.ensures.hashes);
     }
 
-all_done : (levels rest done : List Level) → length rest < 1 → levels ≡ rest ++ done → left_nodes levels ++ right_nodes done ≡ flat_nodes levels
+all_done : (levels rest done : List Level) → length rest < 1 → levels ≡ rest ++ done → left_nodes levels ++ right_nodes done ≡ flat_nodes levels []
 all_done levels [] done none parts = ap (λ (l : List Level). left_nodes levels ++ right_nodes l) (sym parts)
 all_done levels (level ∷ rest) done none parts = absurd (omega arith)
 

@@ -3,8 +3,8 @@ use Rattle.std.specs.List.{AllByRecursion}
 use Rattle.serde_json.specs.View.{view}
 use Rattle.xet_hash.specs.Hash.{IsHash}
 use Rattle.subtree_levels.specs.Levels.{Level}
-use Rattle.xet_merkle.specs.FlatLevels.{left_nodes, right_nodes}
-use Rattle.xet_merkle.specs.SubtreeJson.{node_json}
+use Rattle.level_nodes.specs.FlatLevels.{left_nodes, right_nodes}
+use Rattle.level_nodes.specs.NodeJson.{node_json}
 use Rattle.xet_merkle.proofs.merkle_hash_subtree.subtree.json.nodes_to_json.Given as goal
 
 abbrev pub invariant-lefts : goal.invariant-lefts

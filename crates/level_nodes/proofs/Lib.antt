@@ -1,0 +1,3 @@
+pub mod FlatOf
+pub mod Json
+pub mod Reading

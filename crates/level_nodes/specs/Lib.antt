@@ -1,0 +1,5 @@
+pub mod FlatLevels
+pub mod Level
+pub mod NodeJson
+pub mod Steps
+pub use Rattle.xet_roots.specs.Groups

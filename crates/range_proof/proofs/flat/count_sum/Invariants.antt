@@ -1,6 +1,0 @@
-use Rattle.std.proofs.Common.{◌≡◌, ◌<◌, ◌^◌, take}
-use Rattle.range_proof.specs.FlatProof.{count_sum}
-use Rattle.range_proof.proofs.flat.count_sum.Given as goal
-
-abbrev pub invariant-sum : goal.invariant-sum
-invariant-sum l = (l.sum ≡ count_sum (take l.left-index l.counts)) × (l.sum < 2 ^ 64)

@@ -1,5 +1,0 @@
-use Rattle.std.proofs.Common.{◌≡◌, take}
-use Rattle.subtree_levels.proofs.levels.copy_levels.Given as goal
-
-abbrev pub invariant-levels : goal.invariant-levels
-invariant-levels g l = l.copy.items ≡ take l.level-index l.levels

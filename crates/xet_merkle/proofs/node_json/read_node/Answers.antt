@@ -1,5 +1,0 @@
-use Rattle.std.proofs.Common.{rules}
-use Rattle.xet_merkle.proofs.node_json.read_node.Goals as goal
-
-pub returns-clause-some : goal.returns-clause-some
-returns-clause-some g = search rules

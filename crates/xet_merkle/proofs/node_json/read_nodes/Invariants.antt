@@ -1,8 +1,0 @@
-use Rattle.std.proofs.Common.{map, take}
-use Rattle.std.specs.List.{AllZip}
-use Rattle.serde_json.specs.View.{view}
-use Rattle.xet_merkle.specs.JsonParts.{ReadsNode}
-use Rattle.xet_merkle.proofs.node_json.read_nodes.Given as goal
-
-abbrev pub invariant-nodes : goal.invariant-nodes
-invariant-nodes g l = AllZip ReadsNode (map view (take l.value-index l.values)) l.nodes.items
