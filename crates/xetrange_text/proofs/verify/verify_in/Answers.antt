@@ -5,7 +5,7 @@ use Rattle.xet_merkle.specs.Roots.{total_size}
 use Rattle.range_proof.specs.Reading.{IsRead}
 use Rattle.xetrange_text.specs.Proofs.{SaysProof}
 use Rattle.xetrange_text.specs.Verifying.{IsOpenFaultOf}
-use Rattle.xetrange_text.proofs.Verifying.{refused, open-fault, open-not-write, read-fault, verified-to-the-end, same_line, answered, cut_short}
+use Rattle.xetrange_text.proofs.Verifying.{refused, open-fault, open-not-write, read-fault, data-fault, not-write, verified-to-the-end, same_line, answered, cut_short}
 use Rattle.xetrange_text.proofs.verify.verify_in.Goals as goal
 
 pub returns-in_err-range : goal.returns-in_err-range
@@ -18,6 +18,12 @@ returns-in_err-range g c =
     rw (p.1, p.2) (refused _ _ _ fault
     (open-fault c.json_says_one_range_proof.ensures hash c.args.from c.args.to _ _ input.line.items input.data.items fault c.in_ok-input.ensures.read faulty)
     (open-not-write hash input.line.items fault faulty))
+
+pub returns-in_err-read_data : goal.returns-in_err-read_data
+returns-in_err-read_data g c =
+    let p = err_from_is_err_and c.from_residual-in_err-read_data.result c.from_residual-in_err-read_data.ensures.1 in
+    let of = c.in_err-read_data.field-0.0 in
+    rw (p.1, p.2) (refused _ _ _ _ (data-fault c.args.file_hash.now c.args.from c.args.to _ of c.in_err-read_data.ensures.fault) (not-write of))
 
 pub returns-in_err-write_all-in-Some : goal.returns-in_err-write_all-in-Some
 returns-in_err-write_all-in-Some g c =
