@@ -1,7 +1,7 @@
 //! The flat form of a range proof: the numbers of nodes on both sides of each level, and all nodes in one list.
 
 ghost use Rattle.std.specs.Prelude.{◌≡◌, ◌⊎◌, ◌<◌, ◌↔◌, ℕ, map, IfOk, IfErr, IsTrue};
-ghost use Rattle.xet_roots.specs.declared.error.CoreError.TheVariants.{InvalidJson};
+ghost use Rattle.xet_roots.specs.declared.error.CoreError.TheVariants.{InvalidLists};
 ghost use Rattle.range_proof.specs.RangeProof.{IsWellFormed};
 ghost use Rattle.level_nodes.specs.FlatLevels.{count_sum, count_of, flat_nodes, IsFlat};
 ghost use Rattle.range_proof.specs.FlatProof.{BreaksFlatRule};
@@ -29,23 +29,23 @@ impl<A: Allocator + Clone> RangeProof<A> {
     /// `nodes` has all nodes in the order of the file: the left ones of all levels, lowest level first, those of the
     /// chunks, and the right ones of all levels, highest level first.
     ///
-    /// Fails with [`CoreError::InvalidJson`] and the lowest rule from 5 to 8 of [`Self::from_json`] that they break; rule 5
+    /// Fails with [`CoreError::InvalidLists`] and the lowest rule from 5 to 8 of [`Self::from_json`] that they break; rule 5
     /// means that the counts leave no node for the chunks. Fails with [`CoreError::OutOfMemory`] if an allocation fails;
     /// this may be returned instead of a rule.
     pub fn from_flat(alloc: A, counts: &[(usize, usize)], nodes: &[Node]) -> Result<Self, CoreError>
         ensures flat { IfOk result (λ proof. IsFlat counts.now nodes.now proof.levels proof.chunks) }
         ensures well_formed { IfOk result IsWellFormed }
-        ensures errors { IfErr result (λ e. (e ≡ CoreError.OutOfMemory) ⊎ ((rule : ℕ) × (e ≡ InvalidJson rule)
+        ensures errors { IfErr result (λ e. (e ≡ CoreError.OutOfMemory) ⊎ ((rule : ℕ) × (e ≡ InvalidLists rule)
             × BreaksFlatRule counts.now nodes.now rule)) }
     {
         if !leave_a_chunk(counts, nodes.len()) {
-            return Err(CoreError::InvalidJson(5));
+            return Err(CoreError::InvalidLists(5));
         }
         let cut = cut_levels(alloc.clone()?, counts, nodes)?;
         let chunks = cut.between.to_vec(alloc)?;
         match from_parts(chunks, cut.levels) {
             Ok(proof) => Ok(proof),
-            Err(rule) => Err(CoreError::InvalidJson(rule)),
+            Err(rule) => Err(CoreError::InvalidLists(rule)),
         }
     }
 

@@ -19,11 +19,15 @@ pub enum CoreError {
     /// An allocation failed.
     #[error("out of memory")]
     OutOfMemory,
-    /// A JSON value, or flat lists, describe no subtree or no range proof. The number is the lowest rule that they break:
-    /// from 1 to 13 of a subtree, from 1 to 8 of a range proof. `from_json` of `MerkleHashSubtree` and of `RangeProof`
-    /// list the rules.
+    /// A JSON value describes no subtree or no range proof. It is of JSON values alone. The number is the lowest rule that the
+    /// value breaks: from 1 to 13 of a subtree, from 1 to 8 of a range proof. `from_json` of `MerkleHashSubtree` and of
+    /// `RangeProof` list the rules.
     #[error("invalid JSON: rule {0}")]
     InvalidJson(u8),
+    /// Flat lists describe no subtree or no range proof. The number is the lowest rule that they break, from 5 up. The rules
+    /// are those of `from_json`.
+    #[error("invalid flat lists: rule {0}")]
+    InvalidLists(u8),
 }
 
 impl From<AllocError> for CoreError {

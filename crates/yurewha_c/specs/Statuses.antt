@@ -1,7 +1,7 @@
 -- The statuses that exports return, and those of errors.
 use Rattle.std.specs.Prelude.{ℕ, ◌+◌}
 use Rattle.xet_roots.specs.declared.error.CoreError.{CoreError}
-use Rattle.xet_roots.specs.declared.error.CoreError.TheVariants.{InvalidArguments, SizeOverflow, OutOfMemory, InvalidJson}
+use Rattle.xet_roots.specs.declared.error.CoreError.TheVariants.{InvalidArguments, SizeOverflow, OutOfMemory, InvalidJson, InvalidLists}
 use Rattle.range_proof.specs.declared.open_error.OpenFault.{OpenFault}
 use Rattle.range_proof.specs.declared.open_error.OpenFault.TheVariants as open_faults
 use Rattle.upload_session.specs.declared.session_fault.SessionFault.{SessionFault}
@@ -39,6 +39,7 @@ core_status InvalidArguments = 1
 core_status SizeOverflow = 2
 core_status OutOfMemory = 3
 core_status (InvalidJson rule) = 16 + rule
+core_status (InvalidLists rule) = 16 + rule
 
 abbrev pub session_status : SessionFault → ℕ
 session_status Overlap = 33
@@ -53,6 +54,7 @@ proof_status InvalidArguments = 1
 proof_status SizeOverflow = 2
 proof_status OutOfMemory = 3
 proof_status (InvalidJson rule) = 48 + rule
+proof_status (InvalidLists rule) = 48 + rule
 
 abbrev pub open_status : OpenFault → ℕ
 open_status open_faults.Mismatch = 7

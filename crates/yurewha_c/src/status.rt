@@ -57,7 +57,7 @@ pub(crate) fn status_of(error: CoreError) -> u32
         CoreError::InvalidArguments => ARGUMENTS,
         CoreError::SizeOverflow => SIZES,
         CoreError::OutOfMemory => MEMORY,
-        CoreError::InvalidJson(rule) => RULE + u32::from(rule),
+        CoreError::InvalidJson(rule) | CoreError::InvalidLists(rule) => RULE + u32::from(rule),
     }
 }
 
@@ -79,7 +79,9 @@ pub(crate) fn status_of_proof(error: CoreError) -> u32
     ensures { result ≡ proof_status error }
 {
     match error {
-        CoreError::InvalidJson(rule) => PROOF_RULE + u32::from(rule),
+        CoreError::InvalidJson(rule) | CoreError::InvalidLists(rule) => {
+            PROOF_RULE + u32::from(rule)
+        }
         other => status_of(other),
     }
 }

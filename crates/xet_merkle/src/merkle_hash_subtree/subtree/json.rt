@@ -11,7 +11,7 @@ ghost use Rattle.level_nodes.specs.FlatLevels.{IsFlat, count_of, count_sum, flat
 ghost use Rattle.level_nodes.specs.NodeJson.{nodes_json};
 ghost use Rattle.subtree_levels.specs.WellFormed.{IsWellFormed};
 ghost use Rattle.xet_merkle.specs.JsonRules.{Reads, BreaksValueRule, BreaksRule};
-ghost use Rattle.xet_roots.specs.declared.error.CoreError.TheVariants.{InvalidJson};
+ghost use Rattle.xet_roots.specs.declared.error.CoreError.TheVariants.{InvalidJson, InvalidLists};
 ghost use Rattle.xet_merkle.specs.SubtreeJson.{counts_json, subtree_object, subtree_json};
 ghost use Rattle.xet_merkle.specs.Steps.FlatMaking.{IsMadeOf};
 
@@ -152,7 +152,7 @@ impl<A: Allocator + Clone> MerkleHashSubtree<A> {
     /// the chunks up. `nodes` has the left nodes of all levels, lowest level first, then the right nodes of all levels,
     /// highest level first.
     ///
-    /// Fails with [`CoreError::InvalidJson`] and the lowest rule from 5 to 13 of [`Self::from_json`] that they break.
+    /// Fails with [`CoreError::InvalidLists`] and the lowest rule from 5 to 13 of [`Self::from_json`] that they break.
     /// Fails with [`CoreError::OutOfMemory`] if an allocation fails; this may be returned instead of a rule. Only this
     /// port has this call. It replaces the `Deserialize` of the Rust crate in binary formats.
     pub fn from_flat(
@@ -166,12 +166,12 @@ impl<A: Allocator + Clone> MerkleHashSubtree<A> {
         ensures end { IfOk result (λ subtree. subtree.at_end ≡ at_end) }
         ensures flat { IfOk result (λ subtree. IsFlat counts.items nodes.items subtree.levels []) }
         ensures well_formed { IfOk result IsWellFormed }
-        ensures errors { IfErr result (λ e. (e ≡ CoreError.OutOfMemory) ⊎ ((rule : ℕ) × (e ≡ InvalidJson rule)
+        ensures errors { IfErr result (λ e. (e ≡ CoreError.OutOfMemory) ⊎ ((rule : ℕ) × (e ≡ InvalidLists rule)
             × BreaksValueRule at_start at_end counts.items nodes.items rule)) }
     {
         match Self::from_lists(alloc, at_start, &counts, &nodes, at_end)? {
             Ok(subtree) => Ok(subtree),
-            Err(rule) => Err(CoreError::InvalidJson(rule)),
+            Err(rule) => Err(CoreError::InvalidLists(rule)),
         }
     }
 
