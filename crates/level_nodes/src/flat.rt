@@ -25,21 +25,21 @@ pub fn count_sum(counts: &[(usize, usize)]) -> Option<usize>
     Some(sum)
 }
 
-/// The levels that counts cut a list of nodes into, and the nodes that are left between their sides.
+/// What a flat list of nodes has: levels, and the nodes that are left between their sides.
 #[derive(Drop)]
-pub struct Cut<'n, A: Allocator> {
+pub struct FlatParts<'n, A: Allocator> {
     pub levels: Vec<LevelNodes<A>, A>,
     pub between: &'n [Node],
 }
 
-/// Cuts a list of nodes into levels with these counts.
+/// Cuts a list of nodes into levels with these counts, and the nodes between.
 pub fn cut_levels<'n, A: Allocator + Clone>(
     alloc: A,
     counts: &[(usize, usize)],
     nodes: &'n [Node],
-) -> Result<Cut<'n, A>, AllocError>
+) -> Result<FlatParts<'n, A>, AllocError>
     requires { count_sum counts.now ≤ length nodes.now }
-    ensures { IfOk result (λ cut. IsFlat counts.now nodes.now cut.levels.items cut.between.now) }
+    ensures { IfOk result (λ parts. IsFlat counts.now nodes.now parts.levels.items parts.between.now) }
 {
     let mut levels = Vec::with_capacity(alloc.clone()?, counts.len())?;
     let mut between = nodes;
@@ -49,5 +49,5 @@ pub fn cut_levels<'n, A: Allocator + Clone>(
         levels.push(LevelNodes::copied(alloc.clone()?, left, right)?)?;
         between = inner;
     }
-    Ok(Cut { levels, between })
+    Ok(FlatParts { levels, between })
 }

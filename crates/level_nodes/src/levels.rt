@@ -23,6 +23,7 @@ impl<A: Allocator> Model for LevelNodes<A> {
 }
 
 impl<A: Allocator> LevelNodes<A> {
+    /// Makes a level of its nodes.
     pub fn new(left: Vec<Node, A>, right: Vec<Node, A>) -> Self
         ensures { result ≡ record { left = left.items; right = right.items } }
     {
@@ -32,12 +33,14 @@ impl<A: Allocator> LevelNodes<A> {
         }
     }
 
+    /// Returns the left nodes.
     pub fn left(&self) -> &[Node]
         ensures { result.now ≡ self.now.left }
     {
         self.left.as_slice()
     }
 
+    /// Returns the right nodes.
     pub fn right(&self) -> &[Node]
         ensures { result.now ≡ self.now.right }
     {

@@ -41,9 +41,9 @@ impl<A: Allocator + Clone> RangeProof<A> {
         if !leave_a_chunk(counts, nodes.len()) {
             return Err(CoreError::InvalidLists(5));
         }
-        let cut = cut_levels(alloc.clone()?, counts, nodes)?;
-        let chunks = cut.between.to_vec(alloc)?;
-        match from_parts(chunks, cut.levels) {
+        let parts = cut_levels(alloc.clone()?, counts, nodes)?;
+        let chunks = parts.between.to_vec(alloc)?;
+        match from_parts(chunks, parts.levels) {
             Ok(proof) => Ok(proof),
             Err(rule) => Err(CoreError::InvalidLists(rule)),
         }

@@ -17,7 +17,7 @@ ghost use Rattle.xet_merkle.specs.Steps.FlatMaking.{IsMadeOf};
 
 use super::MerkleHashSubtree;
 use crate::merkle_hash_subtree::json_parts::read_parts;
-use level_nodes::flat::{Cut, count_of, count_sum, cut_levels};
+use level_nodes::flat::{FlatParts, count_of, count_sum, cut_levels};
 use level_nodes::levels::LevelNodes;
 use level_nodes::node_json::with_nodes;
 use serde_json::{Value, json};
@@ -190,7 +190,7 @@ impl<A: Allocator + Clone> MerkleHashSubtree<A> {
             Ok(size) => size,
             Err(rule) => return Ok(Err(rule)),
         };
-        let Cut { levels, .. } = cut_levels(alloc, counts, nodes)?;
+        let FlatParts { levels, .. } = cut_levels(alloc, counts, nodes)?;
         if let Some(rule) = broken_rule(&levels, at_start, at_end) {
             return Ok(Err(rule));
         }

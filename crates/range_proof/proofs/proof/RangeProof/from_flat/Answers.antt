@@ -14,6 +14,6 @@ returns-then-not-leave_a_chunk-clause-errors g c =
 
 pub returns-in-Err-clause-errors : goal.returns-in-Err-clause-errors
 returns-in-Err-clause-errors g c =
-    let levels = c.in_ok-cut.cut.levels.items in
+    let levels = c.in_ok-parts.parts.levels.items in
     let broken = subst (λ (chunks : List Node). BreaksValueRule (record { chunks = chunks; levels = levels }) c.in-Err.rule) (c.in_ok-chunks.ensures.items_if_clones_equal (λ x y e i. (e.0 i, e.1 i))) c.in-Err.ensures.broken in
-    inr (c.in-Err.rule, refl, of_proof c.in_ok-cut.ensures broken)
+    inr (c.in-Err.rule, refl, of_proof c.in_ok-parts.ensures broken)
