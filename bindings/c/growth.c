@@ -2,10 +2,10 @@
  * What calls over lists ask of malloc. Each row of `rows` is made with few chunks and with many. It may make so many requests, and
  * ask for so many bytes, for each chunk, and some more whatever their number. bindings/c/test counts instructions of both sizes.
  *
- * The bounds are half as much again as is asked for, but for roots, where the parents alone may take half as much again:
+ * The bounds are half as much again as is asked for:
  *
- * - A node has 40 bytes. Calls copy the list that they get. The parents of n nodes are at most n / 3, and those of parents are made
- *   in their place.
+ * - A node has 40 bytes. Calls copy the list that they get, except for its root. The parents of n nodes are at most n / 3, and those of
+ *   parents are made in their place.
  * - A subtree of random chunks keeps a few nodes a level. Without natural cuts it keeps all.
  * - A hash tree keeps all nodes of all levels.
  * - JSON is read and written by way of a tree of values, with four requests for each node.
@@ -279,8 +279,8 @@ static const struct {
     size_t requests; /* for each chunk */
     size_t bytes;    /* for each chunk */
 } rows[] = {
-    {"xorb_hash", nothing, xorb_hash, 0, 60},
-    {"file_hash", nothing, file_hash, 0, 60},
+    {"xorb_hash", nothing, xorb_hash, 0, 20},
+    {"file_hash", nothing, file_hash, 0, 20},
     {"subtree_from_chunks", nothing, from_chunks, 0, 75},
     {"subtree_from_chunks without cuts", nothing, from_plain_chunks, 0, 100},
     {"stable points", nothing, stable_points, 0, 100},

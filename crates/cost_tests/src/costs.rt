@@ -16,6 +16,7 @@ use std::alloc::Global;
 use std::collections::BTreeMap;
 use std::process::Abort;
 use subtree_sessions::session::Session;
+use test_support::own_nodes;
 use test_support::texts::three_fields;
 use upload_session::kept_hashes::{KeptHashes, NoHashes, SeenHashes};
 use upload_session::session::SessionOf;
@@ -23,6 +24,7 @@ use upload_session::session_fault::SessionFault;
 use xet_hash::data_hash::MerkleHash;
 use xet_hash::passthrough_hashmap::PassThroughHashMap;
 use xet_merkle::aggregated_hashes::{Node, xorb_hash};
+use xet_merkle::as_node::xorb_hash_of;
 use xet_merkle::chunk_range::ChunkRange;
 use xet_merkle::merkle_hash_subtree::MerkleHashSubtree;
 
@@ -392,13 +394,19 @@ fn changes_ask_for_memory_in_proportion_to_the_chunks(rt: HostRuntime) {
 fn a_root_takes_room_for_a_third_of_the_chunks(rt: HostRuntime) {
     for count in COUNTS {
         let chunks = chunks(&rt, rt.alloc(), count, Cuts::Nowhere);
+        let own = own_nodes(rt.alloc(), &chunks).expect(&rt, "memory");
         let alloc = counting(rt.alloc());
-        xorb_hash(&alloc, &chunks).expect(&rt, "a hash");
+        let root = xorb_hash(&alloc, &chunks).expect(&rt, "a hash");
         let asked = alloc.granted();
-        assert!(rt;
-            asked.requests == 1 && asked.bytes <= count.div_ceil(3).saturating_mul(NODE),
-            "{count}: {asked:?}"
-        );
+        alloc.grant(u32::MAX);
+        let same = xorb_hash_of(&alloc, &own).expect(&rt, "a hash") == root;
+        let asked_of_own = alloc.granted();
+        for asked in [asked, asked_of_own] {
+            assert!(rt;
+                same && asked.requests == 1 && asked.bytes <= count.div_ceil(3).saturating_mul(NODE),
+                "{count}: {asked:?}"
+            );
+        }
     }
 }
 

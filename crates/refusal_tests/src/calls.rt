@@ -128,6 +128,7 @@ pub enum Call {
     SessionTryClone,
     KnownHashes,
     XorbHash,
+    XorbHashOf,
     FileHash,
     FileHashWithSalt,
     FromChunks,
@@ -169,8 +170,9 @@ pub enum Call {
 }
 
 // The calls that work on a list of chunks, each with the seed of the list. `MergeAt` has lists of its own.
-const OF_CHUNKS: [(Call, u64); 21] = [
+const OF_CHUNKS: [(Call, u64); 22] = [
     (Call::XorbHash, 3),
+    (Call::XorbHashOf, 28),
     (Call::FileHash, 5),
     (Call::FileHashWithSalt, 6),
     (Call::FromChunks, 4),
@@ -248,7 +250,7 @@ fn attempt(
         Call::SessionTryClone | Call::KnownHashes => sessions::copy(
             rt, call, alloc, granted, memory,
         ),
-        Call::XorbHash | Call::FileHash | Call::FileHashWithSalt => {
+        Call::XorbHash | Call::XorbHashOf | Call::FileHash | Call::FileHashWithSalt => {
             hashes::of_chunks(rt, call, alloc, granted, chunks)
         }
         Call::Example(row) => examples::attempt(rt, alloc, granted, memory, row),

@@ -13,6 +13,7 @@ use std::fmt::Write;
 use xet_hash::data_hash::{DataHash, MerkleHash, compute_data_hash};
 use xet_merkle::CoreError;
 use xet_merkle::aggregated_hashes::Node;
+use xet_merkle::as_node::AsNode;
 use xet_merkle::merkle_hash_subtree::MerkleHashSubtree;
 
 /// All choices of a start mark and an end mark.
@@ -52,6 +53,33 @@ pub fn drawn_nodes(
         nodes.push((with_cut(hash, is_cut), generator.next_u64() % 1000))?;
     }
     Ok(nodes)
+}
+
+/// A node in a form that isn't the library's.
+#[derive(Clone, Copy)]
+pub struct OwnNode {
+    size: u64,
+    hash: MerkleHash,
+}
+
+impl AsNode for OwnNode {
+    ghost node_of = { λ own. (own.hash, own.size) };
+
+    fn node(&self) -> Node {
+        (self.hash, self.size)
+    }
+}
+
+/// Returns some nodes in that form.
+pub fn own_nodes(alloc: Global, nodes: &[Node]) -> Result<Vec<OwnNode>, AllocError> {
+    let mut own = Vec::new(alloc);
+    for (hash, size) in nodes {
+        own.push(OwnNode {
+            size: *size,
+            hash: *hash,
+        })?;
+    }
+    Ok(own)
 }
 
 /// Returns nodes of size 1. Those at the given indices are natural cuts.

@@ -10,5 +10,6 @@ pub use chunk_ranges::{
 };
 pub use level_nodes::node_json as node_json;
 pub use xet_roots::{
-    CoreError, aggregated_hashes as aggregated_hashes, error as error, parent_maker as parent_maker,
+    CoreError, aggregated_hashes as aggregated_hashes, as_node as as_node, error as error,
+    parent_maker as parent_maker,
 };

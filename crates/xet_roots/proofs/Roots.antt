@@ -1,2 +1,3 @@
 pub mod Making
 pub mod OneRoot
+pub mod Pieces

@@ -6,25 +6,22 @@
 ghost use Rattle.std.specs.Prelude.{◌≡◌, ◌⊎◌, ◌+◌, ◌^◌, ◌<◌, ◌≤◌, ◌↔◌, List, drop, length, map, replicate, take, IsOk, IfOk, IfErr, IsErrOf, IsFalse, IsTrue};
 ghost use Rattle.xet_roots.specs.Groups.{Node};
 ghost use Rattle.xet_roots.specs.Roots.{total_size, parent_by, parent, salted_root, IsRoot, IsFileHash};
-ghost use Rattle.xet_roots.specs.Steps.Scan.{AreFirstGroups, AreParents};
+ghost use Rattle.xet_roots.specs.Steps.Scan.{AreFirstGroups, AreParents, PushesParents, StayFirstGroups};
 ghost use Rattle.xet_roots.specs.Steps.Room.{most_made};
 
 use crate::error::CoreError;
 pub use crate::groups::{AGGREGATED_HASHES_MEAN_TREE_BRANCHING_FACTOR, Node};
 use crate::groups::{
-    MAX_GROUP_LEN, MIN_GROUP_LEN, MOST_AT_ONCE, first_group_len, first_groups, group_size, parent,
+    ENOUGH, MIN_GROUP_LEN, MOST_AT_ONCE, first_group_len, first_groups, group_size, parent,
     total_size, two_parents,
 };
 use crate::parent_maker::{ParentHashes, ParentMaker};
 use std::alloc::{AllocError, Allocator};
 use xet_hash::data_hash::{HMACKey, MerkleHash};
 
-// The nodes of as many groups as have their parents made at once. In fewer nodes, groups go two by two, since a call for several has
-// to clear memory for all that there may be.
-const ENOUGH: usize = MOST_AT_ONCE * MAX_GROUP_LEN;
-
 // Returns the parents of the first groups of some nodes, as many as are made at once; how many they are; and how many nodes they have.
-fn first_parents<P: ParentMaker>(
+// If there are enough nodes, the groups stay the same whatever nodes follow.
+pub(crate) fn first_parents<P: ParentMaker>(
     nodes: &[Node],
     maker: &mut P,
 ) -> ([Node; MOST_AT_ONCE], usize, usize)
@@ -34,7 +31,8 @@ fn first_parents<P: ParentMaker>(
     ensures some { 0 < length nodes.now → 0 < result.1 }
     ensures size { length result.0 ≡ MOST_AT_ONCE }
     ensures parents { (groups : List (List Node)) × AreFirstGroups nodes.now groups (drop result.2 nodes.now)
-        × (take result.1 result.0 ≡ map (parent_by P.hash_of) groups) }
+        × (take result.1 result.0 ≡ map (parent_by P.hash_of) groups)
+        × (ENOUGH ≤ length nodes.now → StayFirstGroups nodes.now groups (drop result.2 nodes.now)) }
     ensures count { P.count maker.new ≡ P.count maker.old + result.1 }
 {
     let mut groups: [&[Node]; MOST_AT_ONCE] = [&[]; MOST_AT_ONCE];
@@ -45,6 +43,41 @@ fn first_parents<P: ParentMaker>(
         parents[j] = (hashes[j], group_size(groups[j]));
     }
     (parents, count, read)
+}
+
+// Adds the parents of the groups of some nodes to a list. The hashes come from a maker. In fewer nodes than are enough, groups go two by
+// two, since a call for several has to clear memory for all that there may be.
+pub(crate) fn push_parents<A: Allocator, P: ParentMaker>(
+    made: &mut Vec<Node, A>,
+    nodes: &[Node],
+    maker: &mut P,
+) -> Result<(), AllocError>
+    requires fits { total_size nodes.now < 2 ^ 64 }
+    requires few { length made.old.items + length nodes.now < 2 ^ 64 }
+    requires room { P.count maker.old ≤ most_made + length made.old.items }
+    ensures parents { IfOk result (λ _. PushesParents (parent_by P.hash_of) nodes.now made.old.items made.new.items) }
+    ensures count { IfOk result (λ _. P.count maker.new + length made.old.items ≡ P.count maker.old + length made.new.items) }
+    ensures few { IfOk result (λ _. length made.new.items < 2 ^ 64) }
+{
+    let mut rest = nodes;
+    'batches: while rest.len() >= ENOUGH {
+        let (parents, count, read) = first_parents(rest, maker);
+        made.extend_from_slice(&parents[..count])?;
+        let (_, after) = rest.split_at(read);
+        rest = after;
+    }
+    'groups: while !rest.is_empty() {
+        let (first, after) = rest.split_at(first_group_len(rest));
+        if after.is_empty() {
+            return Ok(made.push((maker.make(first), group_size(first)))?);
+        }
+        let (second, after) = after.split_at(first_group_len(after));
+        let (of_first, of_second) = maker.make_two(first, second);
+        made.push((of_first, group_size(first)))?;
+        made.push((of_second, group_size(second)))?;
+        rest = after;
+    }
+    Ok(())
 }
 
 /// Returns the parents of the groups of some nodes, in a new list. The hashes come from a maker.
@@ -61,25 +94,7 @@ pub fn parents<A: Allocator, P: ParentMaker>(
 {
     // Each group but the last has at least three nodes.
     let mut made = Vec::with_capacity(alloc, nodes.len().div_ceil(MIN_GROUP_LEN))?;
-    let mut rest = nodes;
-    'batches: while rest.len() >= ENOUGH {
-        let (parents, count, read) = first_parents(rest, maker);
-        made.extend_from_slice(&parents[..count])?;
-        let (_, after) = rest.split_at(read);
-        rest = after;
-    }
-    'groups: while !rest.is_empty() {
-        let (first, after) = rest.split_at(first_group_len(rest));
-        if after.is_empty() {
-            made.push((maker.make(first), group_size(first)))?;
-            return Ok(made);
-        }
-        let (second, after) = after.split_at(first_group_len(after));
-        let (of_first, of_second) = maker.make_two(first, second);
-        made.push((of_first, group_size(first)))?;
-        made.push((of_second, group_size(second)))?;
-        rest = after;
-    }
+    push_parents(&mut made, nodes, maker)?;
     Ok(made)
 }
 
@@ -118,7 +133,7 @@ fn shrink<A: Allocator>(nodes: &mut Vec<Node, A>)
 }
 
 // Returns the root of a list that has a node. It works in the memory of the list.
-fn root<A: Allocator>(mut nodes: Vec<Node, A>) -> MerkleHash
+pub(crate) fn root<A: Allocator>(mut nodes: Vec<Node, A>) -> MerkleHash
     requires some { 0 < length nodes.items }
     requires fits { total_size nodes.items < 2 ^ 64 }
     ensures { IsRoot nodes.items result }

@@ -4,10 +4,10 @@
 //! A list of nodes is cut into groups, and each group becomes a parent. The hash of the parent is the hash of the
 //! group's text. Its size is the sum of the sizes in the group.
 
-ghost use Rattle.std.specs.Prelude.{◌≡◌, ℕ, ◌+◌, ◌^◌, ◌<◌, ◌≤◌, ◌++◌, [], get_or, length, map, take, drop, slice_index, IsSome, SomeIff};
+ghost use Rattle.std.specs.Prelude.{◌≡◌, ℕ, ◌+◌, ◌^◌, ◌<◌, ◌≤◌, ◌*◌, ◌++◌, [], get_or, length, map, take, drop, slice_index, IsSome, SomeIff};
 ghost use Rattle.xet_roots.specs.Groups.{Node, IsGroup, is_cut};
 ghost use Rattle.xet_roots.specs.Roots.{total_size, node_line, group_text, parent_hash, parent};
-ghost use Rattle.xet_roots.specs.Steps.Scan.{IsFirstGroup, AreFirstGroups};
+ghost use Rattle.xet_roots.specs.Steps.Scan.{IsFirstGroup, AreFirstGroups, StayFirstGroups};
 
 use xet_hash::data_hash::{
     MerkleHash, compute_internal_node_hash, compute_internal_node_hashes,
@@ -62,7 +62,12 @@ pub fn first_group_len(nodes: &[Node]) -> usize
     longest
 }
 
+// The nodes of as many groups as have their parents made at once, if each has as many as it may. Of so many nodes, none of these
+// groups ends only because the nodes do.
+pub(crate) const ENOUGH: usize = MOST_AT_ONCE * MAX_GROUP_LEN;
+
 // Writes the first groups of some nodes to `groups`, as many as there is room for. Returns how many groups and how many nodes these are.
+// If there are enough nodes, the groups stay the same whatever nodes follow.
 pub(crate) fn first_groups<'a>(
     nodes: &'a [Node],
     groups: &mut [&'a [Node]; MOST_AT_ONCE],
@@ -71,6 +76,8 @@ pub(crate) fn first_groups<'a>(
     ensures some { 0 < length nodes.now → 0 < result.0 }
     ensures room { length groups.new ≡ MOST_AT_ONCE }
     ensures first { AreFirstGroups nodes.now (take result.0 (map (λ g. g.now) groups.new)) (drop result.1 nodes.now) }
+    ensures stay { ENOUGH ≤ length nodes.now →
+        StayFirstGroups nodes.now (take result.0 (map (λ g. g.now) groups.new)) (drop result.1 nodes.now) }
     ensures groups { (j : ℕ) → j < result.0 → IsGroup (get_or (map (λ g. g.now) groups.new) j []) }
     ensures sizes { (j : ℕ) → j < result.0 → total_size (get_or (map (λ g. g.now) groups.new) j []) ≤ total_size nodes.now }
 {

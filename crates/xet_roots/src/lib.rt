@@ -3,6 +3,7 @@
 #![tactic(auto)]
 
 pub mod aggregated_hashes;
+pub mod as_node;
 pub mod error;
 pub mod groups;
 pub mod laws;

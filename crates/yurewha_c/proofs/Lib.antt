@@ -1,5 +1,4 @@
 pub mod AsBox
-pub mod NodesOfChunks
 pub mod Offsets
 pub mod RangeReading
 pub mod FlatLevels

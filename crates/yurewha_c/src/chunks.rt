@@ -1,12 +1,13 @@
 //! Chunks as C passes them.
 
-ghost use Rattle.std.specs.Prelude.{◌≡◌, ◌↔◌, ◌^◌, ◌<◌, IfOk, IsTrue, SomeIff, sum_by};
+ghost use Rattle.std.specs.Prelude.{◌≡◌, ◌↔◌, ◌^◌, ◌<◌, IfOk, IsTrue};
 ghost use Rattle.xet_merkle.specs.Roots.{total_size};
 ghost use Rattle.yurewha_c.specs.Chunks.{node_of, nodes_of};
 
 use crate::hash::Hash;
 use std::alloc::{AllocError, Global};
 use xet_merkle::aggregated_hashes::Node;
+use xet_merkle::as_node::{AsNode, total_size_of};
 
 /// A chunk, or any other node of the tree: its hash, and its size in bytes.
 #[derive(Clone, Copy)]
@@ -16,14 +17,15 @@ pub struct Chunk {
     pub size: u64,
 }
 
-impl Chunk {
-    // Returns the library's node.
-    pub(crate) fn node(&self) -> Node
-        ensures { result ≡ node_of self.now }
-    {
+impl AsNode for Chunk {
+    ghost node_of = { node_of };
+
+    fn node(&self) -> Node {
         (self.hash.value(), self.size)
     }
+}
 
+impl Chunk {
     // Converts a node of the library to C.
     pub(crate) fn of(node: &Node) -> Chunk
         ensures { node_of result ≡ node.now }
@@ -46,21 +48,9 @@ pub(crate) fn nodes_of(alloc: Global, chunks: &[Chunk]) -> Result<Vec<Node>, All
     Ok(nodes)
 }
 
-// Returns the sum of the sizes, if it is at most `u64::MAX`.
-fn total(chunks: &[Chunk]) -> Option<u64>
-    ensures { SomeIff result (sum_by (λ chunk. chunk.size) chunks.now < 2 ^ 64) (sum_by (λ chunk. chunk.size) chunks.now) }
-{
-    let mut total = 0u64;
-    'sizes: for chunk in chunks {
-        total = total.checked_add(chunk.size)?;
-    }
-    Some(total)
-}
-
 // Returns whether the sizes add up to at most `u64::MAX`.
-#[tactic(auto, using(crate::proofs::NodesOfChunks::total_size_of_nodes))]
 pub(crate) fn sizes_fit(chunks: &[Chunk]) -> bool
     ensures { IsTrue result ↔ (total_size (nodes_of chunks.now) < 2 ^ 64) }
 {
-    total(chunks).is_some()
+    total_size_of(chunks).is_some()
 }

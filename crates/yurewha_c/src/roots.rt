@@ -1,40 +1,18 @@
 //! Roots, file hashes and stable points of lists of chunks.
 
-ghost use Rattle.std.specs.Prelude.{◌≡◌, ◌≢◌, ◌⊎◌, ◌↔◌, ◌^◌, ◌≤◌, length, replicate, IfOk, IfErr, IsErrOf, IsOk};
-ghost use Rattle.xet_merkle.specs.Roots.{total_size, IsRoot};
+ghost use Rattle.std.specs.Prelude.{◌≡◌, ◌≢◌, replicate};
+ghost use Rattle.xet_merkle.specs.Roots.{IsRoot};
 ghost use Rattle.xet_merkle.specs.StablePoints.{IsFirstStable, IsLastStable};
 ghost use Rattle.yurewha_c.specs.Chunks.{nodes_of};
 ghost use Rattle.yurewha_c.specs.Roots.{IsBoundaryAnywhere, IsRootStatus, WritesFileHash, WritesPoint};
 
-use crate::chunks::{Chunk, nodes_of, sizes_fit};
+use crate::chunks::{Chunk, nodes_of};
 use crate::hash::{Bytes, Hash};
-use crate::status::{ARGUMENTS, DONE, MEMORY, SIZES, status_of};
+use crate::status::{ARGUMENTS, DONE, MEMORY, status_of};
 use std::alloc::Global;
-use xet_hash::data_hash::MerkleHash;
-use xet_merkle::CoreError;
-use xet_merkle::aggregated_hashes::{file_hash_of_root, xorb_hash};
+use xet_merkle::aggregated_hashes::file_hash_of_root;
+use xet_merkle::as_node::xorb_hash_of;
 use xet_merkle::merkle_hash_subtree::{find_stable_end, find_stable_start};
-
-// Returns the root of some chunks. It checks the sizes before it allocates. With one chunk or none it allocates
-// nothing.
-fn root_of(alloc: Global, chunks: &[Chunk]) -> Result<MerkleHash, CoreError>
-    ensures root { IfOk result (IsRoot (nodes_of chunks.now)) }
-    ensures overflow { IsErrOf result CoreError.SizeOverflow ↔ (2 ^ 64 ≤ total_size (nodes_of chunks.now)) }
-    ensures errors { IfErr result (λ e. (e ≡ CoreError.SizeOverflow) ⊎ (e ≡ CoreError.OutOfMemory)) }
-    ensures short { length chunks.now ≤ 1 → IsOk result }
-{
-    match chunks {
-        [] => xorb_hash(alloc, &[]),
-        [chunk] => xorb_hash(alloc, &[chunk.node()]),
-        _ => {
-            if !sizes_fit(chunks) {
-                return Err(CoreError::SizeOverflow);
-            }
-            let nodes = nodes_of(alloc, chunks)?;
-            xorb_hash(alloc, &nodes)
-        }
-    }
-}
 
 /// Writes the root of a list of chunks. The root of no chunks is the default hash. The root of one chunk is its own
 /// hash. The root of more chunks is the hash at the top of their tree.
@@ -50,7 +28,7 @@ pub extern "C" fn yurewha_xorb_hash(alloc: Global, chunks: &[Chunk], root: &mut 
     ensures status { IsRootStatus chunks.now result }
     ensures unchanged { result ≢ DONE → root.new ≡ root.old }
 {
-    match root_of(alloc, chunks) {
+    match xorb_hash_of(alloc, chunks) {
         Ok(value) => {
             *root = Hash::of(value);
             DONE
@@ -63,7 +41,7 @@ pub extern "C" fn yurewha_xorb_hash(alloc: Global, chunks: &[Chunk], root: &mut 
 fn write_file_hash(alloc: Global, chunks: &[Chunk], salt: &[u8; 32], hash: &mut Hash) -> u32
     ensures { WritesFileHash chunks.now salt.now result hash.old hash.new }
 {
-    match root_of(alloc, chunks) {
+    match xorb_hash_of(alloc, chunks) {
         Ok(root) => {
             *hash = Hash::of(file_hash_of_root(root, chunks.is_empty(), salt));
             DONE

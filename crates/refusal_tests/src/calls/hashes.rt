@@ -2,9 +2,11 @@
 
 use super::{Call, Chunks, Outcome, Refusing, outcome_of};
 use std::process::Abort;
+use test_support::{OwnNode, own_nodes};
 use xet_hash::data_hash::{DataHash, HashTextError};
 use xet_merkle::CoreError;
 use xet_merkle::aggregated_hashes::{Node, file_hash, file_hash_with_salt, xorb_hash};
+use xet_merkle::as_node::xorb_hash_of;
 
 const BYTES: [u8; 32] = [
     22, 175, 58, 132, 4, 75, 131, 214, 190, 153, 138, 66, 226, 3, 153, 242, 204, 86, 80, 234, 249,
@@ -72,9 +74,15 @@ pub fn attempt(rt: &impl Abort, call: Call, alloc: &Refusing, granted: u32) -> O
 
 const SALT: [u8; 32] = [7; 32];
 
-fn hash(call: Call, alloc: &Refusing, nodes: &[Node]) -> Result<DataHash, CoreError> {
+fn hash(
+    call: Call,
+    alloc: &Refusing,
+    nodes: &[Node],
+    own: &[OwnNode],
+) -> Result<DataHash, CoreError> {
     match call {
         Call::XorbHash => xorb_hash(alloc, nodes),
+        Call::XorbHashOf => xorb_hash_of(alloc, own),
         Call::FileHash => file_hash(alloc, nodes),
         _ => file_hash_with_salt(alloc, nodes, &SALT),
     }
@@ -88,10 +96,11 @@ pub fn of_chunks(
     granted: u32,
     chunks: &Chunks<'_>,
 ) -> Outcome {
-    let expected = hash(call, alloc, chunks.nodes).expect(rt, "a hash");
+    let own = own_nodes(chunks.alloc, chunks.nodes).expect(rt, "memory");
+    let expected = hash(call, alloc, chunks.nodes, &own).expect(rt, "a hash");
     let before = chunks.nodes.to_vec(chunks.alloc).expect(rt, "memory");
     alloc.grant(granted);
-    let answer = hash(call, alloc, chunks.nodes);
+    let answer = hash(call, alloc, chunks.nodes, &own);
     let is_same = chunks.nodes == before.as_slice();
     outcome_of(alloc, answer.map(|hash| hash == expected), is_same)
 }

@@ -7,32 +7,40 @@ use Rattle.xet_hash.specs.Hash.{default_hash, bytes_of, hash_of}
 use Rattle.xet_roots.specs.Groups.{Node, Groups}
 use Rattle.xet_roots.specs.Roots.{total_size, parent_by, parent, IsRoot, IsFileHash}
 use Rattle.xet_roots.specs.Roots.IsRootBy.{no_node, one_node, of_parents}
-use Rattle.xet_roots.specs.Steps.Scan.{IsFirstGroup, AreFirstGroups, AreParents}
+use Rattle.xet_roots.specs.Steps.Scan.{IsFirstGroup, AreFirstGroups, AreParents, PushesParents}
 use Rattle.xet_roots.proofs.Grouping.OneCutting.{joined_nodes, Groups-push}
 use Rattle.xet_roots.proofs.Roots.OneRoot.{Groups-few, Groups-some}
 
--- some parents are made and a rest is left: whatever groups the rest has, theirs complete the parents
-abbrev pub MadeSoFar : (List Node → Node) → List Node → List Node → List Node → Type 0
-MadeSoFar make nodes made rest = (groups : List (List Node)) → Groups rest groups → AreParents make nodes (made ++ map make groups)
+-- some parents are made and a rest is left: whatever groups the rest has, theirs complete the parents to what is wanted
+abbrev pub LeadsTo : (List Node → Node) → (List Node → Type 0) → List Node → List Node → Type 0
+LeadsTo make Wanted made rest = (groups : List (List Node)) → Groups rest groups → Wanted (made ++ map make groups)
 
-module _ (make : List Node → Node) (nodes : List Node) where
-  pub MadeSoFar-more : (made rest : List Node) (groups : List (List Node)) (after : List Node) → AreFirstGroups rest groups after
-      → MadeSoFar make nodes made rest → MadeSoFar make nodes (made ++ map make groups) after
-  MadeSoFar-more made rest groups after first so_far = λ more cutting.
+-- to the parents of the groups of some nodes
+abbrev pub MadeSoFar : (List Node → Node) → List Node → List Node → List Node → Type 0
+MadeSoFar make nodes made rest = LeadsTo make (AreParents make nodes) made rest
+
+-- and to these after others
+abbrev pub PushedSoFar : (List Node → Node) → List Node → List Node → List Node → List Node → Type 0
+PushedSoFar make nodes old made rest = LeadsTo make (PushesParents make nodes old) made rest
+
+module _ (make : List Node → Node) (Wanted : List Node → Type 0) where
+  pub LeadsTo-more : (made rest : List Node) (groups : List (List Node)) (after : List Node) → AreFirstGroups rest groups after
+      → LeadsTo make Wanted made rest → LeadsTo make Wanted (made ++ map make groups) after
+  LeadsTo-more made rest groups after first so_far = λ more cutting.
       let joined : made ++ map make (groups ++ more) ≡ (made ++ map make groups) ++ map make more =
       ap (λ (l : List Node). made ++ l) (map-append make groups more) ∙ sym (append_assoc made (map make groups) (map make more)) in
-      subst (AreParents make nodes) joined (so_far (groups ++ more) (first more cutting))
+      subst Wanted joined (so_far (groups ++ more) (first more cutting))
 
-  pub MadeSoFar-one : (made rest : List Node) (n : ℕ) → IsFirstGroup (take n rest) (drop n rest) → MadeSoFar make nodes made rest →
-      MadeSoFar make nodes (made ++ make (take n rest) ∷ []) (drop n rest)
-  MadeSoFar-one made rest n first so_far = λ groups cutting.
+  pub LeadsTo-one : (made rest : List Node) (n : ℕ) → IsFirstGroup (take n rest) (drop n rest) → LeadsTo make Wanted made rest →
+      LeadsTo make Wanted (made ++ make (take n rest) ∷ []) (drop n rest)
+  LeadsTo-one made rest n first so_far = λ groups cutting.
       let group = take n rest in
       let longer : Groups rest (group ∷ groups) = subst (λ (l : List Node). Groups l (group ∷ groups)) (take-append-drop n rest) (Groups-push group (drop n rest) groups first cutting) in
-      subst (AreParents make nodes) (sym (append_assoc made (make group ∷ []) (map make groups))) (so_far (group ∷ groups) longer)
+      subst Wanted (sym (append_assoc made (make group ∷ []) (map make groups))) (so_far (group ∷ groups) longer)
 
-  pub MadeSoFar-all : (made rest : List Node) → rest ≡ [] → MadeSoFar make nodes made rest → AreParents make nodes made
-  MadeSoFar-all made rest none so_far =
-      subst (AreParents make nodes) (append-nil made)
+  pub LeadsTo-all : (made rest : List Node) → rest ≡ [] → LeadsTo make Wanted made rest → Wanted made
+  LeadsTo-all made rest none so_far =
+      subst Wanted (append-nil made)
       (so_far [] (subst (λ (l : List Node). Groups l []) (sym none) (record { joined = refl; are_groups = tt })))
 
 -- the sizes of what follows the first nodes

@@ -15,3 +15,11 @@ AreParents make nodes parents = (groups : List (List Node)) × Groups nodes grou
 -- some lists are the first groups of a list, and `rest` is what follows them: its groups complete them
 abbrev pub AreFirstGroups : List Node → List (List Node) → List Node → Type 0
 AreFirstGroups nodes groups rest = (more : List (List Node)) → Groups rest more → Groups nodes (groups ++ more)
+
+-- these are the first groups of each list that begins with `nodes`, and `rest` is what of `nodes` follows them
+abbrev pub StayFirstGroups : List Node → List (List Node) → List Node → Type 0
+StayFirstGroups nodes groups rest = (more : List Node) → AreFirstGroups (nodes ++ more) groups (rest ++ more)
+
+-- the parents of the groups of a list are added to `old`
+abbrev pub PushesParents : (List Node → Node) → List Node → List Node → List Node → Type 0
+PushesParents make nodes old new = (parents : List Node) × AreParents make nodes parents × (new ≡ old ++ parents)

@@ -75,4 +75,5 @@ returns-clause-parents g c =
       e.first,
       made_one_by_one (parent_by g.P.ParentMaker.hash_of) (lent groups) c.parents.parents count ([], 0)
           (omega (arith, e.room, e.within.0, length-map groups (λ (l : Bor (List Node)). l.now))) (omega (arith, inv.size, e.within.0)) (λ i h. inv.each i (omega arith)),
+      e.stay,
     )

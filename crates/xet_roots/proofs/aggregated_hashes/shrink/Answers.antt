@@ -2,7 +2,8 @@ use Rattle.std.proofs.Common.{◌≡◌, ℕ, rules, tests, List, [], ◌∷◌,
 use Rattle.std.proofs.lemmas.List.{nil_from_length, take_more, take_more_set, drop-set-lt, drop-drop, drop_all, take_rest}
 use Rattle.xet_roots.specs.Groups.{Node}
 use Rattle.xet_roots.specs.Roots.{parent}
-use Rattle.xet_roots.proofs.Roots.Making.{MadeSoFar-more, MadeSoFar-one, MadeSoFar-all, total_size-drop-le}
+use Rattle.xet_roots.specs.Steps.Scan.{AreParents}
+use Rattle.xet_roots.proofs.Roots.Making.{LeadsTo-more, LeadsTo-one, LeadsTo-all, total_size-drop-le}
 use Rattle.xet_roots.proofs.aggregated_hashes.shrink.Goals as goal
 
 pub parents-preserved : goal.parents-preserved
@@ -58,7 +59,7 @@ batches-preserved g c =
     record {
       written = omega (arith, inv.written, e.within.1);
       within = omega (arith, c.parents.invariant.size, inv.within);
-      so_far = rw (same_rest, longer) (MadeSoFar-more parent start (take made before) (drop read before) groups (drop first.2 (drop read before)) are_first inv.so_far);
+      so_far = rw (same_rest, longer) (LeadsTo-more parent (AreParents parent start) (take made before) (drop read before) groups (drop first.2 (drop read before)) are_first inv.so_far);
       fits = rw same_rest (omega (arith, total_size-drop-le first.2 (drop read before), inv.fits));
     }
 
@@ -103,11 +104,11 @@ groups-preserved g c =
     ap (λ (i : ℕ). take i (set once (made + 1) q)) two ∙ take_more_set once (made + 1) q (omega arith) ∙ ap (λ (l : List Node). l ++ q ∷ []) (take_more_set nodes made p (omega arith))
     ∙ ap (λ (x : Node). (take made nodes ++ x ∷ []) ++ q ∷ []) same_first
     ∙ ap (λ (x : Node). (take made nodes ++ parent (take n rest) ∷ []) ++ x ∷ []) same_second in
-    let one_more = MadeSoFar-one parent start (take made nodes) rest n first c.groups.invariant.so_far in
+    let one_more = LeadsTo-one parent (AreParents parent start) (take made nodes) rest n first c.groups.invariant.so_far in
     record {
       written = omega arith;
       within = rw (length-set once (made + 1) q, len_once) (omega arith);
-      so_far = rw (same_rest, longer) (MadeSoFar-one parent start (take made nodes ++ parent (take n rest) ∷ []) after m second one_more);
+      so_far = rw (same_rest, longer) (LeadsTo-one parent (AreParents parent start) (take made nodes ++ parent (take n rest) ∷ []) after m second one_more);
       fits = rw same_rest (omega (arith, total_size-drop-le n rest, total_size-drop-le m after));
     }
 
@@ -132,10 +133,10 @@ returns-then-is_empty g c =
     let longer : take (made + 1) (set nodes made p) ≡ take made nodes ++ parent (take n rest) ∷ [] =
     take_more_set nodes made p (omega arith) ∙ ap (λ (x : Node). take made nodes ++ x ∷ []) (c.parent.ensures ∙ ap parent front) in
     rw (c.truncate.ensures.items, longer)
-    (MadeSoFar-all parent start (take made nodes ++ parent (take n rest) ∷ []) (drop n rest) all (MadeSoFar-one parent start (take made nodes) rest n first c.groups.invariant.so_far))
+    (LeadsTo-all parent (AreParents parent start) (take made nodes ++ parent (take n rest) ∷ []) (drop n rest) all (LeadsTo-one parent (AreParents parent start) (take made nodes) rest n first c.groups.invariant.so_far))
 
 pub returns : goal.returns
 returns g c =
     let nodes = c.groups.nodes.items in
     rw c.truncate-2.ensures.items
-    (MadeSoFar-all parent c.args.nodes.now.items (take c.groups.made nodes) (drop c.groups.read nodes) (drop_all c.groups.read nodes (omega arith)) c.groups.invariant.so_far)
+    (LeadsTo-all parent (AreParents parent c.args.nodes.now.items) (take c.groups.made nodes) (drop c.groups.read nodes) (drop_all c.groups.read nodes (omega arith)) c.groups.invariant.so_far)

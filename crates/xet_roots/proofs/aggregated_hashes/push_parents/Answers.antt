@@ -1,24 +1,24 @@
-use Rattle.std.proofs.Common.{◌≡◌, ℕ, ◌+◌, ◌∷◌, [], ◌++◌, List, drop, length, take, rules, tests, refl, sym, ap, ◌∙◌, arith, length-append, length-drop}
+use Rattle.std.proofs.Common.{◌≡◌, ℕ, ◌+◌, ◌∷◌, [], ◌++◌, List, drop, length, map, take, rules, tests, refl, sym, ap, ◌∙◌, arith, length-append, length-drop}
 use Rattle.std.proofs.lemmas.List.{length-take-le, nil_from_length}
 use Rattle.xet_roots.specs.Groups.{Node}
 use Rattle.xet_roots.specs.Roots.{parent_by}
-use Rattle.xet_roots.proofs.Roots.Making.{MadeSoFar-more, MadeSoFar-one, MadeSoFar-all, total_size-drop-le}
-use Rattle.xet_roots.proofs.aggregated_hashes.parents.Goals as goal
+use Rattle.xet_roots.specs.Steps.Scan.{PushesParents}
+use Rattle.xet_roots.proofs.Roots.Making.{LeadsTo-more, LeadsTo-one, LeadsTo-all, total_size-drop-le}
+use Rattle.xet_roots.proofs.aggregated_hashes.push_parents.Goals as goal
 
 pub batches-init : goal.batches-init
 batches-init g c =
-    let none = c.in_ok-made.ensures.items in
     record {
-      so_far = rw none (λ groups cutting. (groups, cutting, refl));
+      so_far = λ groups cutting. (map (parent_by g.P.ParentMaker.hash_of) groups, (groups, cutting, refl), refl);
       fits = omega arith;
-      count = rw none (omega arith);
-      few = rw none (omega arith);
+      count = refl;
+      few = c.requires.few;
     }
 
 pub batches-preserved : goal.batches-preserved
 batches-preserved g c =
     let make = parent_by g.P.ParentMaker.hash_of in
-    let nodes = c.args.nodes.now in
+    let wanted = PushesParents make c.args.nodes.now c.args.made.now.items in
     let made = c.batches.made.items in
     let rest = c.batches.rest.now in
     let inv = c.batches.invariant in
@@ -32,7 +32,7 @@ batches-preserved g c =
     let left = length-drop first.2 rest in
     let few = inv.few in
     record {
-      so_far = rw (after, items, e.parents.2) (MadeSoFar-more make nodes made rest groups (drop first.2 rest) e.parents.1 inv.so_far);
+      so_far = rw (after, items, e.parents.2) (LeadsTo-more make wanted made rest groups (drop first.2 rest) e.parents.1 inv.so_far);
       fits = rw after (omega (arith, total_size-drop-le first.2 rest, inv.fits));
       count = rw len (omega (arith, inv.count, e.count));
       few = rw (len, after) (omega (arith, e.within.1, e.within.2));
@@ -41,7 +41,7 @@ batches-preserved g c =
 pub groups-preserved : goal.groups-preserved
 groups-preserved g c =
     let make = parent_by g.P.ParentMaker.hash_of in
-    let nodes = c.args.nodes.now in
+    let wanted = PushesParents make c.args.nodes.now c.args.made.now.items in
     let made = c.groups.made.items in
     let rest = c.groups.rest.now in
     let n = c.first_group_len.result in
@@ -52,8 +52,8 @@ groups-preserved g c =
     let after : c.split_at-in-groups.result.1.now ≡ drop n rest = c.split_at-in-groups.ensures.back in
     let second = rw after at c.first_group_len-in-groups.ensures.first in
     let some = first.is_group.not_empty in
-    let one_more = MadeSoFar-one make nodes made rest n first c.groups.invariant.so_far in
-    let so_far = MadeSoFar-one make nodes (made ++ make (take n rest) ∷ []) (drop n rest) m second one_more in
+    let one_more = LeadsTo-one make wanted made rest n first c.groups.invariant.so_far in
+    let so_far = LeadsTo-one make wanted (made ++ make (take n rest) ∷ []) (drop n rest) m second one_more in
     let parent : (c.make_two-of_first.result.0, c.group_size-in-groups.result) ≡ make group = λ i. (c.make_two-of_first.ensures.first i, c.group_size-in-groups.ensures i) in
     let other_parent : (c.make_two-of_first.result.1, c.group_size-in-groups-2.result) ≡ make other = λ i. (c.make_two-of_first.ensures.second i, c.group_size-in-groups-2.ensures i) in
     let once : c.push-in-groups.new.self.items ≡ made ++ make group ∷ [] =
@@ -79,7 +79,7 @@ groups-preserved g c =
 pub returns-then-is_empty-clause-parents : goal.returns-then-is_empty-clause-parents
 returns-then-is_empty-clause-parents g c =
     let make = parent_by g.P.ParentMaker.hash_of in
-    let nodes = c.args.nodes.now in
+    let wanted = PushesParents make c.args.nodes.now c.args.made.now.items in
     let made = c.groups.made.items in
     let rest = c.groups.rest.now in
     let n = c.first_group_len.result in
@@ -89,13 +89,13 @@ returns-then-is_empty-clause-parents g c =
     let parent : (c.make.result, c.group_size.result) ≡ make group = λ i. (c.make.ensures.hash i, c.group_size.ensures i) in
     let items : c.push.new.self.items ≡ made ++ make (take n rest) ∷ [] =
     c.in_ok-push.ensures.items ∙ ap (λ (node : Node). made ++ node ∷ []) (parent ∙ ap make c.split_at-in-groups.ensures.front) in
-    rw items (MadeSoFar-all make nodes (made ++ make (take n rest) ∷ []) (drop n rest) all (MadeSoFar-one make nodes made rest n c.first_group_len.ensures.first c.groups.invariant.so_far))
+    rw items (LeadsTo-all make wanted (made ++ make (take n rest) ∷ []) (drop n rest) all (LeadsTo-one make wanted made rest n c.first_group_len.ensures.first c.groups.invariant.so_far))
 
 pub returns : goal.returns
 returns g c =
     let none : length c.groups.rest.now ≡ 0 = search (rules, tests) in
     record {
-      parents = MadeSoFar-all (parent_by g.P.ParentMaker.hash_of) c.args.nodes.now c.groups.made.items c.groups.rest.now (nil_from_length c.groups.rest.now none) c.groups.invariant.so_far;
+      parents = LeadsTo-all (parent_by g.P.ParentMaker.hash_of) (PushesParents (parent_by g.P.ParentMaker.hash_of) c.args.nodes.now c.args.made.now.items) c.groups.made.items c.groups.rest.now (nil_from_length c.groups.rest.now none) c.groups.invariant.so_far;
       count = c.groups.invariant.count;
       few = let few = c.groups.invariant.few in omega arith;
     }
