@@ -390,6 +390,9 @@ fn changes_ask_for_memory_in_proportion_to_the_chunks(rt: HostRuntime) {
     }
 }
 
+// The most nodes of a list that are copied at once where its elements are nodes in a form of their own.
+const PIECE: u64 = 144;
+
 #[test]
 fn a_root_takes_room_for_a_third_of_the_chunks(rt: HostRuntime) {
     for count in COUNTS {
@@ -401,12 +404,16 @@ fn a_root_takes_room_for_a_third_of_the_chunks(rt: HostRuntime) {
         alloc.grant(u32::MAX);
         let same = xorb_hash_of(&alloc, &own).expect(&rt, "a hash") == root;
         let asked_of_own = alloc.granted();
-        for asked in [asked, asked_of_own] {
-            assert!(rt;
-                same && asked.requests == 1 && asked.bytes <= count.div_ceil(3).saturating_mul(NODE),
-                "{count}: {asked:?}"
-            );
-        }
+        let room = count.div_ceil(3);
+        assert!(rt;
+            asked.requests == 1 && asked.bytes <= room.saturating_mul(NODE),
+            "{count}: {asked:?}"
+        );
+        assert!(rt;
+            same && asked_of_own.requests == 2
+                && asked_of_own.bytes <= room.saturating_add(PIECE).saturating_mul(NODE),
+            "{count}: {asked_of_own:?}"
+        );
     }
 }
 

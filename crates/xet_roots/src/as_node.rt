@@ -4,12 +4,12 @@
 ghost use Rattle.std.specs.Prelude.{◌≡◌, ◌⊎◌, ◌+◌, ◌^◌, ◌<◌, ◌≤◌, ◌↔◌, length, map, min, take, IsOk, IsSome, IfOk, IfErr, IsErrOf, SomeIff};
 ghost use Rattle.xet_roots.specs.Groups.{Node};
 ghost use Rattle.xet_roots.specs.Roots.{total_size, parent_by, IsRoot};
-ghost use Rattle.xet_roots.specs.Steps.Scan.{AreParents, PushesParents};
+ghost use Rattle.xet_roots.specs.Steps.Scan.{AreParents};
 ghost use Rattle.xet_roots.specs.Steps.Room.{most_made};
 
 use crate::aggregated_hashes::{first_parents, push_parents, root};
 use crate::error::CoreError;
-use crate::groups::{ENOUGH, MAX_GROUP_LEN, MIN_GROUP_LEN, Node};
+use crate::groups::{ENOUGH, MIN_GROUP_LEN, Node};
 use crate::parent_maker::{ParentHashes, ParentMaker};
 use std::alloc::{AllocError, Allocator};
 use xet_hash::data_hash::MerkleHash;
@@ -36,41 +36,23 @@ pub fn total_size_of<T: AsNode>(nodes: &[T]) -> Option<u64>
     Some(total)
 }
 
-// The most nodes of a list for which a short piece is cleared, which takes less time than one of as many nodes as are enough.
-const SHORT: usize = 2 * MAX_GROUP_LEN;
-
-// Writes the first nodes of a list to a piece, as many as there is room for. Returns how many they are.
-fn read_piece<T: AsNode>(nodes: &[T], piece: &mut [Node]) -> usize
-    ensures count { result ≡ min (length nodes.now) (length piece.old) }
-    ensures room { length piece.new ≡ length piece.old }
-    ensures read { take result piece.new ≡ map T.node_of (take result nodes.now) }
-{
-    let count = nodes.len().min(piece.len());
-    'nodes: for i in 0..count {
-        piece[i] = nodes[i].node();
-    }
-    count
-}
-
-// Adds the parents of the groups of a list, for whose nodes a piece has room, to another list. The hashes come from a maker.
-fn push_parents_of<A: Allocator, T: AsNode, P: ParentMaker>(
-    made: &mut Vec<Node, A>,
+// Reads the first nodes of a list into a piece, as many as are enough, or all if there are fewer.
+fn read_piece<A: Allocator, T: AsNode>(
+    piece: &mut Vec<Node, A>,
     nodes: &[T],
-    piece: &mut [Node],
-    maker: &mut P,
 ) -> Result<(), AllocError>
-    requires room { length nodes.now ≤ length piece.old }
-    requires fits { total_size (map T.node_of nodes.now) < 2 ^ 64 }
-    requires few { length made.old.items + length nodes.now < 2 ^ 64 }
-    requires maker { P.count maker.old ≤ most_made + length made.old.items }
-    ensures { IfOk result (λ _. PushesParents (parent_by P.hash_of) (map T.node_of nodes.now) made.old.items made.new.items) }
+    ensures { IfOk result (λ _. piece.new.items ≡ map T.node_of (take ENOUGH nodes.now)) }
 {
-    let count = read_piece(nodes, piece);
-    push_parents(made, &piece[..count], maker)
+    piece.clear();
+    let (first, _) = nodes.split_at(ENOUGH.min(nodes.len()));
+    'nodes: for node in first {
+        piece.push(node.node())?;
+    }
+    Ok(())
 }
 
 // Returns the parents of the groups of a list, in a new list. The hashes come from a maker.
-fn parents_of<A: Allocator, T: AsNode, P: ParentMaker>(
+fn parents_of<A: Allocator + Copy, T: AsNode, P: ParentMaker>(
     alloc: A,
     nodes: &[T],
     maker: &mut P,
@@ -81,21 +63,17 @@ fn parents_of<A: Allocator, T: AsNode, P: ParentMaker>(
 {
     // Each group but the last has at least three nodes.
     let mut made = Vec::with_capacity(alloc, nodes.len().div_ceil(MIN_GROUP_LEN))?;
-    if nodes.len() <= SHORT {
-        let mut piece = [(MerkleHash::default(), 0); SHORT];
-        push_parents_of(&mut made, nodes, &mut piece, maker)?;
-        return Ok(made);
-    }
-    let mut piece = [(MerkleHash::default(), 0); ENOUGH];
+    let mut piece = Vec::with_capacity(alloc, nodes.len().min(ENOUGH))?;
     let mut rest = nodes;
     'pieces: while rest.len() > ENOUGH {
-        let _all = read_piece(rest, &mut piece);
+        read_piece(&mut piece, rest)?;
         let (parents, count, read) = first_parents(&piece, maker);
         made.extend_from_slice(&parents[..count])?;
         let (_, after) = rest.split_at(read);
         rest = after;
     }
-    push_parents_of(&mut made, rest, &mut piece, maker)?;
+    read_piece(&mut piece, rest)?;
+    push_parents(&mut made, &piece, maker)?;
     Ok(made)
 }
 
@@ -103,7 +81,7 @@ fn parents_of<A: Allocator, T: AsNode, P: ParentMaker>(
 /// With more it is the root of the parents of the list's groups.
 ///
 /// Fails like [`xorb_hash`](crate::aggregated_hashes::xorb_hash), in the same order.
-pub fn xorb_hash_of<A: Allocator, T: AsNode>(
+pub fn xorb_hash_of<A: Allocator + Copy, T: AsNode>(
     alloc: A,
     chunks: &[T],
 ) -> Result<MerkleHash, CoreError>

@@ -43,6 +43,11 @@ module _ (make : List Node → Node) (Wanted : List Node → Type 0) where
       subst Wanted (append-nil made)
       (so_far [] (subst (λ (l : List Node). Groups l []) (sym none) (record { joined = refl; are_groups = tt })))
 
+  -- the parents of the whole rest are added
+  pub LeadsTo-pushed : (made rest new : List Node) → PushesParents make rest made new → LeadsTo make Wanted made rest → Wanted new
+  LeadsTo-pushed made rest new pushed so_far =
+      subst Wanted (sym (pushed.2 ∙ ap (λ (l : List Node). made ++ l) pushed.1.2)) (so_far pushed.1.0 pushed.1.1)
+
 -- the sizes of what follows the first nodes
 pub total_size-append : (front back : List Node) → total_size (front ++ back) ≡ total_size front + total_size back
 total_size-append front back = sum_by-append (λ (node : Node). node.1) front back

@@ -1,7 +1,7 @@
 -- A list of nodes in a form of the caller's own, and the piece of it that is read.
-use Rattle.std.proofs.Common.{◌≡◌, ℕ, ◌+◌, ◌≤◌, List, [], ◌∷◌, ◌++◌, length, map, min, take, drop, refl, sym, ap, ◌∙◌, arith}
+use Rattle.std.proofs.Common.{◌≡◌, ℕ, ◌+◌, ◌≤◌, List, [], ◌∷◌, ◌++◌, length, map, take, drop, refl, sym, ap, ◌∙◌, arith}
 use Rattle.std.specs.Prelude.{sum_by}
-use Rattle.std.proofs.lemmas.List.{map-append, take-append-drop, take_all}
+use Rattle.std.proofs.lemmas.List.{length-map, length-take-le, map-append, take-append-drop}
 use Rattle.std.proofs.lemmas.List.Sums.{sum_by-cons}
 use Rattle.xet_roots.specs.Groups.{Node}
 use Rattle.xet_roots.specs.Roots.{total_size}
@@ -14,15 +14,14 @@ module _ {X : Type 0} (node : X → Node) where
       sum_by-cons (λ (n : Node). n.1) (node x) (map node xs) ∙ ap (λ (n : ℕ). (node x).1 + n) (total_size-map xs)
       ∙ sym (sum_by-cons (λ (x : X). (node x).1) x xs)
 
-  -- where a list has more nodes than a piece has room for, the piece is its front
-  pub piece_joins : (count : ℕ) (rest : List X) (piece : List Node) → length piece ≤ length rest → count ≡ min (length rest) (length piece)
-      → take count piece ≡ map node (take count rest) → piece ++ map node (drop (length piece) rest) ≡ map node rest
-  piece_joins count rest piece many all read =
-      let room = length piece in
-      let whole : count ≡ room = omega arith in
-      let front : piece ≡ map node (take room rest) = sym (take_all count piece (omega arith)) ∙ read ∙ ap (λ (n : ℕ). map node (take n rest)) whole in
-      ap (λ (l : List Node). l ++ map node (drop room rest)) front ∙ sym (map-append node (take room rest) (drop room rest))
-      ∙ ap (map node) (take-append-drop room rest)
+  pub piece_size : (count : ℕ) (rest : List X) (piece : List Node) → count ≤ length rest → piece ≡ map node (take count rest) → length piece ≡ count
+  piece_size count rest piece many read = ap length read ∙ length-map (take count rest) node ∙ length-take-le count rest many
+
+  -- a piece that is the front of a list is completed by the rest
+  pub piece_joins : (count : ℕ) (rest : List X) (piece : List Node) → piece ≡ map node (take count rest) → piece ++ map node (drop count rest) ≡ map node rest
+  piece_joins count rest piece read =
+      ap (λ (l : List Node). l ++ map node (drop count rest)) read ∙ sym (map-append node (take count rest) (drop count rest))
+      ∙ ap (map node) (take-append-drop count rest)
 
   pub piece_fits : (rest : List X) (piece more : List Node) → piece ++ more ≡ map node rest → total_size piece ≤ total_size (map node rest)
   piece_fits rest piece more joined = omega (arith, total_size-append piece more, ap total_size joined)

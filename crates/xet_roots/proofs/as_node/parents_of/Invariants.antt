@@ -5,7 +5,6 @@ use Rattle.xet_roots.proofs.as_node.parents_of.Given as goal
 
 abbrev pub invariant-pieces : goal.invariant-pieces
 invariant-pieces g l = record {
-  size : length l.piece ≡ 144;
   so_far : MadeSoFar (parent_by g.P.ParentMaker.hash_of) (map g.T.AsNode.node_of l.nodes) l.made.items (map g.T.AsNode.node_of l.rest);
   fits : total_size (map g.T.AsNode.node_of l.rest) ≤ total_size (map g.T.AsNode.node_of l.nodes);
   count : g.P.ParentMaker.count l.maker ≡ g.P.ParentMaker.count l.fn.maker + length l.made.items;
