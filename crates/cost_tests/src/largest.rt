@@ -6,7 +6,7 @@ use std::alloc::Global;
 use std::process::Abort;
 use test_support::trees::merge;
 use xet_hash::data_hash::MerkleHash;
-use xet_merkle::aggregated_hashes::Node;
+use xet_merkle::aggregated_hashes::{Node, xorb_hash};
 use xet_merkle::chunk_range::ChunkRange;
 use xet_merkle::merge_tree::MergeTree;
 use xet_merkle::plain_range::PlainRange;
@@ -32,6 +32,12 @@ fn chunks(rt: &impl Abort, alloc: Global) -> Vec<Node> {
 // Returns a range of some chunks, which is open at both ends.
 fn range<'a>(rt: &impl Abort, alloc: &'a Counting, chunks: &[Node]) -> Plain<'a> {
     Plain::from_chunks(alloc, false, chunks, false).expect(rt, "a range")
+}
+
+#[test]
+fn the_longest_list_has_a_root(rt: HostRuntime) {
+    let chunks = chunks(&rt, rt.alloc());
+    xorb_hash(rt.alloc(), &chunks).expect(&rt, "a root");
 }
 
 #[test]
