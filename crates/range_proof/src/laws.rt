@@ -1,13 +1,14 @@
 //! Laws of range proofs. Each function does nothing: its contract is the law.
 
-ghost use Rattle.std.specs.Prelude.{◌≡◌, ℕ, ◌+◌, ◌-◌, ◌^◌, ◌<◌, ◌≤◌, ◌⊎◌, List, length, take, drop};
+ghost use Rattle.std.specs.Prelude.{◌≡◌, ℕ, ◌+◌, ◌-◌, ◌^◌, ◌<◌, ◌≤◌, ◌⊎◌, false, List, length, take, drop};
 ghost use Rattle.serde_json.specs.Data.{Data};
+ghost use Rattle.serde_json.specs.Written.{has_float};
 ghost use Rattle.xet_hash.specs.Hash.{default_hash};
 ghost use Rattle.xet_roots.specs.Groups.{Node};
 ghost use Rattle.xet_roots.specs.Roots.{total_size, IsRoot, IsFileHash};
 ghost use Rattle.binding.specs.Binding.{chunk_nodes, HashedForRoot, HashedForFile, Collision};
 ghost use Rattle.range_proof.specs.RangeProof.{Proof, HasHashes, IsProofOf, Shows, ShowsRoot, IsWellFormed, begin_of, file_size_of};
-ghost use Rattle.range_proof.specs.ProofJson.{Reads};
+ghost use Rattle.range_proof.specs.ProofJson.{Reads, proof_json};
 ghost use Rattle.level_nodes.specs.FlatLevels.{IsFlat};
 ghost use Rattle.range_proof.specs.Soundness.{AreChunksAt, CheckedForRoot, CheckedForFile, HasChunksAt};
 ghost use Rattle.range_proof.specs.Reading.{IsRead};
@@ -88,6 +89,11 @@ pub fn one_range_proof()
         (proof : Proof) × IsProofOf nodes first end proof }
     ensures unique { (nodes : List Node) (first end : ℕ) (proof other : Proof) →
         IsProofOf nodes first end proof → IsProofOf nodes first end other → proof ≡ other }
+{}
+
+/// The JSON value of a range proof has no floats, so `compact_text` gives its text.
+pub fn proof_json_has_no_float()
+    ensures { (proof : Proof) → has_float (proof_json proof) ≡ false }
 {}
 
 /// A JSON value describes at most one range proof. So reading what `to_json` returns gives the same proof, unless an

@@ -1,2 +1,3 @@
+pub mod NoFloat
 pub mod OneMeaning
 pub mod Reading

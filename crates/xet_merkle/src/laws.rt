@@ -33,13 +33,12 @@ pub fn merging_is_associative()
 
 /// All bracketings of one list under the same marks give one subtree and one JSON text. If each range is the canonical
 /// subtree of its chunks, `MergeTree::run` and `merge` return a canonical subtree of the concatenated list. Two of
-/// those with the same marks are equal. The JSON value of a subtree has no floats, so `compact_text` gives its text.
+/// those with the same marks are equal.
 pub fn all_bracketings_agree()
     ensures subtrees { (a b : Subtree) (nodes : List Node) → a.at_start ≡ b.at_start → a.at_end ≡ b.at_end →
         IsCanonical a nodes → IsCanonical b nodes → a ≡ b }
     ensures texts { (a b : Subtree) (nodes : List Node) → a.at_start ≡ b.at_start → a.at_end ≡ b.at_end →
         IsCanonical a nodes → IsCanonical b nodes → compact_text (subtree_json a) ≡ compact_text (subtree_json b) }
-    ensures no_float { (subtree : Subtree) → has_float (subtree_json subtree) ≡ false }
 {}
 
 /// An empty range without marks is neutral: merging it with the canonical subtree of a list changes nothing.
@@ -48,6 +47,11 @@ pub fn empty_range_is_neutral()
         IsCanonical range nodes → IsCanonical empty [] → empty.at_end ≡ false → IsMerged range empty merged → merged ≡ range }
     ensures before { (range empty merged : Subtree) (nodes : List Node) →
         IsCanonical range nodes → IsCanonical empty [] → empty.at_start ≡ false → IsMerged empty range merged → merged ≡ range }
+{}
+
+/// The JSON value of a subtree has no floats, so `compact_text` gives its text.
+pub fn subtree_json_has_no_float()
+    ensures { (subtree : Subtree) → has_float (subtree_json subtree) ≡ false }
 {}
 
 /// A JSON value describes at most one subtree. So reading what `to_json` returns gives the same subtree, unless an

@@ -1,5 +1,4 @@
 pub mod Depth
-pub mod NoFloat
 pub mod OneLine
 pub mod MergedRanges
 pub mod Faults

@@ -6,6 +6,7 @@ ghost use Rattle.xetrange_text.specs.Proofs.{IsProofLine, SaysNoProof, SaysProof
 
 use line_io::fault::Refusal;
 use range_proof::RangeProof;
+use range_proof::laws::proof_json_has_no_float;
 use serde_json::Value;
 use std::alloc::{AllocError, Allocator, Global};
 use xet_merkle::error::CoreError;
@@ -19,6 +20,8 @@ pub fn write_proof<A: Allocator>(json: Global, proof: &RangeProof<A>) -> Result<
     let Ok(value) = proof.to_json(json) else {
         return Err(AllocError);
     };
+    // The contract needs this law: `to_vec` promises its text only for values without floats.
+    proof_json_has_no_float();
     let mut line = value.to_vec(json)?;
     line.push(b'\n')?;
     Ok(line)

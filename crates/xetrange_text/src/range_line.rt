@@ -10,7 +10,7 @@ use line_io::fault::Refusal;
 use serde_json::Value;
 use std::alloc::{AllocError, Allocator, Global};
 use xet_merkle::error::CoreError;
-use xet_merkle::laws::all_bracketings_agree;
+use xet_merkle::laws::subtree_json_has_no_float;
 use xet_merkle::merkle_hash_subtree::MerkleHashSubtree;
 
 /// Returns the line of a range that is open at both ends: its compact JSON text and a newline.
@@ -25,8 +25,8 @@ pub fn write_range<A: Allocator>(
     let Ok(value) = range.to_json(json) else {
         return Err(AllocError);
     };
-    // A law of the JSON values of subtrees, for the contract.
-    all_bracketings_agree();
+    // The contract needs this law: `to_vec` promises its text only for values without floats.
+    subtree_json_has_no_float();
     let mut line = value.to_vec(json)?;
     line.push(b'\n')?;
     Ok(line)

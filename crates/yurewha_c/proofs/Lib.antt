@@ -9,4 +9,3 @@ pub mod Handles
 pub mod HandleTypes
 pub mod HandleWalks
 pub mod SessionStatuses
-pub mod ProofTexts

@@ -15,17 +15,19 @@ use crate::status::{DONE, MEMORY, PROOF_RULE, ROOM, TEXT, status_of_proof};
 use crate::subtree_flat::Level;
 use crate::text::write_text;
 use range_proof::RangeProof;
+use range_proof::laws::proof_json_has_no_float;
 use serde_json::Value;
 use std::alloc::{AllocError, Global};
 
 // Returns the compact JSON text of a range proof.
-#[tactic(auto, using(crate::proofs::ProofTexts::no_float))]
 fn json_text(alloc: Global, proof: &RangeProof) -> Result<Vec<u8>, AllocError>
     ensures { IfOk result (λ text. text.items ≡ compact_text (proof_json proof.now)) }
 {
     let Ok(value) = proof.to_json(alloc) else {
         return Err(AllocError);
     };
+    // The contract needs this law: `to_vec` promises its text only for values without floats.
+    proof_json_has_no_float();
     value.to_vec(alloc)
 }
 

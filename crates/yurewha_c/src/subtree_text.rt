@@ -12,7 +12,7 @@ use crate::subtree_handle::SubtreeHandle;
 use crate::text::write_text;
 use serde_json::Value;
 use std::alloc::{AllocError, Global};
-use xet_merkle::laws::all_bracketings_agree;
+use xet_merkle::laws::subtree_json_has_no_float;
 use xet_merkle::merkle_hash_subtree::MerkleHashSubtree;
 
 // Returns the compact JSON text of a subtree.
@@ -22,8 +22,8 @@ fn json_text(alloc: Global, subtree: &MerkleHashSubtree) -> Result<Vec<u8>, Allo
     let Ok(value) = subtree.to_json(alloc) else {
         return Err(AllocError);
     };
-    // A law of the JSON values of subtrees, for the contract.
-    all_bracketings_agree();
+    // The contract needs this law: `to_vec` promises its text only for values without floats.
+    subtree_json_has_no_float();
     value.to_vec(alloc)
 }
 

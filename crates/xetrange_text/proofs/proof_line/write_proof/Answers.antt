@@ -7,14 +7,13 @@ use Rattle.line_io.specs.Lines.{newline}
 use Rattle.range_proof.specs.ProofJson.{proof_json}
 use Rattle.xetrange_text.specs.Ranges.{IsTextOf}
 use Rattle.xetrange_text.proofs.Depth.{proof_depth}
-use Rattle.xetrange_text.proofs.NoFloat.{proof-no_float}
 use Rattle.xetrange_text.proofs.proof_line.write_proof.Goals as goal
 
 pub returns : goal.returns
 returns g c =
     let proof = c.args.proof.now in
     let is = c.in-Ok.ensures.json in
-    let plain = ap has_float is ∙ proof-no_float proof in
+    let plain = ap has_float is ∙ c.proof_json_has_no_float.ensures proof in
     let text = c.in_ok-line.ensures.text plain ∙ ap compact_text is in
     let shallow : depth (view c.in-Ok.value) ≤ max_depth = subst (λ d. depth d ≤ max_depth) (sym is) (omega (arith, proof_depth proof)) in
     let back = c.in_ok-line.ensures.reads_back shallow in

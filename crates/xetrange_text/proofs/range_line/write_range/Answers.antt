@@ -13,7 +13,7 @@ pub returns : goal.returns
 returns g c = λ is_open.
     let range = c.args.range.now in
     let is = c.in-Ok.ensures.json in
-    let plain = ap has_float is ∙ c.all_bracketings_agree.ensures.no_float range in
+    let plain = ap has_float is ∙ c.subtree_json_has_no_float.ensures range in
     let text = c.in_ok-line.ensures.text plain ∙ ap compact_text is in
     let shallow : depth (view c.in-Ok.value) ≤ max_depth = subst (λ d. depth d ≤ max_depth) (sym is) (omega (arith, subtree_depth range)) in
     let back = c.in_ok-line.ensures.reads_back shallow in
