@@ -1,11 +1,11 @@
 //! The program `xetrange`, given its arguments and devices.
 
-ghost use Rattle.std.specs.Prelude.{◌≡◌, ◌≢◌, IfErr, IfNone, IfSome, IsNone, IsOkAnd, IsSomeAnd};
+ghost use Rattle.std.specs.Prelude.{◌≡◌, ◌≢◌, IfErr, IsOkAnd};
 ghost use Rattle.std.specs.Io.KnownBytes.{Keeps};
 ghost use Rattle.std.specs.IoError.{error_kind};
 ghost use Rattle.line_io.specs.Answers.{AnswersInput, WritesOut};
 ghost use Rattle.line_io.specs.Requests.{AskForHelp, AskForVersion, words_of};
-ghost use Rattle.xetrange_text.specs.Status.{IsStatusOf, status_of};
+ghost use Rattle.xetrange_text.specs.Status.{IsStatusOf, exit_status, status_of};
 ghost use Rattle.xetrange_text.specs.Words.{AreKnown, HasCommand, IsAnswerOf, IsFaultOf};
 ghost use Rattle.xetrange_text.specs.declared.command.Command.{Command};
 ghost use Rattle.xetrange_text.specs.declared.fault.RangeFault.{RangeFault};
@@ -76,54 +76,40 @@ pub fn program<R: Read, W: Write, E: Write>(
     ensures unread { ((command : Command) → ¬ HasCommand args command) → Keeps (R.remaining r.old) (R.remaining r.new) }
     ensures silent { result ≡ 0 → Keeps (E.contents errors.old) (E.contents errors.new) }
 {
-    let Some(result) = perform(alloc, json, args, r, w) else {
-        print_line(
-            errors,
-            "xetrange: expected make, join, root, prove FIRST END, verify HASH FROM TO, --help or --version",
-        );
-        return WRONG_ARGUMENT;
-    };
-    match result {
+    match Request::read(args) {
+        Ok(Request::Command(word, rest)) => match Command::read(&word, rest) {
+            Some(command) => report(errors, command.run(alloc, json, r, w)),
+            None => refuse(errors),
+        },
+        Ok(Request::Help) => report(errors, write_text(w, HELP)),
+        Ok(Request::Version) => report(errors, write_text(w, VERSION)),
+        Ok(Request::Nothing | Request::Unreadable) => refuse(errors),
+        Err(_) => report(errors, Err(RangeFault::Memory)),
+    }
+}
+
+// Writes which arguments there are. Returns the exit status after wrong ones.
+fn refuse<E: Write>(errors: &mut E) -> u8
+    ensures { result ≡ WRONG_ARGUMENT }
+{
+    print_line(
+        errors,
+        "xetrange: expected make, join, root, prove FIRST END, verify HASH FROM TO, --help or --version",
+    );
+    WRONG_ARGUMENT
+}
+
+// Writes the fault that ended a call, if one did. Returns the exit status.
+fn report<E: Write>(errors: &mut E, done: Result<(), RangeFault>) -> u8
+    ensures status { result ≡ exit_status done }
+    ensures silent { result ≡ 0 → Keeps (E.contents errors.old) (E.contents errors.new) }
+{
+    match done {
         Ok(()) => 0,
         Err(fault) => {
             print_line(errors, fault);
             fault.status()
         }
-    }
-}
-
-// Does what the arguments request. Returns `None` if they are wrong.
-fn perform<R: Read, W: Write>(
-    alloc: impl Allocator,
-    json: Global,
-    args: io::Result<Args>,
-    r: &mut R,
-    w: &mut W,
-) -> Option<Result<(), RangeFault>>
-    ensures command { (command : Command) → HasCommand args command → IsSomeAnd result (AnswersInput (IsAnswerOf command)
-        (IsFaultOf command) RangeFault.Write (R.remaining r.old) (R.remaining r.new) (W.contents w.old) (W.contents w.new)) }
-    ensures help { IsOkAnd args (λ args. AskForHelp (words_of args)) → IsSomeAnd result (
-        WritesOut HELP.now RangeFault.Write (W.contents w.old) (W.contents w.new)) }
-    ensures version { IsOkAnd args (λ args. AskForVersion (words_of args)) → IsSomeAnd result (
-        WritesOut VERSION.now RangeFault.Write (W.contents w.old) (W.contents w.new)) }
-    ensures wrong { IsOkAnd args (λ args. ¬ (AreKnown (words_of args))) → IsNone result }
-    ensures unreadable { IfErr args (λ error.
-        (error_kind error ≡ ErrorKind.OutOfMemory → result ≡ Some (Err RangeFault.Memory))
-        × (error_kind error ≢ ErrorKind.OutOfMemory → IsNone result)) }
-    ensures unread { ((command : Command) → ¬ HasCommand args command) → Keeps (R.remaining r.old) (R.remaining r.new) }
-    ensures none { IfNone result (Keeps (W.contents w.old) (W.contents w.new)) }
-    ensures unwritten { IfSome result (λ done. IfErr done (λ fault. fault ≢ RangeFault.Write →
-        Keeps (W.contents w.old) (W.contents w.new))) }
-{
-    match Request::read(args) {
-        Ok(Request::Command(word, rest)) => {
-            let command = Command::read(&word, rest)?;
-            Some(command.run(alloc, json, r, w))
-        }
-        Ok(Request::Help) => Some(write_text(w, HELP)),
-        Ok(Request::Version) => Some(write_text(w, VERSION)),
-        Ok(Request::Nothing | Request::Unreadable) => None,
-        Err(_) => Some(Err(RangeFault::Memory)),
     }
 }
 

@@ -1,12 +1,12 @@
 //! The program `xetroot`, given its arguments and devices.
 
-ghost use Rattle.std.specs.Prelude.{◌≡◌, ◌≢◌, [], IfErr, IfNone, IfSome, IsNone, IsOkAnd, IsSomeAnd};
+ghost use Rattle.std.specs.Prelude.{◌≡◌, ◌≢◌, [], IfErr, IfSome, IsOkAnd};
 ghost use Rattle.std.specs.Io.KnownBytes.{Keeps};
 ghost use Rattle.std.specs.IoError.{error_kind};
 ghost use Rattle.line_io.specs.Answers.{AnswersInput, WritesOut};
 ghost use Rattle.line_io.specs.Requests.{AskForHelp, AskForVersion, HasWords, words_of};
 ghost use Rattle.xetroot_text.specs.Answer.{IsAnswer, IsFaultOf};
-ghost use Rattle.xetroot_text.specs.Status.{IsStatusOf, status_of};
+ghost use Rattle.xetroot_text.specs.Status.{IsStatusOf, exit_status, status_of};
 ghost use Rattle.xetroot_text.specs.Words.{AreKnown};
 
 use crate::fault::Fault;
@@ -66,49 +66,29 @@ pub fn program<C: ChunkRange, R: Read, W: Write, E: Write>(
     ensures unread { ¬ HasWords args [] → Keeps (R.remaining r.old) (R.remaining r.new) }
     ensures silent { result ≡ 0 → Keeps (E.contents errors.old) (E.contents errors.new) }
 {
-    let Some(result) = perform::<C, R, W>(alloc, args, r, w) else {
-        print_line(errors, "xetroot: expected no argument, --help or --version");
-        return WRONG_ARGUMENT;
-    };
-    match result {
+    match Request::read(args) {
+        Ok(Request::Nothing) => report(errors, run_with::<C, R, W>(alloc, r, w)),
+        Ok(Request::Help) => report(errors, write_text(w, HELP)),
+        Ok(Request::Version) => report(errors, write_text(w, VERSION)),
+        Ok(Request::Command(..) | Request::Unreadable) => {
+            print_line(errors, "xetroot: expected no argument, --help or --version");
+            WRONG_ARGUMENT
+        }
+        Err(_) => report(errors, Err(Fault::Memory)),
+    }
+}
+
+// Writes the fault that ended a call, if one did. Returns the exit status.
+fn report<E: Write>(errors: &mut E, done: Result<(), Fault>) -> u8
+    ensures status { result ≡ exit_status done }
+    ensures silent { result ≡ 0 → Keeps (E.contents errors.old) (E.contents errors.new) }
+{
+    match done {
         Ok(()) => 0,
         Err(fault) => {
             print_line(errors, fault);
             fault.status()
         }
-    }
-}
-
-// Does what the arguments request. Returns `None` if they are wrong.
-fn perform<C: ChunkRange, R: Read, W: Write>(
-    alloc: C::Alloc,
-    args: io::Result<Args>,
-    r: &mut R,
-    w: &mut W,
-) -> Option<Result<(), Fault>>
-    ensures run { HasWords args [] → IsSomeAnd result (AnswersInput IsAnswer IsFaultOf Fault.Write
-        (R.remaining r.old) (R.remaining r.new) (W.contents w.old) (W.contents w.new)) }
-    ensures help { IsOkAnd args (λ args. AskForHelp (words_of args)) → IsSomeAnd result (
-        WritesOut HELP.now Fault.Write (W.contents w.old) (W.contents w.new)) }
-    ensures version { IsOkAnd args (λ args. AskForVersion (words_of args)) → IsSomeAnd result (
-        WritesOut VERSION.now Fault.Write (W.contents w.old) (W.contents w.new)) }
-    ensures wrong { IsOkAnd args (λ args. ¬ (AreKnown (words_of args))) → IsNone result }
-    ensures unreadable { IfErr args (λ error.
-        (error_kind error ≡ ErrorKind.OutOfMemory → result ≡ Some (Err Fault.Memory))
-        × (error_kind error ≢ ErrorKind.OutOfMemory → IsNone result)) }
-    ensures fault { IfSome result (λ done. IfErr done (λ fault.
-        IfSome (R.remaining r.old) (λ text. IsFaultOf text fault))) }
-    ensures unwritten { IfSome result (λ done. IfErr done (λ fault. fault ≢ Fault.Write →
-        Keeps (W.contents w.old) (W.contents w.new))) }
-    ensures unread { ¬ HasWords args [] → Keeps (R.remaining r.old) (R.remaining r.new) }
-    ensures none { IfNone result (Keeps (W.contents w.old) (W.contents w.new)) }
-{
-    match Request::read(args) {
-        Ok(Request::Nothing) => Some(run_with::<C, R, W>(alloc, r, w)),
-        Ok(Request::Help) => Some(write_text(w, HELP)),
-        Ok(Request::Version) => Some(write_text(w, VERSION)),
-        Ok(Request::Command(..) | Request::Unreadable) => None,
-        Err(_) => Some(Err(Fault::Memory)),
     }
 }
 
