@@ -8,8 +8,8 @@ ghost use Rattle.chunk_ranges.specs.Ranges.{Refusals};
 pub use crate::open_range::hashes_of_open;
 use std::alloc::Allocator;
 use xet_hash::data_hash::MerkleHash;
+use xet_roots::aggregated_hashes::Node;
 use xet_roots::error::CoreError;
-use xet_roots::groups::Node;
 
 /// A range of adjacent chunks. An implementation keeps as much of it as it needs. It makes a range from chunks, merges
 /// it with the range that follows without the chunks, and returns the root of the list once both ends are marked.

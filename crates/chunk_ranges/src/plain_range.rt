@@ -8,9 +8,9 @@ use crate::chunk_range::ChunkRange;
 use std::alloc::{Allocator, Global};
 use std::marker::Model;
 use xet_hash::data_hash::MerkleHash;
-use xet_roots::aggregated_hashes::xorb_hash;
+use xet_roots::aggregated_hashes::{Node, xorb_hash};
 use xet_roots::error::CoreError;
-use xet_roots::groups::{Node, total_size};
+use xet_roots::groups::total_size;
 
 /// A range of chunks that keeps each chunk. It is the simplest way to merge ranges, for tests and for short lists.
 #[derive(Debug, Drop)]

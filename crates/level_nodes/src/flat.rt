@@ -5,7 +5,7 @@ ghost use Rattle.level_nodes.specs.FlatLevels.{count_of, count_sum, IsFlat};
 
 use crate::levels::LevelNodes;
 use std::alloc::{AllocError, Allocator};
-use xet_roots::groups::Node;
+use xet_roots::aggregated_hashes::Node;
 
 /// Returns the numbers of left and right nodes of a level.
 pub fn count_of<A: Allocator>(level: &LevelNodes<A>) -> (usize, usize)

@@ -5,7 +5,7 @@ ghost use Rattle.std.specs.Prelude.{◌≡◌, ◌+◌, ◌-◌, ◌≤◌, ◌+
 use std::alloc::{AllocError, Allocator};
 use std::marker::Model;
 use xet_hash::data_hash::MerkleHash;
-use xet_roots::groups::Node;
+use xet_roots::aggregated_hashes::Node;
 
 // The left nodes of a level. More nodes can be added before or after them. On average each node is then copied a
 // constant number of times.

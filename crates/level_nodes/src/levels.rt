@@ -7,7 +7,7 @@ ghost use Rattle.level_nodes.specs.Steps.LevelEquality.{same_level-per, same_lev
 use crate::left_nodes::LeftNodes;
 use std::alloc::{AllocError, Allocator};
 use std::marker::Model;
-use xet_roots::groups::Node;
+use xet_roots::aggregated_hashes::Node;
 
 /// The kept nodes of a level, on both sides.
 #[derive(Debug, Drop)]

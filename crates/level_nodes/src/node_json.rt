@@ -12,8 +12,8 @@ ghost use Rattle.level_nodes.specs.NodeJson.{node_json, ReadsNode};
 use serde_json::{Value, json};
 use std::alloc::{AllocError, Allocator, Global};
 use xet_hash::data_hash::DataHash;
+use xet_roots::aggregated_hashes::Node;
 use xet_roots::error::CoreError;
-use xet_roots::groups::Node;
 
 /// Returns the values of a member that is an array, or `None` if there is no such member.
 pub fn array_member<'v>(value: &'v Value, name: &str) -> Option<&'v [Value]>

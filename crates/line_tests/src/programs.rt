@@ -10,6 +10,8 @@ use std::io::{self, ErrorKind};
 use std::process::Abort;
 use test_support::texts::{four_fields, with_hashes};
 use xet_merkle::merkle_hash_subtree::MerkleHashSubtree;
+use xetrange_text::program::HELP as XETRANGE_HELP;
+use xetroot_text::program::HELP as XETROOT_HELP;
 
 // Each row has the words of a command, what fails in the run, standard input, the status, standard output and standard
 // error. `;` stands for a newline.
@@ -231,54 +233,6 @@ fn runs_end_with_their_status_and_write_to_their_stream(rt: HostRuntime) {
         );
     }
 }
-
-// What each program prints for `--help`.
-const XETROOT_HELP: &str = "\
-Usage: xetroot
-
-The root and the file hash of the pairs and chunks in the lines of standard input,
-as `xorb <hex>` and `file <hex>` on standard output. A line is
-
-  <64 hex digits> <size>    a pair
-  +<bytes>                  a chunk, whose pair is its hash and its size
-  @<position>               the position of the next pair
-  --                        the end of a range, which changes nothing
-
-A fault goes to standard error with its number, which is the exit status: 1 a bad
-line, 2 sizes that pass 2^64 - 1, 3 out of memory, 4 a failed read, 5 a failed write,
-6 a position that is taken, 7 a gap. The status is 64 after a wrong argument.
-
-  -h, --help    prints this text
-  --version     prints the versions of xetroot and of xet-core-structures
-";
-
-const XETRANGE_HELP: &str = "\
-Usage: xetrange make|join|root
-       xetrange prove FIRST END
-       xetrange verify HASH FROM TO
-
-Hashes ranges of a file's chunks separately, and merges them without their chunks.
-Proves ranges of chunks, and verifies parts of a file with these proofs. Each command
-reads standard input and writes standard output.
-
-  make    reads pairs, chunks and `--`, as xetroot does; writes the line of their range
-  join    reads lines of ranges, in order; writes the line of the merged range
-  root    reads lines of ranges, in order; writes what xetroot writes for the whole
-  prove   reads what make reads; writes the line of the range proof of the chunks from
-          number FIRST up to, but without, number END; chunks count from 0
-  verify  reads the line of a range proof, and after it the data of its chunks and
-          nothing else; writes the bytes of the file with this file hash from the place
-          FROM up to, but without, the place TO; writes nothing unless all is right
-
-A fault goes to standard error with its number, which is the exit status: 1 a bad
-line, 2 sizes that pass 2^64 - 1, 3 out of memory, 4 a failed read, 5 a failed
-write, 8 a line that isn't a range or a range proof, 9 chunks that the input doesn't
-have, 10 a proof, data or places that don't match. The status is 64 after a wrong
-argument.
-
-  -h, --help    prints this text
-  --version     prints the versions of xetrange and of xet-core-structures
-";
 
 #[test]
 fn help_goes_to_standard_output(rt: HostRuntime) {

@@ -6,8 +6,8 @@ use Rattle.std.proofs.lemmas.List.Sums.{sum_by-cons}
 use Rattle.xet_roots.specs.Groups.{Node}
 use Rattle.xet_roots.specs.Roots.{total_size, parent}
 use Rattle.xet_roots.proofs.Roots.Making.{total_size-append}
-use Rattle.binding.proofs.Binding.Texts.{AllSizes}
-use Rattle.binding.proofs.Binding.Messages.{each_front, each_back}
+use Rattle.commitment.proofs.Commitment.Texts.{AllSizes}
+use Rattle.commitment.proofs.Commitment.Messages.{each_front, each_back}
 use Rattle.range_proof.specs.RangeProof.{joined}
 
 -- the parts of a list whose images are given in parts

@@ -7,7 +7,7 @@ use Rattle.std.proofs.lemmas.List.{take_more, drop_more, drop_all, take_all, tak
 use Rattle.std.proofs.lemmas.List.Sums.{sum_by-cons}
 use Rattle.xet_roots.specs.Groups.{Node}
 use Rattle.xet_roots.specs.Roots.{total_size}
-use Rattle.binding.specs.Binding.{chunk_node, chunk_nodes}
+use Rattle.commitment.specs.Commitment.{chunk_node, chunk_nodes}
 use Rattle.range_proof.specs.RangeProof.{Proof, offset_of}
 use Rattle.range_proof.specs.Reading.{bytes_of_chunks, AreChunksOf, IsRead, IsPartOfFile}
 use Rattle.range_proof.specs.Soundness.{AreChunksAt, HasChunksAt}

@@ -11,8 +11,8 @@ use crate::proof_parts::from_parts;
 use level_nodes::flat::{count_of, count_sum, cut_levels};
 use level_nodes::levels::LevelNodes;
 use std::alloc::{AllocError, Allocator};
+use xet_roots::aggregated_hashes::Node;
 use xet_roots::error::CoreError;
-use xet_roots::groups::Node;
 
 // Returns whether counts leave a node for the chunks.
 fn leave_a_chunk(counts: &[(usize, usize)], len: usize) -> bool

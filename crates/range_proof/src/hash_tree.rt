@@ -17,9 +17,9 @@ use level_nodes::levels::LevelNodes;
 use std::alloc::{AllocError, Allocator, Global};
 use std::marker::Model;
 use xet_hash::data_hash::MerkleHash;
-use xet_roots::aggregated_hashes::file_hash_of_root;
+use xet_roots::aggregated_hashes::{Node, file_hash_of_root};
 use xet_roots::error::CoreError;
-use xet_roots::groups::{Node, total_size};
+use xet_roots::groups::total_size;
 
 /// All levels of nodes over a list of chunks, kept so that the proof of a range takes time with the number of levels and
 /// of the proof's own nodes, and not with the number of chunks.

@@ -17,8 +17,8 @@ use level_nodes::node_json::{array_member, read_nodes, with_nodes};
 use serde_json::{Value, json};
 use std::alloc::{AllocError, Allocator, Global};
 use xet_hash::laws::{hex_text_is_lowercase_digits, hex_text_tells_hashes_apart};
+use xet_roots::aggregated_hashes::Node;
 use xet_roots::error::CoreError;
-use xet_roots::groups::Node;
 
 // Returns the values of some nodes, in an array.
 fn nodes_to_json(alloc: Global, nodes: &[Node]) -> Result<Value, AllocError>

@@ -6,7 +6,7 @@ ghost use Rattle.serde_json.specs.Written.{has_float};
 ghost use Rattle.xet_hash.specs.Hash.{default_hash};
 ghost use Rattle.xet_roots.specs.Groups.{Node};
 ghost use Rattle.xet_roots.specs.Roots.{total_size, IsRoot, IsFileHash};
-ghost use Rattle.binding.specs.Binding.{chunk_nodes, HashedForRoot, HashedForFile, Collision};
+ghost use Rattle.commitment.specs.Commitment.{chunk_nodes, HashedForRoot, HashedForFile, Collision};
 ghost use Rattle.range_proof.specs.RangeProof.{Proof, HasHashes, IsProofOf, Shows, ShowsRoot, IsWellFormed, begin_of, file_size_of};
 ghost use Rattle.range_proof.specs.ProofJson.{Reads, proof_json};
 ghost use Rattle.level_nodes.specs.FlatLevels.{IsFlat};

@@ -1,7 +1,7 @@
 //! A range of a file's chunks that a proof shows.
 
 ghost use Rattle.std.specs.Prelude.{◌≡◌, ℕ, ◌+◌, ◌<◌, ◌↔◌, List, length, Some, slice_get, IsSome, IsTrue, IfOk, IfErr, IfSome, IfNone, SomeIff};
-ghost use Rattle.binding.specs.Binding.{chunk_node};
+ghost use Rattle.commitment.specs.Commitment.{chunk_node};
 ghost use Rattle.range_proof.specs.RangeProof.{file_size_of, begin_of, HasHashes, IsWellFormed};
 ghost use Rattle.range_proof.specs.Reading.{IsRead};
 ghost use Rattle.range_proof.specs.Checking.{IsSoundCheck, IsSoundCheckForRoot, IsSoundRead, IsSoundReadForRoot};

@@ -5,7 +5,7 @@ ghost use Rattle.xet_roots.specs.Roots.{total_size};
 ghost use Rattle.range_proof.specs.Steps.Places.{ArePlaces};
 
 use std::alloc::{AllocError, Allocator};
-use xet_roots::groups::Node;
+use xet_roots::aggregated_hashes::Node;
 
 // Returns where each of some nodes begins if the first begins at `start`, and last where the last one ends.
 pub(crate) fn places<A: Allocator>(

@@ -17,9 +17,8 @@ use level_nodes::levels::{LevelNodes, copy_levels, left_at, right_at};
 use std::alloc::{AllocError, Allocator, Global};
 use std::marker::Model;
 use xet_hash::data_hash::MerkleHash;
-use xet_roots::aggregated_hashes::file_hash_of_root;
+use xet_roots::aggregated_hashes::{Node, file_hash_of_root};
 use xet_roots::error::CoreError;
-use xet_roots::groups::Node;
 
 /// The nodes of some adjacent chunks of a file, and the other nodes of each group on the way up.
 ///

@@ -8,7 +8,8 @@ ghost use Rattle.range_proof.specs.ProofJson.{BreaksValueRule, HasFewBeside};
 use crate::proof::RangeProof;
 use level_nodes::levels::LevelNodes;
 use std::alloc::Allocator;
-use xet_roots::groups::{Node, total_size};
+use xet_roots::aggregated_hashes::Node;
+use xet_roots::groups::total_size;
 
 // The most levels of a proof.
 const MAX_LEVELS: usize = 64;

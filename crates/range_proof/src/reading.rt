@@ -1,7 +1,7 @@
 //! Checks data against nodes.
 
 ghost use Rattle.std.specs.Prelude.{◌≡◌, ℕ, ◌↔◌, List, IsTrue};
-ghost use Rattle.binding.specs.Binding.{chunk_node};
+ghost use Rattle.commitment.specs.Commitment.{chunk_node};
 ghost use Rattle.range_proof.specs.RangeProof.{AreHashes, HasHashes};
 ghost use Rattle.range_proof.specs.Reading.{AreChunksOf};
 
@@ -9,7 +9,7 @@ use crate::proof::RangeProof;
 use level_nodes::levels::LevelNodes;
 use std::alloc::Allocator;
 use xet_hash::data_hash::compute_data_hash;
-use xet_roots::groups::Node;
+use xet_roots::aggregated_hashes::Node;
 
 // Returns whether a node is that of a chunk with this data.
 pub(crate) fn is_chunk(node: &Node, data: &[u8]) -> bool

@@ -6,8 +6,8 @@ ghost use Rattle.xet_roots.specs.Steps.Scan.{AreParents};
 
 use level_nodes::levels::LevelNodes;
 use std::alloc::{AllocError, Allocator};
-use xet_roots::aggregated_hashes::parents;
-use xet_roots::groups::{Node, total_size};
+use xet_roots::aggregated_hashes::{Node, parents};
+use xet_roots::groups::total_size;
 use xet_roots::parent_maker::ParentHashes;
 
 // Returns the parents of a level's nodes: those of its left side, some nodes of the range, and those of its right side.

@@ -9,7 +9,7 @@ use crate::sides::parents_between;
 use level_nodes::levels::LevelNodes;
 use std::alloc::{AllocError, Allocator};
 use xet_hash::data_hash::MerkleHash;
-use xet_roots::groups::Node;
+use xet_roots::aggregated_hashes::Node;
 
 // Returns the hash of a node that is alone.
 pub(crate) fn only_hash(nodes: &[Node]) -> Option<MerkleHash>

@@ -10,8 +10,8 @@ ghost use Rattle.range_proof.specs.Steps.Trees.{IsBeside, IsTree};
 use level_nodes::levels::LevelNodes;
 use std::alloc::{AllocError, Allocator};
 use std::marker::Model;
-use xet_roots::aggregated_hashes::parents;
-use xet_roots::groups::{MIN_GROUP_LEN, Node, first_group_len};
+use xet_roots::aggregated_hashes::{Node, parents};
+use xet_roots::groups::{MIN_GROUP_LEN, first_group_len};
 use xet_roots::parent_maker::ParentHashes;
 
 // A level of two nodes or more.

@@ -6,7 +6,8 @@ ghost use Rattle.stable_points.specs.StablePoints.{NoCut, EndsStable, NoStable, 
 ghost use Rattle.stable_points.specs.Steps.StableScan.{is_stable_gap};
 ghost use Rattle.stable_points.specs.Steps.StableScan.{after_cut, completes, next_scan, IsFront, scan_after, completes_none, AddsNoStable, AddsNoStableBefore};
 
-use xet_roots::groups::{MAX_GROUP_LEN, MIN_GROUP_LEN, Node, is_natural_cut};
+use xet_roots::aggregated_hashes::Node;
+use xet_roots::groups::{MAX_GROUP_LEN, MIN_GROUP_LEN, is_natural_cut};
 
 // The fewest and the most nodes between two natural cuts for which a group ends at the second, whatever nodes come
 // before. If there are at least two, the second also ends a group that begins right after the first. If there are at

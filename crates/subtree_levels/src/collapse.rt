@@ -11,8 +11,7 @@ ghost use Rattle.xet_roots.specs.Steps.Room.{most_made};
 use crate::levels::{LevelNodes, pushed};
 use crate::split::{Marks, Split, find_split};
 use std::alloc::{AllocError, Allocator};
-use xet_roots::aggregated_hashes::parents;
-use xet_roots::groups::Node;
+use xet_roots::aggregated_hashes::{Node, parents};
 use xet_roots::parent_maker::{ParentHashes, ParentMaker};
 
 // Adds a level at the top: the split's left and right nodes. Returns the levels, and the parents of the split's middle.

@@ -5,7 +5,7 @@ ghost use Rattle.subtree_levels.specs.Steps.LevelMerging.{with_side, lowest_with
 
 use crate::levels::{LevelNodes, Operand, inner, left_at};
 use std::alloc::{AllocError, Allocator};
-use xet_roots::groups::Node;
+use xet_roots::aggregated_hashes::Node;
 
 // Replaces an operand's nodes of a level on its inner side, which faces the other operand.
 fn replace_side<A: Allocator>(level: &mut LevelNodes<A>, side: Vec<Node, A>, kept: Operand)

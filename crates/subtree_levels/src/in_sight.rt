@@ -15,7 +15,7 @@ use stable_points::search::{
 };
 use std::alloc::{AllocError, Allocator};
 use std::marker::Model;
-use xet_roots::groups::Node;
+use xet_roots::aggregated_hashes::Node;
 use xet_roots::parent_maker::ParentMaker;
 
 // What is in sight at one level of a merge.

@@ -6,7 +6,7 @@ ghost use Rattle.subtree_levels.specs.Steps.LevelMerging.{operand, inner_nodes};
 
 pub use level_nodes::levels::{LevelNodes, copy_levels, left_at, right_at};
 use std::alloc::{AllocError, Allocator};
-use xet_roots::groups::Node;
+use xet_roots::aggregated_hashes::Node;
 
 /// One of the two operands of a merge.
 #[derive(Clone, Copy)]

@@ -16,8 +16,7 @@ use crate::in_sight::InSight;
 use crate::levels::{LevelNodes, Operand, levels_from};
 use crate::split::Marks;
 use std::alloc::{AllocError, Allocator};
-use xet_roots::aggregated_hashes::parents;
-use xet_roots::groups::Node;
+use xet_roots::aggregated_hashes::{Node, parents};
 use xet_roots::parent_maker::ParentMaker;
 
 // What was made below an operand's top, or below the level from which on nothing is collapsed.

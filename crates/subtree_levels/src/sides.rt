@@ -5,7 +5,8 @@ ghost use Rattle.stable_points.specs.StablePoints.{BeginsStable};
 ghost use Rattle.subtree_levels.specs.WellFormed.{IsLeftSide, IsRightSide};
 
 use stable_points::search::{ends_stable, find_stable_start, is_stable_gap, last_stable};
-use xet_roots::groups::{Node, is_natural_cut};
+use xet_roots::aggregated_hashes::Node;
+use xet_roots::groups::is_natural_cut;
 
 // Returns whether nodes may stay on the left if the start isn't marked.
 pub(crate) fn is_left_side(nodes: &[Node]) -> bool

@@ -7,7 +7,7 @@ ghost use Rattle.subtree_levels.specs.Steps.LevelMerging.{inner_side};
 
 use crate::levels::Operand;
 use stable_points::search::{find_stable_end, find_stable_start};
-use xet_roots::groups::Node;
+use xet_roots::aggregated_hashes::Node;
 
 /// Whether a list is marked at its start, and at its end.
 #[derive(Clone, Copy)]

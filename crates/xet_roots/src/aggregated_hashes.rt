@@ -10,7 +10,7 @@ ghost use Rattle.xet_roots.specs.Steps.Scan.{AreFirstGroups, AreParents, PushesP
 ghost use Rattle.xet_roots.specs.Steps.Room.{most_made};
 
 use crate::error::CoreError;
-pub use crate::groups::{AGGREGATED_HASHES_MEAN_TREE_BRANCHING_FACTOR, Node};
+pub use crate::groups::AGGREGATED_HASHES_MEAN_TREE_BRANCHING_FACTOR;
 use crate::groups::{
     ENOUGH, MIN_GROUP_LEN, MOST_AT_ONCE, first_group_len, first_groups, group_size, parent,
     total_size, two_parents,
@@ -18,6 +18,9 @@ use crate::groups::{
 use crate::parent_maker::{ParentHashes, ParentMaker};
 use std::alloc::{AllocError, Allocator};
 use xet_hash::data_hash::{HMACKey, MerkleHash};
+
+/// A node of the tree over a list of chunks: its hash, and its size in bytes.
+pub type Node = (MerkleHash, u64);
 
 // Returns the parents of the first groups of some nodes, as many as are made at once; how many they are; and how many nodes they have.
 // If there are enough nodes, the groups stay the same whatever nodes follow.

@@ -7,9 +7,9 @@ ghost use Rattle.xet_roots.specs.Roots.{total_size, parent_by, IsRoot};
 ghost use Rattle.xet_roots.specs.Steps.Scan.{AreParents};
 ghost use Rattle.xet_roots.specs.Steps.Room.{most_made};
 
-use crate::aggregated_hashes::{first_parents, push_parents, root};
+use crate::aggregated_hashes::{Node, first_parents, push_parents, root};
 use crate::error::CoreError;
-use crate::groups::{ENOUGH, MIN_GROUP_LEN, Node};
+use crate::groups::{ENOUGH, MIN_GROUP_LEN};
 use crate::parent_maker::{ParentHashes, ParentMaker};
 use std::alloc::{AllocError, Allocator};
 use xet_hash::data_hash::MerkleHash;

@@ -9,6 +9,7 @@ ghost use Rattle.xet_roots.specs.Groups.{Node, IsGroup, is_cut};
 ghost use Rattle.xet_roots.specs.Roots.{total_size, node_line, group_text, parent_hash, parent};
 ghost use Rattle.xet_roots.specs.Steps.Scan.{IsFirstGroup, AreFirstGroups, StayFirstGroups};
 
+use crate::aggregated_hashes::Node;
 use xet_hash::data_hash::{
     MerkleHash, compute_internal_node_hash, compute_internal_node_hashes,
     compute_two_internal_node_hashes,
@@ -35,9 +36,6 @@ const MAX_LINE_LEN: usize = 88;
 
 // The most bytes of a group's text.
 const MAX_TEXT_LEN: usize = MAX_GROUP_LEN * MAX_LINE_LEN;
-
-/// A node of the tree over a list of chunks: its hash, and its size in bytes.
-pub type Node = (MerkleHash, u64);
 
 /// Returns whether a node is a natural cut.
 #[tactic(auto, unfolding(crate::specs::Groups::is_cut))]

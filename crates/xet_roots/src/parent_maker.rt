@@ -4,7 +4,8 @@ ghost use Rattle.std.specs.Prelude.{◌≡◌, ℕ, ◌+◌, ◌^◌, ◌<◌, �
 ghost use Rattle.xet_roots.specs.Groups.{Node};
 ghost use Rattle.xet_roots.specs.Roots.{total_size, parent_hash};
 
-use crate::groups::{MOST_AT_ONCE, Node, parent_hash, parent_hashes, two_parent_hashes};
+use crate::aggregated_hashes::Node;
+use crate::groups::{MOST_AT_ONCE, parent_hash, parent_hashes, two_parent_hashes};
 use std::marker::Model;
 use xet_hash::data_hash::MerkleHash;
 

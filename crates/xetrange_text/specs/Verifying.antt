@@ -2,7 +2,7 @@
 use Rattle.std.specs.Prelude.{◌≡◌, ◌⊎◌, ℕ, ◌<◌, List, length, replicate}
 use Rattle.line_io.specs.Lines.{byte_limit}
 use Rattle.line_io.specs.LineAndData.{first_line, after_line}
-use Rattle.binding.specs.Binding.{HashedForFile, Collision}
+use Rattle.commitment.specs.Commitment.{HashedForFile, Collision}
 use Rattle.range_proof.specs.RangeProof.{Proof, Shows}
 use Rattle.range_proof.specs.Reading.{AreChunksOf, IsPartOfFile, IsRead}
 use Rattle.range_proof.specs.Soundness.{CheckedForFile}

@@ -6,7 +6,7 @@ ghost use Rattle.pair_text.specs.PairText.{IsAnswer, NoPositions};
 ghost use Rattle.xetrange_text.specs.Answers.{IsRootOf};
 ghost use Rattle.xetrange_text.specs.Cutting.{InputOf};
 ghost use Rattle.xetrange_text.specs.Verifying.{IsPartUnlessCollision, IsVerifiedOf};
-ghost use Rattle.binding.specs.Binding.{chunk_nodes};
+ghost use Rattle.commitment.specs.Commitment.{chunk_nodes};
 ghost use Rattle.xet_merkle.specs.Roots.{IsFileHash};
 
 use range_proof::laws::{

@@ -18,7 +18,8 @@ use std::alloc::{Allocator, Global};
 use std::env::Args;
 use std::io::{self, ErrorKind, Read, Write};
 
-const HELP: &str = "\
+/// What `xetrange --help` prints.
+pub const HELP: &str = "\
 Usage: xetrange make|join|root
        xetrange prove FIRST END
        xetrange verify HASH FROM TO

@@ -1,7 +1,7 @@
 //! Verifies parts of a file.
 
 ghost use Rattle.std.specs.Prelude.{◌≡◌, ℕ, List, replicate, IfErr, IfOk};
-ghost use Rattle.binding.specs.Binding.{chunk_nodes};
+ghost use Rattle.commitment.specs.Commitment.{chunk_nodes};
 ghost use Rattle.line_io.specs.Answers.{AnswersInput};
 ghost use Rattle.range_proof.specs.RangeProof.{Shows};
 ghost use Rattle.xet_merkle.specs.Roots.{IsFileHash, total_size};

@@ -17,7 +17,8 @@ use line_io::request::{Request, WRONG_ARGUMENT, print_line};
 use std::env::Args;
 use std::io::{self, ErrorKind, Read, Write};
 
-const HELP: &str = "\
+/// What `xetroot --help` prints.
+pub const HELP: &str = "\
 Usage: xetroot
 
 The root and the file hash of the pairs and chunks in the lines of standard input,

@@ -1,7 +1,7 @@
 //! Opened ranges: their places, and the checks of their chunks' data.
 
 ghost use Rattle.std.specs.Prelude.{◌≡◌, ◌≢◌, ◌⊎◌, ◌↔◌, ℕ, ◌+◌, ◌-◌, ◌<◌, ◌≤◌, List, None, Some, IfSome, IfNone, IsSomeAnd, length, slice_get, slice_range};
-ghost use Rattle.binding.specs.Binding.{chunk_node};
+ghost use Rattle.commitment.specs.Commitment.{chunk_node};
 ghost use Rattle.range_proof.specs.RangeProof.{begin_of, file_size_of};
 ghost use Rattle.range_proof.specs.Reading.{IsRead};
 ghost use Rattle.range_proof.specs.Checking.{IsSoundCheck, IsSoundCheckForRoot, IsSoundRead, IsSoundReadForRoot};

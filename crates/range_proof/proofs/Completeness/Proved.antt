@@ -6,8 +6,8 @@ use Rattle.xet_hash.specs.Hash.{default_hash}
 use Rattle.xet_roots.specs.Groups.{Node}
 use Rattle.xet_roots.specs.Roots.{total_size, IsRoot, IsFileHash}
 use Rattle.xet_roots.proofs.Roots.Making.{total_size-append}
-use Rattle.binding.specs.Binding.{chunk_node, chunk_nodes}
-use Rattle.binding.proofs.Binding.Levels.{root_of_file_hash}
+use Rattle.commitment.specs.Commitment.{chunk_node, chunk_nodes}
+use Rattle.commitment.proofs.Commitment.Levels.{root_of_file_hash}
 use Rattle.level_nodes.specs.Level.{Level}
 use Rattle.range_proof.specs.RangeProof.{Proof, IsProofOf, IsTop, Rises, Shows, ShowsRoot, IsWellFormed, begin_of, file_size_of}
 use Rattle.range_proof.specs.Soundness.{AreChunksAt}

@@ -7,11 +7,11 @@ use Rattle.std.proofs.lemmas.List.Sums.{sum_by-cons}
 use Rattle.xet_roots.specs.Groups.{Node}
 use Rattle.xet_roots.specs.Roots.{parent, total_size, IsRoot}
 use Rattle.xet_roots.proofs.Roots.Making.{total_size-append}
-use Rattle.binding.specs.Binding.{Message, chunk_node, chunk_nodes, IsLevel, HashedForRoot, Collision}
-use Rattle.binding.specs.Binding.IsLevel.{lowest, above}
-use Rattle.binding.proofs.Binding.Texts.{hashes}
-use Rattle.binding.proofs.Binding.Messages.{each_front, each_back, each_contained, chunk_message, group_message, same_chunks, chunks_against_groups}
-use Rattle.binding.proofs.Binding.Levels.{each_chunk, each_group, top_of_chunks}
+use Rattle.commitment.specs.Commitment.{Message, chunk_node, chunk_nodes, IsLevel, HashedForRoot, Collision}
+use Rattle.commitment.specs.Commitment.IsLevel.{lowest, above}
+use Rattle.commitment.proofs.Commitment.Texts.{hashes}
+use Rattle.commitment.proofs.Commitment.Messages.{each_front, each_back, each_contained, chunk_message, group_message, same_chunks, chunks_against_groups}
+use Rattle.commitment.proofs.Commitment.Levels.{each_chunk, each_group, top_of_chunks}
 use Rattle.level_nodes.specs.Level.{Level}
 use Rattle.range_proof.specs.RangeProof.{Proof, IsTop, HasHashes, file_size_of}
 use Rattle.range_proof.specs.Soundness.{AreChunksAt, IsGroupAbove, HasChunksAt}

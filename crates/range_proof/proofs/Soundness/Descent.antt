@@ -11,11 +11,11 @@ use Rattle.xet_roots.specs.Groups.{Node, Groups}
 use Rattle.xet_roots.specs.Roots.{group_text, parent, total_size}
 use Rattle.xet_roots.proofs.Roots.Making.{total_size-append}
 use Rattle.xet_roots.proofs.Roots.OneRoot.{Groups-some}
-use Rattle.binding.specs.Binding.{Message, chunk_node, chunk_nodes, IsLevel, HashedForRoot, Collision}
-use Rattle.binding.specs.Binding.IsLevel.{lowest, above}
-use Rattle.binding.proofs.Binding.Texts.{hashes, AllHashes, AllSizes, group_text_tells_nodes}
-use Rattle.binding.proofs.Binding.Messages.{each_append, each_contained, chunk_message, group_message, same_texts, groups_against_chunks}
-use Rattle.binding.proofs.Binding.Levels.{AllHashes-chunk_nodes, AllHashes-parents, AllHashes-level, AllHashes-groups, each_joined, each_chunk, each_group}
+use Rattle.commitment.specs.Commitment.{Message, chunk_node, chunk_nodes, IsLevel, HashedForRoot, Collision}
+use Rattle.commitment.specs.Commitment.IsLevel.{lowest, above}
+use Rattle.commitment.proofs.Commitment.Texts.{hashes, AllHashes, AllSizes, group_text_tells_nodes}
+use Rattle.commitment.proofs.Commitment.Messages.{each_append, each_contained, chunk_message, group_message, same_texts, groups_against_chunks}
+use Rattle.commitment.proofs.Commitment.Levels.{AllHashes-chunk_nodes, AllHashes-parents, AllHashes-level, AllHashes-groups, each_joined, each_chunk, each_group}
 use Rattle.level_nodes.specs.Level.{Level}
 use Rattle.range_proof.specs.RangeProof.{AreHashes, Rises, joined}
 use Rattle.range_proof.specs.Soundness.{IsGroupAbove}

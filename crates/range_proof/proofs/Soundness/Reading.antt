@@ -1,7 +1,7 @@
 -- Bytes that are read are those of each file with a hash that the proof shows.
 use Rattle.std.proofs.Common.{ℕ, ◌<◌, List, length, ap, inl, inr, arith}
 use Rattle.std.proofs.lemmas.List.{length-map}
-use Rattle.binding.specs.Binding.{chunk_node}
+use Rattle.commitment.specs.Commitment.{chunk_node}
 use Rattle.range_proof.specs.RangeProof.{Proof, HasHashes, IsWellFormed}
 use Rattle.range_proof.specs.Reading.{AreChunksOf, IsRead}
 use Rattle.range_proof.specs.Checking.{IsSoundRead, IsSoundReadForRoot}

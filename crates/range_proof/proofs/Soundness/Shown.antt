@@ -6,11 +6,11 @@ use Rattle.xet_hash.specs.Hash.{default_hash, bytes_of}
 use Rattle.xet_roots.specs.Groups.{Node}
 use Rattle.xet_roots.specs.Roots.{parent, IsRoot, IsFileHash}
 use Rattle.xet_roots.specs.Roots.IsRootBy.{no_node, of_parents}
-use Rattle.binding.specs.Binding.{Message, chunk_node, chunk_nodes, HashedForRoot, HashedForFile, Collision}
-use Rattle.binding.specs.Binding.HashedForFile.{below, root as of_root}
-use Rattle.binding.proofs.Binding.Texts.{AllHashes}
-use Rattle.binding.proofs.Binding.Messages.{same_message}
-use Rattle.binding.proofs.Binding.Levels.{AllHashes-parents, root_of_file_hash, IsHash-root, bytes_of-injective, Collision-more}
+use Rattle.commitment.specs.Commitment.{Message, chunk_node, chunk_nodes, HashedForRoot, HashedForFile, Collision}
+use Rattle.commitment.specs.Commitment.HashedForFile.{below, root as of_root}
+use Rattle.commitment.proofs.Commitment.Texts.{AllHashes}
+use Rattle.commitment.proofs.Commitment.Messages.{same_message}
+use Rattle.commitment.proofs.Commitment.Levels.{AllHashes-parents, root_of_file_hash, IsHash-root, bytes_of-injective, Collision-more}
 use Rattle.level_nodes.specs.Level.{Level}
 use Rattle.range_proof.specs.RangeProof.{Proof, Rises, IsTop, ShowsRoot, Shows, HasHashes, file_size_of}
 use Rattle.range_proof.specs.Soundness.{AreChunksAt, CheckedForRoot, CheckedForFile, HasChunksAt}

@@ -13,8 +13,8 @@ ghost use Rattle.xet_merkle.specs.JsonParts.{ReadsCounts, HasMembers, ReadsParts
 use level_nodes::node_json::{array_member, read_nodes};
 use serde_json::Value;
 use std::alloc::Allocator;
+use xet_roots::aggregated_hashes::Node;
 use xet_roots::error::CoreError;
-use xet_roots::groups::Node;
 
 // The marks, the counts of each level and the nodes in a value.
 #[derive(Drop)]

@@ -18,8 +18,9 @@ use std::marker::Model;
 use subtree_levels::collapse::collapse_chunks;
 use subtree_levels::levels::{LevelNodes, copy_levels, count_nodes, left_at, right_at, top};
 use xet_hash::data_hash::MerkleHash;
+use xet_roots::aggregated_hashes::Node;
 use xet_roots::error::CoreError;
-use xet_roots::groups::{Node, total_size};
+use xet_roots::groups::total_size;
 
 /// What is known of the tree over a list of chunks without the chunks before and after it. On each level it keeps the
 /// nodes on either side whose groups may still change. The start of the list is marked if no chunk comes before it, and

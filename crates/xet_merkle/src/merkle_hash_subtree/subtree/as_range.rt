@@ -7,8 +7,8 @@ use chunk_ranges::chunk_range::{ChunkRange, CopyableRange};
 use std::alloc::Allocator;
 use subtree_levels::levels::Operand;
 use xet_hash::data_hash::MerkleHash;
+use xet_roots::aggregated_hashes::Node;
 use xet_roots::error::CoreError;
-use xet_roots::groups::Node;
 use xet_roots::parent_maker::ParentHashes;
 
 impl<A: Allocator + Clone> ChunkRange for MerkleHashSubtree<A> {

@@ -24,8 +24,9 @@ use serde_json::{Value, json};
 use std::alloc::{AllocError, Allocator, Global};
 use subtree_levels::level_rules::broken_rule;
 use xet_hash::laws::{hex_text_is_lowercase_digits, hex_text_tells_hashes_apart};
+use xet_roots::aggregated_hashes::Node;
 use xet_roots::error::CoreError;
-use xet_roots::groups::{Node, total_size};
+use xet_roots::groups::total_size;
 
 // Returns the numbers of left and right nodes of a level.
 fn count_to_json<A: Allocator>(alloc: Global, level: &LevelNodes<A>) -> Result<Value, AllocError>

@@ -11,8 +11,8 @@ use Rattle.xet_hash.proofs.Hash.Laws.{IsHash-hash_of, bytes_of-hash_of}
 use Rattle.xet_hash.specs.Hash.{bytes_of}
 use Rattle.xet_roots.specs.Groups.{Node}
 use Rattle.xet_roots.specs.Roots.{group_text, parent, parent_hash}
-use Rattle.binding.specs.Binding.{Message, blake3_of, chunk_node, chunk_nodes, Collision}
-use Rattle.binding.proofs.Binding.Texts.{hashes}
+use Rattle.commitment.specs.Commitment.{Message, blake3_of, chunk_node, chunk_nodes, Collision}
+use Rattle.commitment.proofs.Commitment.Texts.{hashes}
 
 -- ---- Lists
 

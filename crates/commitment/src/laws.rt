@@ -4,7 +4,7 @@ ghost use Rattle.std.specs.Prelude.{◌≡◌, ℕ, ◌^◌, ◌<◌, ◌⊎◌,
 ghost use Rattle.xet_hash.specs.Hash.{IsHash};
 ghost use Rattle.xet_roots.specs.Groups.{Node};
 ghost use Rattle.xet_roots.specs.Roots.{group_text, IsRoot, IsFileHash};
-ghost use Rattle.binding.specs.Binding.{chunk_nodes, HashedForRoot, HashedForFile, Collision};
+ghost use Rattle.commitment.specs.Commitment.{chunk_nodes, HashedForRoot, HashedForFile, Collision};
 
 /// A root commits to the chunks. If two lists of chunks, neither empty, have the same root, they are the same list, or
 /// two different messages that were hashed for them, one for each, have the same BLAKE3 hash.

@@ -1,6 +1,6 @@
 use Rattle.std.proofs.lemmas.List.Elements.{recursion_from_All}
-use Rattle.binding.proofs.Binding.Texts.{group_text_tells_nodes}
-use Rattle.binding.proofs.laws.group_texts_tell_nodes.Goals as goal
+use Rattle.commitment.proofs.Commitment.Texts.{group_text_tells_nodes}
+use Rattle.commitment.proofs.laws.group_texts_tell_nodes.Goals as goal
 
 pub returns : goal.returns
 returns c = λ group other h k fits e.

@@ -10,12 +10,12 @@ use Rattle.xet_roots.specs.Roots.{group_text, parent, salted_root, IsRoot, IsFil
 use Rattle.xet_roots.specs.Roots.IsRootBy.{no_node, one_node, of_parents}
 use Rattle.xet_roots.proofs.Grouping.OneCutting.{joined_nodes}
 use Rattle.xet_roots.proofs.Roots.OneRoot.{Groups-some}
-use Rattle.binding.specs.Binding.{Message, chunk_node, chunk_nodes, IsLevel, HashedForRoot, HashedForFile, Collision}
-use Rattle.binding.specs.Binding.IsLevel.{lowest, above}
-use Rattle.binding.specs.Binding.HashedForRoot.{chunk as of_chunk, group as of_group}
-use Rattle.binding.specs.Binding.HashedForFile.{below, root as of_root}
-use Rattle.binding.proofs.Binding.Texts.{hashes, AllHashes, group_text_tells_hashes}
-use Rattle.binding.proofs.Binding.Messages.{each_front, each_back, each_map, each_contained, IsHash-blake3_of, IsHash-parent, chunk_message, group_message, same_message, same_chunks, same_texts, groups_against_chunks, chunks_against_groups}
+use Rattle.commitment.specs.Commitment.{Message, chunk_node, chunk_nodes, IsLevel, HashedForRoot, HashedForFile, Collision}
+use Rattle.commitment.specs.Commitment.IsLevel.{lowest, above}
+use Rattle.commitment.specs.Commitment.HashedForRoot.{chunk as of_chunk, group as of_group}
+use Rattle.commitment.specs.Commitment.HashedForFile.{below, root as of_root}
+use Rattle.commitment.proofs.Commitment.Texts.{hashes, AllHashes, group_text_tells_hashes}
+use Rattle.commitment.proofs.Commitment.Messages.{each_front, each_back, each_map, each_contained, IsHash-blake3_of, IsHash-parent, chunk_message, group_message, same_message, same_chunks, same_texts, groups_against_chunks, chunks_against_groups}
 
 -- ---- The hashes of a level are hashes
 
