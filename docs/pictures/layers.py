@@ -54,7 +54,7 @@ def stack() -> tuple[tuple[str, tuple[Layer, ...]], ...]:
             Layer("the JavaScript package", ("JavaScript package",), 1.4),
         )),
         ("code in C", (
-            Layer("choice of a level", ("choice of code for a processor, heap",), 1.2),
+            Layer("choice of a processor level", ("choice of code for a processor, heap",), 1.2),
             Layer("what is around a program", ("arguments, signals of programs",)),
         )),
         ("machine code", (
