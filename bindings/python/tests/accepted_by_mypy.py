@@ -101,6 +101,10 @@ except (y.SessionOverlap, y.SessionPositions, y.SessionSizes, y.OutOfMemory) as 
     text = str(error)
 except y.InvalidJson as broken:
     rule: int = broken.rule
+try:
+    tree = y.Subtree.from_flat(*tree.to_flat())
+except y.InvalidLists as broken_lists:
+    rule = broken_lists.rule
 runs: Sequence[Tuple[int, y.Subtree]] = session.runs()
 ends: List[int] = [one_run.end for one_run in session.runs()]
 one_run: y.Run = session.run(0)

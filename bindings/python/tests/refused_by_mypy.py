@@ -483,6 +483,8 @@ class MyRange(y.OpenedRange): pass
 class MyFile(y.VerifiedFile): pass
 y.InvalidProof()
 y.InvalidProof("5")
+y.InvalidLists()
+y.InvalidLists("5")
 y.ProofMismatch("").rule
 
 # Files over networks, and threads.

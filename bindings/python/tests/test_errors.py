@@ -117,8 +117,8 @@ REFUSED = [
     (y.InvalidText, lambda: y.Subtree.from_json(b"\xff")),
     (y.InvalidText, lambda: y.Subtree.from_json('"\ud800"')),
     (y.InvalidJson, lambda: y.Subtree.from_json("[]")),
-    (y.InvalidJson, lambda: y.Subtree.from_flat(False, [], [], False)),
-    (y.InvalidJson, lambda: y.Subtree.from_flat(False, [(MAX, MAX)], [], False)),
+    (y.InvalidLists, lambda: y.Subtree.from_flat(False, [], [], False)),
+    (y.InvalidLists, lambda: y.Subtree.from_flat(False, [(MAX, MAX)], [], False)),
     (y.InvalidArguments, lambda: y.Subtree.from_flat(False, [(-1, 0)], [], False)),
     (y.InvalidArguments, lambda: y.Subtree.from_flat(False, [(MAX + 1, 0)], [], False)),
     (y.InvalidArguments, lambda: y.svg_of([open_tree()], ["a", "b"])),
@@ -534,8 +534,8 @@ def test_a_stack_that_ends_anywhere(number):
 
 
 def test_what_the_exceptions_are():
-    for error in (y.InvalidArguments, y.SizeOverflow, y.InvalidText, y.InvalidJson, y.InvalidProof, y.ProofMismatch,
-                  y.SessionOverlap, y.SessionPositions, y.SessionSizes, y.SessionGap, y.EmptyHandle):
+    for error in (y.InvalidArguments, y.SizeOverflow, y.InvalidText, y.InvalidJson, y.InvalidLists, y.InvalidProof,
+                  y.ProofMismatch, y.SessionOverlap, y.SessionPositions, y.SessionSizes, y.SessionGap, y.EmptyHandle):
         assert issubclass(error, y.YurewhaError) and issubclass(error, ValueError)
     assert issubclass(y.ReentrantCall, RuntimeError) and issubclass(y.ReentrantCall, y.YurewhaError)
     assert issubclass(y.OutOfMemory, MemoryError) and issubclass(y.OutOfMemory, y.YurewhaError)
@@ -547,11 +547,46 @@ def test_what_the_exceptions_are():
     assert all(of_status[status] is y.YurewhaError for status in (5, 8, 16, 30, 35, 36, 40, 48, 57))
     assert str(_errors.error_of(8)) == "the library returned status 8 (unknown status), which this call doesn't have"
     assert of_status[7] is y.ProofMismatch and [of_status[status] for status in range(49, 57)] == 8 * [y.InvalidProof]
-    assert not issubclass(y.ProofMismatch, OSError) and issubclass(y.InvalidProof, y.InvalidJson)
+    assert not issubclass(y.ProofMismatch, OSError)
+    assert issubclass(y.InvalidLists, y.InvalidJson) and issubclass(y.InvalidProof, y.InvalidJson)
     assert str(y.InvalidProof(7)) == "invalid range proof: rule 7: a side of a level has more than 8 nodes"
     assert str(y.InvalidProof(9)) == "invalid range proof: rule 9: no such rule"
     assert str(y.InvalidJson(6)) == "invalid JSON: rule 6: the counts don't add up to the number of nodes"
     assert str(y.InvalidJson(14)) == "invalid JSON: rule 14: no such rule"
+    assert str(y.InvalidLists(6)) == "invalid flat lists: rule 6: the counts don't add up to the number of nodes"
+    assert str(y.InvalidLists(14)) == "invalid flat lists: rule 14: no such rule"
+
+
+EMPTY = '{"at_end":true,"at_start":true,"levels":%s,"nodes":[]}'
+RUN = '{"runs":[{"first":0,"end":1,"chunks":%s}],"known_hashes":[]}'
+
+
+def rebuilt(value, end):
+    """What a pickle makes of a value, without the last bytes of its nodes."""
+    make, arguments = value.__reduce__()
+    return make(*(it[:end] if isinstance(it, bytes) else it for it in arguments))
+
+
+BROKEN_RULES = [
+    (y.InvalidJson, "invalid JSON: rule 5: ", lambda: y.Subtree.from_json(EMPTY % "[]")),
+    (y.InvalidJson, "invalid JSON: rule 5: ", lambda: y.Session.from_json(RUN % (EMPTY % "[]"))),
+    (y.InvalidLists, "invalid flat lists: rule 5: ", lambda: y.Subtree.from_flat(True, [], [], True)),
+    (y.InvalidLists, "invalid flat lists: rule 6: ", lambda: y.Subtree.from_flat(True, [(1, 0)], [], True)),
+    (y.InvalidLists, "invalid flat lists: rule 6: ", lambda: rebuilt(open_tree(), -40)),
+    (y.InvalidProof, "invalid range proof: rule 1: ", lambda: y.RangeProof.from_json("[]")),
+    (y.InvalidProof, "invalid range proof: rule 5: ", lambda: y.RangeProof.from_flat([], [])),
+    (y.InvalidProof, "invalid range proof: rule 5: ", lambda: y.RangeProof.from_bytes(bytes(8))),
+    (y.InvalidProof, "invalid range proof: rule 5: ", lambda: rebuilt(PROOF, -40)),
+]
+
+
+@pytest.mark.parametrize("number", range(len(BROKEN_RULES)))
+def test_errors_of_broken_rules(number):
+    """Each error names what broke the rule, and `except InvalidJson` catches them all."""
+    error, text, call = BROKEN_RULES[number]
+    with pytest.raises(y.InvalidJson, match=f"^{text}") as raised:
+        call()
+    assert type(raised.value) is error and f"rule {raised.value.rule}: " in text
 
 
 OUT_OF_MEMORY = """

@@ -405,7 +405,7 @@ def test_forged_lists():
             expected = m.from_json(value)
         except m.InvalidJson as error:
             seen[error.rule] = seen.get(error.rule, 0) + 1
-            with pytest.raises(y.InvalidJson) as raised:
+            with pytest.raises(y.InvalidLists) as raised:
                 y.Subtree.from_flat(*given)
             assert raised.value.rule == error.rule
         else:

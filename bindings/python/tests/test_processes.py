@@ -110,8 +110,8 @@ def test_a_pickle_names_the_package_alone(protocol):
     session = y.Session()
     session.put(7, block(1, 10))
     values = [y.Hash(), block(1, 3), y.Hashes([y.Hash()]), piece(1), piece(1).to_flat(), session, session.runs(),
-              y.SessionGap("a"), y.InvalidJson(3), y.data_hash, y.Session, y.Hash.from_hex, y.InvalidProof(3),
-              y.ProofMismatch("a"), y.HashTree(block(1, 3)), y.HashTree(block(1, 3)).proof(0, 2), y.RangeProof.from_json]
+              y.SessionGap("a"), y.InvalidJson(3), y.data_hash, y.Session, y.Hash.from_hex, y.InvalidLists(6),
+              y.InvalidProof(3), y.ProofMismatch("a"), y.HashTree(block(1, 3)), y.HashTree(block(1, 3)).proof(0, 2), y.RangeProof.from_json]
     for value in values:
         pickled = pickle.dumps(value, protocol)
         texts = [str(argument) for code, argument, _ in pickletools.genops(pickled)]
@@ -121,12 +121,12 @@ def test_a_pickle_names_the_package_alone(protocol):
 
 
 def test_a_changed_pickle():
-    """A pickle of a subtree is checked as JSON is. (Unpickling a stranger's file runs its code all the same.)"""
+    """The lists in a pickle are checked as others are. (Unpickling a stranger's file runs its code all the same.)"""
     make, (at_start, levels, nodes, at_end) = piece(1).__reduce__()
     for arguments in (
         (True, levels, nodes, at_end), (at_start, levels[:-1], nodes, at_end), (at_start, levels, nodes[40:], at_end),
     ):
-        with pytest.raises(y.InvalidJson):
+        with pytest.raises(y.InvalidLists):
             make(*arguments)
     session = y.Session()
     session.put(7, block(1, 10)), session.put(2, block(2, 3))

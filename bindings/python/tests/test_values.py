@@ -185,7 +185,7 @@ def test_json_rules():
         ([(16, 0), (2, 0)], lefts + y.Chunks(numbered(16, 23)) + above[:2], 12),
         ([(8, 4), (3, 0)], lefts + above + y.Chunks(with_cuts(4, ())), 13),
     ):
-        with pytest.raises(y.InvalidJson) as raised:
+        with pytest.raises(y.InvalidLists) as raised:
             y.Subtree.from_flat(False, levels, nodes, False)
         assert raised.value.rule == rule
 

@@ -13,6 +13,7 @@ __all__ = [
     "InUseAtFork",
     "InvalidArguments",
     "InvalidJson",
+    "InvalidLists",
     "InvalidProof",
     "InvalidText",
     "OutOfMemory",
@@ -27,10 +28,10 @@ __all__ = [
     "YurewhaError",
 ]
 
-#: The rules for the JSON form of a subtree.
+#: The rules for the forms of a subtree.
 _RULES = range(1, 14)
 
-#: The rules for the JSON form of a range proof.
+#: The rules for the forms of a range proof.
 _PROOF_RULES = range(1, 9)
 
 
@@ -94,7 +95,9 @@ class InvalidText(YurewhaError, ValueError):
 
 
 class InvalidJson(YurewhaError, ValueError):
-    """A JSON value, or flat lists, don't describe a subtree. `rule` is the lowest rule, from 1 to 13, that they break.
+    """A JSON value doesn't describe a subtree. `rule` is the lowest rule, from 1 to 13, that it breaks.
+
+    `InvalidLists` and `InvalidProof` are also `InvalidJson`, so that `except InvalidJson` catches every broken rule.
 
     >>> InvalidJson(5).rule
     5
@@ -105,9 +108,20 @@ class InvalidJson(YurewhaError, ValueError):
         self.rule = rule
 
     def __str__(self) -> str:
-        if self.rule in _RULES:
-            return f"invalid JSON: {status_text(STATUSES['YUREWHA_RULE'] + self.rule)}"
-        return f"invalid JSON: rule {self.rule}: no such rule"
+        return f"invalid JSON: {_broken_rule('YUREWHA_RULE', _RULES, self.rule)}"
+
+
+class InvalidLists(InvalidJson):
+    """Flat lists don't describe a subtree. `rule` is the lowest rule, from 5 to 13, that they break.
+
+    This is also an `InvalidJson`.
+
+    >>> print(InvalidLists(5))
+    invalid flat lists: rule 5: there is no level
+    """
+
+    def __str__(self) -> str:
+        return f"invalid flat lists: {_broken_rule('YUREWHA_RULE', _RULES, self.rule)}"
 
 
 class InvalidProof(InvalidJson):
@@ -120,9 +134,12 @@ class InvalidProof(InvalidJson):
     """
 
     def __str__(self) -> str:
-        if self.rule in _PROOF_RULES:
-            return f"invalid range proof: {status_text(STATUSES['YUREWHA_PROOF_RULE'] + self.rule)}"
-        return f"invalid range proof: rule {self.rule}: no such rule"
+        return f"invalid range proof: {_broken_rule('YUREWHA_PROOF_RULE', _PROOF_RULES, self.rule)}"
+
+
+def _broken_rule(before: str, rules: range, rule: int) -> str:
+    """Returns the text of a rule. `before` is the name of the status before that of rule 1."""
+    return status_text(STATUSES[before] + rule) if rule in rules else f"rule {rule}: no such rule"
 
 
 class ProofMismatch(YurewhaError, ValueError):
@@ -212,8 +229,11 @@ _SESSION_ERRORS: Dict[int, Type[SessionError]] = {
 _MEMORY = f"{status_text(STATUSES['YUREWHA_MEMORY'])}: an allocation failed"
 
 
-def error_of(status: int, what: str = "invalid arguments") -> YurewhaError:
-    """Returns the exception for a status other than 0. `what` is the text of `InvalidArguments`, `InvalidText`, `ProofMismatch`.
+def error_of(status: int, what: str = "invalid arguments", of_rule: Type[InvalidJson] = InvalidJson) -> YurewhaError:
+    """Returns the exception for a status other than 0.
+
+    `what` is the text of `InvalidArguments`, `InvalidText` and `ProofMismatch`. `of_rule` is for a rule of subtrees: its status
+    doesn't say whether a JSON value or flat lists break it, which the caller knows.
 
     >>> error_of(2)
     SizeOverflow('size overflow: sizes or lengths add up to more than 2^64 - 1')
@@ -234,7 +254,7 @@ def error_of(status: int, what: str = "invalid arguments") -> YurewhaError:
         return _SESSION_ERRORS[status](status_text(status))
     rule = status - STATUSES["YUREWHA_RULE"]
     if rule in _RULES:
-        return InvalidJson(rule)
+        return of_rule(rule)
     proof_rule = status - STATUSES["YUREWHA_PROOF_RULE"]
     if proof_rule in _PROOF_RULES:
         return InvalidProof(proof_rule)

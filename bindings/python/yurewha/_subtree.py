@@ -23,7 +23,7 @@ from typing import (
 from ._calls import string_at
 from ._chunks import Chunks, ChunksLike
 from ._declarations import STATUSES
-from ._errors import InvalidArguments, YurewhaError, error_of
+from ._errors import InvalidArguments, InvalidLists, YurewhaError, error_of
 from ._guard import Guarded, all_locked, both_locked
 from ._hash import Hash, checked_32, checked_bool, checked_text, checked_u64, own_bytes
 from ._interrupts import MANY_BYTES, MANY_NODES, interruptible
@@ -597,7 +597,7 @@ class Subtree(Guarded):
     def from_flat(at_start: bool, levels: Iterable[Sequence[SupportsIndex]], nodes: ChunksLike, at_end: bool) -> Subtree:
         """Returns the subtree that flat lists describe, in the form of `to_flat`.
 
-        Raises `InvalidJson` with the lowest rule that they break.
+        Raises `InvalidLists` with the lowest rule, from 5 to 13, that they break.
 
         >>> Subtree.from_flat(True, [(1, 0)], [(Hash(), 7)], False).total_size
         7
@@ -609,7 +609,7 @@ class Subtree(Guarded):
         status = calls_for(count, LONG_NODES).yurewha_subtree_from_flat(
             at_start, counts, len(counts) // LEVEL.size, packed, count, at_end, self._handle)
         if status:
-            raise error_of(status)
+            raise error_of(status, of_rule=InvalidLists)
         return self
 
     def __reduce__(self) -> Tuple[_FromFlat, Tuple[bool, Counts, bytes, bool]]:
