@@ -21,8 +21,9 @@ use std::ops::RangeInclusive;
 /// # use yurewha::error::CoreError;
 /// fn is_of_a_text(error: CoreError) -> bool {
 ///     match error {
-///         CoreError::InvalidText | CoreError::InvalidJson(_) | CoreError::InvalidProofJson(_) => true,
+///         CoreError::InvalidText | CoreError::InvalidJson(_) | CoreError::InvalidProof(_) => true,
 ///         CoreError::InvalidArguments | CoreError::SizeOverflow | CoreError::OutOfMemory => false,
+///         CoreError::InvalidLists(_) => false,
 ///     }
 /// }
 /// ```
@@ -39,15 +40,37 @@ pub enum CoreError {
     OutOfMemory,
     /// A text isn't JSON.
     InvalidText,
-    /// A value doesn't describe a subtree. The number is the lowest rule, from 1 to 13, that the value breaks.
+    /// A JSON value doesn't describe a subtree. The number is the lowest rule, from 1 to 13, that the value breaks.
     /// [`from_json`](crate::merklehash::MerkleHashSubtree::from_json) lists the rules.
     ///
     /// Rule 9 is broken by about half of the subtrees that `xet-core-structures` saves after it has merged a range that
     /// is marked at its start with the next one. Make such a subtree anew from the list of its chunks.
     InvalidJson(u8),
-    /// A value doesn't describe a range proof. The number is the lowest rule, from 1 to 8, that the value breaks.
-    /// [`from_json`](crate::own::RangeProof::from_json) lists the rules.
-    InvalidProofJson(u8),
+    /// Flat lists don't describe a subtree. The number is the lowest rule, from 5 to 13, that they break.
+    ///
+    /// No call returns it yet. Serde's formats read flat lists, but their errors are of types of their own, which get
+    /// the text of the rule.
+    InvalidLists(u8),
+    /// A JSON value, or flat lists, don't describe a range proof. The number is the lowest rule, from 1 to 8, that they
+    /// break. [`from_json`](crate::own::RangeProof::from_json) lists the rules.
+    InvalidProof(u8),
+}
+
+impl CoreError {
+    /// Makes an [`InvalidProof`](Self::InvalidProof), whose name this was. A pattern needs the new name.
+    ///
+    /// ```
+    /// # #![allow(deprecated)]
+    /// use yurewha::error::CoreError;
+    ///
+    /// assert_eq!(CoreError::InvalidProofJson(5), CoreError::InvalidProof(5));
+    /// ```
+    #[deprecated(since = "1.1.0", note = "use `InvalidProof`, as in Python and JavaScript")]
+    #[allow(non_snake_case)]
+    #[must_use]
+    pub const fn InvalidProofJson(rule: u8) -> Self {
+        CoreError::InvalidProof(rule)
+    }
 }
 
 /// The result of a call, or why it failed.
@@ -61,7 +84,8 @@ impl fmt::Display for CoreError {
             CoreError::OutOfMemory => StatusText::of(ffi::YUREWHA_MEMORY).fmt(f),
             CoreError::InvalidText => f.write_str("invalid text"),
             CoreError::InvalidJson(rule) => write!(f, "invalid JSON: {}", BrokenRule(*rule)),
-            CoreError::InvalidProofJson(rule) => write!(f, "invalid JSON: {}", BrokenProofRule(*rule)),
+            CoreError::InvalidLists(rule) => write!(f, "invalid flat lists: {}", BrokenRule(*rule)),
+            CoreError::InvalidProof(rule) => write!(f, "invalid range proof: {}", BrokenProofRule(*rule)),
         }
     }
 }
@@ -88,8 +112,8 @@ impl fmt::Display for BrokenRule {
 const OF_MERGES_FROM_THE_START: &str = ". xet-core-structures leaves some when it merges from the start; make the \
     subtree anew from the list of its chunks";
 
-/// The text of a rule of range proofs that a value breaks.
-pub(crate) struct BrokenProofRule(pub(crate) u8);
+// The text of a rule of range proofs that a value breaks.
+struct BrokenProofRule(u8);
 
 impl fmt::Display for BrokenProofRule {
     fn fmt(&self, f: &mut fmt::Formatter<'_>) -> fmt::Result {
@@ -112,14 +136,15 @@ impl Refusal for CoreError {
     }
 }
 
-// The error of a status that names a broken rule.
+// The error of a status that names a broken rule. Of a subtree it is that of a JSON value: a call that reads flat lists
+// makes its own of it.
 fn broken_rule(status: ffi::yurewha_status) -> Option<CoreError> {
     let rule_from = |first: u32, rules: RangeInclusive<u8>| {
         let rule = u8::try_from(status.checked_sub(first)?).ok()?;
         rules.contains(&rule).then_some(rule)
     };
     let of_subtree = rule_from(ffi::YUREWHA_RULE, 1..=13).map(CoreError::InvalidJson);
-    of_subtree.or_else(|| rule_from(ffi::YUREWHA_PROOF_RULE, 1..=8).map(CoreError::InvalidProofJson))
+    of_subtree.or_else(|| rule_from(ffi::YUREWHA_PROOF_RULE, 1..=8).map(CoreError::InvalidProof))
 }
 
 #[cfg(test)]
@@ -137,7 +162,7 @@ mod tests {
         let rules = (1..=13).map(|rule| (ffi::YUREWHA_RULE + u32::from(rule), CoreError::InvalidJson(rule)));
         let of_proofs = [1, 2, 3, 4, 5, 6, 7, 8].map(|rule| {
             let status = ffi::YUREWHA_PROOF_RULE + u32::from(rule);
-            (status, CoreError::InvalidProofJson(rule))
+            (status, CoreError::InvalidProof(rule))
         });
         for (status, error) in errors.into_iter().chain(rules).chain(of_proofs) {
             assert_eq!(CoreError::of(status), Some(error));
@@ -154,12 +179,25 @@ mod tests {
         }
         assert_eq!(CoreError::InvalidJson(14).to_string(), "invalid JSON: rule 14");
         for rule in 1..=8 {
-            let error = CoreError::InvalidProofJson(rule).to_string();
-            assert!(error.starts_with(&format!("invalid JSON: rule {rule}: ")), "{error}");
+            let error = CoreError::InvalidProof(rule).to_string();
+            assert!(
+                error.starts_with(&format!("invalid range proof: rule {rule}: ")),
+                "{error}"
+            );
         }
         for rule in [0, 9] {
-            let error = CoreError::InvalidProofJson(rule).to_string();
-            assert_eq!(error, format!("invalid JSON: rule {rule}"));
+            let error = CoreError::InvalidProof(rule).to_string();
+            assert_eq!(error, format!("invalid range proof: rule {rule}"));
+        }
+    }
+
+    // Flat lists break the same rules as a JSON value, and the text doesn't call them JSON.
+    #[test]
+    fn a_broken_rule_of_lists_has_the_text_of_json() {
+        for rule in [5, 9, 13, 14] {
+            let of_json = CoreError::InvalidJson(rule).to_string();
+            let of_lists = CoreError::InvalidLists(rule).to_string();
+            assert_eq!(of_lists, of_json.replacen("JSON", "flat lists", 1));
         }
     }
 

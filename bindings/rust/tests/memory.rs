@@ -333,7 +333,12 @@ fn sessions_are_refused() {
     session.put(40, &nodes[40..]).unwrap();
     for before in 0.. {
         let (answer, refused) = with_refusal(before, || session.put(0, &nodes[..40]));
-        assert_eq!(answer, if refused { Err(SessionFault::Memory) } else { Ok(40) });
+        let expected = if refused {
+            Err(SessionFault::OutOfMemory)
+        } else {
+            Ok(40)
+        };
+        assert_eq!(answer, expected);
         assert_eq!(session.taken(0), !refused);
         if !refused {
             break;
@@ -351,9 +356,9 @@ fn sessions_are_refused() {
     let hashes: Vec<_> = nodes.iter().map(|node| node.0).collect();
     refuse_each(|| restored.keep_hashes(&hashes));
     assert_eq!(restored.known_hashes().unwrap().len(), 60);
-    assert_each_refusal(SessionFault::Memory, || session.root(60));
-    assert_each_refusal(SessionFault::Memory, || session.finish(60));
-    assert_each_refusal(SessionFault::Memory, || session.finish_with_salt(60, &[7; 32]));
+    assert_each_refusal(SessionFault::OutOfMemory, || session.root(60));
+    assert_each_refusal(SessionFault::OutOfMemory, || session.finish(60));
+    assert_each_refusal(SessionFault::OutOfMemory, || session.finish_with_salt(60, &[7; 32]));
     assert_eq!(session.finish(60), Ok(file_hash(&nodes)));
 }
 

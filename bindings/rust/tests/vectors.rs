@@ -330,7 +330,10 @@ fn hash_tree(it: &Value) {
         // The default hash may be the root of one chunk, but opens nothing.
         match by_root {
             Ok(range) => check_places(&range, row, tree.total_size()),
-            Err(error) => assert_eq!((error.fault, tree.root()), (OpenFault::Mismatch, DataHash::default())),
+            Err(error) => assert_eq!(
+                (error.fault, tree.root()),
+                (OpenFault::ProofMismatch, DataHash::default())
+            ),
         }
     }
 }
@@ -394,7 +397,7 @@ fn open_proof(it: &Value) {
     if !is_valid(it) {
         assert_eq!(text(it, "error"), "Mismatch");
         let error = opened.unwrap_err();
-        assert_eq!((error.fault, error.proof), (OpenFault::Mismatch, proof));
+        assert_eq!((error.fault, error.proof), (OpenFault::ProofMismatch, proof));
         return;
     }
     let range = opened.unwrap();
@@ -413,7 +416,7 @@ fn open_proof(it: &Value) {
 
 fn proof_error(it: &Value) -> CoreError {
     match error(it) {
-        CoreError::InvalidJson(rule) => CoreError::InvalidProofJson(rule),
+        CoreError::InvalidJson(rule) => CoreError::InvalidProof(rule),
         other => other,
     }
 }
@@ -437,7 +440,7 @@ fn flat_proof(it: &Value) {
         .collect();
     let nodes = nodes(it, "nodes");
     if counts.iter().flatten().sum::<u128>() > nodes.len() as u128 {
-        assert_eq!(proof_error(it), CoreError::InvalidProofJson(5));
+        assert_eq!(proof_error(it), CoreError::InvalidProof(5));
         return;
     }
     let (mut rest, mut levels) = (&nodes[..], Vec::new());

@@ -233,7 +233,7 @@ impl RangeProof {
     /// let chunks = [1, 2, 3].map(|seed| (MerkleHash::random_from_seed(seed), 100));
     /// let proof = RangeProof::from_chunks(&chunks, 1..2)?;
     /// let refused = proof.open(&MerkleHash::random_from_seed(4)).unwrap_err();
-    /// assert_eq!(refused.fault, OpenFault::Mismatch);
+    /// assert_eq!(refused.fault, OpenFault::ProofMismatch);
     /// // The proof comes back.
     /// assert_eq!(refused.proof.open(&file_hash(&chunks))?.file_size(), 300);
     /// # Ok::<(), Box<dyn std::error::Error>>(())
@@ -241,7 +241,7 @@ impl RangeProof {
     ///
     /// # Errors
     ///
-    /// - [`Mismatch`](OpenFault::Mismatch) if the proof doesn't show the hash
+    /// - [`ProofMismatch`](OpenFault::ProofMismatch) if the proof doesn't show the hash
     /// - [`OutOfMemory`](OpenFault::OutOfMemory) if an allocation fails
     pub fn open(self, file_hash: &MerkleHash) -> std::result::Result<OpenedRange, OpenError> {
         self.open_with_salt(file_hash, &[0; 32])
@@ -374,14 +374,14 @@ impl RangeProof {
     /// let proof = RangeProof::from_chunks(&[1, 2, 3].map(|seed| (MerkleHash::random_from_seed(seed), 100)), 1..2)?;
     /// assert_eq!(RangeProof::from_json(&proof.to_json()?)?, proof);
     /// let refused = RangeProof::from_json(r#"{"chunks":[],"levels":[]}"#).unwrap_err();
-    /// assert_eq!(refused, CoreError::InvalidProofJson(5));
-    /// assert_eq!(refused.to_string(), "invalid JSON: rule 5: there is no chunk");
+    /// assert_eq!(refused, CoreError::InvalidProof(5));
+    /// assert_eq!(refused.to_string(), "invalid range proof: rule 5: there is no chunk");
     /// # Ok::<(), CoreError>(())
     /// ```
     ///
     /// # Errors
     ///
-    /// [`InvalidText`] if the text isn't JSON, [`OutOfMemory`] if an allocation fails, or [`InvalidProofJson`] with the
+    /// [`InvalidText`] if the text isn't JSON, [`OutOfMemory`] if an allocation fails, or [`InvalidProof`] with the
     /// lowest rule that the value breaks:
     ///
     /// 1. It is an object.
@@ -395,7 +395,7 @@ impl RangeProof {
     ///
     /// [`InvalidText`]: CoreError::InvalidText
     /// [`OutOfMemory`]: CoreError::OutOfMemory
-    /// [`InvalidProofJson`]: CoreError::InvalidProofJson
+    /// [`InvalidProof`]: CoreError::InvalidProof
     pub fn from_json(text: &str) -> Result<Self> {
         // The text of a node has more than 64 bytes.
         let mut rooms = Rooms::of(text.len() / 64)?;
@@ -497,7 +497,7 @@ impl fmt::Debug for DebugLevels<'_> {
 /// ```
 /// use yurewha::own::OpenFault;
 ///
-/// assert_eq!(OpenFault::Mismatch.to_string(), "the proof doesn't show this hash");
+/// assert_eq!(OpenFault::ProofMismatch.to_string(), "the proof doesn't show this hash");
 /// ```
 ///
 /// Later versions may have more variants, so a `match` needs an arm for others:
@@ -507,7 +507,7 @@ impl fmt::Debug for DebugLevels<'_> {
 /// fn is_worth_another_try(fault: OpenFault) -> bool {
 ///     match fault {
 ///         OpenFault::OutOfMemory => true,
-///         OpenFault::Mismatch => false,
+///         OpenFault::ProofMismatch => false,
 ///     }
 /// }
 /// ```
@@ -515,15 +515,22 @@ impl fmt::Debug for DebugLevels<'_> {
 #[non_exhaustive]
 pub enum OpenFault {
     /// The proof doesn't show the hash. It is a proof of another file, was altered, or the salt is another.
-    Mismatch,
+    ProofMismatch,
     /// An allocation failed.
     OutOfMemory,
+}
+
+impl OpenFault {
+    /// The old name of [`ProofMismatch`](Self::ProofMismatch).
+    #[deprecated(since = "1.1.0", note = "use `ProofMismatch`, as in Python and JavaScript")]
+    #[allow(non_upper_case_globals)]
+    pub const Mismatch: Self = OpenFault::ProofMismatch;
 }
 
 impl fmt::Display for OpenFault {
     fn fmt(&self, f: &mut fmt::Formatter<'_>) -> fmt::Result {
         match self {
-            OpenFault::Mismatch => f.write_str("the proof doesn't show this hash"),
+            OpenFault::ProofMismatch => f.write_str("the proof doesn't show this hash"),
             OpenFault::OutOfMemory => StatusText::of(ffi::YUREWHA_MEMORY).fmt(f),
         }
     }
@@ -534,7 +541,7 @@ impl std::error::Error for OpenFault {}
 impl Refusal for OpenFault {
     fn of(status: ffi::yurewha_status) -> Option<Self> {
         match status {
-            ffi::YUREWHA_MISMATCH => Some(OpenFault::Mismatch),
+            ffi::YUREWHA_MISMATCH => Some(OpenFault::ProofMismatch),
             ffi::YUREWHA_MEMORY => Some(OpenFault::OutOfMemory),
             _ => None,
         }
@@ -585,7 +592,7 @@ mod tests {
     #[test]
     fn each_status_has_its_fault() {
         let faults = [
-            (ffi::YUREWHA_MISMATCH, OpenFault::Mismatch),
+            (ffi::YUREWHA_MISMATCH, OpenFault::ProofMismatch),
             (ffi::YUREWHA_MEMORY, OpenFault::OutOfMemory),
         ];
         for (status, fault) in faults {
@@ -615,7 +622,7 @@ mod tests {
             (7, chunks_of(&[(0, 9)], 10, 1)),
             (8, chunks_of(&[(1, 0)], 2, u64::MAX)),
         ] {
-            assert_eq!(refused, Err(CoreError::InvalidProofJson(rule)));
+            assert_eq!(refused, Err(CoreError::InvalidProof(rule)));
         }
     }
 }

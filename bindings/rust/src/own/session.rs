@@ -20,6 +20,9 @@ mod saving;
 /// Why a call of a session failed. If several reasons apply, the call returns the first of them, unless an allocation
 /// fails before that. After a failure nothing has changed.
 ///
+/// In Python and JavaScript these are the errors `SessionOverlap`, `SessionPositions`, `SessionSizes`, `OutOfMemory` and
+/// `SessionGap`.
+///
 /// ```
 /// use yurewha::own::SessionFault;
 ///
@@ -35,9 +38,16 @@ pub enum SessionFault {
     /// The sizes of all chunks add up to more than `u64::MAX` bytes.
     Sizes,
     /// An allocation failed.
-    Memory,
+    OutOfMemory,
     /// The taken positions aren't exactly those below the total.
     Gap,
+}
+
+impl SessionFault {
+    /// The old name of [`OutOfMemory`](Self::OutOfMemory).
+    #[deprecated(since = "1.1.0", note = "use `OutOfMemory`, as in Python and JavaScript")]
+    #[allow(non_upper_case_globals)]
+    pub const Memory: Self = SessionFault::OutOfMemory;
 }
 
 impl fmt::Display for SessionFault {
@@ -46,7 +56,7 @@ impl fmt::Display for SessionFault {
             SessionFault::Overlap => StatusText::of(ffi::YUREWHA_SESSION_OVERLAP).fmt(f),
             SessionFault::Positions => f.write_str("positions past 2^64 - 1"),
             SessionFault::Sizes => f.write_str("sizes past 2^64 - 1"),
-            SessionFault::Memory => StatusText::of(ffi::YUREWHA_MEMORY).fmt(f),
+            SessionFault::OutOfMemory => StatusText::of(ffi::YUREWHA_MEMORY).fmt(f),
             SessionFault::Gap => f.write_str("a position isn't taken, or one is past the total"),
         }
     }
@@ -60,7 +70,7 @@ impl Refusal for SessionFault {
             ffi::YUREWHA_SESSION_OVERLAP => Some(SessionFault::Overlap),
             ffi::YUREWHA_SESSION_POSITIONS => Some(SessionFault::Positions),
             ffi::YUREWHA_SIZES => Some(SessionFault::Sizes),
-            ffi::YUREWHA_MEMORY => Some(SessionFault::Memory),
+            ffi::YUREWHA_MEMORY => Some(SessionFault::OutOfMemory),
             ffi::YUREWHA_SESSION_GAP => Some(SessionFault::Gap),
             _ => None,
         }
@@ -182,9 +192,9 @@ impl Session {
     /// - [`Overlap`](SessionFault::Overlap) if one of the positions is taken
     /// - otherwise [`Positions`](SessionFault::Positions) if `first` plus the number of chunks is more than `u64::MAX`
     /// - otherwise [`Sizes`](SessionFault::Sizes) if the sizes of all chunks add up to more than `u64::MAX`
-    /// - [`Memory`](SessionFault::Memory) if an allocation fails
+    /// - [`OutOfMemory`](SessionFault::OutOfMemory) if an allocation fails
     pub fn put(&mut self, first: u64, chunks: &[Node]) -> std::result::Result<u64, SessionFault> {
-        let chunks = lend(chunks).map_err(|_| SessionFault::Memory)?;
+        let chunks = lend(chunks).map_err(|_| SessionFault::OutOfMemory)?;
         // SAFETY: a handle, chunks of their number, and a number to write to.
         let new_hashes = answer(|new_hashes| unsafe {
             ffi::yurewha_session_put(self.handle.get_mut(), first, chunks.as_ptr(), chunks.len(), new_hashes)
@@ -428,7 +438,7 @@ impl Session {
     /// # Errors
     ///
     /// - [`Gap`](SessionFault::Gap) if and only if the taken positions aren't exactly those from 0 to `total` - 1
-    /// - [`Memory`](SessionFault::Memory) if an allocation fails
+    /// - [`OutOfMemory`](SessionFault::OutOfMemory) if an allocation fails
     pub fn root(&self, total: u64) -> std::result::Result<MerkleHash, SessionFault> {
         // SAFETY: a handle, and a hash to write to.
         answer(|root: &mut MerkleHash| unsafe { ffi::yurewha_session_root(&mut *self.lock(), total, root.out()) })
@@ -518,7 +528,7 @@ mod tests {
             (ffi::YUREWHA_SESSION_OVERLAP, SessionFault::Overlap),
             (ffi::YUREWHA_SESSION_POSITIONS, SessionFault::Positions),
             (ffi::YUREWHA_SIZES, SessionFault::Sizes),
-            (ffi::YUREWHA_MEMORY, SessionFault::Memory),
+            (ffi::YUREWHA_MEMORY, SessionFault::OutOfMemory),
             (ffi::YUREWHA_SESSION_GAP, SessionFault::Gap),
         ];
         for (status, fault) in faults {

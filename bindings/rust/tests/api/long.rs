@@ -60,7 +60,7 @@ fn a_long_proof_is_looked_at_to_its_end() {
     let node = |(hash, size): &Node| format!(r#"{{"hash":"{hash}","size":{size}}}"#);
     let chunks = nodes.iter().map(node).collect::<Vec<_>>().join(",");
     let text = format!(r#"{{"chunks":[{chunks}],"levels":[]}}"#);
-    assert_eq!(RangeProof::from_json(&text), Err(CoreError::InvalidProofJson(8)));
+    assert_eq!(RangeProof::from_json(&text), Err(CoreError::InvalidProof(8)));
     #[cfg(feature = "serde")]
     {
         let bytes = bincode::serialize(&(nodes, Vec::<u64>::new())).unwrap();

@@ -90,8 +90,9 @@ fn values_have_the_traits_of_values() {
 fn errors_may_get_more_variants() {
     let _ = |error: CoreError| match error {
         CoreError::InvalidArguments | CoreError::SizeOverflow | CoreError::OutOfMemory => 1,
-        CoreError::InvalidText | CoreError::InvalidJson(_) | CoreError::InvalidProofJson(_) => 2,
-        _ => 3,
+        CoreError::InvalidText | CoreError::InvalidJson(_) => 2,
+        CoreError::InvalidLists(_) | CoreError::InvalidProof(_) => 3,
+        _ => 4,
     };
     let _ = |error: own::HashTextError| match error {
         own::HashTextError::Bytes(_) | own::HashTextError::OutOfMemory => 1,
@@ -103,13 +104,34 @@ fn errors_may_get_more_variants() {
     };
     let _ = |fault: own::SessionFault| match fault {
         own::SessionFault::Overlap | own::SessionFault::Positions | own::SessionFault::Sizes => 1,
-        own::SessionFault::Memory | own::SessionFault::Gap => 2,
+        own::SessionFault::OutOfMemory | own::SessionFault::Gap => 2,
         _ => 3,
     };
     let _ = |fault: own::OpenFault| match fault {
-        own::OpenFault::Mismatch | own::OpenFault::OutOfMemory => 1,
+        own::OpenFault::ProofMismatch | own::OpenFault::OutOfMemory => 1,
         _ => 2,
     };
+}
+
+// Each can be written where the new name can, except that a pattern can't have the first.
+#[allow(deprecated)]
+#[test]
+fn old_names_of_errors_mean_the_new_ones() {
+    assert_eq!(CoreError::InvalidProofJson(8), CoreError::InvalidProof(8));
+    let of_session = |fault| match fault {
+        own::SessionFault::Memory => "memory",
+        _ => "another",
+    };
+    assert_eq!(of_session(own::SessionFault::OutOfMemory), "memory");
+    assert_eq!(of_session(own::SessionFault::Gap), "another");
+    assert_eq!(own::SessionFault::Memory, own::SessionFault::OutOfMemory);
+    let of_opening = |fault| match fault {
+        own::OpenFault::Mismatch => "mismatch",
+        _ => "another",
+    };
+    assert_eq!(of_opening(own::OpenFault::ProofMismatch), "mismatch");
+    assert_eq!(of_opening(own::OpenFault::OutOfMemory), "another");
+    assert_eq!(own::OpenFault::Mismatch, own::OpenFault::ProofMismatch);
 }
 
 // Names of a user's own, each the name of an item or module of this crate that the Rust crate doesn't have. If a glob

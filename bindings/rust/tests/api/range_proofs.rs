@@ -95,7 +95,7 @@ fn a_proof_has_the_text_of_the_example() {
     assert_eq!(RangeProof::from_json(text), Ok(proof.clone()));
     assert_eq!(
         RangeProof::from_json(&text.to_uppercase().replace("CHUNKS", "chunks")),
-        Err(CoreError::InvalidProofJson(2))
+        Err(CoreError::InvalidProof(2))
     );
     let debug = format!("{proof:?}");
     assert!(
@@ -299,7 +299,7 @@ fn a_proof_is_opened_with_the_hash_of_its_list_alone() {
     let wrong = [DataHash::default(), DataHash::marker(), xorb_hash(&list), hash(SALTED)];
     for wrong in wrong {
         let error = proof.clone().open(&wrong).unwrap_err();
-        assert_eq!((error.fault, &error.proof), (OpenFault::Mismatch, &proof));
+        assert_eq!((error.fault, &error.proof), (OpenFault::ProofMismatch, &proof));
     }
     assert!(proof.clone().open_with_salt(&hash(FILE_HASH), &salt).is_err());
     assert!(proof.clone().open_root(&hash(FILE_HASH)).is_err());
@@ -328,7 +328,7 @@ fn an_altered_proof_is_not_opened() {
         let proof = RangeProof::from_json(&altered).unwrap();
         assert_eq!(
             proof.open(&name).unwrap_err().fault,
-            OpenFault::Mismatch,
+            OpenFault::ProofMismatch,
             "{from} to {to}"
         );
     };
@@ -403,15 +403,15 @@ fn each_rule_is_named() {
     for (rule, text) in &forged {
         assert_eq!(
             RangeProof::from_json(text),
-            Err(CoreError::InvalidProofJson(*rule)),
+            Err(CoreError::InvalidProof(*rule)),
             "{text}"
         );
     }
     for rule in 1..=8 {
         assert!(forged.iter().any(|(broken, _)| *broken == rule), "{rule}");
     }
-    let error = CoreError::InvalidProofJson(6).to_string();
-    assert_eq!(error, "invalid JSON: rule 6: there are more than 64 levels");
+    let error = CoreError::InvalidProof(6).to_string();
+    assert_eq!(error, "invalid range proof: rule 6: there are more than 64 levels");
 }
 
 #[test]
@@ -587,6 +587,6 @@ fn an_error_of_opening_shows_no_proof() {
     let error = proof.open(&DataHash::marker()).unwrap_err();
     assert_eq!(
         format!("{error:?}"),
-        "OpenError { fault: Mismatch, num_chunks: 4000, .. }"
+        "OpenError { fault: ProofMismatch, num_chunks: 4000, .. }"
     );
 }

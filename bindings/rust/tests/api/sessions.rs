@@ -252,13 +252,16 @@ fn faults_have_their_texts() {
         (SessionFault::Overlap, "a position is taken"),
         (SessionFault::Positions, "positions past 2^64 - 1"),
         (SessionFault::Sizes, "sizes past 2^64 - 1"),
-        (SessionFault::Memory, "out of memory"),
+        (SessionFault::OutOfMemory, "out of memory"),
         (SessionFault::Gap, "a position isn't taken, or one is past the total"),
     ];
     for (fault, text) in texts {
         assert_eq!(fault.to_string(), text);
     }
-    assert_eq!(SessionFault::Memory.to_string(), CoreError::OutOfMemory.to_string());
+    assert_eq!(
+        SessionFault::OutOfMemory.to_string(),
+        CoreError::OutOfMemory.to_string()
+    );
 }
 
 // A session with these runs of a list, put in this order.

@@ -1,7 +1,7 @@
 //! A range proof in serde's formats: a struct of chunks and levels.
 
 use super::RangeProof;
-use crate::error::{BrokenProofRule, CoreError};
+use crate::error::CoreError;
 use crate::ffi::{yurewha_chunk, yurewha_level};
 use crate::forms::{missing, named, read_element, read_member, Form, Node, Sequence};
 use crate::in_form::InForm;
@@ -91,10 +91,7 @@ type Sides = (Vec<yurewha_chunk>, Vec<yurewha_chunk>);
 
 // The proof of these nodes, if they break none of the rules 5 to 8. The error names no format.
 fn proof_of<E: Error>(chunks: &[yurewha_chunk], levels: &[Sides]) -> Result<RangeProof, E> {
-    checked(chunks, levels).map_err(|error| match error {
-        CoreError::InvalidProofJson(rule) => E::custom(format_args!("invalid range proof: {}", BrokenProofRule(rule))),
-        error => E::custom(error),
-    })
+    checked(chunks, levels).map_err(E::custom)
 }
 
 fn checked(chunks: &[yurewha_chunk], levels: &[Sides]) -> Result<RangeProof, CoreError> {

@@ -23,14 +23,14 @@ const COUNT: Form = Form("a whole number below 2^64 in `levels`", 4);
 // The subtree that marks and lists describe, if they break none of the rules 5 to 13. The error names no format.
 fn subtree_of<E: Error>(flat: &Flat) -> Result<MerkleHashSubtree, E> {
     checked(flat).map_err(|error| match error {
-        CoreError::InvalidJson(rule) => E::custom(format_args!("invalid subtree: {}", BrokenRule(rule))),
+        CoreError::InvalidLists(rule) => E::custom(format_args!("invalid subtree: {}", BrokenRule(rule))),
         error => E::custom(error),
     })
 }
 
 fn checked(flat: &Flat) -> Result<MerkleHashSubtree, CoreError> {
     // SAFETY: levels and nodes with their counts, and an empty handle to write to.
-    MerkleHashSubtree::made(|made| unsafe {
+    let made = MerkleHashSubtree::made(|made| unsafe {
         ffi::yurewha_subtree_from_flat(
             flat.at_start,
             flat.levels.as_ptr(),
@@ -40,6 +40,10 @@ fn checked(flat: &Flat) -> Result<MerkleHashSubtree, CoreError> {
             flat.at_end,
             made,
         )
+    });
+    made.map_err(|error| match error {
+        CoreError::InvalidJson(rule) => CoreError::InvalidLists(rule),
+        error => error,
     })
 }
 
@@ -162,5 +166,41 @@ impl Visitor<'_> for Truth {
 
     fn visit_bool<E: Error>(self, truth: bool) -> Result<bool, E> {
         Ok(truth)
+    }
+}
+
+#[cfg(test)]
+mod tests {
+    use super::*;
+    use crate::ffi::yurewha_chunk;
+
+    // The lists of this many nodes of one size, with both marks.
+    fn lists(nodes: usize, size: u64, levels: &[(usize, usize)]) -> Flat {
+        let hash = Default::default();
+        Flat {
+            nodes: vec![yurewha_chunk { hash, size }; nodes],
+            levels: levels
+                .iter()
+                .map(|&(left, right)| yurewha_level { left, right })
+                .collect(),
+            at_start: true,
+            at_end: true,
+        }
+    }
+
+    #[test]
+    fn lists_of_no_subtree_are_refused_by_the_lowest_rule() {
+        assert_eq!(checked(&lists(1, 7, &[(1, 0)])).map(|it| it.total_size()), Ok(7));
+        for (rule, flat) in [
+            (5, lists(0, 1, &[])),
+            (6, lists(0, 1, &[(1, 0)])),
+            (7, lists(2, u64::MAX, &[(2, 0)])),
+            (8, lists(1, 1, &[(0, 1)])),
+            (9, lists(2, 1, &[(1, 0), (1, 0)])),
+            (10, lists(2, 1, &[(2, 0)])),
+            (11, lists(0, 1, &[(0, 0), (0, 0)])),
+        ] {
+            assert_eq!(checked(&flat), Err(CoreError::InvalidLists(rule)));
+        }
     }
 }
