@@ -49,12 +49,13 @@ test("an error has its name in a minified bundle too", async () => {
     bundled("names.mjs", "--platform=browser");
     const made = await import(pathToFileURL(join(folder, "names.mjs")));
     const kinds = Object.keys(errors).filter((name) => name !== "load");
-    assert.equal(kinds.length, 14);
+    assert.equal(kinds.length, 16);
     for (const name of kinds) {
-        const error = name === "InvalidJson" ? new made[name](1, "a message") : new made[name]("a message");
+        const hasRule = ["InvalidJson", "InvalidLists", "InvalidProof"].includes(name);
+        const error = hasRule ? new made[name](1, "a message") : new made[name]("a message");
         assert.deepEqual([error.name, `${error}`], [name, `${name}: ${error.message}`]);
         assert.ok(error.stack.startsWith(`${name}: ${error.message}\n`), error.stack);
-        assert.deepEqual(Object.keys(error), name === "InvalidJson" ? ["rule"] : []);
+        assert.deepEqual(Object.keys(error), hasRule ? ["rule"] : []);
     }
 });
 

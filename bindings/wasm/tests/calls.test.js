@@ -49,7 +49,7 @@ test("a number is a BigInt or a safe integer, and of 64 bits", () => {
     assert.equal(y.Hash.randomFromSeed(5).hex(), y.Hash.randomFromSeed(5n).hex());
     // A number that is 0 or 1 in 32 bits is another number.
     const [twoTo32, flat] = [2n ** 32n, { atStart: true, nodes: [[hash, 1]], atEnd: true }];
-    for (const levels of [[[twoTo32 + 1n, 0]], [[1, twoTo32]]]) assert.throws(() => y.Subtree.fromFlat({ ...flat, levels }), errors.InvalidJson);
+    for (const levels of [[[twoTo32 + 1n, 0]], [[1, twoTo32]]]) assert.throws(() => y.Subtree.fromFlat({ ...flat, levels }), errors.InvalidLists);
     session.put(twoTo32, [[hash, twoTo32]]);
     assert.deepEqual([session.taken(twoTo32), session.taken(0), session.totalSize, session.runFrom(0)[0]], [true, false, twoTo32, twoTo32]);
     assert.throws(() => session.run(twoTo32), errors.InvalidArguments);
@@ -199,14 +199,14 @@ test("each status of the header has its error", () => {
 });
 
 test("an error says what the library says of its status", async () => {
-    const rules = (first, count) => Array.from({ length: count }, (_, k) => [first + k + 1, "InvalidJson", k + 1]);
+    const rules = (first, count, name) => Array.from({ length: count }, (_, k) => [first + k + 1, name, k + 1]);
     const table = [
         [STATUS.SIZES, "SizeOverflow"],
         [STATUS.SESSION_OVERLAP, "SessionOverlap"],
         [STATUS.SESSION_POSITIONS, "SessionPositions"],
         [STATUS.SESSION_GAP, "SessionGap"],
-        ...rules(STATUS.RULE, 13),
-        ...rules(STATUS.PROOF_RULE, 8),
+        ...rules(STATUS.RULE, 13, "InvalidJson"),
+        ...rules(STATUS.PROOF_RULE, 8, "InvalidProof"),
     ];
     let status;
     const { exports, yurewha } = await wrapped(BYTES, (it) => ({ ...it, yurewha_subtree_from_json: () => status }));
@@ -219,8 +219,27 @@ test("an error says what the library says of its status", async () => {
         status = given;
         assert.throws(() => yurewha.Subtree.fromJSON("{}"), { name, message, ...(rule && { rule }) }, `${given}`);
     }
-    assert.throws(() => y.Subtree.fromJSON("[]"), { message: "rule 1: the value isn't an object" });
-    assert.throws(() => y.RangeProof.fromFlat({ levels: [], nodes: [] }), { message: "rule 5: there is no chunk" });
+});
+
+test("an error of a broken rule names what broke it, and is an InvalidJson", () => {
+    const flat = { atStart: true, levels: [], nodes: [], atEnd: true };
+    const hash = y.Hash.randomFromSeed(1);
+    const sessionOf = (json) => y.Session.restore({ runs: [["0", "1", json]], knownHashes: [] });
+    const table = [
+        ["InvalidJson", 1, "rule 1: the value isn't an object", () => y.Subtree.fromJSON("[]")],
+        ["InvalidJson", 1, "rule 1: the value isn't an object", () => sessionOf("[]")],
+        ["InvalidLists", 5, "rule 5: there is no level", () => y.Subtree.fromFlat(flat)],
+        ["InvalidLists", 10, "rule 10: ", () => y.Subtree.fromFlat({ ...flat, levels: [[2, 0]], nodes: [[hash, 1], [hash, 1]] })],
+        ["InvalidProof", 1, "rule 1: the range proof isn't an object", () => y.RangeProof.fromJSON("[]")],
+        ["InvalidProof", 5, "rule 5: there is no chunk", () => y.RangeProof.fromFlat({ levels: [], nodes: [] })],
+        ["InvalidProof", 5, "rule 5: there is no chunk", () => new y.RangeProof(new Uint8Array(1))],
+    ];
+    for (const [name, rule, message, call] of table) {
+        assert.throws(call, (error) => {
+            assert.deepEqual([error.name, error.constructor, error.rule], [name, errors[name], rule]);
+            return error instanceof errors.InvalidJson && error.message.startsWith(message) && !error.message.includes("JSON");
+        });
+    }
 });
 
 test("a hash has its texts, also in JSON, and doesn't change", () => {

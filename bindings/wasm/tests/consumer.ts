@@ -4,6 +4,8 @@ import {
     EmptyHandle,
     InvalidArguments,
     InvalidJson,
+    InvalidLists,
+    InvalidProof,
     InvalidText,
     OutOfMemory,
     ProofMismatch,
@@ -142,6 +144,15 @@ try {
     if (!(error instanceof InvalidJson && error instanceof YurewhaError)) throw error;
     const rule: number = error.rule;
     if (rule !== 1) throw error;
+}
+for (const call of [() => y.Subtree.fromFlat({ ...flat, levels: [] }), () => y.RangeProof.fromFlat({ levels: [], nodes: [] })]) {
+    try {
+        call();
+    } catch (error) {
+        if (!(error instanceof InvalidLists || error instanceof InvalidProof)) throw error;
+        const broken: InvalidJson = error;
+        if (broken.rule !== 5) throw error;
+    }
 }
 try {
     session.put(1n, pairs);
@@ -473,6 +484,10 @@ export async function refused(): Promise<void> {
     new SessionGap(7);
     // @ts-expect-error another error has no rule
     const broken: typeof InvalidJson = SizeOverflow;
+    // @ts-expect-error a rule is a number
+    new InvalidLists("rule 5");
+    // @ts-expect-error an error of a broken rule has one
+    new InvalidProof();
     // @ts-expect-error a class of the instance can't be replaced
     y.Hash = y.Hash;
     void hex;

@@ -282,7 +282,7 @@ test("packed bytes and lists that are none of a proof are refused", () => {
         assert.throws(() => new y.RangeProof(Uint8Array.from(given)), errors.InvalidArguments);
     }
     const node = new Uint8Array(40);
-    const broken = (rule) => (error) => error instanceof errors.InvalidJson && error.rule === rule && error.message.startsWith(`rule ${rule}: `);
+    const broken = (rule) => (error) => error instanceof errors.InvalidProof && error.rule === rule && error.message.startsWith(`rule ${rule}: `);
     const table = [[5, [0]], [5, [1, 1, 0, ...node]], [5, [1, 255, 255, ...node]], [6, [65, ...Array(130).fill(0), ...node]], [7, [1, 9, 0, ...Array(400).fill(0)]]];
     for (const [rule, given] of table) assert.throws(() => new y.RangeProof(Uint8Array.from(given)), broken(rule));
     const great = [[new y.Hash(), MAX], [new y.Hash(), 1]];
@@ -290,7 +290,7 @@ test("packed bytes and lists that are none of a proof are refused", () => {
     for (const list of [great, many]) assert.throws(() => y.RangeProof.fromFlat({ levels: [], nodes: list }), broken(8));
     assert.throws(() => new y.RangeProof(Uint8Array.from([0, ...y.Chunks.from(many).bytes])), broken(8));
     for (const levels of [[[MAX, 1]], [[TWO_TO_32, 0]]]) assert.throws(() => y.RangeProof.fromFlat({ levels, nodes: great }), broken(5));
-    assert.throws(() => y.RangeProof.fromJSON('{"chunks":[],"levels":[]}'), new errors.InvalidJson(5, "rule 5: there is no chunk"));
+    assert.throws(() => y.RangeProof.fromJSON('{"chunks":[],"levels":[]}'), new errors.InvalidProof(5, "rule 5: there is no chunk"));
     assert.throws(() => y.RangeProof.fromJSON("{"), new errors.InvalidText("the text is no JSON text"));
 });
 
@@ -302,12 +302,12 @@ test("lists of a proof are checked without making JSON of them", async () => {
     const { bytes } = y.RangeProof.fromChunks(nodes(28), 5, 6);
     const proof = new it.RangeProof(bytes);
     assert.deepEqual(it.RangeProof.fromFlat(proof.toFlat()).bytes, bytes);
-    assert.throws(() => it.RangeProof.fromFlat({ levels: [], nodes: [] }), errors.InvalidJson);
+    assert.throws(() => it.RangeProof.fromFlat({ levels: [], nodes: [] }), errors.InvalidProof);
 });
 
 test("deep and long texts are refused without a trap", () => {
     for (const text of ["[".repeat(1e6), '{"a":'.repeat(1e6)]) assert.throws(() => y.RangeProof.fromJSON(text), errors.InvalidText);
-    assert.throws(() => y.RangeProof.fromJSON(JSON.stringify("a".repeat(1e7))), errors.InvalidJson);
+    assert.throws(() => y.RangeProof.fromJSON(JSON.stringify("a".repeat(1e7))), errors.InvalidProof);
 });
 
 test("a range that the list lacks has no proof", () => {

@@ -32,7 +32,7 @@ function checksOver(y) {
         assert.equal(it.json ?? text, text);
     };
     const plain = (nodes) => Array.from(nodes, ([hash, size]) => ({ hash: hash.hex(), size: `${size}` }));
-    const breaks = (rule) => (error) => error instanceof errors.InvalidJson && error.rule === rule;
+    const breaks = (rule) => (error) => error instanceof errors.InvalidProof && error.rule === rule;
     const checkProof = (proof, it) => {
         const { levels, nodes } = proof.toFlat();
         const lines = Array.from(nodes, ([hash, size]) => `${hash} : ${size}\n`).join("");

@@ -195,7 +195,7 @@ test("a server that sends too much, or ends too early, is left", async () => {
         [{ data: (response) => response.writeHead(404).end("no") }, /^Error: http:\/\/127\.0\.0\.1:\d+\/data: status 404$/],
         [{ proof: (response) => response.writeHead(500).end("no") }, /^Error: http:\/\/127\.0\.0\.1:\d+\/proof\?start=0&stop=1: status 500$/],
         [{ proof: (response) => response.end("{") }, errors.InvalidText],
-        [{ proof: (response) => response.end('{"chunks":[],"levels":[]}') }, errors.InvalidJson],
+        [{ proof: (response) => response.end('{"chunks":[],"levels":[]}') }, errors.InvalidProof],
     ];
     for (const [answer, error] of answers) {
         const server = await served(answer);

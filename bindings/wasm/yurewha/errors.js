@@ -25,11 +25,16 @@ export class InvalidJson extends YurewhaError {
     }
 }
 
+export class InvalidLists extends InvalidJson {}
+export class InvalidProof extends InvalidJson {}
+
 // A minifier renames classes, but not members.
 const NAMED = {
     EmptyHandle,
     InvalidArguments,
     InvalidJson,
+    InvalidLists,
+    InvalidProof,
     InvalidText,
     OutOfMemory,
     ProofMismatch,
@@ -60,15 +65,21 @@ const MESSAGES = new Map([
     [STATUS.MISMATCH, () => "the proof doesn't show this hash"],
 ]);
 
+/** The rule that a status names, of those that come after the status `before`; 0 if it names none of them. */
+const ruleOf = (status, before, count) => (status > before && status <= before + count ? status - before : 0);
+
 /**
  * The error of a status other than 0. `text` is what the status means, in the module's words, and `what` the message of
- * InvalidArguments and InvalidText.
+ * InvalidArguments and InvalidText. `OfRule` is the error of a subtree's rule: the status doesn't say whether a JSON value or flat
+ * lists break it, which the caller knows.
  */
-export function errorOf(status, text, what) {
+export function errorOf(status, text, what, OfRule = InvalidJson) {
     const name = ERROR_NAMES[status];
     if (name) return new NAMED[name](MESSAGES.get(status)?.(what) ?? text);
-    const broken = [[STATUS.RULE, RULES], [STATUS.PROOF_RULE, PROOF_RULES]].find(([first, count]) => status > first && status <= first + count);
-    if (broken) return new InvalidJson(status - broken[0], text);
+    const rule = ruleOf(status, STATUS.RULE, RULES);
+    if (rule) return new OfRule(rule, text);
+    const proofRule = ruleOf(status, STATUS.PROOF_RULE, PROOF_RULES);
+    if (proofRule) return new InvalidProof(proofRule, text);
     return new YurewhaError(`the library returned status ${status}`);
 }
 

@@ -394,7 +394,7 @@ export interface SubtreeConstructor {
     fromJSON(text: string | Uint8Array): Subtree;
 
     /** Makes a subtree from flat lists.
-     * @throws InvalidJson they break a rule from 5 to 13 */
+     * @throws InvalidLists they break a rule from 5 to 13 */
     fromFlat(flat: FlatInput): Subtree;
 }
 
@@ -639,7 +639,7 @@ export interface RangeProof {
 export interface RangeProofConstructor {
     /** Makes a proof from its packed form, which is copied.
      * @throws InvalidArguments it has no such form
-     * @throws InvalidJson it breaks a rule from 5 to 8 */
+     * @throws InvalidProof it breaks a rule from 5 to 8 */
     new (bytes: Uint8Array): RangeProof;
     readonly prototype: RangeProof;
 
@@ -651,11 +651,11 @@ export interface RangeProofConstructor {
 
     /** Reads a proof from JSON text, or from its UTF-8 bytes.
      * @throws InvalidText the text isn't JSON
-     * @throws InvalidJson the value breaks a rule */
+     * @throws InvalidProof the value breaks a rule */
     fromJSON(text: string | Uint8Array): RangeProof;
 
     /** Makes a proof from flat lists.
-     * @throws InvalidJson they break a rule from 5 to 8 */
+     * @throws InvalidProof they break a rule from 5 to 8 */
     fromFlat(flat: FlatProofInput): RangeProof;
 }
 
@@ -757,7 +757,7 @@ export interface OpenedRangeConstructor {
  * trusted: each file with this hash has these bytes at this place, or two messages with one BLAKE3 hash were found.
  *
  * A call that reads rejects with `ProofMismatch` if other data or another proof comes, or more of it than was asked for; with the error
- * of the request if that fails; and with `InvalidText` or `InvalidJson` if what comes is no proof. It hands on nothing then, and the
+ * of the request if that fails; and with `InvalidText` or `InvalidProof` if what comes is no proof. It hands on nothing then, and the
  * next call asks again. A stream has handed on the pieces before, which were checked.
  *
  * It isn't an instance of `Blob`, so what the browser itself implements, such as `URL.createObjectURL`, doesn't take it. Code that calls
@@ -859,13 +859,20 @@ export class OutOfMemory extends YurewhaError {}
 /** A text doesn't have the expected form. */
 export class InvalidText extends YurewhaError {}
 
-/** A JSON value, or flat lists, describe no subtree or no range proof. */
+/** A JSON value describes no subtree. `InvalidLists` and `InvalidProof` are also `InvalidJson`, so that it stands for every broken
+ * rule. */
 export class InvalidJson extends YurewhaError {
-    /** The lowest rule that they break: from 1 to 13 for a subtree, from 1 to 8 for a range proof. */
+    /** The lowest rule that is broken: from 1 to 13 for a subtree, from 1 to 8 for a range proof. */
     readonly rule: number;
 
     constructor(rule: number, message?: string);
 }
+
+/** Flat lists describe no subtree. This is also an `InvalidJson`. */
+export class InvalidLists extends InvalidJson {}
+
+/** A JSON value, flat lists or bytes describe no range proof. This is also an `InvalidJson`. */
+export class InvalidProof extends InvalidJson {}
 
 /** A range proof doesn't show a hash, or data isn't that of the range. */
 export class ProofMismatch extends YurewhaError {}

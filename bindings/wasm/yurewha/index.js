@@ -6,6 +6,8 @@ export {
     EmptyHandle,
     InvalidArguments,
     InvalidJson,
+    InvalidLists,
+    InvalidProof,
     InvalidText,
     OutOfMemory,
     ProofMismatch,

@@ -1,6 +1,6 @@
 // The module's exports and its memory.
 
-import { LAST_STATUS, STATUS, Trapped, errorOf, outOfMemory } from "./errors.js";
+import { InvalidLists, LAST_STATUS, STATUS, Trapped, errorOf, outOfMemory } from "./errors.js";
 import { STATUS_TEXT_LENGTH } from "./constants.js";
 
 /** How many bytes are kept for the arguments and results of a call. */
@@ -45,8 +45,13 @@ export class Library {
     }
 
     /** Throws the error of a status, unless it is 0. `what` is the message of InvalidArguments and InvalidText. */
-    check(status, what = "the arguments don't fit together") {
-        if (status !== STATUS.DONE) throw errorOf(status, this.#texts[status], what);
+    check(status, what = "the arguments don't fit together", OfRule) {
+        if (status !== STATUS.DONE) throw errorOf(status, this.#texts[status], what, OfRule);
+    }
+
+    /** The same for a call that reads the flat lists of a subtree. */
+    checkLists(status) {
+        this.check(status, undefined, InvalidLists);
     }
 
     /** A pointer to a block of memory. */

@@ -83,7 +83,7 @@ export function makeSubtree(library, { Hash, rawOf, result, hmac }, { Chunks, pa
             return library.over([counts, packed], (levelsAt, nodesAt) =>
                 owned((made) => {
                     const lists = [levelsAt, BigInt(counts.length / LEVEL_LENGTH), nodesAt, BigInt(packed.length / CHUNK_LENGTH)];
-                    library.check(library.call("yurewha_subtree_from_flat", marks[0], ...lists, marks[1], made));
+                    library.checkLists(library.call("yurewha_subtree_from_flat", marks[0], ...lists, marks[1], made));
                 }),
             );
         }
