@@ -88,7 +88,8 @@ extern "C" {
 
 typedef uint32_t yurewha_status;
 
-/* A name before a colon is that of the error in Python and JavaScript. */
+/* A name before a colon or in brackets is that of the error in Python, JavaScript and Rust. In Rust, SessionGap is
+ * SessionFault::Gap. */
 #define YUREWHA_DONE 0u         /* the call succeeded */
 #define YUREWHA_ARGUMENTS 1u    /* InvalidArguments: the arguments don't fit together, or the requested thing doesn't exist */
 #define YUREWHA_SIZES 2u        /* SizeOverflow: sizes or lengths add up to more than 2^64 - 1 */
@@ -98,12 +99,12 @@ typedef uint32_t yurewha_status;
 #define YUREWHA_EMPTY_HANDLE 6u /* EmptyHandle: a handle that the call reads is empty */
 #define YUREWHA_MISMATCH 7u     /* ProofMismatch: a range proof doesn't show the hash, or the data isn't that of the range */
 
-/* YUREWHA_RULE + rule: a JSON value, or flat lists, describe no subtree. They break this rule, from 1 to 13, and no rule
- * with a lower number. The rules are listed at yurewha_subtree_from_json. */
+/* YUREWHA_RULE + rule: a JSON value (InvalidJson) or flat lists (InvalidLists) describe no subtree. They break this rule, from 1
+ * to 13, and no rule with a lower number. The rules are listed at yurewha_subtree_from_json. */
 #define YUREWHA_RULE 16u
 
-/* YUREWHA_PROOF_RULE + rule: a JSON value, or flat lists, are no range proof. They break this rule, which is one of 8, and no
- * rule with a lower number. The rules are listed at yurewha_range_proof_from_json. */
+/* YUREWHA_PROOF_RULE + rule: a JSON value, or flat lists, are no range proof (InvalidProof). They break this rule, which is one
+ * of 8, and no rule with a lower number. The rules are listed at yurewha_range_proof_from_json. */
 #define YUREWHA_PROOF_RULE 48u
 
 /* Calls of a session return these, too. */

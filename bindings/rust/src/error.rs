@@ -194,7 +194,7 @@ mod tests {
     // Flat lists break the same rules as a JSON value, and the text doesn't call them JSON.
     #[test]
     fn a_broken_rule_of_lists_has_the_text_of_json() {
-        for rule in [5, 9, 13, 14] {
+        for rule in 1..=13 {
             let of_json = CoreError::InvalidJson(rule).to_string();
             let of_lists = CoreError::InvalidLists(rule).to_string();
             assert_eq!(of_lists, of_json.replacen("JSON", "flat lists", 1));
