@@ -44,7 +44,7 @@ export class Library {
         }
     }
 
-    /** Throws the error of a status, unless it is 0. `what` is the message of InvalidArguments and InvalidText. */
+    /** Throws the error of a status, unless it is 0. `what` and `OfRule` are as in `errorOf`. */
     check(status, what = "the arguments don't fit together", OfRule) {
         if (status !== STATUS.DONE) throw errorOf(status, this.#texts[status], what, OfRule);
     }
