@@ -1,3 +1,4 @@
 pub mod FlatOf
 pub mod Json
 pub mod Reading
+pub mod NoFloat

@@ -1,3 +1,2 @@
-pub mod NoFloat
 pub mod OneMeaning
 pub mod Reading

@@ -5,7 +5,7 @@ use Rattle.serde_json.specs.Written.{has_float}
 use Rattle.xet_roots.specs.Groups.{Node}
 use Rattle.level_nodes.specs.Level.{Level}
 use Rattle.level_nodes.specs.NodeJson.{node_json, nodes_json}
-use Rattle.xet_merkle.proofs.Json.NoFloat.{neither, array-no_float}
+use Rattle.level_nodes.proofs.NoFloat.{neither, array-no_float}
 use Rattle.range_proof.specs.ProofJson.{sides_json}
 use Rattle.range_proof.proofs.laws.proof_json_has_no_float.Goals as goal
 

@@ -5,7 +5,7 @@ use Rattle.serde_json.specs.Written.{has_float}
 use Rattle.level_nodes.specs.FlatLevels.{flat_nodes, count_of}
 use Rattle.level_nodes.specs.NodeJson.{node_json, nodes_json}
 use Rattle.xet_merkle.specs.SubtreeJson.{counts_json}
-use Rattle.xet_merkle.proofs.Json.NoFloat.{neither, array-no_float}
+use Rattle.level_nodes.proofs.NoFloat.{neither, array-no_float}
 use Rattle.xet_merkle.proofs.laws.subtree_json_has_no_float.Goals as goal
 
 pub returns : goal.returns
