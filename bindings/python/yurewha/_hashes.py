@@ -4,6 +4,7 @@ from __future__ import annotations
 
 import ctypes
 import re
+from array import array
 from typing import Dict, Iterable, Iterator, List, SupportsIndex, Union, cast, final
 
 from ._arrow_out import Capsules, capsules_of_hashes, schema_of_hashes
@@ -138,10 +139,9 @@ def words_reversed(packed: bytes) -> bytes:
     >>> words_reversed(bytes(range(8))) == bytes(range(7, -1, -1))
     True
     """
-    out = bytearray(len(packed))
-    for place in range(8):
-        out[place::8] = packed[7 - place::8]
-    return bytes(out)
+    words = array("Q", packed)
+    words.byteswap()
+    return words.tobytes()
 
 
 def _read_hex(text: str, place: int) -> Hash:

@@ -50,15 +50,19 @@ def _words_of(hashes: Hashes) -> List[str]:
 
 def _ordered(packed: bytes) -> bytes:
     """Returns some hashes in the order of their bytes."""
-    raws = (raw for raw, in _EACH.iter_unpack(packed))
     if len(packed) < _MANY_BYTES:
-        return b"".join(sorted(raws))
-    # To sort a few at a time, by their first twelve bits, takes half the time: what is compared stays in the processor's cache.
-    parts: List[List[bytes]] = [[] for _ in range(1 << 12)]
+        return b"".join(sorted(raw for raw, in _EACH.iter_unpack(packed)))
+    # Many are parted by their first byte, and each part by the second one. What is sorted then stays in the processor's cache.
+    return b"".join([b"".join(sorted(its)) for part in _by_byte(packed, 0) for its in _by_byte(b"".join(part), 1)])
+
+
+def _by_byte(packed: bytes, place: int) -> List[List[bytes]]:
+    """Returns some hashes in 256 lists, by the byte that they have at a place."""
+    parts: List[List[bytes]] = [[] for _ in range(256)]
     add = [part.append for part in parts]
-    for raw, first, second in zip(raws, packed[::_EACH.size], packed[1::_EACH.size]):
-        add[first << 4 | second >> 4](raw)
-    return b"".join([b"".join(sorted(part)) for part in parts])
+    for (raw,), byte in zip(_EACH.iter_unpack(packed), packed[place::_EACH.size]):
+        add[byte](raw)
+    return parts
 
 
 def body_of(runs: Iterable[Span], hashes: Hashes, keeps: bool) -> bytes:
