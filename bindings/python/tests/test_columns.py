@@ -422,7 +422,7 @@ def test_many_chunks_in_one_call(end, count):
         for promised in (False, True):
             assert y.data_hashes(form, offsets, nobody_writes=promised) == expected
     assert y.data_hashes(memoryview(data[::-1])[::-1], iter(offsets)) == expected
-    for kind in "iIqQ":
+    for kind in "iIqQ" + "hH" * (end < 1 << 15) + "bB" * (end < 1 << 7):
         assert y.data_hashes(data, array.array(kind, offsets)) == expected
     assert y.data_hashes(data, offsets[1:]) == expected[1:] and y.data_hashes(data, offsets[:1]) == y.Hashes()
     pairs = y.Chunks.from_columns(expected, [stop - start for start, stop in zip(offsets, offsets[1:])])
@@ -434,7 +434,11 @@ def test_many_chunks_in_one_call(end, count):
     ([0, 3, 2], y.InvalidArguments, "offset 2 is 2, which is less than 3"),
     ([-1, 3], y.InvalidArguments, "offset 0 is -1, which is less than 0"),
     ([0, 11], y.InvalidArguments, "the last offset is 11, and there are 10 bytes"),
+    ([0, 2**63], y.InvalidArguments, "^the last offset is 9223372036854775808, and there are 10 bytes"),
+    ([2**63, 2**63 - 1], y.InvalidArguments, "offset 1 is 9223372036854775807, which is less than 9223372036854775808"),
     ([0, 2**64], y.InvalidArguments, "the last offset"),
+    (array.array("Q", [0, 2**63]), y.InvalidArguments, "^the last offset is 9223372036854775808, and there are 10 bytes"),
+    (array.array("q", [0, -(2**63)]), y.InvalidArguments, "offset 1 is -9223372036854775808, which is less than 0"),
     ([0, 1.5], TypeError, "offset 1 is a whole number, not float"),
     ([0, None], TypeError, "offset 1 is a whole number, not NoneType"),
     (array.array("d", [0, 1]), y.InvalidArguments, "not 'd'"),

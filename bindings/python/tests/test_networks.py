@@ -334,6 +334,53 @@ def test_a_late_answer_is_right_where_it_belongs():
     assert file.read_at(0, 400) == source.data
 
 
+def test_answers_to_tasks_that_come_late_and_exchanged():
+    """As with threads. What the tasks ask for afterwards is right."""
+    source, asked, turned = Source(random.Random(39).randbytes(400), range(0, 401, 100)), [], [True]
+
+    async def main():
+        both = asyncio.Event()
+
+        async def fetch(start, stop):
+            asked.append((start, stop))
+            if len(asked) == 2:
+                both.set()
+            await asyncio.wait_for(both.wait(), 10)
+            if turned[0]:
+                start, stop = next(given for given in asked if given != (start, stop))
+            return source.data[start:stop]
+
+        file = y.AsyncVerifiedFile(source.tree.file_hash(), fetch, source.prove)
+        results = await asyncio.gather(file.read_at(0, 100), file.read_at(200, 300), return_exceptions=True)
+        assert [type(result) for result in results] == 2 * [y.ProofMismatch] and file._kept.total == 0 and file._rescued is None
+        turned[0] = False
+        return await asyncio.gather(file.read_at(0, 100), file.read_at(200, 300))
+
+    assert asyncio.run(main()) == [source.data[:100], source.data[200:300]]
+
+
+def test_a_late_answer_to_a_task_is_right_where_it_belongs():
+    source = Source(random.Random(39).randbytes(400), range(0, 401, 100))
+
+    async def main():
+        go_on = asyncio.Event()
+
+        async def fetch(start, stop):
+            if start == 0:
+                await asyncio.wait_for(go_on.wait(), 10)
+            return source.fetch(start, stop)
+
+        async def later():
+            assert await file.read_at(100, 400) == source.data[100:400]
+            go_on.set()
+
+        file = y.AsyncVerifiedFile(source.tree.file_hash(), fetch, source.prove)
+        results = await asyncio.gather(file.read_at(0, 250), later())
+        return results[0], await file.read_at(0, 400)
+
+    assert asyncio.run(main()) == (source.data[:250], source.data)
+
+
 def test_a_task_that_waits_no_longer(monkeypatch):
     """What it had checked isn't asked for again."""
     monkeypatch.setattr("yurewha._checked_parts.PIECE", 1000)
@@ -416,6 +463,14 @@ def test_reading_ahead_asks_few_times():
         GREAT.fetched.clear()
         assert in_steps(GREAT.open(read_ahead=read_ahead), 1 << 16) == GREAT.data
         assert len(GREAT.fetched) <= most and (read_ahead or len(GREAT.fetched) == most)
+
+
+def test_a_piece_ahead_is_asked_for_in_parts_if_it_is_long(monkeypatch):
+    monkeypatch.setattr("yurewha._checked_parts.PIECE", 300)
+    monkeypatch.setattr("yurewha._read_ahead._LEAST", 1000)
+    source = Source(random.Random(43).randbytes(10_000), range(0, 10_001, 50))
+    assert in_steps(source.open(read_ahead=3000, cache_size=0), 170) == source.data
+    assert max(stop - start for start, stop in source.fetched) <= 400 and len(source.fetched) < 50
 
 
 def test_pieces_are_read_ahead_at_once():

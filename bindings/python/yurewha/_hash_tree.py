@@ -214,10 +214,14 @@ class HashTree(Guarded):
         <yurewha.RangeProof of 1 chunk, with 2 nodes beside on 1 level>
         """
         number, after = checked_u64(first, "the number of a chunk"), checked_u64(end, "the number of a chunk")
-        room = max(min(after, self.num_chunks) - number, 0) + _MOST_BESIDE
-        return interruptible(lambda: self._proof(number, after, room), room >= MANY_NODES, self)
+        return self._proof(number, after, max(min(after, self.num_chunks) - number, 0))
 
-    def _proof(self, number: int, after: int, room: int) -> RangeProof:
+    def _proof(self, number: int, after: int, count: int) -> RangeProof:
+        """Returns the proof of chunks. There is room for so many, and for the other nodes."""
+        room = count + _MOST_BESIDE
+        return interruptible(lambda: self._proved(number, after, room), room >= MANY_NODES, self)
+
+    def _proved(self, number: int, after: int, room: int) -> RangeProof:
         levels, nodes = (CLevel * MOST_LEVELS)(), (CChunk * room)()
         level_count, node_count = ctypes.c_size_t(), ctypes.c_size_t()
         with self._locked():
@@ -235,7 +239,8 @@ class HashTree(Guarded):
         >>> len(HashTree([(Hash(), 7), (Hash(), 8), (Hash(), 9)]).proof_of_bytes(3, 15).chunks)
         2
         """
-        return self.proof(*self.chunks_at(start, stop))
+        first, end = self.chunks_at(start, stop)
+        return self._proof(first, end, end - first)
 
     def __eq__(self, other: object) -> bool:
         if not isinstance(other, HashTree):

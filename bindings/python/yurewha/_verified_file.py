@@ -210,7 +210,8 @@ class VerifiedFile(CheckedParts, _Raw):  # type: ignore[misc]
         return self._ahead.parts(self._read_piece, position, min(count, self._size - position), self._size)
 
     def _read_piece(self, start: int, stop: int) -> memoryview:
-        return memoryview(joined(done(self._parts(start, stop - start))))
+        parts = done(self._parts(start, stop - start))
+        return parts[0] if len(parts) == 1 else memoryview(joined(parts))
 
     def read_at(self, start: int, stop: int) -> bytes:
         """Returns the bytes from `start` up to, but without, `stop`, or those of them that the file has. The position stays.
