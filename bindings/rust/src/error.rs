@@ -23,7 +23,6 @@ use std::ops::RangeInclusive;
 ///     match error {
 ///         CoreError::InvalidText | CoreError::InvalidJson(_) | CoreError::InvalidProof(_) => true,
 ///         CoreError::InvalidArguments | CoreError::SizeOverflow | CoreError::OutOfMemory => false,
-///         CoreError::InvalidLists(_) => false,
 ///     }
 /// }
 /// ```
@@ -46,11 +45,6 @@ pub enum CoreError {
     /// Rule 9 is broken by about half of the subtrees that `xet-core-structures` saves after it has merged a range that
     /// is marked at its start with the next one. Make such a subtree anew from the list of its chunks.
     InvalidJson(u8),
-    /// Flat lists don't describe a subtree. The number is the lowest rule, from 5 to 13, that they break.
-    ///
-    /// No call returns it yet. Serde's formats read flat lists, but their errors are of types of their own, which get
-    /// the text of the rule.
-    InvalidLists(u8),
     /// A JSON value, or flat lists, don't describe a range proof. The number is the lowest rule, from 1 to 8, that they
     /// break. [`from_json`](crate::own::RangeProof::from_json) lists the rules.
     InvalidProof(u8),
@@ -84,7 +78,6 @@ impl fmt::Display for CoreError {
             CoreError::OutOfMemory => StatusText::of(ffi::YUREWHA_MEMORY).fmt(f),
             CoreError::InvalidText => f.write_str("invalid text"),
             CoreError::InvalidJson(rule) => write!(f, "invalid JSON: {}", BrokenRule(*rule)),
-            CoreError::InvalidLists(rule) => write!(f, "invalid flat lists: {}", BrokenRule(*rule)),
             CoreError::InvalidProof(rule) => write!(f, "invalid range proof: {}", BrokenProofRule(*rule)),
         }
     }
@@ -136,8 +129,8 @@ impl Refusal for CoreError {
     }
 }
 
-// The error of a status that names a broken rule. Of a subtree it is that of a JSON value: a call that reads flat lists
-// makes its own of it.
+// The error of a status that names a broken rule. Of a subtree it is that of a JSON value: serde's formats, which read flat
+// lists, have errors of their own.
 fn broken_rule(status: ffi::yurewha_status) -> Option<CoreError> {
     let rule_from = |first: u32, rules: RangeInclusive<u8>| {
         let rule = u8::try_from(status.checked_sub(first)?).ok()?;
@@ -188,16 +181,6 @@ mod tests {
         for rule in [0, 9] {
             let error = CoreError::InvalidProof(rule).to_string();
             assert_eq!(error, format!("invalid range proof: rule {rule}"));
-        }
-    }
-
-    // Flat lists break the same rules as a JSON value, and the text doesn't call them JSON.
-    #[test]
-    fn a_broken_rule_of_lists_has_the_text_of_json() {
-        for rule in 1..=13 {
-            let of_json = CoreError::InvalidJson(rule).to_string();
-            let of_lists = CoreError::InvalidLists(rule).to_string();
-            assert_eq!(of_lists, of_json.replacen("JSON", "flat lists", 1));
         }
     }
 

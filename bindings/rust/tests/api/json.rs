@@ -142,7 +142,6 @@ fn errors_have_their_texts() {
         (CoreError::OutOfMemory, "out of memory"),
         (CoreError::InvalidText, "invalid text"),
         (CoreError::InvalidJson(14), "invalid JSON: rule 14"),
-        (CoreError::InvalidLists(14), "invalid flat lists: rule 14"),
         (CoreError::InvalidProof(9), "invalid range proof: rule 9"),
     ];
     for (error, text) in texts {

@@ -91,7 +91,7 @@ fn errors_may_get_more_variants() {
     let _ = |error: CoreError| match error {
         CoreError::InvalidArguments | CoreError::SizeOverflow | CoreError::OutOfMemory => 1,
         CoreError::InvalidText | CoreError::InvalidJson(_) => 2,
-        CoreError::InvalidLists(_) | CoreError::InvalidProof(_) => 3,
+        CoreError::InvalidProof(_) => 3,
         _ => 4,
     };
     let _ = |error: own::HashTextError| match error {

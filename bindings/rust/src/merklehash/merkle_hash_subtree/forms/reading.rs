@@ -23,14 +23,14 @@ const COUNT: Form = Form("a whole number below 2^64 in `levels`", 4);
 // The subtree that marks and lists describe, if they break none of the rules 5 to 13. The error names no format.
 fn subtree_of<E: Error>(flat: &Flat) -> Result<MerkleHashSubtree, E> {
     checked(flat).map_err(|error| match error {
-        CoreError::InvalidLists(rule) => E::custom(format_args!("invalid subtree: {}", BrokenRule(rule))),
+        CoreError::InvalidJson(rule) => E::custom(format_args!("invalid subtree: {}", BrokenRule(rule))),
         error => E::custom(error),
     })
 }
 
 fn checked(flat: &Flat) -> Result<MerkleHashSubtree, CoreError> {
     // SAFETY: levels and nodes with their counts, and an empty handle to write to.
-    let made = MerkleHashSubtree::made(|made| unsafe {
+    MerkleHashSubtree::made(|made| unsafe {
         ffi::yurewha_subtree_from_flat(
             flat.at_start,
             flat.levels.as_ptr(),
@@ -40,10 +40,6 @@ fn checked(flat: &Flat) -> Result<MerkleHashSubtree, CoreError> {
             flat.at_end,
             made,
         )
-    });
-    made.map_err(|error| match error {
-        CoreError::InvalidJson(rule) => CoreError::InvalidLists(rule),
-        error => error,
     })
 }
 
@@ -200,7 +196,7 @@ mod tests {
             (10, lists(2, 1, &[(2, 0)])),
             (11, lists(0, 1, &[(0, 0), (0, 0)])),
         ] {
-            assert_eq!(checked(&flat), Err(CoreError::InvalidLists(rule)));
+            assert_eq!(checked(&flat), Err(CoreError::InvalidJson(rule)));
         }
     }
 }
