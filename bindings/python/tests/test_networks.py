@@ -424,6 +424,26 @@ def test_dishonest_servers(reader, name):
         with pytest.raises(y.ProofMismatch):
             read_at(2000, 2300)
     assert not (file._kept and file._kept.total)
+    assert name not in ("the whole file for a part", "a parent for a chunk") or source.fetched == []
+
+
+@READERS
+def test_a_server_that_has_no_proof_of_bytes_which_the_file_has(reader):
+    """It doesn't make a reader believe that the file ends there."""
+    source = drawn(9, 50)
+    proved, end = source.prove, len(source.data)
+
+    def prove(start, stop):
+        if start > 0:
+            raise ConnectionError("mine")
+        return proved(start, stop)
+
+    source.prove = prove
+    _, read_at = reader(source, cache_size=0)
+    for place in (source.cuts[1], 700, end - 1):
+        with pytest.raises(ConnectionError, match="mine"):
+            read_at(place, place + 7)
+    assert read_at(end, end + 7) == read_at(end + 1, 2**64 - 1) == b""
 
 
 @READERS
