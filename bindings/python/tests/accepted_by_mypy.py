@@ -99,8 +99,12 @@ try:
     new = session.put(first=3, chunks=packed)
 except (y.SessionOverlap, y.SessionPositions, y.SessionSizes, y.OutOfMemory) as error:
     text = str(error)
-except y.InvalidJson as broken:
+except y.BrokenRule as broken:
     rule: int = broken.rule
+try:
+    tree = y.Subtree.from_json("[]")
+except y.InvalidJson as broken_json:
+    rule = broken_json.rule
 try:
     tree = y.Subtree.from_flat(*tree.to_flat())
 except y.InvalidLists as broken_lists:
@@ -156,6 +160,7 @@ except y.ProofMismatch as mismatch:
     text = str(mismatch)
 except y.InvalidProof as broken_proof:
     rule = broken_proof.rule
+broken_rules: List[y.BrokenRule] = [y.InvalidJson(5), y.InvalidLists(5), y.InvalidProof(5)]
 
 
 def fetch(start: int, stop: int) -> memoryview:

@@ -485,6 +485,11 @@ y.InvalidProof()
 y.InvalidProof("5")
 y.InvalidLists()
 y.InvalidLists("5")
+y.BrokenRule()
+y.BrokenRule("5")
+json_error: y.InvalidJson = y.InvalidLists(5)
+lists_error: y.InvalidLists = y.InvalidProof(5)
+proof_error: y.InvalidProof = y.BrokenRule(5)
 y.ProofMismatch("").rule
 
 # Files over networks, and threads.

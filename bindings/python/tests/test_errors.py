@@ -1,5 +1,6 @@
 """Each exception, and each argument that is refused before it crosses."""
 
+import itertools
 import os
 import pickle
 import resource
@@ -534,7 +535,7 @@ def test_a_stack_that_ends_anywhere(number):
 
 
 def test_what_the_exceptions_are():
-    for error in (y.InvalidArguments, y.SizeOverflow, y.InvalidText, y.InvalidJson, y.InvalidLists, y.InvalidProof,
+    for error in (y.InvalidArguments, y.SizeOverflow, y.InvalidText, y.BrokenRule, y.InvalidJson, y.InvalidLists, y.InvalidProof,
                   y.ProofMismatch, y.SessionOverlap, y.SessionPositions, y.SessionSizes, y.SessionGap, y.EmptyHandle):
         assert issubclass(error, y.YurewhaError) and issubclass(error, ValueError)
     assert issubclass(y.ReentrantCall, RuntimeError) and issubclass(y.ReentrantCall, y.YurewhaError)
@@ -548,7 +549,9 @@ def test_what_the_exceptions_are():
     assert str(_errors.error_of(8)) == "the library returned status 8 (unknown status), which this call doesn't have"
     assert of_status[7] is y.ProofMismatch and [of_status[status] for status in range(49, 57)] == 8 * [y.InvalidProof]
     assert not issubclass(y.ProofMismatch, OSError)
-    assert issubclass(y.InvalidLists, y.InvalidJson) and issubclass(y.InvalidProof, y.InvalidJson)
+    of_rules = (y.InvalidJson, y.InvalidLists, y.InvalidProof)
+    assert all(issubclass(error, y.BrokenRule) for error in of_rules)
+    assert not any(issubclass(error, other) for error, other in itertools.permutations(of_rules, 2))
     assert str(y.InvalidProof(7)) == "invalid range proof: rule 7: a side of a level has more than 8 nodes"
     assert str(y.InvalidProof(9)) == "invalid range proof: rule 9: no such rule"
     assert str(y.InvalidJson(6)) == "invalid JSON: rule 6: the counts don't add up to the number of nodes"
@@ -582,9 +585,9 @@ BROKEN_RULES = [
 
 @pytest.mark.parametrize("number", range(len(BROKEN_RULES)))
 def test_errors_of_broken_rules(number):
-    """Each error names what broke the rule, and `except InvalidJson` catches them all."""
+    """Each error names what broke the rule, and `except BrokenRule` catches them all."""
     error, text, call = BROKEN_RULES[number]
-    with pytest.raises(y.InvalidJson, match=f"^{text}") as raised:
+    with pytest.raises(y.BrokenRule, match=f"^{text}") as raised:
         call()
     assert type(raised.value) is error and f"rule {raised.value.rule}: " in text
 

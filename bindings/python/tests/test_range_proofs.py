@@ -300,7 +300,7 @@ BROKEN = [
 def test_rules(rule, text):
     with pytest.raises(y.InvalidProof, match=f"^invalid range proof: rule {rule}: ") as raised:
         y.RangeProof.from_json(text)
-    assert raised.value.rule == rule and isinstance(raised.value, y.InvalidJson)
+    assert raised.value.rule == rule and isinstance(raised.value, y.BrokenRule)
 
 
 def test_texts_at_the_edge_of_the_rules():

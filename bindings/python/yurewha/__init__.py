@@ -15,6 +15,7 @@ from . import _names
 from ._async_verified_file import AsyncVerifiedFile
 from ._chunks import Chunks
 from ._errors import (
+    BrokenRule,
     DivisionByZero,
     EmptyHandle,
     InUseAtFork,
@@ -58,6 +59,7 @@ __version__ = "1.1.0"
 
 __all__ = [
     "AsyncVerifiedFile",
+    "BrokenRule",
     "Chunks",
     "DivisionByZero",
     "EmptyHandle",

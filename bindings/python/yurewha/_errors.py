@@ -9,6 +9,7 @@ from ._declarations import LENGTHS, STATUSES
 from ._library import short
 
 __all__ = [
+    "BrokenRule",
     "EmptyHandle",
     "InUseAtFork",
     "InvalidArguments",
@@ -94,27 +95,31 @@ class InvalidText(YurewhaError, ValueError):
     """
 
 
-class InvalidJson(YurewhaError, ValueError):
-    """A JSON value doesn't describe a subtree. `rule` is the lowest rule, from 1 to 13, that it breaks.
+class BrokenRule(YurewhaError, ValueError):
+    """The base class of `InvalidJson`, `InvalidLists` and `InvalidProof`. `rule` is the lowest rule that is broken.
 
-    `InvalidLists` and `InvalidProof` are also `InvalidJson`, so that `except InvalidJson` catches every broken rule.
-
-    >>> InvalidJson(5).rule
-    5
+    >>> issubclass(InvalidLists, BrokenRule) and not issubclass(InvalidLists, InvalidJson)
+    True
     """
 
     def __init__(self, rule: int) -> None:
         super().__init__(rule)
         self.rule = rule
 
+
+class InvalidJson(BrokenRule):
+    """A JSON value doesn't describe a subtree. `rule` is the lowest rule, from 1 to 13, that it breaks.
+
+    >>> InvalidJson(5).rule
+    5
+    """
+
     def __str__(self) -> str:
         return f"invalid JSON: {_broken_rule('YUREWHA_RULE', _RULES, self.rule)}"
 
 
-class InvalidLists(InvalidJson):
+class InvalidLists(BrokenRule):
     """Flat lists don't describe a subtree. `rule` is the lowest rule, from 5 to 13, that they break.
-
-    This is also an `InvalidJson`.
 
     >>> print(InvalidLists(5))
     invalid flat lists: rule 5: there is no level
@@ -124,10 +129,8 @@ class InvalidLists(InvalidJson):
         return f"invalid flat lists: {_broken_rule('YUREWHA_RULE', _RULES, self.rule)}"
 
 
-class InvalidProof(InvalidJson):
+class InvalidProof(BrokenRule):
     """A JSON value, flat lists or bytes don't describe a range proof. `rule` is the lowest of 8 rules that they break.
-
-    This is also an `InvalidJson`.
 
     >>> print(InvalidProof(5))
     invalid range proof: rule 5: there is no chunk
@@ -229,7 +232,7 @@ _SESSION_ERRORS: Dict[int, Type[SessionError]] = {
 _MEMORY = f"{status_text(STATUSES['YUREWHA_MEMORY'])}: an allocation failed"
 
 
-def error_of(status: int, what: str = "invalid arguments", of_rule: Type[InvalidJson] = InvalidJson) -> YurewhaError:
+def error_of(status: int, what: str = "invalid arguments", of_rule: Type[BrokenRule] = InvalidJson) -> YurewhaError:
     """Returns the exception for a status other than 0.
 
     `what` is the text of `InvalidArguments`, `InvalidText` and `ProofMismatch`. `of_rule` is for a rule of subtrees: its status
