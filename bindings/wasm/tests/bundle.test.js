@@ -49,9 +49,9 @@ test("an error has its name in a minified bundle too", async () => {
     bundled("names.mjs", "--platform=browser");
     const made = await import(pathToFileURL(join(folder, "names.mjs")));
     const kinds = Object.keys(errors).filter((name) => name !== "load");
-    assert.equal(kinds.length, 16);
+    assert.equal(kinds.length, 17);
     for (const name of kinds) {
-        const hasRule = ["InvalidJson", "InvalidLists", "InvalidProof"].includes(name);
+        const hasRule = ["BrokenRule", "InvalidJson", "InvalidLists", "InvalidProof"].includes(name);
         const error = hasRule ? new made[name](1, "a message") : new made[name]("a message");
         assert.deepEqual([error.name, `${error}`], [name, `${name}: ${error.message}`]);
         assert.ok(error.stack.startsWith(`${name}: ${error.message}\n`), error.stack);

@@ -221,7 +221,7 @@ test("an error says what the library says of its status", async () => {
     }
 });
 
-test("an error of a broken rule names what broke it, and is an InvalidJson", () => {
+test("an error of a broken rule names what broke it, and is a BrokenRule", () => {
     const flat = { atStart: true, levels: [], nodes: [], atEnd: true };
     const hash = y.Hash.randomFromSeed(1);
     const sessionOf = (json) => y.Session.restore({ runs: [["0", "1", json]], knownHashes: [] });
@@ -234,10 +234,12 @@ test("an error of a broken rule names what broke it, and is an InvalidJson", () 
         ["InvalidProof", 5, "rule 5: there is no chunk", () => y.RangeProof.fromFlat({ levels: [], nodes: [] })],
         ["InvalidProof", 5, "rule 5: there is no chunk", () => new y.RangeProof(new Uint8Array(1))],
     ];
+    const kinds = ["InvalidJson", "InvalidLists", "InvalidProof"];
     for (const [name, rule, message, call] of table) {
         assert.throws(call, (error) => {
+            assert.deepEqual(kinds.filter((kind) => error instanceof errors[kind]), [name]);
             assert.deepEqual([error.name, error.constructor, error.rule], [name, errors[name], rule]);
-            return error instanceof errors.InvalidJson && error.message.startsWith(message) && !error.message.includes("JSON");
+            return error instanceof errors.BrokenRule && error.message.startsWith(message) && !error.message.includes("JSON");
         });
     }
 });

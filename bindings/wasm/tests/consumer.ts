@@ -1,6 +1,7 @@
 // A program that uses each declaration, for `tsc --strict`. It is compiled, and run as JavaScript.
 
 import {
+    BrokenRule,
     EmptyHandle,
     InvalidArguments,
     InvalidJson,
@@ -141,7 +142,7 @@ const freed: Freed[] = [again, back];
 try {
     y.Subtree.fromJSON("[]");
 } catch (error) {
-    if (!(error instanceof InvalidJson && error instanceof YurewhaError)) throw error;
+    if (!(error instanceof InvalidJson && error instanceof BrokenRule && error instanceof YurewhaError)) throw error;
     const rule: number = error.rule;
     if (rule !== 1) throw error;
 }
@@ -150,7 +151,7 @@ for (const call of [() => y.Subtree.fromFlat({ ...flat, levels: [] }), () => y.R
         call();
     } catch (error) {
         if (!(error instanceof InvalidLists || error instanceof InvalidProof)) throw error;
-        const broken: InvalidJson = error;
+        const broken: BrokenRule = error;
         if (broken.rule !== 5) throw error;
     }
 }
@@ -483,7 +484,7 @@ export async function refused(): Promise<void> {
     // @ts-expect-error an error's text is a text
     new SessionGap(7);
     // @ts-expect-error another error has no rule
-    const broken: typeof InvalidJson = SizeOverflow;
+    const broken: typeof BrokenRule = SizeOverflow;
     // @ts-expect-error a rule is a number
     new InvalidLists("rule 5");
     // @ts-expect-error an error of a broken rule has one

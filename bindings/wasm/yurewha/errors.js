@@ -18,18 +18,20 @@ export class SessionPositions extends SessionError {}
 export class SessionSizes extends SessionError {}
 export class SessionGap extends SessionError {}
 
-export class InvalidJson extends YurewhaError {
+export class BrokenRule extends YurewhaError {
     constructor(rule, message) {
         super(message);
         this.rule = rule;
     }
 }
 
-export class InvalidLists extends InvalidJson {}
-export class InvalidProof extends InvalidJson {}
+export class InvalidJson extends BrokenRule {}
+export class InvalidLists extends BrokenRule {}
+export class InvalidProof extends BrokenRule {}
 
 // A minifier renames classes, but not members.
 const NAMED = {
+    BrokenRule,
     EmptyHandle,
     InvalidArguments,
     InvalidJson,

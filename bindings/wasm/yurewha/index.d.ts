@@ -859,20 +859,22 @@ export class OutOfMemory extends YurewhaError {}
 /** A text doesn't have the expected form. */
 export class InvalidText extends YurewhaError {}
 
-/** A JSON value describes no subtree. `InvalidLists` and `InvalidProof` are also `InvalidJson`, so that it stands for every broken
- * rule. */
-export class InvalidJson extends YurewhaError {
+/** The base class of `InvalidJson`, `InvalidLists` and `InvalidProof`. */
+export class BrokenRule extends YurewhaError {
     /** The lowest rule that is broken: from 1 to 13 for a subtree, from 1 to 8 for a range proof. */
     readonly rule: number;
 
     constructor(rule: number, message?: string);
 }
 
-/** Flat lists describe no subtree. This is also an `InvalidJson`. */
-export class InvalidLists extends InvalidJson {}
+/** A JSON value describes no subtree. */
+export class InvalidJson extends BrokenRule {}
 
-/** A JSON value, flat lists or bytes describe no range proof. This is also an `InvalidJson`. */
-export class InvalidProof extends InvalidJson {}
+/** Flat lists describe no subtree. */
+export class InvalidLists extends BrokenRule {}
+
+/** A JSON value, flat lists or bytes describe no range proof. */
+export class InvalidProof extends BrokenRule {}
 
 /** A range proof doesn't show a hash, or data isn't that of the range. */
 export class ProofMismatch extends YurewhaError {}

@@ -3,6 +3,7 @@
 import { loader } from "./load.js";
 
 export {
+    BrokenRule,
     EmptyHandle,
     InvalidArguments,
     InvalidJson,
