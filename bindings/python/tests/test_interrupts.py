@@ -2,6 +2,7 @@
 
 import contextlib
 import functools
+import gc
 import random
 import signal
 import threading
@@ -35,10 +36,15 @@ def chunks():
 
 
 def seconds(call, after):
-    """How long a call takes if a handler raises after so many seconds, and whether it was ended."""
+    """How long a call takes if a handler raises after so many seconds, and whether it was ended.
+
+    No garbage is collected meanwhile, because Python drops what a handler raises within a `__del__`.
+    """
     def handler(number, frame):
         raise Ended
 
+    gc.collect()
+    gc.disable()
     before = signal.signal(signal.SIGALRM, handler)
     begun = time.perf_counter()
     try:
@@ -51,6 +57,7 @@ def seconds(call, after):
         took = time.perf_counter() - begun
         signal.setitimer(signal.ITIMER_REAL, 0)
         signal.signal(signal.SIGALRM, before)
+        gc.enable()
     return took, ended
 
 
