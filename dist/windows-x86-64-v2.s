@@ -1,5 +1,5 @@
 /* Yurewha 1.1.0 for windows-x86-64-v2: the kernels of the proved library, as the toolchain compiles it. Made by dist/make, not by hand.
-   The sum of its sources: 29a0fd011f9fb97908ee481cb95bec0f02296c9d002f2b1754c107538aa96940 */
+   The sum of its sources: e6524ccfe06ed2d2c8c43710b250bc72b98c442e21ef1d77e3695bfa2dab0677 */
 	.section	.text
 	.p2align	4
 	.def	"keyed_blake3::keyed_hash";

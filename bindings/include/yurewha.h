@@ -515,6 +515,25 @@ yurewha_status yurewha_session_put(yurewha_session *session, uint64_t first, con
 YUREWHA_NODISCARD YUREWHA_NONNULL(1, 3) YUREWHA_SINCE(1.0)
 yurewha_status yurewha_session_taken(yurewha_session *session, uint64_t position, bool *taken);
 
+/* Write the number of chunks, and the sum of their sizes. Allocate nothing. The first takes time proportional to the number of
+ * runs.
+ *   DONE          it is written
+ *   EMPTY_HANDLE  the handle is empty */
+YUREWHA_NODISCARD YUREWHA_NONNULL(1, 2) YUREWHA_SINCE(1.1)
+yurewha_status yurewha_session_num_chunks(yurewha_session *session, uint64_t *count);
+YUREWHA_NODISCARD YUREWHA_NONNULL(1, 2) YUREWHA_SINCE(1.1)
+yurewha_status yurewha_session_total_size(yurewha_session *session, uint64_t *size);
+
+/* Writes the first gap from a position on and below `total`: adjacent free positions, as many as there are. `first` gets the
+ * first of them, and `end` the position after the last one. To go through all gaps, begin at position 0 and go on at each
+ * gap's end. Finding a gap takes logarithmic time. Allocates nothing.
+ *   DONE          they are written
+ *   EMPTY_HANDLE  if and only if the handle is empty
+ *   ARGUMENTS     if and only if there is a session, and each of these positions is taken */
+YUREWHA_NODISCARD YUREWHA_NONNULL(1, 4, 5) YUREWHA_SINCE(1.1)
+yurewha_status yurewha_session_next_gap(yurewha_session *session, uint64_t position, uint64_t total, uint64_t *first,
+                                        uint64_t *end);
+
 /* Writes the number of runs of adjacent taken positions. Allocates nothing.
  *   DONE          it is written
  *   EMPTY_HANDLE  the handle is empty */
@@ -550,6 +569,12 @@ YUREWHA_NODISCARD YUREWHA_NONNULL(1, 3) YUREWHA_SINCE(1.0)
 yurewha_status yurewha_session_root(yurewha_session *session, uint64_t total, yurewha_hash *root);
 YUREWHA_NODISCARD YUREWHA_NONNULL(1, 3) YUREWHA_SINCE(1.0)
 yurewha_status yurewha_session_finish(yurewha_session *session, uint64_t total, yurewha_hash *hash);
+
+/* Writes the file hash under a salt of all chunks in the order of their positions. Under 32 zero bytes it is the one without a
+ * salt. The statuses are those of yurewha_session_finish. */
+YUREWHA_NODISCARD YUREWHA_NONNULL(1, 3, 4) YUREWHA_SINCE(1.1)
+yurewha_status yurewha_session_finish_with_salt(yurewha_session *session, uint64_t total, const yurewha_bytes *salt,
+                                                yurewha_hash *hash);
 
 /* Copies a session. The second handle owns the copy. The first session is unchanged, and the two are independent.
  *   DONE          it is copied
@@ -602,6 +627,20 @@ yurewha_status yurewha_session_num_known_hashes(yurewha_session *session, size_t
  *   MEMORY        an allocation failed */
 YUREWHA_NODISCARD YUREWHA_NONNULL(1) YUREWHA_SINCE(1.1)
 yurewha_status yurewha_session_known_hashes(yurewha_session *session, yurewha_hash *hashes, size_t count);
+
+/* Writes whether a session knows a hash: whether a put had it, or it was kept. Allocates nothing.
+ *   DONE          it is written
+ *   EMPTY_HANDLE  the handle is empty */
+YUREWHA_NODISCARD YUREWHA_NONNULL(1, 2, 3) YUREWHA_SINCE(1.1)
+yurewha_status yurewha_session_knows(yurewha_session *session, const yurewha_hash *hash, bool *known);
+
+/* Writes for each of some hashes 1 if the session knows it, and 0 if not. Allocates nothing.
+ *   DONE          they are written
+ *   EMPTY_HANDLE  if and only if the handle is empty
+ *   ARGUMENTS     if and only if there is a session, and the two counts differ */
+YUREWHA_NODISCARD YUREWHA_NONNULL(1) YUREWHA_SINCE(1.1)
+yurewha_status yurewha_session_knows_each(yurewha_session *session, const yurewha_hash *hashes, size_t count, uint8_t *known,
+                                          size_t known_count);
 
 /* ---- Hash trees: all levels over a list of chunks, which make range proofs */
 
@@ -679,7 +718,8 @@ yurewha_status yurewha_range_proof_to_json(const yurewha_level *levels, size_t l
 
 /* Reads a range proof from JSON text, and writes it as flat lists. The value is an object with these members: `chunks`, the
  * nodes of the range's chunks; and `levels`, an object for each level, from the chunks up, with the nodes of both sides as
- * `left` and `right`. Each node has its `hash` in hex and its `size`.
+ * `left` and `right`. Each node has its `hash` in hex and its `size`. Time and memory are in proportion to the text, so refuse a
+ * stranger's text of more than 2^24 bytes, or another limit, before this call: that many are enough for about 180,000 chunks.
  *   DONE               the lists are written
  *   ROOM               a list is longer than its room; nothing is written to either, and the counts are the needed lengths
  *   TEXT               the text isn't JSON

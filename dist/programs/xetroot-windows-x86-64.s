@@ -1,5 +1,5 @@
 /* Yurewha 1.1.0 for windows-x86-64: the proved program xetroot, as the toolchain compiles it. Made by dist/make, not by hand.
-   The sum of its sources: 818705273c832b0c38b677e5df5be754e3cf08807c353b89cb269618e74a64f6 */
+   The sum of its sources: b3e1593b77d929324818970ede6abfe9e1a2612870f5b45bcab6516fe5dc47aa */
 	.section	.text
 	.p2align	4
 	.def	"std_alloc::vec::Vec::grow_amortized::<#bc82ad78765e08fe>";

@@ -75,6 +75,10 @@ DECLARATIONS: Dict[str, Declaration] = {
     "yurewha_session_put": (
         "yurewha_status", ("yurewha_session *", "uint64_t", "const yurewha_chunk *", "size_t", "uint64_t *")),
     "yurewha_session_taken": ("yurewha_status", ("yurewha_session *", "uint64_t", "bool *")),
+    "yurewha_session_num_chunks": ("yurewha_status", ("yurewha_session *", "uint64_t *")),
+    "yurewha_session_total_size": ("yurewha_status", ("yurewha_session *", "uint64_t *")),
+    "yurewha_session_next_gap": (
+        "yurewha_status", ("yurewha_session *", "uint64_t", "uint64_t", "uint64_t *", "uint64_t *")),
     "yurewha_session_num_runs": ("yurewha_status", ("yurewha_session *", "size_t *")),
     "yurewha_session_run": (
         "yurewha_status", ("yurewha_session *", "size_t", "uint64_t *", "yurewha_subtree *")),
@@ -82,6 +86,8 @@ DECLARATIONS: Dict[str, Declaration] = {
         "yurewha_status", ("yurewha_session *", "uint64_t", "uint64_t *", "uint64_t *", "yurewha_subtree *")),
     "yurewha_session_root": ("yurewha_status", ("yurewha_session *", "uint64_t", "yurewha_hash *")),
     "yurewha_session_finish": ("yurewha_status", ("yurewha_session *", "uint64_t", "yurewha_hash *")),
+    "yurewha_session_finish_with_salt": (
+        "yurewha_status", ("yurewha_session *", "uint64_t", "const yurewha_bytes *", "yurewha_hash *")),
     "yurewha_session_copy": ("yurewha_status", ("yurewha_session *", "yurewha_session *")),
     "yurewha_session_free": ("void", ("yurewha_session *",)),
     # Saving a session
@@ -90,6 +96,9 @@ DECLARATIONS: Dict[str, Declaration] = {
     "yurewha_session_keep_hashes": ("yurewha_status", ("yurewha_session *", "const yurewha_hash *", "size_t")),
     "yurewha_session_num_known_hashes": ("yurewha_status", ("yurewha_session *", "size_t *")),
     "yurewha_session_known_hashes": ("yurewha_status", ("yurewha_session *", "yurewha_hash *", "size_t")),
+    "yurewha_session_knows": ("yurewha_status", ("yurewha_session *", "const yurewha_hash *", "bool *")),
+    "yurewha_session_knows_each": (
+        "yurewha_status", ("yurewha_session *", "const yurewha_hash *", "size_t", "uint8_t *", "size_t")),
     # Hash trees
     "yurewha_hash_tree_from_chunks": (
         "yurewha_status", ("const yurewha_chunk *", "size_t", "yurewha_hash_tree *")),

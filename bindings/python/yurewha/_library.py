@@ -115,6 +115,7 @@ _TYPES: Dict[str, Any] = {
     "bool *": ctypes.POINTER(ctypes.c_bool),
     "size_t *": ctypes.POINTER(ctypes.c_size_t),
     "uint64_t *": ctypes.POINTER(ctypes.c_uint64),
+    "uint8_t *": ctypes.c_void_p,
     **{f"{name} *": ctypes.POINTER(struct) for name, struct in STRUCT_TYPES.items()},
 }
 

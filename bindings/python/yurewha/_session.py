@@ -5,11 +5,12 @@ from __future__ import annotations
 import ctypes
 import struct
 import threading
-from typing import Callable, ClassVar, Iterable, Iterator, List, Optional, Set, Tuple, Type, Union, final
+from contextlib import suppress
+from typing import Callable, ClassVar, Iterable, Iterator, List, Optional, Tuple, Type, Union, final
 
 from ._chunks import Chunks, ChunksLike
 from ._declarations import STATUSES
-from ._errors import InvalidArguments, ReentrantCall, SessionGap, SessionOverlap, SessionSizes, YurewhaError, error_of
+from ._errors import InvalidArguments, ReentrantCall, SessionGap, SessionOverlap, SessionSizes, YurewhaError, but_got, error_of
 from ._guard import Guarded, both_locked
 from ._hash import Hash, HashLike, checked_32, checked_bool, checked_u64, raw_of
 from ._hash_index import raws_of
@@ -41,14 +42,18 @@ def raws_of_chunks(packed: bytes) -> List[bytes]:
     return [raw for raw, _ in _CHUNK.iter_unpack(packed)]
 
 
-def _told_of_gap(gaps: List[range], total: int, beyond: Optional[Span]) -> str:
-    """Returns why the taken positions aren't those below the total."""
+def _gap(gaps: List[range], total: int, beyond: Optional[Span]) -> SessionGap:
+    """Returns the error that says why the taken positions aren't those below the total."""
     if gaps:
-        gap = gaps[0]
-        missing = f"position {gap.start} has" if len(gap) == 1 else f"the positions from {gap.start} to {gap.stop - 1} have"
-        return f"{missing} no chunk" + (f", and neither have others in {len(gaps) - 1} more gaps" if len(gaps) > 1 else "")
-    taken = total if beyond is None else max(total, beyond[0])
-    return f"position {taken} is taken, and the total is {total}"
+        gap, position = gaps[0], gaps[0].start
+        missing = f"position {position} has" if len(gap) == 1 else f"the positions from {position} to {gap.stop - 1} have"
+        text = f"{missing} no chunk" + (f", and neither have others in {len(gaps) - 1} more gaps" if len(gaps) > 1 else "")
+    else:
+        position = total if beyond is None else max(total, beyond[0])
+        text = f"position {position} is taken, and the total is {total}"
+    error = SessionGap(text)
+    error.position = position
+    return error
 
 
 @final
@@ -68,11 +73,11 @@ class Run(Tuple[int, Subtree]):
     _end: int
 
     def __new__(cls, first: int, end: int, subtree: Subtree) -> Run:
-        place, after = checked_u64(first, "a position"), checked_u64(end, "a position")
+        place, after = checked_u64(first, "position"), checked_u64(end, "position")
         if after <= place:
-            raise InvalidArguments("a run ends after its first position")
+            raise InvalidArguments(but_got(f"the end of a run must be more than its first position {place}", after))
         if not isinstance(subtree, Subtree):
-            raise TypeError(f"the subtree of a run is a Subtree, not {type(subtree).__name__}")
+            raise TypeError(but_got("the subtree of a run must be a Subtree", type(subtree).__name__))
         self = super().__new__(cls, (place, subtree))  # type: ignore[arg-type]
         self._end = after
         return self
@@ -135,16 +140,13 @@ class Session(Guarded):
     each run, and so does what is saved of it. It then takes each hash of a put for new.
     """
 
-    __slots__ = ("_handle", "_changes", "_keeps", "_put_since", "_forgetting", "_index", "_indexed")
+    __slots__ = ("_handle", "_changes", "_keeps", "_put_since", "_forgetting")
 
     _handle: CSession
     # Whether hashes are kept. If they aren't, how many chunks were put since they were last forgotten; and what is held meanwhile.
     _keeps: bool
     _put_since: int
     _forgetting: threading.Lock
-    # The known hashes, once somebody asked for one of them, and how many calls had begun to change the session by then.
-    _index: Optional[Set[bytes]]
-    _indexed: int
     # How many calls that change the session began. A call that reads several times notices by it that a signal handler made
     # one. Then it reads a copy, which no handler changes.
     _changes: int
@@ -156,8 +158,8 @@ class Session(Guarded):
         self = object.__new__(cls)
         self._guard()
         self._handle = CSession()
-        self._changes = self._put_since = self._indexed = 0
-        self._keeps, self._index, self._forgetting = keeps, None, threading.Lock()
+        self._changes = self._put_since = 0
+        self._keeps, self._forgetting = keeps, threading.Lock()
         status = short.yurewha_session_new(self._handle)
         if status:
             raise error_of(status)
@@ -188,19 +190,28 @@ class Session(Guarded):
         >>> Session().put(0, [(Hash(), 1), (Hash(), 1)])
         1
         """
-        place = checked_u64(first, "a position")
+        place = checked_u64(first, "position")
         packed = Chunks(chunks).packed
         count = len(packed) // _CHUNK_SIZE
-        return interruptible(lambda: self._put(place, packed, count), count >= MANY_NODES, self)
+        nested = self._is_in_a_call()
+        new = interruptible(lambda: self._put(place, packed, count), count >= MANY_NODES, self)
+        if not self._keeps and not nested:
+            self._forget()
+        return new
+
+    def _is_in_a_call(self) -> bool:
+        """Returns whether a signal handler asks this in the middle of a call on the session: its thread has the lock."""
+        return self._lock._is_owned()  # type: ignore[attr-defined, no-any-return]
 
     def _put(self, place: int, packed: bytes, count: int) -> int:
         out = ctypes.c_uint64()
+        # The set is made before the put, because nothing undoes it if there is no memory for the set.
+        distinct = 0 if self._keeps else len(set(raws_of_chunks(packed)))
         with self._locked():
             self._refuse_reentry()
-            index = self._valid_index()
             self._changes += 1
             status = calls_for(count, LONG_CHUNKS).yurewha_session_put(self._handle, place, packed, count, out)
-            self._indexed_too(index, () if status else raws_of_chunks(packed))
+            self._put_since += 0 if status else count
             if status == STATUSES["YUREWHA_SESSION_OVERLAP"]:
                 run = None if self.taken(place) else self._run_from(place)
                 raise SessionOverlap(f"position {run[0] if run else place} is taken")
@@ -208,22 +219,21 @@ class Session(Guarded):
             raise SessionSizes("the sizes of all chunks add up to more than 2^64 - 1")
         if status:
             raise error_of(status)
-        if self._keeps:
-            return out.value
-        self._forget(count)
-        return len(set(raws_of_chunks(packed)))
+        return out.value if self._keeps else distinct
 
     def _refuse_reentry(self) -> None:
         if self._forgetting.locked():
             raise ReentrantCall("a signal handler changed a session that keeps no hashes while it forgot some")
 
-    def _forget(self, count: int) -> None:
-        """Forgets the hashes of a put, now and then: a session is made again from its runs, because no export forgets hashes."""
+    def _forget(self) -> None:
+        """Forgets hashes, now and then: a session is made again from its runs, because no export forgets hashes.
+
+        No handler may do so, since the call around it has the handle. If there is no memory for it, a later put does it.
+        """
         with self._locked():
-            self._put_since += count
-            if self._put_since < _FORGOTTEN or self._forgetting.locked():
+            if self._put_since < _FORGOTTEN:
                 return
-            with self._forgetting:
+            with self._forgetting, suppress(MemoryError):
                 fresh = Session()
                 for first, end, subtree in self._walk():
                     fresh._push("the run", first, end, subtree)
@@ -233,25 +243,42 @@ class Session(Guarded):
                 self._free(old)
                 self._put_since = 0
 
-    def _valid_index(self) -> Optional[Set[bytes]]:
-        return self._index if self._indexed == self._changes else None
-
-    def _indexed_too(self, index: Optional[Set[bytes]], raws: Iterable[bytes]) -> None:
-        """Notes further hashes in a valid index."""
-        if index is not None:
-            index.update(raws)
-            self._indexed = self._changes
-
     def __contains__(self, hash_: HashLike) -> bool:
-        """Returns whether the session knows a hash. The first call, and the first one after a run was pushed, looks at all of them."""
-        raw = raw_of(hash_, "a hash")
+        """Returns whether the session knows a hash: whether a put had it, or it was kept. A session that keeps none knows none.
+
+        >>> session = Session(); _ = session.put(3, [(Hash(), 1)])
+        >>> Hash() in session, Hash.random_from_seed(1) in session
+        (True, False)
+        """
+        raw, out = raw_of(hash_, "hash"), ctypes.c_bool()
+        if not self._keeps:
+            return False
         with self._locked():
-            index = self._valid_index()
-            if index is None:
-                changes = self._changes
-                index = set(raws_of(self.known_hashes().packed))
-                self._index, self._indexed = index, changes
-            return raw in index
+            status = short.yurewha_session_knows(self._handle, raw, out)
+        if status:
+            raise error_of(status)
+        return out.value
+
+    def contains(self, hashes: HashesLike) -> List[bool]:
+        """Returns of each hash of a list whether the session knows it.
+
+        >>> session = Session(); _ = session.put(3, [(Hash(), 1)])
+        >>> session.contains([Hash.random_from_seed(1), Hash()])
+        [False, True]
+        """
+        packed = Hashes(hashes).packed
+        count = len(packed) // _HASH_SIZE
+        if not self._keeps:
+            return [False] * count
+        return interruptible(lambda: self._contains(packed, count), count >= MANY_NODES, self)
+
+    def _contains(self, packed: bytes, count: int) -> List[bool]:
+        known = (ctypes.c_uint8 * count)()
+        with self._locked():
+            status = calls_for(count, LONG_CHUNKS).yurewha_session_knows_each(self._handle, packed, count, known, count)
+        if status:
+            raise error_of(status)
+        return [it == 1 for it in known]
 
     def taken(self, position: int) -> bool:
         """Returns whether a position is taken.
@@ -260,7 +287,7 @@ class Session(Guarded):
         >>> session.taken(3), session.taken(4)
         (True, False)
         """
-        place, out = checked_u64(position, "a position"), ctypes.c_bool()
+        place, out = checked_u64(position, "position"), ctypes.c_bool()
         with self._locked():
             status = short.yurewha_session_taken(self._handle, place, out)
         if status:
@@ -290,17 +317,25 @@ class Session(Guarded):
         >>> session.num_chunks
         2
         """
-        return sum(end - first for first, end, _ in self._spans())
+        return self._number("yurewha_session_num_chunks")
 
     @property
     def total_size(self) -> int:
-        """The total size of the chunks in bytes. The time is proportional to the number of runs.
+        """The total size of the chunks in bytes.
 
         >>> session = Session(); _ = session.put(3, [(Hash(), 7), (Hash(), 8)])
         >>> session.total_size
         15
         """
-        return sum(subtree.total_size for _, _, subtree in self._spans())
+        return self._number("yurewha_session_total_size")
+
+    def _number(self, which: str) -> int:
+        out = ctypes.c_uint64()
+        with self._locked():
+            status = getattr(short, which)(self._handle, out)
+        if status:
+            raise error_of(status)
+        return out.value
 
     def gaps(self, total: int) -> List[range]:
         """Returns the ranges of positions below `total` that aren't taken, by rising position.
@@ -309,12 +344,21 @@ class Session(Guarded):
         >>> session.gaps(8)
         [range(0, 3), range(5, 8)]
         """
-        number, position, gaps = checked_u64(total, "the total"), 0, []
-        for first, end, _ in self._spans():
-            gaps.append(range(position, min(first, number)))
-            position = end
-        gaps.append(range(position, number))
-        return [gap for gap in gaps if gap]
+        number = checked_u64(total, "total")
+        with self._locked():
+            changes, gaps = self._changes, list(self._walk_gaps(number))
+            return gaps if changes == self._changes else list(self.copy()._walk_gaps(number))
+
+    def _walk_gaps(self, total: int) -> Iterator[range]:
+        """Yields each gap: the first from the end of the one before it."""
+        first, end = ctypes.c_uint64(), ctypes.c_uint64()
+        while True:
+            status = short.yurewha_session_next_gap(self._handle, end.value, total, first, end)
+            if status == STATUSES["YUREWHA_ARGUMENTS"]:  # each position is taken from there on
+                return
+            if status:
+                raise error_of(status)
+            yield range(first.value, end.value)
 
     def run(self, at: int) -> Run:
         """Returns a run. Runs are numbered from 0, by rising position. Raises `InvalidArguments` if there is no such run.
@@ -323,12 +367,12 @@ class Session(Guarded):
         >>> session.run(0).end
         4
         """
-        number, first, subtree = checked_u64(at, "the number of a run"), ctypes.c_uint64(), Subtree._empty()
+        number, first, subtree = checked_u64(at, "run number"), ctypes.c_uint64(), Subtree._empty()
         with self._locked():
             status = short.yurewha_session_run(self._handle, number, first, subtree._handle)
             found = None if status else self._run_from(first.value)
         if found is None:
-            raise error_of(status, "there is no such run")
+            raise error_of(status, f"there is no run {number}")
         return Run(*found)
 
     def runs(self) -> List[Run]:
@@ -351,7 +395,7 @@ class Session(Guarded):
         >>> first, end, session.run_from(end)
         (3, 4, None)
         """
-        return self._run_from(checked_u64(position, "a position"))
+        return self._run_from(checked_u64(position, "position"))
 
     def _run_from(self, place: int) -> Optional[Span]:
         first, end, subtree = ctypes.c_uint64(), ctypes.c_uint64(), Subtree._empty()
@@ -416,22 +460,21 @@ class Session(Guarded):
         >>> Session().finish(0) == Session().finish(0, salt=bytes(32)) == Hash()
         True
         """
-        number = checked_u64(total, "the total")
+        number = checked_u64(total, "total")
         if salt is None:
             return self._of_all(number, "yurewha_session_finish")
-        key, root = Hash(checked_32(salt, "a salt")), self.root(number)
-        return root.hmac(key) if number else root  # the file hash of no chunks is their root, with a salt, too
+        return self._of_all(number, "yurewha_session_finish_with_salt", checked_32(salt, "salt"))
 
-    def _of_all(self, total: int, which: str) -> Hash:
-        number = checked_u64(total, "the total")
-        return interruptible(lambda: self._hash_of_all(number, which), number >= MANY_NODES, self)
+    def _of_all(self, total: int, which: str, *salt: bytes) -> Hash:
+        number = checked_u64(total, "total")
+        return interruptible(lambda: self._hash_of_all(number, which, *salt), number >= MANY_NODES, self)
 
-    def _hash_of_all(self, number: int, which: str) -> Hash:
+    def _hash_of_all(self, number: int, which: str, *salt: bytes) -> Hash:
         out = CHash()
         with self._locked():
-            status = getattr(long, which)(self._handle, number, out)
+            status = getattr(long, which)(self._handle, number, *salt, out)
             if status == STATUSES["YUREWHA_SESSION_GAP"]:
-                raise SessionGap(_told_of_gap(self.gaps(number), number, self._run_from(number)))
+                raise _gap(self.gaps(number), number, self._run_from(number))
         if status:
             raise error_of(status)
         return Hash._of(bytes(out))
@@ -500,9 +543,9 @@ class Session(Guarded):
         self._push("the run", first, end, subtree)
 
     def _push(self, what: str, first: int, end: int, subtree: Subtree) -> None:
-        place, after = checked_u64(first, "a position"), checked_u64(end, "a position")
+        place, after = checked_u64(first, "position"), checked_u64(end, "position")
         if not isinstance(subtree, Subtree):
-            raise TypeError(f"{what} is a Subtree, not {type(subtree).__name__}")
+            raise TypeError(but_got(f"{what} must be a Subtree", type(subtree).__name__))
         interruptible(lambda: self._pushed(what, place, after, subtree), subtree._has_many_nodes(), self, subtree)
 
     def _pushed(self, what: str, place: int, after: int, subtree: Subtree) -> None:
@@ -513,7 +556,8 @@ class Session(Guarded):
             calls = calls_for(subtree._nodes(), LONG_NODES)
             status = calls.yurewha_session_push_run(self._handle, place, after, subtree._handle)
         if status:
-            raise error_of(status, f"{what} has no position, is marked at an end, or leaves no gap after the runs before it")
+            rule = f"{what} must have a position, no mark at an end, and a gap after the runs before it"
+            raise error_of(status, but_got(rule, f"the positions from {place} up to {after}"))
 
     def keep_hashes(self, hashes: HashesLike) -> None:
         """Keeps hashes, as if an earlier put had had them. The session then knows them. After an error nothing has changed.
@@ -532,10 +576,8 @@ class Session(Guarded):
 
     def _keep(self, packed: bytes, count: int) -> None:
         with self._locked():
-            index = self._valid_index()
             self._changes += 1
             status = calls_for(count, LONG_CHUNKS).yurewha_session_keep_hashes(self._handle, packed, count)
-            self._indexed_too(index, () if status else raws_of(packed))
         if status:
             raise error_of(status)
 
@@ -588,7 +630,8 @@ class Session(Guarded):
         """Returns the session that a JSON text describes. The text is a `str` or its bytes.
 
         Raises `InvalidText` if the text isn't JSON or doesn't have the form of `to_json`, except that there may be other
-        members. Raises `InvalidJson` if a subtree breaks a rule. Raises `InvalidArguments` or `SizeOverflow` if `push_run`
+        members. A member that occurs twice in one object is refused, also in a subtree. (`Subtree.from_json` takes the last one.) Raises
+        `InvalidJson` if a subtree breaks a rule. Raises `InvalidArguments` or `SizeOverflow` if `push_run`
         refuses a run. That a run has as many chunks as positions can't be checked. With `keep_hashes=False` the hashes of the text are
         left out, and the session keeps none.
 

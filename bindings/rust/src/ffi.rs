@@ -253,6 +253,15 @@ extern "C" {
         new_hashes: *mut u64,
     ) -> yurewha_status;
     pub fn yurewha_session_taken(session: *mut yurewha_session, position: u64, taken: *mut bool) -> yurewha_status;
+    pub fn yurewha_session_num_chunks(session: *mut yurewha_session, count: *mut u64) -> yurewha_status;
+    pub fn yurewha_session_total_size(session: *mut yurewha_session, size: *mut u64) -> yurewha_status;
+    pub fn yurewha_session_next_gap(
+        session: *mut yurewha_session,
+        position: u64,
+        total: u64,
+        first: *mut u64,
+        end: *mut u64,
+    ) -> yurewha_status;
     pub fn yurewha_session_num_runs(session: *mut yurewha_session, count: *mut usize) -> yurewha_status;
     pub fn yurewha_session_run(
         session: *mut yurewha_session,
@@ -270,6 +279,12 @@ extern "C" {
     pub fn yurewha_session_root(session: *mut yurewha_session, total: u64, root: *mut yurewha_hash) -> yurewha_status;
     pub fn yurewha_session_finish(session: *mut yurewha_session, total: u64, hash: *mut yurewha_hash)
         -> yurewha_status;
+    pub fn yurewha_session_finish_with_salt(
+        session: *mut yurewha_session,
+        total: u64,
+        salt: *const yurewha_bytes,
+        hash: *mut yurewha_hash,
+    ) -> yurewha_status;
     pub fn yurewha_session_copy(session: *mut yurewha_session, copy: *mut yurewha_session) -> yurewha_status;
     pub fn yurewha_session_free(session: *mut yurewha_session);
     pub fn yurewha_session_push_run(
@@ -288,6 +303,18 @@ extern "C" {
         session: *mut yurewha_session,
         hashes: *mut yurewha_hash,
         count: usize,
+    ) -> yurewha_status;
+    pub fn yurewha_session_knows(
+        session: *mut yurewha_session,
+        hash: *const yurewha_hash,
+        known: *mut bool,
+    ) -> yurewha_status;
+    pub fn yurewha_session_knows_each(
+        session: *mut yurewha_session,
+        hashes: *const yurewha_hash,
+        count: usize,
+        known: *mut u8,
+        known_count: usize,
     ) -> yurewha_status;
     pub fn yurewha_hash_tree_from_chunks(
         chunks: *const yurewha_chunk,

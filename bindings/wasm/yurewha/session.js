@@ -1,23 +1,40 @@
 // Sessions: chunks by their positions, which come in any order.
 
-import { decimal, u64 } from "./arguments.js";
-import { CHUNK_LENGTH, sizeOf } from "./chunks.js";
-import { STATUS, sessionSizes } from "./errors.js";
+import { bytes, decimal, mustBe, u64, wrongType } from "./arguments.js";
+import { CHUNK_LENGTH } from "./chunks.js";
+import { InvalidJson, STATUS, SessionGap, SessionOverlap, sessionSizes } from "./errors.js";
 import { Handle, Handles, disposable } from "./handle.js";
 import { HASH_LENGTH, thirtyTwo } from "./hash.js";
+import { savedOf, textOf } from "./session_json.js";
 import { inspected, showing } from "./shown.js";
 
-const unfit = "the run has no position, is marked at an end, or leaves no gap after the runs before it";
+const decoder = new TextDecoder();
+const unfit = (first, end) =>
+    `a run must have a position, no mark at an end, and a gap after the runs before it, got that from ${first} up to ${end}`;
+const noHash = (first, end) =>
+    end - first === 1n ? `position ${first} has no chunk` : `the positions from ${first} to ${end - 1n} have no chunk`;
+
+/** The lists of a saved session, and the members of each run. */
+function listsOf(saved) {
+    const lists = ["runs", "knownHashes"].map((name) => {
+        const list = saved?.[name];
+        const isList = typeof list === "object" && typeof list?.[Symbol.iterator] === "function";
+        if (!isList) throw wrongType("a saved session", "have lists as `runs` and `knownHashes`", saved);
+        return [...list];
+    });
+    lists[0].forEach((run, k) => {
+        if (!Array.isArray(run) || run.length !== 3) throw wrongType(`run ${k}`, "be an array of two positions and a JSON text", run);
+    });
+    return lists;
+}
 
 /** The class `Session` over a library. */
-export function makeSession(library, { Hash, rawOf, result, unpacked, hmac }, { packedOf }, { Subtree, owned, pointerOf, totalSizeOf }) {
+export function makeSession(library, { Hash, rawOf, result, unpacked }, { packedOf }, { Subtree, owned, pointerOf }) {
     const handles = new Handles(library, "yurewha_session_free");
 
     // A caller's iterators and getters may free the session. So each call takes the pointer after the last of them has run.
     class Session {
         #handle;
-        #numChunks = 0n;
-        #totalSize = 0n;
 
         constructor(handle) {
             const fresh = (made) => library.check(library.call("yurewha_session_new", made));
@@ -26,13 +43,26 @@ export function makeSession(library, { Hash, rawOf, result, unpacked, hmac }, { 
             show(this);
         }
 
-        static restore({ runs, knownHashes }) {
+        static fromJSON(json) {
+            // It is read twice, and nobody may change it meanwhile.
+            const given = typeof json === "string" ? json : bytes(json, "JSON").slice();
+            try {
+                Subtree.fromJSON(given).free();
+            } catch (error) {
+                // The module says what is JSON, and for that reads a subtree.
+                if (!(error instanceof InvalidJson)) throw error;
+            }
+            return Session.restore(savedOf(typeof given === "string" ? given : decoder.decode(given)));
+        }
+
+        static restore(saved) {
+            const [runs, knownHashes] = listsOf(saved);
             const session = new Session();
             try {
                 for (const [first, end, json] of runs) {
                     session.#pushSaved(decimal(first, "a position"), decimal(end, "a position"), Subtree.fromJSON(json));
                 }
-                session.keepHashes([...knownHashes].map((hex) => Hash.fromHex(hex)));
+                session.keepHashes(knownHashes.map((hex) => Hash.fromHex(hex)));
             } catch (error) {
                 session.free();
                 throw error;
@@ -42,10 +72,7 @@ export function makeSession(library, { Hash, rawOf, result, unpacked, hmac }, { 
 
         clone() {
             const { pointer } = this.#handle;
-            const copy = new Session(handles.make((made) => library.check(library.call("yurewha_session_copy", pointer, made))));
-            copy.#numChunks = this.#numChunks;
-            copy.#totalSize = this.#totalSize;
-            return copy;
+            return new Session(handles.make((made) => library.check(library.call("yurewha_session_copy", pointer, made))));
         }
 
         put(first, chunks) {
@@ -53,14 +80,14 @@ export function makeSession(library, { Hash, rawOf, result, unpacked, hmac }, { 
             const packed = packedOf(chunks);
             const count = BigInt(packed.length / CHUNK_LENGTH);
             const { pointer } = this.#handle;
+            let status;
             const fresh = library.over([packed, 8], (at, out) => {
-                const status = library.call("yurewha_session_put", pointer, position, at, count, out);
+                status = library.call("yurewha_session_put", pointer, position, at, count, out);
                 if (status === STATUS.SIZES) throw sessionSizes();
-                library.check(status);
+                if (status !== STATUS.SESSION_OVERLAP) library.check(status);
                 return library.count(out);
             });
-            this.#numChunks += count;
-            this.#totalSize += sizeOf(packed);
+            if (status === STATUS.SESSION_OVERLAP) throw new SessionOverlap(`position ${this.#takenFrom(position)} is taken`);
             return fresh;
         }
 
@@ -74,13 +101,19 @@ export function makeSession(library, { Hash, rawOf, result, unpacked, hmac }, { 
         }
 
         get numChunks() {
-            this.#handle.mustBeOwned();
-            return this.#numChunks;
+            return this.#number("yurewha_session_num_chunks");
         }
 
         get totalSize() {
-            this.#handle.mustBeOwned();
-            return this.#totalSize;
+            return this.#number("yurewha_session_total_size");
+        }
+
+        #number(name) {
+            const { pointer } = this.#handle;
+            return library.over([8], (out) => {
+                library.check(library.call(name, pointer, out));
+                return library.u64(out);
+            });
         }
 
         get numRuns() {
@@ -93,9 +126,10 @@ export function makeSession(library, { Hash, rawOf, result, unpacked, hmac }, { 
 
         run(place) {
             const number = u64(place, "the place of a run");
+            const noRun = mustBe("the place of a run", `be below the number of runs, ${this.numRuns}`, number);
             const { pointer } = this.#handle;
             const first = library.over([8], (out) => {
-                const written = (made) => library.check(library.call("yurewha_session_run", pointer, number, out, made), "there is no such run");
+                const written = (made) => library.check(library.call("yurewha_session_run", pointer, number, out, made), noRun);
                 owned(written).free();
                 return library.u64(out);
             });
@@ -124,24 +158,25 @@ export function makeSession(library, { Hash, rawOf, result, unpacked, hmac }, { 
         gaps(total) {
             const limit = u64(total, "the total");
             const gaps = [];
-            let position = 0n;
-            for (const [first, end, range] of this.#allRuns()) {
-                range.free();
-                if (first >= limit) break;
-                if (position < first) gaps.push([position, first]);
-                position = end;
-            }
-            if (position < limit) gaps.push([position, limit]);
+            for (let gap = this.#nextGap(0n, limit); gap; gap = this.#nextGap(gap[1], limit)) gaps.push(gap);
             return gaps;
+        }
+
+        /** The first gap from a position on and below a total, or `null`. */
+        #nextGap(position, total) {
+            const { pointer } = this.#handle;
+            return library.over([8, 8], (first, end) => {
+                const status = library.call("yurewha_session_next_gap", pointer, position, total, first, end);
+                if (status === STATUS.ARGUMENTS) return null;
+                library.check(status);
+                return [library.u64(first), library.u64(end)];
+            });
         }
 
         pushRun(first, end, range) {
             const [from, to] = [u64(first, "a position"), u64(end, "a position")];
-            const size = totalSizeOf(range);
             const { pointer } = this.#handle;
-            library.check(library.call("yurewha_session_push_run", pointer, from, to, pointerOf(range)), unfit);
-            this.#numChunks += to - from;
-            this.#totalSize += size;
+            library.check(library.call("yurewha_session_push_run", pointer, from, to, pointerOf(range)), unfit(from, to));
         }
 
         keepHashes(hashes) {
@@ -151,6 +186,15 @@ export function makeSession(library, { Hash, rawOf, result, unpacked, hmac }, { 
             const { pointer } = this.#handle;
             library.over([packed], (at) => {
                 library.check(library.call("yurewha_session_keep_hashes", pointer, at, BigInt(listed.length)));
+            });
+        }
+
+        knows(hash) {
+            const raw = rawOf(hash, "a hash");
+            const { pointer } = this.#handle;
+            return library.over([raw, 1], (at, out) => {
+                library.check(library.call("yurewha_session_knows", pointer, at, out));
+                return library.truth(out);
             });
         }
 
@@ -177,25 +221,52 @@ export function makeSession(library, { Hash, rawOf, result, unpacked, hmac }, { 
             return { runs: Array.from(this.#allRuns(), saved), knownHashes: knownHashes.sort() };
         }
 
+        toJSON() {
+            return textOf(this.saved);
+        }
+
         root(total) {
             return this.#ofAll("yurewha_session_root", total);
         }
 
         finish(total, salt) {
             if (salt === undefined) return this.#ofAll("yurewha_session_finish", total);
-            const key = thirtyTwo(salt, "a salt");
-            const root = this.#ofAll("yurewha_session_root", total);
-            return u64(total, "the total") === 0n ? root : hmac(rawOf(root), key);
+            return this.#ofAll("yurewha_session_finish_with_salt", total, thirtyTwo(salt, "a salt"));
         }
 
         free() {
             this.#handle.free();
         }
 
-        #ofAll(name, total) {
+        #ofAll(name, total, ...salt) {
             const number = u64(total, "the total");
             const { pointer } = this.#handle;
-            return result([], (out) => library.check(library.call(name, pointer, number, out)));
+            let status;
+            const hash = result(salt, (...places) => {
+                status = library.call(name, pointer, number, ...places);
+                if (status !== STATUS.SESSION_GAP) library.check(status);
+            });
+            if (status === STATUS.SESSION_GAP) throw new SessionGap(this.#whyNoHash(number));
+            return hash;
+        }
+
+        /** Why the taken positions aren't those below the total. */
+        #whyNoHash(total) {
+            const gap = this.#nextGap(0n, total);
+            return gap ? noHash(...gap) : `position ${this.#takenFrom(total)} is taken, and the total is ${total}`;
+        }
+
+        /** The first taken position from one on, which there is. */
+        #takenFrom(position) {
+            const [first] = this.#positionsFrom(position);
+            return first > position ? first : position;
+        }
+
+        /** The positions of the first run that ends after a position; if there is none, no number is as great as they are. */
+        #positionsFrom(position) {
+            const run = this.runFrom(position);
+            run?.[2].free();
+            return run ?? [Infinity, Infinity];
         }
 
         /** All runs by rising position: each is the first that ends after the one before it. */

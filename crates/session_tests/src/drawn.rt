@@ -7,7 +7,7 @@ use std::process::Abort;
 use upload_session::session::SessionOf;
 use upload_session::session_fault::SessionFault;
 use xet_hash::data_hash::DataHash;
-use xet_merkle::aggregated_hashes::{Node, file_hash};
+use xet_merkle::aggregated_hashes::{Node, file_hash, file_hash_with_salt};
 use xet_merkle::chunk_range::ChunkRange;
 use xet_merkle::merkle_hash_subtree::MerkleHashSubtree;
 use xet_merkle::plain_range::PlainRange;
@@ -73,6 +73,42 @@ impl Plain {
     }
 }
 
+// Returns whether a session has the model's chunks and knows its hashes.
+fn has_chunks<C: ChunkRange<Alloc = Global>>(
+    session: &SessionOf<C>,
+    plain: &Plain,
+    chunks: &[Node],
+) -> bool {
+    let (mut count, mut size) = (0u64, 0u64);
+    for (is_taken, (_, bytes)) in plain.taken.iter().zip(chunks) {
+        if *is_taken {
+            count = count.saturating_add(1);
+            size = size.saturating_add(*bytes);
+        }
+    }
+    let mut agree = session.num_chunks() == count && session.total_size() == size;
+    for (number, is_known) in (0u64..).zip(&plain.seen) {
+        agree = agree && session.knows(&DataHash::random_from_seed(number)) == *is_known;
+    }
+    agree
+}
+
+// Returns whether a session finds the gap that a plain search finds from each position on.
+fn has_gaps<C: ChunkRange<Alloc = Global>>(session: &SessionOf<C>, taken: &[bool]) -> bool {
+    let total = taken.len() as u64;
+    let (mut gap, mut agree) = (None, true);
+    for (place, is_taken) in taken.iter().enumerate().rev() {
+        let (position, next) = (place as u64, (place as u64).saturating_add(1));
+        gap = match gap {
+            _ if *is_taken => gap,
+            Some((first, end)) if first == next => Some((position, end)),
+            _ => Some((position, next)),
+        };
+        agree = agree && session.next_gap(position, total) == gap;
+    }
+    agree
+}
+
 // Returns whether the ranges of a session begin exactly at the taken positions that come after one that isn't taken.
 fn has_runs<C: ChunkRange<Alloc = Global>>(session: &SessionOf<C>, taken: &[bool]) -> bool {
     let mut count = 0;
@@ -100,7 +136,11 @@ fn agrees<C: ChunkRange<Alloc = Global>>(
     let answer = session.put(begin as u64, chunks.get(begin..end).unwrap_or_default());
     let is_whole = plain.taken.iter().all(|is_taken| *is_taken);
     let is_gap = session.finish(POSITIONS as u64) == Err(SessionFault::Gap);
-    answer == expected && is_gap != is_whole && has_runs(session, &plain.taken)
+    answer == expected
+        && is_gap != is_whole
+        && has_runs(session, &plain.taken)
+        && has_chunks(session, plain, chunks)
+        && has_gaps(session, &plain.taken)
 }
 
 // Puts chunks at random positions, most of them taken before, and then at each position.
@@ -134,7 +174,11 @@ fn is_as_the_model<C: ChunkRange<Alloc = Global>>(
     let file = file_hash(alloc, &chunks).expect(rt, "a file hash");
     let mut session: SessionOf<C> = SessionOf::new(alloc);
     let agree = are_put(&mut generator, &mut session, &mut plain, &chunks);
-    agree && session.finish(POSITIONS as u64) == Ok(file)
+    let salt = [7; 32];
+    let salted = file_hash_with_salt(alloc, &chunks, &salt).expect(rt, "a file hash");
+    agree
+        && session.finish(POSITIONS as u64) == Ok(file)
+        && session.finish_with_salt(POSITIONS as u64, &salt) == Ok(salted)
 }
 
 #[test]

@@ -1,5 +1,6 @@
 pub mod AroundEntries
 pub mod Exchanging
+pub mod Gaps
 pub mod Hashes
 pub mod Merging
 pub mod Neighbours

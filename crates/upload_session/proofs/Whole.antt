@@ -8,10 +8,10 @@ use Rattle.std.proofs.lemmas.List.Elements.{All-head}
 use Rattle.xet_roots.specs.Groups.{Node}
 use Rattle.chunk_ranges.specs.declared.chunk_range.ChunkRange as chunk_range
 use Rattle.xet_roots.specs.Roots.{salted_root, IsRoot, IsFileHash}
-use Rattle.upload_session.specs.Session.{Placed, PlacedRun, placed_from, chunks_of, AreFrom, Cover, HaveFileHash, HaveRoot, IsRunOf, IsWhole, StandFor}
+use Rattle.upload_session.specs.Session.{Placed, PlacedRun, placed_from, chunks_of, AreFrom, Cover, HaveFileHash, HaveRoot, HaveSaltedHash, IsRunOf, IsWhole, StandFor}
 use Rattle.upload_session.proofs.Placing.{chunks-placed}
 
-length-placed : (first : ℕ) (chunks : List Node) → length (placed_from first chunks) ≡ length chunks
+pub length-placed : (first : ℕ) (chunks : List Node) → length (placed_from first chunks) ≡ length chunks
 length-placed first [] = refl
 length-placed first (chunk ∷ chunks) = omega (arith, length-placed (first + 1) chunks)
 
@@ -113,17 +113,17 @@ module _ {C A : Type 0} (kind : chunk_range.Ghosts C A) where
   root-placed total (run ∷ []) placed root stand covers has = has (chunks_of placed) (of-one run placed stand).1.2
   root-placed total (run ∷ next ∷ runs) placed root stand covers has = absurd covers
 
-  pub file-placed : (total : ℕ) (runs : List (PlacedRun C)) (placed : List Placed) (file : List ℕ) → StandFor kind runs placed → Cover total runs
-      → HaveFileHash kind runs file → IsFileHash (chunks_of placed) (replicate 32 0) file
-  file-placed total [] placed file none covers has = subst (λ l. IsFileHash (chunks_of l) (replicate 32 0) file) (sym none) has
-  file-placed total (run ∷ []) placed file stand covers has =
+  pub salted-placed : (salt : List ℕ) (total : ℕ) (runs : List (PlacedRun C)) (placed : List Placed) (file : List ℕ) → StandFor kind runs placed
+      → Cover total runs → HaveSaltedHash kind salt runs file → IsFileHash (chunks_of placed) salt file
+  salted-placed salt total [] placed file none covers has = subst (λ l. IsFileHash (chunks_of l) salt file) (sym none) has
+  salted-placed salt total (run ∷ []) placed file stand covers has =
       let (is, of_run) = of-one run placed stand in salted (chunks_of placed) of_run.0 (has (chunks_of placed) of_run.2)
     where
-      salted : (chunks : List Node) → 0 < length chunks → (root : List ℕ) × IsRoot chunks root × (file ≡ salted_root (replicate 32 0) root)
-          → IsFileHash chunks (replicate 32 0) file
+      salted : (chunks : List Node) → 0 < length chunks → (root : List ℕ) × IsRoot chunks root × (file ≡ salted_root salt root)
+          → IsFileHash chunks salt file
       salted [] some of_root = absurd (omega (arith, some))
       salted (chunk ∷ chunks) some of_root = of_root
-  file-placed total (run ∷ next ∷ runs) placed file stand covers has = absurd covers
+  salted-placed salt total (run ∷ next ∷ runs) placed file stand covers has = absurd covers
 
   -- what is said of the range of all chunks, if there is one, is said of the run
   module _ {R : Type 0} (now : R → C) (root file : List ℕ) where

@@ -1,3 +1,4 @@
+pub mod Gaps
 pub mod Hashes
 pub mod Session
 pub mod Sizes

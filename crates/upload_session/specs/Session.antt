@@ -174,12 +174,16 @@ module _ {C A : Type 0} (kind : chunk_range.Ghosts C A) where
   HaveRoot [] root = IsRoot [] root
   HaveRoot (run ∷ runs) root = (chunks : List Node) → kind.stands run.1.range chunks → IsRoot chunks root
 
-  -- and this file hash under 32 zero bytes
-  abbrev pub HaveFileHash : List (PlacedRun C) → List ℕ → Type 0
-  HaveFileHash [] file = IsFileHash [] (replicate 32 0) file
-  HaveFileHash (run ∷ runs) file =
+  -- and this file hash under a salt
+  abbrev pub HaveSaltedHash : List ℕ → List (PlacedRun C) → List ℕ → Type 0
+  HaveSaltedHash salt [] file = IsFileHash [] salt file
+  HaveSaltedHash salt (run ∷ runs) file =
       (chunks : List Node) → kind.stands run.1.range chunks
-      → (root : List ℕ) × IsRoot chunks root × (file ≡ salted_root (replicate 32 0) root)
+      → (root : List ℕ) × IsRoot chunks root × (file ≡ salted_root salt root)
+
+  -- and this file hash without a salt, which is the one under 32 zero bytes
+  abbrev pub HaveFileHash : List (PlacedRun C) → List ℕ → Type 0
+  HaveFileHash runs file = HaveSaltedHash (replicate 32 0) runs file
 
 module _ {H A : Type 0} (hashes : kept_hashes.Ghosts H A) where
   -- a session without chunks, which knows no hashes

@@ -58,6 +58,13 @@ impl<A: Allocator + Clone> SeenHashes<A> {
         })
     }
 
+    /// Returns whether a hash is known. It allocates nothing.
+    pub fn contains(&self, hash: &MerkleHash) -> bool
+        ensures { (known : List Hash) → Knows self.now known → result ≡ is_among known hash.now }
+    {
+        self.hashes.contains_key(hash)
+    }
+
     /// Returns the number of hashes. It allocates nothing.
     pub fn len(&self) -> usize
         ensures { (distinct : List Hash) → Knows self.now distinct → IsDistinct hash_eq distinct →

@@ -9,6 +9,7 @@ ghost use Rattle.xet_roots.specs.Groups.{Node};
 ghost use Rattle.xet_roots.specs.Roots.{total_size};
 ghost use Rattle.upload_session.specs.Steps.Neighbours.{IsPrevious, IsWithNext, AreAround, IsPutBefore, Places};
 ghost use Rattle.upload_session.specs.Steps.OpenRuns.{IsOpen, AreOpen, HaveRoom, HaveRoomFor, GrowBy, size_at, sizes_of};
+ghost use Rattle.upload_session.specs.Gaps.{num_positions, AllTaken, IsNextGap};
 ghost use Rattle.upload_session.specs.Session.{Placed, PlacedRun, ends_after, meet, place, AreApart, AreJoined, Cover, EndBefore, StandFor};
 
 use crate::session_fault::SessionFault;
@@ -143,6 +144,50 @@ impl<C: ChunkRange> Runs<C> {
         }
         let (first, run) = self.runs.range(position..).next()?;
         Some((*first, run.end, &run.range))
+    }
+
+    /// Returns the first gap from a position on and below `total`: its first position and the position after its last one.
+    /// Returns `None` if each of these positions is taken. It allocates nothing.
+    pub fn next_gap(&self, position: u64, total: u64) -> Option<(u64, u64)>
+        requires { AreApart self.now }
+        ensures gap { IfSome result (λ gap. IsNextGap self.now position total gap.0 gap.1) }
+        ensures none { IfNone result (AllTaken self.now position total) }
+    {
+        let first = self.free_from(position);
+        if total <= first {
+            return None;
+        }
+        let end = match self.run_from(first) {
+            Some((next, _, _)) if next < total => next,
+            _ => total,
+        };
+        Some((first, end))
+    }
+
+    // Returns the first free position from a position on.
+    fn free_from(&self, position: u64) -> u64
+        requires { AreApart self.now }
+        ensures from { position ≤ result }
+        ensures taken { AllTaken self.now position result }
+        ensures free { meet self.now result 1 ≡ false }
+    {
+        match self.run_from(position) {
+            Some((first, end, _)) if first <= position => end,
+            _ => position,
+        }
+    }
+
+    /// Returns the number of taken positions. It allocates nothing. The time is proportional to the number of runs.
+    pub fn num_positions(&self) -> u64
+        requires { AreApart self.now }
+        ensures { result ≡ num_positions self.now }
+    {
+        let mut count = 0;
+        'runs: for (first, run) in &self.runs {
+            let (first, end) = (*first, run.end);
+            count += end - first;
+        }
+        count
     }
 
     /// Returns the range of all chunks, or `None` if there are no chunks. Fails with [`SessionFault::Gap`] if the taken

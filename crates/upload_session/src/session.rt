@@ -1,11 +1,12 @@
 //! A session: ranges of chunks that come in any order, merged as they become adjacent.
 
-ghost use Rattle.std.specs.Prelude.{◌≡◌, ℕ, ◌+◌, ◌^◌, ◌<◌, ◌≤◌, ◌↔◌, ◌⊎◌, List, [], false, length, replicate, find, option_map, slice_get, Ok, All, IfOk, IfErr, SomeIff, OnOk, OnErr, IsOk, IsTrue, IsErrOf};
+ghost use Rattle.std.specs.Prelude.{◌≡◌, ℕ, ◌+◌, ◌^◌, ◌<◌, ◌≤◌, ◌↔◌, ◌⊎◌, List, [], false, length, replicate, find, option_map, slice_get, Ok, All, IfOk, IfErr, IfNone, IfSome, SomeIff, OnOk, OnErr, IsOk, IsTrue, IsErrOf};
 ghost use Rattle.xet_roots.specs.Groups.{Node};
 ghost use Rattle.xet_roots.specs.Roots.{total_size, IsRoot, IsFileHash};
 ghost use Rattle.std.specs.List.{IsDistinct};
-ghost use Rattle.upload_session.specs.Hashes.{Hash, hash_eq, Knows};
-ghost use Rattle.upload_session.specs.Session.{PlacedRun, ends_after, meet, chunks_of, is_taken, overlaps, size_of_runs, with_last, AreApart, AreJoined, CanFollow, CountsNew, Cover, HasNothing, HaveFileHash, HaveRoot, HoldsOfPlaced, IsUnchanged, IsWhole, KeepsKnown, LearnsHashes, PlacesChunks};
+ghost use Rattle.upload_session.specs.Gaps.{num_positions, AllTaken, IsNextGap};
+ghost use Rattle.upload_session.specs.Hashes.{Hash, hash_eq, is_among, Knows};
+ghost use Rattle.upload_session.specs.Session.{PlacedRun, ends_after, meet, chunks_of, is_taken, overlaps, size_of_runs, with_last, AreApart, AreJoined, CanFollow, CountsNew, Cover, HasNothing, HaveFileHash, HaveRoot, HaveSaltedHash, HoldsOfPlaced, IsUnchanged, IsWhole, KeepsKnown, LearnsHashes, PlacesChunks};
 ghost use Rattle.upload_session.specs.Sizes.{HasSizeOf, HaveChunkSizes, PlacesSizes};
 
 use crate::kept_hashes::{KeptHashes, SeenHashes};
@@ -17,7 +18,7 @@ use std::marker::Model;
 use xet_hash::data_hash::MerkleHash;
 use xet_merkle::merkle_hash_subtree::MerkleHashSubtree;
 use xet_roots::CoreError;
-use xet_roots::aggregated_hashes::Node;
+use xet_roots::aggregated_hashes::{Node, file_hash_of_root};
 
 /// A session over subtrees, which keeps all hashes.
 pub type Session<A = Global> = SessionOf<MerkleHashSubtree<A>>;
@@ -105,6 +106,36 @@ impl<C: ChunkRange, H: KeptHashes<C::Alloc>> SessionOf<C, H> {
         ensures placed { HaveChunkSizes C.ChunkRange → HoldsOfPlaced C.ChunkRange self.now (HasSizeOf self.now) }
     {
         self.runs.len()
+    }
+
+    /// Returns the number of chunks, which is that of taken positions. It allocates nothing. The time is proportional to
+    /// the number of runs.
+    pub fn num_chunks(&self) -> u64
+        ensures runs { result ≡ num_positions self.now.runs }
+        ensures placed { HoldsOfPlaced C.ChunkRange self.now (λ placed. result ≡ length placed) }
+    {
+        self.runs.num_positions()
+    }
+
+    /// Returns the sum of the sizes of all chunks, in bytes. It allocates nothing.
+    pub fn total_size(&self) -> u64
+        ensures size { result ≡ self.now.size }
+        ensures placed { HaveChunkSizes C.ChunkRange → HoldsOfPlaced C.ChunkRange self.now (λ placed.
+            result ≡ total_size (chunks_of placed)) }
+    {
+        self.size
+    }
+
+    /// Returns the first gap from a position on and below `total`: its first position and the position after its last one.
+    /// Returns `None` if each of these positions is taken. Calls from position 0 and then from each gap's end walk all
+    /// gaps. It allocates nothing.
+    pub fn next_gap(&self, position: u64, total: u64) -> Option<(u64, u64)>
+        ensures gap { IfSome result (λ gap. IsNextGap self.now.runs position total gap.0 gap.1) }
+        ensures none { IfNone result (AllTaken self.now.runs position total) }
+        ensures placed { HoldsOfPlaced C.ChunkRange self.now (λ placed. (place : ℕ) →
+            is_taken placed place ≡ meet self.now.runs place 1) }
+    {
+        self.runs.next_gap(position, total)
     }
 
     /// Returns the first position and the range of a run of adjacent taken positions, or `None` if there is no such
@@ -322,9 +353,32 @@ impl<C: ChunkRange, H: KeptHashes<C::Alloc>> SessionOf<C, H> {
     {
         Ok(self.hashes(total)?.1)
     }
+
+    /// Returns the file hash under a salt of all chunks in the order of their positions. Under 32 zero bytes it is that
+    /// of [`SessionOf::finish`]. Fails like [`SessionOf::hashes`].
+    pub fn finish_with_salt(&self, total: u64, salt: &[u8; 32]) -> Result<MerkleHash, SessionFault>
+        ensures file { IfOk result (HaveSaltedHash C.ChunkRange salt.now self.now.runs) }
+        ensures placed { IfOk result (λ file. HoldsOfPlaced C.ChunkRange self.now (λ placed.
+            IsFileHash (chunks_of placed) salt.now file)) }
+        ensures cover { ¬ IsErrOf result SessionFault.Gap → Cover total self.now.runs }
+        ensures gap { IsErrOf result SessionFault.Gap → ¬ Cover total self.now.runs }
+        ensures errors { IfErr result (λ e. (e ≡ SessionFault.Gap) ⊎ (e ≡ SessionFault.Memory)) }
+        ensures whole { HoldsOfPlaced C.ChunkRange self.now (λ placed.
+            IsWhole total placed ↔ Cover total self.now.runs) }
+    {
+        let root = self.root(total)?;
+        Ok(file_hash_of_root(root, self.runs.len() == 0, salt))
+    }
 }
 
 impl<C: ChunkRange> SessionOf<C> {
+    /// Returns whether a hash is known: whether a put had it, or [`SessionOf::keep_hashes`] kept it. It allocates nothing.
+    pub fn knows(&self, hash: &MerkleHash) -> bool
+        ensures { (known : List Hash) → Knows self.now.kept known → result ≡ is_among known hash.now }
+    {
+        self.kept.contains(hash)
+    }
+
     /// Returns the number of known hashes: those that puts had and those that [`SessionOf::keep_hashes`] kept, each
     /// counted once. It allocates nothing.
     pub fn num_known_hashes(&self) -> usize

@@ -1,5 +1,5 @@
 -- Sessions over subtrees that keep all hashes, as handles own them.
-use Rattle.std.specs.Prelude.{◌≡◌, ◌≢◌, ◌⊎◌, ◌↔◌, ℕ, ◌+◌, ◌^◌, ◌≤◌, Option, None, List, find, IfSome, IsSomeAnd}
+use Rattle.std.specs.Prelude.{◌≡◌, ◌≢◌, ◌⊎◌, ◌↔◌, ℕ, Bool, true, false, ◌+◌, ◌^◌, ◌≤◌, Option, None, List, find, IfSome, IsSomeAnd}
 use Rattle.std.specs.declared.alloc.Global.{Global}
 use Rattle.xet_merkle.specs.Levels.{levels_size}
 use Rattle.xet_merkle.specs.Subtree.{Subtree}
@@ -35,6 +35,11 @@ pub record IsWholeStatus (session : Option KeptSession) (total status : ℕ) : T
   pub on_empty : (status ≡ empty_handle) ↔ (session ≡ None)
   pub statuses : (status ≡ done) ⊎ ((status ≡ empty_handle) ⊎ ((status ≡ session_gap) ⊎ (status ≡ memory)))
   pub whole : IfSome session (λ kept. HoldsOfPlaced kept (λ placed. IsWhole total placed ↔ Cover total kept.session.runs))
+
+-- 1 for true, and 0 for false
+abbrev pub one_if : Bool → ℕ
+one_if true = 1
+one_if false = 0
 
 -- a run by its first position, the position after its last one, and its range
 abbrev pub run_of : ℕ → ℕ → Subtree → PlacedRun Subtree

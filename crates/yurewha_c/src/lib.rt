@@ -25,6 +25,7 @@ mod session;
 mod session_handle;
 mod session_runs;
 mod session_saving;
+mod session_state;
 mod status;
 mod status_text;
 mod subtree;

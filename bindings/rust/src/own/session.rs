@@ -7,7 +7,7 @@ use crate::handle::Owned;
 use crate::lent_chunks::{lend, room};
 use crate::merklehash::merkle_hash_subtree::MerkleHashSubtree;
 use crate::merklehash::MerkleHash;
-use crate::status::{answer, looked_up, plain, told, Refusal, StatusText};
+use crate::status::{answer, looked_up, plain, told, told_if_there, Refusal, StatusText};
 use std::fmt;
 use std::ops::Range;
 use std::sync::MutexGuard;
@@ -101,8 +101,6 @@ impl Refusal for SessionFault {
 /// Threads may share a session. Threads that read it at once take turns, call by call.
 pub struct Session {
     handle: Owned<ffi::yurewha_session>,
-    num_chunks: u64,
-    total_size: u64,
 }
 
 impl Session {
@@ -139,11 +137,7 @@ impl Session {
     pub fn try_new() -> Result<Self> {
         // SAFETY: an empty handle to write to.
         let handle = answer(|made: &mut Owned<_>| unsafe { ffi::yurewha_session_new(made.get_mut()) })?;
-        Ok(Session {
-            handle,
-            num_chunks: 0,
-            total_size: 0,
-        })
+        Ok(Session { handle })
     }
 
     /// Does the same as [`clone`](Clone::clone), but returns an error if an allocation fails.
@@ -162,11 +156,7 @@ impl Session {
         // SAFETY: a handle, and another one that is empty to write to.
         let handle =
             answer(|copy: &mut Owned<_>| unsafe { ffi::yurewha_session_copy(&mut *self.lock(), copy.get_mut()) })?;
-        Ok(Session {
-            handle,
-            num_chunks: self.num_chunks,
-            total_size: self.total_size,
-        })
+        Ok(Session { handle })
     }
 
     // The handle, for one call.
@@ -196,16 +186,12 @@ impl Session {
     pub fn put(&mut self, first: u64, chunks: &[Node]) -> std::result::Result<u64, SessionFault> {
         let chunks = lend(chunks).map_err(|_| SessionFault::OutOfMemory)?;
         // SAFETY: a handle, chunks of their number, and a number to write to.
-        let new_hashes = answer(|new_hashes| unsafe {
+        answer(|new_hashes| unsafe {
             ffi::yurewha_session_put(self.handle.get_mut(), first, chunks.as_ptr(), chunks.len(), new_hashes)
-        })?;
-        // The sums can't overflow: the library has checked that positions end and sizes add up below 2^64.
-        self.num_chunks += chunks.len() as u64;
-        self.total_size += chunks.iter().map(|chunk| chunk.size).sum::<u64>();
-        Ok(new_hashes)
+        })
     }
 
-    /// Returns the number of chunks, which is that of taken positions.
+    /// Returns the number of chunks, which is that of taken positions. The time is proportional to the number of runs.
     ///
     /// ```
     /// use yurewha::merklehash::MerkleHash;
@@ -217,7 +203,8 @@ impl Session {
     /// # Ok::<(), yurewha::own::SessionFault>(())
     /// ```
     pub fn num_chunks(&self) -> u64 {
-        self.num_chunks
+        // SAFETY: a handle, and a number to write to.
+        told(|count| unsafe { ffi::yurewha_session_num_chunks(&mut *self.lock(), count) })
     }
 
     /// Returns the total size of the chunks that were put, in bytes.
@@ -232,7 +219,8 @@ impl Session {
     /// # Ok::<(), yurewha::own::SessionFault>(())
     /// ```
     pub fn total_size(&self) -> u64 {
-        self.total_size
+        // SAFETY: a handle, and a number to write to.
+        told(|size| unsafe { ffi::yurewha_session_total_size(&mut *self.lock(), size) })
     }
 
     /// Returns whether a position is taken.
@@ -409,15 +397,12 @@ impl Session {
     pub fn gaps(&self, total: u64) -> Result<Vec<Range<u64>>> {
         let mut gaps = room(self.num_runs() + 1)?;
         let mut position = 0;
-        while position < total {
-            let next = self
-                .try_run_from(position)?
-                .map_or(total..total, |(positions, _)| positions);
-            let end = next.start.min(total);
-            if position < end {
-                gaps.push(position..end);
-            }
-            position = next.end;
+        // SAFETY: a handle, and two numbers to write to.
+        while let Some((first, end)) = told_if_there(|gap: &mut (u64, u64)| unsafe {
+            ffi::yurewha_session_next_gap(&mut *self.lock(), position, total, &mut gap.0, &mut gap.1)
+        }) {
+            gaps.push(first..end);
+            position = end;
         }
         Ok(gaps)
     }
@@ -483,9 +468,10 @@ impl Session {
     ///
     /// Those of [`root`](Self::root)
     pub fn finish_with_salt(&self, total: u64, salt: &[u8; 32]) -> std::result::Result<MerkleHash, SessionFault> {
-        let root = self.root(total)?;
-        // Without chunks it is the default hash, which is the root.
-        Ok(if total > 0 { root.hmac(salt.into()) } else { root })
+        // SAFETY: a handle, the bytes of a salt, and a hash to write to.
+        answer(|hash: &mut MerkleHash| unsafe {
+            ffi::yurewha_session_finish_with_salt(&mut *self.lock(), total, salt.as_ptr().cast(), hash.out())
+        })
     }
 }
 

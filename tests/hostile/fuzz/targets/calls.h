@@ -71,6 +71,8 @@ private:
     void hash(size_t which, Input &input, bool is_root);
     void compare(size_t which);
     void compare_taken(size_t which, uint64_t position);
+    void compare_counts(size_t which);
+    void compare_gap(size_t which);
     void push_runs(size_t which, yurewha_session *restored);
     std::vector<yurewha_hash> known_hashes(size_t which);
     void restore(size_t which);

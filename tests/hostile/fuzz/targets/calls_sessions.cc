@@ -160,6 +160,15 @@ void Sessions::hash(size_t which, Input &input, bool is_root)
         EXPECT(hash_from_c(*hash) == (is_root ? second::root_of(nodes) : second::file_hash_of(nodes, {})));
     else
         EXPECT(hash.is_untouched());
+    const yurewha_bytes salt = {{kind, 1, 2}};
+    yurewha_hash key = {};
+    yurewha_hash_from_bytes(&salt, &key);
+    Out<yurewha_hash> salted;
+    if (is_done(wanted, YUREWHA_MEMORY,
+                [&] { return yurewha_session_finish_with_salt(&handles[which], total, &salt, &salted); }))
+        EXPECT(hash_from_c(*salted) == second::file_hash_of(nodes, hash_from_c(key)));
+    else
+        EXPECT(salted.is_untouched());
 }
 
 void Sessions::compare_taken(size_t which, uint64_t position)
@@ -182,6 +191,44 @@ void Sessions::compare(size_t which)
     } else {
         EXPECT(count.is_untouched());
     }
+    compare_counts(which);
+    compare_gap(which);
+}
+
+void Sessions::compare_counts(size_t which)
+{
+    const yurewha_status wanted = kept[which] ? YUREWHA_DONE : YUREWHA_EMPTY_HANDLE;
+    Out<uint64_t> chunks, size;
+    if (is_done_without_memory(wanted, [&] { return yurewha_session_num_chunks(&handles[which], &chunks); }))
+        EXPECT(*chunks == kept[which]->placed.size());
+    else
+        EXPECT(chunks.is_untouched());
+    if (is_done_without_memory(wanted, [&] { return yurewha_session_total_size(&handles[which], &size); })) {
+        uint64_t sum = 0;
+        for (const auto &[position, node] : kept[which]->placed)
+            sum += node.size;
+        EXPECT(*size == sum);
+    } else {
+        EXPECT(size.is_untouched());
+    }
+}
+
+/* The first gap behind the first taken position, and the end of the positions that may be taken. */
+void Sessions::compare_gap(size_t which)
+{
+    const uint64_t position = kept[which] && !kept[which]->placed.empty() ? kept[which]->placed.begin()->first : 0;
+    uint64_t free_from = position, free_to = UINT64_MAX;
+    while (kept[which] && kept[which]->placed.count(free_from) != 0)
+        free_from++;
+    if (kept[which] && kept[which]->placed.lower_bound(free_from) != kept[which]->placed.end())
+        free_to = kept[which]->placed.lower_bound(free_from)->first;
+    const yurewha_status wanted = !kept[which] ? YUREWHA_EMPTY_HANDLE : free_from < free_to ? YUREWHA_DONE : YUREWHA_ARGUMENTS;
+    Out<uint64_t> first, end;
+    if (is_done_without_memory(
+            wanted, [&] { return yurewha_session_next_gap(&handles[which], position, UINT64_MAX, &first, &end); }))
+        EXPECT(*first == free_from && *end == free_to);
+    else
+        EXPECT(first.is_untouched() && end.is_untouched());
 }
 
 /* Pushes each run to another session, and what would be adjacent to it, which is refused. */
@@ -215,6 +262,15 @@ std::vector<yurewha_hash> Sessions::known_hashes(size_t which)
     for (const yurewha_hash &hash : hashes)
         known.insert(hash_from_c(hash));
     EXPECT(known == kept[which]->hashes);
+    std::vector<uint8_t> each(hashes.size());
+    is_done_without_memory(YUREWHA_DONE, [&] {
+        return yurewha_session_knows_each(&handles[which], hashes.data(), hashes.size(), each.data(), each.size());
+    });
+    EXPECT(each == std::vector<uint8_t>(hashes.size(), 1));
+    const yurewha_hash other = {{hashes.empty() ? 1 : hashes[0].words[0], 2, 3, 4}};
+    Out<bool> knows;
+    is_done_without_memory(YUREWHA_DONE, [&] { return yurewha_session_knows(&handles[which], &other, &knows); });
+    EXPECT(*knows == (kept[which]->hashes.count(hash_from_c(other)) != 0));
     return hashes;
 }
 

@@ -19,7 +19,7 @@ impl PartialEq for Session {
 impl Eq for Session {}
 
 fn equal(first: &Session, second: &Session) -> Result<bool> {
-    let sums = |it: &Session| (it.num_chunks, it.total_size, it.num_runs());
+    let sums = |it: &Session| (it.num_chunks(), it.total_size(), it.num_runs());
     Ok(sums(first) == sums(second) && have_same_runs(first, second)? && know_same_hashes(first, second)?)
 }
 

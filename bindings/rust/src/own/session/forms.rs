@@ -2,6 +2,7 @@
 
 use super::Session;
 use crate::error::CoreError;
+use crate::forms::read_struct;
 use crate::merklehash::merkle_hash_subtree::MerkleHashSubtree;
 use crate::merklehash::MerkleHash;
 use serde::de::{Error as _, SeqAccess, Visitor};
@@ -61,10 +62,11 @@ impl Serialize for Runs<'_> {
 
 /// A run that [`push_run`](Session::push_run) refuses is an error, and so is a subtree that breaks a rule of
 /// [`from_json`](MerkleHashSubtree::from_json). That a run has as many chunks as positions can't be checked. Unknown
-/// members are ignored. A member that is missing or occurs twice is an error.
+/// members are ignored. A member that is missing or occurs twice is an error, and so is an array for a struct in a
+/// human-readable format.
 impl<'de> Deserialize<'de> for Session {
     fn deserialize<D: Deserializer<'de>>(deserializer: D) -> Result<Self, D::Error> {
-        let Parts { runs, known_hashes } = Parts::deserialize(deserializer)?;
+        let Parts { runs, known_hashes } = read_struct(deserializer, "Session", &["runs", "known_hashes"])?;
         let mut session = runs.0;
         session.keep_hashes(&known_hashes.0).map_err(D::Error::custom)?;
         Ok(session)
@@ -72,7 +74,7 @@ impl<'de> Deserialize<'de> for Session {
 }
 
 #[derive(Deserialize)]
-#[serde(rename = "Session", expecting = "struct Session")]
+#[serde(rename = "Session")]
 struct Parts {
     runs: Restored,
     known_hashes: Hashes,
@@ -99,13 +101,22 @@ impl<'de> Visitor<'de> for RunsVisitor {
     fn visit_seq<A: SeqAccess<'de>>(self, mut runs: A) -> Result<Session, A::Error> {
         let mut session = Session::try_new().map_err(A::Error::custom)?;
         let mut place = 0_u64;
-        while let Some(Run { first, end, chunks }) = runs.next_element()? {
+        while let Some(ReadRun(Run { first, end, chunks })) = runs.next_element()? {
             session
                 .push_run(first..end, &chunks)
                 .map_err(|error| refused(place, error))?;
             place += 1;
         }
         Ok(session)
+    }
+}
+
+// A run that is read.
+struct ReadRun(Run);
+
+impl<'de> Deserialize<'de> for ReadRun {
+    fn deserialize<D: Deserializer<'de>>(deserializer: D) -> Result<Self, D::Error> {
+        read_struct(deserializer, "Run", &["first", "end", "chunks"]).map(ReadRun)
     }
 }
 

@@ -49,11 +49,7 @@ impl Session {
     pub fn push_run(&mut self, positions: Range<u64>, range: &MerkleHashSubtree) -> Result<()> {
         let Range { start, end } = positions;
         // SAFETY: two handles.
-        done(unsafe { ffi::yurewha_session_push_run(self.handle.get_mut(), start, end, &mut *range.lock()) })?;
-        // The sums can't overflow: the library has checked that positions end and sizes add up below 2^64.
-        self.num_chunks += end - start;
-        self.total_size += range.total_size();
-        Ok(())
+        done(unsafe { ffi::yurewha_session_push_run(self.handle.get_mut(), start, end, &mut *range.lock()) })
     }
 
     /// Keeps hashes, as if an earlier put had had them. The session then knows them.
@@ -76,6 +72,23 @@ impl Session {
     pub fn keep_hashes(&mut self, hashes: &[MerkleHash]) -> Result<()> {
         // SAFETY: a handle, and hashes of their number.
         done(unsafe { ffi::yurewha_session_keep_hashes(self.handle.get_mut(), hashes.as_ptr().cast(), hashes.len()) })
+    }
+
+    /// Returns whether this session knows a hash: whether a put had it, or it was [kept](Self::keep_hashes).
+    ///
+    /// ```
+    /// use yurewha::merklehash::MerkleHash;
+    /// use yurewha::own::Session;
+    ///
+    /// let [one, two] = [1, 2].map(MerkleHash::random_from_seed);
+    /// let mut session = Session::new();
+    /// session.put(7, &[(one, 100)])?;
+    /// assert!(session.knows(&one) && !session.knows(&two));
+    /// # Ok::<(), yurewha::own::SessionFault>(())
+    /// ```
+    pub fn knows(&self, hash: &MerkleHash) -> bool {
+        // SAFETY: a handle, a hash, and a `bool` to write to.
+        told(|known| unsafe { ffi::yurewha_session_knows(&mut *self.lock(), hash.for_call(), known) })
     }
 
     /// Returns the hashes that this session knows, each once, in no particular order: those of all chunks that were

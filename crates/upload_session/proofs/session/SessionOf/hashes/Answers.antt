@@ -1,6 +1,6 @@
-use Rattle.std.proofs.Common.{subst}
+use Rattle.std.proofs.Common.{replicate, subst}
 use Rattle.upload_session.specs.Session.{Cover, HaveFileHash, HaveRoot}
-use Rattle.upload_session.proofs.Whole.{root-of, file-of, root-placed, file-placed, whole_cover}
+use Rattle.upload_session.proofs.Whole.{root-of, file-of, root-placed, salted-placed, whole_cover}
 use Rattle.upload_session.proofs.session.SessionOf.hashes.Given.{Over}
 use Rattle.upload_session.proofs.session.SessionOf.hashes.Goals as goal
 
@@ -26,7 +26,7 @@ returns-in-Ok-clause-placed_root g c = λ placed stand.
 
 pub returns-in-Ok-clause-placed_file : goal.returns-in-Ok-clause-placed_file
 returns-in-Ok-clause-placed_file g c = λ placed stand.
-    file-placed g.C.ChunkRange c.args.total c.args.self.now.runs placed c.in-Ok.hashes.1 stand (covered g c) (returns-in-Ok-clause-file g c)
+    salted-placed g.C.ChunkRange (replicate 32 0) c.args.total c.args.self.now.runs placed c.in-Ok.hashes.1 stand (covered g c) (returns-in-Ok-clause-file g c)
 
 pub returns-in-Ok-clause-whole : goal.returns-in-Ok-clause-whole
 returns-in-Ok-clause-whole g c = whole_cover g.C.ChunkRange c.args.total c.args.self.now.runs
