@@ -101,6 +101,10 @@ class BuildLibrary(build_ext):
         self.compiler.src_extensions.append(".s")
         super().build_extension(extension)
 
+    def copy_extensions_to_source(self) -> None:
+        Path("yurewha", "lib").mkdir(exist_ok=True)  # where the library of `pip install -e` goes
+        super().copy_extensions_to_source()
+
 
 class WheelForProcessor(bdist_wheel):
     """A wheel for any Python 3 on the processor of its library."""
@@ -109,7 +113,8 @@ class WheelForProcessor(bdist_wheel):
         _, _, platform = super().get_tag()
         if self.root_is_pure:
             return "py3", "none", "any"
-        if platform.startswith("win"):
+        # What `pip install -e` makes is for this machine alone, and its name is asked for before its library is made.
+        if platform.startswith("win") or "editable_wheel" in self.distribution.commands:
             return "py3", "none", platform
         library = Path(self.bdist_dir, "yurewha", "lib", NAME).read_bytes()
         versions = [(int(major), int(minor)) for major, minor in re.findall(rb"GLIBC_(\d+)\.(\d+)", library)]

@@ -84,6 +84,7 @@ tree = pickle.loads(pickle.dumps(tree))
 final: Optional[y.Hash] = tree.final_hash()
 if final is not None:
     names[final] = final.hex()
+root = tree.finish(salt=bytes(32))
 hashed: Optional[y.Hash] = tree.file_hash(salt=memoryview(bytes(32)))
 parents: int = tree.copy().merge_counted(y.Subtree.from_chunks(False, [], False))
 lefts: List[int] = [left for left, right in tree.levels]
@@ -144,6 +145,7 @@ least_range: Tuple[int, int] = hash_tree.chunks_at(0, hash_tree.total_size)
 proof: y.RangeProof = hash_tree.proof(*least_range)
 proof = hash_tree.proof_of_bytes(*hash_tree.bytes_of(0, hash_tree.num_chunks))
 proof = y.RangeProof.from_json(proof.to_json().encode())
+proof = y.RangeProof.from_json(proof.to_json(), limit=None)
 proof = y.RangeProof.from_flat(*proof.to_flat())
 proof = y.RangeProof.from_flat([[0, 1]], [one, (bytes(32), 7)])
 proof = y.RangeProof.from_bytes(memoryview(proof.to_bytes()))
@@ -168,6 +170,7 @@ def fetch(start: int, stop: int) -> memoryview:
 
 
 verified: io.RawIOBase = y.VerifiedFile(root, fetch, hash_tree.proof_of_bytes)
+verified = y.VerifiedFile(root.hex(), fetch, hash_tree.proof_of_bytes, proof_limit=1 << 20)
 file: y.VerifiedFile = y.VerifiedFile(bytes(32), lambda start, stop: b"", lambda start, stop: proof, bytes(32), cache_size=0)
 read = file.read(7) + file.read() + file.readall()
 total = file.seek(-3, io.SEEK_END) + file.tell() + file.size + file.readinto(bytearray(7))

@@ -202,7 +202,7 @@ def test_addresses_of_objects_are_not_bytes():
     for given in arrays_of_addresses():
         for form in (given, memoryview(given)):
             for call in calls:
-                with pytest.raises(TypeError, match="are the addresses of objects, not the objects"):
+                with pytest.raises(TypeError, match="the addresses of objects"):
                     call(form)
             for call in (y.Chunks, y.Hashes, y.xorb_hash, lambda sizes: y.Chunks.from_columns([], sizes)):
                 with pytest.raises((TypeError, y.InvalidArguments)):
@@ -316,11 +316,25 @@ def test_owners_without_end():
     assert y.data_hash(Endless(DATA)) == y.data_hash(Endless(DATA), nobody_writes=True) == EXPECTED
 
 
+@pytest.mark.parametrize("others", [0, 1, 14, 15, 16, 17, 40])
+def test_owners_behind_many_others(others):
+    """Behind so many read-only owners there is one that can be written to. So the bytes are copied."""
+    class Owned(bytes):
+        """Bytes that name another object as their owner."""
+
+        base = bytearray(DATA)
+
+    form = Owned(DATA)
+    for _ in range(others):
+        form, form.base = Owned(DATA), form
+    assert y.data_hash(form) == EXPECTED and copied(lambda: y.data_hash(form)) >= MIB
+
+
 def test_the_promise_is_named_and_a_bool():
     with pytest.raises(TypeError):
         y.data_hash(bytearray(3), True)
     calls = (y.data_hash, y.internal_node_hash, y.Hasher().update, lambda data, **names: y.data_hashes(data, [0], **names))
     for value in (1, 0, None, "no"):
         for call in calls:
-            with pytest.raises(TypeError, match="nobody_writes is a bool"):
+            with pytest.raises(TypeError, match="nobody_writes must be a bool"):
                 call(bytearray(3), nobody_writes=value)

@@ -63,11 +63,11 @@ def test_sizes_are_read_by_the_width_of_the_column(kind):
         twice = numpy.repeat(column, 2)[::2]
         for form in (column, memoryview(column), twice, typed, memoryview(typed), column[::-1][::-1]):
             assert y.Chunks.from_columns(hashes, form) == y.Chunks(zip(hashes, sizes))
-        with pytest.raises(y.InvalidArguments, match=f"there are {count + 1} hashes and {count} sizes"):
+        with pytest.raises(y.InvalidArguments, match=f"got {count + 1} hashes and {count} sizes"):
             y.Chunks.from_columns([*hashes, y.Hash()], column)
     if kind[0] == "i":
         for negative in (-1, -1 - top):
-            with pytest.raises(y.InvalidArguments, match="size 2 is a whole number from 0"):
+            with pytest.raises(y.InvalidArguments, match="size 2 must be a whole number from 0"):
                 y.Chunks.from_columns(HASHES[:4], numpy.array([0, top, negative, -1], dtype=kind))
 
 
@@ -119,7 +119,7 @@ def test_columns_of_pandas():
             assert y.Chunks.from_columns(hashes, sizes) == CHUNKS
     with pytest.raises(TypeError, match="size 3 "):
         y.Chunks.from_columns(frame["hash"], frame["size"].astype("Int64").where(frame.index != 3))
-    with pytest.raises(y.InvalidArguments, match="not 'd'"):
+    with pytest.raises(y.InvalidArguments, match="got 'd'"):
         y.Chunks.from_columns(frame["hash"], frame["size"].where(frame.index != 3))
     with pytest.raises(TypeError, match="hash 3 "):
         y.Chunks.from_columns(frame["hash"].where(frame.index != 3), frame["size"])
@@ -251,14 +251,14 @@ def test_columns_by_arrows_c_data_interface(kind):
 @pytest.mark.parametrize("column, text", [
     (Array("w:32", (RAW, 3, 20, b"\xff\xef\xff")), "item 9 of the column of Arrow is null"),
     (Stream("w:32", (RAW, 0, 4, None), (RAW, 4, 9, b"\xff\xfe")), "item 8 of the column of Arrow is null"),
-    (Array("w:32", (RAW, 0, 1, None), dictionary=1), "not a dictionary"),
+    (Array("w:32", (RAW, 0, 1, None), dictionary=1), "got a dictionary"),
     (Array("w:31", (RAW, 0, 32, None)), "32 bytes for each"),
     (Array("w:16", (RAW, 0, 120, None)), "32 bytes for each"),
     (Array("L", (RAW, 0, 3, None)), "32 bytes for each"),
-    (Array("l", (RAW, 0, 240, None)), "not 'q'"),
-    (Array("w:0", (RAW, 0, 0, None)), "not 'w:0'"),
-    (Array("z", (RAW, 0, 1, None)), "not 'z'"),
-    (Array("+s", (RAW, 0, 1, None)), "not '\\+s'"),
+    (Array("l", (RAW, 0, 240, None)), "got 'q'"),
+    (Array("w:0", (RAW, 0, 0, None)), "got 'w:0'"),
+    (Array("z", (RAW, 0, 1, None)), "got 'z'"),
+    (Array("+s", (RAW, 0, 1, None)), "got '\\+s'"),
     (Stream("w:32", (RAW, 0, 4, None), fails=True), "a disk failed"),
 ])
 def test_columns_of_arrow_that_are_none(column, text):
@@ -267,13 +267,33 @@ def test_columns_of_arrow_that_are_none(column, text):
     assert len(column.lent) == (1 if isinstance(column, Stream) else 2)
 
 
+@pytest.mark.parametrize("form", [Array, Stream])
+@pytest.mark.parametrize("kind", NUMBERS)
+def test_numbers_of_a_dictionary_are_no_sizes(kind, form):
+    """They say where in the dictionary the sizes stand."""
+    column = form(kind, (struct.pack(f"=3{NUMBERS[kind]}", 0, 1, 1), 0, 3, None), dictionary=1)
+    for call in (lambda: y.Chunks.from_columns(HASHES[:3], column), lambda: y.data_hashes(b"abc", column),
+                 lambda: y.xorb_hashes(CHUNKS, column)):
+        with pytest.raises(y.InvalidArguments, match="a dictionary"):
+            call()
+
+    class Listed(form):
+        """A column that lists its own items, as those of other packages do."""
+
+        def __iter__(self):
+            return iter((5, 6, 6))
+
+    listed = Listed(kind, (struct.pack(f"=3{NUMBERS[kind]}", 0, 1, 1), 0, 3, None), dictionary=1)
+    assert list(y.Chunks.from_columns(HASHES[:3], listed).sizes) == [5, 6, 6]
+
+
 def test_a_column_of_bytes_of_arrow_is_a_block_of_hashes():
     assert y.Hashes(Array("C", (RAW, 32, 1888, None))) == y.Hashes(HASHES[1:])
 
 
 def test_wrong_sizes_of_arrow():
-    for column, text in ((Array("w:8", (RAW_SIZES, 0, 60, None)), "whole numbers"), (Array("g", (RAW, 0, 60, None)), "not 'g'"),
-                         (Array("l", (struct.pack("<q", -1) + RAW_SIZES, 0, 60, None)), "size 0 is a whole number")):
+    for column, text in ((Array("w:8", (RAW_SIZES, 0, 60, None)), "whole numbers"), (Array("g", (RAW, 0, 60, None)), "got 'g'"),
+                         (Array("l", (struct.pack("<q", -1) + RAW_SIZES, 0, 60, None)), "size 0 must be a whole number from .*, got -1")):
         with pytest.raises(y.InvalidArguments, match=text):
             y.Chunks.from_columns(HASHES, column)
 
@@ -307,33 +327,33 @@ def test_what_gives_no_column_of_arrow():
 
 
 WRONG_COLUMNS = [
-    (y.InvalidArguments, "there are 2 hashes and 1 sizes", 2 * [y.Hash()], [1]),
-    (y.InvalidArguments, "there are 1 hashes and 2 sizes", [y.Hash()], [1, 2]),
-    (y.InvalidArguments, "there are 0 hashes and 1 sizes", [], b"12345678"),
-    (y.InvalidArguments, "size 1 is a whole number from 0", 2 * [y.Hash()], [1, -1]),
-    (y.InvalidArguments, "size 1 is a whole number from 0", 2 * [y.Hash()], [1, MAX + 1]),
-    (y.InvalidArguments, "size 1 is a whole number from 0", 2 * [y.Hash()], array.array("q", [1, -1])),
-    (TypeError, "size 1 is a whole number, not float", 2 * [y.Hash()], [1, 1.0]),
-    (TypeError, "size 1 is a whole number, not NoneType", 2 * [y.Hash()], [1, None]),
-    (y.InvalidArguments, "whole numbers, .* not 'd'", 2 * [y.Hash()], array.array("d", [1, 2])),
-    (y.InvalidArguments, "whole numbers, .* not 'B'", 2 * [y.Hash()], bytes(15)),
-    (y.InvalidText, "^text 1: the hex text of a hash is 64 hex digits", [64 * "0", 63 * "0"], [1, 2]),
-    (y.InvalidText, "^text 1: the hex text of a hash is 64 hex digits", [64 * "0", 64 * "g"], [1, 2]),
-    (y.InvalidText, "^text 0: hex has a lone surrogate", [63 * "0" + "\ud800", 64 * "0"], [1, 2]),
-    (TypeError, "^text 1: hex is a str, not NoneType", [64 * "0", None], [1, 2]),
-    (TypeError, "^text 1: hex is a str, not Hash", [64 * "0", y.Hash()], [1, 2]),
-    (TypeError, "^hash 1 is a Hash or 32 bytes, not str", [y.Hash(), 64 * "0"], [1, 2]),
-    (TypeError, "^hash 1 is a Hash or 32 bytes, not NoneType", [y.Hash(), None], [1, 2]),
-    (y.InvalidArguments, "hash 1 has 32 bytes, not 31", [y.Hash(), bytes(31)], [1, 2]),
-    (y.InvalidArguments, "there are 32 bytes for each", bytes(63), [1, 2]),
-    (y.InvalidArguments, "four unsigned words .* not 'q'", array.array("q", range(8)), [1, 2]),
-    (y.InvalidArguments, "four unsigned words .* not 'I'", array.array("I", range(16)), [1, 2]),
-    (y.InvalidArguments, "there are 32 bytes for each", memoryview(bytes(64)).cast("B", (32, 2)), [1, 2]),
+    (y.InvalidArguments, "got 2 hashes and 1 sizes", 2 * [y.Hash()], [1]),
+    (y.InvalidArguments, "got 1 hashes and 2 sizes", [y.Hash()], [1, 2]),
+    (y.InvalidArguments, "got 0 hashes and 1 sizes", [], b"12345678"),
+    (y.InvalidArguments, "size 1 must be a whole number from 0", 2 * [y.Hash()], [1, -1]),
+    (y.InvalidArguments, "size 1 must be a whole number from 0", 2 * [y.Hash()], [1, MAX + 1]),
+    (y.InvalidArguments, "size 1 must be a whole number from 0", 2 * [y.Hash()], array.array("q", [1, -1])),
+    (TypeError, "size 1 must be a whole number, got float", 2 * [y.Hash()], [1, 1.0]),
+    (TypeError, "size 1 must be a whole number, got NoneType", 2 * [y.Hash()], [1, None]),
+    (y.InvalidArguments, "whole numbers, .* got 'd'", 2 * [y.Hash()], array.array("d", [1, 2])),
+    (y.InvalidArguments, "whole numbers, .* got 'B'", 2 * [y.Hash()], bytes(15)),
+    (y.InvalidText, "^text 1: the hex text of a hash must be 64 hex digits", [64 * "0", 63 * "0"], [1, 2]),
+    (y.InvalidText, "^text 1: the hex text of a hash must be 64 hex digits", [64 * "0", 64 * "g"], [1, 2]),
+    (y.InvalidText, "^text 0: hex must have no lone surrogate, got one at character 63", [63 * "0" + "\ud800", 64 * "0"], [1, 2]),
+    (TypeError, "^text 1: hex must be a str, got NoneType", [64 * "0", None], [1, 2]),
+    (TypeError, "^text 1: hex must be a str, got Hash", [64 * "0", y.Hash()], [1, 2]),
+    (TypeError, "^hash 1 must be a Hash or 32 bytes, got str", [y.Hash(), 64 * "0"], [1, 2]),
+    (TypeError, "^hash 1 must be a Hash or 32 bytes, got NoneType", [y.Hash(), None], [1, 2]),
+    (y.InvalidArguments, "hash 1 must have 32 bytes, got 31", [y.Hash(), bytes(31)], [1, 2]),
+    (y.InvalidArguments, "with 32 bytes for each, got ", bytes(63), [1, 2]),
+    (y.InvalidArguments, "four unsigned words .* got 'q'", array.array("q", range(8)), [1, 2]),
+    (y.InvalidArguments, "four unsigned words .* got 'I'", array.array("I", range(16)), [1, 2]),
+    (y.InvalidArguments, "with 32 bytes for each, got ", memoryview(bytes(64)).cast("B", (32, 2)), [1, 2]),
     (TypeError, "Hashes.from_hex reads texts", 64 * "0", [1]),
-    (y.InvalidArguments, "whole numbers, .* not 'B'", 2 * [y.Hash()], bytearray(2)),
-    (y.InvalidArguments, "whole numbers, .* not 'b'", 2 * [y.Hash()], memoryview(bytes(2)).cast("b")),
-    (y.InvalidArguments, "whole numbers, .* not '<f'", 2 * [y.Hash()], (ctypes.c_float * 2)()),
-    (y.InvalidArguments, "whole numbers, .* not 'B'", 2 * [y.Hash()], memoryview(bytes(16)).cast("B", (2, 8))),
+    (y.InvalidArguments, "whole numbers, .* got 'B'", 2 * [y.Hash()], bytearray(2)),
+    (y.InvalidArguments, "whole numbers, .* got 'b'", 2 * [y.Hash()], memoryview(bytes(2)).cast("b")),
+    (y.InvalidArguments, "whole numbers, .* got '<f'", 2 * [y.Hash()], (ctypes.c_float * 2)()),
+    (y.InvalidArguments, "whole numbers, .* got 'B'", 2 * [y.Hash()], memoryview(bytes(16)).cast("B", (2, 8))),
     (TypeError, "", 7, [1]),
     (TypeError, "", [y.Hash()], 7),
     (TypeError, "", [y.Hash()], None),
@@ -403,7 +423,7 @@ def test_hex_texts_that_are_as_long_as_two_together(lengths):
 
 def test_wrong_types_of_hex_texts():
     for value in (None, 7, b"00", 64 * b"0"):
-        with pytest.raises(TypeError, match="^text 1: hex is a str"):
+        with pytest.raises(TypeError, match="^text 1: hex must be a str"):
             y.Hashes.from_hex([64 * "0", value])
     for value in (64 * "0", 7, None):
         with pytest.raises(TypeError):
@@ -430,19 +450,19 @@ def test_many_chunks_in_one_call(end, count):
 
 
 @pytest.mark.parametrize("offsets, error, text", [
-    ([], y.InvalidArguments, "there is none"),
-    ([0, 3, 2], y.InvalidArguments, "offset 2 is 2, which is less than 3"),
-    ([-1, 3], y.InvalidArguments, "offset 0 is -1, which is less than 0"),
-    ([0, 11], y.InvalidArguments, "the last offset is 11, and there are 10 bytes"),
-    ([0, 2**63], y.InvalidArguments, "^the last offset is 9223372036854775808, and there are 10 bytes"),
-    ([2**63, 2**63 - 1], y.InvalidArguments, "offset 1 is 9223372036854775807, which is less than 9223372036854775808"),
+    ([], y.InvalidArguments, "got none"),
+    ([0, 3, 2], y.InvalidArguments, "offset 2 must be at least 3, got 2"),
+    ([-1, 3], y.InvalidArguments, "offset 0 must be at least 0, got -1"),
+    ([0, 11], y.InvalidArguments, "the last offset must be at most 10, the number of bytes, got 11"),
+    ([0, 2**63], y.InvalidArguments, "^the last offset must be at most 10, the number of bytes, got 9223372036854775808"),
+    ([2**63, 2**63 - 1], y.InvalidArguments, "offset 1 must be at least 9223372036854775808, got 9223372036854775807"),
     ([0, 2**64], y.InvalidArguments, "the last offset"),
-    (array.array("Q", [0, 2**63]), y.InvalidArguments, "^the last offset is 9223372036854775808, and there are 10 bytes"),
-    (array.array("q", [0, -(2**63)]), y.InvalidArguments, "offset 1 is -9223372036854775808, which is less than 0"),
-    ([0, 1.5], TypeError, "offset 1 is a whole number, not float"),
-    ([0, None], TypeError, "offset 1 is a whole number, not NoneType"),
-    (array.array("d", [0, 1]), y.InvalidArguments, "not 'd'"),
-    (b"\0\1", y.InvalidArguments, "not 'B'"),
+    (array.array("Q", [0, 2**63]), y.InvalidArguments, "^the last offset must be at most 10, the number of bytes, got 9223372036854775808"),
+    (array.array("q", [0, -(2**63)]), y.InvalidArguments, "offset 1 must be at least 0, got -9223372036854775808"),
+    ([0, 1.5], TypeError, "offset 1 must be a whole number, got float"),
+    ([0, None], TypeError, "offset 1 must be a whole number, got NoneType"),
+    (array.array("d", [0, 1]), y.InvalidArguments, "got 'd'"),
+    (b"\0\1", y.InvalidArguments, "got 'B'"),
     (7, TypeError, ""),
     ("07", TypeError, ""),
 ])

@@ -1,8 +1,11 @@
 """Each exception, and each argument that is refused before it crosses."""
 
+import array
+import ast
 import itertools
 import os
 import pickle
+import re
 import resource
 import subprocess
 import sys
@@ -167,7 +170,7 @@ REFUSED = [
     (y.InvalidArguments, lambda: y.RangeProof.from_flat([(-1, 0)], [])),
     (y.InvalidArguments, lambda: y.RangeProof.from_flat([(0, MAX + 1)], [])),
     (y.InvalidArguments, lambda: y.RangeProof.from_flat([], bytes(39))),
-    (y.InvalidArguments, lambda: y.RangeProof.from_bytes(bytes(7))),
+    (y.InvalidProof, lambda: y.RangeProof.from_bytes(bytes(7))),
     (y.InvalidProof, lambda: y.RangeProof.from_bytes(bytes(8))),
     (y.InvalidProof, lambda: y.RangeProof.from_flat([], [])),
     (y.InvalidProof, lambda: y.RangeProof.from_json("[]")),
@@ -189,6 +192,8 @@ REFUSED = [
     (y.InvalidArguments, lambda: verified(chunk_limit=MAX + 1)),
     (y.InvalidArguments, lambda: verified(salt=bytes(31))),
     (y.InvalidArguments, lambda: y.VerifiedFile(bytes(31), print, print)),
+    (y.InvalidText, lambda: y.VerifiedFile(63 * "0", print, print)),
+    (y.InvalidText, lambda: y.AsyncVerifiedFile("z" + 63 * "0", print, print)),
     (y.InvalidArguments, lambda: verified().seek(0, 3)),
     (y.ProofMismatch, lambda: verified().read(1)),
     (y.InvalidArguments, lambda: session().keep_hashes([bytes(31)])),
@@ -326,7 +331,7 @@ REFUSED = [
         lambda: opened().read(0.0, 1, b""),
         lambda: y.VerifiedFile(TREE.file_hash(), b"data", TREE.proof),
         lambda: y.VerifiedFile(TREE.file_hash(), print, TREE),
-        lambda: y.VerifiedFile(64 * "0", print, print),
+        lambda: y.VerifiedFile(7, print, print),
         lambda: verified(prove=lambda start, stop: PROOF.to_json()).read(1),
         lambda: verified(cache_size="1"),
         lambda: verified().read("1"),
@@ -413,15 +418,15 @@ def test_freed_twice():
 
 NAMED = [
     ("chunk 2 ", lambda: y.xorb_hash([ONE, ONE, 7])),
-    ("chunk 2 isn't a pair", lambda: y.xorb_hash([ONE, ONE, (Z, 1, 2)])),
-    ("the hash of chunk 2 is a Hash or 32 bytes, not int", lambda: y.xorb_hash([ONE, ONE, (1, Z)])),
-    ("the hash of chunk 1 is a Hash or 32 bytes, not str", lambda: y.xorb_hash([ONE, (64 * "0", 1)])),
-    ("the hash of chunk 1 has 32 bytes, not 31", lambda: y.xorb_hash([ONE, (bytes(31), 1)])),
+    ("chunk 2 must be a pair of a hash and an int, got tuple of 3", lambda: y.xorb_hash([ONE, ONE, (Z, 1, 2)])),
+    ("the hash of chunk 2 must be a Hash or 32 bytes, got int", lambda: y.xorb_hash([ONE, ONE, (1, Z)])),
+    ("the hash of chunk 1 must be a Hash or 32 bytes, got str", lambda: y.xorb_hash([ONE, (64 * "0", 1)])),
+    ("the hash of chunk 1 must have 32 bytes, got 31", lambda: y.xorb_hash([ONE, (bytes(31), 1)])),
     ("the size of chunk 2 ", lambda: y.xorb_hash([ONE, ONE, (Z, -1)])),
     ("the size of chunk 2 ", lambda: y.Chunks([ONE, ONE, (Z, MAX + 1)])),
     ("the size of chunk 1 ", lambda: session().put(0, [ONE, (Z, 1.5), ONE])),
     ("the size of chunk 1 ", lambda: y.Subtree.from_chunks(True, iter([ONE, (Z, None)]), True)),
-    ("range 1 is a Subtree", lambda: y.Subtree.merge_all([open_tree(), None])),
+    ("range 1 must be a Subtree", lambda: y.Subtree.merge_all([open_tree(), None])),
     ("range 1 is at the start", lambda: y.Subtree.merge_all([open_tree(), closed_tree(), open_tree()])),
     ("range 0 is at the end", lambda: y.Subtree.merge_all([closed_tree(), open_tree()])),
     ("level 1 ", lambda: y.Subtree.from_flat(False, [(1, 0), 7], [], False)),
@@ -430,8 +435,8 @@ NAMED = [
     ("position 3 is taken", lambda: session(3).put(0, 5 * [ONE])),
     ("hash 1 ", lambda: y.Hashes([Z, 7])),
     ("hash 1 ", lambda: session().keep_hashes([Z, 7])),
-    ("the run has no position", lambda: session(3).push_run(4, 5, open_tree())),
-    ("the run is a Subtree", lambda: session(3).push_run(5, 6, [ONE])),
+    ("the run must have a position, .*, got the positions from 4 up to 5", lambda: session(3).push_run(4, 5, open_tree())),
+    ("the run must be a Subtree, got list", lambda: session(3).push_run(5, 6, [ONE])),
     ("chunk 1 ", lambda: y.HashTree([ONE, 7])),
     ("level 1 ", lambda: y.RangeProof.from_flat([(1, 0), 7], [])),
     ("a count of level 1 ", lambda: y.RangeProof.from_flat([(1, 0), (0, -1)], [])),
@@ -445,6 +450,73 @@ def test_an_error_in_a_list_names_its_place(number):
     text, call = NAMED[number]
     with pytest.raises((TypeError, y.YurewhaError), match="^" + text):
         call()
+
+
+U64 = "must be a whole number from 0 to 2^64 - 1, got"
+TOLD = [
+    (f"the size of chunk 1 {U64} -3", lambda: y.xorb_hash([ONE, (Z, -3)])),
+    (f"the size of chunk 0 {U64} {MAX + 1}", lambda: y.xorb_hash([(Z, MAX + 1)])),
+    *((f"size 2 {U64} -3", lambda code=code: y.Chunks.from_columns(4 * [Z], array.array(code, [1, 2, -3, -4]))) for code in "bhilq"),
+    (f"size 1 {U64} -3", lambda: y.Chunks.from_columns([Z, Z], [1, -3])),
+    (f"position {U64} -1", lambda: session().put(-1, [ONE])),
+    (f"position {U64} a number of 5001 bits", lambda: session().taken(1 << 5000)),
+    (f"total {U64} -1", lambda: session().finish(-1)),
+    (f"run number {U64} -1", lambda: session().run(-1)),
+    ("there is no run 7", lambda: session(3).run(7)),
+    (f"level {U64} -1", lambda: open_tree().left(-1)),
+    (f"chunk number {U64} -1", lambda: TREE.proof(-1, 1)),
+    (f"seed {U64} -1", lambda: y.Hash.random_from_seed(-1)),
+    (f"a count of level 0 {U64} -1", lambda: y.Subtree.from_flat(False, [(-1, 0)], [], False)),
+    ("the end of a run must be more than its first position 3, got 3", lambda: y.Run(3, 3, open_tree())),
+    ("divisor must be at least 1, got 0", lambda: Z % 0),
+    ("threads must be at least 1, got 0", lambda: y.data_hashes(b"abc", [0, 3], threads=0)),
+    ("whence must be 0, 1 or 2, got a number of 5001 bits", lambda: verified().seek(0, 1 << 5000)),
+    ("data must be bytes, or an object that lends its bytes, got NoneType", lambda: y.data_hash(None)),
+    ("data must be bytes, or an object that lends its bytes, got str", lambda: opened().check(0, "text")),
+    ("fetch must be a callable, got bytes", lambda: y.VerifiedFile(Z, b"data", print)),
+    ("prove must return a RangeProof, got str", lambda: verified(prove=lambda start, stop: "text").read(1)),
+    ("salt must have 32 bytes, got 31", lambda: y.file_hash([ONE], bytes(31))),
+    ("key must have 32 bytes, got 0", lambda: y.Hasher.keyed(b"")),
+    ("hash must have 32 bytes, got 33", lambda: y.Hash(bytes(33))),
+    ("at_start must be a bool, got int", lambda: y.Subtree.from_chunks(1, [], False)),
+    ("key must be a Hash, got bytes", lambda: Z.hmac(bytes(32))),
+    ("chunk 0 must be a pair of a hash and an int, got int", lambda: y.xorb_hash([7])),
+    ("level 0 must be a pair of numbers, of left and of right nodes, got tuple of 3", lambda: y.RangeProof.from_flat([(1, 2, 3)], [])),
+    ("the hex text of a hash must be 64 hex digits, got 'g'", lambda: y.Hash.from_hex("g")),
+    (f"the hex text of a hash must be 64 hex digits, got '{64 * '0'}'..", lambda: y.Hash.from_hex(1000 * "0")),
+    ("JSON must have no lone surrogate, got one at character 2", lambda: y.Subtree.from_json('{"\ud800"')),
+    ("offset 1 must be at least 3, got 2", lambda: y.data_hashes(b"abc", [3, 2])),
+    ("the last offset must be at most 3, the number of bytes, got 4", lambda: y.data_hashes(b"abc", [0, 4])),
+    ("item 1 must be the number of one of 2 items, got 2", lambda: y.Chunks([ONE, ONE])[[0, 2]]),
+    ("there must be a bool for each of 2 items, got 1", lambda: y.Chunks([ONE, ONE])[[True]]),
+    ("there must be at most 1 captions, one for each subtree, got 2", lambda: y.svg_of([open_tree()], ["a", "b"])),
+    ("`first` of run 0 must be a whole number from 0 to 2^64 - 1, got -1.5e3",
+     lambda: y.Session.from_json('{"runs":[{"first":-1.5e3}],"known_hashes":[]}')),
+    ("`runs` must be an array, got an object of 'a'", lambda: y.Session.from_json('{"runs":{"a":1},"known_hashes":[]}')),
+    ("known hash 0 must be an array of four whole numbers from 0 to 2^64 - 1, got true in it",
+     lambda: y.Session.from_json('{"runs":[],"known_hashes":[[1,2,3,true]]}')),
+]
+
+
+@pytest.mark.parametrize("number", range(len(TOLD)))
+def test_an_error_says_what_must_be_and_what_it_got(number):
+    text, call = TOLD[number]
+    with pytest.raises((TypeError, IndexError, y.YurewhaError)) as raised:
+        call()
+    assert str(raised.value) == text
+
+
+RULE_AS_FACT = re.compile(
+    r", not |, and there (?:is|are) |there (?:is|are) at |(?<!must )\b(?:is|are|has|have|isn't) "
+    r"(?:an? |the )?(?:whole|str|bool|Hash|pair|Subtree|callable|list|array|object)")
+
+
+def test_no_error_states_a_rule_as_a_fact():
+    """A text like "a size is a whole number, not float" would be the text of no value but the right one."""
+    for path in sorted(Path(y.__file__).parent.glob("*.py")):
+        raised = [node for node in ast.walk(ast.parse(path.read_text())) if isinstance(node, ast.Raise)]
+        texts = [node.value for each in raised for node in ast.walk(each) if isinstance(node, ast.Constant) and isinstance(node.value, str)]
+        assert [text for text in texts if RULE_AS_FACT.search(text)] == [], path.name
 
 
 class Changing:
@@ -465,7 +537,7 @@ def test_numbers_that_change():
         for call in (lambda: y.Chunks([(Z, Changing(bad, bad))]), lambda: y.xorb_hash([ONE, (Z, Changing(bad))])):
             with pytest.raises(y.InvalidArguments, match="^the size of chunk"):
                 call()
-        with pytest.raises(y.InvalidArguments, match="^size 1 is"):
+        with pytest.raises(y.InvalidArguments, match="^size 1 must be"):
             y.Chunks.from_columns([Z, Z], [1, Changing(bad)])
         for call in (lambda: session(1).taken(Changing(bad, 1)), lambda: session(1).gaps(Changing(bad, 1)),
                      lambda: session(1).put(Changing(bad, 0), [ONE]), lambda: Z % Changing(bad, 1)):

@@ -1,5 +1,6 @@
 """Hashing the chunks of a file: what is read, progress, Ctrl-C, and what is refused."""
 
+import _thread
 import array
 import io
 import itertools
@@ -157,6 +158,24 @@ def test_pieces_are_taken_as_they_are_needed(batch):
     assert next(pieces) <= 100 + 20 * batch
 
 
+def test_what_is_handed_over_while_a_thread_ends():
+    """It comes after the thread found nothing left, and before the thread is counted out. So no other thread is started for it."""
+    crew, later = _in_threads._Crew(lambda piece, stopped: piece), []
+
+    class Started(list):
+        def pop(self):
+            if not later:
+                later.append(crew.handed([2], 1))
+            super().pop()
+
+    crew._started = Started()
+    assert _in_threads.waited(crew.handed([1], 1)) == ([1], None)
+    deadline = time.monotonic() + 20
+    while not (later and later[0].has_come()) and time.monotonic() < deadline:
+        time.sleep(0.001)
+    assert later[0].has_come() and _in_threads.waited(later[0]) == ([2], None)
+
+
 def test_progress_is_told_in_the_thread_of_the_caller(written):
     seen = set()
     path = written(bytes(9 * MIB))
@@ -166,14 +185,14 @@ def test_progress_is_told_in_the_thread_of_the_caller(written):
 
 def test_no_thread_stays_and_no_file(written):
     path = written(bytes(20 * MIB))
-    before = threading.active_count()
+    before = _thread._count()
     for _ in range(3):
         with pytest.raises(ZeroDivisionError):
             y.hash_chunks(path, range(0, 20 * MIB + 1, MIB), progress=lambda done, total: 1 / 0, threads=4)
         deadline = time.monotonic() + 20
-        while threading.active_count() > before and time.monotonic() < deadline:
+        while _thread._count() > before and time.monotonic() < deadline:
             time.sleep(0.01)
-        assert threading.active_count() == before
+        assert _thread._count() == before
 
 
 @pytest.mark.parametrize("threads, error", [
@@ -219,18 +238,18 @@ def test_ctrl_c_ends_the_call(tmp_path):
 
 
 @pytest.mark.parametrize("offsets, error, text", [
-    ([], y.InvalidArguments, "there is none"),
-    ([0, 3, 2], y.InvalidArguments, "offset 2 is 2, which is less than 3"),
-    ([-1, 3], y.InvalidArguments, "offset 0 is -1, which is less than 0"),
-    ([0, 11], y.InvalidArguments, "the last offset is 11, and there are 10 bytes"),
-    ([0, 2**63], y.InvalidArguments, "^the last offset is 9223372036854775808, and there are 10 bytes"),
-    ([2**63, 2**63 - 1], y.InvalidArguments, "offset 1 is 9223372036854775807, which is less than 9223372036854775808"),
+    ([], y.InvalidArguments, "got none"),
+    ([0, 3, 2], y.InvalidArguments, "offset 2 must be at least 3, got 2"),
+    ([-1, 3], y.InvalidArguments, "offset 0 must be at least 0, got -1"),
+    ([0, 11], y.InvalidArguments, "the last offset must be at most 10, the number of bytes, got 11"),
+    ([0, 2**63], y.InvalidArguments, "^the last offset must be at most 10, the number of bytes, got 9223372036854775808"),
+    ([2**63, 2**63 - 1], y.InvalidArguments, "offset 1 must be at least 9223372036854775808, got 9223372036854775807"),
     ([0, 2**64], y.InvalidArguments, "the last offset"),
-    (array.array("Q", [0, 2**63]), y.InvalidArguments, "^the last offset is 9223372036854775808, and there are 10 bytes"),
-    (array.array("q", [0, -(2**63)]), y.InvalidArguments, "offset 1 is -9223372036854775808, which is less than 0"),
-    ([0, 1.5], TypeError, "offset 1 is a whole number, not float"),
-    ([0, None], TypeError, "offset 1 is a whole number, not NoneType"),
-    (array.array("d", [0, 1]), y.InvalidArguments, "not 'd'"),
+    (array.array("Q", [0, 2**63]), y.InvalidArguments, "^the last offset must be at most 10, the number of bytes, got 9223372036854775808"),
+    (array.array("q", [0, -(2**63)]), y.InvalidArguments, "offset 1 must be at least 0, got -9223372036854775808"),
+    ([0, 1.5], TypeError, "offset 1 must be a whole number, got float"),
+    ([0, None], TypeError, "offset 1 must be a whole number, got NoneType"),
+    (array.array("d", [0, 1]), y.InvalidArguments, "got 'd'"),
     (7, TypeError, ""),
     ("07", TypeError, ""),
 ])
@@ -255,7 +274,7 @@ def test_wrong_paths(tmp_path):
 
 def test_wrong_progress(written):
     for progress in (7, "print", [], False, 0):
-        with pytest.raises(TypeError, match="^progress is a callable, not "):
+        with pytest.raises(TypeError, match="^progress must be a callable, got "):
             y.hash_chunks(written(bytes(3)), [0, 3], progress=progress)
     with pytest.raises(TypeError):
         y.hash_chunks(written(bytes(3)), [0, 3], print)

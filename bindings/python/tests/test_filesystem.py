@@ -81,6 +81,27 @@ def test_a_salt():
         made(salt=salt).cat_file("a.bin")
 
 
+def test_names_with_capitals():
+    source = FILES["a.bin"]
+    files = made({"Folder/A.bin": source.tree.file_hash()}, lambda path, a, b: source.fetch(a, b), lambda path, a, b: source.prove(a, b))
+    assert files.cat_file("Folder/A.bin") == files.cat_file("yurewha://Folder/A.bin") == source.data
+    assert files.ls("Folder", detail=False) == files.find("") == ["Folder/A.bin"] and files.isdir("Folder") and not files.exists("folder")
+    with pytest.raises(FileNotFoundError):
+        files.cat_file("folder/a.bin")
+
+
+def test_each_file_has_the_limits_of_the_system():
+    file = made(cache_size=11, chunk_limit=12, read_ahead=13, proof_limit=14)._made("a.bin")
+    assert (file._cache_size, file._chunk_limit, file._ahead._most, file._proof_limit) == (11, 12, 13, 14)
+    for call in (lambda files: files.cat_file("a.bin", 5, 9), lambda files: files.open("a.bin", block_size=1).read(3)):
+        files = made(prove=lambda path, start, stop: FILES[path].tree.proof(0, 100), chunk_limit=500)
+        with pytest.raises(y.ProofMismatch, match="see chunk_limit"):
+            call(files)
+    with made(read_ahead=1000).open("a.bin", block_size=1) as opened:
+        assert opened.read(200) + opened.read(200) == FILES["a.bin"].data[:400]
+        assert max(stop for _, stop in FILES["a.bin"].fetched) >= 1000
+
+
 def test_parts_of_files():
     files, rng = made(), random.Random(54)
     for path, source in FILES.items():
@@ -136,6 +157,19 @@ def test_wrong_ranges():
     assert first == FILES["a.bin"].data[:1] and isinstance(second, FileNotFoundError)
 
 
+@pytest.mark.parametrize("call, told", [
+    (lambda: made(fetch=b"abc"), "fetch must be a callable, got bytes"),
+    (lambda: made(threads=0), "threads must be at least 1, got 0"),
+    (lambda: made().cat_ranges(["a.bin"], 0, 1, on_error="omit"), "on_error must be 'raise' or 'return', got 'omit'"),
+    (lambda: made().cat_ranges(["a.bin"], 0, [1, 2]), "places must be as many as the paths, 1, got 2"),
+    (lambda: made().open("a.bin", "wb"), "mode must be 'rb', got 'wb': the files are read-only"),
+])
+def test_errors_say_what_must_be_so_and_what_came(call, told):
+    with pytest.raises((ValueError, TypeError, io.UnsupportedOperation)) as raised:
+        call()
+    assert str(raised.value) == told
+
+
 LIES = {
     "a byte changed": lambda s: (lambda p, a, b: changed(s.data[a:b], (b - a) // 2), lambda p, a, b: s.prove(a, b)),
     "a byte less": lambda s: (lambda p, a, b: s.data[a:b - 1], lambda p, a, b: s.prove(a, b)),
@@ -153,6 +187,19 @@ def test_dishonest_servers(name):
             call()
     (answer,) = files.cat_ranges(["a.bin"], 0, 9, on_error="return")
     assert isinstance(answer, y.ProofMismatch)
+
+
+def test_a_mismatch_says_which_file_it_is_of():
+    source = FILES["folder/b.bin"]
+    lies = (lambda p, a, b: changed(source.data[a:b], 0), prove, 0), (fetch, lambda p, a, b: OTHER.prove(a, b), None)
+    for bytes_of, proof_of, chunk in lies:
+        files = made(HASHES, bytes_of, proof_of)
+        for call in (lambda: files.cat_file("folder/b.bin", 0, 9), lambda: files.cat_ranges(["none", "folder/b.bin"], 0, 9),
+                     lambda: files.size("folder/b.bin"), lambda: files.open("yurewha://folder/b.bin").read(9)):
+            with pytest.raises(y.ProofMismatch) as raised:
+                call()
+            assert (raised.value.path, raised.value.chunk) == ("folder/b.bin", chunk)
+            assert raised.value.place == (None if chunk is None else 0)
 
 
 def test_a_server_that_dies():

@@ -1,18 +1,21 @@
 """Ctrl-C, and any other signal handler that raises, ends each call that takes long, and nothing is left half done."""
 
+import _thread
 import contextlib
 import functools
 import gc
 import random
 import signal
+import sys
 import threading
 import time
+import types
 
 import pytest
 from drawn import MAX
 
 import yurewha as y
-from yurewha import _declarations, _hash, _in_threads, _interrupts, _library
+from yurewha import _declarations, _hash, _hashes, _in_threads, _interrupts, _lent, _library
 
 pytestmark = pytest.mark.skipif(not hasattr(signal, "setitimer"), reason="there are no timers")
 
@@ -81,6 +84,9 @@ CALLS = {
     "xorb_hash": lambda chunks: lambda: y.xorb_hash(chunks),
     "file_hash": lambda chunks: lambda: y.file_hash(chunks),
     "file_hash with a salt": lambda chunks: lambda: y.file_hash(chunks, bytes(32)),
+    "xorb_hashes": lambda chunks: lambda: y.xorb_hashes(chunks, [0, 1, COUNT]),
+    "file_hashes": lambda chunks: lambda: y.file_hashes(chunks, [0, 1, COUNT]),
+    "file_hashes with a salt": lambda chunks: lambda: y.file_hashes(chunks, [0, 1, COUNT], bytes(32)),
     "Subtree.from_chunks": lambda chunks: lambda: y.Subtree.from_chunks(True, chunks, True),
     "HashTree": lambda chunks: lambda: y.HashTree(chunks),
     "Session.put": lambda chunks: (lambda session: lambda: session.put(7, chunks))(y.Session()),
@@ -182,6 +188,185 @@ def test_no_further_piece_of_a_batch_is_begun():
     assert ended and took < 0.12 + SOON + SLACK and len(begun) < 60
 
 
+class Reading:
+    """Bytes that threads read. Each of them stops there until it may go on. The bytes can grow only if nobody has them lent."""
+
+    def __init__(self, patch):
+        self.data, self.now, self.late, self.went, self.threads = bytearray(400), [], [], False, _thread._count()
+        self.begun, self.go_on, self.second = threading.Semaphore(0), threading.Event(), threading.Event()
+        for owner, name in ((_hashes, "_hashed"), (_hash, "_add"), (_lent.Lent, "piece")):
+            patch.setattr(owner, name, self.stopping(getattr(owner, name)))
+        patch.setattr(_in_threads, "time", types.SimpleNamespace(sleep=self.waited_for))
+
+    def stopping(self, read):
+        def stopping(*given):
+            if threading.current_thread() is threading.main_thread():
+                return read(*given)
+            self.late += self.went * [given]
+            self.now.append(1)
+            self.begun.release()
+            try:
+                assert self.go_on.wait(60)
+                return read(*given)
+            finally:
+                self.now.pop()
+
+        return stopping
+
+    def waited_for(self, seconds):
+        self.go_on.set()
+        time.sleep(seconds)
+
+    def first_error(self, outcome):
+        """What `waited` does: once both threads read, the first handler raises."""
+        assert self.begun.acquire(timeout=60) and self.begun.acquire(timeout=60)
+        self.second.set()
+        raise Ended
+
+    def no_error(self, outcome, plain=_in_threads.waited):
+        self.go_on.set()
+        return plain(outcome)
+
+    def are_given_back(self):
+        """Returns whether nobody has the bytes. From then on nobody may read them."""
+        try:
+            self.data.append(0)
+        except BufferError:
+            return False
+        self.went = True
+        return True
+
+    def ends(self):
+        self.go_on.set()
+        deadline = time.monotonic() + 60
+        while _thread._count() > self.threads and time.monotonic() < deadline:
+            time.sleep(0.001)
+        assert _thread._count() == self.threads, "a thread waits for ever"
+
+
+def raises_at(step, begins, call):
+    """Makes a call in which a handler raises at an opcode, so many after the event `begins`. Returns whether there were so many."""
+    files, left = {module.__file__ for module in (_hashes, _in_threads, _interrupts, _lent)}, [step]
+
+    def trace(frame, event, argument):
+        if frame.f_code.co_filename not in files:
+            return None
+        frame.f_trace_opcodes = True
+        if event == "opcode" and begins.is_set():
+            left[0] -= 1
+            if left[0] == 0:
+                raise Ended
+        return trace
+
+    before = sys.gettrace()
+    sys.settrace(trace)
+    try:
+        with contextlib.suppress(Ended):
+            call()
+    finally:
+        sys.settrace(before)
+    return left[0] <= 0
+
+
+#: How the threads read, and how many bytes they hash in one step.
+WAYS = {"in place": (True, 1000), "in copies": (False, 1000), "in steps": (True, 50), "in copied steps": (False, 50)}
+
+
+@pytest.mark.filterwarnings("ignore::pytest.PytestUnraisableExceptionWarning")  # a step may be one of a __del__
+@pytest.mark.parametrize("errors", [1, 2])
+@pytest.mark.parametrize("way", WAYS)
+def test_no_thread_reads_bytes_that_were_given_back(monkeypatch, way, errors):
+    """A handler raises at each step of the call, or a second one does at each step of what the first one began to unwind."""
+    nobody_writes, step = WAYS[way]
+    for name, value in (("STEP", step), ("PIECE", 100), ("_LEAST_SHARE", 100)):
+        monkeypatch.setattr(_hashes, name, value)
+    for number in range(1, 10_000):
+        with monkeypatch.context() as patch:
+            reading = Reading(patch)
+            if errors == 1:
+                reading.second.set()
+            patch.setattr(_in_threads, "waited", reading.no_error if errors == 1 else reading.first_error)
+            more = raises_at(number, reading.second, lambda: y.data_hashes(
+                reading.data, range(0, 401, 100), nobody_writes=nobody_writes, threads=2))
+            assert not (reading.are_given_back() and reading.now), f"a thread reads after an error at step {number}"
+            reading.ends()
+            assert reading.late == [] == reading.now
+        if not more:
+            break
+    assert number > 30
+    gc.collect()
+    assert reading.are_given_back()
+
+
+def test_two_errors_in_a_wait_leave_no_lock_locked():
+    """A handler raises while a thread waits for another, and a second one at a step of what that unwinds, be it Python's own."""
+    after = []
+
+    def handler(number, frame):
+        after.append(1)
+        raise Ended
+
+    def trace(frame, event, argument):
+        if frame.f_code.co_filename == __file__:
+            return None
+        frame.f_trace_opcodes = True
+        if event == "opcode" and after:
+            after.append(1)
+            if len(after) == 1 + step:
+                raise Ended
+        return trace
+
+    before = signal.signal(signal.SIGALRM, handler)
+    try:
+        for step in range(1, 200):
+            after.clear()
+            outcome, go_on, ended = _interrupts.Outcome(), _thread.allocate_lock(), _thread.allocate_lock()
+            go_on.acquire(), ended.acquire()
+            _thread.start_new_thread(lambda: (go_on.acquire(), outcome.take(lambda: 7), ended.release()), ())
+            traced, ended_by = sys.gettrace(), None
+            sys.settrace(trace)
+            try:
+                signal.setitimer(signal.ITIMER_REAL, 0.002)
+                _interrupts.waited(outcome)
+            except BaseException as error:
+                ended_by = type(error)
+            finally:
+                sys.settrace(traced)
+            assert ended_by is Ended
+            go_on.release()
+            assert ended.acquire(timeout=20) and _interrupts.waited(outcome) == 7
+            if len(after) <= step:
+                break
+    finally:
+        signal.signal(signal.SIGALRM, before)
+    assert step < 199
+
+
+def test_a_second_signal_ends_no_wait(monkeypatch):
+    """It comes while the call waits for its threads, after the first one. The call raises once they have read."""
+    reading, signals = Reading(monkeypatch), [Ended("the second one")]
+
+    def handler(number, frame):
+        raise signals.pop()
+
+    def sleep(seconds):
+        if signals:
+            signal.raise_signal(signal.SIGUSR1)
+        reading.waited_for(seconds)
+
+    monkeypatch.setattr(_in_threads, "time", types.SimpleNamespace(sleep=sleep))
+    monkeypatch.setattr(_in_threads, "waited", reading.first_error)
+    monkeypatch.setattr(_hashes, "_LEAST_SHARE", 100)
+    before = signal.signal(signal.SIGUSR1, handler)
+    try:
+        with pytest.raises(Ended, match="the second one"):
+            y.data_hashes(reading.data, range(0, 401, 100), nobody_writes=True, threads=2)
+    finally:
+        signal.signal(signal.SIGUSR1, before)
+    assert not reading.now and not signals
+    reading.ends()
+
+
 def test_a_long_update_that_is_ended_appends_nothing():
     hasher = y.Hasher(b"abc")
     assert seconds(lambda: hasher.update(GREAT), 0.03)[1] and hasher.count == 3 and hasher.hash() == y.data_hash(b"abc")
@@ -263,9 +448,14 @@ def test_an_object_that_nobody_has_any_more(chunks, monkeypatch):
     for kind in (y.HashTree, y.Session):
         monkeypatch.setattr(kind, "_free", staticmethod(lambda handle, free=kind._free: freed.append(1) or free(handle)))
     over = threading.Event()
+
+    def slowly(*given, made):
+        signal.setitimer(signal.ITIMER_REAL, 0.02)  # the signal comes once the work has begun
+        return over.wait(20) and made(*given)
+
     for long in ("yurewha_hash_tree_from_chunks", "yurewha_session_put"):
-        monkeypatch.setattr(_library.long, long, lambda *given, made=getattr(_library.long, long): over.wait(20) and made(*given))
-    assert seconds(lambda: y.HashTree(chunks), 0.02)[1] and seconds(lambda: y.Session().put(0, chunks), 0.02)[1] and freed == []
+        monkeypatch.setattr(_library.long, long, functools.partial(slowly, made=getattr(_library.long, long)))
+    assert seconds(lambda: y.HashTree(chunks), 15)[1] and seconds(lambda: y.Session().put(0, chunks), 15)[1] and freed == []
     over.set()
     deadline = time.monotonic() + 60
     while len(freed) < 2 and time.monotonic() < deadline:

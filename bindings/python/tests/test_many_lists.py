@@ -46,19 +46,19 @@ def test_long_lists():
 
 
 @pytest.mark.parametrize("offsets, error, text", [
-    ([], y.InvalidArguments, "one more than there are lists, and there is none"),
-    ([0, 3, 2], y.InvalidArguments, "offset 2 is 2, which is less than 3"),
-    ([0, 61], y.InvalidArguments, "^the last offset is 61, and there are 60 chunks"),
-    ([0, 2**63], y.InvalidArguments, "^the last offset is 9223372036854775808, and there are 60 chunks"),
+    ([], y.InvalidArguments, "one more than there are lists, got none"),
+    ([0, 3, 2], y.InvalidArguments, "offset 2 must be at least 3, got 2"),
+    ([0, 61], y.InvalidArguments, "^the last offset must be at most 60, the number of chunks, got 61"),
+    ([0, 2**63], y.InvalidArguments, "^the last offset must be at most 60, the number of chunks, got 9223372036854775808"),
     ([0, 2**64 + 1], y.InvalidArguments, "^the last offset"),
-    ([-1, 3], y.InvalidArguments, "offset 0 is -1, which is less than 0"),
-    (array.array("Q", [0, MAX]), y.InvalidArguments, "^the last offset is 18446744073709551615"),
-    (array.array("q", [0, -(2**63)]), y.InvalidArguments, "offset 1 is -9223372036854775808, which is less than 0"),
-    (array.array("d", [0, 3]), y.InvalidArguments, "not 'd': floats, as pandas makes of numbers with nulls"),
-    (b"00", y.InvalidArguments, "not 'B': bytes"),
-    ([0, None], TypeError, "offset 1 is a whole number, not NoneType: it is null"),
-    ([0, float("nan")], TypeError, "offset 1 is a whole number, not float: it is null"),
-    ([0, 1.5], TypeError, "offset 1 is a whole number, not float$"),
+    ([-1, 3], y.InvalidArguments, "offset 0 must be at least 0, got -1"),
+    (array.array("Q", [0, MAX]), y.InvalidArguments, "^the last offset must be at most 60, .*, got 18446744073709551615"),
+    (array.array("q", [0, -(2**63)]), y.InvalidArguments, "offset 1 must be at least 0, got -9223372036854775808"),
+    (array.array("d", [0, 3]), y.InvalidArguments, "got 'd': floats, as pandas makes of numbers with nulls"),
+    (b"00", y.InvalidArguments, "got 'B': bytes"),
+    ([0, None], TypeError, "offset 1 must be a whole number, got NoneType: it is null"),
+    ([0, float("nan")], TypeError, "offset 1 must be a whole number, got float: it is null"),
+    ([0, 1.5], TypeError, "offset 1 must be a whole number, got float$"),
     (7, TypeError, ""), (None, TypeError, ""),
 ])
 def test_wrong_offsets(offsets, error, text):
@@ -84,10 +84,10 @@ def test_what_is_said_of_nulls_and_bytes():
     pandas = pytest.importorskip("pandas")
     hashes = [hash_.bytes for hash_, _ in CHUNKS[:4]]
     for column, error, text in (
-        (pandas.Series([1, None, 3, 4]), y.InvalidArguments, "not 'd': floats, as pandas makes of numbers with nulls"),
-        (pandas.Series([1, None, 3, 4], dtype="Int64"), TypeError, "size 1 is a whole number, not NAType: it is null"),
-        (pandas.Series([1, None, 3, 4], dtype=object), TypeError, "size 1 is a whole number, not NoneType: it is null"),
-        (pandas.Series([b"1", b"2", b"3", b"4"]), TypeError, "size 0 is a whole number, not bytes"),
+        (pandas.Series([1, None, 3, 4]), y.InvalidArguments, "got 'd': floats, as pandas makes of numbers with nulls"),
+        (pandas.Series([1, None, 3, 4], dtype="Int64"), TypeError, "size 1 must be a whole number, got NAType: it is null"),
+        (pandas.Series([1, None, 3, 4], dtype=object), TypeError, "size 1 must be a whole number, got NoneType: it is null"),
+        (pandas.Series([b"1", b"2", b"3", b"4"]), TypeError, "size 0 must be a whole number, got bytes"),
         (memoryview(b"12345678" * 4).cast("c"), None, ""),
     ):
         if error is None:
@@ -97,10 +97,10 @@ def test_what_is_said_of_nulls_and_bytes():
             y.Chunks.from_columns(hashes, column)
     first = hashes[:3]
     for column in (pandas.Series([*first, None]), [*first, None], [*first, float("nan")], pandas.Series([*first, pandas.NA])):
-        with pytest.raises(TypeError, match="^hash 3 is a Hash or 32 bytes, not .*: it is null"):
+        with pytest.raises(TypeError, match="^hash 3 must be a Hash or 32 bytes, got .*: it is null"):
             y.Chunks.from_columns(column, [1, 2, 3, 4])
     numpy = pytest.importorskip("numpy")
-    with pytest.raises(y.InvalidArguments, match="not '8s': bytes"):
+    with pytest.raises(y.InvalidArguments, match="got '8s': bytes"):
         y.Chunks.from_columns(hashes, numpy.array([b"12345678"] * 4))
 
 

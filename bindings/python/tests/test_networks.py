@@ -618,11 +618,11 @@ def test_a_forked_process_reads_ahead_by_itself():
 
 
 def test_where_no_thread_can_be_started(monkeypatch):
-    def start(self):
+    def start(call, given):
         raise RuntimeError("can't start new thread")
 
     file = GREAT.open(read_ahead=8 << 20)
-    monkeypatch.setattr(threading.Thread, "start", start)
+    monkeypatch.setattr("_thread.start_new_thread", start)
     assert in_steps(file, 1 << 20) == GREAT.data
 
 
@@ -661,7 +661,7 @@ def test_names_and_modes():
     assert (source.open().name, source.open().mode) == (source.tree.file_hash().hex(), "rb")
     assert source.open(name="a.zip").name == "a.zip" == io.BufferedReader(source.open(name="a.zip")).name
     for name in (7, b"a", ["a"]):
-        with pytest.raises(TypeError, match="^a name is a str, not "):
+        with pytest.raises(TypeError, match="^name must be a str, got "):
             source.open(name=name)
     for read_ahead, error in ((-1, y.InvalidArguments), (2**64, y.InvalidArguments), (1.5, TypeError), ("1", TypeError)):
         with pytest.raises(error):
@@ -679,3 +679,193 @@ def test_a_file_can_not_be_written_to(call):
     file.close()
     with pytest.raises(ValueError, match="closed"):
         call(file)
+
+
+# ---- The size of a file
+
+#: How the first answer is wrong. Its first chunks are right.
+WRONG_LATER = {"cut off": lambda data: data[:-70], "a byte changed": lambda data: changed(data, len(data) - 70),
+               "cut off after one chunk": lambda data: data[:51]}
+#: Calls that need the size of a file, and what they give.
+LOOKS = {
+    "size": lambda source: (lambda file: file.size, len(source.data)),
+    "read": lambda source: (lambda file: file.read(), source.data),
+    "readall": lambda source: (lambda file: file.readall(), source.data),
+    "seek": lambda source: (lambda file: file.seek(-5, os.SEEK_END), len(source.data) - 5),
+    "BufferedReader": lambda source: (lambda file: io.BufferedReader(file).read(), source.data),
+    "read beyond the end": lambda source: (lambda file: file.read_at(len(source.data), 2**64 - 1), b""),
+}
+
+
+def wrong_once(source, wrong):
+    """A call that fetches, and is wrong the first time."""
+    answers = [wrong]
+    return lambda start, stop: answers.pop()(source.data[start:stop]) if answers else source.data[start:stop]
+
+
+@pytest.mark.parametrize("look", LOOKS)
+@pytest.mark.parametrize("wrong", WRONG_LATER)
+def test_the_size_after_an_answer_that_began_right(wrong, look):
+    source = Source(random.Random(43).randbytes(1000), [0, 0, *range(50, 1001, 50)])
+    file = y.VerifiedFile(source.tree.file_hash(), wrong_once(source, WRONG_LATER[wrong]), source.prove)
+    with pytest.raises(y.ProofMismatch):
+        file.read(500)
+    call, expected = LOOKS[look](source)
+    assert call(file) == expected
+
+
+@pytest.mark.parametrize("wrong", WRONG_LATER)
+def test_the_size_of_an_async_file_after_an_answer_that_began_right(wrong):
+    source = Source(random.Random(43).randbytes(1000), range(0, 1001, 50))
+    file = y.AsyncVerifiedFile(source.tree.file_hash(), wrong_once(source, WRONG_LATER[wrong]), source.prove)
+    with pytest.raises(y.ProofMismatch):
+        asyncio.run(file.read_at(0, 500))
+    assert asyncio.run(file.size()) == 1000 and asyncio.run(file.read_at(0, 2000)) == source.data
+
+
+def test_no_size_of_an_answer_that_began_wrong():
+    """The first chunk is a parent of the file's chunks, which the proof says to be short."""
+    source = Source(random.Random(43).randbytes(1000), range(0, 1001, 50))
+    parent = y.RangeProof.from_flat([], [(source.tree.root, 9)])
+    file = y.VerifiedFile(source.tree.file_hash(), lambda start, stop: source.data[start:stop - 1], lambda start, stop: parent)
+    for _ in range(2):
+        with pytest.raises(y.ProofMismatch):
+            file.read(5)
+        assert file._size is None
+
+
+@READERS
+@pytest.mark.parametrize("count", [1, 2, 300])
+def test_a_file_of_empty_chunks(reader, count):
+    source = Source(b"", [0] * (count + 1))
+    assert source.tree.file_hash() != y.Hash()
+    file, read_at = reader(source)
+    assert read_at(5, 9) == read_at(0, 9) == read_at(0, 0) == b"" and source.fetched == []
+    if reader is plainly:
+        for fresh in (file, source.open(), source.open(read_ahead=9)):
+            assert (fresh.read(5), fresh.read(), fresh.size, fresh.seek(0, os.SEEK_END)) == (b"", b"", 0, 0)
+        assert io.BufferedReader(source.open()).read() == b""
+    for start, stop in ((0, 0), (5, 4)):
+        with pytest.raises(y.InvalidArguments):
+            source.tree.proof_of_bytes(start, stop)
+
+
+def test_a_file_that_a_proof_says_to_be_empty():
+    """Any server can give a parent for an empty chunk. It isn't the hash of no data."""
+    source = Source(random.Random(43).randbytes(1000), range(0, 1001, 50))
+    empty = y.RangeProof.from_flat([], [(source.tree.root, 0)])
+    file = y.VerifiedFile(source.tree.file_hash(), source.fetch, lambda start, stop: empty)
+    for look in (lambda: file.read(5), lambda: file.size, file.read):
+        with pytest.raises(y.ProofMismatch, match="this isn't the data of the range"):
+            look()
+
+
+# ---- Long parts
+
+LONG = Source((GREAT.data * 2)[:20 * MIB], range(0, 20 * MIB + 1, 1 << 17))
+
+
+@READERS
+@pytest.mark.parametrize("mebibytes", [1, 5, 6, 16, 17])
+@pytest.mark.parametrize("back", [None, 1])
+def test_a_wrong_byte_in_a_long_part(reader, mebibytes, back):
+    """It is the first or the last one. The part begins and ends within chunks, so that more is fetched than is asked for."""
+    begin, end = 1 << 16, (1 << 16) + mebibytes * MIB
+    wrong = changed(LONG.data, begin if back is None else end - back)
+
+    class Lying:
+        fetch = staticmethod(lambda start, stop: wrong[start:stop])
+
+    _, read_at = file_of(reader, LONG, [Lying], cache_size=1 << 26)
+    with pytest.raises(y.ProofMismatch):
+        read_at(begin, end)
+
+
+@pytest.mark.parametrize("mebibytes", [1, 15, 16, 17])
+def test_what_is_read_of_a_bytearray_is_a_copy(mebibytes):
+    end = mebibytes * MIB
+    data = bytearray(LONG.data[:end])
+    read = LONG.tree.proof_of_bytes(0, end).open(LONG.tree.file_hash()).read(0, end, data)
+    data[:] = bytes(end)
+    assert read == LONG.data[:end]
+
+
+# ---- What errors say
+
+@READERS
+def test_a_mismatch_says_where_the_wrong_chunk_is(reader):
+    """Of the chunks that were fetched it is the third, and it begins at byte 450."""
+    source = Source(random.Random(44).randbytes(1000), range(0, 1001, 50))
+    for wrong in (changed(source.data, 499), changed(changed(source.data, 450), 520), source.data[:499]):
+        class Lying:
+            fetch = staticmethod(lambda start, stop: wrong[start:stop])
+
+        _, read_at = file_of(reader, source, [Lying])
+        with pytest.raises(y.ProofMismatch) as raised:
+            read_at(360, 600)
+        assert (raised.value.chunk, raised.value.place, raised.value.path) == (2, 450, None)
+
+
+@READERS
+def test_a_proof_that_is_too_long_is_not_opened(monkeypatch, reader):
+    source = Source(random.Random(44).randbytes(1000), range(0, 1001, 50))
+    length = len(source.tree.proof_of_bytes(0, 500).to_bytes())
+    _, read_at = reader(source, proof_limit=length)
+    assert read_at(0, 500) == source.data[:500]
+    _, read_at = reader(source, proof_limit=length - 1)
+    monkeypatch.setattr(y.RangeProof, "open", None)
+    source.fetched.clear()
+    with pytest.raises(y.ProofTooLong, match=f"^a proof must have at most {length - 1} bytes, got {length}: see proof_limit$"):
+        read_at(0, 500)
+    assert source.fetched == []
+
+
+@READERS
+def test_a_proof_of_more_than_16_mib_is_refused_unless_more_is_allowed(reader):
+    source = Source(random.Random(44).randbytes(1000), range(0, 1001, 50))
+    longer = y.RangeProof.from_flat([], y.Chunks(bytes(40) * (((1 << 24) - 8) // 40 + 1)))
+    for limit, error in (({}, y.ProofTooLong), ({"proof_limit": 1 << 25}, y.ProofMismatch)):
+        file = (y.VerifiedFile if reader is plainly else y.AsyncVerifiedFile)(
+            source.tree.file_hash(), source.fetch, lambda start, stop: longer, **limit)
+        with pytest.raises(y.ProofMismatch) as raised:
+            file.read_at(0, 5) if reader is plainly else asyncio.run(file.read_at(0, 5))
+        assert type(raised.value) is error
+
+
+@pytest.mark.parametrize("kind", [y.VerifiedFile, y.AsyncVerifiedFile])
+def test_a_file_hash_in_each_form(kind):
+    source = drawn(31, 20)
+    hash_ = source.tree.file_hash()
+    for form in (hash_, hash_.hex(), hash_.bytes, hash_.hex().upper()):
+        file = kind(form, source.fetch, source.prove)
+        assert file.file_hash == hash_
+    with pytest.raises(y.InvalidText):
+        kind(hash_.hex()[1:], source.fetch, source.prove)
+
+
+FILE = Source(b"abc", [0, 3])
+#: Wrong arguments, what must be so, and what came.
+MESSAGES = [
+    (lambda: FILE.open().read_at(5, 3), "stop must be at least start, which is 5, got 3"),
+    (lambda: y.VerifiedFile(FILE.tree.file_hash(), b"abc", FILE.prove), "fetch must be a callable, got bytes"),
+    (lambda: y.AsyncVerifiedFile(FILE.tree.file_hash(), FILE.fetch, None), "prove must be a callable, got NoneType"),
+    (lambda: y.VerifiedFile(FILE.tree.file_hash(), FILE.fetch, lambda *_: None).read(), "prove must return a RangeProof, got NoneType"),
+    (lambda: FILE.open(name=7), "name must be a str, got int"),
+    (lambda: FILE.open().seek(0, 9), "whence must be 0, 1 or 2, got 9"),
+    (lambda: FILE.open().readinto(b"abc"), "the buffer must be writable, got a read-only one"),
+    (lambda: y.data_hashes(b"abc", [0], threads=0), "threads must be at least 1, got 0"),
+    (lambda: y.RangeProof.from_bytes(bytes(9), limit=8), "a proof must have at most 8 bytes, got 9: see limit"),
+]
+
+
+@pytest.mark.parametrize("number", range(len(MESSAGES)))
+def test_errors_say_what_must_be_so_and_what_came(number):
+    call, told = MESSAGES[number]
+    with pytest.raises((ValueError, TypeError)) as raised:
+        call()
+    assert str(raised.value) == told
+
+
+def test_a_position_before_the_start():
+    with pytest.raises(OSError, match="a position must be at least 0, got -2"):
+        FILE.open().seek(-5, os.SEEK_END)

@@ -198,6 +198,20 @@ def test_there_is_nothing_to_compile_for_other_systems(tmp_path, system):
         f"YUREWHA_LIBRARY names the DLL that `make` builds; {ELSEWHERE}")
 
 
+@pytest.mark.skipif(not (PACKAGE.parent / "setup.py").exists(), reason="it needs the repository")
+def test_an_installation_that_can_be_edited(tmp_path):
+    """As `pip install -e` makes it, with the library in the folder of the package."""
+    pytest.importorskip("setuptools.command.editable_wheel")
+    copied = shutil.copytree(PACKAGE.parent, tmp_path / "python", ignore=shutil.ignore_patterns("lib", "edits", "tests", "__pycache__"))
+    subprocess.run(
+        [sys.executable, "setup.py", "-q", "editable_wheel", "--dist-dir", str(tmp_path / "made")], cwd=copied, check=True,
+        env={**os.environ, "YUREWHA_LIBRARY": _library.PATH}, stderr=subprocess.DEVNULL)
+    (wheel,) = (tmp_path / "made").glob("*.whl")
+    assert wheel.name.endswith(f"-py3-none-linux_{os.uname().machine}.whl")
+    assert (copied / "yurewha/lib" / _library.NAME).read_bytes() == Path(_library.PATH).read_bytes()
+
+
+NUMBER = y.__version__.partition(".dev")[0]  # that of the library, which a release doesn't change
 LEVELS = {"x86_64": ("x86-64", "x86-64-v2", "x86-64-v3", "x86-64-v4"), "aarch64": ("aarch64",)}
 
 
@@ -210,8 +224,7 @@ def installed(folder):
 
 def test_what_is_installed():
     told = installed(LIBRARY)
-    assert told == [
-        f"yurewha {y.__version__}", f"library: {_library.PATH}, version {y.__version__}", f"level: {_library.LEVEL}"]
+    assert told == [f"yurewha {y.__version__}", f"library: {_library.PATH}, version {NUMBER}", f"level: {_library.LEVEL}"]
     assert _library.LEVEL in LEVELS.get(os.uname().machine, ())
 
 
@@ -225,7 +238,7 @@ def test_what_is_installed_where_the_loader_finds_the_library(tmp_path):
     told = subprocess.run(
         [sys.executable, "-m", "yurewha"], env={**os.environ, **names, "YUREWHA_LIB_DIR": ""}, cwd="/", capture_output=True,
         text=True, check=True).stdout
-    assert f"library: {folder / _library.NAME}, version {y.__version__}\n" in told
+    assert f"library: {folder / _library.NAME}, version {NUMBER}\n" in told
 
 
 def test_a_library_without_a_call(tmp_path):

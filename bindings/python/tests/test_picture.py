@@ -86,7 +86,7 @@ def test_wrong_captions(caption, tmp_path):
     path.write_text("kept")
     for call in (lambda: tree.svg(caption), lambda: tree.svg(caption=caption), lambda: tree.write_svg(path, caption),
                  lambda: y.write_svg(path, [tree, tree], ["a", caption]), lambda: y.svg_of([tree], [caption])):
-        with pytest.raises(TypeError, match=f"^caption [01] is a str, not {type(caption).__name__}"):
+        with pytest.raises(TypeError, match=f"^caption [01] must be a str, got {type(caption).__name__}"):
             call()
     assert path.read_text() == "kept"
 
@@ -99,7 +99,7 @@ def test_wrong_lists_of_captions_and_subtrees(tmp_path):
         for call in (y.svg_of, lambda *given: y.write_svg(path, *given)):
             with pytest.raises(TypeError):
                 call(trees, captions)
-    with pytest.raises(y.InvalidArguments, match="more captions"):
+    with pytest.raises(y.InvalidArguments, match="^there must be at most . captions"):
         y.svg_of([], ["a"])
     assert path.read_text() == "kept"
     assert y.svg_of(iter([tree]), iter(["a"])) == y.svg_of([tree], ("a",))

@@ -140,6 +140,26 @@ def test_a_changed_pickle():
             make(*arguments)
 
 
+PACKED = [(y.Hash.random_from_seed(1), 32), (block(1, 3), 40), (y.Hashes([y.Hash()] * 3), 32), (y.HashIndex([y.Hash()]), 32),
+          (y.HashTree(block(1, 3)), 40)]
+
+
+@pytest.mark.parametrize("value, size", PACKED, ids=lambda value: type(value).__name__)
+@pytest.mark.parametrize("protocol", range(2, pickle.HIGHEST_PROTOCOL + 1))
+def test_a_pickle_of_bytes_that_were_cut_or_added(value, size, protocol):
+    """A call of the library reads so many bytes, whatever the object has."""
+    make, (packed,) = value.__reduce__()
+    assert len(packed) % size == 0 and pickle.loads(pickle.dumps(value, protocol)) == value
+
+    class Changed:
+        def __reduce__(self):
+            return make, (wrong,)
+
+    for wrong in (packed[:-1], packed + b"a", packed[:1], packed[:size - 1], packed[size:] + packed[:31]):
+        with pytest.raises(y.YurewhaError):
+            pickle.loads(pickle.dumps(Changed(), protocol))
+
+
 def in_child(work):
     """What the work answers in a forked process, as text. A child that waits for ever ends after a while, without an answer."""
     out, into = os.pipe()
@@ -215,6 +235,46 @@ def test_an_object_in_use_when_a_process_is_forked():
         ends.set()
         thread.join()
     assert used == piece(1)
+
+
+HASH = y.Hash.random_from_seed(1)
+INDEX_CALLS = {
+    "add": lambda index: index.add(HASH), "add_all": lambda index: index.add_all([HASH]), "in": lambda index: HASH in index,
+    "contains": lambda index: index.contains([HASH]), "new": lambda index: index.new([HASH]), "hashes": lambda index: index.hashes(),
+    "len": len, "list": list, "==": lambda index: index == y.HashIndex(), "copy": lambda index: index.copy(), "pickle": pickle.dumps,
+}
+
+
+@pytest.mark.parametrize("name", INDEX_CALLS)
+def test_an_index_in_use_when_a_process_is_forked(name):
+    used, free = y.HashIndex([HASH]), y.HashIndex([HASH])
+    holds, ends = threading.Event(), threading.Event()
+
+    def hold():
+        with used._locked():
+            holds.set()
+            ends.wait()
+
+    thread = threading.Thread(target=hold)
+    thread.start()
+    holds.wait()
+
+    def work():
+        told = []
+        for index in (free, used, used):
+            try:
+                INDEX_CALLS[name](index)
+                told.append("done")
+            except y.InUseAtFork:
+                told.append("refused")
+        return told, repr(used)
+
+    try:
+        assert in_child(work) == str((["done", "refused", "refused"], "<yurewha.HashIndex that can't be read>"))
+    finally:
+        ends.set()
+        thread.join()
+    assert len(used) == 1
 
 
 def test_a_process_that_is_forked_while_a_thread_takes_an_object_over():

@@ -14,6 +14,7 @@ import yurewha as y
 from yurewha import _library
 
 MAX = 2**64 - 1
+MIB16 = 1 << 24
 Z = y.Hash()
 REPOSITORY = Path(__file__).resolve().parents[3]
 
@@ -133,6 +134,66 @@ UNREAD = [
 def test_data_that_isnt_read(told, start, stop, data):
     with pytest.raises(y.ProofMismatch, match=f"^{told}$"):
         TREE.proof(1, 2).open(NAME).read(start, stop, data)
+
+
+def facts(error):
+    return error.chunk, error.place, error.path
+
+
+def test_what_a_mismatch_says_of_the_chunk():
+    """Its number in the range, and its place in the file."""
+    opened = TREE.proof(1, 3).open(NAME)
+    for number, place in ((0, 7), (1, 14)):
+        with pytest.raises(y.ProofMismatch) as raised:
+            opened.check(number, b"a chunk")
+        assert facts(raised.value) == facts(pickle.loads(pickle.dumps(raised.value))) == (number, place, None)
+    for data, expected in (
+        (b"Anotherand a third", (0, 7, None)), (b"anotherAnd a third", (1, 14, None)), (b"AnotherAnd a third", (0, 7, None)),
+        (b"anotherand a thir", (1, 14, None)), (b"another", (1, 14, None)), (b"anothe", (0, 7, None)), (b"", (0, 7, None)),
+        (b"anotherand a third.", (None, None, None)), (bytearray(b"anotherAnd a third"), (1, 14, None)),
+    ):
+        with pytest.raises(y.ProofMismatch) as raised:
+            opened.read(7, 25, data)
+        assert facts(raised.value) == expected
+    for call in (lambda: opened.read(0, 7, FILE[7:]), lambda: TREE.proof(1, 3).open(h(5)), lambda: TREE.proof(1, 3).open_root(h(5))):
+        with pytest.raises(y.ProofMismatch) as raised:
+            call()
+        assert facts(raised.value) == (None, None, None)
+
+
+@pytest.mark.parametrize("count", [1, 100])
+def test_longer_proofs_than_allowed_are_not_read(count):
+    proof = y.HashTree([(h(1), 7)] * count).proof(0, count)
+    text, packed = proof.to_json(), proof.to_bytes()
+    forms = [(y.RangeProof.from_json, form) for form in (text, text.encode(), bytearray(text.encode()))]
+    for read, given in (*forms, (y.RangeProof.from_bytes, packed), (y.RangeProof.from_bytes, memoryview(packed))):
+        for limit in (len(given), len(given) + 1, None, 2**64 - 1):
+            assert read(given, limit=limit) == proof
+        for limit in (len(given) - 1, 0):
+            with pytest.raises(y.ProofTooLong, match=f"^a proof must have at most {limit} bytes, got {len(given)}: see limit$"):
+                read(given, limit=limit)
+        for limit, error in ((-1, y.InvalidArguments), (2**64, y.InvalidArguments), ("7", TypeError), (7.0, TypeError)):
+            with pytest.raises(error):
+                read(given, limit=limit)
+
+
+def test_a_proof_has_at_most_16_mib_unless_more_is_allowed(monkeypatch):
+    """Of a longer one nothing is read."""
+    calls = []
+    for name in ("yurewha_range_proof_from_json", "yurewha_range_proof_check"):
+        for library in (_library.short, _library.long):
+            monkeypatch.setattr(library, name, lambda *given: calls.append(name) or 0)
+    for read, given in ((y.RangeProof.from_json, bytes(MIB16)), (y.RangeProof.from_bytes, bytes(MIB16 - 8))):
+        calls.clear()
+        read(given)
+        assert len(calls) == 1
+        for longer in (bytes(MIB16 + 1), bytearray(MIB16 + 40)):
+            with pytest.raises(y.ProofTooLong, match=str(MIB16)):
+                read(longer)
+        assert len(calls) == 1
+    with pytest.raises(y.ProofTooLong):
+        y.RangeProof.from_json(" " * (MIB16 + 1))
+    assert len(calls) == 1
 
 
 def test_places():
@@ -339,11 +400,23 @@ def test_rules_of_flat_lists(rule, levels, nodes):
         assert raised.value.rule == rule
 
 
+def test_the_bytes_of_javascript_are_refused():
+    """They have one byte for each number before the nodes, so their length is odd."""
+    for proof in (TREE.proof(0, 1), TREE.proof(1, 2), y.HashTree([ONE]).proof(0, 1), y.RangeProof.from_flat(64 * [(0, 0)], [ONE])):
+        levels, nodes = proof.to_flat()
+        data = bytes([len(levels), *(count for level in levels for count in level)]) + nodes.packed
+        with pytest.raises(y.InvalidProof):
+            y.RangeProof.from_bytes(data)
+
+
 def test_bytes_of_another_form():
     good = TREE.proof(1, 2).to_bytes()
-    for data in (b"", good[:7], good[:-1], good + b"\0", struct.pack("<Q", MAX), struct.pack("<Q", 2) + bytes(31)):
-        with pytest.raises(y.InvalidArguments, match="the bytes of a range proof are"):
+    two_levels, packed = struct.pack("<Q", 2), struct.pack("<Q", 65) + 16 * 65 * b"\1"
+    for rule, data in ((1, b""), (1, good[:7]), (3, struct.pack("<Q", MAX)), (3, two_levels + bytes(31)), (3, packed[:-1]), (4, good[:-1]),
+                       (4, good + b"\0"), (4, two_levels + bytes(33)), (4, packed + bytes(39))):
+        with pytest.raises(y.InvalidProof) as raised:
             y.RangeProof.from_bytes(data)
+        assert raised.value.rule == rule
     for data in (good + bytes(40), good[:-40], bytes(8), bytes(48)):
         try:
             assert y.RangeProof.from_bytes(data) != TREE.proof(1, 2)

@@ -1,5 +1,6 @@
 """What is saved: whole or not at all, and refused if a byte of it is missing or wrong. Sessions that keep no hashes. Indexes of hashes."""
 
+import collections
 import copy
 import json
 import os
@@ -122,6 +123,21 @@ def test_after_an_error_the_old_file_is_there(what, tmp_path, monkeypatch):
     assert y.HashTree.load(path) == old and os.listdir(tmp_path) == ["saved"]
 
 
+def test_a_file_whose_permissions_can_not_be_kept_is_not_replaced(tmp_path, monkeypatch):
+    """Else those might read it who may not."""
+    old, path = SAVED["hash tree"](), tmp_path / "saved"
+    old.save(path)
+
+    def refused(*given):
+        raise PermissionError("mine")
+
+    monkeypatch.setattr("os.chmod", refused)
+    with pytest.raises(PermissionError, match="mine"):
+        y.HashTree([seeded(7)]).save(path)
+    monkeypatch.undo()
+    assert y.HashTree.load(path) == old and os.listdir(tmp_path) == ["saved"]
+
+
 def test_the_bytes_are_on_the_disk_before_the_name(tmp_path, monkeypatch):
     """What a crash leaves is one of two whole files."""
     path, calls = tmp_path / "saved", []
@@ -137,6 +153,18 @@ def test_the_bytes_are_on_the_disk_before_the_name(tmp_path, monkeypatch):
     monkeypatch.setattr("os.fsync", fsync), monkeypatch.setattr("os.replace", replace)
     SAVED["session"]().save(path)
     assert calls == [("fsync", path.stat().st_size), ("replace", "saved"), ("fsync", "folder")]
+
+
+def test_names_may_be_as_long_as_the_system_allows(tmp_path):
+    longest = os.pathconf(tmp_path, "PC_NAME_MAX")
+    for name in ("n" * longest, "n" * (longest - 18), "\u00e4" * (longest // 2)):
+        path = tmp_path / name
+        for made in (SAVED["session"](), SAVED["subtree"]()):
+            made.save(path)
+            assert type(made).load(path) == made
+    with pytest.raises(OSError):
+        y.Session().save(tmp_path / ("n" * (longest + 1)))
+    assert len(os.listdir(tmp_path)) == 3
 
 
 KILLED = """
@@ -198,7 +226,7 @@ def test_a_session_without_hashes_is_the_same_but_for_them(monkeypatch):
     for forgotten in (1, 5, 1 << 16):
         monkeypatch.setattr(_session, "_FORGOTTEN", forgotten)
         for _ in range(30):
-            one, none, free = y.Session(), y.Session(keep_hashes=False), list(range(60))
+            one, none = y.Session(), y.Session(keep_hashes=False)
             for _ in range(rng.randrange(12)):
                 first, chunks = rng.randrange(60), [seeded(rng.randrange(30)) for _ in range(rng.randrange(8))]
                 try:
@@ -282,6 +310,77 @@ def test_a_handler_that_changes_a_session_while_it_forgets(monkeypatch):
     assert told == [1, 1] and [run.first for run in one.runs()] == [2, 7, 50]
 
 
+class Counted:
+    """The calls of the library, and how often each of them was made."""
+
+    def __init__(self, calls):
+        self._calls, self.made = calls, collections.Counter()
+
+    def __getattr__(self, name):
+        def call(*given):
+            self.made[name] += 1
+            return getattr(self._calls, name)(*given)
+        return call
+
+
+def loaded(one, path):
+    one.save(path)
+    return y.Session.load(path)
+
+
+FORMS = {
+    "itself": lambda one, path: one, "copy": lambda one, path: one.copy(), "pickle": lambda one, path: pickle.loads(pickle.dumps(one)),
+    "file": loaded, "JSON": lambda one, path: y.Session.from_json(one.to_json(), keep_hashes=False),
+}
+
+
+@pytest.mark.parametrize("form", FORMS)
+def test_a_session_without_hashes_is_made_anew_now_and_then(form, tmp_path, monkeypatch):
+    """After each 100 chunks that were put, and not with each put after the first 100."""
+    monkeypatch.setattr(_session, "_FORGOTTEN", 100)
+    one = FORMS[form](session(keep_hashes=False), tmp_path / "saved")
+    counted = Counted(_session.short)
+    monkeypatch.setattr(_session, "short", counted)
+    for place in range(1000):
+        one.put(100 + place, [(y.Hash(place.to_bytes(32, "little")), 1)])
+        assert len(one._all_known_hashes()) < 103
+    assert counted.made["yurewha_session_new"] == 10 and one.num_runs == 3 and one.num_chunks == 1003
+
+
+def test_a_put_lists_its_hashes_only_if_they_are_counted(monkeypatch):
+    """A session that keeps hashes leaves that to the library, also once somebody asked for one."""
+    listed, list_of = [], _session.raws_of_chunks
+    monkeypatch.setattr(_session, "raws_of_chunks", lambda packed: listed.append(len(packed) // 40) or list_of(packed))
+    one, forgetful = session(), y.Session(keep_hashes=False)
+    assert seeded(1)[0] in one and one.put(100, [seeded(1), seeded(9)]) == 1 and seeded(9)[0] in one
+    assert listed == [] and forgetful.put(0, [seeded(1)] * 2) == 1 and listed == [2]
+
+
+def test_without_memory_for_a_list_nothing_is_put(monkeypatch):
+    def none(packed):
+        raise MemoryError
+
+    one = session(keep_hashes=False)
+    with monkeypatch.context() as patch:
+        patch.setattr(_session, "raws_of_chunks", none)
+        with pytest.raises(MemoryError):
+            one.put(100, [seeded(9)])
+    assert one == session(keep_hashes=False) and not one.taken(100)
+
+
+def test_without_memory_to_forget_hashes_they_stay(monkeypatch):
+    """The put is done then, so it raises nothing. The next one forgets them."""
+    def none(*given):
+        raise y.OutOfMemory
+
+    monkeypatch.setattr(_session, "_FORGOTTEN", 3)
+    one = y.Session(keep_hashes=False)
+    with monkeypatch.context() as patch:
+        patch.setattr(y.Session, "_push", none)
+        assert one.put(0, [seeded(k) for k in range(3)]) == 3 and len(one._all_known_hashes()) == 3
+    assert one.put(3, [seeded(3)]) == 1 and len(one._all_known_hashes()) == 0 and one.num_chunks == 4
+
+
 # ---- Comparing, looking for hashes, and what is said of gaps
 
 def test_equal_sessions():
@@ -323,8 +422,10 @@ def test_hashes_in_a_session():
         else:
             one.put(10 * place, [seeded(k) for k in chosen])
         known |= set(chosen)
+        asked = rng.sample(range(60), rng.randrange(6))
+        assert one.contains(seeded(k)[0] for k in asked) == [k in known for k in asked]
     assert seeded(1)[0].bytes in one and Z not in one
-    assert seeded(1)[0] in one.copy()
+    assert seeded(1)[0] in one.copy() and y.Session(keep_hashes=False).contains([Z, Z]) == [False, False]
     for wrong in (7, "00", None, (Z, 1)):
         with pytest.raises(TypeError):
             wrong in one  # noqa: B015
@@ -341,20 +442,22 @@ def test_what_is_said_of_gaps(total, said):
     for call in (session().finish, session().root, lambda total: session().finish(total, bytes(32))):
         with pytest.raises(y.SessionGap) as raised:
             call(total)
-        assert str(raised.value) == said
+        for error in (raised.value, pickle.loads(pickle.dumps(raised.value))):
+            assert str(error) == said and error.position == 0
 
 
 def test_what_is_said_of_positions_beyond_the_total():
     one = y.Session()
     one.put(0, [seeded(k) for k in range(5)])
     for total, taken in ((4, 4), (0, 0)):
-        with pytest.raises(y.SessionGap, match=f"^position {taken} is taken, and the total is {total}$"):
+        with pytest.raises(y.SessionGap, match=f"^position {taken} is taken, and the total is {total}$") as raised:
             one.finish(total)
+        assert raised.value.position == taken
     one.put(9, [seeded(1)])
-    with pytest.raises(y.SessionGap, match="^position 9 is taken, and the total is 5$"):
-        one.finish(5)
-    with pytest.raises(y.SessionGap, match="^the positions from 5 to 8 have no chunk$"):
-        one.finish(10)
+    for total, position, said in ((5, 9, "position 9 is taken, and the total is 5"), (10, 5, "the positions from 5 to 8 have no chunk")):
+        with pytest.raises(y.SessionGap, match=f"^{said}$") as raised:
+            one.finish(total)
+        assert raised.value.position == position
 
 
 def test_subtrees_can_be_summed():

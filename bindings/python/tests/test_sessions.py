@@ -110,6 +110,22 @@ def test_the_file_hash_of_no_chunks_is_the_default_hash():
         assert y.Subtree.from_chunks(marks[0], [ONE], marks[1]).file_hash(salt) is None
 
 
+def test_a_subtree_that_is_not_whole_has_no_file_hash():
+    rng = random.Random(47)
+    for marks, said in (((False, False), "open at both ends"), ((True, False), "at the start"), ((False, True), "at the end")):
+        for chunks in ([], [ONE]):
+            part = y.Subtree.from_chunks(marks[0], chunks, marks[1])
+            for call in (part.finish, lambda: part.finish(bytes(32)), lambda: part.finish(salt=bytes(32))):
+                with pytest.raises(y.InvalidArguments) as raised:
+                    call()
+                assert str(raised.value) == f"a subtree must be marked at both ends to have a file hash, got one {said}"
+            assert part.file_hash() is None
+    for _ in range(30):
+        nodes, salt = drawn_list(rng, rng.choice((0, 1, 2, 5, 40))), rng.randbytes(32)
+        whole = y.Subtree.from_chunks(True, pairs(nodes), True)
+        assert whole.finish() == ours(m.file_hash(nodes)) and whole.finish(salt) == ours(m.file_hash_with_salt(nodes, salt))
+
+
 @pytest.mark.parametrize("salt, error", [
     (bytes(31), y.InvalidArguments), (bytes(33), y.InvalidArguments), (b"", y.InvalidArguments),
     (bytearray(64), y.InvalidArguments), (32 * "0", TypeError), (7, TypeError), ([], TypeError), (Z, TypeError)])
@@ -117,7 +133,7 @@ def test_wrong_salts(salt, error):
     one, closed = session(0), y.Subtree.from_chunks(True, [ONE], True)
     for call in (
         lambda: one.finish(1, salt), lambda: one.finish(2, salt=salt), lambda: y.Session().finish(0, salt),
-        lambda: closed.file_hash(salt), lambda: y.Subtree.from_chunks(False, [ONE], True).file_hash(salt),
+        lambda: closed.file_hash(salt), lambda: closed.finish(salt), lambda: y.Subtree.from_chunks(False, [ONE], True).file_hash(salt),
         lambda: y.file_hash([ONE], salt),
     ):
         with pytest.raises(error):
@@ -215,7 +231,7 @@ def test_drawn_sessions_are_read_back():
         assert known == sorted(made.known_hashes())
 
 
-UNFIT = "has no position, is marked at an end, or leaves no gap after the runs before it"
+UNFIT = "must have a position, no mark at an end, and a gap after the runs before it, got "
 
 
 def forged(*path, value):
@@ -231,7 +247,7 @@ def forged(*path, value):
 
 
 great = json.loads(y.Subtree.from_chunks(False, [(Z, MAX)], False).to_json())
-NO_SESSION = "^the JSON of a session isn't an object with the member `runs`"
+NO_SESSION = "^the JSON of a session must be an object with the member `runs`"
 FORGED = [
     (y.InvalidArguments, f"^run 0 {UNFIT}", forged("runs", 0, "first", value=4)),
     (y.InvalidArguments, f"^run 0 {UNFIT}", forged("runs", 0, "first", value=9)),
@@ -249,23 +265,26 @@ FORGED = [
     (y.InvalidJson, "rule 3", forged("runs", 1, "chunks", "nodes", 0, "hash", value="\u00e9")),
     (y.InvalidJson, "rule 4", forged("runs", 1, "chunks", "levels", 0, 0, value=True)),
     (y.InvalidJson, "rule 1", forged("runs", 1, "chunks", value=None)),
-    *((y.InvalidText, "^`first` of run 1 isn't a whole number", forged("runs", 1, "first", value=value))
+    *((y.InvalidText, "^`first` of run 1 must be a whole number from 0 to 2\\^64 - 1, got ", forged("runs", 1, "first", value=value))
       for value in (-1, MAX + 1, 7.0, True, None, "7", [7], 10**30)),
-    (y.InvalidText, "^`end` of run 0 isn't a whole number", forged("runs", 0, "end", value=-4)),
-    (y.InvalidText, "^run 1 isn't an object with the member `first`", forged("runs", 1, value={})),
-    (y.InvalidText, "^run 1 isn't an object with the member `first`", forged("runs", 1, value=[7, 8])),
-    (y.InvalidText, "^run 1 isn't an object with the member `end`", forged("runs", 1, value={"first": 7})),
-    (y.InvalidText, "^run 1 isn't an object with the member `chunks`", forged("runs", 1, value={"first": 7, "end": 8})),
-    (y.InvalidText, "^`runs` isn't an array", forged("runs", value=None)),
-    (y.InvalidText, "^`known_hashes` isn't an array", forged("known_hashes", value=7)),
-    *((y.InvalidText, "^known hash 1 isn't an array of four whole numbers", forged("known_hashes", 1, value=value))
+    (y.InvalidText, "^`end` of run 0 must be a whole number from 0 to 2\\^64 - 1, got ", forged("runs", 0, "end", value=-4)),
+    (y.InvalidText, "^run 1 must be an object with the member `first`", forged("runs", 1, value={})),
+    (y.InvalidText, "^run 1 must be an object with the member `first`", forged("runs", 1, value=[7, 8])),
+    (y.InvalidText, "^run 1 must be an object with the member `end`", forged("runs", 1, value={"first": 7})),
+    (y.InvalidText, "^run 1 must be an object with the member `chunks`", forged("runs", 1, value={"first": 7, "end": 8})),
+    (y.InvalidText, "^`runs` must be an array", forged("runs", value=None)),
+    (y.InvalidText, "^`known_hashes` must be an array", forged("known_hashes", value=7)),
+    *((y.InvalidText, "^known hash 1 must be an array of four whole numbers", forged("known_hashes", 1, value=value))
       for value in ([1, 2, 3], [1, 2, 3, 4, 5], [1, 2, 3, -4], [1, 2, 3, 4.0], [1, 2, 3, True], [1, 2, 3, MAX + 1], 64 * "0",
                     None)),
     (y.InvalidText, "member `known_hashes`", forged(value={"runs": []})),
     *((y.InvalidText, NO_SESSION, forged(value=value)) for value in ({"known_hashes": []}, None, [], 7, "runs", {})),
     (y.InvalidText, NO_SESSION, y.Subtree.merge_all([]).to_json()),
-    (y.InvalidText, "^a member occurs twice", '{"runs":[],"runs":[],"known_hashes":[]}'),
-    (y.InvalidText, "^a member occurs twice", '{"runs":[],"known_hashes":[],"other":{"a":1,"a":1}}'),
+    *((y.InvalidText, f"^each member of an object must occur once, got '{name}' twice$", text) for name, text in (
+        ("runs", '{"runs":[],"runs":[],"known_hashes":[]}'), ("a", '{"runs":[],"known_hashes":[],"other":{"b":0,"a":1,"a":1}}'),
+        ("end", two_runs().to_json().replace('"end":8', '"end":8,"end":8')),
+        ("at_end", two_runs().to_json().replace('"at_end":', '"at_end":true,"at_end":')),
+        ("size", two_runs().to_json().replace('"size":', '"size":7,"size":')))),
     *((y.InvalidText, "^the text isn't JSON", text) for text in (
         "", "{", "nan", '{"runs":[],"known_hashes":[[NaN,0,0,0]]}', '{"runs":[],"known_hashes":[]}x', b"\xff",
         '{"runs":[],"known_hashes":[]}'.encode("utf-16"), "[" * 100_000, '{"a":' * 100_000, "[" * 128 + "]" * 128, "1" * 5000,

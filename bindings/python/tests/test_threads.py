@@ -173,6 +173,9 @@ class Noted:
         self.held -= 1
         self.lock.release()
 
+    def _is_owned(self):
+        return self.lock._is_owned()
+
 
 def handle_of(item):
     return item._state if isinstance(item, y.Hasher) else item._handle
@@ -525,8 +528,6 @@ READS = {
     "known hashes": lambda session: [session.known_hashes() for _ in range(500)],
     "to_json": lambda session: y.Session.from_json(session.to_json()).runs(),
     "gaps": lambda session: session.gaps(1 << 30),
-    "num_chunks": lambda session: [session.num_chunks],
-    "total_size": lambda session: [session.total_size],
 }
 
 

@@ -238,6 +238,15 @@ def test_what_can_change_is_copied(copied):
         assert look(other) == look(one)
 
 
+@pytest.mark.parametrize("make, name", [(y.Hasher, "yurewha-data"), (y.Hasher.internal_node, "yurewha-internal-node"),
+                                        (lambda data: y.Hasher.keyed(bytes(32), data), "blake3-keyed")])
+def test_a_copy_of_a_hasher_has_its_key_and_name(make, name):
+    one = make(b"a")
+    for other in (one, one.copy(), copy.copy(one), copy.deepcopy(one), one.copy().copy()):
+        assert other.name == name and repr(other) == f"<yurewha.Hasher {name}, 1 bytes>"
+        assert other.hash() == make(b"a").hash() and other.count == 1
+
+
 def by_hand(session):
     """The session, restored by calls."""
     restored, run = y.Session(), session.run_from(0)

@@ -8,7 +8,7 @@ import pytest
 y = pytest.importorskip("yurewha", reason="there is no libyurewha: run make -C bindings, or set YUREWHA_LIB_DIR")
 
 FOLDER = Path(__file__).resolve().parents[3] / "tests/vectors"
-FILES = ("hashes", "texts", "roots", "subtrees", "merges", "subtree_json", "range_proofs", "sessions", "upstream")
+FILES = ("hashes", "texts", "roots", "subtrees", "merges", "subtree_json", "range_proofs", "sessions", "session_json", "upstream")
 ERRORS = {"SizeOverflow": y.SizeOverflow, "InvalidArguments": y.InvalidArguments, "NotJson": y.InvalidText,
           "Overlap": y.SessionOverlap, "Positions": y.SessionPositions, "Sizes": y.SessionSizes, "Gap": y.SessionGap}
 
@@ -220,6 +220,16 @@ def session(_, it):
             assert session_call(made, call) == call[wanted]
 
 
+def session_json(_, it):
+    if it["result"] == "valid":
+        assert y.Session.from_json(it["text"]).to_json() == it.get("written", it["text"])
+        return
+    error = {"NoSession": y.InvalidText, "InvalidJson": y.InvalidJson}.get(it["error"]) or ERRORS[it["error"]]
+    with pytest.raises(error) as raised:
+        y.Session.from_json(it["text"])
+    assert getattr(raised.value, "rule", None) == it.get("rule")
+
+
 def accepted(call, *arguments):
     """What a call on range proofs returns, or None where it refuses."""
     try:
@@ -328,8 +338,8 @@ CHECKS = {
     "HashForms": hash_forms, "HexText": lambda _, it: read_text(y.Hash.from_hex, it),
     "Base64Text": lambda _, it: read_text(y.Hash.from_base64, it), "HashOrder": hash_order, "Root": root, "Parent": parent,
     "RootSteps": root_steps, "StablePoints": stable_points, "Subtree": subtree, "Merge": merge, "MergeRefused": merge_refused,
-    "Bracketing": bracketing, "SubtreeJson": subtree_json, "Session": session, "HashTree": hash_tree,
-    "ProofRefused": proof_refused, "OpenProof": open_proof, "ProofJson": proof_json, "FlatProof": flat_proof,
+    "Bracketing": bracketing, "SubtreeJson": subtree_json, "Session": session, "SessionJson": session_json,
+    "HashTree": hash_tree, "ProofRefused": proof_refused, "OpenProof": open_proof, "ProofJson": proof_json, "FlatProof": flat_proof,
 }
 
 

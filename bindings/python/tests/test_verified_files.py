@@ -1,6 +1,7 @@
 """Files that are read in parts: places, what is fetched, what is refused, and readers over them."""
 
 import contextlib
+import ctypes
 import io
 import os
 import random
@@ -355,6 +356,19 @@ def test_a_mismatch_later_returns_nothing_and_leaves_the_position(monkeypatch):
     assert file.tell() == 100 and file.read(300) == source.data[100:400]
 
 
+def test_a_buffer_without_bytes_is_filled():
+    """Also one that has rows of some bytes, and no row, which `memoryview` doesn't show as bytes."""
+    tree = y.HashTree([(y.data_hash(b"abc"), 3)])
+    file = y.VerifiedFile(tree.file_hash(), lambda start, stop: b"abc"[start:stop], tree.proof_of_bytes)
+    for room in (bytearray(), (ctypes.c_ubyte * 4 * 0)(), (ctypes.c_uint64 * 0)()):
+        assert file.readinto(room) == io.BytesIO(b"abc").readinto(room) == file.tell() == 0
+    rows = (ctypes.c_ubyte * 2 * 2)()
+    assert file.readinto(rows) == 3 and bytes(rows) == b"abc\0"
+    for wrong in (b"", b"abc"):
+        with pytest.raises(TypeError, match="^the buffer must be writable, got a read-only one$"):
+            file.readinto(wrong)
+
+
 def test_errors_of_the_callers_calls_pass_through():
     source = drawn(12, 20)
 
@@ -367,8 +381,8 @@ def test_errors_of_the_callers_calls_pass_through():
             file.read(10)
         assert file.tell() == 0
     for fetch, prove, said in (
-        (lambda a, b: "text", source.prove, "bytes-like"),
-        (source.fetch, lambda a, b: None, "prove returns a RangeProof, not NoneType"),
+        (lambda a, b: "text", source.prove, "lends its bytes"),
+        (source.fetch, lambda a, b: None, "prove must return a RangeProof, got NoneType"),
     ):
         with pytest.raises(TypeError, match=said):
             y.VerifiedFile(source.tree.file_hash(), fetch, prove).read(10)
@@ -495,7 +509,7 @@ def test_the_lock_is_taken_also_when_nothing_is_fetched(name):
 
     file._guarded = Spied()
     READS[name](file)
-    assert taken
+    assert bool(taken) == (name != "size")  # whoever asks for a size that is known waits for nobody
     taken.clear()
     assert file.seek(7) == 7 and taken
 

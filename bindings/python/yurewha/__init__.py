@@ -26,6 +26,7 @@ from ._errors import (
     InvalidText,
     OutOfMemory,
     ProofMismatch,
+    ProofTooLong,
     ReentrantCall,
     SessionError,
     SessionGap,
@@ -55,7 +56,7 @@ from ._subtree import (
 )
 from ._verified_file import VerifiedFile
 
-__version__ = "1.1.0"
+__version__ = "1.1.0.dev0"
 
 __all__ = [
     "AsyncVerifiedFile",
@@ -78,6 +79,7 @@ __all__ = [
     "OpenedRange",
     "OutOfMemory",
     "ProofMismatch",
+    "ProofTooLong",
     "RangeProof",
     "ReentrantCall",
     "Run",

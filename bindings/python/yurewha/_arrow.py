@@ -8,7 +8,7 @@ import struct
 from typing import Iterator, List, Optional, Tuple, Type, TypeVar
 
 from ._calls import named, string_at
-from ._errors import InvalidArguments
+from ._errors import InvalidArguments, but_got
 
 _Release = ctypes.CFUNCTYPE(None, ctypes.c_void_p)
 
@@ -119,7 +119,7 @@ def _row_of(schema: _CSchema, column: object) -> Optional[_Row]:
     if hasattr(column, "__array__") or hasattr(column, "__iter__"):
         return None
     kind = "a dictionary" if schema.dictionary else f"'{text}'"
-    raise InvalidArguments(f"a column of Arrow has whole numbers, or bytes of one size, not {kind}")
+    raise InvalidArguments(but_got("a column of Arrow must have whole numbers, or bytes of one size", kind))
 
 
 def _values(row: _Row, array: _CArray, before: int) -> bytes:

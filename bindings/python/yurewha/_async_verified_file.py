@@ -7,7 +7,7 @@ from typing import Awaitable, Callable, NoReturn, Optional, SupportsIndex, TypeV
 
 from ._checked_parts import CheckedParts, Steps, checked_places, joined
 from ._hash import Hash, HashLike
-from ._range_proof import RangeProof
+from ._range_proof import PROOF_LIMIT, RangeProof
 from ._types import BytesLike
 
 __all__ = ["AsyncVerifiedFile"]
@@ -39,15 +39,16 @@ class AsyncVerifiedFile(CheckedParts):
 
     def __init__(
         self,
-        file_hash: HashLike,
+        file_hash: Union[HashLike, str],
         fetch: Callable[[int, int], Union[Awaitable[BytesLike], BytesLike]],
         prove: Callable[[int, int], Union[Awaitable[RangeProof], RangeProof]],
         salt: Optional[BytesLike] = None,
         *,
         cache_size: SupportsIndex = 1 << 22,
         chunk_limit: SupportsIndex = 1 << 20,
+        proof_limit: SupportsIndex = PROOF_LIMIT,
     ) -> None:
-        self._begin(file_hash, fetch, prove, salt, cache_size, chunk_limit)
+        self._begin(file_hash, fetch, prove, salt, cache_size, chunk_limit, proof_limit)
 
     def __init_subclass__(cls) -> None:
         raise TypeError("AsyncVerifiedFile can't be subclassed")

@@ -5,9 +5,9 @@ What has to be asked for is yielded, so that one body serves both: a plain file 
 
 from __future__ import annotations
 
-from typing import Callable, Generator, List, NamedTuple, Optional, SupportsIndex, Tuple, TypeVar
+from typing import Callable, Generator, List, NamedTuple, Optional, SupportsIndex, Tuple, TypeVar, Union
 
-from ._errors import InvalidArguments, ProofMismatch
+from ._errors import InvalidArguments, ProofMismatch, ProofTooLong, but_got
 from ._guard import Guarded
 from ._hash import Hash, HashLike, checked_32, checked_u64, own_bytes, raw_of
 from ._kept_parts import KeptParts, Part
@@ -64,10 +64,19 @@ def checked_places(start: SupportsIndex, stop: SupportsIndex) -> Tuple[int, int]
     >>> checked_places(3, 5)
     (3, 5)
     """
-    begin, end = checked_u64(start, "a place"), checked_u64(stop, "a place")
+    begin, end = checked_u64(start, "start"), checked_u64(stop, "stop")
     if end < begin:
-        raise InvalidArguments(f"the bytes from {begin} up to {end} are less than none")
+        raise InvalidArguments(but_got(f"stop must be at least start, which is {begin}", end))
     return begin, end
+
+
+def hash_of(hash_: Union[HashLike, str], what: str) -> Hash:
+    """Returns a hash that is given as a `Hash`, as its 32 bytes or as its hex text.
+
+    >>> hash_of(64 * "0", "hash") == hash_of(bytes(32), "hash") == hash_of(Hash(), "hash")
+    True
+    """
+    return Hash.from_hex(hash_) if isinstance(hash_, str) else Hash._of(raw_of(hash_, what))
 
 
 def joined(parts: List[memoryview]) -> bytes:
@@ -92,6 +101,9 @@ class CheckedParts:
     _prove: Callable[[int, int], object]
     _cache_size: int
     _chunk_limit: int
+    _proof_limit: int
+    # The path of the file in a file system, for errors.
+    _path: Optional[str]
     _size: Optional[int]
     # What was checked and is kept, or None while a call uses it.
     _kept: Optional[KeptParts]
@@ -101,20 +113,22 @@ class CheckedParts:
 
     def _begin(
         self,
-        file_hash: HashLike,
+        file_hash: Union[HashLike, str],
         fetch: Callable[[int, int], object],
         prove: Callable[[int, int], object],
         salt: Optional[BytesLike],
         cache_size: SupportsIndex,
         chunk_limit: SupportsIndex,
+        proof_limit: SupportsIndex,
     ) -> None:
         for call, what in ((fetch, "fetch"), (prove, "prove")):
             if not callable(call):
-                raise TypeError(f"{what} is a callable, not {type(call).__name__}")
-        self._hash = Hash._of(raw_of(file_hash, "a file hash"))
-        self._salt = bytes(32) if salt is None else checked_32(salt, "a salt")
+                raise TypeError(but_got(f"{what} must be a callable", type(call).__name__))
+        self._hash, self._path = hash_of(file_hash, "file hash"), None
+        self._salt = bytes(32) if salt is None else checked_32(salt, "salt")
         self._fetch, self._prove = fetch, prove
-        self._cache_size, self._chunk_limit = checked_u64(cache_size, "a size"), checked_u64(chunk_limit, "a limit")
+        self._cache_size, self._chunk_limit = checked_u64(cache_size, "cache_size"), checked_u64(chunk_limit, "chunk_limit")
+        self._proof_limit = checked_u64(proof_limit, "proof_limit")
         # The default hash is the hash of the empty file.
         self._size = 0 if self._hash == Hash() else None
         self._kept = self._rescued = None
@@ -170,10 +184,12 @@ class CheckedParts:
         part = self._found(start)
         if part is None:
             stop = min(start + most, limit)
-            proof = yield from self._proof(start, stop)
-            if proof is None:
-                return None
-            part = yield from self._fetched(proof, start, stop)
+            try:
+                proof = yield from self._proof(start, stop)
+                part = None if proof is None else (yield from self._fetched(proof, start, stop))
+            except ProofMismatch as error:
+                error.path = error.path or self._path
+                raise
         return part
 
     def _proof(self, start: int, stop: int) -> Steps[Optional[RangeProof]]:
@@ -186,13 +202,21 @@ class CheckedParts:
                 raise
             return None
         if not isinstance(proof, RangeProof):
-            raise TypeError(f"prove returns a RangeProof, not {type(proof).__name__}")
+            raise TypeError(but_got("prove must return a RangeProof", type(proof).__name__))
+        if proof._length() > self._proof_limit:
+            raise ProofTooLong(but_got(f"a proof must have at most {self._proof_limit} bytes", f"{proof._length()}: see proof_limit"))
         return proof
 
-    def _fetched(self, proof: RangeProof, start: int, stop: int) -> Steps[Part]:
-        """Returns the data of a proof's chunks, once it is checked, and keeps it. They have the bytes from `start` up to `stop`."""
+    def _fetched(self, proof: RangeProof, start: int, stop: int) -> Steps[Optional[Part]]:
+        """Returns the data of a proof's chunks, once it is checked, and keeps it. They have the bytes from `start` up to `stop`.
+
+        Returns None if the proof is of a file that has no bytes, and checks that.
+        """
         opened = proof.open(self._hash, self._salt)
         begin, end, size = opened._places()
+        if size == 0:
+            self._check(opened, begin, end, size, b"")
+            return None
         if not begin <= start < min(stop, size) <= end:
             raise ProofMismatch(f"{_told(begin, end)}, and not of those from {start} up to {stop}")
         if start - begin > self._chunk_limit or end - stop > self._chunk_limit:
@@ -200,9 +224,9 @@ class CheckedParts:
         data = own_bytes((yield Request(self._fetch, begin, end)))  # type: ignore[arg-type]
         try:
             self._check(opened, begin, end, size, data)
-        except ProofMismatch:
-            if len(data) <= end - begin:
-                self._rescue_chunks(opened, data)
+        except ProofMismatch as error:
+            if error.chunk and error.place is not None:
+                self._rescue_chunks(begin, error.place, size, data)
             raise
         return begin, data
 
@@ -241,16 +265,9 @@ class CheckedParts:
                 rescued.keep(begin, data)
             self._rescued = rescued
 
-    def _rescue_chunks(self, opened: OpenedRange, data: bytes) -> None:
-        """Rescues those of a part's first chunks that are right, as of an answer that was cut off."""
-        begin = end = opened.begins(0)
-        try:
-            for chunk in range(opened.num_chunks):
-                after = opened.ends(chunk)
-                opened.check(chunk, memoryview(data)[end - begin:after - begin])
-                end = after
-        except ProofMismatch:
-            pass
+    def _rescue_chunks(self, begin: int, end: int, size: int, data: bytes) -> None:
+        """Rescues those of a part's first chunks that are right, as of an answer that was cut off. Each shows the size of the file."""
+        self._size = size
         if end > begin:
             self._rescue([(begin, data[:end - begin])])
 

@@ -8,7 +8,7 @@ from array import array
 from typing import Dict, Iterable, Iterator, List, SupportsIndex, Tuple, Union, cast, final, overload
 
 from ._arrow_out import Capsules, capsules_of_chunks, schema_of_chunks
-from ._errors import InvalidArguments
+from ._errors import InvalidArguments, but_got, told_items
 from ._hash import Hash, HashLike, checked_u64, out_of_range, raw_of
 from ._hashes import Hashes, HashesLike, HexTexts, column_of
 from ._packed import BYTE, HASH, WORD, Packed, block_or_items, checked_block, is_column, told_format
@@ -40,9 +40,9 @@ _FORMS = (
     (_SIZE, _SIZE_FIRST),
 )
 _EXPECTED = (
-    "packed chunks are bytes, unsigned words of 8 bytes, or items of 40 bytes: plain ones, or ones with the fields `hash` (or "
+    "packed chunks must be bytes, unsigned words of 8 bytes, or items of 40 bytes: plain ones, or ones with the fields `hash` (or "
     "`words`) of 32 bytes and `size`, an unsigned word; each word has its least byte first")
-_EXPECTED_SIZES = "a column of sizes has whole numbers, or it is a buffer of eight bytes for each, the least first"
+_EXPECTED_SIZES = "a column of sizes must have whole numbers, or be a buffer of eight bytes for each, the least first"
 _NUMBER = re.compile("[@=<]?[bBhHiIlLqQ]")
 _NEGATIVE = re.compile(b"[\x80-\xff]")
 
@@ -54,7 +54,8 @@ def _pack(pairs: Iterable[Tuple[HashLike, SupportsIndex]]) -> bytes:
         try:
             hash_, size = pair
         except (TypeError, ValueError):
-            raise TypeError(f"chunk {len(packed) // _SIZE} isn't a pair of a hash and an int") from None
+            what = f"chunk {len(packed) // _SIZE} must be a pair of a hash and an int"
+            raise TypeError(but_got(what, told_items(pair))) from None
         raw = hash_._raw if type(hash_) is Hash else raw_of(hash_, f"the hash of chunk {len(packed) // _SIZE}")
         try:
             add(pack(raw, size))
@@ -88,7 +89,7 @@ def _packed_sizes(sizes: SizesLike) -> bytes:
                 return given.tobytes()
         elif given.ndim == 1 and _NUMBER.fullmatch(given.format):
             return _widened(given.tobytes(), given.itemsize, given.format[-1].islower())
-        raise InvalidArguments(f"{_EXPECTED_SIZES}, not {told_format(given)}")
+        raise InvalidArguments(but_got(_EXPECTED_SIZES, told_format(given)))
 
 
 def _widened(numbers: bytes, width: int, signed: bool) -> bytes:
@@ -96,7 +97,9 @@ def _widened(numbers: bytes, width: int, signed: bool) -> bytes:
     if signed:
         negative = _NEGATIVE.search(numbers[width - 1::width])
         if negative:
-            raise out_of_range(f"size {negative.start()}")
+            place = negative.start()
+            number = int.from_bytes(numbers[width * place:width * (place + 1)], "little", signed=True)
+            raise out_of_range(f"size {place}", number)
     if width == 8:
         return numbers
     out = bytearray(len(numbers) // width * 8)
@@ -146,7 +149,7 @@ class Chunks(Packed[Chunk]):
         if isinstance(chunks, Chunks):
             return chunks
         if isinstance(chunks, str):
-            raise TypeError("chunks are pairs of a hash and an int, or a block of bytes, not a str")
+            raise TypeError(but_got("chunks must be pairs of a hash and an int, or a block of bytes", "a str"))
         given = block_or_items(chunks, _EXPECTED)
         if not isinstance(given, memoryview):
             return cls._of(_pack(cast(Iterable[Tuple[HashLike, SupportsIndex]], given)))
@@ -180,7 +183,8 @@ class Chunks(Packed[Chunk]):
         """
         column, packed_sizes = column_of(hashes), _packed_sizes(sizes)
         if len(packed_sizes) != 8 * len(column):
-            raise InvalidArguments(f"there are {len(column)} hashes and {len(packed_sizes) // 8} sizes")
+            counts = f"{len(column)} hashes and {len(packed_sizes) // 8} sizes"
+            raise InvalidArguments(but_got("there must be one size for each hash", counts))
         out = bytearray(_SIZE * len(column))
         made, words = memoryview(out).cast("Q"), memoryview(column.packed).cast("Q")
         for word in range(4):

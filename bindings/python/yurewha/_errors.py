@@ -3,7 +3,7 @@
 from __future__ import annotations
 
 import ctypes
-from typing import Dict, Type
+from typing import Dict, Optional, Type
 
 from ._declarations import LENGTHS, STATUSES
 from ._library import short
@@ -19,6 +19,7 @@ __all__ = [
     "InvalidText",
     "OutOfMemory",
     "ProofMismatch",
+    "ProofTooLong",
     "ReentrantCall",
     "SessionError",
     "SessionGap",
@@ -45,6 +46,46 @@ def status_text(status: int) -> str:
     text, length = ctypes.create_string_buffer(LENGTHS["YUREWHA_STATUS_TEXT_LENGTH"]), ctypes.c_size_t()
     short.yurewha_status_text(status, text, len(text), length)
     return text.raw[:length.value].decode("ascii")
+
+
+def but_got(rule: str, got: object) -> str:
+    """Returns the text of an error: what must be so, and what came instead. A long number is told by its bits.
+
+    >>> but_got("size must be a whole number from 0 to 2^64 - 1", -3)
+    'size must be a whole number from 0 to 2^64 - 1, got -3'
+    """
+    if isinstance(got, int) and got.bit_length() > 128:
+        got = f"a number of {got.bit_length()} bits"
+    return f"{rule}, got {got}"
+
+
+def told_type(value: object) -> str:
+    """Returns how an error names the type of a value. It says so if the value stands for none in a column.
+
+    >>> told_type(None), told_type(float("nan")), told_type(0.5)
+    ('NoneType: it is null', 'float: it is null', 'float')
+    """
+    name = type(value).__name__
+    is_null = value is None or name in ("NAType", "NaTType") or isinstance(value, float) and value != value
+    return name + ": it is null" * is_null
+
+
+def told_items(value: object) -> str:
+    """Returns how an error names the type of a value that may have another number of items than it must have.
+
+    >>> told_items((1, 2, 3)), told_items(7)
+    ('tuple of 3', 'int')
+    """
+    return told_type(value) + (f" of {len(value)}" if isinstance(value, (tuple, list)) else "")
+
+
+def told_text(text: str) -> str:
+    """Returns how an error shows a text: a long one by its first characters.
+
+    >>> told_text("abc"), told_text(200 * "a") == repr(64 * "a") + ".."
+    ("'abc'", True)
+    """
+    return repr(text) if len(text) <= 64 else repr(text[:64]) + ".."
 
 
 class YurewhaError(Exception):
@@ -148,10 +189,27 @@ def _broken_rule(before: str, rules: range, rule: int) -> str:
 class ProofMismatch(YurewhaError, ValueError):
     """A range proof doesn't show the hash that it was opened with, or data isn't that of the file.
 
+    `chunk` is the number of the first chunk that is wrong, as an `OpenedRange` numbers those of its range, and `place` is where in the file
+    it begins. `path` is that of the file, if it was read by a `VerifiedFileSystem`. What isn't known is None.
+
     It isn't an `OSError`, because programs take those for troubles of a device or a network: some would try again, and `zipfile`
     would say that the file isn't a ZIP.
 
     >>> issubclass(ProofMismatch, ValueError)
+    True
+    >>> ProofMismatch("this isn't the data of chunk 3 of the range", chunk=3, place=4096).place
+    4096
+    """
+
+    def __init__(self, *told: object, chunk: Optional[int] = None, place: Optional[int] = None, path: Optional[str] = None) -> None:
+        super().__init__(*told)
+        self.chunk, self.place, self.path = chunk, place, path
+
+
+class ProofTooLong(ProofMismatch):
+    """A range proof has more bytes than are allowed. It wasn't read.
+
+    >>> issubclass(ProofTooLong, ProofMismatch)
     True
     """
 
@@ -213,11 +271,14 @@ class SessionSizes(SessionError):
 
 
 class SessionGap(SessionError):
-    """The taken positions aren't exactly those below the total.
+    """The taken positions aren't exactly those below the total. `position` is the first one below it that isn't taken. If all are taken,
+    it is the first one from the total on that is taken, too.
 
     >>> issubclass(SessionGap, ValueError)
     True
     """
+
+    position: Optional[int] = None
 
 
 #: The faults of a session alone.

@@ -3,11 +3,11 @@
 from __future__ import annotations
 
 import os
-import threading
 from contextlib import closing
 from typing import BinaryIO, Callable, Generator, Iterator, List, Optional, SupportsIndex, Tuple, Union
 
-from ._errors import InvalidArguments
+from ._errors import InvalidArguments, but_got
+from ._guard import Guarded
 from ._hash import PIECE, Hasher
 from ._hashes import Hashes, OffsetsLike, checked_offsets, hashed_piece, pieces_of
 from ._in_threads import Stopped, checked_threads, in_threads
@@ -46,7 +46,7 @@ def hash_chunks(
     """
     name, count = os.fspath(path), checked_threads(threads)
     if progress is not None and not callable(progress):
-        raise TypeError(f"progress is a callable, not {type(progress).__name__}")
+        raise TypeError(but_got("progress must be a callable", type(progress).__name__))
     hashes = bytearray()
     with open(name, "rb", buffering=0) as file:
         places = checked_offsets(offsets, file.seek(0, os.SEEK_END))
@@ -58,11 +58,12 @@ def hash_chunks(
     return Hashes._of(bytes(hashes))
 
 
-class _Shared:
+class _Shared(Guarded):
     """A file that threads read, each where it likes."""
 
     def __init__(self, file: BinaryIO, threads: int) -> None:
-        self._file, self._lock = file, threading.Lock()
+        self._guard()
+        self._file = file
         self._some = self._at_once if threads > 1 and hasattr(os, "pread") else self._by_turns
 
     def read(self, start: int, stop: int) -> bytes:
@@ -80,7 +81,7 @@ class _Shared:
         return os.pread(self._file.fileno(), length, start)
 
     def _by_turns(self, start: int, length: int) -> bytes:
-        with self._lock:
+        with self._locked():
             self._file.seek(start)
             return self._file.read(length)
 

@@ -3,13 +3,12 @@
 from __future__ import annotations
 
 import ctypes
-import threading
 from operator import index
 from typing import TYPE_CHECKING, Callable, NoReturn, SupportsIndex, Tuple, Type, TypeVar, Union, final
 
 from ._calls import memmove
 from ._declarations import LENGTHS
-from ._errors import DivisionByZero, InvalidArguments, InvalidText, ReentrantCall, YurewhaError, error_of
+from ._errors import DivisionByZero, InvalidArguments, InvalidText, ReentrantCall, YurewhaError, but_got, error_of, told_text, told_type
 from ._guard import Guarded
 from ._lent import Lent, bytes_of, checked_view, in_place, is_read_only, view_of_bytes
 from ._library import LONG_BYTES, CBytes, CHash, CHasher, calls_for, short
@@ -38,44 +37,33 @@ _Result = TypeVar("_Result")
 def whole_number(value: SupportsIndex, what: str) -> int:
     """Returns a whole number, or raises `TypeError`.
 
-    >>> whole_number(-7, "an offset")
+    >>> whole_number(-7, "offset")
     -7
     """
     try:
         return index(value)
     except TypeError:
-        raise TypeError(f"{what} is a whole number, not {told_type(value)}") from None
+        raise TypeError(but_got(f"{what} must be a whole number", told_type(value))) from None
 
 
-def told_type(value: object) -> str:
-    """Returns how an error names the type of a value. It says so if the value stands for none in a column.
-
-    >>> told_type(None), told_type(float("nan")), told_type(0.5)
-    ('NoneType: it is null', 'float: it is null', 'float')
-    """
-    name = type(value).__name__
-    is_null = value is None or name in ("NAType", "NaTType") or isinstance(value, float) and value != value
-    return name + ": it is null" * is_null
-
-
-def out_of_range(what: str) -> InvalidArguments:
+def out_of_range(what: str, number: int) -> InvalidArguments:
     """Returns the error of a number that isn't from 0 to 2^64 - 1.
 
-    >>> out_of_range("a size")
-    InvalidArguments('a size is a whole number from 0 to 2^64 - 1')
+    >>> out_of_range("size", -3)
+    InvalidArguments('size must be a whole number from 0 to 2^64 - 1, got -3')
     """
-    return InvalidArguments(f"{what} is a whole number from 0 to 2^64 - 1")
+    return InvalidArguments(but_got(f"{what} must be a whole number from 0 to 2^64 - 1", number))
 
 
 def checked_u64(value: SupportsIndex, what: str) -> int:
     """Returns a whole number from 0 to 2^64 - 1, or raises `TypeError` or `InvalidArguments`.
 
-    >>> checked_u64(7, "a size")
+    >>> checked_u64(7, "size")
     7
     """
     number = whole_number(value, what)
     if not 0 <= number <= _MAX_U64:
-        raise out_of_range(what)
+        raise out_of_range(what, number)
     return number
 
 
@@ -86,22 +74,22 @@ def checked_bool(value: object, what: str) -> bool:
     True
     """
     if not isinstance(value, bool):
-        raise TypeError(f"{what} is a bool, not {type(value).__name__}")
+        raise TypeError(but_got(f"{what} must be a bool", told_type(value)))
     return value
 
 
 def checked_text(value: object, what: str) -> bytes:
     """Returns the UTF-8 bytes of a `str`. A lone surrogate raises `InvalidText`.
 
-    >>> checked_text("a", "the text")
+    >>> checked_text("a", "text")
     b'a'
     """
     if not isinstance(value, str):
-        raise TypeError(f"{what} is a str, not {type(value).__name__}")
+        raise TypeError(but_got(f"{what} must be a str", told_type(value)))
     try:
         return value.encode("utf-8")
-    except UnicodeEncodeError:
-        raise InvalidText(f"{what} has a lone surrogate") from None
+    except UnicodeEncodeError as error:
+        raise InvalidText(but_got(f"{what} must have no lone surrogate", f"one at character {error.start}")) from None
 
 
 def own_bytes(value: BytesLike) -> bytes:
@@ -119,12 +107,12 @@ def own_bytes(value: BytesLike) -> bytes:
 def checked_32(value: BytesLike, what: str) -> bytes:
     """Returns 32 bytes, or raises `InvalidArguments`.
 
-    >>> len(checked_32(bytes(32), "a key"))
+    >>> len(checked_32(bytes(32), "key"))
     32
     """
     data = own_bytes(value)
     if len(data) != 32:
-        raise InvalidArguments(f"{what} has 32 bytes, not {len(data)}")
+        raise InvalidArguments(but_got(f"{what} must have 32 bytes", len(data)))
     return data
 
 
@@ -152,7 +140,7 @@ class Hash:
 
     def __new__(cls, data: BytesLike = bytes(32)) -> Hash:
         out = CHash()
-        short.yurewha_hash_from_bytes(checked_32(data, "a hash"), out)
+        short.yurewha_hash_from_bytes(checked_32(data, "hash"), out)
         return cls._of(bytes(out))
 
     def __init_subclass__(cls) -> None:
@@ -192,7 +180,7 @@ class Hash:
         out = CHash()
         status = short.yurewha_from_hex(data, len(data), out)
         if status:
-            raise error_of(status, "the hex text of a hash is 64 hex digits")
+            raise error_of(status, but_got("the hex text of a hash must be 64 hex digits", told_text(text)))
         return Hash._of(bytes(out))
 
     @staticmethod
@@ -206,7 +194,7 @@ class Hash:
         out = CHash()
         status = short.yurewha_from_base64(data, len(data), out)
         if status:
-            raise error_of(status, "the base64 text of a hash is 43 characters, as `base64` writes them")
+            raise error_of(status, but_got("the base64 text of a hash must be 43 characters, as `base64` writes them", told_text(text)))
         return Hash._of(bytes(out))
 
     @staticmethod
@@ -217,7 +205,7 @@ class Hash:
         'cfc5d07f6f03c29b'
         """
         out = CHash()
-        short.yurewha_random_from_seed(checked_u64(seed, "a seed"), out)
+        short.yurewha_random_from_seed(checked_u64(seed, "seed"), out)
         return Hash._of(bytes(out))
 
     def hex(self) -> str:
@@ -275,17 +263,17 @@ class Hash:
         '638a6bc391964a85'
         """
         if not isinstance(key, Hash):
-            raise TypeError(f"a key is a Hash, not {type(key).__name__}")
+            raise TypeError(but_got("key must be a Hash", told_type(key)))
         out = CHash()
         short.yurewha_hmac(self._raw, key._raw, out)
         return Hash._of(bytes(out))
 
     def __mod__(self, divisor: int) -> int:
-        number = checked_u64(divisor, "a divisor")
+        number = checked_u64(divisor, "divisor")
         out = ctypes.c_uint64()
         status = short.yurewha_remainder(self._raw, number, out)
         if number == 0:
-            raise DivisionByZero("the divisor is 0")
+            raise DivisionByZero(but_got("divisor must be at least 1", number))
         if status:
             raise error_of(status)
         return out.value
@@ -339,14 +327,14 @@ HashLike = Union[Hash, bytes]
 def raw_of(hash_: object, what: str) -> bytes:
     """Returns the C struct of a hash. Raises `InvalidArguments` or `TypeError`.
 
-    >>> raw_of(bytes(32), "a hash") == raw_of(Hash(), "a hash")
+    >>> raw_of(bytes(32), "hash") == raw_of(Hash(), "hash")
     True
     """
     if type(hash_) is Hash:
         return hash_._raw
     if type(hash_) is bytes:
         return checked_32(hash_, what)
-    raise TypeError(f"{what} is a Hash or 32 bytes, not {told_type(hash_)}")
+    raise TypeError(but_got(f"{what} must be a Hash or 32 bytes", told_type(hash_)))
 
 
 # Sets the bytes of a new hash. It takes half the time of `object.__setattr__`.
@@ -471,7 +459,7 @@ class Hasher(Guarded):
     True
     """
 
-    __slots__ = ("_state", "_name", "_by_pieces")
+    __slots__ = ("_state", "_name", "_in_update")
 
     digest_size: int = 32
     block_size: int = 64
@@ -479,15 +467,15 @@ class Hasher(Guarded):
     # It stays in one place. So a call by a signal handler, made between two steps of another call, isn't lost.
     _state: CHasher
     _name: str
-    # Held during a long update, which overwrites the state at its end.
-    _by_pieces: threading.Lock
+    # Whether a long update is under way, which overwrites the state at its end.
+    _in_update: bool
 
     def __new__(cls, data: BytesLike = b"") -> Hasher:
         self = object.__new__(cls)
         self._guard()
         self._state = CHasher()
         self._name = "yurewha-data"
-        self._by_pieces = threading.Lock()
+        self._in_update = False
         short.yurewha_hasher_begin_data(self._state)
         self.update(data)
         return self
@@ -515,7 +503,7 @@ class Hasher(Guarded):
         >>> Hasher.keyed(bytes(32), bytes(32)).hash() == Hash().hmac(Hash())
         True
         """
-        checked = checked_32(key, "a key")
+        checked = checked_32(key, "key")
         self = Hasher()
         self._name = "blake3-keyed"
         short.yurewha_hasher_begin_keyed(self._state, checked)
@@ -555,7 +543,7 @@ class Hasher(Guarded):
             _handed(data, nobody_writes, self._add, self._add_by_pieces)
 
     def _refuse_reentry(self) -> None:
-        if self._by_pieces.locked():
+        if self._in_update:
             raise ReentrantCall("a signal handler called update during a long update of the same hasher")
 
     def _add(self, start: Start, length: int) -> None:
@@ -571,10 +559,13 @@ class Hasher(Guarded):
 
     def _add_all(self, add: Callable[[CHasher], None]) -> None:
         """Appends all that a call adds to a state, or nothing if the call ends early."""
-        with self._by_pieces:
+        self._in_update = True
+        try:
             state = CHasher.from_buffer_copy(self._state)
             add(state)
             memmove(ctypes.byref(self._state), ctypes.byref(state), ctypes.sizeof(CHasher))
+        finally:
+            self._in_update = False
 
     def _hash_in_steps(self, start: Start, length: int) -> Hash:
         _add_in_steps(self._state, start, length)

@@ -3,10 +3,10 @@
 from __future__ import annotations
 
 import struct
-import threading
 from typing import ClassVar, Iterator, List, Set, Tuple, Type, final
 
-from ._errors import InvalidText
+from ._errors import InUseAtFork, InvalidText, but_got
+from ._guard import Guarded, both_locked
 from ._hash import Hash, HashLike, raw_of
 from ._hashes import Hashes, HashesLike
 from ._saving import Path, read_whole, write_whole
@@ -27,7 +27,7 @@ def raws_of(packed: bytes) -> List[bytes]:
 
 
 @final
-class HashIndex:
+class HashIndex(Guarded):
     """A set of hashes, each kept once. It says which hashes of a list are new, as one does before an upload.
 
     A hash is a `Hash` or its 32 bytes, and a list is what `Hashes` accepts. It takes the memory of a set of `bytes`, about 120 bytes
@@ -38,15 +38,15 @@ class HashIndex:
     (False, True, True, 2)
     """
 
-    __slots__ = ("_raws", "_lock", "__weakref__")
+    __slots__ = ("_raws",)
 
     _raws: Set[bytes]
-    _lock: threading.RLock
     # An instance is mutable, so it has no hash.
     __hash__: ClassVar[None] = None  # type: ignore[assignment]
 
     def __init__(self, hashes: HashesLike = ()) -> None:
-        self._raws, self._lock = set(raws_of(Hashes(hashes).packed)), threading.RLock()
+        self._guard()
+        self._raws = set(raws_of(Hashes(hashes).packed))
 
     def __init_subclass__(cls) -> None:
         raise TypeError("HashIndex can't be subclassed")
@@ -58,8 +58,8 @@ class HashIndex:
         >>> index.add(Hash()), index.add(Hash())
         (True, False)
         """
-        raw = hash_._raw if type(hash_) is Hash else raw_of(hash_, "a hash")
-        with self._lock:
+        raw = hash_._raw if type(hash_) is Hash else raw_of(hash_, "hash")
+        with self._locked():
             before = len(self._raws)
             self._raws.add(raw)
             return len(self._raws) > before
@@ -71,13 +71,15 @@ class HashIndex:
         1
         """
         raws = raws_of(Hashes(hashes).packed)
-        with self._lock:
+        with self._locked():
             before = len(self._raws)
             self._raws.update(raws)
             return len(self._raws) - before
 
     def __contains__(self, hash_: HashLike) -> bool:
-        return (hash_._raw if type(hash_) is Hash else raw_of(hash_, "a hash")) in self._raws
+        raw = hash_._raw if type(hash_) is Hash else raw_of(hash_, "hash")
+        with self._locked():
+            return raw in self._raws
 
     def contains(self, hashes: HashesLike) -> List[bool]:
         """Returns of each hash of a list whether it is in the index. `hashes[index.contains(hashes)]` has those that are.
@@ -85,7 +87,9 @@ class HashIndex:
         >>> HashIndex([Hash()]).contains([Hash(), Hash.random_from_seed(1)])
         [True, False]
         """
-        return list(map(self._raws.__contains__, raws_of(Hashes(hashes).packed)))
+        raws = raws_of(Hashes(hashes).packed)
+        with self._locked():
+            return list(map(self._raws.__contains__, raws))
 
     def new(self, hashes: HashesLike) -> Hashes:
         """Returns the hashes of a list that aren't in the index, each once, in their order.
@@ -93,8 +97,9 @@ class HashIndex:
         >>> list(HashIndex([Hash()]).new([Hash(), Hash.random_from_seed(1)])) == [Hash.random_from_seed(1)]
         True
         """
-        known = self._raws
-        return Hashes._of(b"".join(raw for raw in dict.fromkeys(raws_of(Hashes(hashes).packed)) if raw not in known))
+        raws = dict.fromkeys(raws_of(Hashes(hashes).packed))
+        with self._locked():
+            return Hashes._of(b"".join(raw for raw in raws if raw not in self._raws))
 
     def hashes(self) -> Hashes:
         """Returns all hashes, in no particular order.
@@ -102,11 +107,12 @@ class HashIndex:
         >>> list(HashIndex([Hash()]).hashes()) == [Hash()]
         True
         """
-        with self._lock:
+        with self._locked():
             return Hashes._of(b"".join(self._raws))
 
     def __len__(self) -> int:
-        return len(self._raws)
+        with self._locked():
+            return len(self._raws)
 
     def __iter__(self) -> Iterator[Hash]:
         return iter(self.hashes())
@@ -114,7 +120,9 @@ class HashIndex:
     def __eq__(self, other: object) -> bool:
         if not isinstance(other, HashIndex):
             return NotImplemented
-        return self._raws == other._raws
+        first, second = both_locked(self, other)
+        with first, second:
+            return self._raws == other._raws
 
     def save(self, path: Path) -> None:
         """Writes the index to a file, whole or not at all: an error or a crash leaves the file that was there before.
@@ -143,7 +151,7 @@ class HashIndex:
         """
         packed = read_whole(path, b"hash index")
         if len(packed) % _SIZE:
-            raise InvalidText("a saved hash index has 32 bytes for each hash")
+            raise InvalidText(but_got("a saved hash index must have 32 bytes for each hash", f"{len(packed)} bytes"))
         return HashIndex(packed)
 
     def copy(self) -> HashIndex:
@@ -165,4 +173,7 @@ class HashIndex:
         return HashIndex, (self.hashes().packed,)
 
     def __repr__(self) -> str:
-        return f"<yurewha.HashIndex of {len(self)}>"
+        try:
+            return f"<yurewha.HashIndex of {len(self)}>"
+        except InUseAtFork:
+            return "<yurewha.HashIndex that can't be read>"

@@ -95,7 +95,7 @@ class HashTree(Guarded):
         >>> HashTree([(Hash(), 7)]).file_hash() == file_hash([(Hash(), 7)])
         True
         """
-        key, out = bytes(32) if salt is None else checked_32(salt, "a salt"), CHash()
+        key, out = bytes(32) if salt is None else checked_32(salt, "salt"), CHash()
         with self._locked():
             status = short.yurewha_hash_tree_file_hash(self._handle, key, out)
         if status:
@@ -178,7 +178,7 @@ class HashTree(Guarded):
         >>> HashTree([(Hash(), 7), (Hash(), 8), (Hash(), 9)]).chunks_at(3, 15)
         (0, 2)
         """
-        begin, end = checked_u64(start, "a place"), checked_u64(stop, "a place")
+        begin, end = checked_u64(start, "place"), checked_u64(stop, "place")
         first, after = ctypes.c_size_t(), ctypes.c_size_t()
         with self._locked():
             status = short.yurewha_hash_tree_chunks_at(self._handle, begin, end, first, after)
@@ -194,7 +194,7 @@ class HashTree(Guarded):
         >>> HashTree([(Hash(), 7), (Hash(), 8), (Hash(), 9)]).bytes_of(1, 3)
         (7, 24)
         """
-        number, after = checked_u64(first, "the number of a chunk"), checked_u64(end, "the number of a chunk")
+        number, after = checked_u64(first, "chunk number"), checked_u64(end, "chunk number")
         begin, stop = ctypes.c_uint64(), ctypes.c_uint64()
         with self._locked():
             status = short.yurewha_hash_tree_bytes_of(self._handle, number, after, begin, stop)
@@ -213,7 +213,7 @@ class HashTree(Guarded):
         >>> HashTree([(Hash(), 7), (Hash(), 8), (Hash(), 9)]).proof(1, 2)
         <yurewha.RangeProof of 1 chunk, with 2 nodes beside on 1 level>
         """
-        number, after = checked_u64(first, "the number of a chunk"), checked_u64(end, "the number of a chunk")
+        number, after = checked_u64(first, "chunk number"), checked_u64(end, "chunk number")
         return self._proof(number, after, max(min(after, self.num_chunks) - number, 0))
 
     def _proof(self, number: int, after: int, count: int) -> RangeProof:
@@ -234,11 +234,14 @@ class HashTree(Guarded):
     def proof_of_bytes(self, start: int, stop: int) -> RangeProof:
         """Returns the proof of the chunks that `chunks_at` returns, those with the bytes from `start` up to `stop`.
 
-        A server calls it for a reader. Raises `InvalidArguments` if there is no such byte.
+        A server calls it for a reader. Raises `InvalidArguments` if there is no such byte. Of a file that has chunks, and none with a
+        byte, it returns the proof of the first chunk, which shows the size of the file.
 
         >>> len(HashTree([(Hash(), 7), (Hash(), 8), (Hash(), 9)]).proof_of_bytes(3, 15).chunks)
         2
         """
+        if self.total_size == 0 < self.num_chunks and checked_u64(start, "a place") < checked_u64(stop, "a place"):
+            return self.proof(0, 1)
         first, end = self.chunks_at(start, stop)
         return self._proof(first, end, end - first)
 

@@ -8,7 +8,7 @@ from array import array
 from typing import Dict, Iterable, Iterator, List, SupportsIndex, Union, cast, final
 
 from ._arrow_out import Capsules, capsules_of_hashes, schema_of_hashes
-from ._errors import InvalidArguments, InvalidText, error_of
+from ._errors import InvalidArguments, InvalidText, but_got, error_of
 from ._hash import PIECE, STEP, Hash, Hasher, HashLike, Start, checked_bool, raw_of, whole_number
 from ._lent import Lent, is_read_only
 from ._library import LONG_BYTES, CHash, calls_for
@@ -34,7 +34,7 @@ _LEAST_SHARE, _SHARE = 1 << 19, 1 << 22
 _PIECES_EACH = 4
 _FORMS = ((1, re.compile(BYTE)), (8, re.compile(WORD)), (_SIZE, re.compile(HASH)))
 _EXPECTED = (
-    "packed hashes are bytes, four unsigned words of 8 bytes in a row, each with its least byte first, or plain items of 32 "
+    "packed hashes must be bytes, four unsigned words of 8 bytes in a row, each with its least byte first, or plain items of 32 "
     "bytes")
 
 
@@ -61,7 +61,7 @@ class Hashes(Packed[Hash]):
         if isinstance(hashes, Hashes):
             return hashes
         if isinstance(hashes, str):
-            raise TypeError("hashes are a list of them, or a block of bytes; Hashes.from_hex reads texts")
+            raise TypeError(but_got("hashes must be a list of them, or a block of bytes", "a str; Hashes.from_hex reads texts"))
         given = block_or_items(hashes, _EXPECTED)
         if not isinstance(given, memoryview):
             return cls._of(b"".join(_raw_items(given)))
@@ -81,7 +81,7 @@ class Hashes(Packed[Hash]):
         '0a'
         """
         if isinstance(texts, str):
-            raise TypeError("hex texts are a list of them, not a str")
+            raise TypeError(but_got("hex texts must be a list of them", "a str"))
         listed = list(texts)
         try:
             packed = bytes.fromhex("".join(listed))
@@ -198,15 +198,23 @@ def data_hashes(
             return Hashes._of(_hashed(lent.at(0), lent.length, places))
 
         def hash_piece(piece: List[int], stopped: Stopped) -> bytes:
-            start, end = piece[0], piece[-1]
-            if len(piece) == 2 and end - start > STEP:
-                return _hashed_in_steps(lent, start, end, in_place, stopped)
-            if in_place:
-                return _hashed(lent.at(start), end - start, [place - start for place in piece])
-            return hashed_piece(lent.piece(start, end), piece)
+            # A thread may go on after the call was ended. So the bytes are lent to each piece of work.
+            with Lent(view) as own:
+                own.hold()
+                return _hashed_lent(own, piece, in_place, stopped)
 
         most = PIECE if not in_place else STEP if count == 1 else _share(places[-1] - places[0], count)
         return Hashes._of(b"".join(in_threads(hash_piece, pieces_of(places, most), count)))
+
+
+def _hashed_lent(lent: Lent, places: List[int], in_place: bool, stopped: Stopped) -> bytes:
+    """Returns the hashes of the chunks between these offsets."""
+    start, end = places[0], places[-1]
+    if len(places) == 2 and end - start > STEP:
+        return _hashed_in_steps(lent, start, end, in_place, stopped)
+    if in_place:
+        return _hashed(lent.at(start), end - start, [place - start for place in places])
+    return hashed_piece(lent.piece(start, end), places)
 
 
 def _share(length: int, threads: int) -> int:
@@ -269,24 +277,24 @@ def checked_offsets(offsets: OffsetsLike, end: int, of: str = "bytes") -> List[i
     >>> checked_offsets(range(3), 2)
     [0, 1, 2]
     """
-    expected = f"offsets are whole numbers, one more than there are {'chunks' if of == 'bytes' else 'lists'}"
+    expected = f"offsets must be whole numbers, one more than there are {'chunks' if of == 'bytes' else 'lists'}"
     given = block_or_items(offsets, expected)
     if isinstance(given, memoryview):
         with given:
             kinds = "@?[bBhHiIlLqQ]" if is_column(offsets) else "@?[hHiIlLqQ]"
             if not re.fullmatch(kinds, given.format) or given.ndim != 1:
-                raise InvalidArguments(f"{expected}, not {told_format(given)}")
+                raise InvalidArguments(but_got(expected, told_format(given)))
             places = given.tolist()
     else:
         listed = cast(Iterable[SupportsIndex], given)
         places = [whole_number(offset, f"offset {number}") for number, offset in enumerate(listed)]
     if not places:
-        raise InvalidArguments(f"{expected}, and there is none")
+        raise InvalidArguments(but_got(expected, "none"))
     before = 0
     for number, place in enumerate(places):
         if place < before:
-            raise InvalidArguments(f"offset {number} is {place}, which is less than {before}")
+            raise InvalidArguments(but_got(f"offset {number} must be at least {before}", place))
         before = place
     if before > end:
-        raise InvalidArguments(f"the last offset is {before}, and there are {end} {of}")
+        raise InvalidArguments(but_got(f"the last offset must be at most {end}, the number of {of}", before))
     return places

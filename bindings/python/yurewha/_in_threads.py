@@ -2,15 +2,16 @@
 
 from __future__ import annotations
 
+import _thread
+import time
 from collections import deque
-from concurrent.futures import Future, ThreadPoolExecutor
+from functools import partial
 from itertools import islice
-from threading import Condition
 from typing import Callable, Deque, Generator, Generic, Iterable, Iterator, List, Optional, SupportsIndex, Tuple, TypeVar
 
-from ._errors import InvalidArguments
+from ._errors import InvalidArguments, but_got
 from ._hash import checked_u64
-from ._interrupts import waited
+from ._interrupts import Outcome, waited
 
 _Piece = TypeVar("_Piece")
 _Result = TypeVar("_Result")
@@ -24,6 +25,9 @@ _Done = Tuple[List[_Result], Optional[BaseException]]
 #: How many batches each thread has before it, so that none waits for a longer one.
 _QUEUED = 8
 
+#: After so many seconds a call that was ended looks again whether its threads have ended their work.
+_PAUSE = 0.001
+
 
 def checked_threads(threads: SupportsIndex) -> int:
     """Returns a number of threads. Raises `InvalidArguments` unless there is at least one.
@@ -31,9 +35,9 @@ def checked_threads(threads: SupportsIndex) -> int:
     >>> checked_threads(4)
     4
     """
-    count = checked_u64(threads, "a number of threads")
+    count = checked_u64(threads, "threads")
     if count == 0:
-        raise InvalidArguments("there is at least one thread")
+        raise InvalidArguments(but_got("threads must be at least 1", count))
     return count
 
 
@@ -53,19 +57,20 @@ def in_threads(
             yield work(piece, bool)
         return
     crew: _Crew[_Piece, _Result] = _Crew(work)
-    coming: Deque[Future[_Done[_Result]]] = deque()
-    pool = ThreadPoolExecutor(threads)
+    coming: Deque[Outcome[_Done[_Result]]] = deque()
     left = iter(pieces)
     try:
         for several in iter(lambda: list(islice(left, batch)), []):
-            coming.append(pool.submit(crew.do, several))
+            coming.append(crew.handed(several, threads))
             if len(coming) > _QUEUED * threads:
                 yield from _results(waited(coming.popleft()))
         while coming:
             yield from _results(waited(coming.popleft()))
     finally:
-        crew.stop()
-        pool.shutdown(wait=False, cancel_futures=True)
+        try:
+            crew.stop()
+        finally:
+            crew.stop()  # a second handler may raise before the first call has begun, or while it waits
 
 
 def _results(done: _Done[_Result]) -> Iterator[_Result]:
@@ -76,21 +81,52 @@ def _results(done: _Done[_Result]) -> Iterator[_Result]:
 
 
 class _Crew(Generic[_Piece, _Result]):
-    """Threads at work. A handler that raises while the pool starts a thread makes the pool forget it, so each is counted here."""
+    """Threads at work. Each ends once nothing is left to do.
+
+    It has no lock, because a handler that raises twice may leave one locked for ever. Lists change in one step.
+    """
 
     def __init__(self, work: Callable[[_Piece, Stopped], _Result]) -> None:
-        self._work, self._changed = work, Condition()
-        self._working, self._stopped = 0, False
+        self._work, self._stopped = work, False
+        self._left: Deque[Tuple[List[_Piece], Outcome[_Done[_Result]]]] = deque()
+        # One item for each thread that was started and goes on, and for each that is at work.
+        self._started: List[None] = []
+        self._at_work: List[None] = []
+
+    @property
+    def _working(self) -> int:
+        return len(self._at_work)
 
     def is_stopped(self) -> bool:
         """Returns whether nobody waits any more."""
         return self._stopped
 
+    def handed(self, pieces: List[_Piece], threads: int) -> Outcome[_Done[_Result]]:
+        """Hands some pieces over. Starts a thread unless there are so many."""
+        outcome: Outcome[_Done[_Result]] = Outcome()
+        self._left.append((pieces, outcome))
+        if len(self._started) < threads:
+            self._started.append(None)
+            _thread.start_new_thread(self._run, ())
+        return outcome
+
+    def _run(self) -> None:
+        """Works until nothing is left. What is handed over while it ends is seen either here or by whoever hands it over."""
+        while True:
+            try:
+                pieces, outcome = self._left.popleft()
+            except IndexError:
+                self._started.pop()
+                if not self._left:
+                    return
+                self._started.append(None)
+            else:
+                outcome.take(partial(self.do, pieces))
+
     def do(self, pieces: List[_Piece]) -> _Done[_Result]:
         """Does the work on some pieces, one after another, as long as somebody waits for them."""
         results: List[_Result] = []
-        with self._changed:
-            self._working += 1
+        self._at_work.append(None)
         try:
             for piece in pieces:
                 if self._stopped:
@@ -100,20 +136,10 @@ class _Crew(Generic[_Piece, _Result]):
         except BaseException as error:
             return results, error
         finally:
-            with self._changed:
-                self._working -= 1
-                self._changed.notify_all()
+            self._at_work.pop()
 
     def stop(self) -> None:
-        """Waits until no thread works. A handler that raises meanwhile ends nothing, since they may read memory of the caller."""
-        raised: Optional[BaseException] = None
+        """Waits until no thread works. Handlers that raise may prevent this. So what a thread reads is lent to the thread itself."""
         self._stopped = True
-        while True:
-            try:
-                with self._changed:
-                    self._changed.wait_for(lambda: not self._working)
-                break
-            except BaseException as error:
-                raised = error
-        if raised is not None:
-            raise raised
+        while self._working:
+            time.sleep(_PAUSE)

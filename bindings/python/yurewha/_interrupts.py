@@ -4,7 +4,6 @@ from __future__ import annotations
 
 import _thread
 import threading
-from concurrent.futures import Future, wait
 from typing import Callable, Generic, List, Sequence, TypeVar
 
 from ._guard import Guarded, all_locked
@@ -19,15 +18,52 @@ MANY_BYTES = 1 << 24
 WAIT = 0.05
 
 
-def waited(future: Future[_Result]) -> _Result:
-    """Returns the result of a future, or raises its error. A signal handler that raises ends the wait for it.
+class Outcome(Generic[_Result]):
+    """What some work in another thread comes to. One thread waits for it.
 
-    >>> future = Future(); future.set_result(7); waited(future)
+    It has a plain lock and two lists, because a handler that raises leaves nothing half changed in them. In a `Future` it does.
+    """
+
+    __slots__ = ("_end", "_results", "_errors")
+
+    def __init__(self) -> None:
+        self._results: List[_Result] = []
+        self._errors: List[BaseException] = []
+        self._end = _thread.allocate_lock()
+        self._end.acquire()
+
+    def take(self, work: Callable[[], _Result]) -> None:
+        """Does the work, and has what it returns or raises.
+
+        >>> outcome = Outcome(); outcome.take(lambda: 7); waited(outcome)
+        7
+        """
+        try:
+            self._results.append(work())
+        except BaseException as error:
+            self._errors.append(error)
+        self._end.release()
+
+    def has_come(self) -> bool:
+        """Returns whether the work is done.
+
+        >>> Outcome().has_come()
+        False
+        """
+        return bool(self._results or self._errors)
+
+
+def waited(outcome: Outcome[_Result]) -> _Result:
+    """Returns what the work returned, or raises what it raised. A signal handler that raises ends the wait for it.
+
+    >>> outcome = Outcome(); outcome.take(lambda: 7); waited(outcome)
     7
     """
-    while not future.done():
-        wait([future], WAIT)
-    return future.result()
+    while not outcome.has_come():
+        outcome._end.acquire(timeout=WAIT)
+    for error in outcome._errors:
+        raise error
+    return outcome._results[0]
 
 
 def interruptible(work: Callable[[], _Result], is_long: bool, *used: Guarded) -> _Result:
@@ -54,19 +90,21 @@ def interruptible(work: Callable[[], _Result], is_long: bool, *used: Guarded) ->
     except BaseException:
         task.claimed()
         raise
-    return task.outcome()
+    try:
+        return waited(task.outcome)[0]
+    except BaseException:
+        task.claimed()
+        raise
 
 
 class _Task(Generic[_Result]):
-    """Work that another thread does. It has plain locks, since a handler that raises leaves nothing half changed in them, and a thread
-    without an object of `threading`, for the same reason."""
+    """Work that another thread does. That thread has no object of `threading`, as a handler that raises may leave one half made."""
 
     def __init__(self, work: Callable[[], _Result], used: Sequence[Guarded]) -> None:
         self._work, self._used = work, used
-        self._claim, self._end = _thread.allocate_lock(), _thread.allocate_lock()
-        self._end.acquire()
-        self._results: List[_Result] = []
-        self._errors: List[BaseException] = []
+        self._claim = _thread.allocate_lock()
+        #: The result, or none if nobody waited for it any more.
+        self.outcome: Outcome[List[_Result]] = Outcome()
 
     def claimed(self) -> bool:
         """Returns True once: to the thread that begins the work, or to the one that no longer waits for it."""
@@ -74,22 +112,9 @@ class _Task(Generic[_Result]):
 
     def do(self) -> None:
         """Does the work, unless nobody waits for it. Before it is begun it has the locks, so that nobody sees an object as it was."""
-        try:
-            with all_locked(self._used):
-                if self.claimed():
-                    self._results.append(self._work())
-        except BaseException as error:
-            self._errors.append(error)
-        self._end.release()
+        self.outcome.take(self._results)
 
-    def outcome(self) -> _Result:
-        """Waits for the work, and returns what it returned or raises what it raised."""
-        try:
-            while not self._end.acquire(timeout=WAIT):
-                pass
-        except BaseException:
-            self.claimed()
-            raise
-        for error in self._errors:
-            raise error
-        return self._results[0]
+    def _results(self) -> List[_Result]:
+        with all_locked(self._used):
+            return [self._work()] if self.claimed() else []
+        raise AssertionError("an exit stack swallows nothing")

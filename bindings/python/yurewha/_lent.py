@@ -7,6 +7,7 @@ import re
 from typing import Callable, Optional, Type, TypeVar, cast
 
 from ._calls import named, string_at
+from ._errors import but_got
 from ._types import BytesLike, view_of
 
 
@@ -56,7 +57,7 @@ def checked_view(view: memoryview) -> memoryview:
     """
     format_ = view.format
     if format_ != "B" and _ADDRESS.search(_FIELD.sub("", format_)):
-        raise TypeError(f"the bytes of '{format_}' are the addresses of objects, not the objects")
+        raise TypeError(but_got("data must be bytes", f"'{format_}', the addresses of objects"))
     return view
 
 
@@ -66,7 +67,11 @@ def view_of_bytes(data: BytesLike) -> memoryview:
     >>> view_of_bytes(b"ab").nbytes
     2
     """
-    return checked_view(view_of(data))
+    try:
+        view = view_of(data)
+    except TypeError:
+        raise TypeError(but_got("data must be bytes, or an object that lends its bytes", type(data).__name__)) from None
+    return checked_view(view)
 
 
 class Lent:

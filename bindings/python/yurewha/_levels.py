@@ -5,6 +5,7 @@ from __future__ import annotations
 import struct
 from typing import Iterable, Sequence, SupportsIndex, Tuple
 
+from ._errors import but_got, told_items
 from ._hash import checked_u64
 
 #: How many left and right nodes each level has, from the chunks up.
@@ -25,7 +26,7 @@ def packed_levels(levels: Iterable[Sequence[SupportsIndex]]) -> bytes:
         try:
             left, right = level
         except (TypeError, ValueError):
-            raise TypeError(f"level {number} is a pair of numbers, of left and of right nodes") from None
+            raise TypeError(but_got(f"level {number} must be a pair of numbers, of left and of right nodes", told_items(level))) from None
         what = f"a count of level {number}"
         packed += LEVEL.pack(checked_u64(left, what), checked_u64(right, what))
     return bytes(packed)

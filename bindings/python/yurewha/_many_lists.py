@@ -50,7 +50,7 @@ def file_hashes(chunks: ChunksLike, offsets: OffsetsLike, salt: Optional[BytesLi
     >>> list(file_hashes(chunks, [0, 2, 5])) == [file_hash(chunks[:2]), file_hash(chunks[2:])]
     True
     """
-    key = bytes(32) if salt is None else checked_32(salt, "a salt")
+    key = bytes(32) if salt is None else checked_32(salt, "salt")
 
     def call(start: ctypes.c_char_p, count: int, out: CHash) -> int:
         return int(calls_for(count, LONG_CHUNKS).yurewha_file_hash_with_salt(start, count, key, out))

@@ -23,7 +23,7 @@ from typing import (
 )
 
 from ._arrow import block_of_array, block_of_stream
-from ._errors import InvalidArguments
+from ._errors import InvalidArguments, but_got, told_type
 from ._lent import bytes_of
 from ._types import Array, view_of
 
@@ -67,7 +67,7 @@ def block_or_items(values: object, expected: str) -> Union[memoryview, Iterable[
     except TypeError:
         return cast(Iterable[object], values)
     except (ValueError, BufferError) as error:
-        raise InvalidArguments(f"{expected}: {error}") from None
+        raise InvalidArguments(but_got(expected, f"a buffer that can't be read: {error}")) from None
     # Arrays of objects or of texts have items.
     return cast(Iterable[object], values) if view.format == "O" or view.format.endswith("w") else view
 
@@ -103,14 +103,14 @@ def checked_block(view: memoryview, size: int, forms: Forms, expected: str) -> b
     True
     """
     if not any(view.itemsize == bytes_ and form.fullmatch(view.format) for bytes_, form in forms):
-        raise InvalidArguments(f"{expected}, not '{view.format}'")
+        raise InvalidArguments(but_got(expected, f"'{view.format}'"))
     in_a_row = size // view.itemsize
     if view.ndim == 1 or in_a_row == 1:
         fits = view.nbytes % size == 0
     else:
         fits = (view.shape or ())[-1:] == (in_a_row,)
     if not fits:
-        raise InvalidArguments(f"{expected}, and there are {size} bytes for each")
+        raise InvalidArguments(but_got(f"{expected}, with {size} bytes for each", f"{view.nbytes} bytes"))
     return bytes_of(view)
 
 
@@ -120,32 +120,32 @@ def numbers_of(at: Picked, count: int) -> List[int]:
     >>> numbers_of([2, -1, 0], 3), numbers_of([True, False, True], 3)
     ([2, 2, 0], [0, 2])
     """
-    expected = "items are picked by whole numbers, or by a bool for each"
+    expected = "items must be picked by whole numbers, or by a bool for each"
     if isinstance(at, (str, bytes, bytearray)):
-        raise TypeError(f"{expected}, not by {type(at).__name__}")
+        raise TypeError(but_got(expected, told_type(at)))
     given = block_or_items(at, expected)
     if isinstance(given, memoryview):
         listed: List[object]
         with given:
             if given.ndim != 1 or not re.fullmatch("[@=<]?[?bBhHiIlLqQ]", given.format):
-                raise TypeError(f"{expected}, not by {told_format(given)}")
+                raise TypeError(but_got(expected, told_format(given)))
             listed = [*given.tolist()]
     else:
         listed = list(given)
     # NumPy's own bools aren't Python's.
     if listed and all(isinstance(item, bool) or type(item).__name__ in ("bool_", "bool") for item in listed):
         if len(listed) != count:
-            raise IndexError(f"there are {count} items and {len(listed)} bools")
+            raise IndexError(but_got(f"there must be a bool for each of {count} items", len(listed)))
         return [number for number, item in enumerate(listed) if item]
     return [_number_of(item, place, count, expected) for place, item in enumerate(listed)]
 
 
 def _number_of(item: object, place: int, count: int, expected: str) -> int:
     if isinstance(item, bool) or not hasattr(item, "__index__"):
-        raise TypeError(f"{expected}, and item {place} is {type(item).__name__}")
+        raise TypeError(but_got(expected, f"{told_type(item)} as item {place}"))
     number = index(cast(SupportsIndex, item))
     if not -count <= number < count:
-        raise IndexError(f"item {place} is {number}, and there are {count} items")
+        raise IndexError(but_got(f"item {place} must be the number of one of {count} items", number))
     return number + count if number < 0 else number
 
 

@@ -19,7 +19,7 @@ from typing import (
 
 from ._calls import string_at
 from ._chunks import Chunks, ChunksLike
-from ._errors import InvalidArguments, YurewhaError, error_of
+from ._errors import InvalidProof, ProofMismatch, ProofTooLong, YurewhaError, but_got, error_of
 from ._guard import Guarded
 from ._hash import HashLike, Start, checked_32, checked_bool, checked_text, checked_u64, own_bytes, raw_of
 from ._lent import in_place, is_read_only, view_of_bytes
@@ -32,6 +32,8 @@ __all__ = ["OpenedRange", "RangeProof"]
 
 _COUNT = struct.Struct("<Q")
 _CHUNK_SIZE = ctypes.sizeof(CChunk)
+#: How many bytes a proof may have, unless the caller allows more: as JSON, those of some 160,000 nodes.
+PROOF_LIMIT = 1 << 24
 #: The most levels of a proof.
 MOST_LEVELS = 64
 # The fewest bytes of a node in JSON.
@@ -134,7 +136,7 @@ class RangeProof:
         >>> len(HashTree([(Hash(), 7), (Hash(), 8)]).proof(1, 2).left(0))
         1
         """
-        counts, number = self.levels, checked_u64(level, "a level")
+        counts, number = self.levels, checked_u64(level, "level")
         at = sum(left for left, _ in counts[:number])
         return self._nodes[at:at + counts[number][0]] if number < len(counts) else Chunks()
 
@@ -145,7 +147,7 @@ class RangeProof:
         >>> len(HashTree([(Hash(), 7), (Hash(), 8)]).proof(1, 2).right(0))
         0
         """
-        counts, number = self.levels, checked_u64(level, "a level")
+        counts, number = self.levels, checked_u64(level, "level")
         after = len(self._nodes) - sum(right for _, right in counts[:number])
         return self._nodes[after - counts[number][1]:after] if number < len(counts) else Chunks()
 
@@ -165,8 +167,8 @@ class RangeProof:
         >>> tree.proof(1, 2).open(tree.file_hash(salt=bytes(32)), salt=bytes(32))
         <yurewha.OpenedRange of 1 chunk: bytes from 7 up to 15 of 15, by the proof's word>
         """
-        raw = raw_of(file_hash, "a file hash")
-        key = bytes(32) if salt is None else checked_32(salt, "a salt")
+        raw = raw_of(file_hash, "file hash")
+        key = bytes(32) if salt is None else checked_32(salt, "salt")
         return self._opened("yurewha_range_proof_open", "the proof doesn't show this file hash under this salt", raw, key)
 
     def open_root(self, root: HashLike) -> OpenedRange:
@@ -177,7 +179,7 @@ class RangeProof:
         >>> tree.proof(0, 1).open_root(tree.root).file_size
         15
         """
-        return self._opened("yurewha_range_proof_open_root", "the proof doesn't show this root", raw_of(root, "a root"))
+        return self._opened("yurewha_range_proof_open_root", "the proof doesn't show this root", raw_of(root, "root"))
 
     def _opened(self, which: str, mismatch: str, *hashes: bytes) -> OpenedRange:
         opened, count = OpenedRange._empty(), len(self._nodes)
@@ -208,16 +210,20 @@ class RangeProof:
         return string_at(text, length.value).decode("ascii")
 
     @staticmethod
-    def from_json(text: Union[str, BytesLike]) -> RangeProof:
+    def from_json(text: Union[str, BytesLike], *, limit: Optional[SupportsIndex] = PROOF_LIMIT) -> RangeProof:
         """Returns the proof that a JSON text describes. The text is a `str` or its bytes.
 
         Raises `InvalidText` if the text isn't JSON. Raises `InvalidProof` with the lowest rule, from 1 to 8, that it breaks. Time
-        and memory are in proportion to the text, so limit the length of a stranger's text before you read it.
+        and memory are in proportion to the text. So a text of more than `limit` bytes raises `ProofTooLong`, and isn't read. That is
+        16 MiB unless another number is given, or None for no limit.
 
         >>> RangeProof.from_json('{"chunks":[{"hash":"%064x","size":7}],"levels":[]}' % 1).levels
         ()
         """
+        if isinstance(text, str):
+            _check_length(len(text), limit)
         data = checked_text(text, "JSON") if isinstance(text, str) else own_bytes(text)
+        _check_length(len(data), limit)
         return interruptible(lambda: RangeProof._from_json(data), len(data) >= MANY_BYTES)
 
     @staticmethod
@@ -265,7 +271,7 @@ class RangeProof:
         """Returns the flat lists as bytes, 40 for each node. In base64 they are short enough for a header of HTTP.
 
         They are the number of levels, the two counts of each level, and the nodes, each a hash and a size. Each number has eight
-        bytes, the least first.
+        bytes, the least first. Python alone reads this form: `bytes` of a proof in JavaScript has another one. All languages read JSON.
 
         >>> len(RangeProof.from_flat([(0, 1)], [(bytes(32), 7), (bytes(32), 8)]).to_bytes())
         104
@@ -275,21 +281,31 @@ class RangeProof:
     def __bytes__(self) -> bytes:
         return self.to_bytes()
 
-    @staticmethod
-    def from_bytes(data: BytesLike) -> RangeProof:
-        """Returns the proof that bytes describe, in the form of `to_bytes`.
+    def _length(self) -> int:
+        """Returns how many bytes `to_bytes` has."""
+        return _COUNT.size + len(self._levels) + len(self._nodes.packed)
 
-        Raises `InvalidArguments` if they don't have this form. Raises `InvalidProof` as `from_flat` does.
+    @staticmethod
+    def from_bytes(data: BytesLike, *, limit: Optional[SupportsIndex] = PROOF_LIMIT) -> RangeProof:
+        """Returns the proof that bytes describe, in the form of `to_bytes`. It doesn't read the bytes of a proof in JavaScript.
+
+        Raises `InvalidProof` with the lowest rule that they break: 1 if they are less than a number of levels, 3 if they have fewer levels
+        than that, 4 if no whole nodes follow, or one from 5 to 8. Raises `ProofTooLong` as `from_json` does.
 
         >>> proof = RangeProof.from_flat([(0, 1)], [(bytes(32), 7), (bytes(32), 8)])
         >>> RangeProof.from_bytes(proof.to_bytes()) == proof
         True
         """
         given = own_bytes(data)
-        count = _COUNT.unpack_from(given)[0] if len(given) >= _COUNT.size else 0
+        _check_length(len(given), limit)
+        if len(given) < _COUNT.size:
+            raise InvalidProof(1)
+        (count,) = _COUNT.unpack_from(given)
         at = _COUNT.size + LEVEL.size * count
-        if len(given) < at or (len(given) - at) % _CHUNK_SIZE:
-            raise InvalidArguments("the bytes of a range proof are a number of levels, 16 bytes for each, and 40 for each node")
+        if len(given) < at:
+            raise InvalidProof(3)
+        if (len(given) - at) % _CHUNK_SIZE:
+            raise InvalidProof(4)
         return RangeProof._of(given[_COUNT.size:at], given[at:])._checked()
 
     def __eq__(self, other: object) -> bool:
@@ -314,6 +330,12 @@ class RangeProof:
         chunks = len(self.chunks)
         beside = _counted(len(self._nodes) - chunks, "node")
         return f"<yurewha.RangeProof of {_counted(chunks, 'chunk')}, with {beside} beside on {_counted(self.num_levels, 'level')}>"
+
+
+def _check_length(length: int, limit: Optional[SupportsIndex]) -> None:
+    """Raises `ProofTooLong` if a proof has more bytes than are allowed."""
+    if limit is not None and length > checked_u64(limit, "limit"):
+        raise ProofTooLong(but_got(f"a proof must have at most {limit} bytes", f"{length}: see limit"))
 
 
 def _counted(count: int, what: str) -> str:
@@ -431,7 +453,7 @@ class OpenedRange(Guarded):
         return self._bytes_of(chunk)[1]
 
     def _bytes_of(self, chunk: SupportsIndex) -> Tuple[int, int]:
-        number, begin, end = checked_u64(chunk, "the number of a chunk"), ctypes.c_uint64(), ctypes.c_uint64()
+        number, begin, end = checked_u64(chunk, "chunk number"), ctypes.c_uint64(), ctypes.c_uint64()
         with self._locked():
             status = short.yurewha_opened_range_bytes_of(self._handle, number, begin, end)
         if status:
@@ -464,7 +486,7 @@ class OpenedRange(Guarded):
         >>> tree.proof(0, 1).open(tree.file_hash()).check(0, b"abc")
         0
         """
-        number, place = checked_u64(chunk, "the number of a chunk"), ctypes.c_uint64()
+        number, place = checked_u64(chunk, "chunk number"), ctypes.c_uint64()
 
         def check(start: Start, length: int) -> int:
             calls = calls_for(length, LONG_BYTES)
@@ -473,8 +495,11 @@ class OpenedRange(Guarded):
 
         status = interruptible(lambda: _passed(data, nobody_writes, check), _is_great(data), self)
         if status:
-            self._bytes_of(number)  # raises if there is no such chunk
-            raise error_of(status, f"this isn't the data of chunk {number} of the range")
+            begin = self.begins(number)  # raises if there is no such chunk
+            error = error_of(status, f"this isn't the data of chunk {number} of the range")
+            if isinstance(error, ProofMismatch):
+                error.chunk, error.place = number, begin
+            raise error
         return place.value
 
     def read(self, start: int, stop: int, data: BytesLike, *, nobody_writes: bool = False) -> memoryview:
@@ -492,7 +517,7 @@ class OpenedRange(Guarded):
         >>> bytes(tree.proof_of_bytes(8, 10).open(tree.file_hash()).read(8, 10, b"another"))
         b'no'
         """
-        begin, end, at = checked_u64(start, "a place"), checked_u64(stop, "a place"), ctypes.c_size_t()
+        begin, end, at = checked_u64(start, "place"), checked_u64(stop, "place"), ctypes.c_size_t()
         view = _unchanging(data, nobody_writes)
 
         def read(first: Start, length: int) -> int:
@@ -505,8 +530,22 @@ class OpenedRange(Guarded):
 
         status = interruptible(read_all, view.nbytes >= MANY_BYTES, self)
         if status:
-            raise error_of(status, self._told(begin, end, view.nbytes))
+            error = error_of(status, self._told(begin, end, view.nbytes))
+            if isinstance(error, ProofMismatch):
+                error.chunk, error.place = self._first_wrong(view)
+            raise error
         return view[at.value:at.value + end - begin]
+
+    def _first_wrong(self, view: memoryview) -> Tuple[Optional[int], Optional[int]]:
+        """Returns the number and the place of the first chunk that isn't right in the data of the range, if there is one."""
+        begin = self.begins(0)
+        try:
+            for chunk in range(self.num_chunks if view.nbytes <= self.ends(self.num_chunks - 1) - begin else 0):
+                first, end = self._bytes_of(chunk)
+                self.check(chunk, view[first - begin:end - begin])
+        except ProofMismatch as error:
+            return error.chunk, error.place
+        return None, None
 
     def _told(self, start: int, stop: int, length: int) -> str:
         """Returns why bytes couldn't be read from data of this length."""

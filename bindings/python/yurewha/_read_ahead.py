@@ -2,12 +2,12 @@
 
 from __future__ import annotations
 
+import _thread
 import os
-from concurrent.futures import Future
-from threading import Thread
+from functools import partial
 from typing import Callable, List, Optional
 
-from ._interrupts import waited
+from ._interrupts import Outcome, waited
 
 #: Reads the bytes from a place up to another one.
 Read = Callable[[int, int], memoryview]
@@ -24,7 +24,7 @@ class _Piece:
 
     def __init__(self, begin: int, end: int) -> None:
         self.begin, self.end = begin, end
-        self.coming: Optional[Future[memoryview]] = None
+        self.coming: Optional[Outcome[memoryview]] = None
 
 
 class ReadAhead:
@@ -91,9 +91,9 @@ class ReadAhead:
 def _begin(read: Read, piece: _Piece) -> None:
     """Begins to read a piece, unless that was begun before."""
     if piece.coming is None:
-        coming: Future[memoryview] = Future()
+        coming: Outcome[memoryview] = Outcome()
         try:
-            Thread(target=_fill, args=(coming, read, piece.begin, piece.end), daemon=True).start()
+            _thread.start_new_thread(coming.take, (partial(read, piece.begin, piece.end),))
         except RuntimeError:
             return  # no thread can be started
         piece.coming = coming
@@ -107,14 +107,6 @@ def _come(read: Read, piece: _Piece) -> memoryview:
     try:
         return waited(coming)
     except BaseException:
-        if coming.done():
+        if coming.has_come():
             piece.coming = None
         raise
-
-
-def _fill(piece: Future[memoryview], read: Read, start: int, stop: int) -> None:
-    """Reads a piece for whoever waits for it."""
-    try:
-        piece.set_result(read(start, stop))
-    except BaseException as error:
-        piece.set_exception(error)

@@ -31,7 +31,7 @@ def write_whole(path: Path, kind: bytes, body: bytes) -> None:
     """
     name = os.fsdecode(path)
     folder = os.path.dirname(name) or os.curdir
-    draft = os.path.join(folder, f".{os.path.basename(name)}.{token_hex(8)}")
+    draft = os.path.join(folder, f".yurewha.{token_hex(8)}")  # short, since the name may be as long as names can be
     try:
         with open(draft, "xb") as out:
             out.write(_begun(kind) + data_hash(kind + body).bytes)

@@ -4,9 +4,10 @@ from __future__ import annotations
 
 import json
 import struct
+from collections import Counter
 from typing import Dict, Iterable, List, Tuple, Union, cast
 
-from ._errors import InvalidJson, InvalidText
+from ._errors import InvalidJson, InvalidText, but_got, told_text
 from ._hash import checked_text, own_bytes
 from ._hashes import Hashes, words_reversed
 from ._subtree import Subtree
@@ -23,8 +24,17 @@ _EACH = struct.Struct("32s")
 _MANY_BYTES = 1 << 20
 _HEAD = struct.Struct("<?Q")
 _MAX_U64 = 2**64 - 1
-#: Stands for each number that isn't a whole number from 0 to 2^64 - 1. No member may be this number.
-_OTHER = 0.5
+
+
+class _Other(float):
+    """Stands for a number that isn't a whole number from 0 to 2^64 - 1. It is 0.5, which no member may be, and has the number's text."""
+
+    def __new__(cls, digits: str) -> _Other:
+        self = super().__new__(cls, 0.5)
+        self.digits = digits
+        return self
+
+    digits: str
 
 
 def json_of(runs: Iterable[Span], hashes: Hashes) -> str:
@@ -82,11 +92,11 @@ def parts_of_body(body: bytes) -> Tuple[List[Span], Hashes, bool]:
     ([], <yurewha.Hashes of 0>, True)
     """
     if len(body) < _HEAD.size:
-        raise InvalidText("the saved session has no head")
+        raise InvalidText(but_got(f"a saved session must have at least {_HEAD.size} bytes", len(body)))
     keeps, length = _HEAD.unpack_from(body)
     end = _HEAD.size + length
     if len(body) < end or (len(body) - end) % _EACH.size:
-        raise InvalidText("the saved session has another length than it says")
+        raise InvalidText(but_got(f"a saved session must have {length} bytes of runs, and then 32 for each hash", len(body) - _HEAD.size))
     runs, _ = parts_of(body[_HEAD.size:end])
     return runs, Hashes(body[end:]), keeps
 
@@ -112,40 +122,52 @@ def _value_of(text: Union[str, BytesLike]) -> object:
         pass
     try:
         return cast(object, json.loads(
-            data.decode("utf-8"), parse_int=_whole, parse_float=lambda _: _OTHER, object_pairs_hook=_members))
+            data.decode("utf-8"), parse_int=_whole, parse_float=_Other, object_pairs_hook=_members))
     except ValueError as error:
         raise error if isinstance(error, InvalidText) else InvalidText("the text isn't JSON") from None
 
 
-def _whole(digits: str) -> Union[int, float]:
+def _whole(digits: str) -> Union[int, _Other]:
     number = int(digits) if len(digits) <= 20 and digits[0] != "-" else -1
-    return number if 0 <= number <= _MAX_U64 else _OTHER
+    return number if 0 <= number <= _MAX_U64 else _Other(digits)
 
 
 def _members(pairs: List[Tuple[str, object]]) -> Dict[str, object]:
     members = dict(pairs)
     if len(members) < len(pairs):
-        raise InvalidText("a member occurs twice in one object")
+        (name, _), *_ = Counter(name for name, _ in pairs).most_common(1)
+        raise InvalidText(but_got("each member of an object must occur once", f"{told_text(name)} twice"))
     return members
+
+
+def _told(value: object) -> str:
+    """Returns how an error names a value of JSON."""
+    if isinstance(value, dict):
+        return "an object of " + (", ".join(map(told_text, value)) if 0 < len(value) < 8 else f"{len(value)} members")
+    if isinstance(value, list):
+        return f"an array of {len(value)}"
+    if isinstance(value, _Other):
+        return value.digits[:64]
+    return told_text(value) if isinstance(value, str) else json.dumps(value)
 
 
 def _member(value: object, name: str, what: str) -> object:
     if not isinstance(value, dict) or name not in value:
-        raise InvalidText(f"{what} isn't an object with the member `{name}`")
+        raise InvalidText(but_got(f"{what} must be an object with the member `{name}`", _told(value)))
     return value[name]
 
 
 def _list_of(value: object, name: str) -> List[object]:
     member = _member(value, name, "the JSON of a session")
     if not isinstance(member, list):
-        raise InvalidText(f"`{name}` isn't an array")
+        raise InvalidText(but_got(f"`{name}` must be an array", _told(member)))
     return member
 
 
 def _position(run: object, name: str, what: str) -> int:
     number = _member(run, name, what)
     if type(number) is not int:
-        raise InvalidText(f"`{name}` of {what} isn't a whole number from 0 to 2^64 - 1")
+        raise InvalidText(but_got(f"`{name}` of {what} must be a whole number from 0 to 2^64 - 1", _told(number)))
     return number
 
 
@@ -155,6 +177,10 @@ def _run_of(run: object, what: str) -> Span:
 
 
 def _hash_of(words: object, what: str) -> bytes:
-    if not isinstance(words, list) or len(words) != 4 or any(type(word) is not int for word in words):
-        raise InvalidText(f"{what} isn't an array of four whole numbers from 0 to 2^64 - 1")
+    rule = f"{what} must be an array of four whole numbers from 0 to 2^64 - 1"
+    if not isinstance(words, list) or len(words) != 4:
+        raise InvalidText(but_got(rule, _told(words)))
+    for word in words:
+        if type(word) is not int:
+            raise InvalidText(but_got(rule, f"{_told(word)} in it"))
     return _WORDS.pack(*words)

@@ -23,7 +23,7 @@ from typing import (
 from ._calls import string_at
 from ._chunks import Chunks, ChunksLike
 from ._declarations import STATUSES
-from ._errors import InvalidArguments, InvalidLists, YurewhaError, error_of
+from ._errors import InvalidArguments, InvalidLists, YurewhaError, but_got, error_of
 from ._guard import Guarded, all_locked, both_locked
 from ._hash import Hash, checked_32, checked_bool, checked_text, checked_u64, own_bytes
 from ._interrupts import MANY_BYTES, MANY_NODES, interruptible
@@ -45,6 +45,13 @@ from ._types import BytesLike, Texts
 __all__ = ["Flat", "Subtree", "file_hash", "find_stable_end", "find_stable_start", "xorb_hash"]
 
 _CHUNK_SIZE = ctypes.sizeof(CChunk)
+#: What is said of the marks at the start and at the end.
+_ENDS = {
+    (False, False): "open at both ends",
+    (True, False): "at the start",
+    (False, True): "at the end",
+    (True, True): "at the start and at the end",
+}
 _FromFlat = Callable[[bool, Iterable[Sequence[SupportsIndex]], ChunksLike, bool], "Subtree"]
 
 
@@ -77,7 +84,7 @@ def file_hash(chunks: ChunksLike, salt: Optional[BytesLike] = None) -> Hash:
     True
     """
     packed = Chunks(chunks).packed
-    count, key = len(packed) // _CHUNK_SIZE, None if salt is None else checked_32(salt, "a salt")
+    count, key = len(packed) // _CHUNK_SIZE, None if salt is None else checked_32(salt, "salt")
     return interruptible(lambda: _file_hash(packed, count, key), count >= MANY_NODES)
 
 
@@ -328,7 +335,7 @@ class Subtree(Guarded):
         return self._side(level, 1)
 
     def _side(self, level: int, side: int) -> Chunks:
-        number = checked_u64(level, "a level")
+        number = checked_u64(level, "level")
         flat = self.to_flat()
         if number >= len(flat.levels):
             return Chunks()
@@ -359,10 +366,24 @@ class Subtree(Guarded):
         >>> Subtree.from_chunks(True, chunks, True).file_hash() == file_hash(chunks)
         True
         """
-        key = Hash() if salt is None else Hash(checked_32(salt, "a salt"))
+        key = Hash() if salt is None else Hash(checked_32(salt, "salt"))
         root = self.final_hash()
         # A subtree with both marks never changes, so it is still empty or not.
         return root if root is None or self.is_empty else root.hmac(key)
+
+    def finish(self, salt: Optional[BytesLike] = None) -> Hash:
+        """Returns the file hash of the chunks, as `file_hash` does, but raises `InvalidArguments` if an end isn't marked.
+
+        `file_hash` returns None then, and so it does for any two subtrees that aren't whole.
+
+        >>> chunks = [(Hash.random_from_seed(1), 100), (Hash.random_from_seed(2), 200)]
+        >>> Subtree.from_chunks(True, chunks, True).finish() == file_hash(chunks)
+        True
+        """
+        made = self.file_hash(salt)
+        if made is None:
+            raise InvalidArguments(but_got("a subtree must be marked at both ends to have a file hash", f"one {_ENDS[self._marks()]}"))
+        return made
 
     # ---- Merging
 
@@ -391,7 +412,7 @@ class Subtree(Guarded):
 
     def _merge(self, other: Subtree, parents: Optional[ctypes.c_uint64]) -> None:
         if not isinstance(other, Subtree):
-            raise TypeError(f"a Subtree is merged with a Subtree, not with {type(other).__name__}")
+            raise TypeError(but_got("a Subtree must be merged with a Subtree", type(other).__name__))
         interruptible(lambda: self._merged(other, parents), self._has_many_nodes() or other._has_many_nodes(), self, other)
 
     def _has_many_nodes(self) -> bool:
@@ -441,7 +462,7 @@ class Subtree(Guarded):
         seen = set()
         for item in ranges:
             if not isinstance(item, Subtree):
-                raise TypeError(f"range {len(items)} is a Subtree, not {type(item).__name__}")
+                raise TypeError(but_got(f"range {len(items)} must be a Subtree", type(item).__name__))
             # A repeated object is copied, because a call needs different handles.
             items.append(item.copy() if id(item) in seen else item)
             seen.add(id(item))
@@ -622,12 +643,7 @@ class Subtree(Guarded):
             flat = self.to_flat()
         except YurewhaError:
             return "<yurewha.Subtree that can't be read>"
-        ends = {
-            (False, False): "open at both ends",
-            (True, False): "at the start",
-            (False, True): "at the end",
-            (True, True): "at the start and at the end",
-        }[flat.at_start, flat.at_end]
+        ends = _ENDS[flat.at_start, flat.at_end]
         shown = [str(level) for level in flat.levels]
         if len(shown) > 8:
             shown[4:-4] = [".."]
@@ -693,17 +709,17 @@ def svg_of(subtrees: Sequence[Subtree], captions: Texts = ()) -> str:
     from ._picture import picture_of  # which programs that only hash don't load
 
     if isinstance(captions, str):
-        raise TypeError("captions are a list of them, not a str")
+        raise TypeError(but_got("captions must be a list of them", "a str"))
     shown, texts = list(subtrees), list(captions)
     if len(texts) > len(shown):
-        raise InvalidArguments("there are more captions than subtrees")
+        raise InvalidArguments(but_got(f"there must be at most {len(shown)} captions, one for each subtree", len(texts)))
     for place, caption in enumerate(texts):
         if not isinstance(caption, str):
-            raise TypeError(f"caption {place} is a str, not {type(caption).__name__}")
+            raise TypeError(but_got(f"caption {place} must be a str", type(caption).__name__))
     drawn = []
     for place, subtree in enumerate(shown):
         if not isinstance(subtree, Subtree):
-            raise TypeError(f"picture {place} is of a Subtree, not of {type(subtree).__name__}")
+            raise TypeError(but_got(f"picture {place} must be of a Subtree", type(subtree).__name__))
         flat = subtree.to_flat()
         drawn.append((texts[place] if place < len(texts) else "", flat.at_start, flat.at_end, sides_of(flat)))
     return picture_of(drawn)

@@ -5,14 +5,14 @@ from __future__ import annotations
 import errno
 import io
 import os
-from typing import TYPE_CHECKING, BinaryIO, Callable, Iterable, List, NoReturn, Optional, SupportsIndex, final
+from typing import TYPE_CHECKING, BinaryIO, Callable, Iterable, List, NoReturn, Optional, SupportsIndex, Union, final
 
 from ._checked_parts import CheckedParts, checked_places, done, joined
-from ._errors import InvalidArguments
+from ._errors import InvalidArguments, but_got
 from ._guard import Guarded
 from ._hash import Hash, HashLike, checked_u64, whole_number
 from ._lent import bytes_of
-from ._range_proof import RangeProof
+from ._range_proof import PROOF_LIMIT, RangeProof
 from ._read_ahead import ReadAhead
 from ._types import BytesLike, Room
 
@@ -31,11 +31,11 @@ else:
 class VerifiedFile(CheckedParts, _Raw):  # type: ignore[misc]
     """A read-only file that is somewhere else. What is read of it is checked against the file hash before it is returned.
 
-    `fetch(start, stop)` returns the bytes of the file from `start` up to, but without, `stop`. `prove(start, stop)` returns the
-    proof of the chunks with these bytes, or with those of them that the file has: it is `HashTree.proof_of_bytes`, or it asks a
-    server for the same. Neither has to be trusted. Each file with this hash has the bytes that are returned, at this place, or
-    somebody has found a collision of BLAKE3. If other bytes or another proof come, `ProofMismatch` is raised, and nothing is
-    returned.
+    The file hash is a `Hash`, its 32 bytes, or its hex text. `fetch(start, stop)` returns the bytes of the file from `start` up to,
+    but without, `stop`. `prove(start, stop)` returns the proof of the chunks with these bytes, or with those of them that the file has:
+    it is `HashTree.proof_of_bytes`, or it asks a server for the same. Neither has to be trusted. Each file with this hash has the bytes
+    that are returned, at this place, or somebody has found a collision of BLAKE3. If other bytes or another proof come, `ProofMismatch`
+    is raised, and nothing is returned.
 
     `zipfile`, `pyarrow`, `fsspec` and others read through it, because it is an `io.RawIOBase` that can seek. A read returns all
     bytes that are asked for, unless the file ends. Threads share a file by `read_at`.
@@ -50,7 +50,8 @@ class VerifiedFile(CheckedParts, _Raw):  # type: ignore[misc]
     - If a read fails, what it had checked before is kept, whatever the `cache_size`, until a read of it succeeds. So reading again
       fetches the rest alone, also if an answer was cut off in the middle.
     - A proof is refused if its chunks go more than `chunk_limit` bytes beyond what is asked for. So a server can't make a reader
-      fetch a whole file for one byte.
+      fetch a whole file for one byte. So is one that has more than `proof_limit` bytes in the form of `RangeProof.to_bytes`. That is 16
+      MiB, as for `RangeProof.from_json`, which is enough for pieces of 16 MiB unless the chunks have less than 40 bytes.
 
     >>> from yurewha import HashTree, data_hash
     >>> tree = HashTree([(data_hash(data), len(data)) for data in (b"a chunk", b"another", b"and a third")])
@@ -64,20 +65,21 @@ class VerifiedFile(CheckedParts, _Raw):  # type: ignore[misc]
 
     def __init__(
         self,
-        file_hash: HashLike,
+        file_hash: Union[HashLike, str],
         fetch: Callable[[int, int], BytesLike],
         prove: Callable[[int, int], RangeProof],
         salt: Optional[BytesLike] = None,
         *,
         cache_size: SupportsIndex = 1 << 22,
         chunk_limit: SupportsIndex = 1 << 20,
+        proof_limit: SupportsIndex = PROOF_LIMIT,
         read_ahead: SupportsIndex = 0,
         name: Optional[str] = None,
     ) -> None:
         if name is not None and not isinstance(name, str):
-            raise TypeError(f"a name is a str, not {type(name).__name__}")
-        ahead = checked_u64(read_ahead, "a number of bytes")
-        self._begin(file_hash, fetch, prove, salt, cache_size, chunk_limit)
+            raise TypeError(but_got("name must be a str", type(name).__name__))
+        ahead = checked_u64(read_ahead, "read_ahead")
+        self._begin(file_hash, fetch, prove, salt, cache_size, chunk_limit, proof_limit)
         self._name = self._hash.hex() if name is None else name
         self._guarded = Guarded()
         self._guarded._guard()
@@ -131,8 +133,11 @@ class VerifiedFile(CheckedParts, _Raw):  # type: ignore[misc]
         >>> VerifiedFile(tree.file_hash(), lambda start, stop: b"abc"[start:stop], tree.proof_of_bytes).size
         3
         """
+        self._check_open()
+        size = self._size
+        if size is not None:
+            return size  # without the lock, which a reader has while it waits for a thread that calls `fetch` or `prove`
         with self._guarded._locked():
-            self._check_open()
             return done(self._found_size())
 
     # ---- Reading
@@ -156,7 +161,7 @@ class VerifiedFile(CheckedParts, _Raw):  # type: ignore[misc]
         >>> VerifiedFile(tree.file_hash(), lambda start, stop: b"abc"[start:stop], tree.proof_of_bytes).read(2)
         b'ab'
         """
-        count = -1 if size is None else whole_number(size, "a size")
+        count = -1 if size is None else whole_number(size, "size")
         with self._guarded._locked():
             self._check_open()
             return joined(self._next(self.size - self._position if count < 0 else count))
@@ -180,15 +185,18 @@ class VerifiedFile(CheckedParts, _Raw):  # type: ignore[misc]
         >>> VerifiedFile(tree.file_hash(), lambda start, stop: b"abc"[start:stop], tree.proof_of_bytes).readinto(room), room
         (3, bytearray(b'abc\\x00\\x00\\x00\\x00'))
         """
-        with memoryview(buffer) as view, view.cast("B") as room, self._guarded._locked():
+        with memoryview(buffer) as view, self._guarded._locked():
             self._check_open()
-            if room.readonly:
-                raise TypeError("the buffer is read-only")
-            filled = 0
-            for part in self._next(len(room)):
-                room[filled:filled + len(part)] = part
-                filled += len(part)
-            return filled
+            if view.readonly:
+                raise TypeError(but_got("the buffer must be writable", "a read-only one"))
+            if view.nbytes == 0:  # Python doesn't show a table without rows as bytes
+                return 0
+            with view.cast("B") as room:
+                filled = 0
+                for part in self._next(len(room)):
+                    room[filled:filled + len(part)] = part
+                    filled += len(part)
+                return filled
 
     def _next(self, count: int) -> List[memoryview]:
         """Returns the next `count` bytes in parts, fewer only at the end, and moves the position behind them."""
@@ -286,14 +294,14 @@ class VerifiedFile(CheckedParts, _Raw):  # type: ignore[misc]
         >>> VerifiedFile(tree.file_hash(), lambda start, stop: b"abc"[start:stop], tree.proof_of_bytes).seek(-1, 2)
         2
         """
-        distance = whole_number(offset, "an offset")
+        distance = whole_number(offset, "offset")
         with self._guarded._locked():
             self._check_open()
             if whence not in (os.SEEK_SET, os.SEEK_CUR, os.SEEK_END):
-                raise InvalidArguments(f"whence is 0, 1 or 2, not {whence}")
+                raise InvalidArguments(but_got("whence must be 0, 1 or 2", whence))
             place = distance + (0, self._position, self.size if whence == os.SEEK_END else 0)[whence]
             if place < 0:
-                raise OSError(errno.EINVAL, "a position can't be before the start")
+                raise OSError(errno.EINVAL, but_got("a position must be at least 0", place))
             self._position = place
             return place
 

@@ -15,9 +15,11 @@ from typing import BinaryIO, Callable, Dict, Iterable, List, Mapping, NamedTuple
 
 from fsspec import AbstractFileSystem  # type: ignore[import]
 
-from ._errors import InvalidArguments
-from ._hash import Hash, HashLike, checked_u64, raw_of
-from ._range_proof import RangeProof
+from ._checked_parts import hash_of
+from ._errors import InvalidArguments, but_got
+from ._hash import HashLike, checked_u64
+from ._in_threads import checked_threads
+from ._range_proof import PROOF_LIMIT, RangeProof
 from ._types import BytesLike
 from ._verified_file import VerifiedFile
 
@@ -47,10 +49,11 @@ class VerifiedFileSystem(AbstractFileSystem):  # type: ignore[misc]
 
     `hashes` has the file hash of each path: a `Hash`, its 32 bytes, or its hex text. `fetch(path, start, stop)` and
     `prove(path, start, stop)` return bytes and a proof of a file, as for a `VerifiedFile`. Several threads may call them at once.
-    `salt`, `cache_size`, `chunk_limit` and `read_ahead` are those of each `VerifiedFile`. `threads` is how many ranges `cat_ranges`
-    reads at once.
+    `salt`, `cache_size`, `chunk_limit`, `proof_limit` and `read_ahead` are those of each `VerifiedFile`. `threads` is how many ranges
+    `cat_ranges` reads at once.
 
-    What is wrong raises `ProofMismatch`. A path without a hash raises `FileNotFoundError`, and writing raises `io.UnsupportedOperation`.
+    What is wrong raises `ProofMismatch`, whose `path` says which file it is. A path without a hash raises `FileNotFoundError`, and
+    writing raises `io.UnsupportedOperation`.
 
     >>> from yurewha import HashTree, data_hash
     >>> tree = HashTree([(data_hash(b"abc"), 3)])
@@ -73,6 +76,7 @@ class VerifiedFileSystem(AbstractFileSystem):  # type: ignore[misc]
         *,
         cache_size: SupportsIndex = 1 << 22,
         chunk_limit: SupportsIndex = 1 << 20,
+        proof_limit: SupportsIndex = PROOF_LIMIT,
         read_ahead: SupportsIndex = 0,
         threads: SupportsIndex = 8,
         **options: object,
@@ -80,13 +84,11 @@ class VerifiedFileSystem(AbstractFileSystem):  # type: ignore[misc]
         super().__init__(**options)
         for call, what in ((fetch, "fetch"), (prove, "prove")):
             if not callable(call):
-                raise TypeError(f"{what} is a callable, not {type(call).__name__}")
-        self._hashes = {self._name(path): _hash_of(hash_, path) for path, hash_ in hashes.items()}
+                raise TypeError(but_got(f"{what} must be a callable", type(call).__name__))
+        self._hashes = {self._name(path): hash_of(hash_, f"hash of {path}") for path, hash_ in hashes.items()}
         self._fetch, self._prove, self._salt = fetch, prove, salt
-        self._cache_size, self._chunk_limit, self._read_ahead = cache_size, chunk_limit, read_ahead
-        self._threads = checked_u64(threads, "a number of threads")
-        if self._threads == 0:
-            raise InvalidArguments("there is at least one thread")
+        self._cache_size, self._chunk_limit, self._proof_limit, self._read_ahead = cache_size, chunk_limit, proof_limit, read_ahead
+        self._threads = checked_threads(threads)
         self._files: Dict[str, VerifiedFile] = {}
 
     # ---- Files by their paths
@@ -101,9 +103,12 @@ class VerifiedFileSystem(AbstractFileSystem):  # type: ignore[misc]
         if hash_ is None:
             raise FileNotFoundError(errno.ENOENT, os.strerror(errno.ENOENT), name)
         fetch, prove = self._fetch, self._prove
-        return VerifiedFile(
+        file = VerifiedFile(
             hash_, lambda start, stop: fetch(name, start, stop), lambda start, stop: prove(name, start, stop), self._salt,
-            cache_size=self._cache_size, chunk_limit=self._chunk_limit, read_ahead=self._read_ahead, name=name)
+            cache_size=self._cache_size, chunk_limit=self._chunk_limit, proof_limit=self._proof_limit, read_ahead=self._read_ahead,
+            name=name)
+        file._path = name
+        return file
 
     def _file(self, path: str) -> VerifiedFile:
         """Returns the file that all reads of parts share."""
@@ -170,8 +175,8 @@ class VerifiedFileSystem(AbstractFileSystem):  # type: ignore[misc]
         raised.
         """
         if on_error not in ("raise", "return"):
-            raise InvalidArguments(f"on_error is 'raise' or 'return', not {on_error!r}")
-        gap = _GAP if max_gap is None else checked_u64(max_gap, "a gap")
+            raise InvalidArguments(but_got("on_error must be 'raise' or 'return'", repr(on_error)))
+        gap = _GAP if max_gap is None else checked_u64(max_gap, "max_gap")
         places = [_for_all(places, len(paths)) for places in (starts, ends)]
         answers: List[Union[bytes, BaseException]] = [b""] * len(paths)
         ranges: List[_Range] = []
@@ -200,8 +205,8 @@ class VerifiedFileSystem(AbstractFileSystem):  # type: ignore[misc]
 
     def _open(self, path: str, mode: str = "rb", block_size: Optional[SupportsIndex] = None, **options: object) -> BinaryIO:
         if mode != "rb":
-            raise io.UnsupportedOperation(f"files are opened by 'rb', not {mode!r}: they are read-only")
-        block = _BLOCK if block_size is None else checked_u64(block_size, "the size of a block")
+            raise io.UnsupportedOperation(but_got("mode must be 'rb'", f"{mode!r}: the files are read-only"))
+        block = _BLOCK if block_size is None else checked_u64(block_size, "block_size")
         return _Opened(self._made(self._name(path)), block)
 
 
@@ -211,10 +216,6 @@ class _Opened(io.BufferedReader):
     @property
     def size(self) -> int:
         return cast(VerifiedFile, self.raw).size
-
-
-def _hash_of(hash_: Union[HashLike, str], path: str) -> Hash:
-    return Hash.from_hex(hash_) if isinstance(hash_, str) else Hash._of(raw_of(hash_, f"the hash of {path}"))
 
 
 def _told(name: str, size: Optional[int]) -> Dict[str, object]:
@@ -234,7 +235,7 @@ def _for_all(places: Ends, count: int) -> Sequence[Place]:
     if places is None or isinstance(places, int):
         return [places] * count
     if len(places) != count:
-        raise InvalidArguments(f"there are {count} paths and {len(places)} places")
+        raise InvalidArguments(but_got(f"places must be as many as the paths, {count}", len(places)))
     return places
 
 
