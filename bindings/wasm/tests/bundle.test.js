@@ -63,6 +63,11 @@ test("the package exports its own description and the module", () => {
     const { resolve } = createRequire(join(folder, "entry.js"));
     const description = JSON.parse(readFileSync(resolve("yurewha/package.json"), "utf8"));
     assert.equal(description.name, "yurewha");
+    // The licences of what is compiled into the module, in the names of SPDX.
+    const copyright = readFileSync(new URL("debian/copyright", ROOT), "utf8");
+    const [, licences] = /^Files: .*yurewha\.wasm$[^]*?^License: (.*)$/m.exec(copyright);
+    const spdx = licences.replaceAll(" and ", " AND ").replace("-with-LLVM-exceptions", " WITH LLVM-exception");
+    assert.equal(description.license, spdx);
     assert.deepEqual(readFileSync(resolve("yurewha/yurewha.wasm")), BYTES);
     assert.throws(() => resolve("yurewha/library.js"));
 });

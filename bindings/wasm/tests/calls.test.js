@@ -40,11 +40,15 @@ test("a number is a BigInt or a safe integer, and of 64 bits", () => {
         "the total": (value) => session.root(value),
         "offset 0": (value) => y.dataHashes(new Uint8Array(9), [value]),
     };
+    const wrong = new Map([["1", '"1"'], [{}, "an object"], [[1], "an array"], [Symbol("1"), "Symbol(1)"], [() => 1, "a function"]]);
+    for (const value of [1.5, 2 ** 53, NaN, Infinity, null, undefined, true]) wrong.set(value, `${value}`);
     for (const [what, call] of Object.entries(calls)) {
-        for (const value of [1.5, 2 ** 53, NaN, Infinity, "1", null, undefined, true, {}, [1], Symbol("1")]) {
-            assert.throws(() => call(value), new TypeError(`${what} is a BigInt or a safe integer`));
+        for (const [value, got] of wrong) {
+            assert.throws(() => call(value), new TypeError(`${what} must be a BigInt or a safe integer, got ${got}`));
         }
-        for (const value of [-1, -1n, MAX + 1n]) assert.throws(() => call(value), RangeError);
+        for (const value of [-1, -1n, MAX + 1n]) {
+            assert.throws(() => call(value), new RangeError(`${what} must be a number from 0 to 2^64 - 1, got ${value}`));
+        }
     }
     assert.equal(y.Hash.randomFromSeed(5).hex(), y.Hash.randomFromSeed(5n).hex());
     // A number that is 0 or 1 in 32 bits is another number.
@@ -486,9 +490,34 @@ test("a session's faults have their classes", () => {
     assert.throws(() => session.put(7, [[hash, MAX]]), errors.SessionSizes);
     assert.throws(() => session.root(6), errors.SessionGap);
     assert.throws(() => session.finish(6), errors.SessionGap);
+    assert.throws(() => session.put(4, [[hash, 1], [hash, 1], [hash, 1]]), new errors.SessionOverlap("position 5 is taken"));
     assert.deepEqual([session.numRuns, session.taken(5), session.taken(4)], [1, true, false]);
     const [first, end, range] = session.run(0);
     assert.deepEqual([first, end, range.totalSize], [5n, 6n, 1n]);
+});
+
+test("a gap is named by its positions", () => {
+    const session = new y.Session();
+    const gap = (total, message) => {
+        for (const call of [() => session.root(total), () => session.finish(total), () => session.finish(total, bytesOf(32))]) {
+            assert.throws(call, new errors.SessionGap(message));
+        }
+    };
+    gap(1, "position 0 has no chunk");
+    gap(MAX, `the positions from 0 to ${MAX - 1n} have no chunk`);
+    session.put(2, list(2));
+    gap(0, "position 2 is taken, and the total is 0");
+    gap(1, "position 0 has no chunk");
+    for (const total of [2, 3, 4, 9]) gap(total, "the positions from 0 to 1 have no chunk");
+    session.put(0, list(1));
+    for (const total of [2, 4, 9]) gap(total, "position 1 has no chunk");
+    gap(1, "position 2 is taken, and the total is 1");
+    session.put(1, list(1));
+    session.put(MAX - 1n, list(1));
+    gap(3, "position 3 is taken, and the total is 3");
+    gap(4, `position ${MAX - 1n} is taken, and the total is 4`);
+    gap(7, "the positions from 4 to 6 have no chunk");
+    gap(MAX, `the positions from 4 to ${MAX - 2n} have no chunk`);
 });
 
 test("a session tells how many chunks and bytes it has, and where its gaps are", () => {
@@ -506,6 +535,18 @@ test("a session tells how many chunks and bytes it has, and where its gaps are",
     assert.deepEqual(told(), [5n, 4408n, 2]);
     session.pushRun(20, 30, y.Subtree.fromChunks(false, list(2), false));
     assert.deepEqual(told(), [15n, 4408n + 1177n, 3]);
+});
+
+test("a session knows the hashes of its chunks and those that were kept", () => {
+    const session = new y.Session();
+    const [put, kept, other] = [1, 2, 3].map((seed) => y.Hash.randomFromSeed(seed));
+    const known = (of) => [put, kept, other].map((hash) => of.knows(hash));
+    assert.deepEqual(known(session), [false, false, false]);
+    session.put(0, [[put, 7]]);
+    assert.throws(() => session.put(0, [[other, 7]]), errors.SessionOverlap);
+    assert.deepEqual(known(session), [true, false, false]);
+    session.keepHashes([kept]);
+    assert.deepEqual([known(session), known(session.clone())], [[true, true, false], [true, true, false]]);
 });
 
 test("the size of a session is exact for great sizes, and for many", () => {
@@ -535,11 +576,15 @@ test("a file hash under a salt is that of the chunks, also of none and of a defa
         session.put(0, chunks);
         for (const given of [undefined, new Uint8Array(32), salt]) {
             const wanted = y.fileHash(chunks, given).hex();
-            assert.deepEqual([whole.fileHash(given).hex(), session.finish(chunks.length, given).hex()], [wanted, wanted]);
+            const found = [whole.fileHash(given), whole.finish(given), session.finish(chunks.length, given)];
+            assert.deepEqual(found.map(String), [wanted, wanted, wanted]);
         }
     }
     for (const [atStart, atEnd] of [[false, false], [true, false], [false, true]]) {
-        assert.equal(y.Subtree.fromChunks(atStart, list(3), atEnd).fileHash(salt), null);
+        const part = y.Subtree.fromChunks(atStart, list(3), atEnd);
+        assert.equal(part.fileHash(salt), null);
+        const message = `a range must be marked at both ends, got one with atStart ${atStart} and atEnd ${atEnd}`;
+        for (const given of [undefined, salt]) assert.throws(() => part.finish(given), new errors.InvalidArguments(message));
     }
     const none = new y.Session();
     none.pushRun(0, 2, y.Subtree.fromChunks(false, [], false));
@@ -587,7 +632,7 @@ test("a run that doesn't fit is refused", () => {
     assert.throws(() => session.pushRun(9, 10, great), errors.SizeOverflow);
     assert.throws(() => session.pushRun(9, 10, session), TypeError);
     assert.throws(() => session.pushRun(9, "10", great), TypeError);
-    assert.throws(() => session.keepHashes([new y.Hash(), "00"]), new TypeError("hash 1 is a Hash of the same module"));
+    assert.throws(() => session.keepHashes([new y.Hash(), "00"]), new TypeError('hash 1 must be a Hash of the same module, got "00"'));
     assert.deepEqual([session.numRuns, session.knownHashes()], [1, []]);
 });
 

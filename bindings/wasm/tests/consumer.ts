@@ -98,6 +98,7 @@ const nodes: Chunks = y.Subtree.fromFlat(input).nodes;
 const told: [boolean, boolean, bigint, number, number] = [whole.atStart, whole.atEnd, whole.totalSize, whole.numNodes, whole.numLevels];
 const final: Hash | null = whole.finalHash();
 const file: Hash | null = whole.fileHash(new Uint8Array(32)) ?? whole.fileHash();
+const finished: Hash = whole.finish(new Uint8Array(32)).equals(whole.finish()) ? new y.Hash() : whole.finish();
 const session: Session = new y.Session();
 const fresh: number = session.put(0, chunks);
 const [position, end, run]: Run = session.runs()[0]!;
@@ -108,6 +109,10 @@ const restored: Session = new y.Session();
 if (saved !== null) restored.pushRun(...saved);
 restored.keepHashes(session.knownHashes());
 const form: SavedSession = restored.saved;
+const sessionText: string = restored.toJSON();
+y.Session.fromJSON(sessionText).free();
+y.RangeProof.fromJSON(y.RangeProof.fromChunks(pairs, 0, 1).toJSON(), { limit: 2n ** 30n });
+y.Session.fromJSON(new TextEncoder().encode(sessionText)).free();
 const again: Session = y.Session.restore(JSON.parse(JSON.stringify(form)) as SavedSession).clone();
 const taken: boolean = again.taken(1) && session.numRuns === 1;
 const tree: HashTree = y.HashTree.fromChunks(pairs);
@@ -209,6 +214,8 @@ export async function refused(): Promise<void> {
     y.fileHash(pairs, hash);
     // @ts-expect-error a salt isn't a text
     whole.fileHash("salt");
+    // @ts-expect-error a salt isn't text
+    whole.finish("salt");
     // @ts-expect-error without a salt the argument is left out
     y.fileHash(pairs, null);
     // @ts-expect-error a salt isn't an array
@@ -409,6 +416,8 @@ export async function refused(): Promise<void> {
     new y.Session(form);
     // @ts-expect-error a form has known hashes
     y.Session.restore({ runs: [] });
+    // @ts-expect-error a form isn't JSON
+    y.Session.fromJSON(form);
     // @ts-expect-error a form isn't its JSON
     y.Session.restore(JSON.stringify(form));
     // @ts-expect-error positions in a form are texts

@@ -3,7 +3,7 @@
 import assert from "node:assert/strict";
 import { test } from "node:test";
 import { setTimeout } from "node:timers/promises";
-import { EmptyHandle, Trapped } from "../yurewha/index.js";
+import { EmptyHandle, SessionGap, SessionOverlap, Trapped } from "../yurewha/index.js";
 import { AREA } from "../yurewha/library.js";
 import { BYTES, chunksOf, wrapped } from "./support.js";
 
@@ -157,6 +157,10 @@ test("every block goes back", async () => {
     const [[, , run]] = session.runs();
     session.clone().free();
     y.Session.restore(session.saved).free();
+    y.Session.fromJSON(session.toJSON()).free();
+    for (const text of [front.toJSON(), session.toJSON().replace('"end":100', '"end":0')]) assert.throws(() => y.Session.fromJSON(text));
+    for (const total of [99, 101]) assert.throws(() => session.root(total), SessionGap);
+    assert.throws(() => session.put(7, chunks), SessionOverlap);
     session.run(0)[2].free();
     session.gaps(200);
     session.finish(100, new Uint8Array(32));

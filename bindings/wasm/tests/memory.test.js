@@ -2,13 +2,13 @@
 
 import assert from "node:assert/strict";
 import { test } from "node:test";
-import { OutOfMemory, load } from "../yurewha/index.js";
+import { InvalidText, OutOfMemory, load } from "../yurewha/index.js";
 import { AREA } from "../yurewha/library.js";
 import { BYTES, capped, chunksOf, pagesOf, wrapped } from "./support.js";
 
 const COUNT = 300;
 /** The calls of a scene that take no memory. */
-const TAKE_NONE = ["findStableStart", "findStableEnd", "a proof of bytes"];
+const TAKE_NONE = ["findStableStart", "findStableEnd", "a proof of bytes", "gaps"];
 const plain = (range) => [range.atStart, range.atEnd, range.levels, Buffer.from(range.toFlat().nodes.bytes).toString("hex")];
 
 /** Objects of an instance, what they are, and calls on them, each with what it gives. */
@@ -26,6 +26,7 @@ function scene(y) {
     const restored = new y.Session();
     const middle = y.Subtree.fromChunks(false, chunks.slice(100, 200), false);
     const { saved } = session;
+    const sessionText = session.toJSON();
     const tree = y.HashTree.fromChunks(chunks);
     const proof = tree.proof(100, 200);
     const [text, [fileHash, root]] = [proof.toJSON(), [tree.fileHash(), tree.root]];
@@ -54,6 +55,8 @@ function scene(y) {
         gaps: () => session.gaps(300),
         saved: () => session.saved,
         restore: () => y.Session.restore(saved).numRuns,
+        "a session as JSON": () => session.toJSON(),
+        "a session of JSON": () => y.Session.fromJSON(sessionText).numRuns,
         runFrom: () => plain(session.runFrom(100)[2]),
         knownHashes: () => session.knownHashes().length,
         "a tree": () => y.HashTree.fromChunks(chunks).numChunks,
@@ -70,6 +73,7 @@ function scene(y) {
         put: () => [session.put(100, chunks.slice(100, 200)), session.numRuns],
         root: () => session.root(COUNT).hex(),
         finish: () => session.finish(COUNT).hex(),
+        "finish with a salt": () => session.finish(COUNT, new Uint8Array(32)).hex(),
         mergeInto: () => [front.mergeInto(back), plain(front)],
     };
     return { state, calls };
@@ -160,6 +164,30 @@ test("wasm32: no call writes where another block is", async () => {
         assert.throws(() => y.Subtree.fromJSON(" ".repeat(length)));
     }
     assert.ok(block().equals(Buffer.alloc(room, 7)));
+});
+
+test("wasm32: no call writes a byte past a block that it was given", async () => {
+    const GUARD = 4096;
+    const guards = [];
+    const guardAt = ({ memory }, place) => Buffer.from(memory.buffer, place, GUARD);
+    // Each block has bytes behind it that no call may write.
+    const { exports, yurewha: y } = await wrapped(BYTES, (it) => ({
+        ...it,
+        allocate(size) {
+            const block = it.allocate(size + BigInt(GUARD)) >>> 0;
+            assert.ok(block > 0);
+            guards.push(block + Number(size));
+            guardAt(it, guards.at(-1)).fill(7);
+            return block;
+        },
+        release: () => {},
+    }));
+    const untouched = Buffer.alloc(GUARD, 7);
+    const checked = (length) => guards.forEach((place) => assert.ok(guardAt(exports, place).equals(untouched), `${length}`));
+    for (let length = AREA - 64; length <= AREA + 64; length++) assert.throws(() => y.Subtree.fromJSON("x".repeat(length)), InvalidText);
+    checked("texts");
+    for (let count = AREA / 40 - 5; count < AREA / 40 + 5; count++) y.xorbHash(new y.Chunks(new Uint8Array(40 * Math.floor(count))));
+    checked("chunks");
 });
 
 test("wasm32: what an object held is used again after it was freed", async () => {

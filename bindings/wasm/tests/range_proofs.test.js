@@ -278,8 +278,11 @@ test("a proof of 64 levels with 8 nodes on each side is written and read back", 
 
 test("packed bytes and lists that are none of a proof are refused", () => {
     const { bytes } = y.RangeProof.fromChunks(nodes(28), 5, 6);
-    for (const given of [[], bytes.subarray(0, 3), bytes.subarray(0, bytes.length - 1), [0, 1], [3, 1, 1]]) {
-        assert.throws(() => new y.RangeProof(Uint8Array.from(given)), errors.InvalidArguments);
+    const packed = "a packed proof must be a number of levels, two counts for each, and 40 bytes for each node, got a Uint8Array of";
+    const cut = [[3, bytes.subarray(0, 3)], [4, bytes.subarray(0, bytes.length - 1)]];
+    for (const [rule, given] of [[1, []], ...cut, [4, [0, 1]], [3, [3, 1, 1]]]) {
+        const refused = new errors.InvalidProof(rule, `${packed} ${given.length} bytes`);
+        assert.throws(() => new y.RangeProof(Uint8Array.from(given)), refused);
     }
     const node = new Uint8Array(40);
     const broken = (rule) => (error) => error instanceof errors.InvalidProof && error.rule === rule && error.message.startsWith(`rule ${rule}: `);
@@ -291,7 +294,7 @@ test("packed bytes and lists that are none of a proof are refused", () => {
     assert.throws(() => new y.RangeProof(Uint8Array.from([0, ...y.Chunks.from(many).bytes])), broken(8));
     for (const levels of [[[MAX, 1]], [[TWO_TO_32, 0]]]) assert.throws(() => y.RangeProof.fromFlat({ levels, nodes: great }), broken(5));
     assert.throws(() => y.RangeProof.fromJSON('{"chunks":[],"levels":[]}'), new errors.InvalidProof(5, "rule 5: there is no chunk"));
-    assert.throws(() => y.RangeProof.fromJSON("{"), new errors.InvalidText("the text is no JSON text"));
+    assert.throws(() => y.RangeProof.fromJSON("{"), new errors.InvalidText('the text must be JSON, got "{"'));
 });
 
 test("lists of a proof are checked without making JSON of them", async () => {
@@ -358,4 +361,34 @@ test("arguments have their types", async () => {
     assert.throws(() => proof.open(y.Hash.fromHex(FILE_HASH), new Uint8Array(31)), errors.InvalidArguments);
     assert.throws(() => tree.fileHash(new Uint8Array(33)), errors.InvalidArguments);
     for (const levels of [null, [1], [[1]], [[1, 2, 3]]]) assert.throws(() => y.RangeProof.fromFlat({ levels, nodes: [] }), TypeError);
+});
+
+test("a text of more bytes than the limit isn't read", async () => {
+    let calls = 0;
+    const { yurewha } = await wrapped(BYTES, (exports) => ({
+        ...exports,
+        yurewha_range_proof_from_json: (...given) => (calls++, exports.yurewha_range_proof_from_json(...given)),
+    }));
+    const { RangeProof } = yurewha;
+    const proof = RangeProof.fromChunks([[new yurewha.Hash(), 7]], 0, 1);
+    const text = proof.toJSON();
+    const ofLength = (length) => text.padEnd(length);
+    for (const [given, options] of [
+        [text, {}], [ofLength(2 ** 24)], [ofLength(2 ** 24 + 1), { limit: 2 ** 24 + 1 }], [text, { limit: text.length }], [text, { limit: MAX }],
+    ]) {
+        for (const it of [given, Buffer.from(given)]) assert.ok(RangeProof.fromJSON(it, options).equals(proof));
+    }
+    calls = 0;
+    // A letter of two bytes counts twice.
+    const wide = text.replace("{", '{"\u00e9":0,');
+    const table = [[ofLength(2 ** 24 + 1), 2 ** 24], [text, text.length - 1], [text, 0], [wide, wide.length]];
+    for (const [given, limit] of table) {
+        const message = `the JSON of a range proof must have at most ${limit} bytes, got a Uint8Array of ${Buffer.byteLength(given)} bytes`;
+        for (const it of [given, Buffer.from(given)]) {
+            assert.throws(() => RangeProof.fromJSON(it, limit === 2 ** 24 ? undefined : { limit }), new errors.InvalidText(message));
+        }
+    }
+    assert.equal(calls, 0);
+    for (const limit of [null, "5", 1.5]) assert.throws(() => RangeProof.fromJSON(text, { limit }), TypeError);
+    assert.throws(() => RangeProof.fromJSON(text, { limit: -1 }), RangeError);
 });

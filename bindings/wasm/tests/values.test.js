@@ -5,7 +5,7 @@ import { test } from "node:test";
 import { inspect } from "node:util";
 import { MessageChannel, receiveMessageOnPort } from "node:worker_threads";
 import * as errors from "../yurewha/index.js";
-import { BYTES, chunksOf } from "./support.js";
+import { BYTES, chunksOf, wrapped } from "./support.js";
 
 const [y, other] = await Promise.all([errors.load(BYTES), errors.load(BYTES)]);
 const list = (count, it = y) => chunksOf(it, { drawn: { firstSeed: "1", count } });
@@ -134,8 +134,8 @@ test("chunks and sessions are read from their JSON", () => {
     }
     assert.equal(JSON.stringify(y.Chunks.from(great.slice(1))), `[["${"0".repeat(64)}","0"]]`);
     const session = sessionOf([2n ** 63n, 3], [4, 2]);
-    const { saved } = JSON.parse(JSON.stringify(session));
-    assert.deepStrictEqual(y.Session.restore(saved), session);
+    assert.deepStrictEqual(y.Session.restore(JSON.parse(JSON.stringify(session.saved))), session);
+    assert.deepStrictEqual(y.Session.fromJSON(JSON.parse(JSON.stringify(session))), session);
     assert.equal(JSON.stringify(new y.Hasher()), JSON.stringify({ hash: y.dataHash(new Uint8Array()) }));
 });
 
@@ -164,6 +164,66 @@ test("JSON that is none of chunks or a session is refused", () => {
         [{ runs: [...runs, ...runs], knownHashes }, errors.InvalidArguments],
     ];
     for (const [saved, kind] of table) assert.throws(() => y.Session.restore(saved), kind, JSON.stringify(saved));
+    const lists = "a saved session must have lists as `runs` and `knownHashes`, got ";
+    const none = [["{}", '"{}"'], [{}, "an object"], [{ runs: "ab", knownHashes }, "an object"], [undefined, "undefined"], [7, "7"]];
+    for (const [saved, got] of none) {
+        assert.throws(() => y.Session.restore(saved), new TypeError(lists + got));
+    }
+    for (const run of ["abc", [first, end], [first, end, json, ""], null]) {
+        const message = `run 0 must be an array of two positions and a JSON text, got ${Array.isArray(run) ? "an array" : JSON.stringify(run)}`;
+        assert.throws(() => y.Session.restore({ runs: [run], knownHashes }), new TypeError(message));
+    }
+    for (const text of [null, undefined, 5, {}, [], new y.Session()]) assert.throws(() => y.Session.fromJSON(text), TypeError);
+    const text = Buffer.from(sessionOf([4, 2]).toJSON());
+    const shared = new Uint8Array(new SharedArrayBuffer(text.length));
+    shared.set(text);
+    assert.deepStrictEqual(y.Session.fromJSON(shared), sessionOf([4, 2]));
+    const cut = text.subarray(0, -1);
+    for (const given of [cut, [0xef, 0xbb, 0xbf, ...text], [...cut, 0x2c, 0x22, 0xff, 0x22, 0x3a, 0x30, 0x7d]]) {
+        assert.throws(() => y.Session.fromJSON(Uint8Array.from(given)), errors.InvalidText);
+    }
+});
+
+test("a session's text is read as it was, though it changes meanwhile", async () => {
+    const before = sessionOf([4, 2]).toJSON();
+    const text = Buffer.from(before);
+    const { yurewha } = await wrapped(BYTES, (exports) => ({
+        ...exports,
+        yurewha_subtree_from_json: (...given) => {
+            const status = exports.yurewha_subtree_from_json(...given);
+            text.fill(" ");
+            return status;
+        },
+    }));
+    assert.equal(yurewha.Session.fromJSON(text).toJSON(), before);
+});
+
+test("a session that an earlier version saved is read", () => {
+    const json = `{"at_end":false,"at_start":false,"levels":[[1,0]],"nodes":[{"hash":"${"1".repeat(64)}","size":7}]}`;
+    const text = JSON.stringify({ runs: [["4", "5", json]], knownHashes: ["1".repeat(64), "2".repeat(64)] });
+    const session = y.Session.restore(JSON.parse(text));
+    assert.equal(JSON.stringify(session.saved), text);
+    const word = BigInt(`0x${"1".repeat(16)}`);
+    const words = [word, 2n * word].map((it) => `[${it},${it},${it},${it}]`);
+    assert.equal(session.toJSON(), `{"runs":[{"first":4,"end":5,"chunks":${json}}],"known_hashes":[${words}]}`);
+});
+
+test("what a session's JSON lacks is named", () => {
+    const of = (run) => `{"runs":[${run}],"known_hashes":[]}`;
+    const table = {
+        "[]": "the JSON of a session must be an object with the member `runs`, got an array",
+        '{"runs":[]}': "the JSON of a session must be an object with the member `known_hashes`, got an object",
+        '{"runs":7,"known_hashes":[]}': "`runs` must be an array, got 7",
+        [of('{"first":1}')]: "run 0 must be an object with the member `end`, got an object",
+        [of('{"first":-1,"end":2,"chunks":0}')]: "`first` of run 0 must be a whole number from 0 to 2^64 - 1, got -1",
+        [of('{"first":1,"end":"2","chunks":0}')]: '`end` of run 0 must be a whole number from 0 to 2^64 - 1, got "2"',
+        '{"runs":[],"known_hashes":[[1,2,3]]}': "known hash 0 must be an array of four words, got an array",
+        '{"runs":[],"known_hashes":[[0,0,0,0],[1,2,3,18446744073709551616]]}':
+            "a word of known hash 1 must be a whole number from 0 to 2^64 - 1, got 18446744073709551616",
+        '{"runs":[],"known_hashes":[],"x":{"a":1,"a":1}}': 'each member of an object must occur once, got "a"',
+        "nope": 'the text must be JSON, got "nope"',
+    };
+    for (const [text, message] of Object.entries(table)) assert.throws(() => y.Session.fromJSON(text), new errors.InvalidText(message));
 });
 
 test("Node's console shows what an object is", () => {

@@ -6,11 +6,13 @@ import { test } from "node:test";
 import * as errors from "../yurewha/index.js";
 import { BYTES, ROOT, chunksOf } from "./support.js";
 
-const FILES = ["hashes", "texts", "roots", "subtrees", "merges", "subtree_json", "range_proofs", "sessions", "upstream"];
+const FILES = ["hashes", "texts", "roots", "subtrees", "merges", "subtree_json", "range_proofs", "sessions", "session_json", "upstream"];
 const ERRORS = {
     SizeOverflow: errors.SizeOverflow,
     InvalidArguments: errors.InvalidArguments,
     NotJson: errors.InvalidText,
+    NoSession: errors.InvalidText,
+    InvalidJson: errors.InvalidJson,
     Overlap: errors.SessionOverlap,
     Positions: errors.SessionPositions,
     Sizes: errors.SessionSizes,
@@ -168,6 +170,15 @@ function checksOver(y) {
             if (it.result === "valid") assert.equal(y.Subtree.fromJSON(it.text).toJSON(), it.written ?? it.text);
             else if (it.error === "NotJson") assert.throws(() => y.Subtree.fromJSON(it.text), errors.InvalidText);
             else assert.throws(() => y.Subtree.fromJSON(it.text), (error) => error instanceof errors.InvalidJson && error.rule === it.rule);
+        },
+        SessionJson(_, it) {
+            if (it.result === "valid") {
+                const session = y.Session.fromJSON(it.text);
+                assert.equal(session.toJSON(), it.written ?? it.text);
+                assert.deepStrictEqual(y.Session.fromJSON(Buffer.from(it.text)), session);
+                return;
+            }
+            assert.throws(() => y.Session.fromJSON(it.text), (error) => error instanceof ERRORS[it.error] && error.rule === it.rule);
         },
         HashTree(_, it) {
             const chunks = chunksOf(y, it.list);

@@ -162,6 +162,66 @@ test("nothing is handed on that wasn't checked", async () => {
     }
 });
 
+test("a part of any length is checked, to its last byte", async () => {
+    const [count, length] = [160, 1 << 17];
+    const long = Buffer.from(Uint8Array.from({ length: count * length }, (_, k) => k >> 9));
+    const offsets = Array.from({ length: count + 1 }, (_, k) => k * length);
+    const ofLong = y.HashTree.fromChunks(y.dataHashes(long, offsets).map((hash) => [hash, length]));
+    let [more, wrong] = [0, long.length];
+    /** Proves so many chunks more on each side. */
+    const prove = (start, end) => {
+        const [first, last] = ofLong.chunksAt(start, end);
+        return ofLong.proof(Math.max(first - more, 0), Math.min(last + more, count));
+    };
+    const lying = (start, end) => {
+        const sent = Buffer.from(long.subarray(start, end));
+        sent[wrong - start] ^= 1;
+        return sent;
+    };
+    const verified = await y.VerifiedBlob.open(ofLong.fileHash(), lying, prove, { cacheSize: 0, chunkLimit: long.length });
+    for (const beyond of [0, 7, count]) {
+        more = beyond;
+        const part = verified.slice(30 * length, 62 * length);
+        const [from, to] = [Math.max(30 - more, 0) * length, Math.min(62 + more, count) * length];
+        for (wrong of [from, 40 * length + 1, to - 1]) {
+            await assert.rejects(part.bytes(), new errors.ProofMismatch("this isn't the data of the range"), `${more} ${wrong}`);
+        }
+        wrong = to;
+        assert.ok(long.subarray(30 * length, 62 * length).equals(await part.bytes()));
+    }
+});
+
+test("a proof may go beyond what was asked for by chunkLimit bytes on each side", async () => {
+    const small = y.HashTree.fromChunks(Array.from({ length: 100 }, () => [y.dataHash(Buffer.from("x")), 1]));
+    for (const [first, end, fits] of [[45, 51, true], [44, 51, false], [50, 56, true], [50, 57, false], [45, 56, true], [44, 57, false]]) {
+        const [calls, fetch] = counted((start, stop) => Buffer.alloc(stop - start, "x"));
+        const prove = (start) => (start === 50 ? small.proof(first, end) : small.proof(0, 1));
+        const verified = await y.VerifiedBlob.open(small.fileHash(), fetch, prove, { chunkLimit: 5 });
+        const read = verified.slice(50, 51).text();
+        if (fits) assert.equal(await read, "x");
+        else await assert.rejects(read, errors.ProofMismatch);
+        assert.deepEqual(calls, [[0, 1], ...(fits ? [[first, end]] : [])], "what doesn't fit isn't fetched");
+    }
+});
+
+test("a piece ahead that fails is told to the next read, and to nobody else", async () => {
+    const untold = [];
+    const note = (error) => untold.push(error);
+    process.on("unhandledRejection", note);
+    const verified = await open({ cacheSize: 0 }, (start, end) => {
+        if (start > 0) throw new Error("the connection is lost");
+        return bytesOf(start, end);
+    });
+    const readers = [1, 2].map(() => verified.stream().getReader());
+    for (const reader of readers) assert.equal((await reader.read()).done, false);
+    // Rejections that nobody looked at are told before timers run.
+    await setTimeout(20);
+    process.off("unhandledRejection", note);
+    assert.deepEqual(untold, []);
+    await assert.rejects(readers[0].read(), /^Error: the connection is lost$/);
+    await readers[1].cancel();
+});
+
 test("a stream passes on the pieces before a lie, and none after it", async () => {
     for (const lie of [() => new Uint8Array(3), () => { throw new Error("the connection is lost"); }]) {
         const verified = await open({}, (start, end) => (start < PIECE ? bytesOf(start, end) : lie()));

@@ -1,6 +1,6 @@
 // Lists of chunks.
 
-import { bytes, decimal, pairOf, u64 } from "./arguments.js";
+import { bytes, decimal, mustBe, pairOf, u64 } from "./arguments.js";
 import { InvalidArguments } from "./errors.js";
 import { HASH_LENGTH } from "./hash.js";
 import { inspected, showing } from "./shown.js";
@@ -22,8 +22,9 @@ export function makeChunks({ Hash, rawOf }) {
         }
 
         constructor(packed = new Uint8Array()) {
-            this.#packed = bytes(packed, "packed chunks").slice();
-            if (this.#packed.length % CHUNK_LENGTH !== 0) throw new InvalidArguments("packed chunks have 40 bytes each");
+            const block = bytes(packed, "packed chunks").slice();
+            if (block.length % CHUNK_LENGTH !== 0) throw new InvalidArguments(mustBe("packed chunks", "have 40 bytes each", block));
+            this.#packed = block;
             show(this);
         }
 
@@ -76,7 +77,7 @@ export function makeChunks({ Hash, rawOf }) {
         const block = new Uint8Array(CHUNK_LENGTH * pairs.length);
         const view = new DataView(block.buffer);
         pairs.forEach((pair, k) => {
-            const [hash, size] = pairOf(pair, `chunk ${k} is a pair of a hash and a size`);
+            const [hash, size] = pairOf(pair, `chunk ${k}`, "a hash and a size");
             block.set(rawOf(hash, `the hash of chunk ${k}`), CHUNK_LENGTH * k);
             view.setBigUint64(CHUNK_LENGTH * k + HASH_LENGTH, u64(size, `the size of chunk ${k}`), true);
         });
@@ -85,24 +86,8 @@ export function makeChunks({ Hash, rawOf }) {
 
     /** A pair of `toJSON`. */
     function read(pair, k) {
-        const [hex, size] = pairOf(pair, `chunk ${k} is a pair of a hex text and a size`);
+        const [hex, size] = pairOf(pair, `chunk ${k}`, "a hex text and a size");
         return [Hash.fromHex(hex), decimal(size, `the size of chunk ${k}`)];
     }
     return { Chunks, packedOf };
-}
-
-/** The sum of the sizes of packed chunks, which is less than 2^64. It is made of Numbers, since adding BigInts takes several times
- * as long. A Number is exact below 2^53. */
-export function sizeOf(packed) {
-    const view = new DataView(packed.buffer, packed.byteOffset, packed.byteLength);
-    let [low, high, sum] = [0, 0, 0n];
-    for (let at = HASH_LENGTH; at < packed.length; at += CHUNK_LENGTH) {
-        low += view.getUint32(at, true);
-        high += view.getUint32(at + 4, true);
-        if (low >= 2 ** 52) {
-            sum += BigInt(low);
-            low = 0;
-        }
-    }
-    return sum + BigInt(low) + (BigInt(high) << 32n);
 }

@@ -1,19 +1,19 @@
 // Hashes: values of 32 bytes.
 
-import { bytes, text, u64 } from "./arguments.js";
+import { bytes, mustBe, text, u64, wrongType } from "./arguments.js";
 import { BASE64_LENGTH, HEX_LENGTH } from "./constants.js";
-import { InvalidArguments } from "./errors.js";
+import { InvalidArguments, STATUS } from "./errors.js";
 import { inspected, showing } from "./shown.js";
 
 export const HASH_LENGTH = 32;
-const NO_HEX = "the hex text of a hash is 64 hex digits";
-const NO_BASE64 = "the base64 text of a hash is 43 characters that base64() gives";
+const HEX = "be 64 hex digits";
+const BASE64 = "be 43 characters that base64() gives";
 const decoder = new TextDecoder();
 
 /** A copy of 32 bytes. */
 export function thirtyTwo(value, what) {
     const found = bytes(value, what);
-    if (found.length !== HASH_LENGTH) throw new InvalidArguments(`${what} has 32 bytes`);
+    if (found.length !== HASH_LENGTH) throw new InvalidArguments(mustBe(what, "have 32 bytes", found));
     return found.slice();
 }
 
@@ -29,7 +29,7 @@ export function makeHash(library) {
         static {
             rawOf = (hash, what = "the hash") => {
                 if (typeof hash !== "object" || hash === null || !(#raw in hash)) {
-                    throw new TypeError(`${what} is a Hash of the same module`);
+                    throw wrongType(what, "be a Hash of the same module", hash);
                 }
                 return hash.#raw;
             };
@@ -41,11 +41,11 @@ export function makeHash(library) {
         }
 
         static fromHex(hex) {
-            return parsed("yurewha_from_hex", text(hex, "hex"), NO_HEX);
+            return parsed("yurewha_from_hex", hex, "the hex text of a hash", HEX);
         }
 
         static fromBase64(base64) {
-            return parsed("yurewha_from_base64", text(base64, "base64"), NO_BASE64);
+            return parsed("yurewha_from_base64", base64, "the base64 text of a hash", BASE64);
         }
 
         static randomFromSeed(seed) {
@@ -72,7 +72,7 @@ export function makeHash(library) {
         remainder(divisor) {
             const number = u64(divisor, "a divisor");
             return library.over([this.#raw, 8], (hash, out) => {
-                library.check(library.call("yurewha_remainder", hash, number, out), "the divisor is 0");
+                library.check(library.call("yurewha_remainder", hash, number, out), mustBe("a divisor", "be at least 1", divisor));
                 return library.u64(out);
             });
         }
@@ -108,8 +108,13 @@ export function makeHash(library) {
         Array.from({ length: block.length / HASH_LENGTH }, (_, k) => new Hash(block.subarray(HASH_LENGTH * k, HASH_LENGTH * (k + 1))));
     /** The keyed hash of 32 bytes under 32 bytes. */
     const hmac = (raw, key) => result([raw, key], (...pointers) => library.call("yurewha_hmac", ...pointers));
-    const parsed = (name, given, what) =>
-        result([given], (at, out) => library.check(library.call(name, at, BigInt(given.length), out), what));
+    const parsed = (name, value, what, rule) => {
+        const given = text(value, what);
+        return result([given], (at, out) => {
+            const status = library.call(name, at, BigInt(given.length), out);
+            if (status !== STATUS.DONE) library.check(status, mustBe(what, rule, value));
+        });
+    };
     const written = (name, raw, length) =>
         library.over([raw, length, 8], (hash, room, out) => {
             library.check(library.call(name, hash, room, BigInt(length), out));

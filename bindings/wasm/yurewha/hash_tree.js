@@ -5,7 +5,7 @@ import { CHUNK_LENGTH } from "./chunks.js";
 import { STATUS } from "./errors.js";
 import { Handle, Handles, disposable } from "./handle.js";
 import { HASH_LENGTH, thirtyTwo } from "./hash.js";
-import { MOST_BESIDE, NO_RANGE } from "./range_proof.js";
+import { MOST_BESIDE, noRange } from "./range_proof.js";
 import { inspected, showing } from "./shown.js";
 
 /** The class `HashTree` over a library. `written` makes the proof that a call writes. */
@@ -60,10 +60,11 @@ export function makeHashTree(library, { result }, { packedOf }, written) {
 
         proof(first, end) {
             const [from, to] = [u64(first, "the number of a chunk"), u64(end, "the number of a chunk")];
-            const most = from < to ? Math.min(this.numChunks, Number(to - from)) : 0;
+            const count = this.numChunks;
+            const most = from < to ? Math.min(count, Number(to - from)) : 0;
             const { pointer } = this.#handle;
             return written(most + MOST_BESIDE, [], (rooms) => {
-                library.check(library.call("yurewha_hash_tree_proof", pointer, from, to, ...rooms), NO_RANGE);
+                library.check(library.call("yurewha_hash_tree_proof", pointer, from, to, ...rooms), noRange(from, to, count));
             });
         }
 

@@ -1,6 +1,6 @@
 // What hashes bytes.
 
-import { bytes, dataOf, u64 } from "./arguments.js";
+import { bytes, dataOf, mustBe, u64 } from "./arguments.js";
 import { InvalidArguments } from "./errors.js";
 import { HASH_LENGTH, thirtyTwo } from "./hash.js";
 import { AREA } from "./library.js";
@@ -113,10 +113,11 @@ class Gathered {
 
 /** Offsets in a message of some length, as Numbers, none of which is less than the one before it. */
 function checkedOffsets(offsets, length) {
-    if (offsets.length === 0) throw new InvalidArguments("there is no offset");
+    if (offsets.length === 0) throw new InvalidArguments(mustBe("the number of offsets", "be at least 1", 0));
     offsets.forEach((offset, k) => {
-        if (offset < (offsets[k - 1] ?? 0n)) throw new InvalidArguments(`offset ${k} is less than the one before it`);
-        if (offset > BigInt(length)) throw new InvalidArguments(`offset ${k} is greater than the number of bytes`);
+        const least = offsets[k - 1] ?? 0n;
+        if (offset < least) throw new InvalidArguments(mustBe(`offset ${k}`, `be at least the one before it, ${least}`, offset));
+        if (offset > BigInt(length)) throw new InvalidArguments(mustBe(`offset ${k}`, `be at most the number of bytes, ${length}`, offset));
     });
     return offsets.map(Number);
 }

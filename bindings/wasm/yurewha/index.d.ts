@@ -9,7 +9,7 @@
  * Objects keep their bytes in private members. What comparisons need is an own property of each, so `deepStrictEqual` of two
  * objects compares their values. A structured clone is a plain object with these properties, and no call takes it. To hand an
  * object to a worker, send what it can be made of again: `bytes` of a `Hash`, `Chunks` or `RangeProof`, `toJSON()` of a
- * `Subtree`, `saved` of a `Session`.
+ * `Subtree` or `Session`.
  */
 
 declare global {
@@ -322,7 +322,7 @@ export interface Freed {
  * const back = y.Subtree.fromChunks(false, chunks.slice(25), true);
  * const sent = y.Subtree.fromJSON(back.toJSON()); // as another machine gets it
  * front.mergeInto(sent);
- * console.log(front.finalHash().equals(y.xorbHash(chunks)), front.totalSize); // true 60000n
+ * console.log(front.finish().equals(y.fileHash(chunks)), front.totalSize); // true 60000n
  * for (const range of [front, back, sent]) range.free();
  * ```
  */
@@ -360,6 +360,10 @@ export interface Subtree extends Freed {
     /** Returns the file hash of the chunks, without a salt or under one of 32 bytes, or null if an end isn't marked.
      * @throws InvalidArguments the salt has another length */
     fileHash(salt?: Uint8Array): Hash | null;
+
+    /** Returns the file hash of the chunks, without a salt or under one of 32 bytes.
+     * @throws InvalidArguments an end isn't marked, or the salt has another length */
+    finish(salt?: Uint8Array): Hash;
 
     clone(): Subtree;
 
@@ -425,8 +429,8 @@ export interface FlatInput {
  * const session = new y.Session();
  * session.put(3, chunks.slice(3));
  * console.log(session.gaps(5)); // [ [ 0n, 3n ] ]
- * const saved = JSON.parse(JSON.stringify(session.saved)); // what a file keeps
- * const restored = y.Session.restore(saved);
+ * const text = session.toJSON(); // what a file keeps
+ * const restored = y.Session.fromJSON(text);
  * console.log(restored.put(0, chunks.slice(0, 3)), restored.finish(5).equals(y.fileHash(chunks))); // 3 true
  * for (const it of [session, restored]) it.free();
  * ```
@@ -482,11 +486,18 @@ export interface Session extends Freed {
     /** Keeps hashes, as if an earlier put had had them. The session then knows them. */
     keepHashes(hashes: Iterable<Hash>): void;
 
+    /** Returns whether this session knows a hash: whether a put had it, or it was kept. */
+    knows(hash: Hash): boolean;
+
     /** Returns the hashes that this session knows, each once, in no particular order: those of all chunks that were put, and those
      * that were kept. */
     knownHashes(): Hash[];
 
-    /** The whole session, of which `restore` makes it again, also from a structured clone or from JSON. */
+    /** Returns the session as compact JSON text, which the Rust crate and the Python package read, too. It has `runs` with the positions
+     * `first` and `end` and with `chunks`, the subtree, and `known_hashes` with the four words of each hash, in rising order. */
+    toJSON(): string;
+
+    /** The whole session as lists, of which `restore` makes it again, also from a structured clone. */
     readonly saved: SavedSession;
 
     /** Returns the root of all chunks in the order of their positions. The session is unchanged.
@@ -507,6 +518,14 @@ export interface SessionConstructor {
     /** Makes a session without chunks. */
     new (): Session;
     readonly prototype: Session;
+
+    /** Reads what `toJSON` returned here, or what Rust or Python wrote. There may be other members. That a run has as many chunks as
+     * positions can't be checked.
+     * @throws InvalidText the text isn't JSON or has another form, or a member occurs twice in one object
+     * @throws InvalidJson a subtree breaks a rule
+     * @throws InvalidArguments a run has no position, is marked at an end, or leaves no gap after the runs before it
+     * @throws SizeOverflow otherwise, the sizes of all chunks add up to more than 2^64 - 1 */
+    fromJSON(json: string | Uint8Array): Session;
 
     /** Makes a session of what `saved` returned, perhaps in another instance. Errors are those of `Subtree.fromJSON`,
      * `Hash.fromHex` and `pushRun`. */
@@ -638,8 +657,8 @@ export interface RangeProof {
 
 export interface RangeProofConstructor {
     /** Makes a proof from its packed form, which is copied.
-     * @throws InvalidArguments it has no such form
-     * @throws InvalidProof it breaks a rule from 5 to 8 */
+     * @throws InvalidProof it breaks a rule: 1 if it has no number of levels, 3 if it has fewer levels than that, 4 if no whole nodes
+     * follow, or one from 5 to 8 */
     new (bytes: Uint8Array): RangeProof;
     readonly prototype: RangeProof;
 
@@ -649,10 +668,11 @@ export interface RangeProofConstructor {
      * @throws SizeOverflow otherwise, the sizes add up to more than 2^64 - 1 */
     fromChunks(chunks: ChunkList, first: U64, end: U64): RangeProof;
 
-    /** Reads a proof from JSON text, or from its UTF-8 bytes.
-     * @throws InvalidText the text isn't JSON
+    /** Reads a proof from JSON text, or from its UTF-8 bytes. Time and memory are in proportion to the text, which may be a stranger's.
+     * So a text of more than `limit` bytes isn't read. The default is 16 MiB, for ranges of about 180,000 chunks.
+     * @throws InvalidText the text has more bytes than `limit`, or isn't JSON
      * @throws InvalidProof the value breaks a rule */
-    fromJSON(text: string | Uint8Array): RangeProof;
+    fromJSON(text: string | Uint8Array, options?: { readonly limit?: U64 }): RangeProof;
 
     /** Makes a proof from flat lists.
      * @throws InvalidProof they break a rule from 5 to 8 */
@@ -898,5 +918,6 @@ export class SessionPositions extends SessionError {}
 /** The sizes of all chunks add up to more than 2^64 - 1. */
 export class SessionSizes extends SessionError {}
 
-/** The taken positions aren't exactly those below the total. */
+/** The taken positions aren't exactly those below the total. The message names the first positions without a chunk, or else the first
+ * one from the total on that is taken. */
 export class SessionGap extends SessionError {}

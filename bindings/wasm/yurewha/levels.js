@@ -9,7 +9,7 @@ export function packedLevels(levels) {
     const pairs = [...levels];
     const counts = new DataView(new ArrayBuffer(LEVEL_LENGTH * pairs.length));
     pairs.forEach((pair, k) => {
-        pairOf(pair, `level ${k} is a pair of counts, of left and right nodes`).forEach((count, side) => {
+        pairOf(pair, `level ${k}`, "counts, of left and right nodes").forEach((count, side) => {
             counts.setBigUint64(LEVEL_LENGTH * k + 8 * side, u64(count, `a count of level ${k}`), true);
         });
     });

@@ -1,8 +1,8 @@
 // Range proofs: the nodes of some adjacent chunks of a file, and the other nodes of each group on the way up to the root.
 
-import { bytes, text, u64 } from "./arguments.js";
+import { bytes, mustBe, noJson, text, u64, wrongType } from "./arguments.js";
 import { CHUNK_LENGTH } from "./chunks.js";
-import { InvalidArguments, STATUS } from "./errors.js";
+import { InvalidArguments, InvalidProof, InvalidText, STATUS } from "./errors.js";
 import { HASH_LENGTH, thirtyTwo } from "./hash.js";
 import { LEVEL_LENGTH, packedLevels, unpackedLevels } from "./levels.js";
 import { inspected, showing } from "./shown.js";
@@ -10,11 +10,17 @@ import { inspected, showing } from "./shown.js";
 const MOST_LEVELS = 64;
 /** The most nodes beside a range: eight on each side of each level. */
 export const MOST_BESIDE = 2 * 8 * MOST_LEVELS;
+/** How many bytes the JSON of a proof may have by default. */
+export const PROOF_LIMIT = 1 << 24;
 /** The JSON text of a node has more bytes. */
 const NODE_TEXT = 64;
-export const NO_RANGE = "a range has a chunk, and only chunks of the list";
-const UNPACKED = "a packed proof is a number of levels, two counts for each, and 40 bytes for each node";
+const UNPACKED = "be a number of levels, two counts for each, and 40 bytes for each node";
 const decoder = new TextDecoder();
+
+/** The message of an error of a range of a list. */
+export const noRange = (first, end, count) => {
+    return `a range must have a chunk, and none from ${count} on, got those from ${first} up to ${end}`;
+};
 
 /** The flat lists of a proof, packed as the module has them. */
 class Lists {
@@ -39,7 +45,8 @@ class Lists {
 function unpacked(packed) {
     const [count] = packed;
     const start = 1 + 2 * count;
-    if (count === undefined || packed.length < start || (packed.length - start) % CHUNK_LENGTH !== 0) throw new InvalidArguments(UNPACKED);
+    const rule = count === undefined ? 1 : packed.length < start ? 3 : (packed.length - start) % CHUNK_LENGTH !== 0 ? 4 : 0;
+    if (rule) throw new InvalidProof(rule, mustBe("a packed proof", UNPACKED, packed));
     const counts = Array.from({ length: count }, (_, level) => [packed[1 + 2 * level], packed[2 + 2 * level]]);
     return new Lists(packedLevels(counts), packed.slice(start));
 }
@@ -58,7 +65,7 @@ export function makeRangeProof(library, { rawOf }, { Chunks, packedOf }, { opene
             const list = Chunks.from(chunks);
             const [from, to] = [first, end].map((number) => u64(number, "the number of a chunk"));
             // A tree is made only of sizes that fit, which come second.
-            if (from >= to || to > BigInt(list.length)) throw new InvalidArguments(NO_RANGE);
+            if (from >= to || to > BigInt(list.length)) throw new InvalidArguments(noRange(from, to, list.length));
             const tree = HashTree.fromChunks(list);
             try {
                 return tree.proof(from, to);
@@ -67,9 +74,11 @@ export function makeRangeProof(library, { rawOf }, { Chunks, packedOf }, { opene
             }
         }
 
-        static fromJSON(json) {
+        static fromJSON(json, { limit = PROOF_LIMIT } = {}) {
+            const most = u64(limit, "a limit");
             const given = typeof json === "string" ? text(json, "JSON") : bytes(json, "JSON");
-            const what = "the text is no JSON text";
+            if (given.length > most) throw new InvalidText(mustBe("the JSON of a range proof", `have at most ${most} bytes`, given));
+            const what = noJson(json);
             return written(Math.floor(given.length / NODE_TEXT), [given], (rooms, at) => {
                 library.check(library.call("yurewha_range_proof_from_json", at, BigInt(given.length), ...rooms), what);
             });
@@ -125,7 +134,7 @@ export function makeRangeProof(library, { rawOf }, { Chunks, packedOf }, { opene
         }
 
         equals(other) {
-            if (typeof other !== "object" || other === null || !(#lists in other)) throw new TypeError("the other is a RangeProof");
+            if (typeof other !== "object" || other === null || !(#lists in other)) throw wrongType("the other", "be a RangeProof", other);
             const [mine, its] = [this.bytes, other.bytes];
             return mine.length === its.length && mine.every((byte, place) => byte === its[place]);
         }

@@ -1,8 +1,8 @@
 // Subtrees: what is kept of a range of chunks.
 
-import { bytes, text, truth } from "./arguments.js";
+import { bytes, noJson, text, truth, wrongType } from "./arguments.js";
 import { CHUNK_LENGTH } from "./chunks.js";
-import { STATUS } from "./errors.js";
+import { InvalidArguments, STATUS } from "./errors.js";
 import { HANDLE_LENGTH, Handle, Handles, disposable } from "./handle.js";
 import { thirtyTwo } from "./hash.js";
 import { LEVEL_LENGTH, packedLevels, unpackedLevels } from "./levels.js";
@@ -24,7 +24,7 @@ export function makeSubtree(library, { Hash, rawOf, result, hmac }, { Chunks, pa
         static {
             pointerOf = (subtree) => {
                 if (typeof subtree !== "object" || subtree === null || !(#handle in subtree)) {
-                    throw new TypeError("a range is a Subtree of the same module");
+                    throw wrongType("a range", "be a Subtree of the same module", subtree);
                 }
                 return subtree.#handle.pointer;
             };
@@ -71,7 +71,7 @@ export function makeSubtree(library, { Hash, rawOf, result, hmac }, { Chunks, pa
             const given = typeof json === "string" ? text(json, "JSON") : bytes(json, "JSON");
             return library.over([given], (at) =>
                 owned((made) => {
-                    library.check(library.call("yurewha_subtree_from_json", at, BigInt(given.length), made), "the text is no JSON text");
+                    library.check(library.call("yurewha_subtree_from_json", at, BigInt(given.length), made), noJson(json));
                 }),
             );
         }
@@ -134,6 +134,13 @@ export function makeSubtree(library, { Hash, rawOf, result, hmac }, { Chunks, pa
             const key = salt === undefined ? rawOf(new Hash()) : thirtyTwo(salt, "a salt");
             const root = finalHashOf(this);
             return root === null || numNodesOf(this) === 0 ? root : hmac(rawOf(root), key);
+        }
+
+        finish(salt) {
+            const hash = this.fileHash(salt);
+            if (hash !== null) return hash;
+            const [atStart, atEnd] = marksOf(this);
+            throw new InvalidArguments(`a range must be marked at both ends, got one with atStart ${atStart} and atEnd ${atEnd}`);
         }
 
         clone() {
@@ -244,5 +251,5 @@ export function makeSubtree(library, { Hash, rawOf, result, hmac }, { Chunks, pa
         );
     }
 
-    return { Subtree: disposable(Subtree), owned, pointerOf, totalSizeOf };
+    return { Subtree: disposable(Subtree), owned, pointerOf };
 }

@@ -1,9 +1,10 @@
 // Files that somebody else keeps. They are read like a Blob, and nothing is handed on that wasn't checked.
 
-import { dataOf, text, u64 } from "./arguments.js";
+import { dataOf, text, u64, wrongType } from "./arguments.js";
 import { ProofMismatch } from "./errors.js";
 import { thirtyTwo } from "./hash.js";
 import { KeptParts } from "./kept_parts.js";
+import { PROOF_LIMIT } from "./range_proof.js";
 import { inspected, showing } from "./shown.js";
 import { bodyOf, readAll } from "./streams.js";
 
@@ -11,15 +12,13 @@ import { bodyOf, readAll } from "./streams.js";
 const PIECE = 1 << 22;
 const CACHE_SIZE = 1 << 22;
 const CHUNK_LIMIT = 1 << 20;
-/** How many bytes the JSON of a proof may have. */
-const PROOF_LIMIT = 1 << 24;
 
 /** What fetches bytes of the file at an address. */
 const byRange = (address) => (start, end, signal) => fetch(address, { headers: { Range: `bytes=${start}-${end - 1}` }, signal });
 
 /** A caller's function. */
 function callable(value, what) {
-    if (typeof value !== "function") throw new TypeError(`${what} is a function`);
+    if (typeof value !== "function") throw wrongType(what, "be a function", value);
     return value;
 }
 
@@ -101,7 +100,8 @@ export function makeVerifiedBlob({ Hash, rawOf }, { RangeProof }) {
 
         static async open(fileHash, source, prove, { salt, type = "", cacheSize = CACHE_SIZE, chunkLimit = CHUNK_LIMIT } = {}) {
             const isEmpty = rawOf(fileHash, "a file hash").every((byte) => byte === 0);
-            const fetch = typeof source === "string" || source instanceof URL ? byRange(source) : callable(source, "a source other than an address");
+            const isAddress = typeof source === "string" || source instanceof URL;
+            const fetch = isAddress ? byRange(source) : callable(source, "a source that is no address");
             const [most, limit] = [u64(cacheSize, "a cache size"), u64(chunkLimit, "a chunk limit")].map(Number);
             const proving = proofOf(callable(prove, "prove"));
             const key = salt === undefined ? salt : thirtyTwo(salt, "a salt");
@@ -143,7 +143,10 @@ export function makeVerifiedBlob({ Hash, rawOf }, { RangeProof }) {
                 next = pieces.next();
                 next.catch(() => {});
                 controller.enqueue(value.piece);
-                if (value.isLast) controller.close();
+                if (!value.isLast) return;
+                controller.close();
+                // A byte source answers a read that waits for a view, also when nothing is left to fill it with.
+                controller.byobRequest?.respond(0);
             };
             return new ReadableStream({
                 type: "bytes",
@@ -195,7 +198,8 @@ export function makeVerifiedBlob({ Hash, rawOf }, { RangeProof }) {
         return async (start, end, signal) => {
             const received = await prove(start, end, signal);
             const proof = received instanceof Response ? RangeProof.fromJSON(await bodyOf(received, PROOF_LIMIT)) : received;
-            if (!(proof instanceof RangeProof)) throw new TypeError("prove returns a RangeProof of the same module, or a Response");
+            const rule = "be a RangeProof of the same module, or a Response";
+            if (!(proof instanceof RangeProof)) throw wrongType("what prove returns", rule, proof);
             return proof;
         };
     }
