@@ -42,7 +42,7 @@ pub enum CoreError {
     /// A JSON value doesn't describe a subtree. The number is the lowest rule, from 1 to 13, that the value breaks.
     /// [`from_json`](crate::merklehash::MerkleHashSubtree::from_json) lists the rules.
     ///
-    /// Rule 9 is broken by about half of the subtrees that `xet-core-structures` saves after it has merged a range that
+    /// Rule 9 is broken by some subtrees that `xet-core-structures` saves after it has merged a range that
     /// is marked at its start with the next one. Make such a subtree anew from the list of its chunks.
     InvalidJson(u8),
     /// A JSON value, or flat lists, don't describe a range proof. The number is the lowest rule, from 1 to 8, that they

@@ -7,9 +7,11 @@ use crate::error::CoreError;
 use crate::ffi::yurewha_chunk;
 use crate::lent_chunks::{chunk_of, node_of};
 use crate::merklehash::data_hash::{hex, DataHash};
+use serde::de::value::MapAccessDeserializer;
 use serde::de::{DeserializeSeed, Error, Expected, IgnoredAny, MapAccess, SeqAccess, Unexpected, Visitor};
 use serde::{Deserialize, Deserializer, Serialize};
 use std::fmt;
+use std::marker::PhantomData;
 
 // A node in a human-readable format.
 const NODE_NAME: &str = "Node";
@@ -42,6 +44,34 @@ impl fmt::Display for Form {
 /// The error for a missing member.
 pub(crate) fn missing<E: Error>(member: &str, form: Form) -> E {
     E::custom(format_args!("missing field `{member}`, expected {form}"))
+}
+
+/// Reads a struct. In a human-readable format an array can't be one.
+pub(crate) fn read_struct<'de, T: Deserialize<'de>, D: Deserializer<'de>>(
+    deserializer: D,
+    name: &'static str,
+    members: &'static [&'static str],
+) -> Result<T, D::Error> {
+    if deserializer.is_human_readable() {
+        deserializer.deserialize_struct(name, members, ByMembers(name, PhantomData))
+    } else {
+        T::deserialize(deserializer)
+    }
+}
+
+// Reads a struct of this name from its members alone.
+struct ByMembers<T>(&'static str, PhantomData<T>);
+
+impl<'de, T: Deserialize<'de>> Visitor<'de> for ByMembers<T> {
+    type Value = T;
+
+    fn expecting(&self, f: &mut fmt::Formatter<'_>) -> fmt::Result {
+        write!(f, "struct {}", self.0)
+    }
+
+    fn visit_map<A: MapAccess<'de>>(self, map: A) -> Result<T, A::Error> {
+        T::deserialize(MapAccessDeserializer::new(map))
+    }
 }
 
 /// Reads the value of a member. It may occur only once.
@@ -208,5 +238,23 @@ impl<'de> Visitor<'de> for Node {
         let hash = hash.ok_or_else(|| missing(NODE_MEMBERS[0], self.hash()))?;
         let size = size.ok_or_else(|| missing(NODE_MEMBERS[1], self.size()))?;
         Ok(chunk_of((hash, size)))
+    }
+}
+
+#[cfg(test)]
+mod tests {
+    use super::*;
+    use serde::de::value::{Error, I64Deserializer};
+
+    // Some formats have signed numbers alone.
+    #[test]
+    fn a_signed_number_is_read_unless_it_is_negative() {
+        let read = |number| Number(Form("a number", 3)).deserialize(I64Deserializer::<Error>::new(number));
+        assert_eq!(
+            [0, 7, i64::MAX].map(|number| read(number).unwrap()),
+            [0, 7, i64::MAX as u64]
+        );
+        let error = read(-7).unwrap_err().to_string();
+        assert_eq!(error, "invalid value: integer `-7`, expected a number (rule 3)");
     }
 }

@@ -8,7 +8,7 @@
 //! bugs, and each makes a test fail. `README.md` lists what isn't proved, and says how the library is found.
 //!
 //! ```
-//! use yurewha::merklehash::{compute_data_hash, xorb_hash, MerkleHashSubtree};
+//! use yurewha::merklehash::{compute_data_hash, file_hash, MerkleHashSubtree};
 //!
 //! let chunks: Vec<_> = [&b"first"[..], b"second", b"third"]
 //!     .map(|data| (compute_data_hash(data), data.len() as u64))
@@ -17,7 +17,7 @@
 //! let mut file = MerkleHashSubtree::from_chunks(true, &chunks[..2], false);
 //! let rest = MerkleHashSubtree::from_chunks(false, &chunks[2..], true);
 //! file.merge_into(&rest)?;
-//! assert_eq!(file.final_hash(), Some(xorb_hash(&chunks)));
+//! assert_eq!(file.finish()?, file_hash(&chunks));
 //! # Ok::<(), yurewha::error::CoreError>(())
 //! ```
 //!
@@ -32,17 +32,18 @@
 //!   names the call and the cause. A call `try_..` returns a [`Result`](error::Result) instead.
 //! - **Subtrees that are read** are checked in each format of serde. A value that isn't the subtree of a list is an
 //!   error. If that crate merges a range that is marked at its start with the next one, it keeps left nodes, which breaks
-//!   rule 9. So about half of the subtrees that it saved after such a merge are errors too. Make them anew from the list
-//!   of their chunks.
+//!   rule 9. So subtrees that it saved after such a merge may be errors, too. Make them anew from the list of their
+//!   chunks.
 //! - **More calls.** Rust prefers a type's own calls to those of a client's trait. So a trait of yours with one of these
 //!   names has to be called by its path, as in `Stored::to_bytes(&hash)`: of a hash `from_words`, `from_bytes`,
 //!   `to_bytes`, `try_base64` and `try_from_base64`; of a subtree `try_from_chunks`, `try_clone`, `at_start`, `at_end`,
-//!   `total_size`, `merge_into_counted`, `file_hash`, `file_hash_with_salt`, `to_json` and `from_json`.
+//!   `total_size`, `merge_into_counted`, `file_hash`, `file_hash_with_salt`, `finish`, `finish_with_salt`, `to_json` and
+//!   `from_json`.
 //! - **Threads** that read one [`MerkleHashSubtree`](merklehash::MerkleHashSubtree) or [`Session`](own::Session) at
 //!   once take turns. Give each thread a clone if that is too slow. Threads that read one [`HashTree`](own::HashTree) or
 //!   [`OpenedRange`](own::OpenedRange) don't wait for each other.
 //! - **Errors.** [`CoreError`](error::CoreError) has the variants that these calls return, with its own texts.
-//! - **Targets** are Linux on x86-64 and aarch64, with glibc or musl.
+//! - **Targets** are Linux on x86-64 and aarch64, with glibc or musl, and `x86_64-pc-windows-gnu`.
 //!
 //! The table "In the crate `yurewha`" of `docs/DIFFERENCES.md`, in the repository, lists the rest.
 

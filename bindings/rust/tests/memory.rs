@@ -5,11 +5,13 @@
 #![cfg(all(target_os = "linux", target_env = "gnu"))]
 
 use std::cell::Cell;
-use std::ffi::c_void;
+use std::ffi::{c_int, c_void};
 use std::fmt::Debug;
+use std::io;
+use std::num::NonZeroUsize;
 use std::panic::{self, catch_unwind, AssertUnwindSafe};
 use std::ptr;
-use std::sync::atomic::{AtomicUsize, Ordering};
+use std::sync::atomic::{AtomicBool, AtomicUsize, Ordering};
 use std::sync::Once;
 use std::thread;
 use std::time::{Duration, Instant};
@@ -27,6 +29,7 @@ extern "C" {
     fn __libc_malloc(size: usize) -> *mut c_void;
     fn __libc_realloc(block: *mut c_void, size: usize) -> *mut c_void;
     fn __libc_free(block: *mut c_void);
+    fn prctl(option: c_int, name: *mut u8) -> c_int;
 }
 
 thread_local! {
@@ -60,8 +63,36 @@ fn meet() {
     HAS_MET.set(MEETING.load(Ordering::SeqCst) == 2);
 }
 
+// Whether threads of `hash_chunks` are held up in their requests.
+static ARE_HELD_UP: AtomicBool = AtomicBool::new(false);
+// How many chunks were read meanwhile.
+static READ_MEANWHILE: AtomicUsize = AtomicUsize::new(0);
+// No more may be read than this.
+const MOST_READ: usize = 100;
+
+// Whether this is a thread of `hash_chunks`, by its name.
+fn hashes_chunks() -> bool {
+    const PR_GET_NAME: c_int = 16;
+    let mut name = [0; 16];
+    // SAFETY: room for a name.
+    unsafe { prctl(PR_GET_NAME, name.as_mut_ptr()) };
+    name.starts_with(b"yurewha\0")
+}
+
+// Holds a thread up until too many chunks were read, or half a second has passed.
+fn hold_up() {
+    let begun = Instant::now();
+    while READ_MEANWHILE.load(Ordering::SeqCst) <= MOST_READ && begun.elapsed() < Duration::from_millis(500) {
+        thread::yield_now();
+    }
+    ARE_HELD_UP.store(false, Ordering::SeqCst);
+}
+
 // Counts a request of this size, and returns whether it is refused.
 fn is_refused(size: usize) -> bool {
+    if ARE_HELD_UP.load(Ordering::SeqCst) && hashes_chunks() {
+        hold_up();
+    }
     let before = BEFORE_MEETING.get();
     BEFORE_MEETING.set(before.and_then(|before| before.checked_sub(1)));
     if before == Some(0) {
@@ -501,6 +532,25 @@ fn proofs_of_one_tree_are_made_at_once() {
             });
         }
     });
+}
+
+#[test]
+fn chunks_wait_for_threads_that_hash_and_not_in_memory() {
+    let count = |length| {
+        READ_MEANWHILE.fetch_add(usize::from(ARE_HELD_UP.load(Ordering::SeqCst)), Ordering::SeqCst);
+        length
+    };
+    for (threads, most) in [(1, 3), (3, 7), (1 << 20, MOST_READ)] {
+        READ_MEANWHILE.store(0, Ordering::SeqCst);
+        ARE_HELD_UP.store(true, Ordering::SeqCst);
+        let lengths = [10; 50].into_iter().map(count);
+        let chunks = own::hash_chunks(io::repeat(0), lengths, NonZeroUsize::new(threads).unwrap()).unwrap();
+        assert_eq!(chunks, [(compute_data_hash(&[0; 10]), 10); 50]);
+        assert!(!ARE_HELD_UP.load(Ordering::SeqCst), "no thread was held up");
+        // As many are hashed as there are threads, as many wait, and one is read.
+        let read = READ_MEANWHILE.load(Ordering::SeqCst);
+        assert!((1..=most).contains(&read), "{read}");
+    }
 }
 
 #[test]

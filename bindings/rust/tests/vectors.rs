@@ -529,6 +529,34 @@ fn subtree_json(it: &Value) {
     }
 }
 
+// The JSON of a session is that of serde, whose errors are texts.
+#[cfg(feature = "serde")]
+fn session_json(it: &Value) {
+    let given = text(it, "text");
+    let found = serde_json::from_str::<Session>(given);
+    if is_valid(it) {
+        let written = it["written"].as_str().unwrap_or(given);
+        let found = serde_json::to_value(found.unwrap()).unwrap();
+        assert_eq!(found, serde_json::from_str::<Value>(written).unwrap());
+        return;
+    }
+    let error = found.unwrap_err();
+    let told = error.to_string();
+    assert!(!error.is_data() || text(it, "error") != "NotJson", "{told}");
+    let names = |rule| told.contains(&format!("(rule {rule})")) || told.contains(&format!("subtree: rule {rule}: "));
+    assert_eq!((1..=13).find(|&rule| names(rule)), it["rule"].as_u64(), "{told}");
+    let is_unfit = told.contains("has no position, is marked at an end, or leaves no gap after the runs before it");
+    assert_eq!(is_unfit, text(it, "error") == "InvalidArguments", "{told}");
+    assert_eq!(
+        told.contains("size overflow"),
+        text(it, "error") == "SizeOverflow",
+        "{told}"
+    );
+}
+
+#[cfg(not(feature = "serde"))]
+fn session_json(_: &Value) {}
+
 fn runs(session: &Session, it: &Value) {
     let wanted = array(it, "runs");
     assert_eq!(session.num_runs(), wanted.len());
@@ -588,6 +616,7 @@ fn check(group: &Value, it: &Value) {
         "Bracketing" => bracketing(group, it),
         "SubtreeJson" => subtree_json(it),
         "Session" => session(it),
+        "SessionJson" => session_json(it),
         "HashTree" => hash_tree(it),
         "ProofRefused" => proof_refused(it),
         "OpenProof" => open_proof(it),
@@ -648,6 +677,11 @@ fn sessions() {
 }
 
 #[test]
+fn json_of_sessions() {
+    check_file("session_json.json");
+}
+
+#[test]
 fn proofs_of_parts_of_files() {
     check_file("range_proofs.json");
 }
@@ -655,4 +689,15 @@ fn proofs_of_parts_of_files() {
 #[test]
 fn lists_of_the_upstream() {
     check_file("upstream.json");
+}
+
+// Not of vectors, but of the repository, too: the manifest has the licences of the code that the crate compiles.
+#[test]
+fn the_licences_are_those_of_the_library() {
+    let path = Path::new(env!("CARGO_MANIFEST_DIR")).join("debian/copyright");
+    let copyright = fs::read_to_string(path).unwrap();
+    let (_, library) = copyright.split_once("Files: dist/*.s\n").unwrap();
+    let (_, licences) = library.split_once("\nLicense: ").unwrap();
+    let licences = licences.lines().next().unwrap().replace(" and ", " AND ");
+    assert_eq!(env!("CARGO_PKG_LICENSE"), licences);
 }

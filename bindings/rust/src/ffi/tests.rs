@@ -5,13 +5,11 @@ use crate::merklehash::compute_data_hash;
 
 #[test]
 fn the_library_has_the_version_of_the_crate() {
+    let number = env!("CARGO_PKG_VERSION").trim_end_matches("-dev");
     let (mut room, mut length) = ([0; 32], 0);
     // SAFETY: a room of the length that goes with it, and a length to write to.
     let status = unsafe { yurewha_version(room.as_mut_ptr().cast(), room.len(), &mut length) };
-    assert_eq!(
-        (status, &room[..length]),
-        (YUREWHA_DONE, env!("CARGO_PKG_VERSION").as_bytes())
-    );
+    assert_eq!((status, &room[..length]), (YUREWHA_DONE, number.as_bytes()));
 }
 
 #[test]

@@ -1,7 +1,7 @@
 //! Subtrees: what is kept of a range of chunks, to merge it with its neighbours without the chunks.
 
 use super::MerkleHash;
-use crate::error::Result;
+use crate::error::{CoreError, Result};
 use crate::ffi;
 use crate::handle::Owned;
 use crate::in_form::InForm;
@@ -336,6 +336,47 @@ impl MerkleHashSubtree {
         // Without chunks it is the default hash, which is the root. A chunk may have that hash too.
         let has_chunks = !self.is_empty();
         Some(if has_chunks { root.hmac(salt.into()) } else { root })
+    }
+
+    /// Returns the file hash of the chunks, as [`file_hash`](Self::file_hash) does, but an error if an end isn't marked. So
+    /// two subtrees that aren't whole files never seem to have the same file hash.
+    ///
+    /// ```
+    /// use yurewha::error::CoreError;
+    /// use yurewha::merklehash::{file_hash, MerkleHash, MerkleHashSubtree};
+    ///
+    /// let chunks = [1, 2, 3].map(|seed| (MerkleHash::random_from_seed(seed), 100));
+    /// let mut file = MerkleHashSubtree::from_chunks(true, &chunks[..2], false);
+    /// assert_eq!(file.finish(), Err(CoreError::InvalidArguments));
+    /// file.merge_into(&MerkleHashSubtree::from_chunks(false, &chunks[2..], true))?;
+    /// assert_eq!(file.finish()?, file_hash(&chunks));
+    /// # Ok::<(), CoreError>(())
+    /// ```
+    ///
+    /// # Errors
+    ///
+    /// [`InvalidArguments`](crate::error::CoreError::InvalidArguments) if an end isn't marked
+    pub fn finish(&self) -> Result<MerkleHash> {
+        self.finish_with_salt(&[0; 32])
+    }
+
+    /// Returns the file hash of the chunks under a salt, as [`file_hash_with_salt`](Self::file_hash_with_salt) does, but an
+    /// error if an end isn't marked.
+    ///
+    /// ```
+    /// use yurewha::merklehash::{file_hash_with_salt, MerkleHash, MerkleHashSubtree};
+    ///
+    /// let chunks = [1, 2, 3].map(|seed| (MerkleHash::random_from_seed(seed), 100));
+    /// let whole = MerkleHashSubtree::from_chunks(true, &chunks, true);
+    /// assert_eq!(whole.finish_with_salt(&[7; 32])?, file_hash_with_salt(&chunks, &[7; 32]));
+    /// # Ok::<(), yurewha::error::CoreError>(())
+    /// ```
+    ///
+    /// # Errors
+    ///
+    /// Those of [`finish`](Self::finish)
+    pub fn finish_with_salt(&self, salt: &[u8; 32]) -> Result<MerkleHash> {
+        self.file_hash_with_salt(salt).ok_or(CoreError::InvalidArguments)
     }
 
     /// Returns this subtree as compact JSON text. The members are in the order `at_end`, `at_start`, `levels`, `nodes`.

@@ -246,6 +246,19 @@ impl fmt::Debug for Hasher {
 }
 
 #[cfg(test)]
+impl Hasher {
+    // A hasher whose message may have so many more bytes.
+    pub(crate) fn with_room(length: u64) -> Self {
+        let mut hasher = Hasher::new_data();
+        // The word of the state that is the length of the message.
+        let of_message = hasher.clone().update(&[0; 12345]).state.state;
+        let count = of_message.iter().position(|&word| word == 12345).unwrap();
+        hasher.state.state[count] = u64::MAX - length;
+        hasher
+    }
+}
+
+#[cfg(test)]
 mod tests {
     use super::*;
     use crate::error::CoreError;
@@ -253,11 +266,7 @@ mod tests {
 
     #[test]
     fn a_message_past_the_greatest_length_is_refused_and_left_as_it_was() {
-        let mut hasher = Hasher::new_data();
-        // The word of the state that is the length of the message.
-        let of_message = hasher.clone().update(&[0; 12345]).state.state;
-        let count = of_message.iter().position(|&word| word == 12345).unwrap();
-        hasher.state.state[count] = u64::MAX - 5;
+        let mut hasher = Hasher::with_room(5);
         assert!(hasher.has_room(5) && !hasher.has_room(6));
         assert_eq!(hasher.try_update(&[0; 6]).err(), Some(CoreError::SizeOverflow));
         assert_eq!(hasher.write(&[0; 6]).unwrap_err().kind(), ErrorKind::InvalidInput);

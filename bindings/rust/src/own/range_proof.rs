@@ -366,6 +366,9 @@ impl RangeProof {
     /// - `chunks`: the nodes of the range's chunks; each has its `hash` in hex and its `size`
     /// - `levels`: for each level, from the chunks up, an object with the nodes of both sides as `left` and `right`
     ///
+    /// Time and memory are in proportion to the text, so refuse a stranger's text of more than 2^24 bytes, or another limit,
+    /// before this call: that many are enough for about 180,000 chunks.
+    ///
     /// ```
     /// use yurewha::error::CoreError;
     /// use yurewha::merklehash::MerkleHash;

@@ -4,18 +4,21 @@ use super::Node;
 use crate::merklehash::compute_data_hash;
 use std::io::{self, ErrorKind, Read};
 use std::num::NonZeroUsize;
-use std::sync::mpsc::{sync_channel, Receiver, SyncSender};
+use std::sync::mpsc::{sync_channel, Receiver};
 use std::sync::{Mutex, PoisonError};
 use std::thread;
 
 // The name of the threads, as debuggers show it.
 const NAME: &str = "yurewha";
 
+// How many chunks wait at most for a thread that hashes them, whatever number of threads is given.
+const MOST_WAITING: usize = 64;
+
 // The data of a chunk, and its number.
 type Chunk = (usize, Vec<u8>);
 
-/// Reads chunks of these lengths, one after another, and hashes them on the given number of threads. The calling thread reads
-/// meanwhile. What it returns is in the order of the reader, and
+/// Reads chunks of these lengths, one after another, and hashes them on the given number of threads, but on no more threads
+/// than there are chunks. The calling thread reads meanwhile, at most one chunk ahead for each thread. What it returns is in the order of the reader, and
 /// [`file_hash`](crate::merklehash::file_hash) or [`xorb_hash`](crate::merklehash::xorb_hash) takes it.
 ///
 /// Nothing here cuts chunks: the lengths are those of a Xet client's chunks. What comes after the last chunk isn't read.
@@ -44,13 +47,20 @@ pub fn hash_chunks(
     lengths: impl IntoIterator<Item = usize>,
     threads: NonZeroUsize,
 ) -> io::Result<Vec<Node>> {
-    let (chunks, taken) = sync_channel(threads.get());
+    let (chunks, taken) = sync_channel(threads.get().min(MOST_WAITING));
     let taken = Mutex::new(taken);
     let mut hashed = thread::scope(|scope| {
         let named = || thread::Builder::new().name(NAME.to_owned());
-        let start = |_| named().spawn_scoped(scope, || hash_each(&taken));
-        let workers = (0..threads.get()).map(start).collect::<io::Result<Vec<_>>>()?;
-        send_chunks(reader, lengths, chunks)?;
+        let mut workers = Vec::new();
+        for chunk in chunks_of(reader, lengths) {
+            let chunk = chunk?;
+            if workers.len() < threads.get() {
+                workers.push(named().spawn_scoped(scope, || hash_each(&taken))?);
+            }
+            chunks.send(chunk).expect("a thread takes chunks until there are none");
+        }
+        // Threads end when the channel is closed, as it also is after an error.
+        drop(chunks);
         let parts = workers
             .into_iter()
             .map(|worker| worker.join().expect("hashing panics nowhere"));
@@ -60,25 +70,20 @@ pub fn hash_chunks(
     Ok(hashed.into_iter().map(|(_, node)| node).collect())
 }
 
-// Reads the chunks, and sends each with its number. The channel is closed at the end, also after an error.
-fn send_chunks(
+// Reads the chunks, one after another.
+fn chunks_of(
     mut reader: impl Read,
     lengths: impl IntoIterator<Item = usize>,
-    chunks: SyncSender<Chunk>,
-) -> io::Result<()> {
-    for (number, length) in lengths.into_iter().enumerate() {
+) -> impl Iterator<Item = io::Result<Chunk>> {
+    lengths.into_iter().enumerate().map(move |(number, length)| {
         let mut data = Vec::new();
         reader.by_ref().take(length as u64).read_to_end(&mut data)?;
         if data.len() < length {
             let end = format!("the data ends before chunk {number} is whole");
             return Err(io::Error::new(ErrorKind::UnexpectedEof, end));
         }
-        chunks
-            .send((number, data))
-            .expect("a thread takes chunks until there are none");
-    }
-    drop(chunks);
-    Ok(())
+        Ok((number, data))
+    })
 }
 
 // Hashes chunks until the channel is closed.

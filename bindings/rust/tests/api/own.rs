@@ -23,6 +23,8 @@ fn own_items_have_their_signatures() {
     let _: fn(&Subtree) -> u64 = Subtree::total_size;
     let _: fn(&Subtree) -> Option<MerkleHash> = Subtree::file_hash;
     let _: fn(&Subtree, &[u8; 32]) -> Option<MerkleHash> = Subtree::file_hash_with_salt;
+    let _: fn(&Subtree) -> Result<MerkleHash> = Subtree::finish;
+    let _: fn(&Subtree, &[u8; 32]) -> Result<MerkleHash> = Subtree::finish_with_salt;
     let _: fn(&own::Session) -> u64 = own::Session::num_chunks;
     type Finished = std::result::Result<MerkleHash, own::SessionFault>;
     let _: fn(&own::Session, u64, &[u8; 32]) -> Finished = own::Session::finish_with_salt;

@@ -357,6 +357,9 @@ pub fn forged() -> Vec<(u8, String)> {
     let mut forged: Vec<_> = ["[]", "null", "0", "\"\"", "true"]
         .map(|value| (1, value.to_owned()))
         .into();
+    // Arrays of what the members would be.
+    forged.push((1, format!("[{},[]]", nodes(1))));
+    forged.push((3, text(&nodes(1), &format!("[[{},[]]]", nodes(1)))));
     forged.push((2, "{}".to_owned()));
     forged.push((2, text("null", "[]")));
     forged.push((2, text("[]", "{}")));
@@ -589,4 +592,34 @@ fn an_error_of_opening_shows_no_proof() {
         format!("{error:?}"),
         "OpenError { fault: ProofMismatch, num_chunks: 4000, .. }"
     );
+}
+
+#[test]
+fn no_number_is_cut_to_32_bits() {
+    let data = [&b"a chunk"[..], b"another"];
+    let chunks = data.map(|data| (compute_data_hash(data), data.len() as u64));
+    let tree = HashTree::from_chunks(&chunks).unwrap();
+    let proof = tree.proof(0..2).unwrap();
+    let range = proof.clone().open(&tree.file_hash()).unwrap();
+    for past in [1 << 32, 1 << 40, usize::MAX << 32] {
+        for (chunk, data) in data.iter().enumerate() {
+            assert!(range.check(chunk, data).is_some() && range.check(past + chunk, data).is_none());
+            assert_eq!((range.begins(past + chunk), range.ends(past + chunk)), (None, None));
+        }
+        assert!(proof.left(past).is_empty() && proof.right(past).is_empty());
+        let bytes = past as u64;
+        assert!(range.read(bytes..bytes + 7, b"a chunkanother").is_none());
+        assert_eq!(tree.chunks_at(bytes..bytes + 7), None);
+        assert_eq!(tree.chunks_at(0..bytes + 7), Some(0..2));
+        assert_eq!(
+            (tree.bytes_of(past..past + 1), tree.bytes_of(0..past + 1)),
+            (None, None)
+        );
+        assert_eq!(tree.proof(past..past + 1), Err(CoreError::InvalidArguments));
+        assert_eq!(tree.proof(0..past + 1), Err(CoreError::InvalidArguments));
+        assert_eq!(
+            RangeProof::from_chunks(&chunks, past..past + 1),
+            Err(CoreError::InvalidArguments)
+        );
+    }
 }

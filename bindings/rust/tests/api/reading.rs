@@ -91,6 +91,19 @@ fn so_many_threads_hash_as_are_asked_for() {
 }
 
 #[test]
+fn there_are_no_more_threads_and_no_more_room_than_chunks() {
+    for count in [1 << 32, 1 << 50, usize::MAX] {
+        assert_eq!(hash_chunks(&b""[..], [], threads(count)).unwrap(), []);
+        let wanted = nodes(b"a chunkanother", &[7, 7]);
+        assert_eq!(
+            hash_chunks(&b"a chunkanother"[..], [7, 7], threads(count)).unwrap(),
+            wanted
+        );
+        assert!(hash_chunks(&b"a chunkanother"[..], [7, 8], threads(count)).is_err());
+    }
+}
+
+#[test]
 fn what_comes_after_the_last_chunk_is_left_in_the_reader() {
     let mut rest = &b"a chunkanother"[..];
     assert_eq!(hash_chunks(&mut rest, [7], threads(2)).unwrap().len(), 1);

@@ -36,6 +36,20 @@ fn a_session_counts_its_chunks() {
 }
 
 #[test]
+fn a_session_knows_the_hashes_of_its_chunks_and_those_that_were_kept() {
+    let [put, kept, other] = [1, 2, 3].map(MerkleHash::random_from_seed);
+    let mut session = Session::new();
+    let known = |session: &Session| [put, kept, other].map(|hash| session.knows(&hash));
+    assert_eq!(known(&session), [false; 3]);
+    session.put(7, &[(put, 100)]).unwrap();
+    assert!(session.put(7, &[(other, 100)]).is_err());
+    assert_eq!(known(&session), [true, false, false]);
+    session.keep_hashes(&[kept]).unwrap();
+    assert_eq!(known(&session), [true, true, false]);
+    assert_eq!(known(&session.clone()), [true, true, false]);
+}
+
+#[test]
 fn a_file_hash_under_a_salt_is_that_of_the_list() {
     let empty = (MerkleHash::default(), 0);
     let salts = [[0; 32], [7; 32]];

@@ -5,7 +5,8 @@ use crate::draws::{numbered, reference, with_cuts, Draws};
 use std::collections::HashSet;
 use std::hash::{BuildHasher, BuildHasherDefault, DefaultHasher};
 use yurewha::error::CoreError;
-use yurewha::merklehash::{find_stable_end, find_stable_start, xorb_hash, MerkleHash, MerkleHashSubtree};
+use yurewha::merklehash::{file_hash, file_hash_with_salt, xorb_hash, MerkleHash, MerkleHashSubtree};
+use yurewha::merklehash::{find_stable_end, find_stable_start};
 use yurewha::own::{try_find_stable_end, try_find_stable_start};
 
 const MARKS: [(bool, bool); 4] = [(false, false), (false, true), (true, false), (true, true)];
@@ -172,5 +173,23 @@ fn the_default_changes_no_range_that_it_is_merged_with() {
             after.merge_into(&MerkleHashSubtree::default()).unwrap();
             assert_eq!(after, range);
         }
+    }
+}
+
+#[test]
+fn a_subtree_that_is_no_whole_file_has_no_file_hash() {
+    for numbers in [&[][..], &[1], &[1, 2, 3]] {
+        let chunks = reference(numbers);
+        for (at_start, at_end) in [(false, false), (true, false), (false, true)] {
+            let part = MerkleHashSubtree::from_chunks(at_start, &chunks, at_end);
+            assert_eq!(part.finish(), Err(CoreError::InvalidArguments));
+            assert_eq!(part.finish_with_salt(&[7; 32]), Err(CoreError::InvalidArguments));
+        }
+        let whole = MerkleHashSubtree::from_chunks(true, &chunks, true);
+        assert_eq!(whole.finish(), Ok(file_hash(&chunks)));
+        assert_eq!(
+            whole.finish_with_salt(&[7; 32]),
+            Ok(file_hash_with_salt(&chunks, &[7; 32]))
+        );
     }
 }

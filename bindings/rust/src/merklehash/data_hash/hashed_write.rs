@@ -64,3 +64,21 @@ impl<W: Write> Write for HashedWrite<W> {
         self.writer.flush()
     }
 }
+
+#[cfg(test)]
+mod tests {
+    use super::*;
+
+    #[test]
+    fn what_can_not_be_hashed_is_not_written() {
+        let mut writer = HashedWrite {
+            hasher: Hasher::with_room(5),
+            writer: Vec::new(),
+        };
+        assert_eq!(writer.write(b"abcdef").unwrap_err().kind(), ErrorKind::InvalidInput);
+        assert_eq!(writer.writer, b"");
+        assert_eq!(writer.write(b"abcde").unwrap(), 5);
+        assert_eq!(writer.write(b"f").unwrap_err().kind(), ErrorKind::InvalidInput);
+        assert_eq!(writer.into_inner(), b"abcde");
+    }
+}
