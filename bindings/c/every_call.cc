@@ -182,6 +182,16 @@ void trees(Checks &check)
     check(yurewha_session_put(&session, 0, all.data(), 20, &fresh) == YUREWHA_DONE && fresh == 20, "put before");
     check(yurewha_session_taken(&session, 27, &taken) == YUREWHA_DONE && taken, "taken");
     check(yurewha_session_num_runs(&session, &runs) == YUREWHA_DONE && runs == 1, "num_runs");
+    check(yurewha_session_num_chunks(&session, &fresh) == YUREWHA_DONE && fresh == 28, "num_chunks");
+    check(yurewha_session_total_size(&session, &fresh) == YUREWHA_DONE && fresh == 28, "total_size of a session");
+    std::uint64_t free_end = 0;
+    check(yurewha_session_next_gap(&session, 5, 30, &fresh, &free_end) == YUREWHA_DONE && fresh == 28 && free_end == 30,
+          "next_gap");
+    std::uint8_t is_known[2] = {7, 7};
+    const yurewha_hash asked[2] = {all[27].hash, {{1, 2, 3, 4}}};
+    check(yurewha_session_knows(&session, &asked[0], &taken) == YUREWHA_DONE && taken, "knows");
+    check(yurewha_session_knows_each(&session, asked, 2, is_known, 2) == YUREWHA_DONE && is_known[0] == 1 && is_known[1] == 0,
+          "knows_each");
     check(yurewha_session_run(&session, 0, &fresh, &parts[3]) == YUREWHA_DONE && fresh == 0, "run");
     std::uint64_t end = 0;
     check(yurewha_session_run_from(&session, 9, &fresh, &end, &parts[3]) == YUREWHA_DONE && end == 28, "run_from");
@@ -198,6 +208,8 @@ void trees(Checks &check)
     check(yurewha_session_put(&restored, end, all.data(), 28, &fresh) == YUREWHA_DONE && fresh == 0, "put after restoring");
     check(yurewha_session_root(&session, 28, &told) == YUREWHA_DONE && same(told, root), "root");
     check(yurewha_session_finish(&session, 28, &told) == YUREWHA_DONE && same(told, file), "finish");
+    check(yurewha_session_finish_with_salt(&session, 28, &salt, &told) == YUREWHA_DONE && same(told, salted),
+          "finish_with_salt");
 }
 
 // The file is twelve chunks of three bytes each, and the range those that hold its bytes 10 to 13.

@@ -26,6 +26,7 @@ static struct list {
     yurewha_chunk *plain; /* without a natural cut */
     yurewha_hash root;
     yurewha_subtree front, back, *ranges;
+    yurewha_session session;
     yurewha_hash_tree tree;
     yurewha_opened_range opened;
     yurewha_level levels[LEVELS];
@@ -54,6 +55,7 @@ static void unmake(void)
         yurewha_subtree_free(&it.ranges[i]);
     yurewha_subtree_free(&it.front);
     yurewha_subtree_free(&it.back);
+    yurewha_session_free(&it.session);
     yurewha_hash_tree_free(&it.tree);
     yurewha_opened_range_free(&it.opened);
     free(it.ranges);
@@ -145,6 +147,27 @@ static void opened_all(void)
     open();
 }
 
+static void put(uint64_t first, const yurewha_chunk *chunks, size_t count)
+{
+    uint64_t fresh = 0;
+    EXPECT_STATUS(YUREWHA_DONE, yurewha_session_put(&it.session, first, chunks, count, &fresh));
+}
+
+/* A session of one run. */
+static void one_run(void)
+{
+    EXPECT_STATUS(YUREWHA_DONE, yurewha_session_new(&it.session));
+    put(0, it.chunks, it.count);
+}
+
+/* A session of as many runs as chunks. */
+static void many_runs(void)
+{
+    EXPECT_STATUS(YUREWHA_DONE, yurewha_session_new(&it.session));
+    for (size_t i = 0; i < it.count; i++)
+        put(2 * i, &it.chunks[i], 1);
+}
+
 static void text(void)
 {
     it.front = range_of(it.plain, 0, it.count, false, false);
@@ -227,6 +250,76 @@ static void chunks_at(void)
     EXPECT(first == it.count / 2 && end == first + 1);
 }
 
+static void total_size(void)
+{
+    uint64_t size = 0;
+    EXPECT_STATUS(YUREWHA_DONE, yurewha_hash_tree_total_size(&it.tree, &size));
+    EXPECT(size == it.count * CHUNK);
+}
+
+static void check_lists(void)
+{
+    EXPECT_STATUS(YUREWHA_DONE, yurewha_range_proof_check(it.levels, it.level_count, it.nodes, it.node_count));
+}
+
+static void bytes_of_one(void)
+{
+    uint64_t from = 0, to = 0;
+    EXPECT_STATUS(YUREWHA_DONE, yurewha_opened_range_bytes_of(&it.opened, it.count / 2, &from, &to));
+    EXPECT(from == it.count / 2 * CHUNK && to == from + CHUNK);
+}
+
+static void taken(void)
+{
+    bool is_taken = false;
+    EXPECT_STATUS(YUREWHA_DONE, yurewha_session_taken(&it.session, it.count / 2 * 2, &is_taken));
+    EXPECT(is_taken);
+}
+
+static void num_runs(void)
+{
+    size_t count = 0;
+    EXPECT_STATUS(YUREWHA_DONE, yurewha_session_num_runs(&it.session, &count));
+    EXPECT(count == it.count);
+}
+
+static void session_root(void) { EXPECT_STATUS(YUREWHA_DONE, yurewha_session_root(&it.session, it.count, &it.root)); }
+static void session_finish_with_salt(void)
+{
+    const yurewha_bytes salt = {{1, 2, 3}};
+    EXPECT_STATUS(YUREWHA_DONE, yurewha_session_finish_with_salt(&it.session, it.count, &salt, &it.root));
+}
+
+static void session_num_chunks(void)
+{
+    uint64_t count = 0;
+    EXPECT_STATUS(YUREWHA_DONE, yurewha_session_num_chunks(&it.session, &count));
+    EXPECT(count == it.count);
+}
+
+static void session_total_size(void)
+{
+    uint64_t size = 0;
+    EXPECT_STATUS(YUREWHA_DONE, yurewha_session_total_size(&it.session, &size));
+    EXPECT(size == it.count * CHUNK);
+}
+
+static void next_gap(void)
+{
+    uint64_t first = 0, end = 0;
+    EXPECT_STATUS(YUREWHA_DONE, yurewha_session_next_gap(&it.session, it.count / 2 * 2, UINT64_MAX, &first, &end));
+    EXPECT(first == it.count / 2 * 2 + 1 && end == first + 1);
+}
+
+static void knows(void)
+{
+    bool known = false;
+    EXPECT_STATUS(YUREWHA_DONE, yurewha_session_knows(&it.session, &it.chunks[it.count / 2].hash, &known));
+    EXPECT(known);
+}
+
+static void session_finish(void) { EXPECT_STATUS(YUREWHA_DONE, yurewha_session_finish(&it.session, it.count, &it.root)); }
+
 static void check_one(void)
 {
     uint64_t place = 0;
@@ -296,15 +389,28 @@ static const struct {
     {"hash_tree_proof of one chunk", tree, proof_of_one_again, 0, 0},
     {"hash_tree_proof of all", tree, proof_of_all_again, 0, 120},
     {"hash_tree_chunks_at", tree, chunks_at, 0, 0},
+    {"hash_tree_total_size", tree, total_size, 0, 0},
+    {"range_proof_check of one chunk", proof_of_one, check_lists, 0, 0},
+    {"range_proof_check of all", proof_of_all, check_lists, 0, 0},
     {"range_proof_open of one chunk", proof_of_one, open, 0, 0},
     {"range_proof_open of all", proof_of_all, open, 0, 290},
     {"range_proof_to_json", text_of_proof, proof_to_json, 5, 2000},
     {"range_proof_from_json", text_of_proof, proof_from_json, 5, 1800},
+    {"opened_range_bytes_of", opened_all, bytes_of_one, 0, 0},
     {"opened_range_check", opened_all, check_one, 0, 0},
     {"opened_range_check of too long data", opened_one, check_too_long, 0, 0},
     {"opened_range_read of too long data", opened_one, read_too_long, 0, 0},
     {"opened_range_read of one chunk", opened_one, read_one, 0, 0},
     {"opened_range_read of all", opened_all, read_all, 0, 0},
+    {"session_taken", many_runs, taken, 0, 0},
+    {"session_num_runs", many_runs, num_runs, 0, 0},
+    {"session_root", one_run, session_root, 0, 0},
+    {"session_finish", one_run, session_finish, 0, 0},
+    {"session_finish_with_salt", one_run, session_finish_with_salt, 0, 0},
+    {"session_num_chunks", many_runs, session_num_chunks, 0, 0},
+    {"session_total_size", many_runs, session_total_size, 0, 0},
+    {"session_next_gap", many_runs, next_gap, 0, 0},
+    {"session_knows", many_runs, knows, 0, 0},
 };
 
 static void expect_cost(size_t place, size_t count)

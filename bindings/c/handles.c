@@ -112,6 +112,35 @@ static yurewha_status num_runs(struct handles h, struct room *r)
 {
     return yurewha_session_num_runs(h.session, &r->counts[0]);
 }
+static yurewha_status session_num_chunks(struct handles h, struct room *r)
+{
+    return yurewha_session_num_chunks(h.session, &r->number);
+}
+static yurewha_status session_total_size(struct handles h, struct room *r)
+{
+    return yurewha_session_total_size(h.session, &r->number);
+}
+static yurewha_status next_gap(struct handles h, struct room *r)
+{
+    return yurewha_session_next_gap(h.session, 0, 9, &r->number, &r->end);
+}
+static yurewha_status knows(struct handles h, struct room *r)
+{
+    return yurewha_session_knows(h.session, &r->hash, &r->truths[0]);
+}
+static yurewha_status knows_each(struct handles h, struct room *r)
+{
+    return yurewha_session_knows_each(h.session, &r->hash, 1, (uint8_t *)&r->text[0], 1);
+}
+static yurewha_status knows_each_miscounted(struct handles h, struct room *r)
+{
+    return yurewha_session_knows_each(h.session, &r->hash, 1, (uint8_t *)&r->text[0], 0);
+}
+static yurewha_status finish_with_salt(struct handles h, struct room *r)
+{
+    const yurewha_bytes salt = {{1, 2, 3}};
+    return yurewha_session_finish_with_salt(h.session, 0, &salt, &r->hash);
+}
 static yurewha_status run(struct handles h, struct room *r)
 {
     return yurewha_session_run(h.session, 0, &r->number, h.other);
@@ -238,6 +267,13 @@ static const struct {
     {"put of nothing", put_nothing},
     {"taken", taken},
     {"num_runs", num_runs},
+    {"num_chunks of a session", session_num_chunks},
+    {"total_size of a session", session_total_size},
+    {"next_gap", next_gap},
+    {"knows", knows},
+    {"knows_each", knows_each},
+    {"knows_each, miscounted", knows_each_miscounted},
+    {"finish_with_salt", finish_with_salt},
     {"run", run},
     {"run_from", run_from},
     {"copy", copy},

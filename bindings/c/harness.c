@@ -242,8 +242,8 @@ int main(int count, char **names)
         {"handles", test_handles},     {"rooms", test_rooms},
         {"empty_slices", test_empty_slices}, {"refusals", test_refusals},
         {"costs", test_costs},         {"growth", test_growth},
-        {"large", test_large},         {"threads", test_threads},
-        {"vectors", test_vectors},
+        {"large", test_large},         {"longest", test_longest},
+        {"threads", test_threads},     {"vectors", test_vectors},
     };
     for (size_t i = 0; i < LENGTH(tests); i++) {
         bool wanted = count < 2;

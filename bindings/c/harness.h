@@ -110,6 +110,7 @@ void test_refusals(void);
 void test_costs(void);
 void test_growth(void);
 void test_large(void);
+void test_longest(void);
 void test_threads(void);
 void test_vectors(void);
 

@@ -1,7 +1,8 @@
 /*
  * The same bytes, hashed in different ways: as messages of one length, by one call each or by one call for all, and as messages
  * of 64 KiB by a hasher that takes pieces. The root of a list, by calls that hash the texts of groups side by side, and by a call
- * for each text. And a single hash under a key. bindings/c/test counts the instructions of each way.
+ * for each text; and that of a session, by its own calls and by those of subtrees. The data of a chunk, hashed and checked. And a
+ * single hash under a key. bindings/c/test counts the instructions of each way.
  */
 #include "harness.h"
 
@@ -144,9 +145,10 @@ static void root_of(size_t count, const char *name)
     yurewha_chunk *chunks = list_of(NULL, count);
     yurewha_hash root, of_tree, of_subtree;
     yurewha_hash_tree tree = {0};
-    yurewha_subtree subtree = range_of(chunks, 0, count, true, true);
+    yurewha_subtree subtree = {0};
     row("%s", name);
     if (is_wanted()) {
+        subtree = range_of(chunks, 0, count, true, true);
         EXPECT_STATUS(YUREWHA_DONE, yurewha_xorb_hash(chunks, count, &root));
         EXPECT_STATUS(YUREWHA_DONE, yurewha_hash_tree_from_chunks(chunks, count, &tree));
         EXPECT_STATUS(YUREWHA_DONE, yurewha_hash_tree_root(&tree, &of_tree));
@@ -159,11 +161,62 @@ static void root_of(size_t count, const char *name)
     free(chunks);
 }
 
+/* The root of a session, and of the subtree of the same chunks between the empty ones of both ends. */
+static void root_of_session(void)
+{
+    enum { COUNT = 10000 };
+    row("root of a session");
+    if (!is_wanted())
+        return;
+    yurewha_chunk *chunks = list_of(NULL, COUNT);
+    yurewha_session session = {0};
+    yurewha_subtree ranges[] = {range_of(chunks, 0, 0, true, false), range_of(chunks, 0, COUNT, false, false),
+                                range_of(chunks, 0, 0, false, true)}, merged = {0};
+    const yurewha_hash no_salt = {{0, 0, 0, 0}};
+    yurewha_hash root, file, of_subtree, of_root;
+    uint64_t fresh = 0;
+    EXPECT_STATUS(YUREWHA_DONE, yurewha_session_new(&session));
+    EXPECT_STATUS(YUREWHA_DONE, yurewha_session_put(&session, 0, chunks, COUNT, &fresh));
+    EXPECT_STATUS(YUREWHA_DONE, yurewha_session_root(&session, COUNT, &root));
+    EXPECT_STATUS(YUREWHA_DONE, yurewha_session_finish(&session, COUNT, &file));
+    EXPECT_STATUS(YUREWHA_DONE, yurewha_subtree_merge(ranges, LENGTH(ranges), &merged));
+    EXPECT_STATUS(YUREWHA_DONE, yurewha_subtree_final_hash(&merged, &of_subtree));
+    yurewha_hmac(&of_subtree, &no_salt, &of_root);
+    EXPECT(same_hash(&root, &of_subtree) && same_hash(&file, &of_root));
+    for (size_t i = 0; i < LENGTH(ranges); i++)
+        yurewha_subtree_free(&ranges[i]);
+    yurewha_subtree_free(&merged);
+    yurewha_session_free(&session);
+    free(chunks);
+}
+
+/* The data of a chunk is hashed, and checked and read by the proof of the file that it is. */
+static void data_of_chunk(void)
+{
+    row("data of a chunk");
+    if (!is_wanted())
+        return;
+    uint8_t *data = message_of(LONG);
+    yurewha_chunk chunk = {.size = LONG};
+    yurewha_opened_range range = {0};
+    size_t start = 1;
+    uint64_t place = 1;
+    yurewha_data_hash(data, LONG, &chunk.hash);
+    EXPECT_STATUS(YUREWHA_DONE, yurewha_range_proof_open_root(NULL, 0, &chunk, 1, &chunk.hash, &range));
+    EXPECT_STATUS(YUREWHA_DONE, yurewha_opened_range_check(&range, 0, data, LONG, &place));
+    EXPECT_STATUS(YUREWHA_DONE, yurewha_opened_range_read(&range, 0, LONG, data, LONG, &start));
+    EXPECT(place == 0 && start == 0);
+    yurewha_opened_range_free(&range);
+    free(data);
+}
+
 void test_lanes(void)
 {
     root_of(1000, "root of 1,000 chunks");
     root_of(100, "root of 100 chunks");
     root_of(LEAST_OF_GROUP, "root of one group");
+    root_of_session();
+    data_of_chunk();
     keyed();
     uint8_t *bytes = block(ALL);
     yurewha_hash *hashes = block(MOST * sizeof *hashes);

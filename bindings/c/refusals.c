@@ -467,6 +467,11 @@ static yurewha_status gap(struct world *w) { return yurewha_session_root(&w->ses
 /* Sessions without a gap. */
 static yurewha_status root(struct world *w) { return yurewha_session_root(&w->session, w->count, &w->room.hash); }
 static yurewha_status finish(struct world *w) { return yurewha_session_finish(&w->session, w->count, &w->room.hash); }
+static yurewha_status finish_with_salt(struct world *w)
+{
+    const yurewha_bytes salt = {{1, 2, 3}};
+    return yurewha_session_finish_with_salt(&w->session, w->count, &salt, &w->room.hash);
+}
 
 /* Frees that are no end of a world. */
 static yurewha_status free_subtree(struct world *w) { return yurewha_subtree_free(&w->owned), YUREWHA_DONE; }
@@ -584,6 +589,12 @@ static void read_without_memory(struct world *w)
     EXPECT_STATUS(YUREWHA_DONE, yurewha_session_taken(&w->session, 3, &truths[0]));
     EXPECT_STATUS(YUREWHA_DONE, yurewha_session_num_runs(&w->session, &w->room.count));
     EXPECT_STATUS(YUREWHA_DONE, yurewha_session_num_known_hashes(&w->session, &w->room.count));
+    EXPECT_STATUS(YUREWHA_DONE, yurewha_session_num_chunks(&w->session, &w->room.number));
+    EXPECT_STATUS(YUREWHA_DONE, yurewha_session_total_size(&w->session, &w->room.number));
+    EXPECT_STATUS(YUREWHA_DONE, yurewha_session_next_gap(&w->session, 0, UINT64_MAX, &w->room.number, &w->room.end));
+    EXPECT_STATUS(YUREWHA_DONE, yurewha_session_knows(&w->session, &w->hashes[0], &truths[0]));
+    uint8_t each[3];
+    EXPECT_STATUS(YUREWHA_DONE, yurewha_session_knows_each(&w->session, w->hashes, 3, each, 3));
 }
 
 static void read_ranges_without_memory(struct world *w)
@@ -687,6 +698,7 @@ static const struct scenario {
     {"root", root, YUREWHA_DONE, YUREWHA_MEMORY, true},
     {"root over a gap", gap, YUREWHA_SESSION_GAP, YUREWHA_SESSION_GAP, false},
     {"finish", finish, YUREWHA_DONE, YUREWHA_MEMORY, true},
+    {"finish_with_salt", finish_with_salt, YUREWHA_DONE, YUREWHA_MEMORY, true},
     {"free of a subtree", free_subtree, YUREWHA_DONE, YUREWHA_DONE, false},
     {"free of a session", free_session, YUREWHA_DONE, YUREWHA_DONE, false},
     {"tree", tree, YUREWHA_DONE, YUREWHA_MEMORY, false},

@@ -114,6 +114,64 @@ static void walk(yurewha_session *session, size_t count)
     yurewha_subtree_free(&wanted);
 }
 
+/* From each of the first positions, and below each total, the gap is the one that `taken` shows. */
+static void gaps(yurewha_session *session)
+{
+    enum { POSITIONS = 60 };
+    bool taken[POSITIONS + 1];
+    for (uint64_t i = 0; i <= POSITIONS; i++)
+        EXPECT_STATUS(YUREWHA_DONE, yurewha_session_taken(session, i, &taken[i]));
+    for (uint64_t total = 0; total <= POSITIONS; total++)
+        for (uint64_t position = 0; position <= POSITIONS; position++) {
+            uint64_t first = NEVER, end = NEVER, free_from = position, free_to;
+            while (free_from < total && taken[free_from])
+                free_from++;
+            for (free_to = free_from; free_to < total && !taken[free_to];)
+                free_to++;
+            const bool is_there = free_from < total;
+            EXPECT_STATUS(is_there ? YUREWHA_DONE : YUREWHA_ARGUMENTS,
+                          yurewha_session_next_gap(session, position, total, &first, &end));
+            EXPECT(first == (is_there ? free_from : NEVER) && end == (is_there ? free_to : NEVER));
+        }
+}
+
+/* The chunks and their sizes are those of all runs, and the hashes that it knows are those that it lists. */
+static void counts(yurewha_session *session)
+{
+    yurewha_subtree range = {0};
+    uint64_t first = 0, end = 0, chunks = 0, bytes = 0, size = NEVER, count = NEVER;
+    size_t known_count = 0;
+    while (yurewha_session_run_from(session, end, &first, &end, &range) == YUREWHA_DONE) {
+        EXPECT_STATUS(YUREWHA_DONE, yurewha_subtree_total_size(&range, &size));
+        bytes += size;
+        chunks += end - first;
+    }
+    EXPECT_STATUS(YUREWHA_DONE, yurewha_session_num_chunks(session, &count));
+    EXPECT_STATUS(YUREWHA_DONE, yurewha_session_total_size(session, &size));
+    EXPECT(count == chunks && size == bytes);
+    yurewha_hash *hashes = known_hashes(session, &known_count);
+    uint8_t *is_known = calloc(known_count + 2, 1);
+    EXPECT_STATUS(YUREWHA_DONE, yurewha_session_knows_each(session, hashes, known_count, is_known, known_count));
+    for (size_t i = 0; i < known_count; i++) {
+        bool knows = false;
+        EXPECT_STATUS(YUREWHA_DONE, yurewha_session_knows(session, &hashes[i], &knows));
+        EXPECT(knows && is_known[i] == 1);
+    }
+    const yurewha_hash strangers[2] = {{{0, 0, 0, 9}}, {{known_count > 0 ? hashes[0].words[0] : 1, 0, 0, 1}}};
+    memset(is_known, 7, 2);
+    bool knows = true;
+    EXPECT_STATUS(YUREWHA_DONE, yurewha_session_knows(session, &strangers[1], &knows));
+    EXPECT_STATUS(YUREWHA_DONE, yurewha_session_knows_each(session, strangers, 2, is_known, 2));
+    EXPECT(!knows && is_known[0] == 0 && is_known[1] == 0);
+    memset(is_known, 7, 2);
+    EXPECT_STATUS(YUREWHA_ARGUMENTS, yurewha_session_knows_each(session, strangers, 2, is_known, 1));
+    EXPECT_STATUS(YUREWHA_ARGUMENTS, yurewha_session_knows_each(session, strangers, 1, is_known, 2));
+    EXPECT(is_known[0] == 7 && is_known[1] == 7);
+    free(is_known);
+    free(hashes);
+    yurewha_subtree_free(&range);
+}
+
 /* A copy is as the session, and a put into one leaves the other as it was. */
 static void copies(yurewha_session *session)
 {
@@ -161,6 +219,27 @@ static void restores(yurewha_session *session)
     free(hashes);
 }
 
+/* Under 32 zero bytes it is the file hash without a salt; under another salt it is the hmac of the root, if there are chunks. */
+static void finish_salted(yurewha_session *session, const struct call *it, const yurewha_hash *unsalted)
+{
+    const yurewha_bytes zeros = {{0}}, salt = {{1, 2, 3}};
+    const yurewha_hash before = {{1, 2, 3, 4}};
+    yurewha_hash hash = before, root = {{0}}, wanted = {{0}}, key = {{0}};
+    memcpy(&key, &salt, sizeof key);
+    EXPECT_STATUS(it->status, yurewha_session_finish_with_salt(session, it->argument, &zeros, &hash));
+    EXPECT(same_hash(&hash, unsalted));
+    hash = before;
+    EXPECT_STATUS(it->status, yurewha_session_finish_with_salt(session, it->argument, &salt, &hash));
+    if (it->status != YUREWHA_DONE) {
+        EXPECT(same_hash(&hash, &before));
+        return;
+    }
+    EXPECT_STATUS(YUREWHA_DONE, yurewha_session_root(session, it->argument, &root));
+    if (it->argument > 0)
+        yurewha_hmac(&root, &key, &wanted);
+    EXPECT(same_hash(&hash, &wanted));
+}
+
 static void make_call(yurewha_session *session, const struct call *it)
 {
     const yurewha_hash before = {{1, 2, 3, 4}};
@@ -189,6 +268,8 @@ static void make_call(yurewha_session *session, const struct call *it)
         EXPECT_STATUS(it->status, yurewha_session_num_runs(session, &count));
         EXPECT(count == it->number);
         walk(session, count);
+        gaps(session);
+        counts(session);
         restores(session);
         break;
     case RUN:
@@ -202,6 +283,8 @@ static void make_call(yurewha_session *session, const struct call *it)
         EXPECT_STATUS(it->status, it->step == ROOT ? yurewha_session_root(session, it->argument, &hash)
                                                    : yurewha_session_finish(session, it->argument, &hash));
         EXPECT(it->status == YUREWHA_DONE ? is_hash(&hash, it->said) : same_hash(&hash, &before));
+        if (it->step == FINISH)
+            finish_salted(session, it, &hash);
     }
 }
 

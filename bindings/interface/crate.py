@@ -1,12 +1,15 @@
-"""Compares the header with the crates: the exports with the types that cross, the statuses, and the members of structs in their order.
+"""Compares the header with the crates: the exports with the names and types of what crosses, the statuses, and the members of structs.
+
+Names are compared because a contract goes by them: an export whose `from` and `to` changed places would be proved.
 
 No tool reads Rattle outside its toolchain, so the few forms that matter are read here.
 """
 from __future__ import annotations
 
 import re
-from collections.abc import Iterable, Iterator
+from collections.abc import Iterator
 from pathlib import Path
+from typing import NamedTuple
 
 from header import FOR_C, ROOT, Export, Header, Member, Struct, Unreadable
 
@@ -20,6 +23,8 @@ SCALARS = {"u8": "uint8_t", "u32": "uint32_t", "u64": "uint64_t", "i32": "int32_
 SIZES = {"uint8_t": 1, "uint32_t": 4, "uint64_t": 8, "size_t": 8, "uint8_t *": 8}
 #: An export: its name, its parameters and its answer.
 EXPORT = re.compile(r'#\[unsafe\(no_mangle\)\]\s*pub extern "C" fn (yurewha_\w+)\(([^)]*)\)(?:\s*->\s*((?:\*const )?[\w:]+))?')
+#: What the header calls a parameter that has another name in the crate.
+NAMES = {"room": "text", "text_len": "length", "level_len": "level_count", "node_len": "node_count", "keyed": "result"}
 STRUCTS = {
     "Hash": "yurewha_hash",
     "Bytes": "yurewha_bytes",
@@ -51,31 +56,65 @@ def parts_of(list_of: str) -> list[str]:
     return [part.strip() for part in list_of.split(",") if part.strip()]
 
 
-def arguments_of(rattle: str) -> list[str]:
+class Argument(NamedTuple):
+    """What an export takes: the names that the header may give it, and its type."""
+
+    names: tuple[str, ...]
+    type: str
+
+
+def lengths_of(mark: str, element: str, name: str) -> tuple[str, ...]:
+    """What the header may call the length of a slice."""
+    of_bytes = "room" if mark == "&mut " else "length"
+    one = name.removesuffix("s")
+    return (of_bytes if element == "u8" else "count", f"{one}_count", f"{one}_room")
+
+
+def arguments_of(parameter: str) -> list[Argument]:
     """The C arguments that a parameter crosses as: a slice as two, a `Global` as none."""
+    in_crate, rattle = (it.strip() for it in parameter.split(":", 1))
+    name = NAMES.get(in_crate, in_crate)
     if rattle == "Global":
         return []
     slice_of = re.fullmatch(r"(&mut |&)\[(\w+)\]", rattle)
-    return [in_c(slice_of[1] + slice_of[2]), "size_t"] if slice_of else [in_c(rattle)]
+    if not slice_of:
+        return [Argument((name,), in_c(rattle))]
+    mark, element = slice_of.groups()
+    return [Argument((name,), in_c(mark + element)), Argument(lengths_of(mark, element, name), "size_t")]
 
 
-def signatures(text: str) -> dict[str, str]:
-    """The types of each export."""
-    found = {}
-    for name, parameters, answer in EXPORT.findall(text):
-        types = [it for parameter in parts_of(parameters) for it in arguments_of(parameter.split(":", 1)[1].strip())]
-        found[name] = signature(in_c(answer) if answer else "void", types)
-    return found
+class Signature(NamedTuple):
+    """What an export returns and takes."""
+
+    answer: str
+    arguments: list[Argument]
+
+    def __str__(self) -> str:
+        arguments = ", ".join(f"{it.type} {'/'.join(it.names)}" for it in self.arguments)
+        return f"{self.answer} ({arguments or 'void'})"
+
+    def is_as(self, wanted: Signature) -> bool:
+        """Whether the header, which gives each argument one name, says the same."""
+        if self.answer != wanted.answer or len(self.arguments) != len(wanted.arguments):
+            return False
+        return all(its.type == it.type and it.names[0] in its.names for its, it in zip(self.arguments, wanted.arguments))
 
 
-def signature(answer: str, types: Iterable[str]) -> str:
-    return f"{answer} ({', '.join(types) or 'void'})"
+def signatures(text: str) -> dict[str, Signature]:
+    """What each export returns and takes."""
+    return {
+        name: Signature(in_c(answer) if answer else "void", [it for parameter in parts_of(parameters) for it in arguments_of(parameter)])
+        for name, parameters, answer in EXPORT.findall(text)
+    }
 
 
-def wanted_of(export: Export) -> str:
-    """The types of a call in Rattle, which has no `char`: a text is bytes, and a status is a number."""
-    types = signature(export.answer, (it.type for it in export.parameters))
-    return types.replace("yurewha_status", "uint32_t").replace("char", "uint8_t")
+def wanted_of(export: Export) -> Signature:
+    """What a call returns and takes in Rattle, which has no `char`: a text is bytes, and a status is a number."""
+    return Signature(of_rattle(export.answer), [Argument((it.name,), of_rattle(it.type)) for it in export.parameters])
+
+
+def of_rattle(c_type: str) -> str:
+    return c_type.replace("yurewha_status", "uint32_t").replace("char", "uint8_t")
 
 
 def members_of(text: str, name: str, prefix: str = "") -> Iterator[Member]:
@@ -120,7 +159,7 @@ def of_exports(header: Header, text: str) -> Iterator[str]:
     wanted = {it.name: wanted_of(it) for it in header.exports if it.name not in UNPROVED}
     found = signatures(text)
     for name in sorted({*wanted, *found}):
-        if wanted.get(name) != found.get(name):
+        if name not in wanted or name not in found or not found[name].is_as(wanted[name]):
             yield f"{name}: it has\n    {found.get(name)}\nand the header\n    {wanted.get(name)}"
 
 

@@ -46,13 +46,14 @@ class Struct:
 
 @dataclass(frozen=True)
 class Export:
-    """A call: what it returns, its parameters, the version that first had it, and the heading above it."""
+    """A call: what it returns, its parameters, the version that first had it, and the heading and the comment above it."""
 
     name: str
     answer: str
     parameters: tuple[Member, ...]
     version: str
     heading: str
+    comment: str
 
 
 #: The call that is for C alone: what it takes are functions of C.
@@ -106,10 +107,15 @@ def version(cursor: Cursor) -> str:
     return str(found[0])
 
 
-def export(cursor: Cursor, headings: dict[int, str]) -> Export:
-    heading = [text for line, text in headings.items() if line < cursor.location.line][-1]
+def above(cursor: Cursor, texts: dict[int, str]) -> str:
+    """The last of some texts, which begin at lines, above a declaration."""
+    return [text for line, text in texts.items() if line < cursor.location.line][-1]
+
+
+def export(cursor: Cursor, headings: dict[int, str], comments: dict[int, str]) -> Export:
     parameters = tuple(map(member, cursor.get_arguments()))
-    return Export(cursor.spelling, spelled(cursor.result_type), parameters, version(cursor), heading)
+    answer = spelled(cursor.result_type)
+    return Export(cursor.spelling, answer, parameters, version(cursor), above(cursor, headings), above(cursor, comments))
 
 
 def numbers(cursors: Iterable[Cursor]) -> Iterator[tuple[str, int, int]]:
@@ -139,12 +145,13 @@ def read() -> Header:
     cursors, comments = parsed()
     constants = list(numbers(cursors))
     headings = found_in(comments, r"^/\* ---- ([^:*]*[^:* ])")
+    texts = {it.location.line: it.spelling for it in comments}
     errors = found_in(comments, r"^/\* ([A-Z]\w+): ")
     used = found_in(comments, r"It uses the first (\d+) bytes")
     if len(used) != 1:
         raise Unreadable("one comment has to say how many bytes of a hasher the library uses")
     return Header(
-        exports=tuple(export(it, headings) for it in cursors if it.kind == CursorKind.FUNCTION_DECL),
+        exports=tuple(export(it, headings, texts) for it in cursors if it.kind == CursorKind.FUNCTION_DECL),
         structs=tuple(struct(it) for it in cursors if it.kind == CursorKind.STRUCT_DECL),
         statuses={name: number for name, number, _ in constants if not name.endswith("_LENGTH")},
         lengths={name: number for name, number, _ in constants if name.endswith("_LENGTH")},

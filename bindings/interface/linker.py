@@ -41,8 +41,8 @@ def version_script(header: Header, made: str) -> str:
 
 
 def debian_symbols(header: Header, made: str) -> str:
-    """Which version of the Debian package a program needs that uses the symbols of a version."""
-    lines = [f" (symver){symbol_version(version)} {version}.0\n" for version in by_version(header)]
+    """Which version of the Debian package a program needs that uses the symbols of a version; `~` also allows one before its release."""
+    lines = [f" (symver){symbol_version(version)} {version}.0~\n" for version in by_version(header)]
     return f"# {made}\nlibyurewha.so.1 libyurewha1 #MINVER#\n* Build-Depends-Package: libyurewha-dev\n{''.join(lines)}"
 
 

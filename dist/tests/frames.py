@@ -7,6 +7,9 @@ called. It prints each place where they aren't, and at last how many places were
 """
 import gdb
 
+#: Where qemu waits; gdb has it from the command line.
+SOCKET: str = globals()["SOCKET"]
+
 GENERAL = (*(f"x{number}" for number in range(19, 30)), "sp")
 #: A call keeps the lower halves of these.
 VECTORS = tuple(f"v{number}" for number in range(8, 16))

@@ -41,6 +41,20 @@ static void expect_block(struct tried found, const char *in)
     expect(next != NULL ? found.at == next : found.at != NULL, "the pointer is that of the block, and never null", in);
 }
 
+static void *allocate(size_t size) { return call("allocate", NULL, size); }
+static void *reallocate(void *block, size_t size) { return call("reallocate", block, size); }
+static void release(void *block) { (void)call("release", block, 0); }
+
+/* After a request for so many bytes, functions of the caller's own come too late, whether there was a block or not. */
+static void expect_late(size_t size, size_t alignment)
+{
+    memset(&own, 0, sizeof own);
+    (void)yurewha_heap_alloc(size, alignment);
+    expect(yurewha_set_allocator(allocate, reallocate, release) == YUREWHA_ARGUMENTS && own.allocate == NULL,
+           "functions that come after a request are refused", "set_allocator");
+    calls = 0;
+}
+
 int main(void)
 {
     static uint8_t block[64], old[64];
@@ -49,6 +63,7 @@ int main(void)
     for (size_t i = 0; i < 2 * 9 * 5; i++) {
         const size_t size = sizes[i / 2 % 9], alignment = alignments[i / 18], wanted = size != 0 ? size : alignment;
         next = i % 2 == 0 ? block : NULL;
+        expect_late(size, alignment);
         expect_block(yurewha_heap_alloc(size, alignment), "alloc");
         expect_call("malloc", NULL, wanted);
         for (size_t kept = 0; kept <= 64; kept += 32) {

@@ -194,9 +194,13 @@ static void another_thread_chooses_first(void)
     of_other_thread = NULL;
 }
 
+/* The constructors of those who use the library come with this priority at the earliest, and without one after that. */
+static bool was_early;
+__attribute__((constructor(102))) static void look(void) { was_early = chosen != NULL; }
+
 int main(void)
 {
-    expect(chosen != NULL, "the choice is made before main", "");
+    expect(was_early, "the choice is made before the constructors of others, and before main", "");
     features_are_needed();
     levels_are_named();
     another_thread_chooses_first();

@@ -7,12 +7,11 @@
 #include <stdlib.h>
 #include <string.h>
 #include <sys/mman.h>
-#include <sys/resource.h>
 #include <sys/wait.h>
 #include <unistd.h>
 #include <yurewha.h>
 
-enum { CHUNKS = 300, FIRST = 50, END = 110, THREADS = 2, TURNS = 50, ROOM = 1 << 26, LEVELS = 64, TEXT = 1 << 17 };
+enum { CHUNKS = 300, FIRST = 50, END = 110, THREADS = 2, TURNS = 50, ROOM = 1 << 26, LEVELS = 64, TEXT = 1 << 17, REFUSED = 42 };
 
 #define EXPECT(holds) \
     do { \
@@ -129,12 +128,22 @@ static void read_session(struct answers *to)
     size_t runs = 0, known = 0;
     EXPECT(yurewha_session_taken(SESSION, 7, &taken) == YUREWHA_DONE && taken);
     EXPECT(yurewha_session_num_runs(SESSION, &runs) == YUREWHA_DONE && runs == 1);
+    uint64_t first = 0, end = 0, total = 0;
+    EXPECT(yurewha_session_num_chunks(SESSION, &total) == YUREWHA_DONE && total == CHUNKS);
+    EXPECT(yurewha_session_total_size(SESSION, &total) == YUREWHA_DONE);
+    EXPECT(yurewha_session_next_gap(SESSION, 0, 2 * CHUNKS, &first, &end) == YUREWHA_DONE && first == CHUNKS);
     EXPECT(yurewha_session_run(SESSION, 0, &to->numbers[6], &run) == YUREWHA_DONE);
     EXPECT(yurewha_session_run_from(SESSION, 3, &to->numbers[7], &to->numbers[8], &run) == YUREWHA_DONE);
     EXPECT(yurewha_session_root(SESSION, CHUNKS, &to->hashes[1]) == YUREWHA_DONE);
     EXPECT(yurewha_session_finish(SESSION, CHUNKS, &to->hashes[2]) == YUREWHA_DONE);
     EXPECT(yurewha_session_num_known_hashes(SESSION, &known) == YUREWHA_DONE && known == CHUNKS);
     EXPECT(yurewha_session_known_hashes(SESSION, to->known, CHUNKS) == YUREWHA_DONE);
+    uint8_t is_known[2] = {0};
+    EXPECT(yurewha_session_knows(SESSION, &to->known[CHUNKS - 1], &taken) == YUREWHA_DONE && taken);
+    EXPECT(yurewha_session_knows_each(SESSION, to->known, 2, is_known, 2) == YUREWHA_DONE && is_known[0] && is_known[1]);
+    const yurewha_bytes salt = {{1, 2, 3}};
+    yurewha_hash salted = {{0}};
+    EXPECT(yurewha_session_finish_with_salt(SESSION, CHUNKS, &salt, &salted) == YUREWHA_DONE);
     EXPECT(yurewha_session_copy(SESSION, &copy) == YUREWHA_DONE);
     EXPECT(yurewha_session_push_run(&copy, 2 * CHUNKS, 2 * CHUNKS + 1, OTHER) == YUREWHA_DONE);
     yurewha_session_free(&copy);
@@ -206,6 +215,13 @@ static void make_all(void)
     EXPECT(yurewha_range_proof_open(levels, level_count, nodes, node_count, &file, &salt, &made.range) == YUREWHA_DONE);
 }
 
+/* Ends a program that wrote to a closed page, without a word of the shell or of qemu. */
+static void end_refused(int number)
+{
+    (void)number;
+    _exit(REFUSED);
+}
+
 /* A call that changes what the handle owns ends a program. So the pages show whoever writes to them. */
 static bool ends_by_writing(void)
 {
@@ -213,13 +229,11 @@ static bool ends_by_writing(void)
     int status = 0;
     const pid_t child = fork();
     if (child == 0) {
-        const struct rlimit none = {0, 0};
-        setrlimit(RLIMIT_CORE, &none);
-        signal(SIGSEGV, SIG_DFL);
+        signal(SIGSEGV, end_refused);
         _exit(yurewha_session_keep_hashes(SESSION, &unknown, 1) == YUREWHA_DONE);
     }
     EXPECT(child > 0 && waitpid(child, &status, 0) == child);
-    return WIFSIGNALED(status) && WTERMSIG(status) == SIGSEGV;
+    return WIFEXITED(status) && WEXITSTATUS(status) == REFUSED;
 }
 
 int main(void)
