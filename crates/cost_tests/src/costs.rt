@@ -338,14 +338,22 @@ fn save(rt: &impl Abort, alloc: &Counting, memory: Global, change: &str, count: 
     alloc.granted()
 }
 
-// Makes a map with room for `count` numbers. Returns what that asks for.
+// Makes a map with room for `count` numbers, which then come without a further request. Returns what that asks for.
 fn make_room(rt: &impl Abort, alloc: &Counting, count: u64) -> Granted {
-    let map: PassThroughHashMap<u64, u64, &Counting> = PassThroughHashMap::with_capacity(
+    let mut map: PassThroughHashMap<u64, u64, &Counting> = PassThroughHashMap::with_capacity(
         alloc,
         count as usize,
     ).expect(rt, "memory");
+    let asked = alloc.granted();
     assert!(rt; map.is_empty(), "a map that isn't empty");
-    alloc.granted()
+    for number in 0..count {
+        map.insert(number, number).expect(rt, "memory");
+    }
+    assert!(rt;
+        alloc.granted() == asked,
+        "room for fewer than {count} numbers: {asked:?}"
+    );
+    asked
 }
 
 // Returns what a change by `count` chunks asks for.

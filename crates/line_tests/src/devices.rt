@@ -6,11 +6,13 @@ use std::alloc::Global;
 use std::io::{self, ErrorKind, Read, Write};
 use std::process::Abort;
 use test_support::texts::{NO_CHUNK, lines_of_row};
+use xet_hash::data_hash::DataHash;
 use xet_merkle::plain_range::PlainRange;
 use xetrange_text::fault::RangeFault;
 use xetrange_text::join::{join, root};
 use xetrange_text::make::make;
 use xetrange_text::prove::prove;
+use xetrange_text::verify::verify;
 use xetroot_text::fault::Fault;
 use xetroot_text::run::{run, run_with};
 
@@ -23,24 +25,34 @@ enum Call {
     Join,
     Root,
     Prove,
+    Verify,
 }
 
-const CALLS: [Call; 6] = [
+const CALLS: [Call; 7] = [
     Call::Run,
     Call::RunOverPlainRanges,
     Call::Make,
     Call::Join,
     Call::Root,
     Call::Prove,
+    Call::Verify,
 ];
 
-// Returns a line that the call takes.
+// The proof of a file's only chunk, and its data.
+const PART: &str =
+    r#"{"chunks":[{"hash":"07b16765932361639f328df9ed08ff3016cf008e11ff9487dda7b5a465e25b8d","size":86}],"levels":[]}
+the data of one chunk, with more than the sixty bytes of three writes of a slow device"#;
+
+const FILE_OF_PART: &str = "f6338fcbca789f406854401b5bb4e2a3fea0d8f43668c53dcfd41f18f3324133";
+
+// Returns a line that the call takes, or a line and data.
 fn line_of(call: Call) -> &'static str {
     match call {
         Call::Run | Call::RunOverPlainRanges | Call::Make | Call::Prove => {
             "+a chunk of more bytes than the forty that two reads give"
         }
         Call::Join | Call::Root => NO_CHUNK,
+        Call::Verify => PART,
     }
 }
 
@@ -84,6 +96,14 @@ fn end_of_range(fault: RangeFault) -> End {
     }
 }
 
+// Verifies all bytes of the file of one chunk.
+fn verify_file<R: Read, W: Write>(alloc: Global, r: &mut R, w: &mut W) -> Result<(), RangeFault> {
+    match DataHash::from_hex(FILE_OF_PART) {
+        Ok(file_hash) => verify(alloc, alloc, &file_hash, 0, 86, r, w),
+        Err(_) => Err(RangeFault::Mismatch),
+    }
+}
+
 // Makes a call, and returns how it ends.
 fn end_of_call<R: Read, W: Write>(alloc: Global, call: Call, r: &mut R, w: &mut W) -> End {
     let result = match call {
@@ -93,6 +113,7 @@ fn end_of_call<R: Read, W: Write>(alloc: Global, call: Call, r: &mut R, w: &mut 
         Call::Join => join(alloc, alloc, r, w).map_err(end_of_range),
         Call::Root => root(alloc, alloc, r, w).map_err(end_of_range),
         Call::Prove => prove(alloc, alloc, 0, 1, r, w).map_err(end_of_range),
+        Call::Verify => verify_file(alloc, r, w).map_err(end_of_range),
     };
     result.err().unwrap_or(DONE)
 }
@@ -145,6 +166,14 @@ fn odd(odd_call: usize, odd_times: usize, odd_kind: Option<ErrorKind>) -> Manner
     }
 }
 
+// Returns the manner of a device that transfers at most `most` bytes a call. The call number `failing_call`, from 1, fails
+// once, and none if that is 0.
+pub(crate) fn failing_at(failing_call: usize, most: usize) -> Manner {
+    let mut manner = odd(failing_call, 1, Some(ErrorKind::Other));
+    manner.most = most;
+    manner
+}
+
 // A device, the number of its calls and of those that succeeded, and how often the current one went wrong.
 #[derive(Clone, Copy)]
 pub(crate) struct Device {
@@ -194,7 +223,7 @@ impl Device {
 #[derive(Drop)]
 pub(crate) struct Input<'a> {
     text: &'a [u8],
-    device: Device,
+    pub(crate) device: Device,
     largest: usize,
 }
 
@@ -315,14 +344,17 @@ enum Place {
     Flush,
 }
 
-// Calls that go wrong, by their number. The run has more than three reads, more than three writes, and one flush.
-const PLACES: [(Place, usize); 5] = [
-    (Place::Read, 1),
-    (Place::Read, 3),
-    (Place::Write, 1),
-    (Place::Write, 3),
-    (Place::Flush, 1),
-];
+const PLACES: [Place; 3] = [Place::Read, Place::Write, Place::Flush];
+
+// Returns how many calls a run makes at a place.
+fn calls_at(outcome: &Outcome, place: Place) -> usize {
+    let (reads, writes, flushes) = outcome.calls;
+    match place {
+        Place::Read => reads,
+        Place::Write => writes,
+        Place::Flush => flushes,
+    }
+}
 
 // Returns the manners of a run in which one place has this one.
 fn manners_with(place: Place, manner: Manner) -> Manners {
@@ -416,11 +448,13 @@ fn each_call_is_made_once_and_repeated_sixteen_times_where_it_is_interrupted(rt:
             is_even(run, &even) && is_done_slowly(run, &even),
             "{call:?}"
         );
-        for (place, odd_call) in PLACES {
-            assert!(rt;
-                is_repeated(run, &even, place, odd_call),
-                "{call:?} {place:?}"
-            );
+        for place in PLACES {
+            for odd_call in 1..=calls_at(&even, place) {
+                assert!(rt;
+                    is_repeated(run, &even, place, odd_call),
+                    "{call:?} {place:?} {odd_call}"
+                );
+            }
         }
     }
 }
@@ -454,11 +488,13 @@ fn no_call_follows_an_error_that_lasts_or_a_write_that_takes_nothing(rt: HostRun
     for call in CALLS {
         let run = run_of(rt.alloc(), call);
         let even = outcome_of(run, ALL_EVEN);
-        for (place, odd_call) in PLACES {
-            assert!(rt;
-                ends_at_errors(run, &even, place, odd_call),
-                "{call:?} {place:?}"
-            );
+        for place in PLACES {
+            for odd_call in 1..=calls_at(&even, place) {
+                assert!(rt;
+                    ends_at_errors(run, &even, place, odd_call),
+                    "{call:?} {place:?} {odd_call}"
+                );
+            }
         }
         for manner in [odd(1, 1, None), odd(3, 1, None)] {
             assert!(rt; fails(run, &even, Place::Write, manner), "{call:?}");
@@ -492,12 +528,13 @@ fn a_failed_write_leaves_a_beginning(rt: HostRuntime) {
     }
 }
 
-// Returns whether a run ends after the first of three lines if the second read gives nothing. A read gives one line.
+// Returns whether a run ends after the first of three lines if the second read gives nothing. A read gives one line,
+// without its newline.
 fn ends_at_the_first_end(rt: &impl Abort, alloc: Global, call: Call) -> bool {
     let line = line_of(call);
     let lines = format!(in alloc; "{line}\n{line}\n{line}\n").expect(rt, "memory");
     let mut manner = odd(2, 1, None);
-    manner.most = line.len().saturating_add(1);
+    manner.most = line.len();
     let run = Run {
         alloc,
         call,

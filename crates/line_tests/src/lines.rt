@@ -172,6 +172,18 @@ fn separators_change_nothing(rt: HostRuntime) {
     are_answered(&rt, rt.alloc(), SEPARATED);
 }
 
+#[test]
+fn a_fault_after_more_than_a_million_pairs_is_named(rt: HostRuntime) {
+    let pair = with_hashes(rt.alloc(), "h1 0\n").expect(&rt, "memory");
+    let mut pairs = pair
+        .as_str()
+        .repeat(rt.alloc(), MOST_LINES)
+        .expect(&rt, "memory");
+    pairs.push_str("!").expect(&rt, "memory");
+    let output = output_of(&rt, rt.alloc(), Kind::Subtree, pairs.as_bytes());
+    assert!(rt; output.as_slice() == b"xetroot: fault 1 at line 1048578".as_slice());
+}
+
 // The answer to 20,000 pairs of size 1, whose hashes have the words i, 0, 0 and i modulo 4.
 pub(crate) const MANY_PAIRS: &str =
     "xorb 951ddfa7a459b95ea55bb6cf4cc2d4329fd1b2520abe09727bf118a687459d2c

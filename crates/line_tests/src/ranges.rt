@@ -239,12 +239,12 @@ fn sizes_of_all_ranges_fit(rt: HostRuntime) {
     are_no_ranges(&rt, rt.alloc(), TOO_LARGE);
 }
 
-// The bytes of a MiB. The line of a range of 14,000 nodes has more.
-const MIB: usize = 1_048_576;
+// The bytes of two MiB. The line of a range of 25,000 nodes has more.
+const TWO_MIB: usize = 2_097_152;
 
-// The answer to the 14,000 pairs of `memory::pairs`, whose range keeps them all.
-const UNCUT_PAIRS: &str = "xorb b7c577217defafe9a091da1ca0618bcafa17faafea3c39f1a6f5f076a9f9fddb
-file f1f794b847d3014f6ea20c12ce6e700afcc851e6aaaeb8b5858e6d919b33378d
+// The answer to the 25,000 pairs of `memory::pairs`, whose range keeps them all.
+const UNCUT_PAIRS: &str = "xorb 19843c4a132f40019f5eee85375f3149e1fc21412913a1055ba16d70a41b5a49
+file a1b329a75e9bb6a309375e0eb29c1a84cecd1582ffb3f5d0a6af2ae200fa0ac1
 ";
 
 #[test]
@@ -254,9 +254,9 @@ fn the_range_of_many_pairs_has_their_root(rt: HostRuntime) {
     let made = output_of(&rt, rt.alloc(), Command::Make, pairs.as_bytes());
     let root = output_of(&rt, rt.alloc(), Command::Root, made.as_bytes());
     assert!(rt; root.as_str() == MANY_PAIRS);
-    let uncut = memory::pairs(&rt, rt.alloc(), 14_000);
+    let uncut = memory::pairs(&rt, rt.alloc(), 25_000);
     let made = output_of(&rt, rt.alloc(), Command::Make, uncut.as_bytes());
-    assert!(rt; made.len() > MIB);
+    assert!(rt; made.len() > TWO_MIB);
     let root = output_of(&rt, rt.alloc(), Command::Root, made.as_bytes());
     assert!(rt; root.as_str() == UNCUT_PAIRS);
 }

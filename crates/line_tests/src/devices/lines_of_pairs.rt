@@ -23,7 +23,7 @@ const RANGE: &str =
 fn answer(call: Call) -> &'static str {
     match call {
         Call::Run | Call::RunOverPlainRanges => THREE_PAIRS,
-        Call::Make | Call::Join | Call::Root | Call::Prove => RANGE,
+        Call::Make | Call::Join | Call::Root | Call::Prove | Call::Verify => RANGE,
     }
 }
 
