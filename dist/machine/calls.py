@@ -46,30 +46,29 @@ class Caller:
         return self.run(self.library.call(name), arguments)
 
     def run(self, function: str, arguments: Sequence[Value], vectors: Sequence[Sequence[Word]] = ()) -> Value:
-        """Runs a function on a new stack, with arguments that are values or vectors. Everything else is unknown. It has to leave the stack
-        pointer and some registers as they were."""
+        """Runs a function on a new stack, with arguments that are values or vectors. Everything else is unknown."""
         m = self.m
         m.forget_registers()
         m.general[m.STACK] = self.stack
-        m.memory.add_region(self.stack - STACK_SIZE, STACK_SIZE, True)
+        m.memory.add_stack(self.stack - STACK_SIZE, STACK_SIZE)
         m.give(arguments, vectors)
-        before = m.kept()
         m.call(m.image.function(function))
         m.memory.remove_region(self.stack - STACK_SIZE)
         self.stack -= STACK_SIZE
-        after = m.kept()
-        if changed := [what for what, its in before.items() if after[what] != its]:
-            raise Fault(f"{function} leaves another value in {', '.join(changed)}")
         return m.general[m.RESULT]
 
 
 def check_hash(library: Library, name: str, length: int, shifts: Tuple[int, int] = PLACES[0]) -> Machine:
     """`data_hash` or `internal_node_hash`, for every message of a length, at places that are shifted. Returns the machine that ran it."""
-    message, stack = MESSAGE + shifts[0], STACK - shifts[1]
-    data = bytes_of("message", length)
+    return check_hash_of(library, name, bytes_of("message", length), shifts)
+
+
+def check_hash_of(library: Library, name: str, data: Sequence[Word], shifts: Tuple[int, int] = PLACES[0]) -> Machine:
+    """The same for a message, which may be of numbers."""
+    message, stack, length = MESSAGE + shifts[0], STACK - shifts[1], len(data)
     wanted = Wanted(keyed_hash, DATA_KEY if name == "data_hash" else INTERNAL_KEY, data)
     caller = Caller(library, stack)
-    caller.m.memory.add_bytes(message, data)
+    caller.m.memory.add_bytes(message, list(data))
     caller.m.memory.add_region(RESULT, 32, True)
     caller.call(name, message, length, RESULT)
     wanted.must_be(caller.m.memory.load(RESULT, 8), f"{name} of {length} bytes")

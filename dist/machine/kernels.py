@@ -21,6 +21,8 @@ from words import Value, Word, add_64, forget, high, low, symbol, unknown
 RESULT, FIRST, SECOND, THIRD, FOURTH, CHUNKS = 0x20000040, 0x21000040, 0x22000040, 0x23000040, 0x25000040, 0x30000004
 #: Where vectors are that are passed by their places.
 VECTORS = 0x24000040
+#: The functions of two pairs, of blocks and of chunks.
+TWO_PAIRS, FOUR_CHUNKS = "compression::two::compress_two_pairs_from", "two_chunks::four_chunk_values"
 #: How many words a vector has in which a level passes chaining values: those of one block, and of two.
 VALUE_VECTORS = {"x86-64": (4, 4), "x86-64-v2": (4, 4), "x86-64-v3": (4, 8), "x86-64-v4": (4, 8), "aarch64": (4, 4)}
 
@@ -107,6 +109,25 @@ def check_compress_two(library: Library) -> Machine:
     for place, (words, *_) in zip((FIRST, SECOND), blocks):
         kernel.give_at(place, words)
     return kernel.must_give(wanted, "two blocks")
+
+
+def check_two_pairs(library: Library) -> Machine:
+    """Two pairs of blocks, each block with a counter, a length and flags of its own."""
+    forget()
+    values = [symbols(f"h{k}", 8) for k in range(4)]
+    blocks = [(symbols(f"m{k}", 16), counter_of(f"counter{k}"), symbol(f"length{k}"), symbol(f"flags{k}")) for k in range(4)]
+    wanted = Wanted(two_pairs, values, blocks)
+    kernel = Kernel(library, TWO_PAIRS, [unknown() for _ in range(32)])
+    for pair in (values[:2], values[2:]):
+        kernel.give_vectors(beside(*pair), 2)
+    kernel.give_vectors([word for _, counter, length, flags in blocks for word in (low(counter), high(counter), length, flags)], 2)
+    for place, (words, *_) in zip((FIRST, SECOND, THIRD, FOURTH), blocks):
+        kernel.give_at(place, words)
+    return kernel.must_give(wanted, "two pairs of blocks")
+
+
+def two_pairs(values: Sequence[Sequence[Word]], blocks: Sequence[Tuple[Sequence[Word], Value, Word, Word]]) -> List[Word]:
+    return [*two_blocks(values[:2], blocks[:2]), *two_blocks(values[2:], blocks[2:])]
 
 
 def two_blocks(values: Sequence[Sequence[Word]], blocks: Sequence[Tuple[Sequence[Word], Value, Word, Word]]) -> List[Word]:
@@ -228,26 +249,37 @@ def orders(lanes: int) -> Dict[str, List[int]]:
     return {"in order": list(range(lanes)), "three apart": [3 * j for j in range(lanes)], "backwards": [lanes - j for j in range(lanes)]}
 
 
-def checks_of_width(library: Library, lanes: int) -> Iterator[Tuple[str, Callable[[], Machine]]]:
-    """The checks of the functions for a width. Where LLVM has moved one into another function, it runs in whole calls alone."""
+def checks_of_width(library: Library, lanes: int) -> Iterator[Tuple[str, str, Callable[[], Machine]]]:
+    """The checks of the functions for a width."""
+    block, values = of_width("chunks::take_block", lanes), of_width("chunks::chunk_values", lanes)
     for name, places in orders(lanes).items():
         for n in range(16):
-            yield f"take_block of {lanes} lanes, {n}, {name}", partial(check_take_block, library, n, places)
-        if library.has(inner(of_width("chunks::chunk_values", lanes))):
-            yield f"chunk_values of {lanes} lanes, {name}", partial(check_chunk_values, library, places)
-    yield f"take_in_each of {lanes} lanes", partial(check_take_in_each, library, lanes)
+            yield block, f"take_block of {lanes} lanes, {n}, {name}", partial(check_take_block, library, n, places)
+        yield values, f"chunk_values of {lanes} lanes, {name}", partial(check_chunk_values, library, places)
+    each = of_width("compression::lanes::take_in_each", lanes)
+    yield each, f"take_in_each of {lanes} lanes", partial(check_take_in_each, library, lanes)
     for parents in ("values_above", "parent_values"):
-        if library.has(inner(of_width(f"subtrees::{parents}", lanes))):
-            yield f"{parents} of {lanes} lanes", partial(check_parents, library, parents, lanes)
+        yield of_width(f"subtrees::{parents}", lanes), f"{parents} of {lanes} lanes", partial(check_parents, library, parents, lanes)
+
+
+def all_checks(library: Library) -> Iterator[Tuple[str, str, Callable[[], Machine]]]:
+    """The checks of all functions that a level could have, each with the function's name and its own."""
+    yield "compression::compress", "compress", partial(check_compress, library)
+    yield "compression::two::compress_two_from", "compress_two", partial(check_compress_two, library)
+    yield TWO_PAIRS, "compress_two_pairs", partial(check_two_pairs, library)
+    for name, places in orders(4).items():
+        yield FOUR_CHUNKS, f"four_chunk_values, {name}", partial(check_four_chunks, library, places)
+    for lanes in WIDTHS:
+        if lanes <= library.level.lanes:
+            yield from checks_of_width(library, lanes)
 
 
 def checks(library: Library) -> Iterator[Tuple[str, Callable[[], Machine]]]:
     """The checks of a level, each with its name; each returns the machine that ran it."""
-    yield "compress", partial(check_compress, library)
-    yield "compress_two", partial(check_compress_two, library)
-    if library.has(inner("two_chunks::four_chunk_values")):
-        for name, places in orders(4).items():
-            yield f"four_chunk_values, {name}", partial(check_four_chunks, library, places)
-    for lanes in WIDTHS:
-        if library.has(inner(of_width("chunks::take_block", lanes))):
-            yield from checks_of_width(library, lanes)
+    return ((name, check) for function, name, check in all_checks(library) if library.has(inner(function)))
+
+
+def absent(library: Library) -> List[str]:
+    """What a level has no function for: LLVM has moved it into another one, which runs in whole calls, or the level doesn't need it."""
+    names = [name.partition(",")[0] for function, name, _ in all_checks(library) if not library.has(inner(function))]
+    return list(dict.fromkeys(names))

@@ -3,6 +3,7 @@ here."""
 
 from __future__ import annotations
 
+import re
 import sys
 from pathlib import Path
 from typing import TYPE_CHECKING, Dict, List, Optional, Tuple, Type
@@ -87,4 +88,6 @@ def of_groups(name: str) -> str:
 def part_of(text: str, function: str) -> Tuple[int, int]:
     """Where a function begins and ends in a file of assembly: one of keyed_blake3, or one that takes groups of nodes."""
     start = text.index(f'\n"{function if function.startswith(of_groups("")) else inner(function)}":\n')
-    return start, text.index(".Lfunc_end", start)
+    end = re.compile(r"\.Lfunc_end|\.seh_endproc").search(text, start)
+    assert end
+    return start, end.start()

@@ -40,6 +40,9 @@ class Machine(ABC):
     STACK: ClassVar[int]
     #: Registers that a call may change.
     SCRATCH: ClassVar[Sequence[int]]
+    #: How many bytes below the stack pointer a function may use, and how many above the place to return to the one that it calls may.
+    BELOW_STACK: ClassVar[int] = 0
+    ROOM: ClassVar[int] = 0
     #: How the text of a branch with a condition begins.
     BRANCH: ClassVar[Pattern[str]]
     #: Instructions that aren't compared with a processor, because it has keys of its own for them, or does nothing at them.
@@ -53,8 +56,12 @@ class Machine(ABC):
         self.vectors: List[List[Word]] = []
         self.flags: Flags = None
         self.forget_registers()
-        self.memory = Memory()
+        self.memory = Memory(self.lowest_on_stack)
         self.steps = 0
+        #: What the functions that run now have to give back, and where the one that called each goes on.
+        self.frames: List[Tuple[int, Dict[str, object]]] = []
+        #: The stack pointer before the instruction that runs now.
+        self.stack_before = 0
         #: Branches that were run, and whether each was taken.
         self.branches: Set[Tuple[int, bool]] = set()
         #: Functions that are replaced, by their places, and what is done instead.
@@ -85,6 +92,10 @@ class Machine(ABC):
             self.general[register] = value
         for i, words in enumerate(vectors):
             self.vectors[i][:len(words)] = words
+
+    def argument(self, place: int) -> Value:
+        """An argument of the function that is called now, by its place among those that are no vectors."""
+        return self.general[self.ARGUMENTS[place]]
 
     @abstractmethod
     def kept(self) -> Dict[str, object]:
@@ -123,21 +134,44 @@ class Machine(ABC):
 
     def call(self, address: int) -> None:
         """Runs a function until it returns."""
+        self.frames = [(RETURN, self.kept())]
         self.begin_call()
         at = address
         try:
             while at != RETURN:
                 step, following = self.decoded.get(at) or self._decoded(at)
                 self.steps += 1
+                self.stack_before = self.number(self.STACK)
                 to = step(self)
                 at = following if to is None else to
                 if at in _OUTSIDE or at in self.stand_ins:
                     to = self.end_call()
+                    self.leave(to)
                     self._call_outside(at)
                     at = to
         except Fault as fault:
             it = self.image.instructions.get(at)
             raise Fault(f"{it.function if it else 'outside the code'}, {at:#x}, {it.text if it else ''}: {fault}") from None
+
+    def enter(self, following: int) -> None:
+        """Begins a function that returns to a place, before that is put where a call puts it. A single instruction is in no function."""
+        if self.frames:
+            self.frames.append((following, self.kept()))
+
+    def leave(self, to: int) -> None:
+        """Ends a function that returns to a place: the one that was to follow, with the registers that aren't the function's own."""
+        if not self.frames:
+            return
+        following, before = self.frames.pop()
+        if to != following:
+            raise Fault(f"it returns to {to:#x}, not to {following:#x}")
+        after = self.kept()
+        if changed := [what for what, its in before.items() if after[what] != its]:
+            raise Fault(f"it leaves another value in {', '.join(changed)}")
+
+    def lowest_on_stack(self) -> int:
+        """The lowest place of the stack that may be used. An instruction may use what it takes from the stack, or puts there."""
+        return min(self.number(self.STACK), self.stack_before) - self.BELOW_STACK
 
     def _decoded(self, at: int) -> Tuple[Step, int]:
         """What an instruction does, and where the next one is."""
@@ -150,8 +184,13 @@ class Machine(ABC):
         return step, following
 
     def _call_outside(self, at: int) -> None:
-        """Does what the C library, the heap or a stand-in does. Registers that a call needn't keep are unknown afterwards."""
+        """Does what the C library, the heap or a stand-in does. Afterwards, registers that a call needn't keep are unknown, and so are the
+        stack below and the room that the caller has to leave."""
+        stack = self.number(self.STACK)
+        if stack % 16:
+            raise Fault(f"a call with the stack pointer {stack:#x}, which isn't a multiple of 16")
         result = self.stand_ins[at]() if at in self.stand_ins else self._result_of(_OUTSIDE[at])
+        self.memory.forget_stack(stack + self.ROOM)
         for register in self.SCRATCH:
             self.general[register] = unknown_value()
         self.general[self.RESULT] = result

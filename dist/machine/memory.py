@@ -2,20 +2,36 @@
 
 from __future__ import annotations
 
-from typing import Dict, List, Tuple
+from typing import Callable, Dict, List, Tuple
 
 from fault import Fault
 from words import Word, byte, from_bytes, unknown
 
 
 class Memory:
-    def __init__(self) -> None:
+    """Memory of which a part may be a stack. What is below `lowest` there may not be used, which depends on the stack pointer."""
+
+    def __init__(self, lowest: Callable[[], int]) -> None:
+        self.lowest = lowest
+        #: Where the stack starts and ends, and the lowest place of it that was used since what is below was forgotten.
+        self.stack_start, self.stack_end, self.deepest = 0, 0, 0
         self.words: Dict[int, Word] = {}
         #: Where each region starts and ends, and whether it may be written. The last one used is the first.
         self.regions: List[Tuple[int, int, bool]] = []
 
     def add_region(self, start: int, size: int, is_writable: bool) -> None:
         self.regions.append((start, start + size, is_writable))
+
+    def add_stack(self, start: int, size: int) -> None:
+        """Adds the region that is the stack from now on."""
+        self.add_region(start, size, True)
+        self.stack_start, self.stack_end, self.deepest = start, start + size, start + size
+
+    def forget_stack(self, end: int) -> None:
+        """Makes unknown what is below a place of the stack."""
+        for place in range(self.deepest & ~3, end, 4):
+            self.words.pop(place, None)
+        self.deepest = end
 
     def remove_region(self, start: int) -> None:
         """Allows the region that starts here no more."""
@@ -28,9 +44,13 @@ class Memory:
     def add_words(self, start: int, words: List[Word], is_writable: bool = False) -> int:
         """Adds a region with these words, and returns where it starts."""
         self.add_region(start, 4 * len(words), is_writable)
+        self.put_words(start, words)
+        return start
+
+    def put_words(self, start: int, words: List[Word]) -> None:
+        """Sets words at a multiple of 4, whether they may be used or not."""
         for i, word in enumerate(words):
             self.words[start + 4 * i] = word
-        return start
 
     def add_bytes(self, start: int, data: List[Word]) -> int:
         """Adds a region with these bytes, which may only be read, and returns where it starts."""
@@ -42,6 +62,14 @@ class Memory:
         return start
 
     def _must_allow(self, start: int, size: int, is_write: bool) -> None:
+        if self.stack_start <= start < self.stack_end:
+            if start < self.lowest():
+                raise Fault(f"{'write' if is_write else 'read'} of {size} bytes at {start:#x}, below the stack pointer")
+            self.deepest = min(self.deepest, start)
+        self.touch(start, size, is_write)
+
+    def touch(self, start: int, size: int, is_write: bool) -> None:
+        """Refuses places outside the regions."""
         for i, (first, end, is_writable) in enumerate(self.regions):
             if first <= start and start + size <= end and (is_writable or not is_write):
                 if i:

@@ -69,11 +69,15 @@ class Hasher:
 
     def update(self, place: int, piece: List[Word]) -> None:
         """Appends a piece, which is at a place in memory, or nowhere if it has no bytes."""
-        if piece:
-            self.memory.add_bytes(place, piece)
-        status = low(self.caller.call("hasher_update", HASHER, place if piece else 0, len(piece)))
-        if piece:
-            self.memory.remove_region(place)
+        self.memory.add_bytes(place, piece)
+        self.memory.remove_region(place)
+        self.update_at(place, len(piece))
+
+    def update_at(self, place: int, length: int) -> None:
+        """Appends so many bytes of memory, which nothing else may use."""
+        self.memory.add_region(place, length, False)
+        status = low(self.caller.call("hasher_update", HASHER, place if length else 0, length))
+        self.memory.remove_region(place)
         if status != 0:
             raise Fault("a hasher takes no piece")
 

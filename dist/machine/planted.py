@@ -10,14 +10,15 @@ from layout import part_of
 
 @dataclass(frozen=True)
 class Plant:
-    """An error: what it is, the function that has it, a pattern, what stands in the place of what it finds, and which
-    place of the function that is, counted from 0 or from the end."""
+    """An error: what it is, the function that has it, a pattern, what stands in the place of what it finds, which place of the function
+    that is, counted from 0 or from the end, and what the check has to say of it."""
 
     what: str
     function: str
     pattern: str
     by: str
     which: int = 0
+    reason: str = ""
 
     def applied_to(self, text: str) -> str:
         """The text of a level with the error, which has to change something."""

@@ -22,6 +22,7 @@ earlier may have another form than an equal one that is made later. The definiti
 
 from __future__ import annotations
 
+import itertools
 import random
 from functools import reduce, wraps
 from typing import Any, Callable, Dict, List, Tuple, TypeVar, Union, cast
@@ -53,6 +54,7 @@ _NODES: Dict[Tuple[Any, ...], Node] = {}
 #: The results of operations.
 _RESULTS: Dict[Tuple[Any, ...], Word] = {}
 _DRAWS = random.Random(11)
+_ORDER = itertools.count()
 
 
 def number_of(word: Word) -> int:
@@ -80,7 +82,7 @@ def node(form: str, *parts: object) -> Node:
     key = (form, *parts)
     found = _NODES.get(key)
     if found is None:
-        found = _NODES[key] = Node(len(_NODES), form, parts)
+        found = _NODES[key] = Node(next(_ORDER), form, parts)
     return found
 
 
@@ -95,8 +97,8 @@ def symbol(name: str) -> Node:
 
 
 def unknown() -> Node:
-    """A new symbol, for a word that nobody has set."""
-    return symbol(f"unknown {len(_NODES)}")
+    """A new symbol, for a word that nobody has set. It isn't kept among the nodes, since nothing asks for it again."""
+    return Node(next(_ORDER), "in", ("unknown",))
 
 
 def seal(word: Word) -> Word:

@@ -150,8 +150,8 @@ def parts() -> list[Level | Program]:
 
 
 def version() -> str:
-    """The version of everything."""
-    return (ROOT / "VERSION").read_text().strip()
+    """The number of the version."""
+    return (ROOT / "VERSION").read_text().strip().removesuffix("-dev")
 
 
 def crates_below(top: str) -> dict[str, str]:

@@ -23,6 +23,11 @@ PLANTS: Dict[str, List[Plant]] = {
         Plant("the flags of a parent", "hasher::Hasher::update", r"mov\tw4, #20", "mov\tw4, #16"),
         Plant("a signature that isn't checked", "hasher::Hasher::update", "\thint\t#29\n", ""),
         Plant("a signature with another stack pointer", "hasher::Hasher::update", r"(\thint\t#25\n.*\n)(\tsub\tsp, sp, #\d+\n)", r"\2\1"),
+        Plant("the number of a chunk cut to 32 bits", of_width("subtrees::values_apart", 4), r"mov\tx4, x5\n", r"mov\tw4, w5\n", 0, "another hash of pieces of "),
+        Plant("a carry over more than 32 joins", "tree::add_subtree_value", r"lsr\tx2, x24, #1", r"lsr\tw2, w24, #1", 0, "another hash of pieces of "),
+        Plant("a register that 128 KiB lose", of_width("subtrees::values_apart", 4), r"lsr\tx21, x4, #1\n", r"lsr\tx21, x4, #1\n\tcmp\tx4, #32\n\tb.ne\t9f\n\tstr\tx4, [x29, #32]\n9:\n", 0, "it leaves another value in register 24"),
+        Plant("half of a vector that 128 KiB lose", of_width("subtrees::values_apart", 4), r"lsr\tx21, x4, #1\n", r"lsr\tx21, x4, #1\n\tcmp\tx4, #32\n\tb.ne\t9f\n\tfmov\td8, x4\n9:\n", 0, "it leaves another value in vector 8"),
+        Plant("a place below the stack pointer", "compression::compress", r"\.cfi_startproc\n", ".cfi_startproc\n\tstr\tx0, [sp, #-16]\n\tldr\tx0, [sp, #-16]\n", 0, "below the stack pointer"),
         Plant("a read after the message", of_width("chunks::take_block", 4), r"ldr\t(q\d+), \[x12, x10\]", r"ldr\t\1, [x12, x10, lsl #4]"),
     ],
 }

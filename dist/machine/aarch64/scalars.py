@@ -60,14 +60,26 @@ def _jump(operands: List[str], at: int) -> "Step":
 
 
 def _jump_to_register(operands: List[str], at: int) -> "Step":
-    register = General(operands[0] if operands else f"x{LR}")
+    register = General(operands[0])
     return lambda m: number(register.get(m))
+
+
+def _return(operands: List[str], at: int) -> "Step":
+    register = General(operands[0] if operands else f"x{LR}")
+
+    def step(m: "Aarch64") -> Optional[int]:
+        to = number(register.get(m))
+        m.leave(to)
+        return to
+
+    return step
 
 
 def _call(operands: List[str], at: int) -> "Step":
     to = int(operands[0], 16)
 
     def step(m: "Aarch64") -> Optional[int]:
+        m.enter(at + 4)
         m.general[LR] = at + 4
         return to
 
@@ -314,7 +326,7 @@ def _compare_if(name: str, operands: List[str]) -> "Step":
 
 
 _BY_NAME: Dict[str, Callable[[List[str], int], "Step"]] = {
-    "b": _jump, "bl": _call, "br": _jump_to_register, "ret": _jump_to_register, "brk": _trap, "udf": _trap,
+    "b": _jump, "bl": _call, "br": _jump_to_register, "ret": _return, "brk": _trap, "udf": _trap,
     "mov": _move, "movk": _move_part, "adrp": _page, "adr": _page, "paciasp": _sign, "autiasp": _check_signature,
 }
 _GROUPS: Dict[Callable[[str, List[str]], "Step"], Tuple[str, ...]] = {

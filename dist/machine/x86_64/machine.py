@@ -24,9 +24,10 @@ class X86(Machine):
     SCRATCH: ClassVar[Tuple[int, ...]] = (RAX, RCX, RDX, RSI, RDI, R8, R9, R10, R11)
     #: The registers that a function gives back as they were.
     KEPT: ClassVar[Tuple[int, ...]] = (RSP, RBX, RBP, R12, R13, R14, R15)
-    #: How many bytes a caller leaves free on the stack, below the arguments there.
-    ROOM = 0
+    BELOW_STACK: ClassVar[int] = 128
     BRANCH = re.compile(r"j(?!mp)")
+    #: Whether the upper halves of vectors may be in use, which slows down code for SSE that runs next.
+    has_upper_halves = False
 
     def get(self, register: int, size: int) -> Value:
         """The value of the lowest bytes of a general register."""
@@ -62,24 +63,39 @@ class X86(Machine):
         return value
 
     def begin_call(self) -> None:
+        self.stack_before = self.number(RSP)
         self.push(RETURN)
 
     def end_call(self) -> int:
+        self.stack_before = self.number(RSP)
         return number(self.pop())
 
     def give(self, arguments: Sequence[Value], vectors: Sequence[Sequence[Word]]) -> None:
         """Arguments for which there is no register are on the stack."""
         super().give(arguments, vectors)
+        self.has_upper_halves = any(len(words) > 4 for words in vectors)
         others = arguments[len(self.ARGUMENTS):]
         self.general[RSP] = self.number(RSP) - (self.ROOM + 8 * len(others) + 15) // 16 * 16
         for i, value in enumerate(others):
             self.write(self.number(RSP) + self.ROOM + 8 * i, 8, value)
+
+    def argument(self, place: int) -> Value:
+        count = len(self.ARGUMENTS)
+        if place < count:
+            return super().argument(place)
+        return self.read(self.number(RSP) + self.ROOM + 8 * (place - count), 8)
+
+    def must_have_cleared_vectors(self) -> None:
+        """Refuses the end of a function where upper halves of vectors may be in use."""
+        if self.frames and self.has_upper_halves:
+            raise Fault("vzeroupper is missing")
 
     def kept(self) -> Dict[str, object]:
         return {f"register {register}": self.general[register] for register in self.KEPT}
 
     def forget_scratch_vectors(self) -> None:
         self.vectors = [[unknown() for _ in range(16)] for _ in range(32)]
+        self.has_upper_halves = False
 
     def decode(self, text: str, at: int, following: int) -> Step:
         name, operands = name_and_operands(text)
@@ -98,7 +114,7 @@ class WindowsX86(X86):
     ARGUMENTS = (RCX, RDX, R8, R9)
     SCRATCH = (RAX, RCX, RDX, R8, R9, R10, R11)
     KEPT = (*X86.KEPT, RSI, RDI)
-    ROOM = 32
+    BELOW_STACK, ROOM = 0, 32
     #: The vectors of which a function gives back the first words as they were, and how many of their words.
     KEPT_VECTORS, KEPT_WORDS = range(6, 16), 4
 
@@ -111,6 +127,7 @@ class WindowsX86(X86):
         return {**super().kept(), **{f"vector {i}": self.vectors[i][:self.KEPT_WORDS] for i in self.KEPT_VECTORS}}
 
     def forget_scratch_vectors(self) -> None:
+        self.has_upper_halves = False
         for i, words in enumerate(self.vectors):
             kept = self.KEPT_WORDS if i in self.KEPT_VECTORS else 0
             words[kept:] = [unknown() for _ in words[kept:]]

@@ -14,7 +14,7 @@ if TYPE_CHECKING:
 
 RAX, RCX, RDX, RBX, RSP, RBP, RSI, RDI, R8, R9, R10, R11, R12, R13, R14, R15 = range(16)
 SIZES = {"BYTE": 1, "WORD": 2, "DWORD": 4, "QWORD": 8, "XMMWORD": 16, "YMMWORD": 32, "ZMMWORD": 64}
-_MEMORY = re.compile(r"(?:(\w+) (?:PTR|BCST) )?(?:[cdefgs]s:)?\[(.*?)\](?:\{1to(\d+)\})?$")
+_MEMORY = re.compile(r"(?:(\w+) (?:PTR|BCST) )?(?:[cdes]s:)?\[(.*?)\](?:\{1to(\d+)\})?$")
 _NUMBER = re.compile(r"0x[0-9a-f]+$")
 
 

@@ -9,6 +9,10 @@ from planted import Plant
 from widths import of_width
 
 X, Y, Z = r"%xmm\d+", r"%ymm\d+", r"%zmm\d+"
+#: What the check says of errors that only long messages and great numbers of chunks show.
+LONG, AFTER = " bytes: another hash, whatever compresses the blocks", "another hash of pieces of "
+#: What it says where a value doesn't outlast a call.
+LOST = "an address depends on data"
 
 PLANTS: Dict[str, List[Plant]] = {
     "x86-64": [
@@ -63,5 +67,34 @@ PLANTS: Dict[str, List[Plant]] = {
         Plant("sixteen lanes a chunk too early", "hasher::Hasher::update", r"cmpq\t\$9216,", r"cmpq\t$8192,"),
         Plant("a frame that isn't aligned", of_width("chunks::chunk_values", 16), r"andq\t\$-64, %rsp", r"andq\t$-64, %rsp\n\tsubq\t$16, %rsp"),
         Plant("a register that isn't given back", of_width("chunks::take_block", 16), r"popq\t%rbp", r"popq\t%rcx", -1),
+        Plant("the number of a chunk cut to 32 bits", of_width("tree::Tree::absorb_subtrees", 16), r"movq\t%r12, %r8\n", r"movl\t%r12d, %r8d\n", 0, AFTER),
+        Plant("the number of a subtree's chunk cut to 32 bits", of_width("tree::Tree::absorb_subtrees", 16), r"movq\t%r12, %r9\n", r"movl\t%r12d, %r9d\n", 0, AFTER),
+        Plant("a number divided as if it had 32 bits", of_width("tree::Tree::absorb_subtrees", 16), r"shrq\t\$32, %rax", r"shrq\t$63, %rax", 0, AFTER),
+        Plant("another number from 2 MiB on", of_width("subtrees::values_apart", 16), r"movq\t%r8, %r12\n", r"movq\t%r8, %r12\n\tcmpq\t$128, %r8\n\tjb\t9f\n\tincq\t%r9\n9:\n", 0, "2097152" + LONG),
+        Plant("another number in 128 KiB", of_width("subtrees::values_apart", 16), r"movq\t%r8, %r12\n", r"movq\t%r8, %r12\n\tcmpq\t$8, %r8\n\tjne\t9f\n\tincq\t%r9\n9:\n", 0, "data_hash of 131072 bytes"),
+        Plant("a byte before 128 KiB", of_width("subtrees::values_apart", 16), r"movq\t%r8, %r12\n", r"movq\t%r8, %r12\n\tcmpq\t$8, %r8\n\tjne\t9f\n\tmovb\t-1(%rdx), %al\n9:\n", 0, "outside what may be used"),
+        Plant("a branch on a byte of 128 KiB", of_width("subtrees::values_apart", 16), r"movq\t%r8, %r12\n", r"movq\t%r8, %r12\n\tcmpq\t$8, %r8\n\tjne\t9f\n\tcmpb\t$0, (%rdx)\n\tje\t9f\n9:\n", 0, "depends on data"),
+        Plant("a byte behind the hasher in 128 KiB", of_width("tree::Tree::absorb_subtrees", 16), r"shrq\t\$14, %r9\n", r"shrq\t$14, %r9\n\tcmpq\t$8, %r9\n\tjne\t9f\n\tmovb\t$0, 2048(%r13)\n9:\n", 0, "write of 1 bytes"),
+        Plant("a register that 128 KiB lose", of_width("tree::Tree::absorb_subtrees", 16), r"shrq\t\$14, %r9\n", r"shrq\t$14, %r9\n\tcmpq\t$8, %r9\n\tjne\t9f\n\tmovq\t%r9, -40(%rbp)\n9:\n", 0, "it leaves another value in register 3"),
+        Plant("a place far below the stack pointer", "compression::compress", r"\tendbr64\n", r"\tendbr64\n\tmovq\t%rcx, -136(%rsp)\n\tmovq\t-136(%rsp), %rcx\n", 0, "below the stack pointer"),
+        Plant("a value below the stack pointer over a call", of_width("subtrees::values_apart", 16), r"\tcallq\tmemcpy@PLT\n", r"\tmovq\t%rbx, -64(%rsp)\n\tcallq\tmemcpy@PLT\n\tmovq\t-64(%rsp), %rbx\n", 0, LOST),
+        Plant("a call with half of a place on the stack", of_width("subtrees::values_apart", 16), r"\tcallq\tmemcpy@PLT\n", r"\tsubq\t$8, %rsp\n\tcallq\tmemcpy@PLT\n\taddq\t$8, %rsp\n", 0, "isn't a multiple of 16"),
+        Plant("a block by way of gs", "compression::compress", r"vmovups\t\(%rsi\)", r"vmovups\t%gs:(%rsi)", 0, "the operand XMMWORD PTR gs:[rsi]"),
+        Plant("upper halves that stay in use", of_width("chunks::take_block", 16), r"\tvzeroupper\n\tretq", r"\tretq", 0, "vzeroupper is missing"),
+        Plant("upper halves that stay in use", "keyed_hash", r"\tvzeroupper\n\tretq", r"\tretq", -1, "vzeroupper is missing"),
+        Plant("a carry over more than 32 joins", "tree::add_subtree_value", r"movq\t%r15, %rax\n\tshrq\t%rax\n", r"movl\t%r15d, %eax\n\tshrl\t%eax\n", 1, AFTER),
+    ],
+    "windows-x86-64-v3": [
+        Plant("the number of a chunk cut to 32 bits", of_width("tree::Tree::absorb_subtrees", 4), r"movq\t%rdx, %rdi\n", r"movl\t%edx, %edi\n", 0, AFTER),
+    ],
+    "windows-x86-64-v4": [
+        Plant("the number of a chunk cut to 32 bits", of_width("tree::Tree::absorb_subtrees", 4), r"movq\t%rdx, %rdi\n", r"movl\t%edx, %edi\n", 0, AFTER),
+        Plant("the number of a subtree's chunk cut to 32 bits", of_width("tree::Tree::absorb_subtrees", 16), r"movq\t%r14, 40\(%rsp\)", r"movl\t%r14d, %r10d\n\tmovq\t%r10, 40(%rsp)", 0, AFTER),
+        Plant("a register that 128 KiB lose", of_width("subtrees::values_apart", 16), r"movq\t%r13, %r14\n", r"movq\t%r13, %r14\n\tcmpq\t$8, %r13\n\tjne\t9f\n\tmovq\t%r13, 1664(%rbp)\n9:\n", 0, "it leaves another value in register 7"),
+        Plant("a vector that 128 KiB lose", of_width("subtrees::values_apart", 16), r"movq\t%r13, %r14\n", r"movq\t%r13, %r14\n\tcmpq\t$8, %r13\n\tjne\t9f\n\tvpxor\t%xmm6, %xmm6, %xmm6\n9:\n", 0, "it leaves another value in vector 6"),
+        Plant("a place below the stack pointer", "compression::compress", r"\t\.seh_endprologue\n", r"\t.seh_endprologue\n\tmovq\t%rcx, -64(%rsp)\n\tmovq\t-64(%rsp), %rcx\n", 0, "below the stack pointer"),
+        Plant("a value over a call in the room that it may use", of_width("subtrees::values_apart", 16), r"\tcallq\tmemcpy\n", r"\tmovq\t%rbx, 8(%rsp)\n\tcallq\tmemcpy\n\tmovq\t8(%rsp), %rbx\n", 0, LOST),
+        Plant("a block by way of gs", "compression::compress", r"vmovups\t\(%r9\)", r"vmovups\t%gs:(%r9)", 0, "the operand XMMWORD PTR gs:[r9]"),
+        Plant("another number in 128 KiB", of_width("subtrees::values_apart", 16), r"movq\t%r13, %r14\n", r"movq\t%r13, %r14\n\tcmpq\t$8, %r13\n\tjne\t9f\n\tincq\t%rax\n9:\n", 0, "data_hash of 131072 bytes"),
     ],
 }

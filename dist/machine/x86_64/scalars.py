@@ -10,7 +10,7 @@ import re
 from typing import TYPE_CHECKING, Callable, Dict, List, Optional, Tuple
 
 from fault import Fault, number
-from x86_64.operands import RAX, RDX, REGISTERS, RSP, Place, general, number_of
+from x86_64.operands import RAX, RDX, REGISTERS, Place, general, number_of
 from words import Value, Word, add, add_64, and_, high, low, or_, pair, ror, shl, shl_64, shr, shr_64, xor
 
 if TYPE_CHECKING:
@@ -98,6 +98,7 @@ def _call(operands: List[str], at: int, following: int) -> "Step":
     to = int(operands[0], 16)
 
     def step(m: "X86") -> Optional[int]:
+        m.enter(following)
         m.push(following)
         return to
 
@@ -105,7 +106,13 @@ def _call(operands: List[str], at: int, following: int) -> "Step":
 
 
 def _return(operands: List[str], at: int, following: int) -> "Step":
-    return lambda m: number(m.pop())
+    def step(m: "X86") -> Optional[int]:
+        to = number(m.pop())
+        m.must_have_cleared_vectors()
+        m.leave(to)
+        return to
+
+    return step
 
 
 def _trap(operands: List[str], at: int, following: int) -> "Step":
@@ -226,6 +233,17 @@ def _two(name: str, operands: List[str], following: int) -> "Step":
             result = 0 if name in ("cmp", "test") else _of_data(name, to.size, x, y)
         if name not in ("cmp", "test"):
             to.store(m, result)
+
+    return step
+
+
+def _probe(operands: List[str], following: int) -> "Step":
+    """`or` of a place and zero, which changes nothing: so Windows sees that a page below the stack pointer is in use."""
+    place = Place(operands[0], following)
+
+    def step(m: "X86") -> None:
+        m.memory.touch(place.address(m), place.size, True)
+        m.flags = None
 
     return step
 
@@ -380,6 +398,8 @@ def decoded(name: str, operands: List[str], at: int, following: int) -> Optional
         return lambda m: None
     if name in _BY_NAME:
         return _BY_NAME[name](operands, at, following)
+    if name == "or" and "[" in operands[0] and operands[1] == "0x0":
+        return _probe(operands, following)
     if name in _GROUP_OF:
         return _GROUP_OF[name](name, operands, following)
     if name.startswith("j") and name[1:] in _CONDITIONS:

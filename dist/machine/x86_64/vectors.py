@@ -71,6 +71,7 @@ class Form:
         def step(m: "X86") -> None:
             above: Vector = [0] * (16 - width) if self.is_avx else m.vectors[register][width:]
             m.vectors[register] = [*result(m), *above]
+            m.has_upper_halves |= width > LANE and register < 16
 
         return step
 
@@ -488,6 +489,7 @@ def _clear_above(it: Form) -> "Step":
     """`vzeroupper`."""
     def step(m: "X86") -> None:
         m.vectors[:16] = [[*words[:LANE], *[0] * 12] for words in m.vectors[:16]]
+        m.has_upper_halves = False
 
     return step
 

@@ -1,6 +1,8 @@
 /* Compares the library's hashes with a second reading of the definition: of every length up to 20,000, of lengths around all
  * multiples of 16,384 and some of 1024, 4096 and 8192 up to 2^20, of random messages that are cut into random pieces, and of messages
- * of about 2^32 chunks, from a state that is written into the hasher. */
+ * of about 2^32 chunks, from a state that is written into the hasher.
+ *
+ *     lengths [CUTTINGS]     how many messages are cut, 100,000 if it doesn't say */
 #include "../fuzz/second/hash.h"
 #include "yurewha.h"
 
@@ -76,6 +78,8 @@ void after(std::mt19937_64 &random, uint64_t chunks, std::string_view rest)
         for (uint32_t &word : subtree)
             word = static_cast<uint32_t>(random());
     const uint64_t count = chunks * 1024;
+    /* Half of the messages have pieces of many chunks, which go side by side in all lanes. */
+    const size_t longest = random() % 2 ? 9000 : 90'000;
     yurewha_hasher hasher;
     yurewha_hash hash;
     yurewha_hasher_begin_keyed(&hasher, &key);
@@ -83,7 +87,7 @@ void after(std::mt19937_64 &random, uint64_t chunks, std::string_view rest)
     std::memcpy(state + 64, subtrees.data(), subtrees.size() * sizeof(second::Words));
     std::memcpy(state + 64 + 54 * 32 + 64, &count, sizeof count);
     for (size_t done = 0; done < rest.size();) {
-        const std::string_view piece = rest.substr(done, random() % 9000);
+        const std::string_view piece = rest.substr(done, random() % longest);
         if (yurewha_hasher_update(&hasher, bytes_of(piece), piece.size()) != YUREWHA_DONE)
             std::abort();
         done += piece.size();
@@ -97,8 +101,9 @@ void after(std::mt19937_64 &random, uint64_t chunks, std::string_view rest)
 
 }  // namespace
 
-int main()
+int main(int count, char **words)
 {
+    const size_t cuttings = count > 1 ? std::strtoul(words[1], nullptr, 10) : CUTTINGS;
     std::mt19937_64 random(1);
     const std::string longest = drawn(random, LONGEST + 1);
     const std::string_view message = longest;
@@ -111,7 +116,7 @@ int main()
             for (size_t length = multiple - 1; length <= multiple + 1; length++)
                 whole(message.substr(0, length));
     constexpr size_t LONGEST_PIECES[] = {100, 1024, 1100, 2048, 5000, 16'384, 70'000};
-    for (size_t i = 0; i < CUTTINGS; i++) {
+    for (size_t i = 0; i < cuttings; i++) {
         const size_t length = random() % (i % 100 == 0 ? 300'000 : 40'000);
         cut(random, message.substr(0, length), LONGEST_PIECES[random() % std::size(LONGEST_PIECES)]);
     }
