@@ -65,6 +65,12 @@ static struct {
     size_t nested_length;
     yurewha_level levels[64];
     yurewha_chunk *nodes;
+    yurewha_level proof_levels[64];
+    yurewha_chunk *proof_nodes;
+    size_t proof_counts[2];
+    char *proof_text;
+    size_t proof_length;
+    yurewha_hash tree_hash;
     yurewha_hash hash;
     size_t count;
     uint64_t number;
@@ -208,12 +214,70 @@ static void sessions_of_gaps(void)
     yurewha_session_free(&session);
 }
 
+static const yurewha_bytes NO_SALT;
+
+static void hash_trees(void)
+{
+    yurewha_hash_tree tree = {0};
+    size_t end = 0, counts[2] = {0, 0};
+    uint64_t place = 0;
+    expect(yurewha_hash_tree_from_chunks(it.chunks[0], COUNT, &tree));
+    expect(yurewha_hash_tree_file_hash(&tree, &NO_SALT, &it.hash));
+    expect(yurewha_hash_tree_total_size(&tree, &it.number));
+    expect(yurewha_hash_tree_chunks_at(&tree, it.number / 2, it.number / 2 + 1, &it.count, &end));
+    expect(yurewha_hash_tree_bytes_of(&tree, it.count, end, &it.number, &place));
+    expect(yurewha_hash_tree_proof(&tree, it.count, end, it.levels, 64, it.nodes, COUNT, &counts[0], &counts[1]));
+    yurewha_hash_tree_free(&tree);
+}
+
+/* The proof of all chunks, each of which is a node. */
+static void proofs_as_json(void)
+{
+    size_t counts[2] = {0, 0};
+    expect(yurewha_range_proof_from_json(it.proof_text, it.proof_length, it.levels, 64, it.nodes, COUNT, &counts[0], &counts[1]));
+    expect(yurewha_range_proof_to_json(it.levels, counts[0], it.nodes, counts[1], it.proof_text, it.proof_length, &it.count));
+}
+
+static void opened_ranges(void)
+{
+    yurewha_opened_range range = {0};
+    uint64_t place = 0;
+    expect(yurewha_range_proof_check(it.proof_levels, it.proof_counts[0], it.proof_nodes, it.proof_counts[1]));
+    expect(yurewha_range_proof_open(it.proof_levels, it.proof_counts[0], it.proof_nodes, it.proof_counts[1], &it.tree_hash,
+                                    &NO_SALT, &range));
+    expect(yurewha_opened_range_file_size(&range, &it.number));
+    expect(yurewha_opened_range_bytes_of(&range, COUNT - 1, &it.number, &place));
+    if (yurewha_opened_range_check(&range, 7, it.bytes, COUNT, &place) != YUREWHA_MISMATCH
+        || yurewha_opened_range_read(&range, 7, 8, it.bytes, COUNT, &it.count) != YUREWHA_MISMATCH)
+        abort();
+    yurewha_opened_range_free(&range);
+}
+
 static void *allotted(size_t size)
 {
     void *found = malloc(size);
     if (found == NULL)
         abort();
     return found;
+}
+
+/* The proof of all chunks as flat lists and as JSON text, and the file hash that it shows. */
+static void make_proof(void)
+{
+    yurewha_hash_tree tree = {0};
+    it.proof_nodes = allotted(COUNT * sizeof *it.proof_nodes);
+    expect(yurewha_hash_tree_from_chunks(it.chunks[0], COUNT, &tree));
+    expect(yurewha_hash_tree_file_hash(&tree, &NO_SALT, &it.tree_hash));
+    expect(yurewha_hash_tree_proof(&tree, 0, COUNT, it.proof_levels, 64, it.proof_nodes, COUNT, &it.proof_counts[0],
+                                   &it.proof_counts[1]));
+    yurewha_hash_tree_free(&tree);
+    if (yurewha_range_proof_to_json(it.proof_levels, it.proof_counts[0], it.proof_nodes, it.proof_counts[1], NULL, 0,
+                                    &it.proof_length)
+        != YUREWHA_ROOM)
+        abort();
+    it.proof_text = allotted(it.proof_length);
+    expect(yurewha_range_proof_to_json(it.proof_levels, it.proof_counts[0], it.proof_nodes, it.proof_counts[1], it.proof_text,
+                                       it.proof_length, &it.count));
 }
 
 static void make_arguments(void)
@@ -236,6 +300,7 @@ static void make_arguments(void)
         expect(yurewha_subtree_to_json(&subtree, it.texts[kind], it.lengths[kind], &it.count));
         yurewha_subtree_free(&subtree);
     }
+    make_proof();
     /* The object, and a member that isn't read, as deep as a text may be. */
     char open[DEEPEST] = {0}, close[DEEPEST] = {0};
     memset(open, '[', DEEPEST - 1);
@@ -283,6 +348,7 @@ int main(void)
         FAMILY(merges_without_cuts), FAMILY(json),       FAMILY(json_without_cuts),
         FAMILY(json_nested),   FAMILY(flat_lists),       FAMILY(sessions),
         FAMILY(sessions_of_pieces), FAMILY(sessions_of_gaps),
+        FAMILY(hash_trees),    FAMILY(proofs_as_json),   FAMILY(opened_ranges),
     };
     make_arguments();
     const size_t empty = stack_of(nothing);

@@ -8,14 +8,15 @@ import json
 import sys
 from typing import Callable, Iterable
 
-from . import hashes, json_texts, merges, range_proofs, roots, schemas, sessions, subtrees, texts, upstream
+from . import hashes, json_texts, merges, range_proofs, roots, schemas, session_texts, sessions, subtrees, texts, upstream
 from .files import FOLDER, File, differences
 
 Maker = Callable[[], File]
 # What makes each file, the longest ones first. The answers of upstream.json aren't the model's: they are kept, and compared.
 FILES: dict[str, Maker] = {
     "upstream": upstream.kept_file, "subtrees": subtrees.file, "roots": roots.file, "merges": merges.file, "hashes": hashes.file,
-    "range_proofs": range_proofs.file, "subtree_json": json_texts.file, "sessions": sessions.file, "texts": texts.file}
+    "range_proofs": range_proofs.file, "subtree_json": json_texts.file, "sessions": sessions.file, "session_json": session_texts.file,
+    "texts": texts.file}
 BY_MODEL = {**FILES, "upstream": upstream.model_file}
 
 

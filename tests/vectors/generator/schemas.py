@@ -163,6 +163,14 @@ def sessions() -> list[Schema]:
     return [group("Session", test({"calls": array({"oneOf": calls})}))]
 
 
+def session_json() -> list[Schema]:
+    """The groups of session_json.json."""
+    texts_ = _json_texts(13)
+    refused = one_of("NoSession", "InvalidArguments", "SizeOverflow")
+    texts_["oneOf"].append(test({"result": one_of("invalid"), "text": TEXT, "error": refused}))
+    return [group("SessionJson", texts_)]
+
+
 def range_proofs() -> list[Schema]:
     """The groups of range_proofs.json."""
     return [*_trees(), _opening(), *_proof_forms()]
@@ -209,7 +217,8 @@ def upstream() -> list[Schema]:
 
 
 SCHEMAS = {"hashes": hashes, "texts": texts, "roots": roots, "subtrees": subtrees, "merges": merges,
-           "subtree_json": subtree_json, "sessions": sessions, "range_proofs": range_proofs, "upstream": upstream}
+           "subtree_json": subtree_json, "sessions": sessions, "session_json": session_json, "range_proofs": range_proofs,
+           "upstream": upstream}
 
 
 def schema(name: str) -> Schema:
