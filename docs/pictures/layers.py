@@ -58,7 +58,7 @@ def stack() -> tuple[tuple[str, tuple[Layer, ...]], ...]:
             Layer("what is around a program", ("arguments, signals of programs",)),
         )),
         ("machine code", (
-            Layer("assembly in `dist/`", ("Linux",), 0.8),
+            Layer("assembly for Linux in `dist/`", ("Linux",), 0.8),
             Layer("machine code that compresses", ("hashing of blocks",), 1.05),
             Layer("the assembly for x86-64-v4", ("AVX-512",), 1.2),
             Layer("the assembly for Windows", ("Windows",), 1.2),

@@ -2,6 +2,7 @@
 
 from __future__ import annotations
 
+import math
 import re
 from pathlib import Path
 from typing import Iterator, NamedTuple
@@ -10,7 +11,7 @@ from svg import box, path, picture, text
 
 RESULTS = Path(__file__).resolve().parents[2] / "bench" / "results"
 LEFT, RIGHT, BAR, ROW, HEAD = 150, 725, 18, 26, 34
-MOST = 250  # the highest percentage on the axis
+STEP = 50  # from one line of the axis to the next, in percent
 
 
 class Bar(NamedTuple):
@@ -51,23 +52,22 @@ def roots() -> Iterator[Bar]:
         yield Bar(name, 100 / float(found[f"`xorb_hash`, {task} chunks"][4].split(" ")[0]))
 
 
-def across(percent: float) -> float:
-    return LEFT + percent / MOST * (RIGHT - LEFT)
+def bars(top: int, most: int, head: str, peer: str, all_bars: list[Bar]) -> Iterator[str]:
+    """A heading and its bars before an axis that ends with a percentage, from a height on."""
+    def across(percent: float) -> float:
+        return round(LEFT + percent / most * (RIGHT - LEFT), 1)
 
-
-def bars(top: int, head: str, peer: str, all_bars: list[Bar]) -> Iterator[str]:
-    """A heading and its bars before an axis, from a height on."""
     yield text(20, top, head, "bold")
     yield text(20, top + 18, peer, "quiet")
     base = top + HEAD + len(all_bars) * ROW
-    for percent in range(0, MOST + 1, 50):
+    for percent in range(0, most + 1, STEP):
         yield path("thin", (across(percent), top + HEAD - 4), (across(percent), base))
         yield text(across(percent), base + 16, f"{percent} %", "bold" if percent == 100 else "quiet", "middle")
     for number, bar in enumerate(all_bars):
         y = top + HEAD + number * ROW
         yield text(LEFT - 12, y + 14, bar.name, "", "end")
         yield box(LEFT, y, round(across(bar.percent) - LEFT, 1), BAR, "blue" if bar.percent >= 100 else "orange", 2)
-        yield text(round(across(bar.percent) - 6, 1), y + 14, f"{bar.percent:.0f} %", "bold", "end")
+        yield text(across(bar.percent) - 6, y + 14, f"{bar.percent:.0f} %", "bold", "end")
 
 
 def speed() -> str:
@@ -76,12 +76,12 @@ def speed() -> str:
     days = day if day == other_day else f"{day} and {other_day}"
     assert processor == other
     first, second = list(hashing()), list(roots())
-    top = 62
+    top, most = 62, math.ceil(max(bar.percent for bar in first + second) / STEP) * STEP
     next_top = top + HEAD + ROW * len(first) + 54
     last = next_top + HEAD + ROW * len(second) + 48
     title = "Speed, in percent of that of other code on the same machine"
     return picture(title, "; ".join(f"{bar.name}: {bar.percent:.0f} %" for bar in first + second), last + 18, [
-        *bars(top, "Hash of a chunk of 64 KiB that isn't in a cache", "beside the crate blake3 with the same instructions", first),
-        *bars(next_top, "Root of a list", "beside a plain loop over blake3, which uses all that the processor has", second),
+        *bars(top, most, "Hash of a chunk of 64 KiB that isn't in a cache", "beside the crate blake3 with the same instructions", first),
+        *bars(next_top, most, "Root of a list", "beside a plain loop over blake3, which uses all that the processor has", second),
         text(20, last, f"bench/results/hashes.md and roots.md, {days}, {processor}", "quiet"),
     ])

@@ -3,7 +3,8 @@
 from __future__ import annotations
 
 import html
-from typing import Iterable
+import re
+from typing import Iterable, Iterator
 
 WIDTH = 760
 LIGHT = {
@@ -48,8 +49,22 @@ def path(kind: str, *points: tuple[float, float]) -> str:
     return f'<path class="{kind}" d="M{"L".join(f"{x:g} {y:g}" for x, y in points)}"/>'
 
 
+def right_ends(drawn: str) -> Iterator[float]:
+    """Where boxes, lines and texts end on the right. A sign of a text counts as 6 wide, which is less than most are."""
+    for x, width in re.findall(r'<rect x="([-.\d]+)" y="[-.\d]+" width="([-.\d]+)"', drawn):
+        yield float(x) + float(width)
+    for points in re.findall(r' d="M([^"]*)"', drawn):
+        yield from (float(point.split(" ")[0]) for point in points.split("L"))
+    for x, rest, words in re.findall(r'<text x="([-.\d]+)"([^>]*)>([^<]*)<', drawn):
+        share = 0 if '"end"' in rest else 0.5 if '"middle"' in rest else 1
+        yield float(x) + share * 6 * len(html.unescape(words))
+
+
 def picture(title: str, description: str, height: int, parts: Iterable[str]) -> str:
     """A picture with its title. The description is for those who can't see it."""
+    parts = list(parts)
+    for part in parts:
+        assert max(right_ends(part), default=0) <= WIDTH, f"{title}: this is cut off: {part}"
     return "\n".join([
         f'<svg xmlns="http://www.w3.org/2000/svg" width="{WIDTH}" height="{height}" viewBox="0 0 {WIDTH} {height}" role="img">',
         f"<title>{html.escape(title)}</title>", f"<desc>{html.escape(description)}</desc>", f"<style>{STYLE}</style>",
