@@ -158,22 +158,51 @@ def test_pieces_are_taken_as_they_are_needed(batch):
     assert next(pieces) <= 100 + 20 * batch
 
 
-def test_what_is_handed_over_while_a_thread_ends():
-    """It comes after the thread found nothing left, and before the thread is counted out. So no other thread is started for it."""
-    crew, later = _in_threads._Crew(lambda piece, stopped: piece), []
-
-    class Started(list):
-        def pop(self):
-            if not later:
-                later.append(crew.handed([2], 1))
-            super().pop()
-
-    crew._started = Started()
-    assert _in_threads.waited(crew.handed([1], 1)) == ([1], None)
+def come(outcome):
+    """Whether something comes within 20 seconds."""
     deadline = time.monotonic() + 20
-    while not (later and later[0].has_come()) and time.monotonic() < deadline:
+    while not outcome.has_come() and time.monotonic() < deadline:
         time.sleep(0.001)
-    assert later[0].has_come() and _in_threads.waited(later[0]) == ([2], None)
+    return outcome.has_come()
+
+
+def test_what_is_handed_over_while_a_thread_ends():
+    """It comes after the thread found nothing left, and before the thread gives its place back. So no other thread is started for it."""
+    crew, later = _in_threads._Crew(lambda piece, stopped: piece, 1), []
+
+    class Places(list):
+        def append(self, place):
+            if not later:
+                later.append(crew.handed([2]))
+            super().append(place)
+
+    crew._free_places = Places()
+    assert _in_threads.waited(crew.handed([1])) == ([1], None)
+    while not later:
+        time.sleep(0.001)
+    assert come(later[0]) and _in_threads.waited(later[0]) == ([2], None)
+
+
+def test_a_thread_whose_place_is_taken_ends():
+    """Pieces are handed over once the thread has given its place back. So another one has the place, and no more threads work than may."""
+    crew, later = _in_threads._Crew(lambda piece, stopped: piece, 1), []
+
+    class Places(list):
+        def append(self, place):
+            super().append(place)
+            if not later:
+                later.extend(crew.handed([piece]) for piece in range(2, 50))
+
+    crew._free_places = Places()
+    assert _in_threads.waited(crew.handed([1])) == ([1], None)
+    while len(later) < 48:
+        time.sleep(0.001)
+    assert all(map(come, later))
+    deadline = time.monotonic() + 20
+    while not crew._free_places and time.monotonic() < deadline:
+        time.sleep(0.001)
+    time.sleep(0.02)
+    assert len(crew._free_places) == 1
 
 
 def test_progress_is_told_in_the_thread_of_the_caller(written):

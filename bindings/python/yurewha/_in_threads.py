@@ -56,12 +56,12 @@ def in_threads(
         for piece in pieces:
             yield work(piece, bool)
         return
-    crew: _Crew[_Piece, _Result] = _Crew(work)
+    crew: _Crew[_Piece, _Result] = _Crew(work, threads)
     coming: Deque[Outcome[_Done[_Result]]] = deque()
     left = iter(pieces)
     try:
         for several in iter(lambda: list(islice(left, batch)), []):
-            coming.append(crew.handed(several, threads))
+            coming.append(crew.handed(several))
             if len(coming) > _QUEUED * threads:
                 yield from _results(waited(coming.popleft()))
         while coming:
@@ -83,14 +83,16 @@ def _results(done: _Done[_Result]) -> Iterator[_Result]:
 class _Crew(Generic[_Piece, _Result]):
     """Threads at work. Each ends once nothing is left to do.
 
-    It has no lock, because a handler that raises twice may leave one locked for ever. Lists change in one step.
+    It has no lock, because a handler that raises twice may leave one locked for ever. Lists and ranges change in one step.
     """
 
-    def __init__(self, work: Callable[[_Piece, Stopped], _Result]) -> None:
+    def __init__(self, work: Callable[[_Piece, Stopped], _Result], threads: int) -> None:
         self._work, self._stopped = work, False
         self._left: Deque[Tuple[List[_Piece], Outcome[_Done[_Result]]]] = deque()
-        # One item for each thread that was started and goes on, and for each that is at work.
-        self._started: List[None] = []
+        # The places of threads: those that no thread has had yet, and those that were given back.
+        self._new_places = iter(range(threads))
+        self._free_places: List[None] = []
+        # One item for each thread that is at work.
         self._at_work: List[None] = []
 
     @property
@@ -101,25 +103,30 @@ class _Crew(Generic[_Piece, _Result]):
         """Returns whether nobody waits any more."""
         return self._stopped
 
-    def handed(self, pieces: List[_Piece], threads: int) -> Outcome[_Done[_Result]]:
-        """Hands some pieces over. Starts a thread unless there are so many."""
+    def handed(self, pieces: List[_Piece]) -> Outcome[_Done[_Result]]:
+        """Hands some pieces over. Starts a thread if there is a place for one."""
         outcome: Outcome[_Done[_Result]] = Outcome()
         self._left.append((pieces, outcome))
-        if len(self._started) < threads:
-            self._started.append(None)
+        if self._has_taken_a_place():
             _thread.start_new_thread(self._run, ())
         return outcome
 
+    def _has_taken_a_place(self) -> bool:
+        try:
+            self._free_places.pop()
+        except IndexError:
+            return next(self._new_places, None) is not None
+        return True
+
     def _run(self) -> None:
-        """Works until nothing is left. What is handed over while it ends is seen either here or by whoever hands it over."""
+        """Works until nothing is left. What is handed over while it ends is seen here, or by whoever has taken the place."""
         while True:
             try:
                 pieces, outcome = self._left.popleft()
             except IndexError:
-                self._started.pop()
-                if not self._left:
+                self._free_places.append(None)
+                if not self._left or not self._has_taken_a_place():
                     return
-                self._started.append(None)
             else:
                 outcome.take(partial(self.do, pieces))
 
