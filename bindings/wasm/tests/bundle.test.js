@@ -49,7 +49,7 @@ test("an error has its name in a minified bundle too", async () => {
     bundled("names.mjs", "--platform=browser");
     const made = await import(pathToFileURL(join(folder, "names.mjs")));
     const kinds = Object.keys(errors).filter((name) => name !== "load");
-    assert.equal(kinds.length, 17);
+    assert.equal(kinds.length, 18);
     for (const name of kinds) {
         const hasRule = ["BrokenRule", "InvalidJson", "InvalidLists", "InvalidProof"].includes(name);
         const error = hasRule ? new made[name](1, "a message") : new made[name]("a message");

@@ -385,7 +385,7 @@ test("a text of more bytes than the limit isn't read", async () => {
     for (const [given, limit] of table) {
         const message = `the JSON of a range proof must have at most ${limit} bytes, got a Uint8Array of ${Buffer.byteLength(given)} bytes`;
         for (const it of [given, Buffer.from(given)]) {
-            assert.throws(() => RangeProof.fromJSON(it, limit === 2 ** 24 ? undefined : { limit }), new errors.InvalidText(message));
+            assert.throws(() => RangeProof.fromJSON(it, limit === 2 ** 24 ? undefined : { limit }), new errors.ProofTooLong(message));
         }
     }
     assert.equal(calls, 0);

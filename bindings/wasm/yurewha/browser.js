@@ -12,6 +12,7 @@ export {
     InvalidText,
     OutOfMemory,
     ProofMismatch,
+    ProofTooLong,
     SessionError,
     SessionGap,
     SessionOverlap,

@@ -11,6 +11,7 @@ export class OutOfMemory extends YurewhaError {}
 export class InvalidText extends YurewhaError {}
 export class EmptyHandle extends YurewhaError {}
 export class ProofMismatch extends YurewhaError {}
+export class ProofTooLong extends ProofMismatch {}
 export class Trapped extends YurewhaError {}
 export class SessionError extends YurewhaError {}
 export class SessionOverlap extends SessionError {}
@@ -40,6 +41,7 @@ const NAMED = {
     InvalidText,
     OutOfMemory,
     ProofMismatch,
+    ProofTooLong,
     SessionError,
     SessionGap,
     SessionOverlap,

@@ -670,7 +670,8 @@ export interface RangeProofConstructor {
 
     /** Reads a proof from JSON text, or from its UTF-8 bytes. Time and memory are in proportion to the text, which may be a stranger's.
      * So a text of more than `limit` bytes isn't read. The default is 16 MiB, for ranges of about 180,000 chunks.
-     * @throws InvalidText the text has more bytes than `limit`, or isn't JSON
+     * @throws ProofTooLong the text has more bytes than `limit`
+     * @throws InvalidText otherwise, it isn't JSON
      * @throws InvalidProof the value breaks a rule */
     fromJSON(text: string | Uint8Array, options?: { readonly limit?: U64 }): RangeProof;
 
@@ -898,6 +899,9 @@ export class InvalidProof extends BrokenRule {}
 
 /** A range proof doesn't show a hash, or data isn't that of the range. */
 export class ProofMismatch extends YurewhaError {}
+
+/** A range proof has more bytes than are allowed. It wasn't read. */
+export class ProofTooLong extends ProofMismatch {}
 
 /** The object was freed. */
 export class EmptyHandle extends YurewhaError {}

@@ -2,7 +2,7 @@
 
 import { bytes, mustBe, noJson, text, u64, wrongType } from "./arguments.js";
 import { CHUNK_LENGTH } from "./chunks.js";
-import { InvalidArguments, InvalidProof, InvalidText, STATUS } from "./errors.js";
+import { InvalidArguments, InvalidProof, ProofTooLong, STATUS } from "./errors.js";
 import { HASH_LENGTH, thirtyTwo } from "./hash.js";
 import { LEVEL_LENGTH, packedLevels, unpackedLevels } from "./levels.js";
 import { inspected, showing } from "./shown.js";
@@ -77,7 +77,7 @@ export function makeRangeProof(library, { rawOf }, { Chunks, packedOf }, { opene
         static fromJSON(json, { limit = PROOF_LIMIT } = {}) {
             const most = u64(limit, "a limit");
             const given = typeof json === "string" ? text(json, "JSON") : bytes(json, "JSON");
-            if (given.length > most) throw new InvalidText(mustBe("the JSON of a range proof", `have at most ${most} bytes`, given));
+            if (given.length > most) throw new ProofTooLong(mustBe("the JSON of a range proof", `have at most ${most} bytes`, given));
             const what = noJson(json);
             return written(Math.floor(given.length / NODE_TEXT), [given], (rooms, at) => {
                 library.check(library.call("yurewha_range_proof_from_json", at, BigInt(given.length), ...rooms), what);
