@@ -201,7 +201,8 @@ test("an object that nobody can reach is freed some time later", async () => {
     const before = seen.blocks;
     const kept = new y.Session();
     (() => {
-        for (let k = 0; k < 200; k++) [y.Subtree.fromChunks(true, list(y, 5), false), new y.Session(), openedRange(y)].forEach((it, n) => n + k === 0 && it.free());
+        const made = () => [y.Subtree.fromChunks(true, list(y, 5), false), new y.Session(), y.HashTree.fromChunks(list(y, 5)), openedRange(y)];
+        for (let k = 0; k < 200; k++) made().forEach((it, n) => n + k === 0 && it.free());
     })();
     for (let k = 0; k < 50 && seen.blocks > before + 1; k++) {
         globalThis.gc();
