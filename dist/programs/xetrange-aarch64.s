@@ -1,5 +1,5 @@
 /* Yurewha 1.1.0 for aarch64: the proved program xetrange, as the toolchain compiles it. Made by dist/make, not by hand.
-   The sum of its sources: 971dd13d71edd0ca9664f495d02627de0fe0e25291b1c0f5fa2632467a505400 */
+   The sum of its sources: 63f0f274a205a78686795d71c51a34ca4dc2bd343130cbf0ddf5908db887d010 */
 	.section	.note.gnu.property,"a",@note
 	.p2align	3, 0x0
 	.long	4, 16, 5

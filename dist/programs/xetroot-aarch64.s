@@ -1,5 +1,5 @@
 /* Yurewha 1.1.0 for aarch64: the proved program xetroot, as the toolchain compiles it. Made by dist/make, not by hand.
-   The sum of its sources: b3e1593b77d929324818970ede6abfe9e1a2612870f5b45bcab6516fe5dc47aa */
+   The sum of its sources: 7d7c3d9214e5a4fbe1b57caf723efaeb6d0d749f45cb62a35852858732369b78 */
 	.section	.note.gnu.property,"a",@note
 	.p2align	3, 0x0
 	.long	4, 16, 5

@@ -5,6 +5,7 @@ from __future__ import annotations
 
 import hashlib
 import os
+import re
 from dataclasses import dataclass, replace
 from pathlib import Path
 from typing import Iterator
@@ -21,6 +22,8 @@ TRANSLATED = "x86-64-v4"
 WINDOWS = "windows-"
 #: The crate of the library, and those of the programs.
 LIBRARY = "yurewha_c"
+#: A line of comments in a source.
+COMMENT = re.compile(rb"^[ \t]*(?://|--).*\n", re.M)
 PROGRAMS = ("xetroot", "xetrange")
 
 
@@ -177,10 +180,11 @@ def source_files(top: str) -> Iterator[Path]:
 
 
 def sources_sum(top: str) -> str:
-    """A SHA-256 sum over the names and contents of these files, and the lines of crates.txt of their crates."""
+    """A SHA-256 sum over the names and contents of these files, and the lines of crates.txt of their crates. Lines of comments don't count,
+    so that a comment can be mended without making dist/ again."""
     total = hashlib.sha256()
     for path in sorted(source_files(top)):
-        of_file = hashlib.sha256(path.read_bytes()).hexdigest()
+        of_file = hashlib.sha256(COMMENT.sub(b"", path.read_bytes())).hexdigest()
         total.update(f"{of_file}  {path.relative_to(ROOT)}\n".encode())
     for line in sorted(crates_below(top).values()):
         total.update(f"{line}\n".encode())

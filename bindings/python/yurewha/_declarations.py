@@ -20,8 +20,6 @@ DECLARATIONS: Dict[str, Declaration] = {
     "yurewha_processor_level": ("const char *", ()),
     # Hashes
     "yurewha_data_hash": ("void", ("const uint8_t *", "size_t", "yurewha_hash *")),
-    "yurewha_data_hashes": (
-        "yurewha_status", ("const uint8_t *", "size_t", "const size_t *", "size_t", "yurewha_hash *", "size_t")),
     "yurewha_internal_node_hash": ("void", ("const uint8_t *", "size_t", "yurewha_hash *")),
     "yurewha_hmac": ("void", ("const yurewha_hash *", "const yurewha_hash *", "yurewha_hash *")),
     "yurewha_random_from_seed": ("void", ("uint64_t", "yurewha_hash *")),
@@ -29,6 +27,8 @@ DECLARATIONS: Dict[str, Declaration] = {
     "yurewha_hash_from_bytes": ("void", ("const yurewha_bytes *", "yurewha_hash *")),
     "yurewha_compare": ("int32_t", ("const yurewha_hash *", "const yurewha_hash *")),
     "yurewha_remainder": ("yurewha_status", ("const yurewha_hash *", "uint64_t", "uint64_t *")),
+    "yurewha_data_hashes": (
+        "yurewha_status", ("const uint8_t *", "size_t", "const size_t *", "size_t", "yurewha_hash *", "size_t")),
     "yurewha_hex": ("yurewha_status", ("const yurewha_hash *", "char *", "size_t", "size_t *")),
     "yurewha_from_hex": ("yurewha_status", ("const char *", "size_t", "yurewha_hash *")),
     "yurewha_base64": ("yurewha_status", ("const yurewha_hash *", "char *", "size_t", "size_t *")),
@@ -56,49 +56,51 @@ DECLARATIONS: Dict[str, Declaration] = {
     "yurewha_subtree_total_size": ("yurewha_status", ("yurewha_subtree *", "uint64_t *")),
     "yurewha_subtree_num_nodes": ("yurewha_status", ("yurewha_subtree *", "size_t *")),
     "yurewha_subtree_num_levels": ("yurewha_status", ("yurewha_subtree *", "size_t *")),
+    "yurewha_subtree_final_hash": ("yurewha_status", ("yurewha_subtree *", "yurewha_hash *")),
     "yurewha_subtree_merge_into": ("yurewha_status", ("yurewha_subtree *", "yurewha_subtree *")),
     "yurewha_subtree_merge_into_counted": (
         "yurewha_status", ("yurewha_subtree *", "yurewha_subtree *", "uint64_t *")),
     "yurewha_subtree_merge": ("yurewha_status", ("yurewha_subtree *", "size_t", "yurewha_subtree *")),
-    "yurewha_subtree_final_hash": ("yurewha_status", ("yurewha_subtree *", "yurewha_hash *")),
     "yurewha_subtree_to_json": ("yurewha_status", ("yurewha_subtree *", "char *", "size_t", "size_t *")),
     "yurewha_subtree_from_json": ("yurewha_status", ("const char *", "size_t", "yurewha_subtree *")),
-    "yurewha_subtree_to_flat": (
-        "yurewha_status",
-        ("yurewha_subtree *", "yurewha_level *", "size_t", "yurewha_chunk *", "size_t", "size_t *", "size_t *")),
     "yurewha_subtree_from_flat": (
         "yurewha_status",
         ("bool", "const yurewha_level *", "size_t", "const yurewha_chunk *", "size_t", "bool", "yurewha_subtree *")),
+    "yurewha_subtree_to_flat": (
+        "yurewha_status",
+        ("yurewha_subtree *", "yurewha_level *", "size_t", "yurewha_chunk *", "size_t", "size_t *", "size_t *")),
     "yurewha_subtree_free": ("void", ("yurewha_subtree *",)),
     # Sessions
     "yurewha_session_new": ("yurewha_status", ("yurewha_session *",)),
+    "yurewha_session_new_without_hashes": ("yurewha_status", ("yurewha_session *",)),
     "yurewha_session_put": (
         "yurewha_status", ("yurewha_session *", "uint64_t", "const yurewha_chunk *", "size_t", "uint64_t *")),
     "yurewha_session_taken": ("yurewha_status", ("yurewha_session *", "uint64_t", "bool *")),
+    "yurewha_session_root": ("yurewha_status", ("yurewha_session *", "uint64_t", "yurewha_hash *")),
+    "yurewha_session_finish": ("yurewha_status", ("yurewha_session *", "uint64_t", "yurewha_hash *")),
+    "yurewha_session_copy": ("yurewha_status", ("yurewha_session *", "yurewha_session *")),
     "yurewha_session_num_chunks": ("yurewha_status", ("yurewha_session *", "uint64_t *")),
     "yurewha_session_total_size": ("yurewha_status", ("yurewha_session *", "uint64_t *")),
     "yurewha_session_next_gap": (
         "yurewha_status", ("yurewha_session *", "uint64_t", "uint64_t", "uint64_t *", "uint64_t *")),
+    "yurewha_session_knows": ("yurewha_status", ("yurewha_session *", "const yurewha_hash *", "bool *")),
+    "yurewha_session_knows_each": (
+        "yurewha_status", ("yurewha_session *", "const yurewha_hash *", "size_t", "uint8_t *", "size_t")),
+    "yurewha_session_finish_with_salt": (
+        "yurewha_status", ("yurewha_session *", "uint64_t", "const yurewha_bytes *", "yurewha_hash *")),
     "yurewha_session_num_runs": ("yurewha_status", ("yurewha_session *", "size_t *")),
     "yurewha_session_run": (
         "yurewha_status", ("yurewha_session *", "size_t", "uint64_t *", "yurewha_subtree *")),
     "yurewha_session_run_from": (
         "yurewha_status", ("yurewha_session *", "uint64_t", "uint64_t *", "uint64_t *", "yurewha_subtree *")),
-    "yurewha_session_root": ("yurewha_status", ("yurewha_session *", "uint64_t", "yurewha_hash *")),
-    "yurewha_session_finish": ("yurewha_status", ("yurewha_session *", "uint64_t", "yurewha_hash *")),
-    "yurewha_session_finish_with_salt": (
-        "yurewha_status", ("yurewha_session *", "uint64_t", "const yurewha_bytes *", "yurewha_hash *")),
-    "yurewha_session_copy": ("yurewha_status", ("yurewha_session *", "yurewha_session *")),
     "yurewha_session_free": ("void", ("yurewha_session *",)),
     # Saving a session
     "yurewha_session_push_run": (
         "yurewha_status", ("yurewha_session *", "uint64_t", "uint64_t", "yurewha_subtree *")),
     "yurewha_session_keep_hashes": ("yurewha_status", ("yurewha_session *", "const yurewha_hash *", "size_t")),
+    "yurewha_session_keeps_hashes": ("yurewha_status", ("yurewha_session *", "bool *")),
     "yurewha_session_num_known_hashes": ("yurewha_status", ("yurewha_session *", "size_t *")),
     "yurewha_session_known_hashes": ("yurewha_status", ("yurewha_session *", "yurewha_hash *", "size_t")),
-    "yurewha_session_knows": ("yurewha_status", ("yurewha_session *", "const yurewha_hash *", "bool *")),
-    "yurewha_session_knows_each": (
-        "yurewha_status", ("yurewha_session *", "const yurewha_hash *", "size_t", "uint8_t *", "size_t")),
     # Hash trees
     "yurewha_hash_tree_from_chunks": (
         "yurewha_status", ("const yurewha_chunk *", "size_t", "yurewha_hash_tree *")),

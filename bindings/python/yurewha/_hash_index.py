@@ -3,13 +3,13 @@
 from __future__ import annotations
 
 import struct
-from typing import ClassVar, Iterator, List, Set, Tuple, Type, final
+from typing import ClassVar, Iterator, List, Tuple, Type, final
 
 from ._errors import InUseAtFork, InvalidText, but_got
-from ._guard import Guarded, both_locked
 from ._hash import Hash, HashLike, raw_of
 from ._hashes import Hashes, HashesLike
 from ._saving import Path, read_whole, write_whole
+from ._session import Session
 
 __all__ = ["HashIndex"]
 
@@ -17,36 +17,28 @@ _SIZE = 32
 _EACH = struct.Struct(f"{_SIZE}s")
 
 
-def raws_of(packed: bytes) -> List[bytes]:
-    """Returns the 32 bytes of each hash of a block.
-
-    >>> raws_of(bytes(64)) == [bytes(32), bytes(32)]
-    True
-    """
-    return [raw for raw, in _EACH.iter_unpack(packed)]
-
-
 @final
-class HashIndex(Guarded):
+class HashIndex:
     """A set of hashes, each kept once. It says which hashes of a list are new, as one does before an upload.
 
-    A hash is a `Hash` or its 32 bytes, and a list is what `Hashes` accepts. It takes the memory of a set of `bytes`, about 120 bytes
-    for each hash. Threads may use one index at once.
+    A hash is a `Hash` or its 32 bytes, and a list is what `Hashes` accepts. The library has them, in about 60 bytes each, as it has the
+    hashes of a session. Threads may use one index at once.
 
     >>> index = HashIndex([Hash()])
     >>> index.add(Hash()), index.add(Hash.random_from_seed(1)), Hash() in index, len(index)
     (False, True, True, 2)
     """
 
-    __slots__ = ("_raws",)
+    __slots__ = ("_known", "__weakref__")
 
-    _raws: Set[bytes]
+    # A session that has no chunks, and knows the hashes.
+    _known: Session
     # An instance is mutable, so it has no hash.
     __hash__: ClassVar[None] = None  # type: ignore[assignment]
 
     def __init__(self, hashes: HashesLike = ()) -> None:
-        self._guard()
-        self._raws = set(raws_of(Hashes(hashes).packed))
+        self._known = Session()
+        self._known.keep_hashes(hashes)
 
     def __init_subclass__(cls) -> None:
         raise TypeError("HashIndex can't be subclassed")
@@ -58,11 +50,12 @@ class HashIndex(Guarded):
         >>> index.add(Hash()), index.add(Hash())
         (True, False)
         """
-        raw = hash_._raw if type(hash_) is Hash else raw_of(hash_, "hash")
-        with self._locked():
-            before = len(self._raws)
-            self._raws.add(raw)
-            return len(self._raws) > before
+        raw, known = raw_of(hash_, "hash"), self._known
+        with known._locked():
+            if known._knows(raw):
+                return False
+            known._keep(raw, 1)
+            return True
 
     def add_all(self, hashes: HashesLike) -> int:
         """Adds the hashes of a list. Returns how many of them are new, each counted once. After an error nothing was added.
@@ -70,16 +63,10 @@ class HashIndex(Guarded):
         >>> HashIndex([Hash()]).add_all([Hash(), Hash.random_from_seed(1), Hash.random_from_seed(1)])
         1
         """
-        raws = raws_of(Hashes(hashes).packed)
-        with self._locked():
-            before = len(self._raws)
-            self._raws.update(raws)
-            return len(self._raws) - before
+        return self._known._learned(hashes)
 
     def __contains__(self, hash_: HashLike) -> bool:
-        raw = hash_._raw if type(hash_) is Hash else raw_of(hash_, "hash")
-        with self._locked():
-            return raw in self._raws
+        return hash_ in self._known
 
     def contains(self, hashes: HashesLike) -> List[bool]:
         """Returns of each hash of a list whether it is in the index. `hashes[index.contains(hashes)]` has those that are.
@@ -87,9 +74,7 @@ class HashIndex(Guarded):
         >>> HashIndex([Hash()]).contains([Hash(), Hash.random_from_seed(1)])
         [True, False]
         """
-        raws = raws_of(Hashes(hashes).packed)
-        with self._locked():
-            return list(map(self._raws.__contains__, raws))
+        return self._known.contains(hashes)
 
     def new(self, hashes: HashesLike) -> Hashes:
         """Returns the hashes of a list that aren't in the index, each once, in their order.
@@ -97,9 +82,9 @@ class HashIndex(Guarded):
         >>> list(HashIndex([Hash()]).new([Hash(), Hash.random_from_seed(1)])) == [Hash.random_from_seed(1)]
         True
         """
-        raws = dict.fromkeys(raws_of(Hashes(hashes).packed))
-        with self._locked():
-            return Hashes._of(b"".join(raw for raw in raws if raw not in self._raws))
+        listed = Hashes(hashes)
+        fresh = (raw for (raw,), is_known in zip(_EACH.iter_unpack(listed.packed), self._known.contains(listed)) if not is_known)
+        return Hashes._of(b"".join(dict.fromkeys(fresh)))
 
     def hashes(self) -> Hashes:
         """Returns all hashes, in no particular order.
@@ -107,12 +92,10 @@ class HashIndex(Guarded):
         >>> list(HashIndex([Hash()]).hashes()) == [Hash()]
         True
         """
-        with self._locked():
-            return Hashes._of(b"".join(self._raws))
+        return self._known.known_hashes()
 
     def __len__(self) -> int:
-        with self._locked():
-            return len(self._raws)
+        return self._known._num_known()
 
     def __iter__(self) -> Iterator[Hash]:
         return iter(self.hashes())
@@ -120,9 +103,7 @@ class HashIndex(Guarded):
     def __eq__(self, other: object) -> bool:
         if not isinstance(other, HashIndex):
             return NotImplemented
-        first, second = both_locked(self, other)
-        with first, second:
-            return self._raws == other._raws
+        return self._known == other._known
 
     def save(self, path: Path) -> None:
         """Writes the index to a file, whole or not at all: an error or a crash leaves the file that was there before.

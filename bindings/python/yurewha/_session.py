@@ -3,17 +3,13 @@
 from __future__ import annotations
 
 import ctypes
-import struct
-import threading
-from contextlib import suppress
 from typing import Callable, ClassVar, Iterable, Iterator, List, Optional, Tuple, Type, Union, final
 
 from ._chunks import Chunks, ChunksLike
 from ._declarations import STATUSES
-from ._errors import InvalidArguments, ReentrantCall, SessionGap, SessionOverlap, SessionSizes, YurewhaError, but_got, error_of
+from ._errors import InvalidArguments, SessionGap, SessionOverlap, SessionSizes, YurewhaError, but_got, error_of
 from ._guard import Guarded, both_locked
 from ._hash import Hash, HashLike, checked_32, checked_bool, checked_u64, raw_of
-from ._hash_index import raws_of
 from ._hashes import Hashes, HashesLike
 from ._interrupts import MANY_NODES, interruptible
 from ._library import LONG_CHUNKS, LONG_NODES, CChunk, CHash, CSession, calls_for, long, short
@@ -24,29 +20,16 @@ from ._types import BytesLike
 
 __all__ = ["Run", "Session"]
 
-_CHUNK = struct.Struct("<32sQ")
 _CHUNK_SIZE = ctypes.sizeof(CChunk)
 _HASH_SIZE = ctypes.sizeof(CHash)
 _Restore = Callable[..., "Session"]
-
-#: A session that keeps no hashes forgets those that it has once so many chunks were put.
-_FORGOTTEN = 1 << 16
-
-
-def raws_of_chunks(packed: bytes) -> List[bytes]:
-    """Returns the 32 bytes of the hash of each chunk of a block.
-
-    >>> raws_of_chunks(bytes(40)) == [bytes(32)]
-    True
-    """
-    return [raw for raw, _ in _CHUNK.iter_unpack(packed)]
 
 
 def _gap(gaps: List[range], total: int, beyond: Optional[Span]) -> SessionGap:
     """Returns the error that says why the taken positions aren't those below the total."""
     if gaps:
         gap, position = gaps[0], gaps[0].start
-        missing = f"position {position} has" if len(gap) == 1 else f"the positions from {position} to {gap.stop - 1} have"
+        missing = f"position {position} has" if gap.stop - position == 1 else f"the positions from {position} to {gap.stop - 1} have"
         text = f"{missing} no chunk" + (f", and neither have others in {len(gaps) - 1} more gaps" if len(gaps) > 1 else "")
     else:
         position = total if beyond is None else max(total, beyond[0])
@@ -140,13 +123,9 @@ class Session(Guarded):
     each run, and so does what is saved of it. It then takes each hash of a put for new.
     """
 
-    __slots__ = ("_handle", "_changes", "_keeps", "_put_since", "_forgetting")
+    __slots__ = ("_handle", "_changes")
 
     _handle: CSession
-    # Whether hashes are kept. If they aren't, how many chunks were put since they were last forgotten; and what is held meanwhile.
-    _keeps: bool
-    _put_since: int
-    _forgetting: threading.Lock
     # How many calls that change the session began. A call that reads several times notices by it that a signal handler made
     # one. Then it reads a copy, which no handler changes.
     _changes: int
@@ -158,9 +137,8 @@ class Session(Guarded):
         self = object.__new__(cls)
         self._guard()
         self._handle = CSession()
-        self._changes = self._put_since = 0
-        self._keeps, self._forgetting = keeps, threading.Lock()
-        status = short.yurewha_session_new(self._handle)
+        self._changes = 0
+        status = (short.yurewha_session_new if keeps else short.yurewha_session_new_without_hashes)(self._handle)
         if status:
             raise error_of(status)
         return self
@@ -193,25 +171,13 @@ class Session(Guarded):
         place = checked_u64(first, "position")
         packed = Chunks(chunks).packed
         count = len(packed) // _CHUNK_SIZE
-        nested = self._is_in_a_call()
-        new = interruptible(lambda: self._put(place, packed, count), count >= MANY_NODES, self)
-        if not self._keeps and not nested:
-            self._forget()
-        return new
-
-    def _is_in_a_call(self) -> bool:
-        """Returns whether a signal handler asks this in the middle of a call on the session: its thread has the lock."""
-        return self._lock._is_owned()  # type: ignore[attr-defined, no-any-return]
+        return interruptible(lambda: self._put(place, packed, count), count >= MANY_NODES, self)
 
     def _put(self, place: int, packed: bytes, count: int) -> int:
         out = ctypes.c_uint64()
-        # The set is made before the put, because nothing undoes it if there is no memory for the set.
-        distinct = 0 if self._keeps else len(set(raws_of_chunks(packed)))
         with self._locked():
-            self._refuse_reentry()
             self._changes += 1
             status = calls_for(count, LONG_CHUNKS).yurewha_session_put(self._handle, place, packed, count, out)
-            self._put_since += 0 if status else count
             if status == STATUSES["YUREWHA_SESSION_OVERLAP"]:
                 run = None if self.taken(place) else self._run_from(place)
                 raise SessionOverlap(f"position {run[0] if run else place} is taken")
@@ -219,29 +185,7 @@ class Session(Guarded):
             raise SessionSizes("the sizes of all chunks add up to more than 2^64 - 1")
         if status:
             raise error_of(status)
-        return out.value if self._keeps else distinct
-
-    def _refuse_reentry(self) -> None:
-        if self._forgetting.locked():
-            raise ReentrantCall("a signal handler changed a session that keeps no hashes while it forgot some")
-
-    def _forget(self) -> None:
-        """Forgets hashes, now and then: a session is made again from its runs, because no export forgets hashes.
-
-        No handler may do so, since the call around it has the handle. If there is no memory for it, a later put does it.
-        """
-        with self._locked():
-            if self._put_since < _FORGOTTEN:
-                return
-            with self._forgetting, suppress(MemoryError):
-                fresh = Session()
-                for first, end, subtree in self._walk():
-                    fresh._push("the run", first, end, subtree)
-                # Each object has one handle at each moment, or none is freed: a handler that raises between leaves one too many.
-                old, new, fresh._handle = self._handle, fresh._handle, CSession()
-                self._handle = new
-                self._free(old)
-                self._put_since = 0
+        return out.value
 
     def __contains__(self, hash_: HashLike) -> bool:
         """Returns whether the session knows a hash: whether a put had it, or it was kept. A session that keeps none knows none.
@@ -250,9 +194,10 @@ class Session(Guarded):
         >>> Hash() in session, Hash.random_from_seed(1) in session
         (True, False)
         """
-        raw, out = raw_of(hash_, "hash"), ctypes.c_bool()
-        if not self._keeps:
-            return False
+        return self._knows(raw_of(hash_, "hash"))
+
+    def _knows(self, raw: bytes) -> bool:
+        out = ctypes.c_bool()
         with self._locked():
             status = short.yurewha_session_knows(self._handle, raw, out)
         if status:
@@ -268,8 +213,6 @@ class Session(Guarded):
         """
         packed = Hashes(hashes).packed
         count = len(packed) // _HASH_SIZE
-        if not self._keeps:
-            return [False] * count
         return interruptible(lambda: self._contains(packed, count), count >= MANY_NODES, self)
 
     def _contains(self, packed: bytes, count: int) -> List[bool]:
@@ -486,22 +429,22 @@ class Session(Guarded):
         >>> other.put(4, [(Hash(), 1)]), one.taken(4), other.taken(4)
         (0, False, True)
         """
-        return interruptible(self._copy, self._knows_many(), self)
+        return interruptible(self._copy, self._num_known() >= MANY_NODES, self)
 
-    def _knows_many(self) -> bool:
-        count = ctypes.c_size_t()
+    def _num_known(self) -> int:
+        out = ctypes.c_size_t()
         with self._locked():
-            short.yurewha_session_num_known_hashes(self._handle, count)
-        return count.value >= MANY_NODES
-
-    def _copy(self) -> Session:
-        other, count = Session(), ctypes.c_size_t()
-        with self._locked():
-            short.yurewha_session_num_known_hashes(self._handle, count)
-            status = calls_for(count.value, LONG_CHUNKS).yurewha_session_copy(self._handle, other._handle)
+            status = short.yurewha_session_num_known_hashes(self._handle, out)
         if status:
             raise error_of(status)
-        other._keeps, other._put_since = self._keeps, self._put_since
+        return out.value
+
+    def _copy(self) -> Session:
+        other = Session()
+        with self._locked():
+            status = calls_for(self._num_known(), LONG_CHUNKS).yurewha_session_copy(self._handle, other._handle)
+        if status:
+            raise error_of(status)
         return other
 
     def __eq__(self, other: object) -> bool:
@@ -512,7 +455,8 @@ class Session(Guarded):
         one, two = self.copy(), other.copy()
         if list(one._walk()) != list(two._walk()):
             return False
-        return set(raws_of(one.known_hashes().packed)) == set(raws_of(two.known_hashes().packed))
+        known = one.known_hashes()
+        return len(known) == len(two.known_hashes()) and all(two.contains(known))
 
     def __copy__(self) -> Session:
         return self.copy()
@@ -551,7 +495,6 @@ class Session(Guarded):
     def _pushed(self, what: str, place: int, after: int, subtree: Subtree) -> None:
         one, other = both_locked(self, subtree)
         with one, other:
-            self._refuse_reentry()
             self._changes += 1
             calls = calls_for(subtree._nodes(), LONG_NODES)
             status = calls.yurewha_session_push_run(self._handle, place, after, subtree._handle)
@@ -568,18 +511,40 @@ class Session(Guarded):
         >>> session.put(0, [(Hash(), 1), (Hash.random_from_seed(1), 1)])
         1
         """
+        self._learned(hashes)
+
+    def _learned(self, hashes: HashesLike) -> int:
+        """Keeps hashes. Returns how many of them are new, each counted once."""
         packed = Hashes(hashes).packed
         count = len(packed) // _HASH_SIZE
-        if count and not self._keeps:
-            raise InvalidArguments("this session keeps no hashes")
-        interruptible(lambda: self._keep(packed, count), count >= MANY_NODES, self)
+
+        def work() -> int:
+            with self._locked():
+                before = self._num_known()
+                self._keep(packed, count)
+                return self._num_known() - before
+        return interruptible(work, count >= MANY_NODES, self)
 
     def _keep(self, packed: bytes, count: int) -> None:
         with self._locked():
             self._changes += 1
             status = calls_for(count, LONG_CHUNKS).yurewha_session_keep_hashes(self._handle, packed, count)
         if status:
+            raise error_of(status, "this session keeps no hashes")
+
+    @property
+    def keeps_hashes(self) -> bool:
+        """Whether this session keeps the hashes of its chunks.
+
+        >>> Session().keeps_hashes, Session(keep_hashes=False).keeps_hashes
+        (True, False)
+        """
+        out = ctypes.c_bool()
+        with self._locked():
+            status = short.yurewha_session_keeps_hashes(self._handle, out)
+        if status:
             raise error_of(status)
+        return out.value
 
     def known_hashes(self) -> Hashes:
         """Returns the hashes that this session knows, each once, in no particular order.
@@ -590,9 +555,7 @@ class Session(Guarded):
         >>> list(session.known_hashes()) == [Hash()]
         True
         """
-        if not self._keeps:
-            return Hashes()
-        return interruptible(self._all_known_hashes, self._knows_many(), self)
+        return interruptible(self._all_known_hashes, self._num_known() >= MANY_NODES, self)
 
     def _all_known_hashes(self) -> Hashes:
         with self._locked():
@@ -657,7 +620,7 @@ class Session(Guarded):
         """
         with_hashes, saved = checked_bool(hashes, "hashes"), self.copy()
         known = saved.known_hashes() if with_hashes else Hashes()
-        write_whole(path, b"session", body_of(saved._walk(), known, saved._keeps))
+        write_whole(path, b"session", body_of(saved._walk(), known, saved.keeps_hashes))
 
     @staticmethod
     def load(path: Path) -> Session:
@@ -687,7 +650,7 @@ class Session(Guarded):
         # The runs of a pickle are checked when it is read, and so are their subtrees.
         saved = self.copy()
         runs, hashes = tuple(saved._walk()), saved.known_hashes()
-        return Session._restored, (runs, hashes) if saved._keeps else (runs, hashes, False)
+        return Session._restored, (runs, hashes) if saved.keeps_hashes else (runs, hashes, False)
 
     def __repr__(self) -> str:
         try:

@@ -140,6 +140,13 @@ extern "C" {
     ) -> yurewha_status;
     pub fn yurewha_processor_level() -> *const c_char;
     pub fn yurewha_data_hash(bytes: *const u8, length: usize, hash: *mut yurewha_hash);
+    pub fn yurewha_internal_node_hash(bytes: *const u8, length: usize, hash: *mut yurewha_hash);
+    pub fn yurewha_hmac(hash: *const yurewha_hash, key: *const yurewha_hash, result: *mut yurewha_hash);
+    pub fn yurewha_random_from_seed(seed: u64, hash: *mut yurewha_hash);
+    pub fn yurewha_hash_to_bytes(hash: *const yurewha_hash, bytes: *mut yurewha_bytes);
+    pub fn yurewha_hash_from_bytes(bytes: *const yurewha_bytes, hash: *mut yurewha_hash);
+    pub fn yurewha_compare(first: *const yurewha_hash, second: *const yurewha_hash) -> i32;
+    pub fn yurewha_remainder(hash: *const yurewha_hash, divisor: u64, remainder: *mut u64) -> yurewha_status;
     pub fn yurewha_data_hashes(
         bytes: *const u8,
         length: usize,
@@ -148,13 +155,6 @@ extern "C" {
         hashes: *mut yurewha_hash,
         count: usize,
     ) -> yurewha_status;
-    pub fn yurewha_internal_node_hash(bytes: *const u8, length: usize, hash: *mut yurewha_hash);
-    pub fn yurewha_hmac(hash: *const yurewha_hash, key: *const yurewha_hash, result: *mut yurewha_hash);
-    pub fn yurewha_random_from_seed(seed: u64, hash: *mut yurewha_hash);
-    pub fn yurewha_hash_to_bytes(hash: *const yurewha_hash, bytes: *mut yurewha_bytes);
-    pub fn yurewha_hash_from_bytes(bytes: *const yurewha_bytes, hash: *mut yurewha_hash);
-    pub fn yurewha_compare(first: *const yurewha_hash, second: *const yurewha_hash) -> i32;
-    pub fn yurewha_remainder(hash: *const yurewha_hash, divisor: u64, remainder: *mut u64) -> yurewha_status;
     pub fn yurewha_hex(hash: *const yurewha_hash, text: *mut c_char, room: usize, length: *mut usize)
         -> yurewha_status;
     pub fn yurewha_from_hex(text: *const c_char, length: usize, hash: *mut yurewha_hash) -> yurewha_status;
@@ -202,6 +202,7 @@ extern "C" {
     pub fn yurewha_subtree_total_size(subtree: *mut yurewha_subtree, size: *mut u64) -> yurewha_status;
     pub fn yurewha_subtree_num_nodes(subtree: *mut yurewha_subtree, count: *mut usize) -> yurewha_status;
     pub fn yurewha_subtree_num_levels(subtree: *mut yurewha_subtree, count: *mut usize) -> yurewha_status;
+    pub fn yurewha_subtree_final_hash(subtree: *mut yurewha_subtree, hash: *mut yurewha_hash) -> yurewha_status;
     pub fn yurewha_subtree_merge_into(subtree: *mut yurewha_subtree, other: *mut yurewha_subtree) -> yurewha_status;
     pub fn yurewha_subtree_merge_into_counted(
         subtree: *mut yurewha_subtree,
@@ -213,7 +214,6 @@ extern "C" {
         count: usize,
         merged: *mut yurewha_subtree,
     ) -> yurewha_status;
-    pub fn yurewha_subtree_final_hash(subtree: *mut yurewha_subtree, hash: *mut yurewha_hash) -> yurewha_status;
     pub fn yurewha_subtree_to_json(
         subtree: *mut yurewha_subtree,
         text: *mut c_char,
@@ -225,15 +225,6 @@ extern "C" {
         length: usize,
         subtree: *mut yurewha_subtree,
     ) -> yurewha_status;
-    pub fn yurewha_subtree_to_flat(
-        subtree: *mut yurewha_subtree,
-        levels: *mut yurewha_level,
-        level_room: usize,
-        nodes: *mut yurewha_chunk,
-        node_room: usize,
-        level_count: *mut usize,
-        node_count: *mut usize,
-    ) -> yurewha_status;
     pub fn yurewha_subtree_from_flat(
         at_start: bool,
         levels: *const yurewha_level,
@@ -243,8 +234,18 @@ extern "C" {
         at_end: bool,
         subtree: *mut yurewha_subtree,
     ) -> yurewha_status;
+    pub fn yurewha_subtree_to_flat(
+        subtree: *mut yurewha_subtree,
+        levels: *mut yurewha_level,
+        level_room: usize,
+        nodes: *mut yurewha_chunk,
+        node_room: usize,
+        level_count: *mut usize,
+        node_count: *mut usize,
+    ) -> yurewha_status;
     pub fn yurewha_subtree_free(subtree: *mut yurewha_subtree);
     pub fn yurewha_session_new(session: *mut yurewha_session) -> yurewha_status;
+    pub fn yurewha_session_new_without_hashes(session: *mut yurewha_session) -> yurewha_status;
     pub fn yurewha_session_put(
         session: *mut yurewha_session,
         first: u64,
@@ -253,6 +254,10 @@ extern "C" {
         new_hashes: *mut u64,
     ) -> yurewha_status;
     pub fn yurewha_session_taken(session: *mut yurewha_session, position: u64, taken: *mut bool) -> yurewha_status;
+    pub fn yurewha_session_root(session: *mut yurewha_session, total: u64, root: *mut yurewha_hash) -> yurewha_status;
+    pub fn yurewha_session_finish(session: *mut yurewha_session, total: u64, hash: *mut yurewha_hash)
+        -> yurewha_status;
+    pub fn yurewha_session_copy(session: *mut yurewha_session, copy: *mut yurewha_session) -> yurewha_status;
     pub fn yurewha_session_num_chunks(session: *mut yurewha_session, count: *mut u64) -> yurewha_status;
     pub fn yurewha_session_total_size(session: *mut yurewha_session, size: *mut u64) -> yurewha_status;
     pub fn yurewha_session_next_gap(
@@ -261,6 +266,24 @@ extern "C" {
         total: u64,
         first: *mut u64,
         end: *mut u64,
+    ) -> yurewha_status;
+    pub fn yurewha_session_knows(
+        session: *mut yurewha_session,
+        hash: *const yurewha_hash,
+        known: *mut bool,
+    ) -> yurewha_status;
+    pub fn yurewha_session_knows_each(
+        session: *mut yurewha_session,
+        hashes: *const yurewha_hash,
+        count: usize,
+        known: *mut u8,
+        known_count: usize,
+    ) -> yurewha_status;
+    pub fn yurewha_session_finish_with_salt(
+        session: *mut yurewha_session,
+        total: u64,
+        salt: *const yurewha_bytes,
+        hash: *mut yurewha_hash,
     ) -> yurewha_status;
     pub fn yurewha_session_num_runs(session: *mut yurewha_session, count: *mut usize) -> yurewha_status;
     pub fn yurewha_session_run(
@@ -276,16 +299,6 @@ extern "C" {
         end: *mut u64,
         range: *mut yurewha_subtree,
     ) -> yurewha_status;
-    pub fn yurewha_session_root(session: *mut yurewha_session, total: u64, root: *mut yurewha_hash) -> yurewha_status;
-    pub fn yurewha_session_finish(session: *mut yurewha_session, total: u64, hash: *mut yurewha_hash)
-        -> yurewha_status;
-    pub fn yurewha_session_finish_with_salt(
-        session: *mut yurewha_session,
-        total: u64,
-        salt: *const yurewha_bytes,
-        hash: *mut yurewha_hash,
-    ) -> yurewha_status;
-    pub fn yurewha_session_copy(session: *mut yurewha_session, copy: *mut yurewha_session) -> yurewha_status;
     pub fn yurewha_session_free(session: *mut yurewha_session);
     pub fn yurewha_session_push_run(
         session: *mut yurewha_session,
@@ -298,23 +311,12 @@ extern "C" {
         hashes: *const yurewha_hash,
         count: usize,
     ) -> yurewha_status;
+    pub fn yurewha_session_keeps_hashes(session: *mut yurewha_session, keeps: *mut bool) -> yurewha_status;
     pub fn yurewha_session_num_known_hashes(session: *mut yurewha_session, count: *mut usize) -> yurewha_status;
     pub fn yurewha_session_known_hashes(
         session: *mut yurewha_session,
         hashes: *mut yurewha_hash,
         count: usize,
-    ) -> yurewha_status;
-    pub fn yurewha_session_knows(
-        session: *mut yurewha_session,
-        hash: *const yurewha_hash,
-        known: *mut bool,
-    ) -> yurewha_status;
-    pub fn yurewha_session_knows_each(
-        session: *mut yurewha_session,
-        hashes: *const yurewha_hash,
-        count: usize,
-        known: *mut u8,
-        known_count: usize,
     ) -> yurewha_status;
     pub fn yurewha_hash_tree_from_chunks(
         chunks: *const yurewha_chunk,

@@ -437,8 +437,8 @@ export interface FlatInput {
  */
 export interface Session extends Freed {
     /**
-     * Puts chunks at the positions from `first` on. Returns how many of their hashes no earlier successful put had, and counts each
-     * hash once. With no chunks it returns 0 and changes nothing.
+     * Puts chunks at the positions from `first` on. Returns how many of their hashes the session didn't know, and counts each hash
+     * once. With no chunks it returns 0 and changes nothing.
      * @throws SessionOverlap one of the positions is taken
      * @throws SessionPositions otherwise, `first` plus the number of chunks is more than 2^64 - 1
      * @throws SessionSizes otherwise, the sizes of all chunks add up to more than 2^64 - 1
@@ -483,8 +483,12 @@ export interface Session extends Freed {
      */
     pushRun(first: U64, end: U64, range: Subtree): void;
 
-    /** Keeps hashes, as if an earlier put had had them. The session then knows them. */
+    /** Keeps hashes, as if an earlier put had had them. The session then knows them.
+     * @throws InvalidArguments there are hashes, and the session keeps none */
     keepHashes(hashes: Iterable<Hash>): void;
+
+    /** Whether this session keeps the hashes of its chunks. */
+    readonly keepsHashes: boolean;
 
     /** Returns whether this session knows a hash: whether a put had it, or it was kept. */
     knows(hash: Hash): boolean;
@@ -510,13 +514,19 @@ export interface Session extends Freed {
      * @throws SessionGap the taken positions aren't exactly those from 0 to `total` - 1 */
     finish(total: U64, salt?: Uint8Array): Hash;
 
-    /** Returns a session with the same chunks, which knows the same hashes. */
+    /** Returns a session with the same chunks, which knows the same hashes, and keeps hashes if this one does. */
     clone(): Session;
+}
+
+export interface SessionOptions {
+    /** Whether the session keeps the hashes of its chunks, as it does by default. If it doesn't, its memory is in proportion to its
+     * number of runs, and it counts as new each hash of a put, once. */
+    readonly keepHashes?: boolean;
 }
 
 export interface SessionConstructor {
     /** Makes a session without chunks. */
-    new (): Session;
+    new (options?: SessionOptions): Session;
     readonly prototype: Session;
 
     /** Reads what `toJSON` returned here, or what Rust or Python wrote. There may be other members. That a run has as many chunks as
@@ -525,11 +535,11 @@ export interface SessionConstructor {
      * @throws InvalidJson a subtree breaks a rule
      * @throws InvalidArguments a run has no position, is marked at an end, or leaves no gap after the runs before it
      * @throws SizeOverflow otherwise, the sizes of all chunks add up to more than 2^64 - 1 */
-    fromJSON(json: string | Uint8Array): Session;
+    fromJSON(json: string | Uint8Array, options?: SessionOptions): Session;
 
-    /** Makes a session of what `saved` returned, perhaps in another instance. Errors are those of `Subtree.fromJSON`,
-     * `Hash.fromHex` and `pushRun`. */
-    restore(saved: SavedSession): Session;
+    /** Makes a session of what `saved` returned, perhaps in another instance. A session that keeps no hashes leaves those that were
+     * saved out. Errors are those of `Subtree.fromJSON`, `Hash.fromHex` and `pushRun`. */
+    restore(saved: SavedSession, options?: SessionOptions): Session;
 }
 
 /** A run of adjacent taken positions: the first one, the one after the last, and the subtree of the chunks. */

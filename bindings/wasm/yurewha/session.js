@@ -8,11 +8,19 @@ import { HASH_LENGTH, thirtyTwo } from "./hash.js";
 import { savedOf, textOf } from "./session_json.js";
 import { inspected, showing } from "./shown.js";
 
+const KEEPS_NONE = "this session keeps no hashes";
 const decoder = new TextDecoder();
 const unfit = (first, end) =>
     `a run must have a position, no mark at an end, and a gap after the runs before it, got that from ${first} up to ${end}`;
 const noHash = (first, end) =>
     end - first === 1n ? `position ${first} has no chunk` : `the positions from ${first} to ${end - 1n} have no chunk`;
+
+/** Whether a session keeps hashes, by the options that it is made with. */
+function keepsHashes(options) {
+    const { keepHashes = true } = options ?? {};
+    if (typeof keepHashes !== "boolean") throw wrongType("`keepHashes`", "be a boolean", keepHashes);
+    return keepHashes;
+}
 
 /** The lists of a saved session, and the members of each run. */
 function listsOf(saved) {
@@ -36,14 +44,15 @@ export function makeSession(library, { Hash, rawOf, result, unpacked }, { packed
     class Session {
         #handle;
 
-        constructor(handle) {
-            const fresh = (made) => library.check(library.call("yurewha_session_new", made));
-            this.#handle = handle instanceof Handle ? handle : handles.make(fresh);
+        constructor(options) {
+            const name = () => (keepsHashes(options) ? "yurewha_session_new" : "yurewha_session_new_without_hashes");
+            const fresh = (made) => library.check(library.call(name(), made));
+            this.#handle = options instanceof Handle ? options : handles.make(fresh);
             handles.watch(this, this.#handle);
             show(this);
         }
 
-        static fromJSON(json) {
+        static fromJSON(json, options) {
             // It is read twice, and nobody may change it meanwhile.
             const given = typeof json === "string" ? json : bytes(json, "JSON").slice();
             try {
@@ -52,17 +61,18 @@ export function makeSession(library, { Hash, rawOf, result, unpacked }, { packed
                 // The module says what is JSON, and for that reads a subtree.
                 if (!(error instanceof InvalidJson)) throw error;
             }
-            return Session.restore(savedOf(typeof given === "string" ? given : decoder.decode(given)));
+            return Session.restore(savedOf(typeof given === "string" ? given : decoder.decode(given)), options);
         }
 
-        static restore(saved) {
+        static restore(saved, options) {
             const [runs, knownHashes] = listsOf(saved);
-            const session = new Session();
+            const session = new Session(options);
             try {
                 for (const [first, end, json] of runs) {
                     session.#pushSaved(decimal(first, "a position"), decimal(end, "a position"), Subtree.fromJSON(json));
                 }
-                session.keepHashes(knownHashes.map((hex) => Hash.fromHex(hex)));
+                const hashes = knownHashes.map((hex) => Hash.fromHex(hex));
+                if (session.keepsHashes) session.keepHashes(hashes);
             } catch (error) {
                 session.free();
                 throw error;
@@ -185,7 +195,15 @@ export function makeSession(library, { Hash, rawOf, result, unpacked }, { packed
             listed.forEach((hash, k) => packed.set(rawOf(hash, `hash ${k}`), HASH_LENGTH * k));
             const { pointer } = this.#handle;
             library.over([packed], (at) => {
-                library.check(library.call("yurewha_session_keep_hashes", pointer, at, BigInt(listed.length)));
+                library.check(library.call("yurewha_session_keep_hashes", pointer, at, BigInt(listed.length)), KEEPS_NONE);
+            });
+        }
+
+        get keepsHashes() {
+            const { pointer } = this.#handle;
+            return library.over([1], (out) => {
+                library.check(library.call("yurewha_session_keeps_hashes", pointer, out));
+                return library.truth(out);
             });
         }
 

@@ -438,6 +438,19 @@ fn twice_as_many_puts_ask_for_little_more_than_twice_the_bytes(rt: HostRuntime) 
     );
 }
 
+#[test]
+fn forgotten_hashes_leave_no_room(rt: HostRuntime) {
+    let alloc = counting(rt.alloc());
+    let chunks = chunks(&rt, rt.alloc(), DRAWN, Cuts::Nowhere);
+    let mut session: Session<&Counting> = SessionOf::new_in(&alloc).expect(&rt, "a session");
+    session.keep_hashes(&chunks).expect(&rt, "memory");
+    session.forget_hashes(&alloc);
+    alloc.grant(u32::MAX);
+    session.try_clone().expect(&rt, "memory");
+    let asked = alloc.granted();
+    assert!(rt; asked.bytes <= NODE, "{asked:?}");
+}
+
 // More than a thousand runs.
 const RUNS: u64 = 1_500;
 

@@ -58,6 +58,13 @@ impl<A: Allocator + Clone> SeenHashes<A> {
         })
     }
 
+    /// Forgets all hashes, and frees their memory. Hashes that are kept later take memory of `alloc`.
+    pub fn forget_all(&mut self, alloc: A)
+        ensures { Knows self.new [] }
+    {
+        self.hashes = PassThroughHashMap::new(alloc);
+    }
+
     /// Returns whether a hash is known. It allocates nothing.
     pub fn contains(&self, hash: &MerkleHash) -> bool
         ensures { (known : List Hash) → Knows self.now known → result ≡ is_among known hash.now }

@@ -379,6 +379,16 @@ impl<C: ChunkRange> SessionOf<C> {
         self.kept.contains(hash)
     }
 
+    /// Forgets all known hashes, and frees their memory, so that each hash counts as new again. The chunks and their
+    /// positions are unchanged. Hashes that are kept later take memory of `alloc`.
+    pub fn forget_hashes(&mut self, alloc: C::Alloc)
+        ensures forgotten { Knows self.new.kept [] }
+        ensures runs { self.new.runs ≡ self.old.runs }
+        ensures size { self.new.size ≡ self.old.size }
+    {
+        self.kept.forget_all(alloc);
+    }
+
     /// Returns the number of known hashes: those that puts had and those that [`SessionOf::keep_hashes`] kept, each
     /// counted once. It allocates nothing.
     pub fn num_known_hashes(&self) -> usize

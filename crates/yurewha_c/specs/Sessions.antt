@@ -51,7 +51,10 @@ CanPush kept run = CanFollow {A = Global} subtrees kept.session.runs run
 
 -- a session after a run is added to its end
 abbrev pub pushed : KeptSession → PlacedRun Subtree → KeptSession
-pushed kept run = record { session = with_last {A = Global} subtrees kept.session run }
+pushed kept run = record {
+  session = with_last {A = Global} subtrees kept.session run;
+  keeps_hashes = kept.keeps_hashes;
+}
 
 -- the status of a call that adds a run to the end of a session; if an allocation fails, it may be `memory` instead of
 -- `arguments` or `sizes`

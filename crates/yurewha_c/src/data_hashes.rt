@@ -36,8 +36,10 @@ fn write_hashes(bytes: &[u8], offsets: &[usize], hashes: &mut [Hash])
 /// `offsets[i + 1]`, so there is one more offset than there are chunks. It allocates nothing.
 ///
 /// - `DONE`: the hashes are written.
-/// - `ARGUMENTS`: there isn't exactly one more offset than hashes, an offset is less than the one before it, or an
-///   offset is greater than the length of the buffer. Nothing is written.
+/// - `ARGUMENTS`: if and only if there isn't exactly one more offset than hashes, an offset is less than the one before
+///   it, or an offset is greater than the length of the buffer.
+///
+/// Since 1.1.
 #[unsafe(no_mangle)]
 pub extern "C" fn yurewha_data_hashes(bytes: &[u8], offsets: &[usize], hashes: &mut [Hash]) -> u32
     ensures done { (result ≡ DONE) ↔ AreOffsets bytes.now offsets.now (length hashes.old) }

@@ -12,11 +12,14 @@ use std::alloc::Global;
 use xet_hash::data_hash::{DataHash, HashTextError};
 use xet_hash::laws::hash_reads_back_from_base64_text;
 
-/// Writes the hex text of a hash to the beginning of `room`. The text is 64 lower-case digits. `text_len` always
+/// Writes the hex text of a hash to `room`. The text is 64 lower-case digits: 16 for each word in order, its highest
+/// digit first. So it isn't the hex of the 32 bytes of the hash, in which each word is little-endian. `text_len` always
 /// becomes 64.
 ///
-/// - `DONE`: `room` has at least 64 bytes.
-/// - `ROOM`: `room` has fewer than 64 bytes. Nothing is written to it.
+/// - `DONE`: there is room for at least 64 bytes.
+/// - `ROOM`: there is room for fewer than 64 bytes.
+///
+/// Since 1.0.
 #[unsafe(no_mangle)]
 pub extern "C" fn yurewha_hex(hash: &Hash, room: &mut [u8], text_len: &mut usize) -> u32
     ensures done { (result ≡ DONE) ↔ (64 ≤ length room.old) }
@@ -31,7 +34,9 @@ pub extern "C" fn yurewha_hex(hash: &Hash, room: &mut [u8], text_len: &mut usize
 /// Writes the hash that has this hex text. It allocates nothing.
 ///
 /// - `DONE`: the text is 64 hex digits, lower or upper case.
-/// - `TEXT`: the text is anything else. Nothing is written.
+/// - `TEXT`: the text is anything else.
+///
+/// Since 1.0.
 #[unsafe(no_mangle)]
 pub extern "C" fn yurewha_from_hex(text: &[u8], hash: &mut Hash) -> u32
     ensures done { (result ≡ DONE) ↔ IsHexText text.now }
@@ -48,12 +53,14 @@ pub extern "C" fn yurewha_from_hex(text: &[u8], hash: &mut Hash) -> u32
     }
 }
 
-/// Writes the base64 text of a hash to the beginning of `room`. The text is 43 characters of the URL-safe alphabet,
-/// without padding. `text_len` becomes 43, unless an allocation fails.
+/// Writes the base64 text of a hash to `room`. The text is 43 characters of the URL-safe alphabet, without padding.
+/// `text_len` becomes 43, unless an allocation fails.
 ///
 /// - `DONE`: it is written.
-/// - `ROOM`: `room` has fewer than 43 bytes. Nothing is written to it.
-/// - `MEMORY`: an allocation failed. Nothing is written.
+/// - `ROOM`: there is room for fewer than 43 bytes.
+/// - `MEMORY`: an allocation failed.
+///
+/// Since 1.0.
 #[unsafe(no_mangle)]
 pub extern "C" fn yurewha_base64(
     alloc: Global,
@@ -82,8 +89,10 @@ pub extern "C" fn yurewha_base64(
 /// Writes the hash that has this base64 text.
 ///
 /// - `DONE`: the text is one that `yurewha_base64` writes.
-/// - `TEXT`: it is any other text. Nothing is written.
-/// - `MEMORY`: an allocation failed. Nothing is written.
+/// - `TEXT`: it is any other text.
+/// - `MEMORY`: an allocation failed.
+///
+/// Since 1.0.
 #[unsafe(no_mangle)]
 pub extern "C" fn yurewha_from_base64(alloc: Global, text: &[u8], hash: &mut Hash) -> u32
     ensures statuses { (result ≡ DONE) ⊎ ((result ≡ TEXT) ⊎ (result ≡ MEMORY)) }

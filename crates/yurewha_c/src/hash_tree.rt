@@ -19,11 +19,11 @@ use std::alloc::Global;
 
 /// Makes the hash tree over some chunks, and writes it to the handle, which owns it.
 ///
-/// - `DONE`: it is made. What the handle owned before is freed.
-/// - `SIZES`: the sizes add up to more than 2^64 - 1.
+/// - `DONE`: it is made.
+/// - `SIZES`: if and only if the sizes add up to more than 2^64 - 1.
 /// - `MEMORY`: an allocation failed.
 ///
-/// Unless the status is `DONE`, the handle is unchanged.
+/// Since 1.1.
 #[unsafe(no_mangle)]
 pub extern "C" fn yurewha_hash_tree_from_chunks(
     alloc: Global,
@@ -47,10 +47,12 @@ pub extern "C" fn yurewha_hash_tree_from_chunks(
     }
 }
 
-/// Writes the root of the chunks. With no chunks it is the default hash. It allocates nothing. The handle is unchanged.
+/// Writes the root of the chunks. With no chunks it is the default hash. It allocates nothing.
 ///
 /// - `DONE`: it is written.
-/// - `EMPTY_HANDLE`: the handle is empty. Nothing is written.
+/// - `EMPTY_HANDLE`: the handle is empty.
+///
+/// Since 1.1.
 #[unsafe(no_mangle)]
 pub extern "C" fn yurewha_hash_tree_root(
     alloc: Global,
@@ -67,11 +69,13 @@ pub extern "C" fn yurewha_hash_tree_root(
     DONE
 }
 
-/// Writes the file hash of the chunks under a salt. With no chunks it is the default hash, whatever the salt. It allocates
-/// nothing. The handle is unchanged.
+/// Writes the file hash of the chunks under a salt. With no chunks it is the default hash, whatever the salt. It
+/// allocates nothing.
 ///
 /// - `DONE`: it is written.
-/// - `EMPTY_HANDLE`: the handle is empty. Nothing is written.
+/// - `EMPTY_HANDLE`: the handle is empty.
+///
+/// Since 1.1.
 #[unsafe(no_mangle)]
 pub extern "C" fn yurewha_hash_tree_file_hash(
     alloc: Global,
@@ -90,10 +94,12 @@ pub extern "C" fn yurewha_hash_tree_file_hash(
     DONE
 }
 
-/// Writes the number of chunks. It allocates nothing. The handle is unchanged.
+/// Writes the number of chunks. It allocates nothing.
 ///
 /// - `DONE`: it is written.
-/// - `EMPTY_HANDLE`: the handle is empty. Nothing is written.
+/// - `EMPTY_HANDLE`: the handle is empty.
+///
+/// Since 1.1.
 #[unsafe(no_mangle)]
 pub extern "C" fn yurewha_hash_tree_num_chunks(
     alloc: Global,
@@ -110,11 +116,12 @@ pub extern "C" fn yurewha_hash_tree_num_chunks(
     DONE
 }
 
-/// Writes the sum of the chunks' sizes, which is the size of the file in bytes. It allocates nothing. The handle is
-/// unchanged.
+/// Writes the sum of the chunks' sizes, which is the size of the file in bytes. It allocates nothing.
 ///
 /// - `DONE`: it is written.
-/// - `EMPTY_HANDLE`: the handle is empty. Nothing is written.
+/// - `EMPTY_HANDLE`: the handle is empty.
+///
+/// Since 1.1.
 #[unsafe(no_mangle)]
 pub extern "C" fn yurewha_hash_tree_total_size(
     alloc: Global,
@@ -131,15 +138,15 @@ pub extern "C" fn yurewha_hash_tree_total_size(
     DONE
 }
 
-/// Writes the least range of chunks that holds the bytes of the file from `from` up to, but without, `to`, or the end of
-/// the file if that comes first: `first` gets the number of its first chunk, and `end` the number after that of its last
-/// one. It allocates nothing. The handle is unchanged.
+/// Writes the least range of chunks that holds the bytes of the file from the place `from` up to, but without, the
+/// place `to`, or up to the end of the file if that comes first. `first` gets the number of its first chunk, and `end`
+/// the number after that of its last one. It allocates nothing.
 ///
 /// - `DONE`: they are written.
-/// - `ARGUMENTS`: there are no such bytes.
-/// - `EMPTY_HANDLE`: the handle is empty.
+/// - `ARGUMENTS`: if and only if there is a tree, and there are no such bytes.
+/// - `EMPTY_HANDLE`: if and only if the handle is empty.
 ///
-/// Unless the status is `DONE`, nothing is written.
+/// Since 1.1.
 #[unsafe(no_mangle)]
 pub extern "C" fn yurewha_hash_tree_chunks_at(
     alloc: Global,
@@ -171,13 +178,14 @@ pub extern "C" fn yurewha_hash_tree_chunks_at(
 }
 
 /// Writes where in the file the chunks from number `first` up to, but without, number `end` begin and end, in bytes. It
-/// allocates nothing. The handle is unchanged.
+/// allocates nothing.
 ///
 /// - `DONE`: the two places are written.
-/// - `ARGUMENTS`: `first` isn't less than `end`, or there are fewer than `end` chunks.
-/// - `EMPTY_HANDLE`: the handle is empty.
+/// - `ARGUMENTS`: if and only if there is a tree, and `first` isn't less than `end` or there are fewer than `end`
+///   chunks.
+/// - `EMPTY_HANDLE`: if and only if the handle is empty.
 ///
-/// Unless the status is `DONE`, nothing is written.
+/// Since 1.1.
 #[unsafe(no_mangle)]
 pub extern "C" fn yurewha_hash_tree_bytes_of(
     alloc: Global,
@@ -208,19 +216,21 @@ pub extern "C" fn yurewha_hash_tree_bytes_of(
     DONE
 }
 
-/// Writes the proof of the chunks from number `first` up to, but without, number `end`, as flat lists. `levels` gets the
-/// numbers of left and right nodes of each level, from the chunks up. `nodes` gets all nodes in the order of the file: the
-/// left ones of all levels, lowest level first, those of the chunks, and the right ones of all levels, highest level
-/// first. `level_len` and `node_len` get the lengths of the lists. The handle is unchanged.
+/// Writes the range proof of the chunks from number `first` up to, but without, number `end`, as flat lists. `levels`
+/// gets the numbers of left and right nodes of each level, from the chunks up. `nodes` gets all nodes in the order of
+/// the file: the left nodes of all levels, lowest level first, then the nodes of the chunks, then the right nodes of
+/// all levels, highest level first. `level_len` and `node_len` get the lengths of the lists. A room for 64 levels and
+/// `end` - `first` + 1024 nodes is always large enough.
 ///
 /// - `DONE`: the lists are written.
-/// - `ROOM`: a list is longer than its room. Nothing is written to either, and `level_len` and `node_len` are the
+/// - `ROOM`: a list is longer than its room; nothing is written to either, and `level_len` and `node_len` are the
 ///   needed lengths.
-/// - `ARGUMENTS`: `first` isn't less than `end`, or there are fewer than `end` chunks.
+/// - `ARGUMENTS`: if and only if there is a tree, and `first` isn't less than `end` or there are fewer than `end`
+///   chunks.
 /// - `MEMORY`: an allocation failed.
-/// - `EMPTY_HANDLE`: the handle is empty.
+/// - `EMPTY_HANDLE`: if and only if the handle is empty.
 ///
-/// Unless the status is `DONE` or `ROOM`, nothing is written.
+/// Since 1.1.
 #[unsafe(no_mangle)]
 pub extern "C" fn yurewha_hash_tree_proof(
     alloc: Global,
@@ -253,7 +263,9 @@ pub extern "C" fn yurewha_hash_tree_proof(
     }
 }
 
-/// Frees what the handle owns, and leaves it empty. An empty handle stays empty. It can't fail.
+/// Frees what the handle owns, and leaves it empty.
+///
+/// Since 1.1.
 #[unsafe(no_mangle)]
 pub extern "C" fn yurewha_hash_tree_free(alloc: Global, tree: &mut HashTreeHandle)
     ensures { tree.new.value ≡ None }

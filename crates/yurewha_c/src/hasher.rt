@@ -11,7 +11,9 @@ use crate::status::{DONE, SIZES};
 use xet_hash::blake3::Hasher;
 use xet_hash::data_hash::{DATA_KEY, DataHash, INTERNAL_KEY};
 
-/// Begins a hasher of the empty message under the data key. It computes the same as `yurewha_data_hash`. It can't fail.
+/// Begins a hasher of the empty message under the data key. It computes the same as `yurewha_data_hash`.
+///
+/// Since 1.0.
 #[unsafe(no_mangle)]
 pub extern "C" fn yurewha_hasher_begin_data(hasher: &mut Hasher)
     ensures { Begins data_key hasher.new }
@@ -20,7 +22,8 @@ pub extern "C" fn yurewha_hasher_begin_data(hasher: &mut Hasher)
 }
 
 /// Begins a hasher of the empty message under the internal key. It computes the same as `yurewha_internal_node_hash`.
-/// It can't fail.
+///
+/// Since 1.0.
 #[unsafe(no_mangle)]
 pub extern "C" fn yurewha_hasher_begin_internal(hasher: &mut Hasher)
     ensures { Begins internal_key hasher.new }
@@ -28,7 +31,9 @@ pub extern "C" fn yurewha_hasher_begin_internal(hasher: &mut Hasher)
     *hasher = Hasher::new_keyed(&INTERNAL_KEY);
 }
 
-/// Begins a hasher of the empty message under any key of 32 bytes. It can't fail.
+/// Begins a hasher of the empty message under any key of 32 bytes.
+///
+/// Since 1.0.
 #[unsafe(no_mangle)]
 pub extern "C" fn yurewha_hasher_begin_keyed(hasher: &mut Hasher, key: &Bytes)
     ensures { Begins key.now.bytes hasher.new }
@@ -36,7 +41,9 @@ pub extern "C" fn yurewha_hasher_begin_keyed(hasher: &mut Hasher, key: &Bytes)
     *hasher = Hasher::new_keyed(&key.bytes);
 }
 
-/// Returns the length of the message in bytes. It can't fail.
+/// Returns the length of the message in bytes.
+///
+/// Since 1.0.
 #[unsafe(no_mangle)]
 pub extern "C" fn yurewha_hasher_count(hasher: &Hasher) -> u64
     ensures count { result ≡ count_of hasher.now }
@@ -48,7 +55,9 @@ pub extern "C" fn yurewha_hasher_count(hasher: &Hasher) -> u64
 /// Appends a piece to the message.
 ///
 /// - `DONE`: the message now has at most 2^64 - 1 bytes.
-/// - `SIZES`: it would have more. The hasher is unchanged.
+/// - `SIZES`: it would have more.
+///
+/// Since 1.0.
 #[unsafe(no_mangle)]
 pub extern "C" fn yurewha_hasher_update(hasher: &mut Hasher, piece: &[u8]) -> u32
     ensures done { (result ≡ DONE) ↔ (count_of hasher.old + length piece.now < 2 ^ 64) }
@@ -65,7 +74,8 @@ pub extern "C" fn yurewha_hasher_update(hasher: &mut Hasher, piece: &[u8]) -> u3
 }
 
 /// Writes the keyed hash of the message. The hasher is unchanged, so it can take more pieces, and be finalized again.
-/// It can't fail.
+///
+/// Since 1.0.
 #[unsafe(no_mangle)]
 pub extern "C" fn yurewha_hasher_finalize(hasher: &Hasher, hash: &mut Hash)
     ensures { (key m : List ℕ) → Holds key hasher.now m → hash.new.words ≡ hash_of (keyed_hash key m) }

@@ -6,4 +6,6 @@ use subtree_sessions::session::Session;
 #[derive(Drop)]
 pub(crate) struct KeptSession {
     pub(crate) session: Session,
+    // Whether the session keeps the hashes of its chunks. If it doesn't, it knows none between two calls.
+    pub(crate) keeps_hashes: bool,
 }

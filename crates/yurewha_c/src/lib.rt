@@ -1,8 +1,14 @@
-//! The library for C: proved exports of the crates below it. `bindings/include/yurewha.h` declares them.
+//! The library for C: proved exports of the crates below it. `bindings/check_exports` makes their declarations and comments
+//! in `bindings/include/yurewha.h` of their signatures and comments here.
 //!
 //! A slice is passed as a pointer and a length, a reference as a pointer, and a `Global` as nothing. No export has a
 //! precondition: each wrong argument has a [`status`]. Whatever owns memory is passed as a [`subtree_handle`], a
 //! [`session_handle`], a [`hash_tree_handle`] or an [`opened_range_handle`].
+//!
+//! The comment of an export lists its statuses, and ends with the version that first had it. It doesn't repeat the header's
+//! rules for all calls. A call that doesn't return `DONE` changes and writes nothing, except for the lengths that it writes
+//! with `ROOM`. A call that returns no status can't fail. A call leaves a handle as it was unless its comment says
+//! otherwise, and frees what a handle owned to which it writes another value. It writes a text to the beginning of its room.
 #![tactic(auto)]
 
 mod chunks;

@@ -12,10 +12,13 @@ use crate::status::{ARGUMENTS, DONE, EMPTY_HANDLE, MISMATCH};
 use range_proof::OpenedRange;
 use std::alloc::Global;
 
-/// Writes the size of the file in bytes, as the proof says it. It allocates nothing. The handle is unchanged.
+/// Writes the size of the file in bytes. Like all places of an opened range, the size is the proof's own word until
+/// data was checked: it tells a reader where to cut, and no more. It allocates nothing.
 ///
 /// - `DONE`: it is written.
-/// - `EMPTY_HANDLE`: the handle is empty. Nothing is written.
+/// - `EMPTY_HANDLE`: the handle is empty.
+///
+/// Since 1.1.
 #[unsafe(no_mangle)]
 pub extern "C" fn yurewha_opened_range_file_size(
     alloc: Global,
@@ -32,10 +35,12 @@ pub extern "C" fn yurewha_opened_range_file_size(
     DONE
 }
 
-/// Writes the number of chunks of the range. It allocates nothing. The handle is unchanged.
+/// Writes the number of chunks of the range. It allocates nothing.
 ///
 /// - `DONE`: it is written.
-/// - `EMPTY_HANDLE`: the handle is empty. Nothing is written.
+/// - `EMPTY_HANDLE`: the handle is empty.
+///
+/// Since 1.1.
 #[unsafe(no_mangle)]
 pub extern "C" fn yurewha_opened_range_num_chunks(
     alloc: Global,
@@ -63,14 +68,14 @@ fn places_of(range: &OpenedRange, chunk: usize) -> Option<(u64, u64)>
     Some((from, to))
 }
 
-/// Writes where in the file a chunk of the range begins and ends, in bytes, as the proof says it. The chunks of the range
-/// count from 0. It allocates nothing. The handle is unchanged.
+/// Writes where in the file a chunk of the range begins and ends, in bytes, as the proof says it. The chunks of the
+/// range count from 0. It allocates nothing.
 ///
 /// - `DONE`: the two places are written.
-/// - `ARGUMENTS`: the range has no such chunk.
-/// - `EMPTY_HANDLE`: the handle is empty.
+/// - `ARGUMENTS`: if and only if there is a range, and it has no such chunk.
+/// - `EMPTY_HANDLE`: if and only if the handle is empty.
 ///
-/// Unless the status is `DONE`, nothing is written.
+/// Since 1.1.
 #[unsafe(no_mangle)]
 pub extern "C" fn yurewha_opened_range_bytes_of(
     alloc: Global,
@@ -101,16 +106,16 @@ pub extern "C" fn yurewha_opened_range_bytes_of(
 }
 
 /// Checks the data of a chunk of the range, and writes where in the file it begins, in bytes. The chunks of the range
-/// count from 0. It allocates nothing. The handle is unchanged.
+/// count from 0. It allocates nothing.
 ///
-/// If the status is `DONE`, each file with the hash that the proof was opened with has this data at this place, and is as
-/// long as the proof says, unless two messages that were hashed have the same BLAKE3 hash.
+/// After `DONE`, each file with the hash that the proof was opened with has this data at this place, and has the size
+/// that the proof says, unless two messages that were hashed have the same BLAKE3 hash.
 ///
 /// - `DONE`: the hash and the length of the data are those of the chunk's node.
 /// - `MISMATCH`: they aren't, or the range has no such chunk.
-/// - `EMPTY_HANDLE`: the handle is empty.
+/// - `EMPTY_HANDLE`: if and only if the handle is empty.
 ///
-/// Unless the status is `DONE`, nothing is written.
+/// Since 1.1.
 #[unsafe(no_mangle)]
 pub extern "C" fn yurewha_opened_range_check(
     alloc: Global,
@@ -158,19 +163,18 @@ fn start_of(range: &OpenedRange, from: u64, to: u64, data: &[u8]) -> Option<usiz
     Some((from - begin) as usize)
 }
 
-/// Checks the data of all chunks of the range, and writes where in the data the bytes of the file from the place `from` up
-/// to, but without, the place `to` begin. `data` is the data of these chunks, one after another, and nothing else. It
-/// allocates nothing. The handle is unchanged.
+/// Checks the data of all chunks of the range, which come one after another with nothing else, and finds in it the
+/// bytes of the file from the place `from` up to, but without, the place `to`: they are the `to` - `from` bytes from
+/// `data[start]` on. It allocates nothing.
 ///
-/// If the status is `DONE`, these are the bytes from `start` on of `data`, as many as `to` is after `from`; and each file
-/// with the hash that the proof was opened with has them between these places, and is as long as the proof says, unless two
-/// messages that were hashed have the same BLAKE3 hash.
+/// After `DONE`, each file with the hash that the proof was opened with has these bytes between these places, and has
+/// the size that the proof says, unless two messages that were hashed have the same BLAKE3 hash.
 ///
-/// - `DONE`: each chunk checks, and the range holds both places.
-/// - `MISMATCH`: the data isn't that of the range, or the range doesn't hold the places, or `to` is before `from`.
-/// - `EMPTY_HANDLE`: the handle is empty.
+/// - `DONE`: the data is that of the range's chunks, and the range holds both places, which are in order.
+/// - `MISMATCH`: the data isn't, or the range doesn't hold the places, or `to` is less than `from`.
+/// - `EMPTY_HANDLE`: if and only if the handle is empty.
 ///
-/// Unless the status is `DONE`, nothing is written.
+/// Since 1.1.
 #[unsafe(no_mangle)]
 pub extern "C" fn yurewha_opened_range_read(
     alloc: Global,
@@ -206,7 +210,9 @@ pub extern "C" fn yurewha_opened_range_read(
     DONE
 }
 
-/// Frees what the handle owns, and leaves it empty. An empty handle stays empty. It can't fail.
+/// Frees what the handle owns, and leaves it empty.
+///
+/// Since 1.1.
 #[unsafe(no_mangle)]
 pub extern "C" fn yurewha_opened_range_free(alloc: Global, range: &mut OpenedRangeHandle)
     ensures { range.new.value ≡ None }

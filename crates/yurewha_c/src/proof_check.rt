@@ -73,12 +73,14 @@ fn broken_rule(levels: &[Level], nodes: &[Chunk]) -> Option<u32>
     None
 }
 
-/// Returns whether flat lists are those of a range proof, or which rule they break. They are passed as
-/// `yurewha_hash_tree_proof` writes them. It allocates nothing.
+/// Returns whether flat lists are those of a range proof, or which rule they break. It opens nothing, so `DONE` doesn't
+/// say that the proof shows any hash. It allocates nothing.
 ///
-/// - `DONE`: they are those of a range proof.
-/// - `PROOF_RULE` + rule: they break this rule, from 5 to 8 of `RangeProof::from_json` of `range_proof`, and none of these
+/// - `DONE`: if and only if they are those of a range proof.
+/// - `PROOF_RULE` + rule: the lists break this rule, from 5 to 8 of `yurewha_range_proof_from_json`, and none of these
 ///   with a lower number.
+///
+/// Since 1.1.
 #[unsafe(no_mangle)]
 pub extern "C" fn yurewha_range_proof_check(levels: &[Level], nodes: &[Chunk]) -> u32
     ensures valid { (result ≡ DONE) ↔ ((proof : Proof) × AreOfProof levels.now nodes.now proof) }

@@ -1,4 +1,4 @@
-//! Opens range proofs with a file hash or a root.
+//! Opens range proofs, which may come from anybody, with a file hash or a root.
 
 ghost use Rattle.std.specs.Prelude.{◌≡◌, ◌≢◌, ◌⊎◌, IsSomeAnd};
 ghost use Rattle.range_proof.specs.RangeProof.{Proof, Shows, ShowsRoot};
@@ -12,16 +12,16 @@ use crate::status::{DONE, MEMORY, MISMATCH, status_of_open};
 use crate::subtree_flat::Level;
 use std::alloc::Global;
 
-/// Opens a range proof with a file hash under a salt. The handle owns the opened range. The proof is passed as flat lists,
-/// as `yurewha_hash_tree_proof` writes them, and may come from anybody.
+/// Opens a range proof with a file hash under a salt. The handle owns the opened range. The default hash is never
+/// shown, since it is the hash of the empty file.
 ///
-/// - `DONE`: the proof shows the file hash. What the handle owned before is freed.
-/// - `MISMATCH`: the proof doesn't show the file hash. The default hash is never shown.
-/// - `PROOF_RULE` + rule: the flat lists break this rule, from 5 to 8 of `RangeProof::from_json` of `range_proof`, and none
-///   of these with a lower number.
-/// - `MEMORY`: an allocation failed; this may be returned instead of a rule.
+/// - `DONE`: the proof shows the file hash.
+/// - `MISMATCH`: it doesn't.
+/// - `PROOF_RULE` + rule: the lists break this rule, from 5 to 8 of `yurewha_range_proof_from_json`, and none of these
+///   with a lower number.
+/// - `MEMORY`: an allocation failed; this may be returned instead of the two above.
 ///
-/// Unless the status is `DONE`, the handle is unchanged.
+/// Since 1.1.
 #[unsafe(no_mangle)]
 pub extern "C" fn yurewha_range_proof_open(
     alloc: Global,
@@ -48,9 +48,10 @@ pub extern "C" fn yurewha_range_proof_open(
     }
 }
 
-/// Opens a range proof with the root of the file's chunks, as `yurewha_range_proof_open` does with a file hash.
+/// Opens a range proof with the root of the file's chunks, as `yurewha_range_proof_open` does with a file hash. The
+/// statuses are those of `yurewha_range_proof_open`, with the root in place of the file hash.
 ///
-/// The statuses are those of `yurewha_range_proof_open`, with the root in place of the file hash.
+/// Since 1.1.
 #[unsafe(no_mangle)]
 pub extern "C" fn yurewha_range_proof_open_root(
     alloc: Global,

@@ -31,15 +31,15 @@ fn json_text(alloc: Global, proof: &RangeProof) -> Result<Vec<u8>, AllocError>
     value.to_vec(alloc)
 }
 
-/// Writes a range proof as compact JSON text to the beginning of `room`, and the length of the JSON text to `text_len`.
+/// Writes the compact JSON text of a range proof to `room`, and its length to `text_len`.
 ///
 /// - `DONE`: it is written.
-/// - `ROOM`: the JSON text is longer than `room`. Nothing is written to `room`, and `text_len` is the needed length.
-/// - `PROOF_RULE` + rule: the flat lists break this rule, from 5 to 8 of `RangeProof::from_json` of `range_proof`, and none
-///   of these with a lower number.
-/// - `MEMORY`: an allocation failed; this may be returned instead of a rule.
+/// - `ROOM`: the text doesn't fit, and `text_len` is the needed length.
+/// - `PROOF_RULE` + rule: the lists break this rule, from 5 to 8 of `yurewha_range_proof_from_json`, and none of these
+///   with a lower number.
+/// - `MEMORY`: an allocation failed; this may be returned instead of the two above.
 ///
-/// Unless the status is `DONE` or `ROOM`, nothing is written.
+/// Since 1.1.
 #[unsafe(no_mangle)]
 pub extern "C" fn yurewha_range_proof_to_json(
     alloc: Global,
@@ -64,17 +64,28 @@ pub extern "C" fn yurewha_range_proof_to_json(
     }
 }
 
-/// Reads a range proof from JSON text, and writes it as flat lists, as `yurewha_hash_tree_proof` does.
+/// Reads a range proof from JSON text, and writes it as flat lists. The value is an object with these members:
+/// `chunks`, the nodes of the range's chunks; and `levels`, an object for each level, from the chunks up, with the
+/// nodes of both sides as `left` and `right`. Each node has its `hash` in hex and its `size`. Time and memory are in
+/// proportion to the text, so refuse a stranger's text of more than 2^24 bytes, or another limit, before this call:
+/// that many are enough for about 180,000 chunks.
 ///
 /// - `DONE`: the lists are written.
-/// - `ROOM`: a list is longer than its room. Nothing is written to either, and `level_len` and `node_len` are the
+/// - `ROOM`: a list is longer than its room; nothing is written to either, and `level_len` and `node_len` are the
 ///   needed lengths.
 /// - `TEXT`: the text isn't UTF-8, or isn't JSON.
-/// - `PROOF_RULE` + rule: the value breaks this rule, from 1 to 8 of `RangeProof::from_json` of `range_proof`, and none
-///   with a lower number.
-/// - `MEMORY`: an allocation failed; this may be returned instead of `TEXT`, a rule or `ROOM`.
+/// - `PROOF_RULE` + rule: the value breaks this rule, and none with a lower number:
+///   1. it is an object
+///   2. `chunks` and `levels` are arrays
+///   3. a level is an object, and its `left` and `right` are arrays
+///   4. a node is an object with `hash`, 64 hex digits, and `size`, a whole number below 2^64
+///   5. there is at least one chunk; in flat lists, the counts leave at least one node for the chunks
+///   6. there are at most 64 levels
+///   7. a side of a level has at most 8 nodes
+///   8. the sizes of all nodes add up to at most 2^64 - 1
+/// - `MEMORY`: an allocation failed; this may be returned instead of the three above.
 ///
-/// Unless the status is `DONE` or `ROOM`, nothing is written.
+/// Since 1.1.
 #[unsafe(no_mangle)]
 pub extern "C" fn yurewha_range_proof_from_json(
     alloc: Global,

@@ -18,10 +18,10 @@ use xet_merkle::merkle_hash_subtree::{find_stable_end, find_stable_start};
 /// hash. The root of more chunks is the hash at the top of their tree.
 ///
 /// - `DONE`: the root is written.
-/// - `SIZES`: the sizes add up to more than 2^64 - 1.
+/// - `SIZES`: if and only if the sizes add up to more than 2^64 - 1.
 /// - `MEMORY`: an allocation failed; never with one chunk or none.
 ///
-/// Unless the status is `DONE`, nothing is written.
+/// Since 1.0.
 #[unsafe(no_mangle)]
 pub extern "C" fn yurewha_xorb_hash(alloc: Global, chunks: &[Chunk], root: &mut Hash) -> u32
     ensures root { result ≡ DONE → IsRoot (nodes_of chunks.now) root.new.words }
@@ -51,9 +51,9 @@ fn write_file_hash(alloc: Global, chunks: &[Chunk], salt: &[u8; 32], hash: &mut 
 }
 
 /// Writes the file hash of a list of chunks without a salt. With no chunks it is the default hash. Otherwise it is the
-/// hmac of their root under 32 zero bytes.
+/// hmac of their root under 32 zero bytes. The statuses are those of `yurewha_xorb_hash`.
 ///
-/// The statuses are those of `yurewha_xorb_hash`.
+/// Since 1.0.
 #[unsafe(no_mangle)]
 pub extern "C" fn yurewha_file_hash(alloc: Global, chunks: &[Chunk], hash: &mut Hash) -> u32
     ensures { WritesFileHash chunks.now (replicate 32 0) result hash.old hash.new }
@@ -62,9 +62,9 @@ pub extern "C" fn yurewha_file_hash(alloc: Global, chunks: &[Chunk], hash: &mut 
 }
 
 /// Writes the file hash of a list of chunks under a salt. With no chunks it is the default hash, whatever the salt.
-/// Otherwise it is the hmac of their root under the bytes of the salt.
+/// Otherwise it is the hmac of their root under the bytes of the salt. The statuses are those of `yurewha_xorb_hash`.
 ///
-/// The statuses are those of `yurewha_xorb_hash`.
+/// Since 1.0.
 #[unsafe(no_mangle)]
 pub extern "C" fn yurewha_file_hash_with_salt(
     alloc: Global,
@@ -84,7 +84,7 @@ pub extern "C" fn yurewha_file_hash_with_salt(
 /// - `ARGUMENTS`: there is none.
 /// - `MEMORY`: an allocation failed.
 ///
-/// Unless the status is `DONE`, nothing is written.
+/// Since 1.0.
 #[unsafe(no_mangle)]
 pub extern "C" fn yurewha_find_stable_start(
     alloc: Global,
@@ -106,10 +106,10 @@ pub extern "C" fn yurewha_find_stable_start(
     }
 }
 
-/// Writes the last stable point of some nodes, as the number of nodes before it. At a stable point a group ends, no
-/// matter which nodes come before and after the given ones.
+/// Writes the last stable point of some nodes, as the number of nodes before it. The statuses are those of
+/// `yurewha_find_stable_start`.
 ///
-/// The statuses are those of `yurewha_find_stable_start`.
+/// Since 1.0.
 #[unsafe(no_mangle)]
 pub extern "C" fn yurewha_find_stable_end(alloc: Global, nodes: &[Chunk], point: &mut usize) -> u32
     ensures point { WritesPoint IsLastStable nodes.now result point.old point.new }

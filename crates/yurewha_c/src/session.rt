@@ -1,8 +1,9 @@
 //! Sessions: chunks by their positions, which come in any order.
 
-ghost use Rattle.std.specs.Prelude.{◌≡◌, ◌≢◌, ◌⊎◌, ◌↔◌, ◌+◌, ◌^◌, ◌<◌, ◌≤◌, None, IfErr, IfOk, IfSome, IsErrOf, IsSomeAnd, IsTrue, [], OnErr, OnOk, Ok, replicate, length};
+ghost use Rattle.std.specs.Prelude.{◌≡◌, ◌≢◌, ◌⊎◌, ◌↔◌, ◌+◌, ◌^◌, ◌<◌, ◌≤◌, None, IfErr, IfOk, IfSome, IsErrOf, IsSomeAnd, IsTrue, [], OnErr, OnOk, Ok, replicate, length, true, false};
 ghost use Rattle.xet_merkle.specs.Roots.{IsRoot, IsFileHash, total_size};
 ghost use Rattle.upload_session.specs.Session.{place, chunks_of, is_taken, meet, overlaps, AreJoined, CountsNew, HasNothing, HaveFileHash, HaveRoot, IsUnchanged, LearnsHashes};
+ghost use Rattle.upload_session.specs.Hashes.{Knows};
 ghost use Rattle.subtree_sessions.specs.Subtrees.{subtrees};
 ghost use Rattle.yurewha_c.specs.Chunks.{nodes_of};
 ghost use Rattle.yurewha_c.specs.Handles.{BothHold, IsCopyStatus, Reads};
@@ -22,22 +23,60 @@ use upload_session::session_fault::SessionFault;
 
 /// Makes a session without chunks. The handle owns it.
 ///
-/// - `DONE`: it is made. What the handle owned before is freed.
-/// - `MEMORY`: an allocation failed. The handle is unchanged.
+/// - `DONE`: it is made.
+/// - `MEMORY`: an allocation failed.
+///
+/// Since 1.0.
 #[unsafe(no_mangle)]
 pub extern "C" fn yurewha_session_new(alloc: Global, session: &mut SessionHandle) -> u32
-    ensures made { result ≡ DONE → IsSomeAnd session.new.value (λ made. HasNothing seen_hashes made.session) }
+    ensures made { result ≡ DONE → IsSomeAnd session.new.value (λ made.
+        HasNothing seen_hashes made.session × (made.keeps_hashes ≡ true)) }
     ensures statuses { (result ≡ DONE) ⊎ (result ≡ MEMORY) }
     ensures unchanged { result ≢ DONE → session.new.value ≡ session.old.value }
 {
     let made = KeptSession {
         session: SessionOf::new(alloc),
+        keeps_hashes: true,
     };
     session.hold(alloc, made)
 }
 
-// Puts chunks, as `put` of a session does. If the allocation of their nodes fails, `Memory` may be returned instead of
-// another fault.
+/// Makes a session without chunks that keeps no hashes, so that its memory is proportional to the number of its runs. It
+/// counts as new each hash of a put, once. The handle owns it. The statuses are those of `yurewha_session_new`.
+///
+/// Since 1.1.
+#[unsafe(no_mangle)]
+pub extern "C" fn yurewha_session_new_without_hashes(
+    alloc: Global,
+    session: &mut SessionHandle,
+) -> u32
+    ensures made { result ≡ DONE → IsSomeAnd session.new.value (λ made.
+        HasNothing seen_hashes made.session × (made.keeps_hashes ≡ false)) }
+    ensures statuses { (result ≡ DONE) ⊎ (result ≡ MEMORY) }
+    ensures unchanged { result ≢ DONE → session.new.value ≡ session.old.value }
+{
+    let made = KeptSession {
+        session: SessionOf::new(alloc),
+        keeps_hashes: false,
+    };
+    session.hold(alloc, made)
+}
+
+// Forgets the hashes of a session that keeps none.
+fn forget_unkept(alloc: Global, kept: &mut KeptSession)
+    ensures unchanged { kept.old.keeps_hashes ≡ true → kept.new ≡ kept.old }
+    ensures forgotten { kept.old.keeps_hashes ≡ false → Knows kept.new.session.kept [] }
+    ensures runs { kept.new.session.runs ≡ kept.old.session.runs }
+    ensures size { kept.new.session.size ≡ kept.old.session.size }
+    ensures same_kind { kept.new.keeps_hashes ≡ kept.old.keeps_hashes }
+{
+    if !kept.keeps_hashes {
+        kept.session.forget_hashes(alloc);
+    }
+}
+
+// Puts chunks, as `put` of a session does, and forgets their hashes if none are kept. If the allocation of their nodes
+// fails, `Memory` may be returned instead of another fault.
 fn put_chunks(
     alloc: Global,
     kept: &mut KeptSession,
@@ -50,8 +89,11 @@ fn put_chunks(
     ensures placed { OnOk result (HoldsOfPlaced kept.old (λ placed.
         Stands kept.new (place placed first (nodes_of chunks.now)))) }
     ensures size { OnOk result (kept.new.session.size ≡ kept.old.session.size + total_size (nodes_of chunks.now)) }
-    ensures learned { OnOk result (0 < length chunks.now →
+    ensures learned { OnOk result (0 < length chunks.now → kept.old.keeps_hashes ≡ true →
         LearnsHashes seen_hashes kept.old.session.kept (nodes_of chunks.now) kept.new.session.kept) }
+    ensures forgotten { OnOk result (0 < length chunks.now → kept.old.keeps_hashes ≡ false →
+        Knows kept.new.session.kept []) }
+    ensures same_kind { kept.new.keeps_hashes ≡ kept.old.keeps_hashes }
     ensures new { IfOk result (λ count. 0 < length chunks.now →
         CountsNew seen_hashes kept.old.session.kept (nodes_of chunks.now) count) }
     ensures overlap { 0 < length chunks.now → ¬ IsErrOf result SessionFault.Memory →
@@ -71,20 +113,23 @@ fn put_chunks(
         return kept.session.put(first, &[]);
     }
     let nodes = nodes_of(alloc, chunks)?;
-    kept.session.put(first, &nodes)
+    let count = kept.session.put(first, &nodes)?;
+    forget_unkept(alloc, kept);
+    Ok(count)
 }
 
-/// Puts chunks at the positions from `first` on. Writes how many of their hashes no earlier successful put had, and
-/// counts each hash once. With no chunks it writes 0 and changes nothing, whatever `first` is.
+/// Puts chunks at the positions from `first` on. Writes how many of their hashes the session didn't know, and counts each
+/// hash once. It then knows them, unless it keeps no hashes. With no chunks it writes 0 and changes nothing, whatever
+/// `first` is.
 ///
 /// - `DONE`: the chunks are put.
-/// - `EMPTY_HANDLE`: the handle is empty.
+/// - `EMPTY_HANDLE`: if and only if the handle is empty.
 /// - `SESSION_OVERLAP`: one of the positions is taken.
 /// - `SESSION_POSITIONS`: otherwise, `first` plus the number of chunks is more than 2^64 - 1.
 /// - `SIZES`: otherwise, the sizes of all chunks add up to more than 2^64 - 1.
 /// - `MEMORY`: an allocation failed; this may be returned instead of the three above.
 ///
-/// Unless the status is `DONE`, nothing has changed.
+/// Since 1.0.
 #[unsafe(no_mangle)]
 pub extern "C" fn yurewha_session_put(
     alloc: Global,
@@ -102,7 +147,12 @@ pub extern "C" fn yurewha_session_put(
     ensures size { result ≡ DONE → BothHold session.old.value session.new.value (λ before after.
         after.session.size ≡ before.session.size + total_size (nodes_of chunks.now)) }
     ensures learned { result ≡ DONE → BothHold session.old.value session.new.value (λ before after. 0 < length chunks.now →
+        before.keeps_hashes ≡ true →
         LearnsHashes seen_hashes before.session.kept (nodes_of chunks.now) after.session.kept) }
+    ensures forgotten { result ≡ DONE → BothHold session.old.value session.new.value (λ before after.
+        0 < length chunks.now → before.keeps_hashes ≡ false → Knows after.session.kept []) }
+    ensures same_kind { result ≢ EMPTY_HANDLE → BothHold session.old.value session.new.value (λ before after.
+        after.keeps_hashes ≡ before.keeps_hashes) }
     ensures new { result ≡ DONE → IsSomeAnd session.old.value (λ before. 0 < length chunks.now →
         CountsNew seen_hashes before.session.kept (nodes_of chunks.now) new_hashes.new) }
     ensures empty { (result ≡ EMPTY_HANDLE) ↔ (session.old.value ≡ None) }
@@ -138,10 +188,12 @@ pub extern "C" fn yurewha_session_put(
     }
 }
 
-/// Writes whether a position is taken. It allocates nothing. The session is unchanged.
+/// Writes whether a position is taken. It allocates nothing.
 ///
 /// - `DONE`: it is written.
-/// - `EMPTY_HANDLE`: the handle is empty. Nothing is written.
+/// - `EMPTY_HANDLE`: the handle is empty.
+///
+/// Since 1.0.
 #[unsafe(no_mangle)]
 pub extern "C" fn yurewha_session_taken(
     alloc: Global,
@@ -161,14 +213,15 @@ pub extern "C" fn yurewha_session_taken(
     DONE
 }
 
-/// Writes the root of all chunks in the order of their positions. The session is unchanged.
+/// Writes the root of all chunks in the order of their positions.
 ///
 /// - `DONE`: the hash is written.
-/// - `EMPTY_HANDLE`: the handle is empty.
-/// - `SESSION_GAP`: the taken positions aren't exactly those from 0 to `total` - 1.
+/// - `EMPTY_HANDLE`: if and only if the handle is empty.
+/// - `SESSION_GAP`: if and only if there is a session, and the taken positions aren't exactly those from 0 to `total` -
+///   1.
 /// - `MEMORY`: an allocation failed.
 ///
-/// Unless the status is `DONE`, nothing is written.
+/// Since 1.0.
 #[unsafe(no_mangle)]
 pub extern "C" fn yurewha_session_root(
     alloc: Global,
@@ -199,9 +252,9 @@ pub extern "C" fn yurewha_session_root(
 }
 
 /// Writes the file hash, without a salt, of all chunks in the order of their positions. It is the one under 32 zero
-/// bytes. The session is unchanged.
+/// bytes. The statuses are those of `yurewha_session_root`.
 ///
-/// The statuses are those of `yurewha_session_root`. Unless the status is `DONE`, nothing is written.
+/// Since 1.0.
 #[unsafe(no_mangle)]
 pub extern "C" fn yurewha_session_finish(
     alloc: Global,
@@ -231,12 +284,14 @@ pub extern "C" fn yurewha_session_finish(
     }
 }
 
-/// Copies a session. The second handle owns the copy, which stands for the same chunks and knows the same hashes. The
-/// first session is unchanged.
+/// Copies a session. The second handle owns the copy, which has the same chunks, knows the same hashes, and keeps hashes
+/// if the first session does. The first session is unchanged, and the two are independent.
 ///
-/// - `DONE`: it is copied. What the second handle owned before is freed.
-/// - `MEMORY`: an allocation failed. The second handle is unchanged.
-/// - `EMPTY_HANDLE`: the first handle is empty. The second handle is unchanged.
+/// - `DONE`: it is copied.
+/// - `MEMORY`: an allocation failed.
+/// - `EMPTY_HANDLE`: if and only if the first handle is empty.
+///
+/// Since 1.1.
 #[unsafe(no_mangle)]
 pub extern "C" fn yurewha_session_copy(
     alloc: Global,
@@ -251,15 +306,24 @@ pub extern "C" fn yurewha_session_copy(
     let Some(kept) = session.take(alloc) else {
         return EMPTY_HANDLE;
     };
+    let keeps_hashes = kept.keeps_hashes;
     let made = kept.session.try_clone();
     session.put(kept);
     match made {
-        Ok(made) => copy.hold(alloc, KeptSession { session: made }),
+        Ok(made) => {
+            let made = KeptSession {
+                session: made,
+                keeps_hashes,
+            };
+            copy.hold(alloc, made)
+        }
         Err(_) => MEMORY,
     }
 }
 
-/// Frees what the handle owns, and leaves it empty. An empty handle stays empty. It can't fail.
+/// Frees what the handle owns, and leaves it empty.
+///
+/// Since 1.0.
 #[unsafe(no_mangle)]
 pub extern "C" fn yurewha_session_free(alloc: Global, session: &mut SessionHandle)
     ensures { session.new.value ≡ None }

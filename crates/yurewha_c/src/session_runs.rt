@@ -14,13 +14,13 @@ use std::alloc::Global;
 use subtree_sessions::session::Session;
 use xet_merkle::merkle_hash_subtree::MerkleHashSubtree;
 
-/// Writes the number of runs of adjacent taken positions. It allocates nothing. The session is unchanged.
-///
-/// Whatever calls a session has had, a free position lies between two of its runs, and its size is that of all
-/// subtrees together.
+/// Writes the number of runs of adjacent taken positions. Whatever calls a session has had, a free position lies
+/// between any two of its runs, and its total size is that of the subtrees of all runs together. It allocates nothing.
 ///
 /// - `DONE`: it is written.
-/// - `EMPTY_HANDLE`: the handle is empty. Nothing is written.
+/// - `EMPTY_HANDLE`: the handle is empty.
+///
+/// Since 1.0.
 #[unsafe(no_mangle)]
 pub extern "C" fn yurewha_session_num_runs(
     alloc: Global,
@@ -59,14 +59,14 @@ fn copied_run(session: &Session, index: usize) -> Result<(u64, MerkleHashSubtree
 
 /// Writes the first position of a run of adjacent taken positions, and a copy of the subtree of its chunks. The subtree
 /// is open at both ends, and `range` owns it. Runs are numbered from 0, by rising position. The time is proportional to
-/// the index. The session is unchanged.
+/// the index.
 ///
 /// - `DONE`: they are written.
-/// - `EMPTY_HANDLE`: the handle of the session is empty.
-/// - `ARGUMENTS`: there is a session, and it has no such run.
+/// - `EMPTY_HANDLE`: if and only if the handle of the session is empty.
+/// - `ARGUMENTS`: if and only if there is a session, and it has no such run.
 /// - `MEMORY`: an allocation failed.
 ///
-/// Unless the status is `DONE`, nothing has changed.
+/// Since 1.0.
 #[unsafe(no_mangle)]
 pub extern "C" fn yurewha_session_run(
     alloc: Global,
@@ -116,16 +116,17 @@ fn copied_run_from(kept: &KeptSession, position: u64) -> Result<(u64, u64, Merkl
     }
 }
 
-/// Writes the run that contains a position, or else the next one: its first position, the position after its last one,
-/// and a copy of the subtree of its chunks. The subtree is open at both ends, and `range` owns it. Calls from position
-/// 0 and then from each run's end walk all runs. The session is unchanged.
+/// Writes the first run that ends after a position: the run that holds it or else the next one. `first` gets the run's
+/// first position, and `end` the position after its last one. `range` owns a copy of the subtree of its chunks, which
+/// is open at both ends. To go through all runs, begin at position 0 and go on at each run's end. Finding a run takes
+/// logarithmic time.
 ///
 /// - `DONE`: they are written.
-/// - `EMPTY_HANDLE`: the handle of the session is empty.
-/// - `ARGUMENTS`: there is a session, and all its runs end before.
+/// - `EMPTY_HANDLE`: if and only if the handle of the session is empty.
+/// - `ARGUMENTS`: if and only if there is a session, and no run ends after the position.
 /// - `MEMORY`: an allocation failed.
 ///
-/// Unless the status is `DONE`, nothing has changed.
+/// Since 1.1.
 #[unsafe(no_mangle)]
 pub extern "C" fn yurewha_session_run_from(
     alloc: Global,

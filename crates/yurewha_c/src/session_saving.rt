@@ -1,6 +1,6 @@
 //! What saves a session and restores it: its runs, which `session_runs` reads, and its known hashes.
 
-ghost use Rattle.std.specs.Prelude.{◌≡◌, ◌≢◌, ◌⊎◌, ◌↔◌, None, Some, IfOk, IfSome, IsSomeAnd, List, OnErr, OnOk, length};
+ghost use Rattle.std.specs.Prelude.{◌≡◌, ◌≢◌, ◌⊎◌, ◌↔◌, ◌<◌, false, None, Some, IfOk, IfSome, IsSomeAnd, List, OnErr, OnOk, length};
 ghost use Rattle.std.specs.List.{IsDistinct};
 ghost use Rattle.upload_session.specs.Hashes.{Hash as HashWords, hash_eq, hashes_of, AreBoth, Knows};
 ghost use Rattle.yurewha_c.specs.Handles.{BothHold, Reads};
@@ -40,19 +40,21 @@ fn push_copy(
     }
 }
 
-/// Adds a run after all runs of a session, as saved from another session. The session gets a copy of the subtree of
-/// `range`. `range` is unchanged. The session doesn't learn the hashes of the chunks, so pass them to
-/// `yurewha_session_keep_hashes`. If the subtree doesn't stand for `end - first` chunks, all calls go by the positions
-/// of the runs as ever, and the root and the file hash are those of the chunks of the subtrees.
+/// Adds a run after all runs of a session. Its positions are those from `first` to `end` - 1. The session gets a copy
+/// of `range`, the subtree of the run's chunks. `range` is unchanged. The session doesn't know the hashes of these
+/// chunks before they are kept or put.
 ///
-/// - `DONE`: it is added.
-/// - `EMPTY_HANDLE`: a handle is empty.
-/// - `ARGUMENTS`: neither handle is empty, and `end` is at most `first`, an end of the subtree is marked, or the last
-///   run leaves no free position before `first`.
-/// - `SIZES`: neither of these applies, and the sizes of all chunks add up to more than 2^64 - 1.
-/// - `MEMORY`: an allocation failed; this may be returned instead of `ARGUMENTS` or `SIZES`.
+/// The call can't check that `range` is of `end` - `first` chunks. If it isn't, all calls go by the positions of the
+/// runs as ever, and the root and the file hash are those of the chunks of the subtrees.
 ///
-/// Unless the status is `DONE`, nothing has changed.
+/// - `DONE`: the run is added.
+/// - `EMPTY_HANDLE`: if and only if a handle is empty.
+/// - `ARGUMENTS`: `end` isn't greater than `first`, `range` is marked at an end, or a position from `first` - 1 on is
+///   taken.
+/// - `SIZES`: otherwise, the sizes of all chunks add up to more than 2^64 - 1.
+/// - `MEMORY`: an allocation failed; this may be returned instead of the two above.
+///
+/// Since 1.1.
 #[unsafe(no_mangle)]
 pub extern "C" fn yurewha_session_push_run(
     alloc: Global,
@@ -86,24 +88,40 @@ fn nodes_of_hashes(alloc: Global, hashes: &[Hash]) -> Result<Vec<Node>, AllocErr
     Ok(nodes)
 }
 
-// Keeps hashes, as `keep_hashes` of a session does.
-fn keep(alloc: Global, kept: &mut KeptSession, hashes: &[Hash]) -> Result<(), AllocError>
-    ensures kept { OnOk result ((known all : List HashWords) → Knows kept.old.session.kept known →
-        AreBoth known (words_of hashes.now) all → Knows kept.new.session.kept all) }
-    ensures refused { OnErr result ((known : List HashWords) →
-        Knows kept.old.session.kept known → Knows kept.new.session.kept known) }
+// Keeps hashes, as `keep_hashes` of a session does, if the session keeps any. Returns the status.
+fn keep(alloc: Global, kept: &mut KeptSession, hashes: &[Hash]) -> u32
+    ensures kept { result ≡ DONE → (known all : List HashWords) → Knows kept.old.session.kept known →
+        AreBoth known (words_of hashes.now) all → Knows kept.new.session.kept all }
+    ensures arguments { (result ≡ ARGUMENTS) ↔ ((0 < length hashes.now) × (kept.old.keeps_hashes ≡ false)) }
+    ensures statuses { (result ≡ DONE) ⊎ ((result ≡ ARGUMENTS) ⊎ (result ≡ MEMORY)) }
+    ensures refused { result ≡ MEMORY → (known : List HashWords) →
+        Knows kept.old.session.kept known → Knows kept.new.session.kept known }
+    ensures unchanged { result ≡ ARGUMENTS → kept.new ≡ kept.old }
+    ensures same_kind { kept.new.keeps_hashes ≡ kept.old.keeps_hashes }
     ensures runs { kept.new.session.runs ≡ kept.old.session.runs }
     ensures size { kept.new.session.size ≡ kept.old.session.size }
 {
-    let nodes = nodes_of_hashes(alloc, hashes)?;
-    kept.session.keep_hashes(&nodes)
+    if !kept.keeps_hashes && !hashes.is_empty() {
+        return ARGUMENTS;
+    }
+    let Ok(nodes) = nodes_of_hashes(alloc, hashes) else {
+        return MEMORY;
+    };
+    match kept.session.keep_hashes(&nodes) {
+        Ok(()) => DONE,
+        Err(_) => MEMORY,
+    }
 }
 
-/// Keeps hashes, as if an earlier put had had them. The runs of the session are unchanged.
+/// Keeps hashes, as if an earlier put had had them: the session then knows them. Its runs are unchanged. Hashes that no
+/// chunk has may be kept, too: they change only which hashes are new.
 ///
 /// - `DONE`: they are kept.
-/// - `EMPTY_HANDLE`: the handle is empty.
-/// - `MEMORY`: an allocation failed. The session knows the same hashes as before.
+/// - `EMPTY_HANDLE`: if and only if the handle is empty.
+/// - `ARGUMENTS`: if and only if there are hashes, and a session that keeps none.
+/// - `MEMORY`: an allocation failed.
+///
+/// Since 1.1.
 #[unsafe(no_mangle)]
 pub extern "C" fn yurewha_session_keep_hashes(
     alloc: Global,
@@ -113,30 +131,57 @@ pub extern "C" fn yurewha_session_keep_hashes(
     ensures kept { result ≡ DONE → BothHold session.old.value session.new.value (λ before after.
         (known all : List HashWords) → Knows before.session.kept known →
         AreBoth known (words_of hashes.now) all → Knows after.session.kept all) }
+    ensures arguments { IfSome session.old.value (λ before. (result ≡ ARGUMENTS)
+        ↔ ((0 < length hashes.now) × (before.keeps_hashes ≡ false))) }
     ensures refused { result ≡ MEMORY → BothHold session.old.value session.new.value (λ before after.
         (known : List HashWords) → Knows before.session.kept known → Knows after.session.kept known) }
+    ensures unchanged { result ≡ ARGUMENTS → session.new.value ≡ session.old.value }
+    ensures same_kind { result ≢ EMPTY_HANDLE → BothHold session.old.value session.new.value (λ before after.
+        after.keeps_hashes ≡ before.keeps_hashes) }
     ensures runs { result ≢ EMPTY_HANDLE → BothHold session.old.value session.new.value (λ before after.
         (after.session.runs ≡ before.session.runs) × (after.session.size ≡ before.session.size)) }
     ensures empty { (result ≡ EMPTY_HANDLE) ↔ (session.old.value ≡ None) }
     ensures still_empty { result ≡ EMPTY_HANDLE → session.new.value ≡ None }
-    ensures statuses { (result ≡ DONE) ⊎ ((result ≡ EMPTY_HANDLE) ⊎ (result ≡ MEMORY)) }
+    ensures statuses { (result ≡ DONE) ⊎ ((result ≡ EMPTY_HANDLE) ⊎ ((result ≡ ARGUMENTS) ⊎ (result ≡ MEMORY))) }
 {
     let Some(mut kept) = session.take(alloc) else {
         return EMPTY_HANDLE;
     };
-    let done = keep(alloc, &mut kept, hashes);
+    let status = keep(alloc, &mut kept, hashes);
     session.put(kept);
-    match done {
-        Ok(()) => DONE,
-        Err(_) => MEMORY,
-    }
+    status
+}
+
+/// Writes whether a session keeps the hashes of its chunks. It allocates nothing.
+///
+/// - `DONE`: it is written.
+/// - `EMPTY_HANDLE`: the handle is empty.
+///
+/// Since 1.1.
+#[unsafe(no_mangle)]
+pub extern "C" fn yurewha_session_keeps_hashes(
+    alloc: Global,
+    session: &mut SessionHandle,
+    keeps: &mut bool,
+) -> u32
+    ensures { Reads session.old.value session.new.value result (keeps.new ≡ keeps.old)
+        (λ kept. keeps.new ≡ kept.keeps_hashes) }
+{
+    let Some(kept) = session.take(alloc) else {
+        return EMPTY_HANDLE;
+    };
+    *keeps = kept.keeps_hashes;
+    session.put(kept);
+    DONE
 }
 
 /// Writes the number of hashes that a session knows: those that puts had and those that `yurewha_session_keep_hashes`
-/// kept, each counted once. It allocates nothing. The session is unchanged.
+/// kept, each counted once. It allocates nothing.
 ///
 /// - `DONE`: it is written.
-/// - `EMPTY_HANDLE`: the handle is empty. Nothing is written.
+/// - `EMPTY_HANDLE`: the handle is empty.
+///
+/// Since 1.1.
 #[unsafe(no_mangle)]
 pub extern "C" fn yurewha_session_num_known_hashes(
     alloc: Global,
@@ -184,14 +229,15 @@ fn write_hashes(kept: &KeptSession, hashes: &mut [Hash]) -> u32
     DONE
 }
 
-/// Writes all hashes that a session knows, each once, in no particular order. The session is unchanged.
+/// Writes all hashes that a session knows, each once, in no particular order.
 ///
 /// - `DONE`: they are written.
-/// - `EMPTY_HANDLE`: the handle is empty.
-/// - `ARGUMENTS`: there is a session, and the length of the list isn't the number of hashes that it knows.
+/// - `EMPTY_HANDLE`: if and only if the handle is empty.
+/// - `ARGUMENTS`: if and only if there is a session, and the length of the list isn't the number of hashes that it
+///   knows.
 /// - `MEMORY`: an allocation failed.
 ///
-/// Unless the status is `DONE`, nothing is written.
+/// Since 1.1.
 #[unsafe(no_mangle)]
 pub extern "C" fn yurewha_session_known_hashes(
     alloc: Global,

@@ -17,10 +17,12 @@ use crate::status::{ARGUMENTS, DONE, EMPTY_HANDLE, status_of_fault};
 use std::alloc::Global;
 
 /// Writes the number of chunks of a session, which is that of taken positions. It allocates nothing. The time is
-/// proportional to the number of runs. The session is unchanged.
+/// proportional to the number of runs.
 ///
 /// - `DONE`: it is written.
-/// - `EMPTY_HANDLE`: the handle is empty. Nothing is written.
+/// - `EMPTY_HANDLE`: the handle is empty.
+///
+/// Since 1.1.
 #[unsafe(no_mangle)]
 pub extern "C" fn yurewha_session_num_chunks(
     alloc: Global,
@@ -38,10 +40,12 @@ pub extern "C" fn yurewha_session_num_chunks(
     DONE
 }
 
-/// Writes the sum of the sizes of all chunks of a session, in bytes. It allocates nothing. The session is unchanged.
+/// Writes the sum of the sizes of all chunks of a session, in bytes. It allocates nothing.
 ///
 /// - `DONE`: it is written.
-/// - `EMPTY_HANDLE`: the handle is empty. Nothing is written.
+/// - `EMPTY_HANDLE`: the handle is empty.
+///
+/// Since 1.1.
 #[unsafe(no_mangle)]
 pub extern "C" fn yurewha_session_total_size(
     alloc: Global,
@@ -59,15 +63,15 @@ pub extern "C" fn yurewha_session_total_size(
     DONE
 }
 
-/// Writes the first gap of a session from a position on and below `total`: its first position and the position after its
-/// last one. Calls from position 0 and then from each gap's end walk all gaps. It allocates nothing. The session is
-/// unchanged.
+/// Writes the first gap of a session from a position on and below `total`: adjacent free positions, as many as there
+/// are. `first` gets the first of them, and `end` the position after the last one. To go through all gaps, begin at
+/// position 0 and go on at each gap's end. Finding a gap takes logarithmic time. It allocates nothing.
 ///
 /// - `DONE`: they are written.
-/// - `EMPTY_HANDLE`: the handle is empty.
-/// - `ARGUMENTS`: there is a session, and each of these positions is taken.
+/// - `EMPTY_HANDLE`: if and only if the handle is empty.
+/// - `ARGUMENTS`: if and only if there is a session, and each of these positions is taken.
 ///
-/// Unless the status is `DONE`, nothing is written.
+/// Since 1.1.
 #[unsafe(no_mangle)]
 pub extern "C" fn yurewha_session_next_gap(
     alloc: Global,
@@ -102,10 +106,12 @@ pub extern "C" fn yurewha_session_next_gap(
 }
 
 /// Writes whether a session knows a hash: whether a put had it, or `yurewha_session_keep_hashes` kept it. It allocates
-/// nothing. The session is unchanged.
+/// nothing.
 ///
 /// - `DONE`: it is written.
-/// - `EMPTY_HANDLE`: the handle is empty. Nothing is written.
+/// - `EMPTY_HANDLE`: the handle is empty.
+///
+/// Since 1.1.
 #[unsafe(no_mangle)]
 pub extern "C" fn yurewha_session_knows(
     alloc: Global,
@@ -150,13 +156,13 @@ fn write_known_each(kept: &KeptSession, hashes: &[Hash], known: &mut [u8]) -> u3
     DONE
 }
 
-/// Writes for each of some hashes 1 if a session knows it, and 0 if not. It allocates nothing. The session is unchanged.
+/// Writes for each of some hashes 1 if a session knows it, and 0 if not. It allocates nothing.
 ///
 /// - `DONE`: they are written.
-/// - `EMPTY_HANDLE`: the handle is empty.
-/// - `ARGUMENTS`: there is a session, and the two lists have different lengths.
+/// - `EMPTY_HANDLE`: if and only if the handle is empty.
+/// - `ARGUMENTS`: if and only if there is a session, and the two lists have different lengths.
 ///
-/// Unless the status is `DONE`, nothing is written.
+/// Since 1.1.
 #[unsafe(no_mangle)]
 pub extern "C" fn yurewha_session_knows_each(
     alloc: Global,
@@ -181,9 +187,9 @@ pub extern "C" fn yurewha_session_knows_each(
 }
 
 /// Writes the file hash under a salt of all chunks in the order of their positions. Under 32 zero bytes it is that of
-/// `yurewha_session_finish`. The session is unchanged.
+/// `yurewha_session_finish`. The statuses are those of `yurewha_session_root`.
 ///
-/// The statuses are those of `yurewha_session_root`. Unless the status is `DONE`, nothing is written.
+/// Since 1.1.
 #[unsafe(no_mangle)]
 pub extern "C" fn yurewha_session_finish_with_salt(
     alloc: Global,

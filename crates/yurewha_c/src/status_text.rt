@@ -73,11 +73,14 @@ fn status_text(status: u32) -> &'static str
     }
 }
 
-/// Writes what a status means to the beginning of `room`, in English, and the length of this text to `text_len`. For a
-/// number that is no status the text is `unknown status`. No text has more than 96 bytes. It allocates nothing.
+/// Writes what a status means to `room`, in English, and the length of this text to `text_len`. For a number that is no
+/// status the text is "unknown status". No text is longer than `YUREWHA_STATUS_TEXT_LENGTH`, which is 96. It allocates
+/// nothing.
 ///
 /// - `DONE`: it is written.
-/// - `ROOM`: the text is longer than `room`. Nothing is written to `room`, and `text_len` is the needed length.
+/// - `ROOM`: the text doesn't fit, and `text_len` is the needed length.
+///
+/// Since 1.1.
 #[unsafe(no_mangle)]
 pub extern "C" fn yurewha_status_text(status: u32, room: &mut [u8], text_len: &mut usize) -> u32
     ensures text { WritesText (status_text status) room.old room.new text_len.new result }

@@ -19,11 +19,11 @@ use xet_merkle::merkle_hash_subtree::MerkleHashSubtree;
 /// Makes the canonical subtree of some chunks, and writes it to the handle, which owns it. `at_start` marks its start:
 /// no chunk comes before these. `at_end` marks its end: no chunk comes after these.
 ///
-/// - `DONE`: it is made. What the handle owned before is freed.
-/// - `SIZES`: the sizes add up to more than 2^64 - 1.
+/// - `DONE`: it is made.
+/// - `SIZES`: if and only if the sizes add up to more than 2^64 - 1.
 /// - `MEMORY`: an allocation failed.
 ///
-/// Unless the status is `DONE`, the handle is unchanged.
+/// Since 1.0.
 #[unsafe(no_mangle)]
 pub extern "C" fn yurewha_subtree_from_chunks(
     alloc: Global,
@@ -53,11 +53,11 @@ pub extern "C" fn yurewha_subtree_from_chunks(
 
 /// Copies a subtree. The second handle owns the copy. The first is unchanged.
 ///
-/// - `DONE`: it is copied. What the second handle owned before is freed.
+/// - `DONE`: it is copied.
 /// - `MEMORY`: an allocation failed.
-/// - `EMPTY_HANDLE`: the first handle is empty.
+/// - `EMPTY_HANDLE`: if and only if the first handle is empty.
 ///
-/// Unless the status is `DONE`, the second handle is unchanged.
+/// Since 1.0.
 #[unsafe(no_mangle)]
 pub extern "C" fn yurewha_subtree_clone(
     alloc: Global,
@@ -84,12 +84,13 @@ fn are_equal(first: &MerkleHashSubtree, second: &MerkleHashSubtree) -> bool
     first == second
 }
 
-/// Writes whether two subtrees have the same marks, levels and nodes. It allocates nothing. Both handles are unchanged.
-///
-/// The contract is for two handles. A caller in C may pass one handle twice all the same, and gets `true`.
+/// Writes whether two subtrees have the same marks, levels and nodes. The contract is for two handles, but a caller may
+/// pass one handle twice, and finds it equal to itself. It allocates nothing.
 ///
 /// - `DONE`: it is written.
-/// - `EMPTY_HANDLE`: a handle is empty. Nothing is written.
+/// - `EMPTY_HANDLE`: a handle is empty.
+///
+/// Since 1.0.
 #[unsafe(no_mangle)]
 pub extern "C" fn yurewha_subtree_equal(
     alloc: Global,
@@ -121,10 +122,13 @@ pub extern "C" fn yurewha_subtree_equal(
     DONE
 }
 
-/// Writes the marks: whether no chunk comes before these, and whether none comes after. The handle is unchanged.
+/// Writes the marks: whether no chunk comes before those of the subtree, and whether none comes after them. It
+/// allocates nothing.
 ///
 /// - `DONE`: they are written.
-/// - `EMPTY_HANDLE`: the handle is empty. Nothing is written.
+/// - `EMPTY_HANDLE`: the handle is empty.
+///
+/// Since 1.0.
 #[unsafe(no_mangle)]
 pub extern "C" fn yurewha_subtree_marks(
     alloc: Global,
@@ -145,10 +149,12 @@ pub extern "C" fn yurewha_subtree_marks(
     DONE
 }
 
-/// Writes the total size of the chunks in bytes, which is the sum of the sizes of all nodes. The handle is unchanged.
+/// Writes the total size of the chunks in bytes, which is the sum of the sizes of all nodes. It allocates nothing.
 ///
 /// - `DONE`: it is written.
-/// - `EMPTY_HANDLE`: the handle is empty. Nothing is written.
+/// - `EMPTY_HANDLE`: the handle is empty.
+///
+/// Since 1.0.
 #[unsafe(no_mangle)]
 pub extern "C" fn yurewha_subtree_total_size(
     alloc: Global,
@@ -165,10 +171,12 @@ pub extern "C" fn yurewha_subtree_total_size(
     DONE
 }
 
-/// Writes the number of kept nodes. The handle is unchanged.
+/// Writes the number of kept nodes. It allocates nothing.
 ///
 /// - `DONE`: it is written.
-/// - `EMPTY_HANDLE`: the handle is empty. Nothing is written.
+/// - `EMPTY_HANDLE`: the handle is empty.
+///
+/// Since 1.0.
 #[unsafe(no_mangle)]
 pub extern "C" fn yurewha_subtree_num_nodes(
     alloc: Global,
@@ -185,10 +193,12 @@ pub extern "C" fn yurewha_subtree_num_nodes(
     DONE
 }
 
-/// Writes the number of levels. There is at least one. The handle is unchanged.
+/// Writes the number of levels. There is at least one. It allocates nothing.
 ///
 /// - `DONE`: it is written.
-/// - `EMPTY_HANDLE`: the handle is empty. Nothing is written.
+/// - `EMPTY_HANDLE`: the handle is empty.
+///
+/// Since 1.0.
 #[unsafe(no_mangle)]
 pub extern "C" fn yurewha_subtree_num_levels(
     alloc: Global,
@@ -205,14 +215,13 @@ pub extern "C" fn yurewha_subtree_num_levels(
     DONE
 }
 
-/// Writes the root of the chunks. Both ends of the subtree must be marked. It allocates nothing. The handle is
-/// unchanged.
+/// Writes the root of the chunks. Both ends of the subtree must be marked. It allocates nothing.
 ///
 /// - `DONE`: the root is written.
 /// - `ARGUMENTS`: an end isn't marked, so there is no root yet.
 /// - `EMPTY_HANDLE`: the handle is empty.
 ///
-/// Unless the status is `DONE`, nothing is written.
+/// Since 1.0.
 #[unsafe(no_mangle)]
 pub extern "C" fn yurewha_subtree_final_hash(
     alloc: Global,
@@ -243,7 +252,9 @@ pub extern "C" fn yurewha_subtree_final_hash(
     }
 }
 
-/// Frees what the handle owns, and leaves it empty. An empty handle stays empty. It can't fail.
+/// Frees what the handle owns, and leaves it empty.
+///
+/// Since 1.0.
 #[unsafe(no_mangle)]
 pub extern "C" fn yurewha_subtree_free(alloc: Global, subtree: &mut SubtreeHandle)
     ensures { subtree.new.value ≡ None }

@@ -37,12 +37,12 @@ pub(crate) fn counts_of(alloc: Global, levels: &[Level]) -> Result<Vec<(usize, u
 /// each level, from the chunks up. `nodes` has the left nodes of all levels, lowest level first, then the right nodes
 /// of all levels, highest level first.
 ///
-/// - `DONE`: it is made. What the handle owned before is freed.
-/// - `RULE` + rule: they break this rule, from 5 to 13 of `MerkleHashSubtree::from_json` of `xet_merkle`, and none of
-///   these with a lower number.
+/// - `DONE`: it is made.
+/// - `RULE` + rule: they break this rule, from 5 to 13 of `yurewha_subtree_from_json`, and none of these with a lower
+///   number.
 /// - `MEMORY`: an allocation failed; this may be returned instead of a rule.
 ///
-/// Unless the status is `DONE`, the handle is unchanged.
+/// Since 1.0.
 #[unsafe(no_mangle)]
 pub extern "C" fn yurewha_subtree_from_flat(
     alloc: Global,
@@ -146,15 +146,16 @@ fn write_flat(subtree: &MerkleHashSubtree, levels: &mut [Level], nodes: &mut [Ch
     write_rights(subtree, nodes, lefts);
 }
 
-/// Writes a subtree as flat lists. `levels` gets the number of left and right nodes of each level, from the chunks up.
-/// `nodes` gets the left nodes of all levels, lowest level first, then the right nodes of all levels, highest level
-/// first. `level_len` and `node_len` get the lengths of the lists. The lists and the marks together are the whole
-/// subtree. It allocates nothing. The handle is unchanged.
+/// Writes a subtree as flat lists, which have the form that `yurewha_subtree_from_flat` takes. `level_len` and
+/// `node_len` get the lengths of the lists. The lists and the marks together are the whole subtree. It allocates
+/// nothing.
 ///
 /// - `DONE`: the lists are written.
-/// - `ROOM`: a list is longer than its room. Nothing is written to either, and `level_len` and `node_len` are the
+/// - `ROOM`: a list is longer than its room; nothing is written to either, and `level_len` and `node_len` are the
 ///   needed lengths.
-/// - `EMPTY_HANDLE`: the handle is empty. Nothing is written.
+/// - `EMPTY_HANDLE`: if and only if the handle is empty.
+///
+/// Since 1.0.
 #[unsafe(no_mangle)]
 pub extern "C" fn yurewha_subtree_to_flat(
     alloc: Global,

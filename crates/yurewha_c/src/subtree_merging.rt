@@ -17,12 +17,12 @@ use xet_merkle::merkle_hash_subtree::MerkleHashSubtree;
 /// the concatenated chunk lists. It keeps its own start mark and takes the end mark of `other`. `other` is unchanged.
 ///
 /// - `DONE`: they are merged.
-/// - `EMPTY_HANDLE`: a handle is empty.
-/// - `ARGUMENTS`: neither handle is empty, and `subtree` is marked at its end or `other` at its start.
-/// - `SIZES`: neither of these applies, and the two sizes add up to more than 2^64 - 1.
+/// - `EMPTY_HANDLE`: if and only if a handle is empty.
+/// - `ARGUMENTS`: if and only if neither handle is empty, and `subtree` is marked at its end or `other` at its start.
+/// - `SIZES`: if and only if neither of these applies, and the two sizes add up to more than 2^64 - 1.
 /// - `MEMORY`: an allocation failed.
 ///
-/// Unless the status is `DONE`, `subtree` is unchanged.
+/// Since 1.0.
 #[unsafe(no_mangle)]
 pub extern "C" fn yurewha_subtree_merge_into(
     alloc: Global,
@@ -47,9 +47,9 @@ pub extern "C" fn yurewha_subtree_merge_into(
 }
 
 /// Does the same as `yurewha_subtree_merge_into`, and writes how many parents were hashed for it, or 2^64 - 1 if there
-/// were more.
+/// were more. The statuses are those of `yurewha_subtree_merge_into`.
 ///
-/// The statuses are the same. Unless the status is `DONE`, nothing is written to `parents`.
+/// Since 1.0.
 #[unsafe(no_mangle)]
 pub extern "C" fn yurewha_subtree_merge_into_counted(
     alloc: Global,
@@ -119,13 +119,13 @@ fn merge_copies(alloc: Global, copies: &[MerkleHashSubtree], merged: &mut Subtre
 /// concatenated chunk lists, with the start mark of the first range and the end mark of the last one. With no ranges it
 /// is the empty subtree with both marks. With one range it is a copy. The ranges are unchanged.
 ///
-/// - `DONE`: they are merged. What `merged` owned before is freed.
+/// - `DONE`: they are merged.
 /// - `EMPTY_HANDLE`: the handle of a range is empty.
 /// - `ARGUMENTS`: a range other than the first is marked at its start, or one other than the last at its end.
 /// - `SIZES`: the sizes of all ranges add up to more than 2^64 - 1.
 /// - `MEMORY`: an allocation failed; this may be returned instead of the three above.
 ///
-/// Unless the status is `DONE`, `merged` is unchanged.
+/// Since 1.0.
 #[unsafe(no_mangle)]
 pub extern "C" fn yurewha_subtree_merge(
     alloc: Global,

@@ -27,13 +27,14 @@ fn json_text(alloc: Global, subtree: &MerkleHashSubtree) -> Result<Vec<u8>, Allo
     value.to_vec(alloc)
 }
 
-/// Writes a subtree as compact JSON text to the beginning of `room`, and the length of the JSON text to `text_len`. The
-/// handle is unchanged.
+/// Writes the compact JSON text of a subtree to `room`, and its length to `text_len`.
 ///
 /// - `DONE`: it is written.
-/// - `ROOM`: the JSON text is longer than `room`. Nothing is written to `room`, and `text_len` is the needed length.
-/// - `MEMORY`: an allocation failed. Nothing is written.
-/// - `EMPTY_HANDLE`: the handle is empty. Nothing is written.
+/// - `ROOM`: the text doesn't fit, and `text_len` is the needed length.
+/// - `MEMORY`: an allocation failed.
+/// - `EMPTY_HANDLE`: if and only if the handle is empty.
+///
+/// Since 1.0.
 #[unsafe(no_mangle)]
 pub extern "C" fn yurewha_subtree_to_json(
     alloc: Global,
@@ -64,15 +65,30 @@ pub extern "C" fn yurewha_subtree_to_json(
     }
 }
 
-/// Reads a subtree from JSON text. The handle owns it.
+/// Reads a subtree from JSON text. The handle owns it. The value is an object with these members: `at_start` and
+/// `at_end`, the marks; `levels`, the number of left and right nodes of each level, from the chunks up; and `nodes`,
+/// each with its `hash` in hex and its `size`. `nodes` has the left nodes of all levels, lowest level first, then the
+/// right nodes of all levels, highest level first.
 ///
-/// - `DONE`: it is read. What the handle owned before is freed.
+/// - `DONE`: it is read.
 /// - `TEXT`: the text isn't UTF-8, or isn't JSON.
-/// - `RULE` + rule: the value breaks this rule, from 1 to 13 of `MerkleHashSubtree::from_json` of `xet_merkle`, and
-///   none with a lower number.
+/// - `RULE` + rule: the value breaks this rule, and none with a lower number:
+///   1. it is an object
+///   2. `nodes` and `levels` are arrays, and `at_start` and `at_end` are booleans
+///   3. a node is an object with `hash`, 64 hex digits, and `size`, a whole number below 2^64
+///   4. a level is an array of two whole numbers below 2^64
+///   5. there is at least one level
+///   6. the counts of all levels add up to the number of nodes
+///   7. the sizes of all nodes add up to at most 2^64 - 1
+///   8. the top level has no right nodes; with `at_end`, no level has any
+///   9. with `at_start`, no level below the top has left nodes
+///   10. with both marks, the top level has at most one node
+///   11. if there are several levels, the top level has a node
+///   12. without `at_start`, left nodes below the top end like the nodes before a first stable point
+///   13. without `at_end`, right nodes below the top begin like the nodes after a last stable point
 /// - `MEMORY`: an allocation failed; this may be returned instead of `TEXT` or a rule.
 ///
-/// Unless the status is `DONE`, the handle is unchanged.
+/// Since 1.0.
 #[unsafe(no_mangle)]
 pub extern "C" fn yurewha_subtree_from_json(
     alloc: Global,

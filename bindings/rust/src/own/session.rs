@@ -140,6 +140,47 @@ impl Session {
         Ok(Session { handle })
     }
 
+    /// Returns a session without chunks that keeps no hashes, so that its memory is in proportion to its number of runs.
+    /// It counts as new each hash of a put, once.
+    ///
+    /// ```
+    /// use yurewha::merklehash::MerkleHash;
+    /// use yurewha::own::Session;
+    ///
+    /// let chunk = (MerkleHash::random_from_seed(1), 100);
+    /// let mut session = Session::without_hashes();
+    /// assert_eq!(session.put(7, &[chunk; 3]), Ok(1));
+    /// assert_eq!(session.put(0, &[chunk]), Ok(1));
+    /// assert!(!session.knows(&chunk.0));
+    /// ```
+    ///
+    /// # Panics
+    ///
+    /// If an allocation fails; see [`try_without_hashes`](Self::try_without_hashes).
+    #[must_use]
+    #[track_caller]
+    pub fn without_hashes() -> Self {
+        plain("Session::without_hashes", Self::try_without_hashes())
+    }
+
+    /// Does the same as [`without_hashes`](Self::without_hashes), but returns an error if an allocation fails.
+    ///
+    /// ```
+    /// use yurewha::own::Session;
+    ///
+    /// assert_eq!(Session::try_without_hashes()?.num_runs(), 0);
+    /// # Ok::<(), yurewha::error::CoreError>(())
+    /// ```
+    ///
+    /// # Errors
+    ///
+    /// [`OutOfMemory`](crate::error::CoreError::OutOfMemory) if an allocation fails
+    pub fn try_without_hashes() -> Result<Self> {
+        // SAFETY: an empty handle to write to.
+        let handle = answer(|made: &mut Owned<_>| unsafe { ffi::yurewha_session_new_without_hashes(made.get_mut()) })?;
+        Ok(Session { handle })
+    }
+
     /// Does the same as [`clone`](Clone::clone), but returns an error if an allocation fails.
     ///
     /// ```
@@ -164,8 +205,8 @@ impl Session {
         self.handle.lock()
     }
 
-    /// Puts chunks at the positions from `first` on. Returns how many of their hashes no earlier successful put had,
-    /// each counted once. With no chunks it returns 0 and changes nothing.
+    /// Puts chunks at the positions from `first` on. Returns how many of their hashes the session didn't know, each
+    /// counted once. With no chunks it returns 0 and changes nothing.
     ///
     /// ```
     /// use yurewha::merklehash::MerkleHash;
@@ -475,7 +516,7 @@ impl Session {
     }
 }
 
-/// A clone has the same chunks and knows the same hashes.
+/// A clone has the same chunks, knows the same hashes, and keeps hashes if the session does.
 ///
 /// # Panics
 ///

@@ -67,11 +67,24 @@ impl Session {
     ///
     /// # Errors
     ///
-    /// [`OutOfMemory`](crate::error::CoreError::OutOfMemory) if an allocation fails. The session then knows the same
-    /// hashes as before.
+    /// - [`InvalidArguments`](crate::error::CoreError::InvalidArguments) if there are hashes, and the session keeps none
+    /// - [`OutOfMemory`](crate::error::CoreError::OutOfMemory) if an allocation fails. The session then knows the same
+    ///   hashes as before.
     pub fn keep_hashes(&mut self, hashes: &[MerkleHash]) -> Result<()> {
         // SAFETY: a handle, and hashes of their number.
         done(unsafe { ffi::yurewha_session_keep_hashes(self.handle.get_mut(), hashes.as_ptr().cast(), hashes.len()) })
+    }
+
+    /// Returns whether this session keeps the hashes of its chunks, as one [without hashes](Self::without_hashes) doesn't.
+    ///
+    /// ```
+    /// use yurewha::own::Session;
+    ///
+    /// assert!(Session::new().keeps_hashes() && !Session::without_hashes().keeps_hashes());
+    /// ```
+    pub fn keeps_hashes(&self) -> bool {
+        // SAFETY: a handle, and a `bool` to write to.
+        told(|keeps| unsafe { ffi::yurewha_session_keeps_hashes(&mut *self.lock(), keeps) })
     }
 
     /// Returns whether this session knows a hash: whether a put had it, or it was [kept](Self::keep_hashes).

@@ -1,7 +1,8 @@
-use Rattle.std.proofs.Common.{◌≡◌, [], arith, length, subst, ap, ◌∙◌, rules}
+use Rattle.std.proofs.Common.{◌≡◌, [], arith, length, subst, sym, ap, ◌∙◌, rules}
 use Rattle.std.proofs.lemmas.List.{length-map, nil_from_length}
-use Rattle.std.proofs.lemmas.Result.{IfOk-weaker, on_ok_weaker}
-use Rattle.upload_session.specs.Session.{CountsNew, LearnsHashes}
+use Rattle.std.specs.declared.alloc.Global.{Global}
+use Rattle.subtree_sessions.specs.Subtrees.{subtrees}
+use Rattle.upload_session.specs.Session.{place, CountsNew, LearnsHashes, StandFor}
 use Rattle.yurewha_c.specs.Chunks.{node_of, nodes_of}
 use Rattle.yurewha_c.specs.Sessions.{seen_hashes}
 use Rattle.yurewha_c.proofs.session.put_chunks.Goals as goal
@@ -13,22 +14,22 @@ returns-then-is_empty-clause-placed c =
     rw e c.put.ensures.placed
 
 pub returns-clause-placed : goal.returns-clause-placed
-returns-clause-placed c =
+returns-clause-placed c = λ placed stands.
     let e : c.deref.result.now ≡ nodes_of c.args.chunks.now = c.deref.ensures.value ∙ c.in_ok-nodes.ensures in
-    rw e at c.put-2.ensures.placed
+    subst (λ runs. StandFor {A = Global} subtrees runs (place placed c.args.first (nodes_of c.args.chunks.now))) (sym c.forget_unkept.ensures.runs)
+    (rw e at (c.in_ok-count.ensures.placed placed stands))
 
 pub returns-clause-learned : goal.returns-clause-learned
-returns-clause-learned c =
+returns-clause-learned c = λ some keeps.
     let e : c.deref.result.now ≡ nodes_of c.args.chunks.now = c.deref.ensures.value ∙ c.in_ok-nodes.ensures in
     let long = length-map c.args.chunks.now node_of in
-    on_ok_weaker c.put-2.result (λ learns some.
-    subst (λ nodes. LearnsHashes seen_hashes c.args.kept.now.session.kept nodes c.put-2.new.self.kept) e (learns (omega (arith, some, long, ap length e))))
-    c.put-2.ensures.learned
+    rw (c.forget_unkept.ensures.unchanged keeps)
+    (subst (λ nodes. LearnsHashes seen_hashes c.args.kept.now.session.kept nodes c.put-2.new.self.kept) e
+    (c.in_ok-count.ensures.learned (omega (arith, some, long, ap length e))))
 
 pub returns-clause-new : goal.returns-clause-new
-returns-clause-new c =
+returns-clause-new c = λ some.
     let e : c.deref.result.now ≡ nodes_of c.args.chunks.now = c.deref.ensures.value ∙ c.in_ok-nodes.ensures in
     let long = length-map c.args.chunks.now node_of in
-    IfOk-weaker c.put-2.result _ _ (λ count counts some.
-    subst (λ nodes. CountsNew seen_hashes c.args.kept.now.session.kept nodes count) e (counts (omega (arith, some, long, ap length e))))
-    c.put-2.ensures.new
+    subst (λ nodes. CountsNew seen_hashes c.args.kept.now.session.kept nodes c.in_ok-count.count) e
+    (c.in_ok-count.ensures.new (omega (arith, some, long, ap length e)))

@@ -9,7 +9,7 @@ returns-in-Ok-clause-placed c = λ _. rw (← c.in-Some.ensures.value, c.put.ens
 
 pub returns-in-Ok-clause-learned : goal.returns-in-Ok-clause-learned
 returns-in-Ok-clause-learned c = λ _. rw (← c.in-Some.ensures.value, c.put.ensures)
-    (λ some known all knows both. c.in-Ok.ensures.learned some known all (rw c.deref_mut.ensures.value knows) both)
+    (λ some keeps known all knows both. c.in-Ok.ensures.learned some (rw c.deref_mut.ensures.value keeps) known all (rw c.deref_mut.ensures.value knows) both)
 
 pub returns-in-Ok-clause-meets : goal.returns-in-Ok-clause-meets
 returns-in-Ok-clause-meets c = rw (← c.in-Some.ensures.value)
