@@ -8,3 +8,5 @@ mod drawn;
 mod kept_hashes;
 #[cfg(test)]
 mod sessions;
+#[cfg(test)]
+mod texts;

@@ -47,12 +47,12 @@ fn node(seed: u64, size: u64) -> Node {
 }
 
 // Returns the number with a text.
-fn to_number(rt: &impl Abort, text: &str) -> u64 {
+pub(crate) fn to_number(rt: &impl Abort, text: &str) -> u64 {
     text.parse().expect(rt, "a number")
 }
 
 // Returns the chunks of a call. `-` is none.
-fn nodes(rt: &impl Abort, alloc: Global, chunks: &str) -> Vec<Node> {
+pub(crate) fn nodes(rt: &impl Abort, alloc: Global, chunks: &str) -> Vec<Node> {
     let mut nodes = Vec::new(alloc);
     for chunk in chunks.split(',') {
         if chunk != "-" {

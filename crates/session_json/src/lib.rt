@@ -1,0 +1,4 @@
+//! Sessions over subtrees as JSON.
+#![tactic(auto)]
+
+pub mod writing;

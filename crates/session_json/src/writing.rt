@@ -1,0 +1,142 @@
+//! Writes the JSON text of a session. It needs no tree of values, which would take several times the memory of the text, since a
+//! session may know millions of hashes.
+
+ghost use Rattle.std.specs.Prelude.{◌≡◌, ◌++◌, ◌∷◌, [], List, codes, decimal, map, IfOk, OnOk};
+ghost use Rattle.serde_json.specs.Data.{array};
+ghost use Rattle.serde_json.specs.View.{items_of};
+ghost use Rattle.serde_json.specs.Written.{comma_if, compact_text};
+ghost use Rattle.level_nodes.specs.NodeJson.{number_json};
+ghost use Rattle.xet_merkle.specs.SubtreeJson.{subtree_json};
+ghost use Rattle.session_json.specs.SessionJson.{hash_json, run_json, session_json};
+
+use std::alloc::{AllocError, Allocator, Global};
+use subtree_sessions::session::Session;
+use xet_hash::data_hash::MerkleHash;
+use xet_merkle::laws::subtree_json_has_no_float;
+use xet_merkle::merkle_hash_subtree::MerkleHashSubtree;
+
+// Writes a comma, if something stands before.
+fn push_comma(text: &mut Vec<u8>, later: bool) -> Result<(), AllocError>
+    ensures { OnOk result (text.new.items ≡ text.old.items ++ comma_if later) }
+{
+    if later {
+        text.push(b',')?;
+    }
+    Ok(())
+}
+
+// Writes a number in decimal.
+fn push_number(text: &mut Vec<u8>, number: u64) -> Result<(), AllocError>
+    ensures { OnOk result (text.new.items ≡ text.old.items ++ decimal number) }
+{
+    let mut digits = itoa::Buffer::new();
+    text.extend_from_slice(digits.format(number).as_bytes())
+}
+
+// Writes a hash as an array of its four words.
+fn push_hash(text: &mut Vec<u8>, hash: &MerkleHash) -> Result<(), AllocError>
+    ensures { OnOk result (text.new.items ≡ text.old.items ++ compact_text (hash_json hash.now)) }
+{
+    let words = hash.words();
+    text.push(b'[')?;
+    let mut later = false;
+    'words: for word in &words {
+        push_comma(text, later)?;
+        push_number(text, *word)?;
+        later = true;
+    }
+    text.push(b']')?;
+    Ok(())
+}
+
+// Writes hashes as an array.
+fn push_hashes(text: &mut Vec<u8>, hashes: &[MerkleHash]) -> Result<(), AllocError>
+    ensures { OnOk result (text.new.items
+        ≡ text.old.items ++ compact_text (array (items_of (map hash_json hashes.now)))) }
+{
+    text.push(b'[')?;
+    let mut later = false;
+    'hashes: for hash in hashes {
+        push_comma(text, later)?;
+        push_hash(text, hash)?;
+        later = true;
+    }
+    text.push(b']')?;
+    Ok(())
+}
+
+// Writes a subtree.
+fn push_subtree(
+    alloc: Global,
+    text: &mut Vec<u8>,
+    subtree: &MerkleHashSubtree,
+) -> Result<(), AllocError>
+    ensures { OnOk result (text.new.items ≡ text.old.items ++ compact_text (subtree_json subtree.now)) }
+{
+    let Ok(value) = subtree.to_json(alloc) else {
+        return Err(AllocError);
+    };
+    // The contract needs this law: `to_vec` promises its text only for values without floats.
+    subtree_json_has_no_float();
+    let written = value.to_vec(alloc)?;
+    text.extend_from_slice(&written)
+}
+
+// Writes a run as an object of its positions and its subtree.
+#[tactic(auto, unfolding(json::specs::Print::escape_byte))]
+fn push_run(
+    alloc: Global,
+    text: &mut Vec<u8>,
+    first: u64,
+    end: u64,
+    range: &MerkleHashSubtree,
+) -> Result<(), AllocError>
+    ensures { OnOk result (text.new.items ≡ text.old.items
+        ++ compact_text (run_json (first, record { end = end; range = range.now }))) }
+{
+    text.extend_from_slice(b"{\"first\":")?;
+    push_number(text, first)?;
+    text.extend_from_slice(b",\"end\":")?;
+    push_number(text, end)?;
+    text.extend_from_slice(b",\"chunks\":")?;
+    push_subtree(alloc, text, range)?;
+    text.push(b'}')?;
+    Ok(())
+}
+
+// Writes the runs of a session as an array, by rising position.
+fn push_runs(alloc: Global, text: &mut Vec<u8>, session: &Session) -> Result<(), AllocError>
+    ensures { OnOk result (text.new.items ≡ text.old.items
+        ++ compact_text (array (items_of (map run_json session.now.runs)))) }
+{
+    // The proof needs what this call promises, that the runs rise.
+    session.num_runs();
+    text.push(b'[')?;
+    let (mut later, mut position) = (false, 0);
+    'runs: while let Some((first, end, range)) = session.run_from(position) {
+        push_comma(text, later)?;
+        push_run(alloc, text, first, end, range)?;
+        (later, position) = (true, end);
+    }
+    text.push(b']')?;
+    Ok(())
+}
+
+/// Returns the compact JSON text of a session: its runs, and some hashes in the order in which they are given. Fails if an
+/// allocation fails.
+#[tactic(auto, unfolding(json::specs::Print::escape_byte))]
+pub fn session_text(
+    alloc: Global,
+    session: &Session,
+    hashes: &[MerkleHash],
+) -> Result<Vec<u8>, AllocError>
+    ensures { IfOk result (λ text. text.items ≡ compact_text (session_json session.now.runs hashes.now)) }
+{
+    let mut text = Vec::new(alloc);
+    text.extend_from_slice(b"{\"runs\":")?;
+    push_runs(alloc, &mut text, session)?;
+    text.extend_from_slice(b",\"known_hashes\":")?;
+    push_hashes(&mut text, hashes)?;
+    text.push(b'}')?;
+    Ok(text)
+}
