@@ -1,0 +1,274 @@
+//! A file of ten chunks of ten bytes, each byte its own place, and what a reader has of it.
+
+use range_proof::HashTree;
+use refusing_allocator::RefusingAllocator;
+use std::alloc::Global;
+use std::process::Abort;
+use verified_reader::{PartFault, VerifiedReader, WantedPart};
+use xet_hash::data_hash::{MerkleHash, compute_data_hash};
+use xet_roots::aggregated_hashes::{Node, file_hash};
+
+// The size of each chunk in bytes, and what it counts when it is kept.
+const SIZE: usize = 10;
+
+const COUNTS: u64 = 138;
+
+const SALT: [u8; 32] = [0; 32];
+
+// The tests' allocator.
+type Memory<'a> = &'a RefusingAllocator<Global>;
+
+#[derive(Drop)]
+struct File<'a> {
+    bytes: Vec<u8, Memory<'a>>,
+    tree: HashTree<Memory<'a>>,
+    hash: MerkleHash,
+}
+
+fn refusing(alloc: Global) -> RefusingAllocator<Global> {
+    RefusingAllocator::new(alloc, u32::MAX)
+}
+
+fn make_file<'a>(rt: &impl Abort, memory: Memory<'a>) -> File<'a> {
+    let mut bytes = Vec::new(memory);
+    for place in 0..100u8 {
+        bytes.push(place).expect(rt, "memory");
+    }
+    let mut chunks: Vec<Node, Memory<'a>> = Vec::new(memory);
+    for chunk in bytes.chunks(SIZE) {
+        let node = (compute_data_hash(chunk), SIZE as u64);
+        chunks.push(node).expect(rt, "memory");
+    }
+    let hash = file_hash(memory, &chunks).expect(rt, "a file hash");
+    let tree = HashTree::from_chunks(memory, &chunks).expect(rt, "a tree");
+    File { bytes, tree, hash }
+}
+
+// Opens the part of the chunks from number `first` up to, but without, number `end`.
+fn part<'a>(
+    rt: &impl Abort,
+    memory: Memory<'a>,
+    file: &File<'a>,
+    first: u8,
+    end: u8,
+) -> WantedPart<Memory<'a>> {
+    let proof = file
+        .tree
+        .proof(memory, first as usize, end as usize)
+        .expect(rt, "a proof");
+    let (from, to) = (first as u64 * 10, end as u64 * 10);
+    WantedPart::open(memory, proof, &file.hash, &SALT, from, to, 0).expect(rt, "a part")
+}
+
+fn reader<'a>(
+    rt: &impl Abort,
+    memory: Memory<'a>,
+    file: &File<'a>,
+    most: u64,
+) -> VerifiedReader<Memory<'a>> {
+    VerifiedReader::new(memory, &file.hash, &SALT, most).expect(rt, "a reader")
+}
+
+// Checks the whole data of some chunks, and gives them to a reader.
+fn take<'a>(
+    rt: &impl Abort,
+    memory: Memory<'a>,
+    file: &File<'a>,
+    kept: &mut VerifiedReader<Memory<'a>>,
+    first: u8,
+    end: u8,
+) {
+    let mut part = part(rt, memory, file, first, end);
+    let (from, to) = (first as usize * SIZE, end as usize * SIZE);
+    let bytes = part.check(data(rt, file, from, to));
+    assert!(rt; bytes.len() == to.saturating_sub(from));
+    assert!(rt; kept.take(part));
+}
+
+// Returns the bytes of the file from one place up to, but without, another.
+fn data<'b>(rt: &impl Abort, file: &'b File<'_>, from: usize, to: usize) -> &'b [u8] {
+    file.bytes.get(from..to).expect(rt, "bytes")
+}
+
+// Returns how many bytes a reader has from a place on. They are those of the file.
+fn has<'a>(rt: &impl Abort, kept: &mut VerifiedReader<Memory<'a>>, from: u8) -> usize {
+    let mut room = [255; 100];
+    let count = kept.read(from as u64, &mut room);
+    let mut place = from;
+    for byte in &room[..count] {
+        assert!(rt; *byte == place);
+        place = place.saturating_add(1);
+    }
+    assert!(rt; room[count..].iter().all(|byte| *byte == 255));
+    count
+}
+
+#[test]
+fn what_was_checked_is_read_over_chunks(rt: HostRuntime) {
+    let memory = refusing(rt.alloc());
+    let file = make_file(&rt, &memory);
+    let mut kept = reader(&rt, &memory, &file, 10_000);
+    assert!(rt; kept.size() == None && has(&rt, &mut kept, 0) == 0);
+    take(&rt, &memory, &file, &mut kept, 4, 6);
+    take(&rt, &memory, &file, &mut kept, 2, 4);
+    assert!(rt; kept.size() == Some(100) && kept.counted() == 4 * COUNTS);
+    assert!(rt; has(&rt, &mut kept, 25) == 35 && has(&rt, &mut kept, 59) == 1);
+    assert!(rt; has(&rt, &mut kept, 19) == 0 && has(&rt, &mut kept, 60) == 0);
+}
+
+#[test]
+fn data_may_be_cut_off_anywhere(rt: HostRuntime) {
+    let memory = refusing(rt.alloc());
+    let file = make_file(&rt, &memory);
+    for length in 0..41usize {
+        let mut kept = reader(&rt, &memory, &file, 10_000);
+        let mut cut = part(&rt, &memory, &file, 2, 6);
+        let whole = length / SIZE * SIZE;
+        assert!(rt;
+            cut.check(data(&rt, &file, 20, 20 + length)) == data(&rt, &file, 20, 20 + whole)
+        );
+        assert!(rt; kept.take(cut) && has(&rt, &mut kept, 20) == whole);
+    }
+}
+
+#[test]
+fn a_wrong_chunk_ends_what_is_checked(rt: HostRuntime) {
+    let memory = refusing(rt.alloc());
+    let file = make_file(&rt, &memory);
+    let mut kept = reader(&rt, &memory, &file, 10_000);
+    let mut wrong = part(&rt, &memory, &file, 0, 3);
+    let mut bytes = [0; 30];
+    for k in 0..30usize {
+        bytes[k] = k as u8;
+    }
+    bytes[15] = 16;
+    assert!(rt; wrong.check(&bytes).len() == 10);
+    assert!(rt; kept.take(wrong) && has(&rt, &mut kept, 0) == 10);
+}
+
+#[test]
+fn the_chunk_that_was_used_longest_ago_goes_first(rt: HostRuntime) {
+    let memory = refusing(rt.alloc());
+    let file = make_file(&rt, &memory);
+    let mut kept = reader(&rt, &memory, &file, 3 * COUNTS);
+    take(&rt, &memory, &file, &mut kept, 0, 1);
+    take(&rt, &memory, &file, &mut kept, 2, 3);
+    take(&rt, &memory, &file, &mut kept, 4, 5);
+    assert!(rt; has(&rt, &mut kept, 5) == 5);
+    take(&rt, &memory, &file, &mut kept, 6, 7);
+    assert!(rt; kept.counted() == 3 * COUNTS);
+    assert!(rt; has(&rt, &mut kept, 20) == 0 && has(&rt, &mut kept, 0) == 10);
+    take(&rt, &memory, &file, &mut kept, 8, 9);
+    assert!(rt; has(&rt, &mut kept, 40) == 0 && has(&rt, &mut kept, 0) == 10);
+}
+
+#[test]
+fn more_chunks_than_may_be_kept_leave_the_last_ones(rt: HostRuntime) {
+    let memory = refusing(rt.alloc());
+    let file = make_file(&rt, &memory);
+    let mut kept = reader(&rt, &memory, &file, 2 * COUNTS + 1);
+    take(&rt, &memory, &file, &mut kept, 0, 10);
+    assert!(rt; has(&rt, &mut kept, 80) == 20 && has(&rt, &mut kept, 79) == 0);
+    let mut none = reader(&rt, &memory, &file, COUNTS - 1);
+    take(&rt, &memory, &file, &mut none, 0, 10);
+    assert!(rt; none.counted() == 0 && none.size() == Some(100));
+}
+
+#[test]
+fn what_is_missing_goes_from_gap_to_gap(rt: HostRuntime) {
+    let memory = refusing(rt.alloc());
+    let file = make_file(&rt, &memory);
+    let mut kept = reader(&rt, &memory, &file, 10_000);
+    assert!(rt; kept.needs(95, 1_000, 50) == Some((95, 145)));
+    take(&rt, &memory, &file, &mut kept, 2, 4);
+    take(&rt, &memory, &file, &mut kept, 6, 7);
+    assert!(rt;
+        kept.needs(5, 1_000, 50) == Some((5, 20)) && kept.needs(5, 15, 50) == Some((5, 15))
+    );
+    assert!(rt; kept.needs(25, 1_000, 50) == Some((40, 60)) && kept.needs(25, 40, 50) == None);
+    assert!(rt;
+        kept.needs(65, 1_000, 20) == Some((70, 90)) && kept.needs(65, 1_000, 50) == Some((70, 100))
+    );
+    assert!(rt; kept.needs(99, 1_000, 0) == Some((99, 100)) && kept.needs(100, 1_000, 50) == None);
+}
+
+// Returns why a proof of the chunks 2 to 5 isn't that of some bytes.
+fn fault<'a>(
+    rt: &impl Abort,
+    memory: Memory<'a>,
+    file: &File<'a>,
+    hash: &MerkleHash,
+    from: u64,
+    to: u64,
+    beyond: u64,
+) -> Option<PartFault> {
+    let proof = file.tree.proof(memory, 2, 6).expect(rt, "a proof");
+    match WantedPart::open(memory, proof, hash, &SALT, from, to, beyond) {
+        Ok(_) => None,
+        Err(fault) => Some(fault),
+    }
+}
+
+#[test]
+fn a_proof_of_something_else_is_refused(rt: HostRuntime) {
+    let memory = refusing(rt.alloc());
+    let file = make_file(&rt, &memory);
+    let other = MerkleHash::from([1, 2, 3, 4]);
+    assert!(rt; fault(&rt, &memory, &file, &other, 20, 60, 0) == Some(PartFault::Mismatch));
+    assert!(rt; fault(&rt, &memory, &file, &file.hash, 19, 60, 9) == Some(PartFault::Elsewhere));
+    assert!(rt; fault(&rt, &memory, &file, &file.hash, 20, 61, 9) == Some(PartFault::Elsewhere));
+    assert!(rt; fault(&rt, &memory, &file, &file.hash, 30, 30, 9) == Some(PartFault::Elsewhere));
+    assert!(rt; fault(&rt, &memory, &file, &file.hash, 25, 55, 4) == Some(PartFault::TooFar));
+    assert!(rt; fault(&rt, &memory, &file, &file.hash, 25, 55, 5) == None);
+}
+
+#[test]
+fn the_end_of_the_file_ends_a_part(rt: HostRuntime) {
+    let memory = refusing(rt.alloc());
+    let file = make_file(&rt, &memory);
+    let proof = file.tree.proof(&memory, 9, 10).expect(&rt, "a proof");
+    let mut last = WantedPart::open(&memory, proof, &file.hash, &SALT, 95, 1_000, 5).expect(
+        &rt, "a part",
+    );
+    assert!(rt; last.check(data(&rt, &file, 90, 100)) == data(&rt, &file, 95, 100));
+}
+
+#[test]
+fn refused_memory_leaves_a_reader_as_it_was(rt: HostRuntime) {
+    let memory = refusing(rt.alloc());
+    let file = make_file(&rt, &memory);
+    let mut kept = reader(&rt, &memory, &file, 10_000);
+    for granted in 0..2u32 {
+        let mut part = part(&rt, &memory, &file, 2, 3);
+        assert!(rt; part.check(data(&rt, &file, 20, 30)).len() == 10);
+        memory.grant(granted);
+        assert!(rt; kept.take(part) && memory.has_refused());
+        assert!(rt; kept.counted() == 0 && has(&rt, &mut kept, 20) == 0);
+        memory.grant(u32::MAX);
+    }
+    take(&rt, &memory, &file, &mut kept, 2, 3);
+    assert!(rt; has(&rt, &mut kept, 20) == 10);
+}
+
+#[test]
+fn refused_memory_ends_what_is_checked(rt: HostRuntime) {
+    let memory = refusing(rt.alloc());
+    let file = make_file(&rt, &memory);
+    let mut part = part(&rt, &memory, &file, 2, 6);
+    memory.grant(3);
+    let checked = part.check(data(&rt, &file, 20, 60)).len();
+    assert!(rt; memory.has_refused() && checked < 40 && checked % SIZE == 0);
+    memory.grant(u32::MAX);
+    assert!(rt; part.check(data(&rt, &file, 20, 60)).len() == 40);
+}
+
+#[test]
+fn a_part_of_another_file_is_not_taken(rt: HostRuntime) {
+    let memory = refusing(rt.alloc());
+    let file = make_file(&rt, &memory);
+    let other = MerkleHash::from([1, 2, 3, 4]);
+    let mut kept = VerifiedReader::new(&memory, &other, &SALT, 10_000).expect(&rt, "a reader");
+    let mut part = part(&rt, &memory, &file, 2, 3);
+    assert!(rt; part.check(data(&rt, &file, 20, 30)).len() == 10);
+    assert!(rt; !kept.take(part) && kept.size() == None && kept.counted() == 0);
+}

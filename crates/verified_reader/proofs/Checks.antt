@@ -1,0 +1,198 @@
+-- What some checks show, and what more checks show too.
+use Rattle.std.proofs.Common.{arith, ◌≡◌, ◌<◌, ◌≤◌, ◌+◌, ◌⊎◌, ℕ, List, [], ◌∷◌, ◌++◌, length, take, drop, refl, sym, ap, subst, ◌∙◌, inl, inr, append-nil, append_assoc, length-append}
+use Rattle.std.specs.Prelude.{All, Contains, Err, IfSome, None, Ok, OnErr, OnOk, Option, Result, Some}
+use Rattle.std.proofs.lemmas.Bool.{cases_lt}
+use Rattle.std.proofs.lemmas.List.{take-append-drop}
+use Rattle.std.proofs.lemmas.List.Elements.{All-contains, All-contains_itself, All-weaker, Contains-append_left, Contains-append_right, Contains-get_or, Contains-push, Contains-push_cases}
+use Rattle.std.proofs.lemmas.List.Sums.{sum_by-append, sum_by-cons}
+use Rattle.range_proof.specs.RangeProof.{file_size_of}
+use Rattle.verified_reader.specs.Kept.{AreUsed, Chunk, IsUsed, Keeps, KeepsAll, size_of_kept}
+use Rattle.verified_reader.specs.Reader.{AreAdjacent, Check, IsChecked, IsCheckedBy, IsPartOf, IsShownBy, IsSizeOfFile, Part, Reader, checks_of}
+use Rattle.verified_reader.proofs.Entries.{of_map}
+use Rattle.verified_reader.proofs.Pieces.{of_size}
+use Rattle.verified_reader.proofs.Reading.{used_member, used_members}
+
+-- ---- More checks
+
+abbrev pub AreAmong : List Check → List Check → Type 0
+AreAmong checks more = (check : Check) → Contains checks check → Contains more check
+
+pub checked_too : (checks more : List Check) (hash salt : List ℕ) (chunk : Chunk) → AreAmong checks more → IsChecked checks hash salt chunk → IsChecked more hash salt chunk
+checked_too checks more hash salt chunk are h =
+    record { proof = h.proof; among = are (record { proof = h.proof; bytes = chunk.bytes }) h.among; checked = h.checked }
+
+size_too : (checks more : List Check) (hash salt : List ℕ) (size : ℕ) → AreAmong checks more → IsSizeOfFile checks hash salt size → IsSizeOfFile more hash salt size
+size_too checks more hash salt size are h = λ file is_hash. elim (h file is_hash) [
+  | inl is ↦ inl is
+  | inr c ↦ inr (record { check = c.check; among = are c.check c.among; collision = c.collision })
+]
+
+pub sizes_too : (checks more : List Check) (hash salt : List ℕ) (size : Option ℕ) → AreAmong checks more → IfSome size (IsSizeOfFile checks hash salt) →
+    IfSome size (IsSizeOfFile more hash salt)
+sizes_too checks more hash salt None are h = h
+sizes_too checks more hash salt (Some size) are h = size_too checks more hash salt size are h
+
+-- what holds of each member holds of all
+pub all_from : {X : Type 0} (P : X → Type 0) (xs : List X) → ((x : X) → Contains xs x → P x) → All P xs
+all_from {X} P xs each = All-weaker (Contains xs) P each xs (All-contains_itself xs)
+
+-- ---- A part
+
+pub check_among : (part : Part) (chunk : Chunk) → Contains part.checked chunk → Contains (checks_of part) (record { proof = part.proof; bytes = chunk.bytes })
+check_among part chunk among =
+    let check : Chunk → Check = λ chunk. record { proof = part.proof; bytes = chunk.bytes } in
+    All-contains (λ (c : Chunk). Contains (checks_of part) (check c)) part.checked chunk
+    (of_map (Contains (checks_of part)) check part.checked (All-contains_itself (checks_of part))) among
+
+-- chunks that a proof checked were checked in their own checks
+pub own_checks : (part : Part) → All (IsCheckedBy part.proof part.hash part.salt) part.checked → All (IsChecked (checks_of part) part.hash part.salt) part.checked
+own_checks part checked = all_from (IsChecked (checks_of part) part.hash part.salt) part.checked (λ chunk among. record {
+  proof = part.proof;
+  among = check_among part chunk among;
+  checked = All-contains (IsCheckedBy part.proof part.hash part.salt) part.checked chunk checked among;
+})
+
+-- one more chunk
+pub adjacent_push : {place : ℕ} {chunks : List Chunk} {bytes : List ℕ} (chunk : Chunk) → AreAdjacent place chunks bytes → chunk.begin ≡ place + length bytes →
+    AreAdjacent place (chunks ++ chunk ∷ []) (bytes ++ chunk.bytes)
+adjacent_push {place} chunk AreAdjacent.none begins =
+    let here : chunk.begin ≡ place = omega (arith, begins) in
+    subst (λ (b : ℕ). AreAdjacent place (record { begin = b; bytes = chunk.bytes } ∷ []) chunk.bytes) (sym here)
+    (subst (λ (l : List ℕ). AreAdjacent place (record { begin = place; bytes = chunk.bytes } ∷ []) l) (append-nil chunk.bytes) (AreAdjacent.more AreAdjacent.none))
+adjacent_push chunk (AreAdjacent.more {place} {bytes} {rest} {chunks} later) begins =
+    let next : chunk.begin ≡ (place + length bytes) + length rest = omega (arith, begins, length-append bytes rest) in
+    subst (λ (l : List ℕ). AreAdjacent place (record { begin = place; bytes = bytes } ∷ chunks ++ chunk ∷ []) l) (sym (append_assoc bytes rest chunk.bytes))
+    (AreAdjacent.more (adjacent_push chunk later next))
+
+-- ---- What a reader keeps
+
+-- a chunk that is kept was kept before, or is the new one
+kept_member : (most : ℕ) (old new : List Chunk) (chunk : Chunk) → Keeps most old chunk new → (c : Chunk) → Contains new c → Contains old c ⊎ (chunk ≡ c)
+kept_member most old new chunk (Keeps.kept free drops) c among =
+    let xs = old ++ chunk ∷ [] in
+    let dropped = subst (λ l. Contains l c) drops.new_is among in
+    Contains-push_cases old chunk c (subst (λ l. Contains l c) (take-append-drop drops.dropped xs) (Contains-append_right (take drops.dropped xs) (drop drops.dropped xs) c dropped))
+kept_member most old new chunk (Keeps.used (inl u) there) c among = inl ((used_member old new chunk.begin u c).0 among)
+kept_member most old new chunk (Keeps.used (inr same) there) c among = inl (subst (λ l. Contains l c) same among)
+kept_member most old new chunk (Keeps.empty none) c among = inl among
+kept_member most old new chunk (Keeps.large past) c among = inl among
+kept_member most old new chunk (Keeps.far past) c among = inl among
+kept_member most old new chunk (Keeps.taken not) c among = inl among
+
+pub kept_members : (most : ℕ) (old chunks new : List Chunk) → KeepsAll most old chunks new → (c : Chunk) → Contains new c → Contains old c ⊎ Contains chunks c
+kept_members most old chunks new KeepsAll.none c among = inl among
+kept_members most old chunks new (KeepsAll.more {between} before chunk first then) c among = elim (kept_member most between new chunk then c among) [
+  | inl earlier ↦ elim (kept_members most old before between first c earlier) [
+    | inl old' ↦ inl old'
+    | inr one ↦ inr (Contains-append_left before (chunk ∷ []) c one)
+  ]
+  | inr same ↦ inr (subst (λ x. Contains (before ++ chunk ∷ []) x) same (Contains-push before chunk))
+]
+kept_members most old chunks new (KeepsAll.lost before chunk first) c among = elim (kept_members most old before new first c among) [
+  | inl old' ↦ inl old'
+  | inr one ↦ inr (Contains-append_left before (chunk ∷ []) c one)
+]
+
+abbrev weight : Chunk → ℕ
+weight chunk = length chunk.bytes + 128
+
+used_size : (old new : List Chunk) (place : ℕ) → IsUsed old place new → size_of_kept new ≡ size_of_kept old
+used_size old new place u =
+    let a : size_of_kept old ≡ size_of_kept u.front + (weight u.chunk + size_of_kept u.back) =
+    ap size_of_kept u.old_is ∙ sum_by-append weight u.front (u.chunk ∷ u.back) ∙ ap (λ (n : ℕ). size_of_kept u.front + n) (sum_by-cons weight u.chunk u.back) in
+    let b : size_of_kept new ≡ (size_of_kept u.front + size_of_kept u.back) + (weight u.chunk + size_of_kept []) =
+    ap size_of_kept u.new_is ∙ sum_by-append weight (u.front ++ u.back) (u.chunk ∷ [])
+    ∙ ap (λ (n : ℕ). n + size_of_kept (u.chunk ∷ [])) (sum_by-append weight u.front u.back)
+    ∙ ap (λ (n : ℕ). (size_of_kept u.front + size_of_kept u.back) + n) (sum_by-cons weight u.chunk []) in
+    omega (arith, a, b)
+
+pub used_sizes : (old : List Chunk) (from to : ℕ) (new : List Chunk) → AreUsed old from to new → size_of_kept new ≡ size_of_kept old
+used_sizes old from to new AreUsed.none = refl
+used_sizes old from to new (AreUsed.more {between} {place} before near past u) =
+    used_size between new place u ∙ used_sizes old from to between before
+
+-- what holds of each chunk holds of each when some were used
+pub used_checked : (P : Chunk → Type 0) (old : List Chunk) (from to : ℕ) (new : List Chunk) → AreUsed old from to new → All P old → All P new
+used_checked P old from to new used all = all_from P new (λ chunk among. All-contains P old chunk all ((used_members old from to new used chunk).0 among))
+
+-- a reader that only used chunks is shown by the same checks
+pub used_shown : (checks : List Check) (old new : Reader) (from to : ℕ) → new ≡ record old { kept = new.kept } → AreUsed old.kept from to new.kept →
+    IsShownBy checks old → IsShownBy checks new
+used_shown checks old new from to same used shown =
+    subst (λ (r : Reader). IsShownBy checks r) (sym same)
+    (record { kept = used_checked (IsChecked checks old.hash old.salt) old.kept from to new.kept used shown.kept; size = shown.size })
+
+kept_size : (most : ℕ) (old new : List Chunk) (chunk : Chunk) → size_of_kept old ≤ most → Keeps most old chunk new → size_of_kept new ≤ most
+kept_size most old new chunk within (Keeps.kept free drops) = drops.fits
+kept_size most old new chunk within (Keeps.used (inl u) there) = subst (λ (n : ℕ). n ≤ most) (sym (used_size old new chunk.begin u)) within
+kept_size most old new chunk within (Keeps.used (inr same) there) = subst (λ l. size_of_kept l ≤ most) (sym same) within
+kept_size most old new chunk within (Keeps.empty none) = within
+kept_size most old new chunk within (Keeps.large past) = within
+kept_size most old new chunk within (Keeps.far past) = within
+kept_size most old new chunk within (Keeps.taken not) = within
+
+pub kept_sizes : (most : ℕ) (old chunks new : List Chunk) → size_of_kept old ≤ most → KeepsAll most old chunks new → size_of_kept new ≤ most
+kept_sizes most old chunks new within KeepsAll.none = within
+kept_sizes most old chunks new within (KeepsAll.more {between} before chunk first then) =
+    kept_size most between new chunk (kept_sizes most old before between within first) then
+kept_sizes most old chunks new within (KeepsAll.lost before chunk first) = kept_sizes most old before new within first
+
+-- ---- A part is taken
+
+-- what holds of a call that succeeds, or that fails
+pub ok_or_err : {T E P Q : Type 0} (r : Result T E) → OnOk r P → OnErr r Q → P ⊎ Q
+ok_or_err (Ok x) holds other = inl holds
+ok_or_err (Err e) holds other = inr other
+
+some_chunk : (chunks : List Chunk) → 0 < length chunks → (chunk : Chunk) × Contains chunks chunk
+some_chunk [] some = absurd (omega (arith, some))
+some_chunk (chunk ∷ chunks) some = (chunk, Contains-get_or (chunk ∷ chunks) 0 chunk some)
+
+-- what more checks show
+pub shown_too : (checks more : List Check) (reader : Reader) → AreAmong checks more → IsShownBy checks reader → IsShownBy more reader
+shown_too checks more reader are shown = record {
+  kept = All-weaker (IsChecked checks reader.hash reader.salt) (IsChecked more reader.hash reader.salt)
+      (λ chunk h. checked_too checks more reader.hash reader.salt chunk are h) reader.kept shown.kept;
+  size = sizes_too checks more reader.hash reader.salt reader.size are shown.size;
+}
+
+-- a reader after its part was taken is shown by the part's checks, too
+pub taken_shown : (checks : List Check) (old : Reader) (part : Part) (kept : List Chunk) (size : Option ℕ) → IsShownBy checks old → IsPartOf old part →
+    All (IsCheckedBy part.proof part.hash part.salt) part.checked → ((c : Chunk) → Contains kept c → Contains old.kept c ⊎ Contains part.checked c) →
+    (0 < length part.checked → size ≡ Some (file_size_of part.proof)) → (length part.checked ≡ 0 → size ≡ old.size) →
+    IsShownBy (checks_of part ++ checks) (record old { kept = kept; size = size })
+taken_shown checks old part kept size shown is by members some none = record {
+  kept = all_from (IsChecked more old.hash old.salt) kept (λ c among. elim (members c among) [
+    | inl was ↦ checked_too checks more old.hash old.salt c right (All-contains (IsChecked checks old.hash old.salt) old.kept c shown.kept was)
+    | inr one ↦ checked_too (checks_of part) more old.hash old.salt c left (own c one)
+  ]);
+  size = elim (cases_lt 0 (length part.checked)) [
+    | inl nonempty ↦ subst (λ (s : Option ℕ). IfSome s (IsSizeOfFile more old.hash old.salt)) (sym (some nonempty)) (new_size nonempty)
+    | inr empty ↦ subst (λ (s : Option ℕ). IfSome s (IsSizeOfFile more old.hash old.salt)) (sym (none (omega (arith, empty))))
+        (sizes_too checks more old.hash old.salt old.size right shown.size)
+  ];
+}
+  where
+    more : List Check
+    more = checks_of part ++ checks
+
+    left : AreAmong (checks_of part) more
+    left check among = Contains-append_left (checks_of part) checks check among
+
+    right : AreAmong checks more
+    right check among = Contains-append_right (checks_of part) checks check among
+
+    own : (c : Chunk) → Contains part.checked c → IsChecked (checks_of part) old.hash old.salt c
+    own c one =
+        subst (λ (s : List ℕ). IsChecked (checks_of part) old.hash s c) is.salt
+        (subst (λ (h : List ℕ). IsChecked (checks_of part) h part.salt c) is.hash
+        (All-contains (IsChecked (checks_of part) part.hash part.salt) part.checked c (own_checks part by) one))
+
+    new_size : 0 < length part.checked → IsSizeOfFile more old.hash old.salt (file_size_of part.proof)
+    new_size nonempty =
+        let (chunk, among) = some_chunk part.checked nonempty in
+        let size = of_size (checks_of part) part.hash part.salt chunk part.proof
+        (All-contains (IsCheckedBy part.proof part.hash part.salt) part.checked chunk by among) (check_among part chunk among) in
+        size_too (checks_of part) more old.hash old.salt (file_size_of part.proof) left
+        (subst (λ (s : List ℕ). IsSizeOfFile (checks_of part) old.hash s (file_size_of part.proof)) is.salt
+        (subst (λ (h : List ℕ). IsSizeOfFile (checks_of part) h part.salt (file_size_of part.proof)) is.hash size))

@@ -1,0 +1,5 @@
+pub mod Checks
+pub mod Entries
+pub mod InOrder
+pub mod Pieces
+pub mod Reading

@@ -1,0 +1,113 @@
+-- What was checked of a file, and what that says of the bytes and the size that are handed out.
+use Rattle.std.specs.Prelude.{◌≡◌, ◌⊎◌, ℕ, ◌+◌, ◌-◌, ◌<◌, ◌≤◌, List, [], ◌∷◌, ◌++◌, Option, None, Some, IfSome, All, Contains, length, map, min, take, slice_range}
+use Rattle.commitment.specs.Commitment.{chunk_nodes, HashedForFile, Collision}
+use Rattle.xet_roots.specs.Roots.{IsFileHash}
+use Rattle.range_proof.specs.RangeProof.{Proof, Shows, begin_of, file_size_of}
+use Rattle.range_proof.specs.Reading.{bytes_of_chunks}
+use Rattle.range_proof.specs.Checking.{IsSoundCheck}
+use Rattle.range_proof.specs.Soundness.{CheckedForFile}
+use Rattle.verified_reader.specs.Kept.{Chunk}
+
+-- a check: the proof that was given, and the data that was checked as that of one of its chunks
+pub record Check : Type 0 where
+  pub proof : Proof
+  pub bytes : List ℕ
+
+-- a chunk was checked by a proof that shows a file hash under a salt: it stands at the place of a chunk of the proof
+pub record IsCheckedBy (proof : Proof) (hash salt : List ℕ) (chunk : Chunk) : Type 0 where
+  pub number : ℕ
+  pub shows : Shows proof hash salt
+  pub place : chunk.begin ≡ begin_of proof number
+  pub sound : IsSoundCheck proof number chunk.bytes
+
+-- a chunk was checked in one of some checks
+pub record IsChecked (checks : List Check) (hash salt : List ℕ) (chunk : Chunk) : Type 0 where
+  pub proof : Proof
+  pub among : Contains checks (record { proof = proof; bytes = chunk.bytes })
+  pub checked : IsCheckedBy proof hash salt chunk
+
+-- a message that was hashed in one of some checks, and another one that is hashed for a file, have the same hash
+pub record ACheckCollides (checks : List Check) (salt : List ℕ) (file : List (List ℕ)) : Type 0 where
+  pub check : Check
+  pub among : Contains checks check
+  pub collision : Collision (CheckedForFile check.proof (check.bytes ∷ []) salt) (HashedForFile file salt)
+
+-- a file has some bytes from a place on
+abbrev pub HasBytesAt : List (List ℕ) → ℕ → List ℕ → Type 0
+HasBytesAt file place bytes = bytes ≡ slice_range (bytes_of_chunks file) place (place + length bytes)
+
+-- each file with a file hash under a salt has some bytes from a place on, or one of some checks collides
+abbrev pub AreOfFile : List Check → List ℕ → List ℕ → ℕ → List ℕ → Type 0
+AreOfFile checks hash salt place bytes = (file : List (List ℕ)) → IsFileHash (chunk_nodes file) salt hash →
+    HasBytesAt file place bytes ⊎ ACheckCollides checks salt file
+
+-- each such file has a size in bytes, or one of some checks collides
+abbrev pub IsSizeOfFile : List Check → List ℕ → List ℕ → ℕ → Type 0
+IsSizeOfFile checks hash salt size = (file : List (List ℕ)) → IsFileHash (chunk_nodes file) salt hash →
+    (length (bytes_of_chunks file) ≡ size) ⊎ ACheckCollides checks salt file
+
+-- a reader: its file hash and salt, what its chunks count at most, the chunks, and the size of the file if that was shown
+pub record Reader : Type 0 where
+  pub hash : List ℕ
+  pub salt : List ℕ
+  pub most : ℕ
+  pub kept : List Chunk
+  pub size : Option ℕ
+
+-- a place, or the end of the file if its size is known and it comes first
+abbrev pub within_file : Option ℕ → ℕ → ℕ
+within_file None place = place
+within_file (Some size) place = min place size
+
+-- all that a reader keeps was checked in some checks
+pub record IsShownBy (checks : List Check) (reader : Reader) : Type 0 where
+  pub kept : All (IsChecked checks reader.hash reader.salt) reader.kept
+  pub size : IfSome reader.size (IsSizeOfFile checks reader.hash reader.salt)
+
+-- a part of a file that was asked for: the file hash and salt, a proof that shows them, the places from which and up to which
+-- bytes are wanted, and the chunks that were checked
+pub record Part : Type 0 where
+  pub hash : List ℕ
+  pub salt : List ℕ
+  pub proof : Proof
+  pub from : ℕ
+  pub to : ℕ
+  pub checked : List Chunk
+
+-- the checks of a part's chunks
+abbrev pub checks_of : Part → List Check
+checks_of part = map (λ chunk. record { proof = part.proof; bytes = chunk.bytes }) part.checked
+
+-- chunks are adjacent from a place on, and have some bytes together
+pub data AreAdjacent : ℕ → List Chunk → List ℕ → Type 0 where
+  none : {place : ℕ} → AreAdjacent place [] []
+  more : {place : ℕ} {bytes rest : List ℕ} {chunks : List Chunk} → AreAdjacent (place + length bytes) chunks rest →
+      AreAdjacent place (record { begin = place; bytes = bytes } ∷ chunks) (bytes ++ rest)
+
+-- a part is of a reader's file: it has the same file hash and salt, and its proof no other size than the one that is known
+pub record IsPartOf (reader : Reader) (part : Part) : Type 0 where
+  pub hash : part.hash ≡ reader.hash
+  pub salt : part.salt ≡ reader.salt
+  pub size : IfSome reader.size (λ size. size ≡ file_size_of part.proof)
+
+-- a reader has the size of the file from a part, if a chunk of it was checked
+pub record HasLearned (old : Reader) (part : Part) (new : Reader) : Type 0 where
+  pub some : 0 < length part.checked → new.size ≡ Some (file_size_of part.proof)
+  pub none : length part.checked ≡ 0 → new.size ≡ old.size
+
+-- the range of a proof holds the bytes from one place to another, or to the end of the file. There is one
+pub record HoldsPlaces (proof : Proof) (from to : ℕ) : Type 0 where
+  pub begin : begin_of proof 0 ≤ from
+  pub some : from < min to (file_size_of proof)
+  pub end : min to (file_size_of proof) ≤ begin_of proof (length proof.chunks)
+
+-- it begins more than some bytes before them, or ends more than that after them
+abbrev pub IsFarFrom : Proof → ℕ → ℕ → ℕ → Type 0
+IsFarFrom proof from to beyond = (beyond < from - begin_of proof 0) ⊎ (beyond < begin_of proof (length proof.chunks) - min to (file_size_of proof))
+
+-- the chunks of a part are some first bytes of data, and the wanted ones of these are some bytes
+pub record IsPrefixChecked (part : Part) (all bytes : List ℕ) : Type 0 where
+  pub number : ℕ
+  pub within : number ≤ length all
+  pub adjacent : AreAdjacent (begin_of part.proof 0) part.checked (take number all)
+  pub bytes_are : bytes ≡ slice_range (take number all) (part.from - begin_of part.proof 0) (part.to - begin_of part.proof 0)
