@@ -1,3 +1,4 @@
+/* Made of crates/yurewha_c/src and bindings/interface/yurewha.h.in by bindings/check_exports --write. */
 /*
  * Yurewha computes the hashes by which the Hugging Face Xet store names chunks and files. It also merges the subtrees of
  * adjacent ranges of chunks without the chunks, and makes and opens range proofs, by which whoever knows the hash of a file
@@ -14,10 +15,11 @@
  * - No pointer may be null. Each must point to a correctly aligned object of its type. An array is passed with its length
  *   in elements, and must have at least that many. An array of length 0 may be null.
  * - No object that a call writes to may overlap another argument of the call. In particular, the two handles of a call
- *   must be two objects; only yurewha_subtree_equal may get one handle twice, and finds it equal to itself. No call reads the
- *   old value of an out parameter, unless it is a handle.
+ *   must be two objects; only yurewha_subtree_equal may get one handle twice. No call reads the old value of an out parameter,
+ *   unless it is a handle.
  * - Data is a `const void *` with a length in bytes, so that an array of any type is passed as it is.
- * - A text is an array of bytes with a length. It needs no 0 byte at its end, and the library writes none.
+ * - A text is an array of bytes with a length. It needs no 0 byte at its end, and the library writes none. A call writes a text to
+ *   the beginning of `text`, which has room for `room` bytes.
  * - For callers in other languages: a `bool` is one byte, which is 0 or 1, and a `size_t` has 8 bytes.
  *
  * Handles
@@ -26,6 +28,7 @@
  *   nothing. Any other handle was written by a call of this library and owns memory.
  * - A handle that a call writes to must be empty or own something. It must not be uninitialized. If the call succeeds, it
  *   frees what the handle owned before. If it fails, the handle keeps what it owned.
+ * - A call leaves a handle as it was, unless its comment says otherwise.
  * - The call of a handle's type whose name ends with _free frees a handle and leaves it empty. Freeing an empty handle does
  *   nothing, so freeing twice is harmless. Any other call that reads an empty handle returns YUREWHA_EMPTY_HANDLE.
  * - A handle may be moved by copying its bytes. After that, only one of the copies may be used, except as the last of
@@ -172,18 +175,18 @@ typedef struct yurewha_opened_range {
 
 /* ---- The library's version, and the texts of statuses */
 
-/* Writes the version of the library to `text`, which has room for `room` bytes, and the length of the version to `length`.
- * The version of the header is YUREWHA_VERSION. Allocates nothing.
+/* Writes the version of the library to `text`, and its length to `length`. The version is three numbers with points
+ * between them. The version of the header is YUREWHA_VERSION. It allocates nothing.
  *   DONE  it is written
- *   ROOM  the version is longer than `room`; nothing is written to `text`, and `length` is the needed length */
+ *   ROOM  the version doesn't fit, and `length` is the needed length */
 YUREWHA_NODISCARD YUREWHA_NONNULL(3) YUREWHA_SINCE(1.1)
 yurewha_status yurewha_version(char *text, size_t room, size_t *length);
 
-/* Writes what a status means, in English, to the beginning of `text`, which has room for `room` bytes, and the length of this
- * text to `length`. For a number that is no status the text is "unknown status". Allocates nothing.
+/* Writes what a status means to `text`, in English, and the length of this text to `length`. For a number that is no
+ * status the text is "unknown status". No text is longer than YUREWHA_STATUS_TEXT_LENGTH, which is 96. It allocates
+ * nothing.
  *   DONE  it is written
- *   ROOM  the text is longer than `room`, which is less than YUREWHA_STATUS_TEXT_LENGTH; nothing is written to `text`, and
- *         `length` is the needed length */
+ *   ROOM  the text doesn't fit, and `length` is the needed length */
 YUREWHA_NODISCARD YUREWHA_NONNULL(4) YUREWHA_SINCE(1.1)
 yurewha_status yurewha_status_text(yurewha_status status, char *text, size_t room, size_t *length);
 
@@ -216,25 +219,16 @@ yurewha_status yurewha_set_allocator(yurewha_allocate allocate, yurewha_realloca
 
 /* ---- Hashes */
 
-/* Writes the hash of a chunk. `bytes` is its data. The hash is keyed BLAKE3 under the data key. Allocates nothing. */
+/* Writes the hash of a chunk. `bytes` is its data. The hash is keyed BLAKE3 under the data key. It allocates nothing. */
 YUREWHA_NONNULL(3) YUREWHA_SINCE(1.0)
 void yurewha_data_hash(const void *bytes, size_t length, yurewha_hash *hash);
 
-/* Writes the hashes of `count` chunks, whose data is in one buffer. The data of chunk i starts at `offsets[i]` and ends
- * before `offsets[i + 1]`, so there is one more offset than there are chunks. Allocates nothing.
- *   DONE       the hashes are written
- *   ARGUMENTS  if and only if `offset_count` isn't `count` + 1, an offset is less than the one before it, or an offset is
- *              greater than `length` */
-YUREWHA_NODISCARD YUREWHA_SINCE(1.1)
-yurewha_status yurewha_data_hashes(const void *bytes, size_t length, const size_t *offsets, size_t offset_count,
-                                   yurewha_hash *hashes, size_t count);
-
-/* Writes the hash of an inner node of the tree. `bytes` is its text. The hash is keyed BLAKE3 under the internal key.
- * Allocates nothing. */
+/* Writes the hash of an inner node of the tree. `bytes` is its text. The hash is keyed BLAKE3 under the internal key. It
+ * allocates nothing. */
 YUREWHA_NONNULL(3) YUREWHA_SINCE(1.0)
 void yurewha_internal_node_hash(const void *bytes, size_t length, yurewha_hash *hash);
 
-/* Writes the keyed BLAKE3 hash of the bytes of `hash`, under the bytes of `key`. Allocates nothing. */
+/* Writes the keyed BLAKE3 hash of the bytes of `hash`, under the bytes of `key`. It allocates nothing. */
 YUREWHA_NONNULL(1, 2, 3) YUREWHA_SINCE(1.0)
 void yurewha_hmac(const yurewha_hash *hash, const yurewha_hash *key, yurewha_hash *result);
 
@@ -255,30 +249,38 @@ void yurewha_hash_from_bytes(const yurewha_bytes *bytes, yurewha_hash *hash);
 YUREWHA_NODISCARD YUREWHA_NONNULL(1, 2) YUREWHA_SINCE(1.0)
 int32_t yurewha_compare(const yurewha_hash *first, const yurewha_hash *second);
 
-/* Writes word 3 of a hash modulo a divisor.
+/* Writes word 3 of a hash modulo `divisor`.
  *   DONE       the divisor isn't 0
  *   ARGUMENTS  the divisor is 0 */
 YUREWHA_NODISCARD YUREWHA_NONNULL(1, 3) YUREWHA_SINCE(1.0)
 yurewha_status yurewha_remainder(const yurewha_hash *hash, uint64_t divisor, uint64_t *remainder);
 
-/* Writes the hex text of a hash to the beginning of `text`, which has room for `room` bytes. The text is 64 lower-case
- * digits: 16 for each word in order, its highest digit first. So it isn't the hex of the 32 bytes of the hash, in which each
- * word is little-endian. `length` always becomes 64.
- *   DONE  `room` is at least 64
- *   ROOM  `room` is less than 64; nothing is written to `text` */
+/* Writes the hashes of chunks whose data is in one buffer. The data of chunk i starts at `offsets[i]` and ends before
+ * `offsets[i + 1]`, so there is one more offset than there are chunks. It allocates nothing.
+ *   DONE       the hashes are written
+ *   ARGUMENTS  if and only if there isn't exactly one more offset than hashes, an offset is less than the one before it,
+ *              or an offset is greater than the length of the buffer */
+YUREWHA_NODISCARD YUREWHA_SINCE(1.1)
+yurewha_status yurewha_data_hashes(const void *bytes, size_t length, const size_t *offsets, size_t offset_count,
+                                   yurewha_hash *hashes, size_t count);
+
+/* Writes the hex text of a hash to `text`. The text is 64 lower-case digits: 16 for each word in order, its highest digit
+ * first. So it isn't the hex of the 32 bytes of the hash, in which each word is little-endian. `length` always becomes 64.
+ *   DONE  there is room for at least 64 bytes
+ *   ROOM  there is room for fewer than 64 bytes */
 YUREWHA_NODISCARD YUREWHA_NONNULL(1, 4) YUREWHA_SINCE(1.0)
 yurewha_status yurewha_hex(const yurewha_hash *hash, char *text, size_t room, size_t *length);
 
-/* Writes the hash that has this hex text. Allocates nothing.
+/* Writes the hash that has this hex text. It allocates nothing.
  *   DONE  the text is 64 hex digits, lower or upper case
  *   TEXT  the text is anything else */
 YUREWHA_NODISCARD YUREWHA_NONNULL(3) YUREWHA_SINCE(1.0)
 yurewha_status yurewha_from_hex(const char *text, size_t length, yurewha_hash *hash);
 
-/* Writes the base64 text of a hash to the beginning of `text`, which has room for `room` bytes. The text is 43 characters
- * of the URL-safe alphabet, without padding. `length` becomes 43, unless an allocation fails.
+/* Writes the base64 text of a hash to `text`. The text is 43 characters of the URL-safe alphabet, without padding.
+ * `length` becomes 43, unless an allocation fails.
  *   DONE    it is written
- *   ROOM    `room` is less than 43; nothing is written to `text`
+ *   ROOM    there is room for fewer than 43 bytes
  *   MEMORY  an allocation failed */
 YUREWHA_NODISCARD YUREWHA_NONNULL(1, 4) YUREWHA_SINCE(1.0)
 yurewha_status yurewha_base64(const yurewha_hash *hash, char *text, size_t room, size_t *length);
@@ -292,12 +294,15 @@ yurewha_status yurewha_from_base64(const char *text, size_t length, yurewha_hash
 
 /* ---- The streaming hasher */
 
-/* Each begins a hasher of the empty message. Under the data key the hasher computes the same as yurewha_data_hash. Under
- * the internal key it computes the same as yurewha_internal_node_hash. The third takes any key of 32 bytes. */
+/* Begins a hasher of the empty message under the data key. It computes the same as yurewha_data_hash. */
 YUREWHA_NONNULL(1) YUREWHA_SINCE(1.0)
 void yurewha_hasher_begin_data(yurewha_hasher *hasher);
+
+/* Begins a hasher of the empty message under the internal key. It computes the same as yurewha_internal_node_hash. */
 YUREWHA_NONNULL(1) YUREWHA_SINCE(1.0)
 void yurewha_hasher_begin_internal(yurewha_hasher *hasher);
+
+/* Begins a hasher of the empty message under any key of 32 bytes. */
 YUREWHA_NONNULL(1, 2) YUREWHA_SINCE(1.0)
 void yurewha_hasher_begin_keyed(yurewha_hasher *hasher, const yurewha_bytes *key);
 
@@ -325,21 +330,27 @@ void yurewha_hasher_finalize(const yurewha_hasher *hasher, yurewha_hash *hash);
 YUREWHA_NODISCARD YUREWHA_NONNULL(3) YUREWHA_SINCE(1.0)
 yurewha_status yurewha_xorb_hash(const yurewha_chunk *chunks, size_t count, yurewha_hash *root);
 
-/* Writes the file hash of a list of chunks. With no chunks it is the default hash. Otherwise it is the hmac of their root,
- * under the salt or, without one, under 32 zero bytes. The statuses are those of yurewha_xorb_hash. */
+/* Writes the file hash of a list of chunks without a salt. With no chunks it is the default hash. Otherwise it is the hmac
+ * of their root under 32 zero bytes. The statuses are those of yurewha_xorb_hash. */
 YUREWHA_NODISCARD YUREWHA_NONNULL(3) YUREWHA_SINCE(1.0)
 yurewha_status yurewha_file_hash(const yurewha_chunk *chunks, size_t count, yurewha_hash *hash);
+
+/* Writes the file hash of a list of chunks under a salt. With no chunks it is the default hash, whatever the salt.
+ * Otherwise it is the hmac of their root under the bytes of the salt. The statuses are those of yurewha_xorb_hash. */
 YUREWHA_NODISCARD YUREWHA_NONNULL(3, 4) YUREWHA_SINCE(1.0)
 yurewha_status yurewha_file_hash_with_salt(const yurewha_chunk *chunks, size_t count, const yurewha_bytes *salt,
                                            yurewha_hash *hash);
 
-/* Writes the first or the last stable point of some nodes, as the number of nodes before it. At a stable point a group
- * ends, no matter which nodes come before and after the given ones.
+/* Writes the first stable point of some nodes, as the number of nodes before it. At a stable point a group ends, no matter
+ * which nodes come before and after the given ones.
  *   DONE       the point is written
  *   ARGUMENTS  there is none
  *   MEMORY     an allocation failed */
 YUREWHA_NODISCARD YUREWHA_NONNULL(3) YUREWHA_SINCE(1.0)
 yurewha_status yurewha_find_stable_start(const yurewha_chunk *nodes, size_t count, size_t *point);
+
+/* Writes the last stable point of some nodes, as the number of nodes before it. The statuses are those of
+ * yurewha_find_stable_start. */
 YUREWHA_NODISCARD YUREWHA_NONNULL(3) YUREWHA_SINCE(1.0)
 yurewha_status yurewha_find_stable_end(const yurewha_chunk *nodes, size_t count, size_t *point);
 
@@ -361,24 +372,44 @@ yurewha_status yurewha_subtree_from_chunks(bool at_start, const yurewha_chunk *c
 YUREWHA_NODISCARD YUREWHA_NONNULL(1, 2) YUREWHA_SINCE(1.0)
 yurewha_status yurewha_subtree_clone(yurewha_subtree *subtree, yurewha_subtree *copy);
 
-/* Writes whether two subtrees have the same marks, levels and nodes. Allocates nothing.
+/* Writes whether two subtrees have the same marks, levels and nodes. The contract is for two handles, but a caller may
+ * pass one handle twice, and finds it equal to itself. It allocates nothing.
  *   DONE          it is written
  *   EMPTY_HANDLE  a handle is empty */
 YUREWHA_NODISCARD YUREWHA_NONNULL(1, 2, 3) YUREWHA_SINCE(1.0)
 yurewha_status yurewha_subtree_equal(yurewha_subtree *first, yurewha_subtree *second, bool *equal);
 
-/* These write the marks, the total size of the chunks in bytes, the number of kept nodes, and the number of levels. They
- * allocate nothing.
- *   DONE          it is written
+/* Writes the marks: whether no chunk comes before those of the subtree, and whether none comes after them. It allocates
+ * nothing.
+ *   DONE          they are written
  *   EMPTY_HANDLE  the handle is empty */
 YUREWHA_NODISCARD YUREWHA_NONNULL(1, 2, 3) YUREWHA_SINCE(1.0)
 yurewha_status yurewha_subtree_marks(yurewha_subtree *subtree, bool *at_start, bool *at_end);
+
+/* Writes the total size of the chunks in bytes, which is the sum of the sizes of all nodes. It allocates nothing.
+ *   DONE          it is written
+ *   EMPTY_HANDLE  the handle is empty */
 YUREWHA_NODISCARD YUREWHA_NONNULL(1, 2) YUREWHA_SINCE(1.0)
 yurewha_status yurewha_subtree_total_size(yurewha_subtree *subtree, uint64_t *size);
+
+/* Writes the number of kept nodes. It allocates nothing.
+ *   DONE          it is written
+ *   EMPTY_HANDLE  the handle is empty */
 YUREWHA_NODISCARD YUREWHA_NONNULL(1, 2) YUREWHA_SINCE(1.0)
 yurewha_status yurewha_subtree_num_nodes(yurewha_subtree *subtree, size_t *count);
+
+/* Writes the number of levels. There is at least one. It allocates nothing.
+ *   DONE          it is written
+ *   EMPTY_HANDLE  the handle is empty */
 YUREWHA_NODISCARD YUREWHA_NONNULL(1, 2) YUREWHA_SINCE(1.0)
 yurewha_status yurewha_subtree_num_levels(yurewha_subtree *subtree, size_t *count);
+
+/* Writes the root of the chunks. Both ends of the subtree must be marked. It allocates nothing.
+ *   DONE          the root is written
+ *   ARGUMENTS     an end isn't marked, so there is no root yet
+ *   EMPTY_HANDLE  the handle is empty */
+YUREWHA_NODISCARD YUREWHA_NONNULL(1, 2) YUREWHA_SINCE(1.0)
+yurewha_status yurewha_subtree_final_hash(yurewha_subtree *subtree, yurewha_hash *hash);
 
 /* Merges `other`, the subtree of the range that follows, into `subtree`. `subtree` becomes the canonical subtree of the
  * concatenated chunk lists. It keeps its own start mark and takes the end mark of `other`. `other` is unchanged.
@@ -390,13 +421,14 @@ yurewha_status yurewha_subtree_num_levels(yurewha_subtree *subtree, size_t *coun
 YUREWHA_NODISCARD YUREWHA_NONNULL(1, 2) YUREWHA_SINCE(1.0)
 yurewha_status yurewha_subtree_merge_into(yurewha_subtree *subtree, yurewha_subtree *other);
 
-/* Does the same, and writes how many parents were hashed for it, or UINT64_MAX if there were more. The
- * statuses are the same. */
+/* Does the same as yurewha_subtree_merge_into, and writes how many parents were hashed for it, or 2^64 - 1 if there were
+ * more. The statuses are those of yurewha_subtree_merge_into. */
 YUREWHA_NODISCARD YUREWHA_NONNULL(1, 2, 3) YUREWHA_SINCE(1.0)
 yurewha_status yurewha_subtree_merge_into_counted(yurewha_subtree *subtree, yurewha_subtree *other, uint64_t *parents);
 
-/* Merges the subtrees of adjacent ranges, in order, into one. `merged` owns it. With no ranges it is the empty subtree with
- * both marks. With one range it is a copy. The ranges are unchanged.
+/* Merges the subtrees of adjacent ranges, in order, into one. `merged` owns it. It is the canonical subtree of the
+ * concatenated chunk lists, with the start mark of the first range and the end mark of the last one. With no ranges it is
+ * the empty subtree with both marks. With one range it is a copy. The ranges are unchanged.
  *   DONE          they are merged
  *   EMPTY_HANDLE  the handle of a range is empty
  *   ARGUMENTS     a range other than the first is marked at its start, or one other than the last at its end
@@ -405,17 +437,9 @@ yurewha_status yurewha_subtree_merge_into_counted(yurewha_subtree *subtree, yure
 YUREWHA_NODISCARD YUREWHA_NONNULL(3) YUREWHA_SINCE(1.0)
 yurewha_status yurewha_subtree_merge(yurewha_subtree *ranges, size_t count, yurewha_subtree *merged);
 
-/* Writes the root of the chunks. Both ends of the subtree must be marked. Allocates nothing.
- *   DONE          the root is written
- *   ARGUMENTS     an end isn't marked, so there is no root yet
- *   EMPTY_HANDLE  the handle is empty */
-YUREWHA_NODISCARD YUREWHA_NONNULL(1, 2) YUREWHA_SINCE(1.0)
-yurewha_status yurewha_subtree_final_hash(yurewha_subtree *subtree, yurewha_hash *hash);
-
-/* Writes a subtree as compact JSON text to the beginning of `text`, which has room for `room` bytes, and the length of the
- * JSON text to `length`.
+/* Writes the compact JSON text of a subtree to `text`, and its length to `length`.
  *   DONE          it is written
- *   ROOM          the JSON text is longer than `room`; nothing is written to `text`, and `length` is the needed length
+ *   ROOM          the text doesn't fit, and `length` is the needed length
  *   MEMORY        an allocation failed
  *   EMPTY_HANDLE  if and only if the handle is empty */
 YUREWHA_NODISCARD YUREWHA_NONNULL(1, 4) YUREWHA_SINCE(1.0)
@@ -426,44 +450,44 @@ yurewha_status yurewha_subtree_to_json(yurewha_subtree *subtree, char *text, siz
  * `hash` in hex and its `size`. `nodes` has the left nodes of all levels, lowest level first, then the right nodes of all
  * levels, highest level first.
  *   DONE         it is read
- *   TEXT         the text isn't JSON
+ *   TEXT         the text isn't UTF-8, or isn't JSON
  *   RULE + rule  the value breaks this rule, and none with a lower number:
- *                 1  it is an object
- *                 2  `nodes` and `levels` are arrays, and `at_start` and `at_end` are booleans
- *                 3  a node is an object with `hash`, 64 hex digits, and `size`, a whole number below 2^64
- *                 4  a level is an array of two whole numbers below 2^64
- *                 5  there is at least one level
- *                 6  the counts of all levels add up to the number of nodes
- *                 7  the sizes of all nodes add up to at most 2^64 - 1
- *                 8  the top level has no right nodes; with `at_end`, no level has any
- *                 9  with `at_start`, no level below the top has left nodes
- *                10  with both marks, the top level has at most one node
- *                11  if there are several levels, the top level has a node
- *                12  without `at_start`, left nodes below the top end like the nodes before a first stable point
- *                13  without `at_end`, right nodes below the top begin like the nodes after a last stable point
+ *                   1  it is an object
+ *                   2  `nodes` and `levels` are arrays, and `at_start` and `at_end` are booleans
+ *                   3  a node is an object with `hash`, 64 hex digits, and `size`, a whole number below 2^64
+ *                   4  a level is an array of two whole numbers below 2^64
+ *                   5  there is at least one level
+ *                   6  the counts of all levels add up to the number of nodes
+ *                   7  the sizes of all nodes add up to at most 2^64 - 1
+ *                   8  the top level has no right nodes; with `at_end`, no level has any
+ *                   9  with `at_start`, no level below the top has left nodes
+ *                  10  with both marks, the top level has at most one node
+ *                  11  if there are several levels, the top level has a node
+ *                  12  without `at_start`, left nodes below the top end like the nodes before a first stable point
+ *                  13  without `at_end`, right nodes below the top begin like the nodes after a last stable point
  *   MEMORY       an allocation failed; this may be returned instead of TEXT or a rule */
 YUREWHA_NODISCARD YUREWHA_NONNULL(3) YUREWHA_SINCE(1.0)
 yurewha_status yurewha_subtree_from_json(const char *text, size_t length, yurewha_subtree *subtree);
 
-/* Writes a subtree as flat lists. `levels` gets the number of left and right nodes of each level, from the chunks up.
- * `nodes` gets the left nodes of all levels, lowest level first, then the right nodes of all levels, highest level first.
- * `level_count` and `node_count` get the lengths of the lists. The lists and the marks together are the whole subtree.
- * Allocates nothing.
- *   DONE          the lists are written
- *   ROOM          a list is longer than its room; nothing is written to either, and the counts are the needed lengths
- *   EMPTY_HANDLE  if and only if the handle is empty */
-YUREWHA_NODISCARD YUREWHA_NONNULL(1, 6, 7) YUREWHA_SINCE(1.0)
-yurewha_status yurewha_subtree_to_flat(yurewha_subtree *subtree, yurewha_level *levels, size_t level_room,
-                                       yurewha_chunk *nodes, size_t node_room, size_t *level_count, size_t *node_count);
-
-/* Makes a subtree from marks and flat lists. The handle owns it.
+/* Makes a subtree from marks and flat lists. The handle owns it. `levels` has the number of left and right nodes of each
+ * level, from the chunks up. `nodes` has the left nodes of all levels, lowest level first, then the right nodes of all
+ * levels, highest level first.
  *   DONE         it is made
  *   RULE + rule  they break this rule, from 5 to 13 of yurewha_subtree_from_json, and none of these with a lower number
  *   MEMORY       an allocation failed; this may be returned instead of a rule */
 YUREWHA_NODISCARD YUREWHA_NONNULL(7) YUREWHA_SINCE(1.0)
 yurewha_status yurewha_subtree_from_flat(bool at_start, const yurewha_level *levels, size_t level_count,
-                                         const yurewha_chunk *nodes, size_t node_count, bool at_end,
-                                         yurewha_subtree *subtree);
+                                         const yurewha_chunk *nodes, size_t node_count, bool at_end, yurewha_subtree *subtree);
+
+/* Writes a subtree as flat lists, which have the form that yurewha_subtree_from_flat takes. `level_count` and `node_count`
+ * get the lengths of the lists. The lists and the marks together are the whole subtree. It allocates nothing.
+ *   DONE          the lists are written
+ *   ROOM          a list is longer than its room; nothing is written to either, and `level_count` and `node_count` are the
+ *                 needed lengths
+ *   EMPTY_HANDLE  if and only if the handle is empty */
+YUREWHA_NODISCARD YUREWHA_NONNULL(1, 6, 7) YUREWHA_SINCE(1.0)
+yurewha_status yurewha_subtree_to_flat(yurewha_subtree *subtree, yurewha_level *levels, size_t level_room,
+                                       yurewha_chunk *nodes, size_t node_room, size_t *level_count, size_t *node_count);
 
 /* Frees what the handle owns, and leaves it empty. */
 YUREWHA_NONNULL(1) YUREWHA_SINCE(1.0)
@@ -497,8 +521,14 @@ void yurewha_subtree_free(yurewha_subtree *subtree);
 YUREWHA_NODISCARD YUREWHA_NONNULL(1) YUREWHA_SINCE(1.0)
 yurewha_status yurewha_session_new(yurewha_session *session);
 
-/* Puts chunks at the positions from `first` on. Writes how many of their hashes no earlier successful put had, and counts
- * each hash once. With no chunks it writes 0 and changes nothing, whatever `first` is.
+/* Makes a session without chunks that keeps no hashes, so that its memory is proportional to the number of its runs. It
+ * counts as new each hash of a put, once. The handle owns it. The statuses are those of yurewha_session_new. */
+YUREWHA_NODISCARD YUREWHA_NONNULL(1) YUREWHA_SINCE(1.1)
+yurewha_status yurewha_session_new_without_hashes(yurewha_session *session);
+
+/* Puts chunks at the positions from `first` on. Writes how many of their hashes the session didn't know, and counts each
+ * hash once. It then knows them, unless it keeps no hashes. With no chunks it writes 0 and changes nothing, whatever
+ * `first` is.
  *   DONE               the chunks are put
  *   EMPTY_HANDLE       if and only if the handle is empty
  *   SESSION_OVERLAP    one of the positions is taken
@@ -509,24 +539,49 @@ YUREWHA_NODISCARD YUREWHA_NONNULL(1, 5) YUREWHA_SINCE(1.0)
 yurewha_status yurewha_session_put(yurewha_session *session, uint64_t first, const yurewha_chunk *chunks, size_t count,
                                    uint64_t *new_hashes);
 
-/* Writes whether a position is taken. Allocates nothing.
+/* Writes whether a position is taken. It allocates nothing.
  *   DONE          it is written
  *   EMPTY_HANDLE  the handle is empty */
 YUREWHA_NODISCARD YUREWHA_NONNULL(1, 3) YUREWHA_SINCE(1.0)
 yurewha_status yurewha_session_taken(yurewha_session *session, uint64_t position, bool *taken);
 
-/* Write the number of chunks, and the sum of their sizes. Allocate nothing. The first takes time proportional to the number of
- * runs.
+/* Writes the root of all chunks in the order of their positions.
+ *   DONE          the hash is written
+ *   EMPTY_HANDLE  if and only if the handle is empty
+ *   SESSION_GAP   if and only if there is a session, and the taken positions aren't exactly those from 0 to `total` - 1
+ *   MEMORY        an allocation failed */
+YUREWHA_NODISCARD YUREWHA_NONNULL(1, 3) YUREWHA_SINCE(1.0)
+yurewha_status yurewha_session_root(yurewha_session *session, uint64_t total, yurewha_hash *root);
+
+/* Writes the file hash, without a salt, of all chunks in the order of their positions. It is the one under 32 zero bytes.
+ * The statuses are those of yurewha_session_root. */
+YUREWHA_NODISCARD YUREWHA_NONNULL(1, 3) YUREWHA_SINCE(1.0)
+yurewha_status yurewha_session_finish(yurewha_session *session, uint64_t total, yurewha_hash *hash);
+
+/* Copies a session. The second handle owns the copy, which has the same chunks, knows the same hashes, and keeps hashes if
+ * the first session does. The first session is unchanged, and the two are independent.
+ *   DONE          it is copied
+ *   MEMORY        an allocation failed
+ *   EMPTY_HANDLE  if and only if the first handle is empty */
+YUREWHA_NODISCARD YUREWHA_NONNULL(1, 2) YUREWHA_SINCE(1.1)
+yurewha_status yurewha_session_copy(yurewha_session *session, yurewha_session *copy);
+
+/* Writes the number of chunks of a session, which is that of taken positions. It allocates nothing. The time is
+ * proportional to the number of runs.
  *   DONE          it is written
  *   EMPTY_HANDLE  the handle is empty */
 YUREWHA_NODISCARD YUREWHA_NONNULL(1, 2) YUREWHA_SINCE(1.1)
 yurewha_status yurewha_session_num_chunks(yurewha_session *session, uint64_t *count);
+
+/* Writes the sum of the sizes of all chunks of a session, in bytes. It allocates nothing.
+ *   DONE          it is written
+ *   EMPTY_HANDLE  the handle is empty */
 YUREWHA_NODISCARD YUREWHA_NONNULL(1, 2) YUREWHA_SINCE(1.1)
 yurewha_status yurewha_session_total_size(yurewha_session *session, uint64_t *size);
 
-/* Writes the first gap from a position on and below `total`: adjacent free positions, as many as there are. `first` gets the
- * first of them, and `end` the position after the last one. To go through all gaps, begin at position 0 and go on at each
- * gap's end. Finding a gap takes logarithmic time. Allocates nothing.
+/* Writes the first gap of a session from a position on and below `total`: adjacent free positions, as many as there are.
+ * `first` gets the first of them, and `end` the position after the last one. To go through all gaps, begin at position 0
+ * and go on at each gap's end. Finding a gap takes logarithmic time. It allocates nothing.
  *   DONE          they are written
  *   EMPTY_HANDLE  if and only if the handle is empty
  *   ARGUMENTS     if and only if there is a session, and each of these positions is taken */
@@ -534,14 +589,37 @@ YUREWHA_NODISCARD YUREWHA_NONNULL(1, 4, 5) YUREWHA_SINCE(1.1)
 yurewha_status yurewha_session_next_gap(yurewha_session *session, uint64_t position, uint64_t total, uint64_t *first,
                                         uint64_t *end);
 
-/* Writes the number of runs of adjacent taken positions. Allocates nothing.
+/* Writes whether a session knows a hash: whether a put had it, or yurewha_session_keep_hashes kept it. It allocates
+ * nothing.
+ *   DONE          it is written
+ *   EMPTY_HANDLE  the handle is empty */
+YUREWHA_NODISCARD YUREWHA_NONNULL(1, 2, 3) YUREWHA_SINCE(1.1)
+yurewha_status yurewha_session_knows(yurewha_session *session, const yurewha_hash *hash, bool *known);
+
+/* Writes for each of some hashes 1 if a session knows it, and 0 if not. It allocates nothing.
+ *   DONE          they are written
+ *   EMPTY_HANDLE  if and only if the handle is empty
+ *   ARGUMENTS     if and only if there is a session, and the two lists have different lengths */
+YUREWHA_NODISCARD YUREWHA_NONNULL(1) YUREWHA_SINCE(1.1)
+yurewha_status yurewha_session_knows_each(yurewha_session *session, const yurewha_hash *hashes, size_t count, uint8_t *known,
+                                          size_t known_count);
+
+/* Writes the file hash under a salt of all chunks in the order of their positions. Under 32 zero bytes it is that of
+ * yurewha_session_finish. The statuses are those of yurewha_session_root. */
+YUREWHA_NODISCARD YUREWHA_NONNULL(1, 3, 4) YUREWHA_SINCE(1.1)
+yurewha_status yurewha_session_finish_with_salt(yurewha_session *session, uint64_t total, const yurewha_bytes *salt,
+                                                yurewha_hash *hash);
+
+/* Writes the number of runs of adjacent taken positions. Whatever calls a session has had, a free position lies between
+ * any two of its runs, and its total size is that of the subtrees of all runs together. It allocates nothing.
  *   DONE          it is written
  *   EMPTY_HANDLE  the handle is empty */
 YUREWHA_NODISCARD YUREWHA_NONNULL(1, 2) YUREWHA_SINCE(1.0)
 yurewha_status yurewha_session_num_runs(yurewha_session *session, size_t *count);
 
-/* Writes the first position of a run, and a copy of the subtree of its chunks. The subtree is open at both ends, and
- * `range` owns it. Runs are numbered from 0, by rising position. The time is proportional to the index.
+/* Writes the first position of a run of adjacent taken positions, and a copy of the subtree of its chunks. The subtree is
+ * open at both ends, and `range` owns it. Runs are numbered from 0, by rising position. The time is proportional to the
+ * index.
  *   DONE          they are written
  *   EMPTY_HANDLE  if and only if the handle of the session is empty
  *   ARGUMENTS     if and only if there is a session, and it has no such run
@@ -549,9 +627,10 @@ yurewha_status yurewha_session_num_runs(yurewha_session *session, size_t *count)
 YUREWHA_NODISCARD YUREWHA_NONNULL(1, 3, 4) YUREWHA_SINCE(1.0)
 yurewha_status yurewha_session_run(yurewha_session *session, size_t index, uint64_t *first, yurewha_subtree *range);
 
-/* Writes the first run that ends after a position: the run that holds it or else the next one. `first` gets the run's first
- * position, and `end` the position after its last one. `range` owns a copy of the subtree of its chunks, which is open at
- * both ends. To go through all runs, begin at position 0 and go on at each run's end. Finding a run takes logarithmic time.
+/* Writes the first run that ends after a position: the run that holds it or else the next one. `first` gets the run's
+ * first position, and `end` the position after its last one. `range` owns a copy of the subtree of its chunks, which is
+ * open at both ends. To go through all runs, begin at position 0 and go on at each run's end. Finding a run takes
+ * logarithmic time.
  *   DONE          they are written
  *   EMPTY_HANDLE  if and only if the handle of the session is empty
  *   ARGUMENTS     if and only if there is a session, and no run ends after the position
@@ -560,134 +639,118 @@ YUREWHA_NODISCARD YUREWHA_NONNULL(1, 3, 4, 5) YUREWHA_SINCE(1.1)
 yurewha_status yurewha_session_run_from(yurewha_session *session, uint64_t position, uint64_t *first, uint64_t *end,
                                         yurewha_subtree *range);
 
-/* Write the root, or the file hash without a salt, of all chunks in the order of their positions. The session is unchanged.
- *   DONE          the hash is written
- *   EMPTY_HANDLE  if and only if the handle is empty
- *   SESSION_GAP   if and only if the taken positions aren't exactly those from 0 to `total` - 1
- *   MEMORY        an allocation failed */
-YUREWHA_NODISCARD YUREWHA_NONNULL(1, 3) YUREWHA_SINCE(1.0)
-yurewha_status yurewha_session_root(yurewha_session *session, uint64_t total, yurewha_hash *root);
-YUREWHA_NODISCARD YUREWHA_NONNULL(1, 3) YUREWHA_SINCE(1.0)
-yurewha_status yurewha_session_finish(yurewha_session *session, uint64_t total, yurewha_hash *hash);
-
-/* Writes the file hash under a salt of all chunks in the order of their positions. Under 32 zero bytes it is the one without a
- * salt. The statuses are those of yurewha_session_finish. */
-YUREWHA_NODISCARD YUREWHA_NONNULL(1, 3, 4) YUREWHA_SINCE(1.1)
-yurewha_status yurewha_session_finish_with_salt(yurewha_session *session, uint64_t total, const yurewha_bytes *salt,
-                                                yurewha_hash *hash);
-
-/* Copies a session. The second handle owns the copy. The first session is unchanged, and the two are independent.
- *   DONE          it is copied
- *   MEMORY        an allocation failed
- *   EMPTY_HANDLE  if and only if the first handle is empty */
-YUREWHA_NODISCARD YUREWHA_NONNULL(1, 2) YUREWHA_SINCE(1.1)
-yurewha_status yurewha_session_copy(yurewha_session *session, yurewha_session *copy);
-
 /* Frees what the handle owns, and leaves it empty. */
 YUREWHA_NONNULL(1) YUREWHA_SINCE(1.0)
 void yurewha_session_free(yurewha_session *session);
 
 /* ---- Saving a session: its runs, by yurewha_session_run_from, and the hashes that it knows */
 
-/* To restore a session, push its runs to a new one by rising position, and keep the hashes.
+/* To restore a session, push its runs to a new one by rising position, and keep the hashes. */
+
+/* Adds a run after all runs of a session. Its positions are those from `first` to `end` - 1. The session gets a copy of
+ * `range`, the subtree of the run's chunks. `range` is unchanged. The session doesn't know the hashes of these chunks
+ * before they are kept or put.
  *
- * Adds a run after all runs of a session. Its positions are those from `first` to `end` - 1. The session gets a copy of
- * `range`, the subtree of the run's chunks. `range` is unchanged. The session doesn't know the hashes of these chunks before
- * they are kept or put.
- *
- * The call can't check that `range` is of `end` - `first` chunks. If it isn't, all calls go by the positions of the runs as
- * ever, and the root and the file hash are those of the chunks of the subtrees. Hashes that no chunk has may be kept, too:
- * they change only which hashes are new.
+ * The call can't check that `range` is of `end` - `first` chunks. If it isn't, all calls go by the positions of the runs
+ * as ever, and the root and the file hash are those of the chunks of the subtrees.
  *   DONE          the run is added
  *   EMPTY_HANDLE  if and only if a handle is empty
- *   ARGUMENTS     `end` isn't greater than `first`, `range` is marked at an end, or a position from `first` - 1 on is taken
+ *   ARGUMENTS     `end` isn't greater than `first`, `range` is marked at an end, or a position from `first` - 1 on is
+ *                 taken
  *   SIZES         otherwise, the sizes of all chunks add up to more than 2^64 - 1
  *   MEMORY        an allocation failed; this may be returned instead of the two above */
 YUREWHA_NODISCARD YUREWHA_NONNULL(1, 4) YUREWHA_SINCE(1.1)
 yurewha_status yurewha_session_push_run(yurewha_session *session, uint64_t first, uint64_t end, yurewha_subtree *range);
 
-/* Keeps hashes, as if an earlier put had had them. The session then knows them.
+/* Keeps hashes, as if an earlier put had had them: the session then knows them. Its runs are unchanged. Hashes that no
+ * chunk has may be kept, too: they change only which hashes are new.
  *   DONE          they are kept
  *   EMPTY_HANDLE  if and only if the handle is empty
+ *   ARGUMENTS     if and only if there are hashes, and a session that keeps none
  *   MEMORY        an allocation failed */
 YUREWHA_NODISCARD YUREWHA_NONNULL(1) YUREWHA_SINCE(1.1)
 yurewha_status yurewha_session_keep_hashes(yurewha_session *session, const yurewha_hash *hashes, size_t count);
 
-/* Writes the number of hashes that a session knows: those of all chunks that were put, and those that were kept. Each is
- * counted once. Allocates nothing.
+/* Writes whether a session keeps the hashes of its chunks. It allocates nothing.
+ *   DONE          it is written
+ *   EMPTY_HANDLE  the handle is empty */
+YUREWHA_NODISCARD YUREWHA_NONNULL(1, 2) YUREWHA_SINCE(1.1)
+yurewha_status yurewha_session_keeps_hashes(yurewha_session *session, bool *keeps);
+
+/* Writes the number of hashes that a session knows: those that puts had and those that yurewha_session_keep_hashes kept,
+ * each counted once. It allocates nothing.
  *   DONE          it is written
  *   EMPTY_HANDLE  the handle is empty */
 YUREWHA_NODISCARD YUREWHA_NONNULL(1, 2) YUREWHA_SINCE(1.1)
 yurewha_status yurewha_session_num_known_hashes(yurewha_session *session, size_t *count);
 
-/* Writes the hashes that a session knows, each once, in no particular order.
+/* Writes all hashes that a session knows, each once, in no particular order.
  *   DONE          they are written
  *   EMPTY_HANDLE  if and only if the handle is empty
- *   ARGUMENTS     if and only if there is a session, and it doesn't know exactly `count` hashes
+ *   ARGUMENTS     if and only if there is a session, and the length of the list isn't the number of hashes that it knows
  *   MEMORY        an allocation failed */
 YUREWHA_NODISCARD YUREWHA_NONNULL(1) YUREWHA_SINCE(1.1)
 yurewha_status yurewha_session_known_hashes(yurewha_session *session, yurewha_hash *hashes, size_t count);
 
-/* Writes whether a session knows a hash: whether a put had it, or it was kept. Allocates nothing.
- *   DONE          it is written
- *   EMPTY_HANDLE  the handle is empty */
-YUREWHA_NODISCARD YUREWHA_NONNULL(1, 2, 3) YUREWHA_SINCE(1.1)
-yurewha_status yurewha_session_knows(yurewha_session *session, const yurewha_hash *hash, bool *known);
-
-/* Writes for each of some hashes 1 if the session knows it, and 0 if not. Allocates nothing.
- *   DONE          they are written
- *   EMPTY_HANDLE  if and only if the handle is empty
- *   ARGUMENTS     if and only if there is a session, and the two counts differ */
-YUREWHA_NODISCARD YUREWHA_NONNULL(1) YUREWHA_SINCE(1.1)
-yurewha_status yurewha_session_knows_each(yurewha_session *session, const yurewha_hash *hashes, size_t count, uint8_t *known,
-                                          size_t known_count);
-
 /* ---- Hash trees: all levels over a list of chunks, which make range proofs */
 
-/* Makes the hash tree over some chunks. The handle owns it.
+/* Makes the hash tree over some chunks, and writes it to the handle, which owns it.
  *   DONE    it is made
  *   SIZES   if and only if the sizes add up to more than 2^64 - 1
  *   MEMORY  an allocation failed */
 YUREWHA_NODISCARD YUREWHA_NONNULL(3) YUREWHA_SINCE(1.1)
 yurewha_status yurewha_hash_tree_from_chunks(const yurewha_chunk *chunks, size_t count, yurewha_hash_tree *tree);
 
-/* These write the root of the chunks, their file hash under a salt, the number of chunks, and the sum of their sizes, which is
- * the size of the file in bytes. They allocate nothing.
+/* Writes the root of the chunks. With no chunks it is the default hash. It allocates nothing.
  *   DONE          it is written
  *   EMPTY_HANDLE  the handle is empty */
 YUREWHA_NODISCARD YUREWHA_NONNULL(1, 2) YUREWHA_SINCE(1.1)
 yurewha_status yurewha_hash_tree_root(yurewha_hash_tree *tree, yurewha_hash *root);
+
+/* Writes the file hash of the chunks under a salt. With no chunks it is the default hash, whatever the salt. It allocates
+ * nothing.
+ *   DONE          it is written
+ *   EMPTY_HANDLE  the handle is empty */
 YUREWHA_NODISCARD YUREWHA_NONNULL(1, 2, 3) YUREWHA_SINCE(1.1)
 yurewha_status yurewha_hash_tree_file_hash(yurewha_hash_tree *tree, const yurewha_bytes *salt, yurewha_hash *hash);
+
+/* Writes the number of chunks. It allocates nothing.
+ *   DONE          it is written
+ *   EMPTY_HANDLE  the handle is empty */
 YUREWHA_NODISCARD YUREWHA_NONNULL(1, 2) YUREWHA_SINCE(1.1)
 yurewha_status yurewha_hash_tree_num_chunks(yurewha_hash_tree *tree, size_t *count);
+
+/* Writes the sum of the chunks' sizes, which is the size of the file in bytes. It allocates nothing.
+ *   DONE          it is written
+ *   EMPTY_HANDLE  the handle is empty */
 YUREWHA_NODISCARD YUREWHA_NONNULL(1, 2) YUREWHA_SINCE(1.1)
 yurewha_status yurewha_hash_tree_total_size(yurewha_hash_tree *tree, uint64_t *size);
 
-/* Writes the least range of chunks that holds the bytes of the file between the places `from` and `to`, or the end of the
- * file if that comes before `to`. `first` gets the number of its first chunk, and `end` the number after that of its last
- * one. Allocates nothing.
+/* Writes the least range of chunks that holds the bytes of the file from the place `from` up to, but without, the place
+ * `to`, or up to the end of the file if that comes first. `first` gets the number of its first chunk, and `end` the number
+ * after that of its last one. It allocates nothing.
  *   DONE          they are written
  *   ARGUMENTS     if and only if there is a tree, and there are no such bytes
  *   EMPTY_HANDLE  if and only if the handle is empty */
 YUREWHA_NODISCARD YUREWHA_NONNULL(1, 4, 5) YUREWHA_SINCE(1.1)
 yurewha_status yurewha_hash_tree_chunks_at(yurewha_hash_tree *tree, uint64_t from, uint64_t to, size_t *first, size_t *end);
 
-/* Writes where in the file the chunks from number `first` up to, but without, number `end` begin and end, in bytes. Allocates
- * nothing.
+/* Writes where in the file the chunks from number `first` up to, but without, number `end` begin and end, in bytes. It
+ * allocates nothing.
  *   DONE          the two places are written
  *   ARGUMENTS     if and only if there is a tree, and `first` isn't less than `end` or there are fewer than `end` chunks
  *   EMPTY_HANDLE  if and only if the handle is empty */
 YUREWHA_NODISCARD YUREWHA_NONNULL(1, 4, 5) YUREWHA_SINCE(1.1)
 yurewha_status yurewha_hash_tree_bytes_of(yurewha_hash_tree *tree, size_t first, size_t end, uint64_t *from, uint64_t *to);
 
-/* Writes the range proof of the chunks from number `first` up to, but without, number `end`, as flat lists. `levels` gets the
- * numbers of left and right nodes of each level, from the chunks up. `nodes` gets all nodes in the order of the file: the
- * left nodes of all levels, lowest level first, then the nodes of the chunks, then the right nodes of all levels, highest
- * level first. `level_count` and `node_count` get the lengths of the lists. A room for 64 levels and `end` - `first` + 1024
- * nodes is always large enough.
+/* Writes the range proof of the chunks from number `first` up to, but without, number `end`, as flat lists. `levels` gets
+ * the numbers of left and right nodes of each level, from the chunks up. `nodes` gets all nodes in the order of the file:
+ * the left nodes of all levels, lowest level first, then the nodes of the chunks, then the right nodes of all levels,
+ * highest level first. `level_count` and `node_count` get the lengths of the lists. A room for 64 levels and `end` -
+ * `first` + 1024 nodes is always large enough.
  *   DONE          the lists are written
- *   ROOM          a list is longer than its room; nothing is written to either, and the counts are the needed lengths
+ *   ROOM          a list is longer than its room; nothing is written to either, and `level_count` and `node_count` are the
+ *                 needed lengths
  *   ARGUMENTS     if and only if there is a tree, and `first` isn't less than `end` or there are fewer than `end` chunks
  *   MEMORY        an allocation failed
  *   EMPTY_HANDLE  if and only if the handle is empty */
@@ -705,24 +768,25 @@ void yurewha_hash_tree_free(yurewha_hash_tree *tree);
 /* A range proof has the nodes of some adjacent chunks, and the other nodes of each group on the way up to the root. Its flat
  * lists are those that yurewha_hash_tree_proof writes. They may come from anybody. */
 
-/* Writes a range proof as compact JSON text to the beginning of `text`, which has room for `room` bytes, and the length of
- * the JSON text to `length`.
+/* Writes the compact JSON text of a range proof to `text`, and its length to `length`.
  *   DONE               it is written
- *   ROOM               the JSON text is longer than `room`; nothing is written to `text`, and `length` is the needed length
- *   PROOF_RULE + rule  the lists break this rule, from 5 to 8 of yurewha_range_proof_from_json, and none of these with a lower
- *                      number
+ *   ROOM               the text doesn't fit, and `length` is the needed length
+ *   PROOF_RULE + rule  the lists break this rule, from 5 to 8 of yurewha_range_proof_from_json, and none of these with a
+ *                      lower number
  *   MEMORY             an allocation failed; this may be returned instead of the two above */
 YUREWHA_NODISCARD YUREWHA_NONNULL(7) YUREWHA_SINCE(1.1)
 yurewha_status yurewha_range_proof_to_json(const yurewha_level *levels, size_t level_count, const yurewha_chunk *nodes,
                                            size_t node_count, char *text, size_t room, size_t *length);
 
-/* Reads a range proof from JSON text, and writes it as flat lists. The value is an object with these members: `chunks`, the
- * nodes of the range's chunks; and `levels`, an object for each level, from the chunks up, with the nodes of both sides as
- * `left` and `right`. Each node has its `hash` in hex and its `size`. Time and memory are in proportion to the text, so refuse a
- * stranger's text of more than 2^24 bytes, or another limit, before this call: that many are enough for about 180,000 chunks.
+/* Reads a range proof from JSON text, and writes it as flat lists. The value is an object with these members: `chunks`,
+ * the nodes of the range's chunks; and `levels`, an object for each level, from the chunks up, with the nodes of both
+ * sides as `left` and `right`. Each node has its `hash` in hex and its `size`. Time and memory are in proportion to the
+ * text, so refuse a stranger's text of more than 2^24 bytes, or another limit, before this call: that many are enough for
+ * about 180,000 chunks.
  *   DONE               the lists are written
- *   ROOM               a list is longer than its room; nothing is written to either, and the counts are the needed lengths
- *   TEXT               the text isn't JSON
+ *   ROOM               a list is longer than its room; nothing is written to either, and `level_count` and `node_count`
+ *                      are the needed lengths
+ *   TEXT               the text isn't UTF-8, or isn't JSON
  *   PROOF_RULE + rule  the value breaks this rule, and none with a lower number:
  *                        1  it is an object
  *                        2  `chunks` and `levels` are arrays
@@ -737,52 +801,59 @@ YUREWHA_NODISCARD YUREWHA_NONNULL(7, 8) YUREWHA_SINCE(1.1)
 yurewha_status yurewha_range_proof_from_json(const char *text, size_t length, yurewha_level *levels, size_t level_room,
                                              yurewha_chunk *nodes, size_t node_room, size_t *level_count, size_t *node_count);
 
-/* Returns whether flat lists are those of a range proof, or which rule they break. It opens nothing, so DONE doesn't say that
- * the proof shows any hash. Allocates nothing.
+/* Returns whether flat lists are those of a range proof, or which rule they break. It opens nothing, so DONE doesn't say
+ * that the proof shows any hash. It allocates nothing.
  *   DONE               if and only if they are those of a range proof
- *   PROOF_RULE + rule  the lists break this rule, from 5 to 8 of yurewha_range_proof_from_json, and none of these with a lower
- *                      number */
+ *   PROOF_RULE + rule  the lists break this rule, from 5 to 8 of yurewha_range_proof_from_json, and none of these with a
+ *                      lower number */
 YUREWHA_NODISCARD YUREWHA_SINCE(1.1)
 yurewha_status yurewha_range_proof_check(const yurewha_level *levels, size_t level_count, const yurewha_chunk *nodes,
                                          size_t node_count);
 
-/* Opens a range proof with a file hash under a salt, or with a root. The handle owns the opened range. The default hash is
- * never shown, since it is the hash of the empty file.
- *   DONE               the proof shows the hash
+/* Opens a range proof with a file hash under a salt. The handle owns the opened range. The default hash is never shown,
+ * since it is the hash of the empty file.
+ *   DONE               the proof shows the file hash
  *   MISMATCH           it doesn't
- *   PROOF_RULE + rule  the lists break this rule, from 5 to 8 of yurewha_range_proof_from_json, and none of these with a lower
- *                      number
+ *   PROOF_RULE + rule  the lists break this rule, from 5 to 8 of yurewha_range_proof_from_json, and none of these with a
+ *                      lower number
  *   MEMORY             an allocation failed; this may be returned instead of the two above */
 YUREWHA_NODISCARD YUREWHA_NONNULL(5, 6, 7) YUREWHA_SINCE(1.1)
 yurewha_status yurewha_range_proof_open(const yurewha_level *levels, size_t level_count, const yurewha_chunk *nodes,
                                         size_t node_count, const yurewha_hash *file_hash, const yurewha_bytes *salt,
                                         yurewha_opened_range *range);
+
+/* Opens a range proof with the root of the file's chunks, as yurewha_range_proof_open does with a file hash. The statuses
+ * are those of yurewha_range_proof_open, with the root in place of the file hash. */
 YUREWHA_NODISCARD YUREWHA_NONNULL(5, 6) YUREWHA_SINCE(1.1)
 yurewha_status yurewha_range_proof_open_root(const yurewha_level *levels, size_t level_count, const yurewha_chunk *nodes,
                                              size_t node_count, const yurewha_hash *root, yurewha_opened_range *range);
 
-/* These write the size of the file in bytes, and the number of chunks of the range. Like all places of an opened range, the
- * size is the proof's own word until data was checked: it tells a reader where to cut, and no more. They allocate nothing.
+/* Writes the size of the file in bytes. Like all places of an opened range, the size is the proof's own word until data
+ * was checked: it tells a reader where to cut, and no more. It allocates nothing.
  *   DONE          it is written
  *   EMPTY_HANDLE  the handle is empty */
 YUREWHA_NODISCARD YUREWHA_NONNULL(1, 2) YUREWHA_SINCE(1.1)
 yurewha_status yurewha_opened_range_file_size(yurewha_opened_range *range, uint64_t *size);
+
+/* Writes the number of chunks of the range. It allocates nothing.
+ *   DONE          it is written
+ *   EMPTY_HANDLE  the handle is empty */
 YUREWHA_NODISCARD YUREWHA_NONNULL(1, 2) YUREWHA_SINCE(1.1)
 yurewha_status yurewha_opened_range_num_chunks(yurewha_opened_range *range, size_t *count);
 
-/* Writes where in the file a chunk of the range begins and ends, in bytes. The chunks of the range count from 0. Allocates
- * nothing.
+/* Writes where in the file a chunk of the range begins and ends, in bytes, as the proof says it. The chunks of the range
+ * count from 0. It allocates nothing.
  *   DONE          the two places are written
  *   ARGUMENTS     if and only if there is a range, and it has no such chunk
  *   EMPTY_HANDLE  if and only if the handle is empty */
 YUREWHA_NODISCARD YUREWHA_NONNULL(1, 3, 4) YUREWHA_SINCE(1.1)
 yurewha_status yurewha_opened_range_bytes_of(yurewha_opened_range *range, size_t chunk, uint64_t *from, uint64_t *to);
 
-/* Checks the data of a chunk of the range, and writes where in the file it begins. The chunks of the range count from 0.
- * Allocates nothing.
+/* Checks the data of a chunk of the range, and writes where in the file it begins, in bytes. The chunks of the range count
+ * from 0. It allocates nothing.
  *
- * After DONE, each file with the hash that the proof was opened with has this data at this place, and has the size that the
- * proof says, unless two messages that were hashed have the same BLAKE3 hash.
+ * After DONE, each file with the hash that the proof was opened with has this data at this place, and has the size that
+ * the proof says, unless two messages that were hashed have the same BLAKE3 hash.
  *   DONE          the hash and the length of the data are those of the chunk's node
  *   MISMATCH      they aren't, or the range has no such chunk
  *   EMPTY_HANDLE  if and only if the handle is empty */
@@ -790,11 +861,12 @@ YUREWHA_NODISCARD YUREWHA_NONNULL(1, 5) YUREWHA_SINCE(1.1)
 yurewha_status yurewha_opened_range_check(yurewha_opened_range *range, size_t chunk, const void *data, size_t length,
                                           uint64_t *place);
 
-/* Checks the data of all chunks of the range, which come one after another with nothing else, and finds in it the bytes of the
- * file between the places `from` and `to`: they are the `to` - `from` bytes from `data[start]` on. Allocates nothing.
+/* Checks the data of all chunks of the range, which come one after another with nothing else, and finds in it the bytes of
+ * the file from the place `from` up to, but without, the place `to`: they are the `to` - `from` bytes from `data[start]`
+ * on. It allocates nothing.
  *
- * After DONE, each file with the hash that the proof was opened with has these bytes between these places, and has the size
- * that the proof says, unless two messages that were hashed have the same BLAKE3 hash.
+ * After DONE, each file with the hash that the proof was opened with has these bytes between these places, and has the
+ * size that the proof says, unless two messages that were hashed have the same BLAKE3 hash.
  *   DONE          the data is that of the range's chunks, and the range holds both places, which are in order
  *   MISMATCH      the data isn't, or the range doesn't hold the places, or `to` is less than `from`
  *   EMPTY_HANDLE  if and only if the handle is empty */

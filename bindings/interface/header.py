@@ -18,7 +18,10 @@ WORDS = ("-xc", "-std=c11", "-ffreestanding", "--target=x86_64-linux-gnu", "-DYU
 
 
 class Unreadable(Exception):
-    """What isn't of the form that is read here."""
+    """What isn't of the form that is read here, in the header or in another file or folder."""
+
+    def __init__(self, what: str, place: Path = HEADER) -> None:
+        super().__init__(f"{place.relative_to(ROOT)}: it can't be read: {what}")
 
 
 @dataclass(frozen=True)
@@ -82,9 +85,14 @@ class Header:
         return tuple(it for it in self.exports if it.name != FOR_C)
 
 
+def of_data(c_type: str) -> str:
+    """A type of C, in which data of any type is bytes."""
+    return c_type.replace("const void *", "const uint8_t *")
+
+
 def spelled(c_type: Type) -> str:
     """A type as C spells it. Data of any type crosses as bytes."""
-    return str(c_type.spelling).replace("_Bool", "bool").replace("const void *", "const uint8_t *")
+    return of_data(str(c_type.spelling).replace("_Bool", "bool"))
 
 
 def member(cursor: Cursor) -> Member:

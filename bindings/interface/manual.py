@@ -35,8 +35,9 @@ ITEM = re.compile(r"\s*([A-Z]+(?:_[A-Z]+)*(?: \+ rule)?|\d+)(?:\s\s+)(\S.*)|- (.
 
 
 def escaped(text: str) -> str:
-    """A line of text for groff: no line begins with a control character, and hyphens stay as they are."""
-    text = text.replace("\\", "\\e").replace("-", "\\-").replace("^", "\\(ha").replace("`", "")
+    """A line of text for groff: no line begins with a control character, hyphens stay as they are, and names are in italics."""
+    text = text.replace("\\", "\\e").replace("-", "\\-").replace("^", "\\(ha")
+    text = re.sub(r"`([^`]*)`", r"\\fI\1\\fP", text)
     return "\\&" + text if text.startswith((".", "'")) else text
 
 
@@ -98,10 +99,11 @@ def code(declarations: list[Cursor], lines: list[str]) -> Iterator[str]:
 
 
 def comments_shown(comments: Iterable[Token]) -> list[Token]:
-    """The comments that stand alone: the one at the top, and those from the first heading on."""
-    alone = [it for it in comments if it.location.column == 1]
-    first = next(at for at, it in enumerate(alone) if it.spelling.startswith("/* ----"))
-    return [alone[0], *alone[first:]]
+    """The comments that stand alone: the one at the top, below the line that says what the header is made of, and those from the
+    first heading on."""
+    _, top, *others = [it for it in comments if it.location.column == 1]
+    first = next(at for at, it in enumerate(others) if it.spelling.startswith("/* ----"))
+    return [top, *others[first:]]
 
 
 def page(header: Header, made: str) -> str:

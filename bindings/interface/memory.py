@@ -7,21 +7,23 @@ from collections.abc import Iterator
 from header import ROOT, Header
 
 TEST = ROOT / "bindings/c/longest.c"
-#: What a comment says of a call that has the statuses of another one: of a named one, or of the one before it.
-AS_ANOTHER = re.compile(r"statuses are (?:the same|those of (yurewha_\w+))")
+#: What a comment says of a call that has the statuses of another one.
+AS_ANOTHER = re.compile(r"The statuses[ \n*]+are[ \n*]+those[ \n*]+of[ \n*]+(yurewha_\w+)")
 #: A function of the test without parameters, and its body.
 FUNCTION = re.compile(r"^static void (\w+)\(void\)\n\{\n(.*?)^\}", re.M | re.S)
 
 
+def may_be_out_of_memory(name: str, comments: dict[str, str]) -> bool:
+    """Whether a call may return MEMORY, by the comments of all calls."""
+    comment = comments.get(name, "")
+    as_another = AS_ANOTHER.search(comment)
+    return may_be_out_of_memory(as_another[1], comments) if as_another else bool(re.search(r"^ \*   MEMORY\s", comment, re.M))
+
+
 def out_of_memory(header: Header) -> Iterator[str]:
     """The calls that may return MEMORY, without `yurewha_`."""
-    found, before = set(), ""
-    for export in header.exports:
-        as_another = AS_ANOTHER.search(export.comment)
-        if re.search(r"^ \*   MEMORY\s", export.comment, re.M) or as_another and (as_another[1] or before) in found:
-            found.add(export.name)
-            yield export.name.removeprefix("yurewha_")
-        before = export.name
+    comments = {export.name: export.comment for export in header.exports}
+    yield from (name.removeprefix("yurewha_") for name in comments if may_be_out_of_memory(name, comments))
 
 
 def differences(header: Header) -> Iterator[str]:
