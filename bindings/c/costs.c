@@ -109,6 +109,12 @@ static void puts_before(struct runs *it)
         put(&it->other, i - 1, &it->chunks[i - 1]);
 }
 
+static void puts_without_hashes(struct runs *it)
+{
+    EXPECT_STATUS(YUREWHA_DONE, yurewha_session_new_without_hashes(&it->other));
+    puts_apart(it);
+}
+
 static void push_runs(struct runs *it)
 {
     for (size_t i = 0; i < it->count; i++)
@@ -165,6 +171,7 @@ static const struct {
     {"put falling", puts_falling, 7, 900},
     {"put after a run", puts_after, 5, 750},
     {"put before a run", puts_before, 6, 900},
+    {"put without hashes", puts_without_hashes, 9, 1010},
     {"push_run", push_runs, 3, 330},
     {"run", runs_by_index, 3, 200},
     {"run_from", runs_from, 3, 200},
@@ -179,7 +186,7 @@ static void expect_cost(size_t place, size_t count)
 {
     struct runs it;
     make(&it, count);
-    refuse(0, false);
+    count_requests();
     rows[place].calls(&it);
     const size_t asked = requests(), bytes = granted();
     EXPECT(asked <= rows[place].requests * count + FEW_REQUESTS);

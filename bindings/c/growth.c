@@ -417,7 +417,7 @@ static void expect_cost(size_t place, size_t count)
 {
     make(count);
     rows[place].prepare();
-    refuse(0, false);
+    count_requests();
     rows[place].call();
     const size_t asked = requests(), bytes = granted();
     EXPECT(asked <= rows[place].requests * count + FEW_REQUESTS);

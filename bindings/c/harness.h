@@ -27,17 +27,12 @@ void *block(size_t size);
 /* The greatest number of chunks that a test takes: that in YUREWHA_LARGEST, if it is set. */
 size_t largest(void);
 
-/* The hash of 64 hex digits, read without the library. */
-yurewha_hash hash_of(const char *hex);
 bool same_hash(const yurewha_hash *first, const yurewha_hash *second);
-bool is_hash(const yurewha_hash *hash, const char *hex);
 
-/* Lists of chunks in blocks of their own. By a pattern, which is repeated, chunk i has the words i, 0, 0 and w, and the size
- * 1; w is 0 where its character is '|', which makes a natural cut, else 1. Without a pattern, it has the hash of the seed i +
- * 1 and the size 100 + 977 * i % 9901. By digits, each is the hash of that seed with the size 100 times the digit, 0 the
- * default hash with the size 0, and X the hash of seed 1 with the greatest size. */
+/* A list of chunks in a block of its own. By a pattern, which is repeated, chunk i has the words i, 0, 0 and w, and the size 1; w is 0
+ * where its character is '|', which makes a natural cut, else 1. Without a pattern, it has the hash of the seed i + 1 and the size
+ * 100 + 977 * i % 9901. */
 yurewha_chunk *list_of(const char *pattern, size_t count);
-yurewha_chunk *digits_of(const char *digits);
 
 /* Lists that several tests take. */
 static const struct list_row {
@@ -66,9 +61,6 @@ static const struct list_row {
 /* The message whose byte i is i % 251, in a block of its own. */
 uint8_t *message_of(size_t length);
 
-/* A subtree that no row makes: what a handle owns before a call. */
-yurewha_subtree some_subtree(void);
-
 /* The subtree of a part of a list. */
 yurewha_subtree range_of(const yurewha_chunk *chunks, size_t from, size_t to, bool at_start, bool at_end);
 bool same_subtree(yurewha_subtree *first, yurewha_subtree *second);
@@ -76,42 +68,25 @@ bool same_subtree(yurewha_subtree *first, yurewha_subtree *second);
 /* The hashes that a session knows, by rising order, in a block of their own. With an empty handle there are none. */
 yurewha_hash *known_hashes(yurewha_session *session, size_t *count);
 
-/* Adds to a message all that can be told of what a handle owns; of a hash tree, what determines the rest. A session's takes
- * memory. */
-void tell_subtree(yurewha_hasher *message, yurewha_subtree *subtree);
-void tell_session(yurewha_hasher *message, yurewha_session *session);
-void tell_hash_tree(yurewha_hasher *message, yurewha_hash_tree *tree);
-void tell_opened_range(yurewha_hasher *message, yurewha_opened_range *range);
-
-/* malloc and realloc, of which a request can be refused, and how many requests and bytes were asked for since then; see
- * refusing.c. A block that grows counts with all of its bytes each time. */
-void refuse(size_t number, bool all_from_there);
+/* How many requests malloc and realloc got since the last call of the first one, and their bytes; and how many blocks are held. A block
+ * that grows counts with all of its bytes each time. See counting.c. */
+void count_requests(void);
 size_t requests(void);
 size_t granted(void);
-bool was_refused(void);
 long live_blocks(void);
 bool sees_requests(void);
 
 /* The tests. */
 void test_layout(void);
-void test_hashes(void);
 void test_hasher(void);
 void test_lanes(void);
-void test_roots(void);
-void test_subtrees(void);
 void test_merging(void);
-void test_texts(void);
 void test_sessions(void);
 void test_range_proofs(void);
-void test_handles(void);
-void test_rooms(void);
-void test_empty_slices(void);
-void test_refusals(void);
 void test_costs(void);
 void test_growth(void);
 void test_large(void);
 void test_longest(void);
 void test_threads(void);
-void test_vectors(void);
 
 #endif

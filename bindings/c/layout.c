@@ -1,4 +1,4 @@
-/* The sizes of the types, where their members stand, the numbers and the texts of the statuses, and the version. */
+/* The sizes of the types, where their members stand, the numbers and the texts of the statuses, the version, and the level. */
 #include "harness.h"
 
 /* The text of a status, with a 0 byte at its end, in a room of its own. */
@@ -35,6 +35,30 @@ static void status_texts(void)
     EXPECT(has_text(YUREWHA_RULE + 13, "rule 13: right nodes don't begin at a last stable point"));
     EXPECT(has_text(YUREWHA_PROOF_RULE + 5, "rule 5: there is no chunk"));
     EXPECT(has_text(UINT32_MAX, "unknown status"));
+}
+
+/* The version, in rooms of its length and of one byte less. */
+static void version_text(void)
+{
+    char text[] = "?????";
+    size_t length = 0;
+    row("version");
+    EXPECT_STATUS(YUREWHA_ROOM, yurewha_version(text, 4, &length));
+    EXPECT(length == 5 && strcmp(text, "?????") == 0);
+    EXPECT_STATUS(YUREWHA_DONE, yurewha_version(text, 5, &length));
+    EXPECT(length == 5 && strcmp(text, YUREWHA_VERSION) == 0);
+}
+
+/* The level is one of those that the header names, and stays. */
+static void level_of_processor(void)
+{
+    static const char *const names[] = {"x86-64", "x86-64-v2", "x86-64-v3", "x86-64-v4", "aarch64"};
+    const char *found = yurewha_processor_level();
+    size_t same = 0;
+    row("processor_level");
+    for (size_t i = 0; i < LENGTH(names); i++)
+        same += strcmp(found, names[i]) == 0;
+    EXPECT(same == 1 && found == yurewha_processor_level());
 }
 
 void test_layout(void)
@@ -86,4 +110,6 @@ void test_layout(void)
     snprintf(version, sizeof version, "%d.%d.%d", YUREWHA_VERSION_MAJOR, YUREWHA_VERSION_MINOR, YUREWHA_VERSION_PATCH);
     EXPECT(strcmp(version, YUREWHA_VERSION) == 0);
     status_texts();
+    version_text();
+    level_of_processor();
 }

@@ -289,6 +289,14 @@ static void session_new(void)
     yurewha_session_free(&session);
 }
 
+static void session_new_without_hashes(void)
+{
+    yurewha_session session = {0};
+    EXPECT_STATUS(YUREWHA_DONE, yurewha_session_new_without_hashes(&session));
+    put(&session, 0, it.chunks, LONGEST);
+    yurewha_session_free(&session);
+}
+
 /* Right before a long run, right after it and far from it; and the same among many runs. */
 static void session_put(void)
 {
@@ -407,8 +415,9 @@ static const struct call of_lists[] = {
     ROW(range_proof_to_json), ROW(range_proof_from_json), ROW(range_proof_open), ROW(range_proof_open_root),
 };
 static const struct call of_sessions[] = {
-    ROW(session_new), ROW(session_put), ROW(session_run), ROW(session_run_from), ROW(session_root), ROW(session_finish),
-    ROW(session_finish_with_salt), ROW(session_copy), ROW(session_push_run), ROW(session_keep_hashes), ROW(session_known_hashes),
+    ROW(session_new), ROW(session_new_without_hashes), ROW(session_put), ROW(session_run), ROW(session_run_from), ROW(session_root),
+    ROW(session_finish), ROW(session_finish_with_salt), ROW(session_copy), ROW(session_push_run), ROW(session_keep_hashes),
+    ROW(session_known_hashes),
 };
 
 static void make_calls(const struct call *calls, size_t count)

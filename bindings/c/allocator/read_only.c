@@ -127,6 +127,7 @@ static void read_session(struct answers *to)
     bool taken = false;
     size_t runs = 0, known = 0;
     EXPECT(yurewha_session_taken(SESSION, 7, &taken) == YUREWHA_DONE && taken);
+    EXPECT(yurewha_session_keeps_hashes(SESSION, &taken) == YUREWHA_DONE && taken);
     EXPECT(yurewha_session_num_runs(SESSION, &runs) == YUREWHA_DONE && runs == 1);
     uint64_t first = 0, end = 0, total = 0;
     EXPECT(yurewha_session_num_chunks(SESSION, &total) == YUREWHA_DONE && total == CHUNKS);
@@ -144,6 +145,7 @@ static void read_session(struct answers *to)
     const yurewha_bytes salt = {{1, 2, 3}};
     yurewha_hash salted = {{0}};
     EXPECT(yurewha_session_finish_with_salt(SESSION, CHUNKS, &salt, &salted) == YUREWHA_DONE);
+    EXPECT(yurewha_session_new_without_hashes(&copy) == YUREWHA_DONE);
     EXPECT(yurewha_session_copy(SESSION, &copy) == YUREWHA_DONE);
     EXPECT(yurewha_session_push_run(&copy, 2 * CHUNKS, 2 * CHUNKS + 1, OTHER) == YUREWHA_DONE);
     yurewha_session_free(&copy);

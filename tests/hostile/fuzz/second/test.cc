@@ -1,5 +1,5 @@
-/* Compares the second reading with the test vectors of tests/vectors/, without the library: the lines of bindings/c/make_vector_lines, and
- * range_proofs.json, in the files that are named. */
+/* Compares the second reading with the test vectors of tests/vectors/, without the library: the lines of make_lines, and range_proofs.json,
+ * in the files that are named. */
 #include "json.h"
 #include "json_value.h"
 #include "proof.h"
@@ -188,7 +188,6 @@ void flat(const Line &it)
               "the rule of flat lists");
 }
 
-/* Sessions, orders, refused merges and bracketings are tests of calls, which the second reading hasn't. */
 void check(const Line &it)
 {
     if (it.kind() == "message")

@@ -1,0 +1,104 @@
+/* All that can be told of an object. */
+#include "driver.h"
+
+static void add(yurewha_hasher *message, const void *bytes, size_t length)
+{
+    if (yurewha_hasher_update(message, bytes, length) != YUREWHA_DONE)
+        fail("a message is too long", "");
+}
+
+static void need(yurewha_status status, const char *call)
+{
+    if (status != YUREWHA_DONE)
+        fail("an object can't be told: ", call);
+}
+
+static void tell_subtree(yurewha_hasher *message, yurewha_subtree *subtree)
+{
+    size_t level_count = 0, node_count = 0;
+    bool marks[2] = {false, false};
+    (void)!yurewha_subtree_to_flat(subtree, NULL, 0, NULL, 0, &level_count, &node_count);
+    yurewha_level *levels = (yurewha_level *)block(level_count * sizeof *levels);
+    yurewha_chunk *nodes = (yurewha_chunk *)block(node_count * sizeof *nodes);
+    need(yurewha_subtree_to_flat(subtree, levels, level_count, nodes, node_count, &level_count, &node_count), "to_flat");
+    need(yurewha_subtree_marks(subtree, &marks[0], &marks[1]), "marks");
+    add(message, levels, level_count * sizeof *levels);
+    add(message, nodes, node_count * sizeof *nodes);
+    add(message, marks, sizeof marks);
+    free(levels);
+    free(nodes);
+}
+
+static int by_order(const void *first, const void *second)
+{
+    return yurewha_compare((const yurewha_hash *)first, (const yurewha_hash *)second);
+}
+
+static void tell_known_hashes(yurewha_hasher *message, yurewha_session *session)
+{
+    size_t count = 0;
+    need(yurewha_session_num_known_hashes(session, &count), "num_known_hashes");
+    yurewha_hash *hashes = (yurewha_hash *)block(count * sizeof *hashes);
+    need(yurewha_session_known_hashes(session, hashes, count), "known_hashes");
+    if (count != 0)
+        qsort(hashes, count, sizeof *hashes, by_order);
+    add(message, hashes, count * sizeof *hashes);
+    free(hashes);
+}
+
+static void tell_session(yurewha_hasher *message, yurewha_session *session)
+{
+    yurewha_subtree range = {NULL};
+    uint64_t first = 0, end = 0;
+    while (yurewha_session_run_from(session, end, &first, &end, &range) == YUREWHA_DONE) {
+        add(message, &first, sizeof first);
+        add(message, &end, sizeof end);
+        tell_subtree(message, &range);
+    }
+    yurewha_subtree_free(&range);
+    tell_known_hashes(message, session);
+}
+
+/* What determines the rest of a tree. */
+static void tell_hash_tree(yurewha_hasher *message, yurewha_hash_tree *tree)
+{
+    yurewha_hash root;
+    size_t count = 0;
+    uint64_t size = 0;
+    need(yurewha_hash_tree_num_chunks(tree, &count), "num_chunks");
+    need(yurewha_hash_tree_total_size(tree, &size), "total_size");
+    need(yurewha_hash_tree_root(tree, &root), "root");
+    add(message, &count, sizeof count);
+    add(message, &size, sizeof size);
+    add(message, &root, sizeof root);
+}
+
+static void tell_opened_range(yurewha_hasher *message, yurewha_opened_range *range)
+{
+    size_t count = 0;
+    uint64_t places[3] = {0, 0, 0};
+    need(yurewha_opened_range_num_chunks(range, &count), "num_chunks");
+    need(yurewha_opened_range_file_size(range, &places[2]), "file_size");
+    for (size_t i = 0; i < count; i++) {
+        need(yurewha_opened_range_bytes_of(range, i, &places[0], &places[1]), "bytes_of");
+        add(message, places, sizeof places);
+    }
+}
+
+void tell(yurewha_hasher *message, enum type type, void *object)
+{
+    const bool is_empty = type >= SUBTREE && ((struct handle *)object)->at == NULL;
+    add(message, &is_empty, sizeof is_empty);
+    if (is_empty)
+        return;
+    if (type == HASHER)
+        add(message, object, sizeof(yurewha_hasher));
+    else if (type == SUBTREE)
+        tell_subtree(message, (yurewha_subtree *)object);
+    else if (type == SESSION)
+        tell_session(message, (yurewha_session *)object);
+    else if (type == HASH_TREE)
+        tell_hash_tree(message, (yurewha_hash_tree *)object);
+    else
+        tell_opened_range(message, (yurewha_opened_range *)object);
+}
