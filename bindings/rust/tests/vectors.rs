@@ -1,67 +1,491 @@
-//! The test vectors of the repository's folder `vectors`, through the crate.
+//! The scripts of the repository's folder `tests/vectors`, through the crate: calls of the library with their answers.
 
 use serde_json::{json, Value};
+use std::any::Any;
+use std::cell::RefCell;
+use std::collections::HashMap;
 use std::fs;
+use std::ops::Range;
 use std::path::Path;
 use yurewha::error::CoreError;
 use yurewha::merklehash::{compute_data_hash, compute_internal_node_hash, DataHash, MerkleHashSubtree};
-use yurewha::merklehash::{find_stable_end, find_stable_start, xorb_hash};
+use yurewha::merklehash::{find_stable_end, find_stable_start};
 use yurewha::own::{try_file_hash, try_file_hash_with_salt, try_xorb_hash, Hasher, Node, Session, SessionFault};
-use yurewha::own::{HashTree, OpenFault, OpenedRange, RangeProof};
+use yurewha::own::{HashTree, OpenError, OpenedRange, RangeProof};
 
-// Every member that is asked for is there, or the test fails.
-fn text<'a>(it: &'a Value, name: &str) -> &'a str {
-    it[name].as_str().unwrap_or_else(|| panic!("no text {name} in {it}"))
-}
+// ---- Calls: what each call of the library is here
 
-fn texts<'a>(it: &'a Value, name: &str) -> impl Iterator<Item = &'a str> {
-    array(it, name).iter().map(|text| text.as_str().unwrap())
-}
-
-fn array<'a>(it: &'a Value, name: &str) -> &'a [Value] {
-    it[name].as_array().unwrap_or_else(|| panic!("no array {name} in {it}"))
-}
-
-fn count(it: &Value, name: &str) -> usize {
-    it[name].as_u64().unwrap_or_else(|| panic!("no number {name} in {it}")) as usize
-}
-
-fn truth(it: &Value, name: &str) -> bool {
-    it[name]
-        .as_bool()
-        .unwrap_or_else(|| panic!("no truth value {name} in {it}"))
-}
-
-// A whole number, which is written as a text.
-fn number(it: &Value, name: &str) -> u64 {
-    text(it, name).parse().unwrap()
-}
-
-fn is_valid(it: &Value) -> bool {
-    match text(it, "result") {
-        "valid" => true,
-        "invalid" => false,
-        other => panic!("the result {other}"),
+fn call(name: &str, a: &Arguments) -> Answer {
+    match name {
+        "data_hash" => is(compute_data_hash(&a.data(0)).hex()),
+        "internal_node_hash" => is(compute_internal_node_hash(&a.data(0)).hex()),
+        "hmac" => is(a.hash(0).hmac(a.hash(1)).hex()),
+        "random_from_seed" => is(DataHash::random_from_seed(a.number(0)).hex()),
+        "hash_to_bytes" => is(hex_of(a.hash(0).as_bytes())),
+        "hash_from_bytes" => is(DataHash::from(a.bytes(0)).hex()),
+        "compare" => is(a.hash(0).cmp(&a.hash(1)) as i8),
+        "remainder" => is(a.hash(0) % a.number(1)),
+        "hex" => is(a.hash(0).hex()),
+        "from_hex" => is(DataHash::from_hex(a.text(0)).map_err(|_| CoreError::InvalidText)?.hex()),
+        "base64" => is(a.hash(0).base64()),
+        "from_base64" => is(DataHash::from_base64(a.text(0))
+            .map_err(|_| CoreError::InvalidText)?
+            .hex()),
+        "hasher_begin_data" => made(Hasher::new_data()),
+        "hasher_begin_internal" => made(Hasher::new_internal_node()),
+        "hasher_begin_keyed" => made(Hasher::new_keyed(&a.bytes(0))),
+        "hasher_count" => is(a.of::<Hasher>(0).borrow().count()),
+        "hasher_update" => nothing(a.of::<Hasher>(0).borrow_mut().update(&a.data(1))),
+        "hasher_finalize" => is(a.of::<Hasher>(0).borrow().finalize().hex()),
+        "chunks" => made(a.chunks(0)),
+        "xorb_hash" => is(try_xorb_hash(&a.chunks(0))?.hex()),
+        "file_hash" => is(try_file_hash(&a.chunks(0))?.hex()),
+        "file_hash_with_salt" => is(try_file_hash_with_salt(&a.chunks(0), &a.bytes(1))?.hex()),
+        "find_stable_start" => is(find_stable_start(&a.chunks(0)).ok_or(NONE)?),
+        "find_stable_end" => is(find_stable_end(&a.chunks(0)).ok_or(NONE)?),
+        _ => match name.split('_').next() {
+            Some("subtree") => subtree_call(name, a),
+            Some("session") => session_call(name, a),
+            _ => proof_call(name, a),
+        },
     }
 }
 
-fn hash(it: &Value, name: &str) -> DataHash {
-    DataHash::from_hex(text(it, name)).unwrap()
+fn subtree_call(name: &str, a: &Arguments) -> Answer {
+    let whole = |name| a.named::<MerkleHashSubtree>(name).borrow().clone();
+    match name {
+        "subtree_from_chunks" => {
+            let (at_start, at_end) = (a.truth(0), a.truth(2));
+            return made(MerkleHashSubtree::try_from_chunks(at_start, &a.chunks(1), at_end)?);
+        }
+        "subtree_from_json" => return made(MerkleHashSubtree::from_json(a.text(0))?),
+        "subtree_merge" => return made(MerkleHashSubtree::merge(&a.names(0).map(whole).collect::<Vec<_>>())?),
+        _ => (),
+    }
+    let subtree = a.of::<MerkleHashSubtree>(0);
+    let other = || a.of::<MerkleHashSubtree>(1).borrow();
+    match name {
+        "subtree_merge_into" => return nothing(subtree.borrow_mut().merge_into(&other())?),
+        "subtree_merge_into_counted" => return is(subtree.borrow_mut().merge_into_counted(&other())?),
+        _ => (),
+    }
+    let subtree = subtree.borrow();
+    match name {
+        "subtree_clone" => made(subtree.clone()),
+        "subtree_equal" => is(*subtree == *other()),
+        "subtree_marks" => is(json!([subtree.at_start(), subtree.at_end()])),
+        "subtree_num_nodes" => is(subtree.num_nodes()),
+        "subtree_levels" => is(serde_json::from_str::<Value>(&subtree.to_json()?).unwrap()["levels"].take()),
+        "subtree_num_levels" => is(subtree.num_levels()),
+        "subtree_total_size" => is(subtree.total_size()),
+        "subtree_final_hash" => is(subtree.final_hash().ok_or(NONE)?.hex()),
+        "subtree_file_hash" => is(subtree.file_hash_with_salt(&a.bytes(1)).ok_or(NONE)?.hex()),
+        "subtree_to_json" => is(subtree.to_json()?),
+        _ => panic!("the call {name}"),
+    }
 }
 
-// Bytes by their hex digits, in order.
+fn session_call(name: &str, a: &Arguments) -> Answer {
+    match name {
+        "session_new" => return made(Session::new()),
+        "session_new_without_hashes" => return made(Session::without_hashes()),
+        #[cfg(feature = "serde")]
+        "session_from_json" => return made(forms::session_from_json(a.text(0))?),
+        _ => (),
+    }
+    let session = a.of::<Session>(0);
+    match name {
+        "session_put" => return is(session.borrow_mut().put(a.number(1), &a.chunks(2))?),
+        "session_push_run" => {
+            let range = a.of::<MerkleHashSubtree>(3).borrow();
+            return nothing(session.borrow_mut().push_run(a.number(1)..a.number(2), &range)?);
+        }
+        "session_keep_hashes" => return nothing(session.borrow_mut().keep_hashes(&a.hashes(1))?),
+        _ => (),
+    }
+    let session = session.borrow();
+    match name {
+        "session_keeps_hashes" => is(session.keeps_hashes()),
+        "session_taken" => is(session.taken(a.number(1))),
+        "session_num_chunks" => is(session.num_chunks()),
+        "session_total_size" => is(session.total_size()),
+        "session_num_runs" => is(session.num_runs()),
+        "session_run" => {
+            let (first, range) = session.range(a.count(1)).ok_or(NONE)?;
+            both(first, range)
+        }
+        "session_run_from" => {
+            let (positions, range) = session.run_from(a.number(1)).ok_or(NONE)?;
+            both(ends(positions), range)
+        }
+        "session_gaps" => is(session.gaps(a.number(1))?.into_iter().map(ends).collect::<Value>()),
+        "session_root" => is(session.root(a.number(1))?.hex()),
+        "session_finish" => is(session.finish(a.number(1))?.hex()),
+        "session_finish_with_salt" => is(session.finish_with_salt(a.number(1), &a.bytes(2))?.hex()),
+        "session_copy" => made(session.clone()),
+        "session_num_known_hashes" => is(session.known_hashes()?.len()),
+        "session_known_hashes" => is(hexes(&sorted(session.known_hashes()?))),
+        "session_knows" => is(session.knows(&a.hash(1))),
+        "session_knows_each" => is(a.hashes(1).iter().map(|hash| session.knows(hash)).collect::<Value>()),
+        #[cfg(feature = "serde")]
+        "session_to_json" => is(forms::session_to_json(&session)),
+        _ => panic!("the call {name}"),
+    }
+}
+
+fn proof_call(name: &str, a: &Arguments) -> Answer {
+    let (tree, proof, range) = (
+        || a.of::<HashTree>(0).borrow(),
+        || a.of::<RangeProof>(0).borrow(),
+        || a.of::<OpenedRange>(0).borrow(),
+    );
+    match name {
+        "hash_tree_from_chunks" => made(HashTree::from_chunks(&a.chunks(0))?),
+        "hash_tree_root" => is(tree().root().hex()),
+        "hash_tree_file_hash" => is(tree().file_hash_with_salt(&a.bytes(1)).hex()),
+        "hash_tree_num_chunks" => is(tree().num_chunks()),
+        "hash_tree_total_size" => is(tree().total_size()),
+        "hash_tree_chunks_at" => is(ends(tree().chunks_at(a.number(1)..a.number(2)).ok_or(NONE)?)),
+        "hash_tree_bytes_of" => is(ends(tree().bytes_of(a.count(1)..a.count(2)).ok_or(NONE)?)),
+        "hash_tree_proof" => made(tree().proof(a.count(1)..a.count(2))?),
+        "range_proof_from_chunks" => made(RangeProof::from_chunks(&a.chunks(0), a.count(1)..a.count(2))?),
+        "range_proof_levels" => is(levels(&proof())),
+        "range_proof_nodes" => is(lines(&proof())),
+        "range_proof_to_json" => is(proof().to_json()?),
+        "range_proof_from_json" => made(RangeProof::from_json(a.text(0))?),
+        "range_proof_from_flat" => made(from_flat(&a.levels(0), &a.chunks(1))?),
+        "range_proof_open" => opened(&proof(), |proof| proof.open_with_salt(&a.hash(1), &a.bytes(2))),
+        "range_proof_open_root" => opened(&proof(), |proof| proof.open_root(&a.hash(1))),
+        "opened_range_file_size" => is(range().file_size()),
+        "opened_range_num_chunks" => is(range().num_chunks()),
+        "opened_range_bytes_of" => {
+            let places = [range().begins(a.count(1)), range().ends(a.count(1))];
+            assert_eq!(places[0].is_none(), places[1].is_none());
+            is(places
+                .map(|place| place.ok_or(NONE))
+                .into_iter()
+                .collect::<Result<Value, _>>()?)
+        }
+        "opened_range_check" => is(range().check(a.count(1), &a.data(2)).ok_or(NONE)?),
+        "opened_range_read" => is(hex_of(range().read(a.number(1)..a.number(2), &a.data(3)).ok_or(NONE)?)),
+        _ => panic!("the call {name}"),
+    }
+}
+
+// Calls of the library that the crate doesn't have.
+const ABSENT: &[&str] = &["data_hashes", "subtree_nodes", "subtree_from_flat", "session_next_gap"];
+const WITHOUT_SERDE: &[&str] = &["session_to_json", "session_from_json"];
+
+fn is_absent(name: &str) -> bool {
+    ABSENT.contains(&name) || !cfg!(feature = "serde") && WITHOUT_SERDE.contains(&name)
+}
+
+// A refusal does nothing to the proof, which the error has.
+fn opened(proof: &RangeProof, open: impl Fn(RangeProof) -> Result<OpenedRange, OpenError>) -> Answer {
+    let range = open(proof.clone()).map_err(|error| {
+        assert_eq!(error.proof, *proof);
+        Refused("MISMATCH", None)
+    })?;
+    made(range)
+}
+
+fn levels(proof: &RangeProof) -> Value {
+    let counts = |level| json!([proof.left(level).len(), proof.right(level).len()]);
+    (0..proof.num_levels()).map(counts).collect()
+}
+
+// The lines of all nodes: the left ones from the chunks up, the range, and the right ones from the top down.
+fn lines(proof: &RangeProof) -> String {
+    let levels = 0..proof.num_levels();
+    let lefts = levels.clone().flat_map(|level| proof.left(level));
+    let rights = levels.rev().flat_map(|level| proof.right(level));
+    let nodes = lefts.chain(proof.chunks()).chain(rights);
+    nodes.map(|(hash, size)| format!("{hash} : {size}\n")).collect()
+}
+
+// The crate has no flat form. JSON and the bytes of bincode say the same, but not that there are more counts than nodes.
+fn from_flat(counts: &[[u64; 2]], nodes: &[Node]) -> Result<RangeProof, Refused> {
+    if counts.iter().flatten().map(|&count| u128::from(count)).sum::<u128>() > nodes.len() as u128 {
+        return Err(Refused("PROOF_RULE", Some(5)));
+    }
+    let (mut rest, mut levels) = (nodes, Vec::new());
+    for &[left, right] in counts {
+        let (lefts, after) = rest.split_at(left as usize);
+        let (inner, rights) = after.split_at(after.len() - right as usize);
+        levels.push((lefts, rights));
+        rest = inner;
+    }
+    let objects = |nodes: &[Node]| {
+        nodes
+            .iter()
+            .map(|(hash, size)| json!({"hash": hash.hex(), "size": size}))
+            .collect::<Value>()
+    };
+    let sides: Value = levels
+        .iter()
+        .map(|(left, right)| json!({"left": objects(left), "right": objects(right)}))
+        .collect();
+    let found = RangeProof::from_json(&json!({"chunks": objects(rest), "levels": sides}).to_string());
+    #[cfg(feature = "serde")]
+    {
+        let bytes = bincode::serialize(&(rest, levels)).unwrap();
+        assert_eq!(
+            bincode::deserialize::<RangeProof>(&bytes).ok(),
+            found.as_ref().ok().cloned()
+        );
+    }
+    Ok(found?)
+}
+
+fn sorted(mut hashes: Vec<DataHash>) -> Vec<DataHash> {
+    hashes.sort_unstable();
+    hashes
+}
+
+// The JSON of a session is that of serde, whose errors are texts.
+#[cfg(feature = "serde")]
+mod forms {
+    use super::{Refused, Session, Value};
+
+    pub fn session_to_json(session: &Session) -> String {
+        let value = serde_json::to_value(session).unwrap();
+        let run = |it: &Value| {
+            format!(
+                r#"{{"first":{},"end":{},"chunks":{}}}"#,
+                it["first"], it["end"], it["chunks"]
+            )
+        };
+        let runs: Vec<String> = value["runs"].as_array().unwrap().iter().map(run).collect();
+        format!(
+            r#"{{"runs":[{}],"known_hashes":{}}}"#,
+            runs.join(","),
+            value["known_hashes"]
+        )
+    }
+
+    pub fn session_from_json(text: &str) -> Result<Session, Refused> {
+        serde_json::from_str(text).map_err(|error| {
+            let (told, is_json) = (error.to_string(), serde_json::from_str::<Value>(text).is_ok());
+            assert!(is_json || !error.is_data(), "{told}");
+            let names =
+                |rule| told.contains(&format!("(rule {rule})")) || told.contains(&format!("subtree: rule {rule}: "));
+            if let Some(rule) = (1..=13).find(|&rule| names(rule)) {
+                Refused("RULE", Some(rule))
+            } else if told.contains("has no position, is marked at an end, or leaves no gap after the runs before it") {
+                Refused("ARGUMENTS", None)
+            } else if told.contains("size overflow") {
+                Refused("SIZES", None)
+            } else {
+                Refused("TEXT", None)
+            }
+        })
+    }
+}
+
+// ---- Answers: what a call gives or makes, or the status of its refusal with a rule
+
+enum Done {
+    Gives(Value),
+    Makes(Value, Box<dyn Any>),
+}
+
+#[derive(Debug)]
+struct Refused(&'static str, Option<u8>);
+// Where the crate has `None`, the library has one of two statuses.
+const NONE: Refused = Refused("ARGUMENTS or MISMATCH", None);
+type Answer = Result<Done, Refused>;
+
+fn is(value: impl Into<Value>) -> Answer {
+    Ok(Done::Gives(said(value.into())))
+}
+
+fn ends<T: Into<Value>>(range: Range<T>) -> Value {
+    json!([range.start.into(), range.end.into()])
+}
+
+fn nothing<T>(_: T) -> Answer {
+    is(Value::Null)
+}
+
+fn made<T: 'static>(object: T) -> Answer {
+    both(Value::Null, object)
+}
+
+fn both<T: 'static>(value: impl Into<Value>, object: T) -> Answer {
+    Ok(Done::Makes(said(value.into()), Box::new(RefCell::new(object))))
+}
+
+impl From<CoreError> for Refused {
+    fn from(error: CoreError) -> Self {
+        match error {
+            CoreError::InvalidArguments => Refused("ARGUMENTS", None),
+            CoreError::SizeOverflow => Refused("SIZES", None),
+            CoreError::InvalidText => Refused("TEXT", None),
+            CoreError::InvalidJson(rule) => Refused("RULE", Some(rule)),
+            CoreError::InvalidProof(rule) => Refused("PROOF_RULE", Some(rule)),
+            other => panic!("{other}"),
+        }
+    }
+}
+
+impl From<SessionFault> for Refused {
+    fn from(fault: SessionFault) -> Self {
+        match fault {
+            SessionFault::Overlap => Refused("SESSION_OVERLAP", None),
+            SessionFault::Positions => Refused("SESSION_POSITIONS", None),
+            SessionFault::Sizes => Refused("SIZES", None),
+            SessionFault::Gap => Refused("SESSION_GAP", None),
+            other => panic!("{other}"),
+        }
+    }
+}
+
+// ---- Values: what a script says, and how it would say what the crate returns; tests/vectors/README.md has the rules
+
+// A returned value as a script says it: a number that a double can't have is a text.
+fn said(value: Value) -> Value {
+    match value {
+        Value::Number(number) if number.as_u64() >= Some(1 << 53) => number.to_string().into(),
+        Value::Array(values) => values.into_iter().map(said).collect(),
+        other => other,
+    }
+}
+
+fn hexes(hashes: &[DataHash]) -> Vec<String> {
+    hashes.iter().map(DataHash::hex).collect()
+}
+
+fn hex_of(bytes: &[u8]) -> String {
+    bytes.iter().map(|byte| format!("{byte:02x}")).collect()
+}
+
+type Objects = HashMap<String, Box<dyn Any>>;
+
+struct Arguments<'s> {
+    objects: &'s Objects,
+    given: &'s [Value],
+}
+
+impl Arguments<'_> {
+    fn of<T: 'static>(&self, k: usize) -> &RefCell<T> {
+        self.named(self.text(k))
+    }
+
+    fn named<T: 'static>(&self, name: &str) -> &RefCell<T> {
+        self.objects[name].downcast_ref().unwrap()
+    }
+
+    fn names(&self, k: usize) -> impl Iterator<Item = &str> {
+        array(&self.given[k]).map(text)
+    }
+
+    fn text(&self, k: usize) -> &str {
+        text(&self.given[k])
+    }
+
+    fn truth(&self, k: usize) -> bool {
+        self.given[k].as_bool().unwrap()
+    }
+
+    fn number(&self, k: usize) -> u64 {
+        number(&self.given[k])
+    }
+
+    fn count(&self, k: usize) -> usize {
+        self.number(k).try_into().unwrap()
+    }
+
+    fn hash(&self, k: usize) -> DataHash {
+        DataHash::from_hex(self.text(k)).unwrap()
+    }
+
+    fn hashes(&self, k: usize) -> Vec<DataHash> {
+        self.names(k).map(|hex| DataHash::from_hex(hex).unwrap()).collect()
+    }
+
+    fn levels(&self, k: usize) -> Vec<[u64; 2]> {
+        array(&self.given[k])
+            .map(|level| [number(&level[0]), number(&level[1])])
+            .collect()
+    }
+
+    fn bytes(&self, k: usize) -> [u8; 32] {
+        unhex(self.text(k)).try_into().unwrap()
+    }
+
+    fn data(&self, k: usize) -> Vec<u8> {
+        match self.given[k]["message"].as_array() {
+            Some(part) => (number(&part[0])..number(&part[1])).map(|i| (i % 251) as u8).collect(),
+            None => unhex(self.text(k)),
+        }
+    }
+
+    fn chunks(&self, k: usize) -> Vec<Node> {
+        match self.given[k].as_str() {
+            Some(name) => self.named::<Vec<Node>>(name).borrow().clone(),
+            None => chunks(&self.given[k]),
+        }
+    }
+}
+
+fn text(it: &Value) -> &str {
+    it.as_str().unwrap_or_else(|| panic!("no text: {it}"))
+}
+
+fn array(it: &Value) -> impl Iterator<Item = &Value> {
+    it.as_array().unwrap_or_else(|| panic!("no array: {it}")).iter()
+}
+
+fn number(it: &Value) -> u64 {
+    it.as_u64().unwrap_or_else(|| text(it).parse().unwrap())
+}
+
 fn unhex(digits: &str) -> Vec<u8> {
     let pair = |at| u8::from_str_radix(&digits[at..at + 2], 16).unwrap();
     (0..digits.len()).step_by(2).map(pair).collect()
 }
 
-// 32 of them.
-fn bytes(it: &Value, name: &str) -> [u8; 32] {
-    unhex(text(it, name)).try_into().unwrap()
+// The chunks that a rule tells, or a part of them.
+fn chunks(told: &Value) -> Vec<Node> {
+    let (rule, it) = told
+        .as_object()
+        .unwrap()
+        .iter()
+        .find(|(rule, _)| *rule != "part")
+        .unwrap();
+    let count = || 0..number(&it["count"]);
+    let all: Vec<Node> = match rule.as_str() {
+        "pattern" => (1..)
+            .zip(text(it).chars())
+            .map(|(i, letter)| of_pattern(i, letter))
+            .collect(),
+        "drawn" => count()
+            .map(|i| of_draw(number(&it["firstSeed"]).wrapping_add(i), i))
+            .collect(),
+        "seeds" => array(it).map(|seed| of_seed(number(seed))).collect(),
+        "nodes" => array(it)
+            .map(|node| (DataHash::from_hex(text(&node["hash"])).unwrap(), number(&node["size"])))
+            .collect(),
+        "counted" => count().map(|i| of_count(i, number(&it["cutEvery"]))).collect(),
+        "numbers" => count().map(|i| of_data(&numbered(it, i))).collect(),
+        "chunkBytes" => array(it).map(|digits| of_data(&unhex(text(digits)))).collect(),
+        other => panic!("the rule {other}"),
+    };
+    match told["part"].as_array() {
+        Some(part) => all[number(&part[0]) as usize..number(&part[1]) as usize].to_vec(),
+        None => all,
+    }
 }
 
-fn message(length: usize) -> Vec<u8> {
-    (0..length).map(|i| (i % 251) as u8).collect()
+fn of_pattern(i: u64, letter: char) -> Node {
+    (
+        DataHash::from([i, 2 * i, 3 * i, 4 * i + u64::from(letter != '|')]),
+        100 * i - 93,
+    )
+}
+
+fn of_draw(seed: u64, i: u64) -> Node {
+    (DataHash::random_from_seed(seed), 100 + 977 * i % 9901)
 }
 
 fn of_seed(seed: u64) -> Node {
@@ -71,624 +495,139 @@ fn of_seed(seed: u64) -> Node {
     }
 }
 
-// The chunks that a rule describes; tests/vectors/README.md has the rules.
-fn chunks(said: &Value) -> Vec<Node> {
-    if let Some(pattern) = said["pattern"].as_str() {
-        let node = |(i, letter)| {
-            let words = [i, 2 * i, 3 * i, 4 * i + u64::from(letter != '|')];
-            (DataHash::from(words), 100 * i - 93)
-        };
-        return (1..).zip(pattern.chars()).map(node).collect();
-    }
-    if said["drawn"].is_object() {
-        let first = number(&said["drawn"], "firstSeed");
-        let node = |i: u64| (DataHash::random_from_seed(first.wrapping_add(i)), 100 + 977 * i % 9901);
-        return (0..count(&said["drawn"], "count") as u64).map(node).collect();
-    }
-    if said["seeds"].is_array() {
-        return texts(said, "seeds")
-            .map(|seed| of_seed(seed.parse().unwrap()))
+fn of_count(i: u64, every: u64) -> Node {
+    let is_cut = every > 0 && i % every == every - 1;
+    (DataHash::from([i, 0, 0, u64::from(!is_cut)]), 1)
+}
+
+fn of_data(data: &[u8]) -> Node {
+    (compute_data_hash(data), data.len() as u64)
+}
+
+fn numbered(rule: &Value, i: u64) -> Vec<u8> {
+    let lengths: Vec<u64> = array(&rule["lengths"]).map(number).collect();
+    let text = format!("{} ", number(&rule["first"]) + i);
+    let length = lengths[i as usize % lengths.len()];
+    text.bytes().cycle().take(length as usize).collect()
+}
+
+// ---- Steps
+
+// All that an object says of itself.
+fn state(object: &dyn Any) -> String {
+    if let Some(it) = object.downcast_ref::<RefCell<MerkleHashSubtree>>() {
+        it.borrow().to_json().unwrap()
+    } else if let Some(it) = object.downcast_ref::<RefCell<Session>>() {
+        let session = it.borrow();
+        let runs: Vec<_> = session
+            .runs()
+            .map(|(first, range)| (first, range.to_json().unwrap()))
             .collect();
+        format!("{runs:?} {:?}", sorted(session.known_hashes().unwrap()))
+    } else if let Some(it) = object.downcast_ref::<RefCell<RangeProof>>() {
+        it.borrow().to_json().unwrap()
+    } else if let Some(it) = object.downcast_ref::<RefCell<OpenedRange>>() {
+        format!("{:?}", it.borrow())
+    } else if let Some(it) = object.downcast_ref::<RefCell<HashTree>>() {
+        it.borrow().root().hex()
+    } else if let Some(it) = object.downcast_ref::<RefCell<Hasher>>() {
+        it.borrow().finalize().hex()
+    } else {
+        String::new()
     }
-    if said["counted"].is_object() {
-        let every = count(&said["counted"], "cutEvery");
-        let node = |i: usize| {
-            let is_cut = every > 0 && i % every == every - 1;
-            (DataHash::from([i as u64, 0, 0, u64::from(!is_cut)]), 1)
-        };
-        return (0..count(&said["counted"], "count")).map(node).collect();
-    }
-    if said["numbers"].is_object() || said["chunkBytes"].is_array() {
-        let node = |data: &Vec<u8>| (compute_data_hash(data), data.len() as u64);
-        return data_of(said).iter().map(node).collect();
-    }
-    nodes(said, "nodes")
 }
 
-fn nodes(it: &Value, name: &str) -> Vec<Node> {
-    let node = |it: &Value| (hash(it, "hash"), number(it, "size"));
-    array(it, name).iter().map(node).collect()
-}
-
-// The data of the chunks that a rule describes.
-fn data_of(said: &Value) -> Vec<Vec<u8>> {
-    if said["chunkBytes"].is_array() {
-        return texts(said, "chunkBytes").map(unhex).collect();
-    }
-    let rule = &said["numbers"];
-    let lengths: Vec<usize> = array(rule, "lengths")
+fn states(objects: &Objects) -> HashMap<&str, String> {
+    objects
         .iter()
-        .map(|it| it.as_u64().unwrap() as usize)
-        .collect();
-    let data = |i: usize| {
-        let number = format!("{} ", count(rule, "first") + i);
-        number.bytes().cycle().take(lengths[i % lengths.len()]).collect()
-    };
-    (0..count(rule, "count")).map(data).collect()
-}
-
-fn subtree(it: &Value) -> Result<MerkleHashSubtree, CoreError> {
-    MerkleHashSubtree::try_from_chunks(truth(it, "atStart"), &chunks(&it["list"]), truth(it, "atEnd"))
-}
-
-fn subtrees(it: &Value) -> Vec<MerkleHashSubtree> {
-    array(it, "ranges")
-        .iter()
-        .map(|range| subtree(range).unwrap())
+        .map(|(name, it)| (name.as_str(), state(it.as_ref())))
         .collect()
 }
 
-fn check_subtree(found: &MerkleHashSubtree, it: &Value) {
-    let json = found.to_json().unwrap();
-    assert_eq!(compute_data_hash(json.as_bytes()), hash(it, "jsonHash"));
-    let value: Value = serde_json::from_str(&json).unwrap();
-    assert_eq!(value["levels"], it["levels"]);
-    assert_eq!(found.num_levels(), array(it, "levels").len());
-    assert_eq!(found.total_size(), number(it, "size"));
-    let last = found.final_hash().map_or(Value::Null, |hash| hash.hex().into());
-    assert_eq!(last, it["finalHash"]);
-    if let Some(wanted) = it["json"].as_str() {
-        assert_eq!(json, wanted);
-    }
-}
-
-fn error(it: &Value) -> CoreError {
-    match text(it, "error") {
-        "InvalidArguments" => CoreError::InvalidArguments,
-        "SizeOverflow" => CoreError::SizeOverflow,
-        "NotJson" => CoreError::InvalidText,
-        "InvalidJson" => CoreError::InvalidJson(count(it, "rule") as u8),
-        other => panic!("the error {other}"),
-    }
-}
-
-fn fault(it: &Value) -> SessionFault {
-    match text(it, "fault") {
-        "Overlap" => SessionFault::Overlap,
-        "Positions" => SessionFault::Positions,
-        "Sizes" => SessionFault::Sizes,
-        "Gap" => SessionFault::Gap,
-        other => panic!("the fault {other}"),
-    }
-}
-
-fn keyed(key: &[u8; 32], data: &[u8]) -> DataHash {
-    let mut hasher = Hasher::new_keyed(key);
-    hasher.update(data);
-    hasher.finalize()
-}
-
-fn message_hash(group: &Value, it: &Value) {
-    let (data, wanted) = (message(count(it, "length")), hash(it, "hash"));
-    assert_eq!(DataHash::from(bytes(it, "digestBytes")), wanted);
-    assert_eq!(keyed(&bytes(group, "keyBytes"), &data), wanted);
-    match text(group, "keyName") {
-        "data" => assert_eq!(compute_data_hash(&data), wanted),
-        "internal" => assert_eq!(compute_internal_node_hash(&data), wanted),
-        other => assert_eq!(other, "given"),
-    }
-}
-
-fn piece_hash(it: &Value) {
-    let pieces = array(it, "pieces").iter().map(|piece| piece.as_u64().unwrap() as usize);
-    let data = message(pieces.clone().sum());
-    let (mut hasher, mut rest) = (Hasher::new_data(), &data[..]);
-    for length in pieces {
-        let (piece, after) = rest.split_at(length);
-        hasher.update(piece);
-        rest = after;
-    }
-    assert_eq!(hasher.finalize(), hash(it, "hash"));
-    assert_eq!(compute_data_hash(&data), hash(it, "hash"));
-}
-
-fn key(it: &Value) {
-    let wanted = match text(it, "name") {
-        "data" => compute_data_hash(b"abc"),
-        "internal" => compute_internal_node_hash(b"abc"),
-        other => panic!("the key {other}"),
+// Whether a refusal is that of a script, as far as the crate tells it.
+fn check_refusal(found: Answer, wanted: &Value) {
+    let Err(Refused(status, rule)) = found else {
+        panic!("it isn't refused: {wanted}")
     };
-    assert_eq!(keyed(&bytes(it, "keyBytes"), b"abc"), wanted);
-}
-
-fn hash_forms(it: &Value) {
-    let words: Vec<u64> = texts(it, "words").map(|word| word.parse().unwrap()).collect();
-    let value = DataHash::from(<[u64; 4]>::try_from(words).unwrap());
-    assert_eq!(value.as_bytes(), bytes(it, "hashBytes"));
-    assert_eq!(
-        (value.hex().as_str(), value.base64().as_str()),
-        (text(it, "hex"), text(it, "base64"))
+    assert!(
+        status.split(" or ").any(|status| status == wanted["error"]),
+        "{status}: {wanted}"
     );
-    for row in array(it, "remainders") {
-        assert_eq!(value % number(row, "divisor"), number(row, "remainder"));
-    }
-    assert_eq!(value % 4 == 0, truth(it, "naturalCut"));
+    assert_eq!(json!(rule), wanted["rule"]);
 }
 
-fn read_text(found: Option<DataHash>, it: &Value) {
-    assert_eq!(found, is_valid(it).then(|| hash(it, "hash")));
-}
-
-fn hash_order(it: &Value) {
-    let order = hash(it, "first").cmp(&hash(it, "second")) as i64;
-    assert_eq!(Some(order), it["order"].as_i64());
-}
-
-fn root(it: &Value) {
-    let chunks = chunks(&it["list"]);
-    let roots = [try_xorb_hash(&chunks), try_file_hash(&chunks)];
-    if !is_valid(it) {
-        let salted = try_file_hash_with_salt(&chunks, &[0; 32]);
-        assert!([roots[0], roots[1], salted]
-            .iter()
-            .all(|found| *found == Err(error(it))));
+// Makes a call, and compares its answer. A refused call may change nothing.
+fn run_step(objects: &mut Objects, step: &[Value]) {
+    let (name, given) = (text(&step[0]), step[1].as_array().unwrap());
+    let answer = step.get(2).unwrap_or(&Value::Null);
+    let arguments = Arguments { objects, given };
+    if answer["error"].is_string() {
+        let before = states(objects);
+        check_refusal(call(name, &arguments), answer);
+        assert_eq!(before, states(objects));
         return;
     }
-    assert_eq!(roots, [Ok(hash(it, "root")), Ok(hash(it, "fileHash"))]);
-    let whole = MerkleHashSubtree::from_chunks(true, &chunks, true);
-    assert_eq!(whole.file_hash(), Some(hash(it, "fileHash")));
-    let mut session = Session::new();
-    session.put(0, &chunks).unwrap();
-    for row in it["salted"].as_array().into_iter().flatten() {
-        let (salt, wanted) = (bytes(row, "saltBytes"), hash(row, "fileHash"));
-        assert_eq!(try_file_hash_with_salt(&chunks, &salt), Ok(wanted));
-        assert_eq!(whole.file_hash_with_salt(&salt), Some(wanted));
-        assert_eq!(session.finish_with_salt(chunks.len() as u64, &salt), Ok(wanted));
-    }
-}
-
-fn parent(it: &Value) {
-    let chunks = chunks(&it["list"]);
-    let lines: String = chunks.iter().map(|(hash, size)| format!("{hash} : {size}\n")).collect();
-    assert_eq!(lines, text(it, "text"));
-    assert_eq!(compute_internal_node_hash(lines.as_bytes()), hash(it, "hash"));
-    assert_eq!(chunks.iter().map(|chunk| chunk.1).sum::<u64>(), number(it, "size"));
-}
-
-fn root_steps(it: &Value) {
-    let mut nodes = chunks(&it["list"]);
-    for step in array(it, "steps") {
-        assert_eq!(xorb_hash(&nodes), hash(it, "root"));
-        let groups: u64 = array(step, "groups").iter().map(|group| group.as_u64().unwrap()).sum();
-        assert_eq!(groups, nodes.len() as u64);
-        nodes = array(step, "parents")
-            .iter()
-            .map(|node| (hash(node, "hash"), number(node, "size")))
-            .collect();
-    }
-    assert_eq!(nodes.iter().map(|node| node.0).collect::<Vec<_>>(), [hash(it, "root")]);
-}
-
-fn place(it: &Value) -> u64 {
-    it.as_str().unwrap().parse().unwrap()
-}
-
-fn hash_tree(it: &Value) {
-    let chunks = chunks(&it["list"]);
-    let tree = HashTree::from_chunks(&chunks);
-    if !is_valid(it) {
-        assert_eq!(tree.unwrap_err(), error(it));
-        return;
-    }
-    let tree = tree.unwrap();
-    assert_eq!(
-        (tree.root(), tree.file_hash()),
-        (hash(it, "root"), hash(it, "fileHash"))
-    );
-    assert_eq!(
-        (tree.num_chunks(), tree.total_size()),
-        (chunks.len(), number(it, "totalSize"))
-    );
-    for row in it["salted"].as_array().into_iter().flatten() {
-        assert_eq!(
-            tree.file_hash_with_salt(&bytes(row, "saltBytes")),
-            hash(row, "fileHash")
-        );
-    }
-    for row in array(it, "chunksAt") {
-        let wanted = row["chunks"].as_array().map(|range| {
-            let [first, end] = [0, 1].map(|k| range[k].as_u64().unwrap() as usize);
-            first..end
-        });
-        assert_eq!(
-            tree.chunks_at(number(row, "start")..number(row, "stop")),
-            wanted,
-            "{row}"
-        );
-    }
-    for row in array(it, "bytesOf") {
-        let wanted = row["bytes"].as_array().map(|range| place(&range[0])..place(&range[1]));
-        assert_eq!(tree.bytes_of(count(row, "first")..count(row, "end")), wanted, "{row}");
-    }
-    for row in array(it, "proofs") {
-        let range = count(row, "first")..count(row, "end");
-        let proof = tree.proof(range.clone()).unwrap();
-        assert_eq!(RangeProof::from_chunks(&chunks, range.clone()).as_ref(), Ok(&proof));
-        check_proof(&proof, row, &chunks[range]);
-        let by_root = proof.clone().open_root(&tree.root());
-        check_places(&proof.open(&tree.file_hash()).unwrap(), row, tree.total_size());
-        // The default hash may be the root of one chunk, but opens nothing.
-        match by_root {
-            Ok(range) => check_places(&range, row, tree.total_size()),
-            Err(error) => assert_eq!(
-                (error.fault, tree.root()),
-                (OpenFault::ProofMismatch, DataHash::default())
-            ),
+    let found = match call(name, &arguments).unwrap() {
+        Done::Gives(value) => value,
+        Done::Makes(value, object) => {
+            objects.insert(text(&answer["as"]).to_owned(), object);
+            value
         }
-    }
-}
-
-// The lines of a list, which the hash of a flat list is of.
-fn lines(nodes: &[Node]) -> String {
-    nodes.iter().map(|(hash, size)| format!("{hash} : {size}\n")).collect()
-}
-
-fn check_proof(proof: &RangeProof, it: &Value, chunks: &[Node]) {
-    let levels = 0..proof.num_levels();
-    let counts = levels
-        .clone()
-        .map(|level| json!([proof.left(level).len(), proof.right(level).len()]));
-    assert_eq!(Value::from_iter(counts), it["levels"]);
-    assert_eq!(proof.chunks(), chunks);
-    let lefts: Vec<_> = levels.clone().map(|level| proof.left(level)).collect();
-    let rights: Vec<_> = levels.rev().map(|level| proof.right(level)).collect();
-    let flat = [lefts.concat(), chunks.to_vec(), rights.concat()].concat();
-    assert_eq!(compute_data_hash(lines(&flat).as_bytes()), hash(it, "flatHash"));
-    if it["flatNodes"].is_array() {
-        assert_eq!(flat, nodes(it, "flatNodes"));
-    }
-    let json = proof.to_json().unwrap();
-    assert_eq!(compute_data_hash(json.as_bytes()), hash(it, "jsonHash"));
-    if let Some(wanted) = it["json"].as_str() {
-        assert_eq!(json, wanted);
-    }
-    assert_eq!(RangeProof::from_json(&json).as_ref(), Ok(proof));
-}
-
-fn check_places(range: &OpenedRange, it: &Value, file_size: u64) {
-    let places: Vec<u64> = array(it, "places").iter().map(place).collect();
-    assert_eq!((range.file_size(), range.num_chunks()), (file_size, places.len() - 1));
-    for (k, ends) in places.windows(2).enumerate() {
-        assert_eq!((range.begins(k), range.ends(k)), (Some(ends[0]), Some(ends[1])));
-    }
-    assert_eq!(
-        (range.begins(places.len() - 1), range.ends(places.len() - 1)),
-        (None, None)
-    );
-}
-
-fn proof_refused(it: &Value) {
-    let chunks = chunks(&it["list"]);
-    let range = count(it, "first")..count(it, "end");
-    assert_eq!(RangeProof::from_chunks(&chunks, range.clone()), Err(error(it)));
-    // A tree is refused for its sizes alone.
-    if let Ok(tree) = HashTree::from_chunks(&chunks) {
-        assert_eq!(tree.proof(range), Err(error(it)));
-    }
-}
-
-fn open_proof(it: &Value) {
-    let proof = RangeProof::from_json(text(it, "text")).unwrap();
-    let given = proof.clone();
-    let opened = match it["root"].is_string() {
-        true => given.open_root(&hash(it, "root")),
-        false => given.open_with_salt(&hash(it, "fileHash"), &bytes(it, "saltBytes")),
     };
-    if !is_valid(it) {
-        assert_eq!(text(it, "error"), "Mismatch");
-        let error = opened.unwrap_err();
-        assert_eq!((error.fault, error.proof), (OpenFault::ProofMismatch, proof));
-        return;
-    }
-    let range = opened.unwrap();
-    check_places(&range, it, number(it, "fileSize"));
-    for row in array(it, "checks") {
-        let wanted = row["place"].as_str().map(|place| place.parse().unwrap());
-        let data = unhex(text(row, "dataBytes"));
-        assert_eq!(range.check(count(row, "number"), &data), wanted, "{row}");
-    }
-    for row in array(it, "reads") {
-        let (data, wanted) = (unhex(text(row, "dataBytes")), row["readBytes"].as_str().map(unhex));
-        let found = range.read(number(row, "start")..number(row, "stop"), &data);
-        assert_eq!(found, wanted.as_deref(), "{row}");
+    match answer["hash"].as_str() {
+        Some(hash) => assert_eq!(compute_data_hash(text(&found).as_bytes()).hex(), hash, "{found}"),
+        None => assert_eq!(found, answer["is"]),
     }
 }
 
-fn proof_error(it: &Value) -> CoreError {
-    match error(it) {
-        CoreError::InvalidJson(rule) => CoreError::InvalidProof(rule),
-        other => other,
-    }
-}
-
-fn proof_json(it: &Value) {
-    let given = text(it, "text");
-    let found = RangeProof::from_json(given);
-    if is_valid(it) {
-        let written = it["written"].as_str().unwrap_or(given);
-        assert_eq!(found.unwrap().to_json().as_deref(), Ok(written));
-    } else {
-        assert_eq!(found, Err(proof_error(it)));
-    }
-}
-
-// The crate has no flat form. Of lists whose counts fit, the JSON text and the bytes of bincode are read instead.
-fn flat_proof(it: &Value) {
-    let counts: Vec<[u128; 2]> = array(it, "levels")
-        .iter()
-        .map(|level| [0, 1].map(|side| level[side].as_str().unwrap().parse().unwrap()))
-        .collect();
-    let nodes = nodes(it, "nodes");
-    if counts.iter().flatten().sum::<u128>() > nodes.len() as u128 {
-        assert_eq!(proof_error(it), CoreError::InvalidProof(5));
-        return;
-    }
-    let (mut rest, mut levels) = (&nodes[..], Vec::new());
-    for [left, right] in counts {
-        let (lefts, after) = rest.split_at(left as usize);
-        let (inner, rights) = after.split_at(after.len() - right as usize);
-        levels.push((lefts.to_vec(), rights.to_vec()));
-        rest = inner;
-    }
-    let object = |node: &Node| json!({"hash": node.0.hex(), "size": node.1});
-    let objects = |nodes: &[Node]| Value::from_iter(nodes.iter().map(object));
-    let sides = levels
-        .iter()
-        .map(|(left, right)| json!({"left": objects(left), "right": objects(right)}));
-    let json = json!({"chunks": objects(rest), "levels": Value::from_iter(sides)}).to_string();
-    let found = RangeProof::from_json(&json);
-    if is_valid(it) {
-        assert_eq!(found.as_ref().unwrap().to_json().as_deref(), Ok(text(it, "json")));
-    } else {
-        assert_eq!(found, Err(proof_error(it)));
-    }
-    #[cfg(feature = "serde")]
-    {
-        let bytes = bincode::serialize(&(rest, levels)).unwrap();
-        assert_eq!(bincode::deserialize::<RangeProof>(&bytes).ok(), found.ok());
-    }
-}
-
-fn stable_points(it: &Value) {
-    let chunks = chunks(&it["list"]);
-    let points = [find_stable_start(&chunks), find_stable_end(&chunks)];
-    let wanted = ["first", "last"].map(|name| it[name].as_u64().map(|point| point as usize));
-    assert_eq!(points, wanted);
-}
-
-fn merge(it: &Value) {
-    let chunks = chunks(&it["list"]);
-    let (front, back) = chunks.split_at(count(it, "cut"));
-    let mut left = MerkleHashSubtree::from_chunks(truth(it, "atStart"), front, false);
-    let right = MerkleHashSubtree::from_chunks(false, back, truth(it, "atEnd"));
-    check_subtree(&MerkleHashSubtree::merge(&[left.clone(), right.clone()]).unwrap(), it);
-    assert_eq!(left.merge_into_counted(&right), Ok(count(it, "parents") as u64));
-    check_subtree(&left, it);
-}
-
-fn merge_refused(it: &Value) {
-    let mut ranges = subtrees(it);
-    let before = ranges.clone();
-    assert_eq!(MerkleHashSubtree::merge(&ranges), Err(error(it)));
-    let second = ranges.pop().unwrap();
-    assert_eq!(ranges[0].merge_into(&second), Err(error(it)));
-    assert_eq!([ranges.remove(0), second].as_slice(), before);
-}
-
-fn merged(places: &Value, ranges: &[MerkleHashSubtree], parents: &mut Vec<u64>) -> MerkleHashSubtree {
-    match places.as_array().map(Vec::as_slice) {
-        None => ranges[places.as_u64().unwrap() as usize].clone(),
-        Some([left, right]) => {
-            let mut left = merged(left, ranges, parents);
-            let right = merged(right, ranges, parents);
-            parents.push(left.merge_into_counted(&right).unwrap());
-            left
-        }
-        Some(_) => panic!("{places}"),
-    }
-}
-
-fn bracketing(group: &Value, it: &Value) {
-    let (ranges, mut parents) = (subtrees(group), Vec::new());
-    check_subtree(&merged(&it["bracketing"], &ranges, &mut parents), group);
-    check_subtree(&MerkleHashSubtree::merge(&ranges).unwrap(), group);
-    assert_eq!(it["parents"], Value::from(parents));
-    if let Some(wrong) = it["rustFinalHash"].as_str() {
-        assert_ne!(Some(wrong), group["finalHash"].as_str());
-    }
-}
-
-fn subtree_json(it: &Value) {
-    let given = text(it, "text");
-    let found = MerkleHashSubtree::from_json(given);
-    if is_valid(it) {
-        let written = it["written"].as_str().unwrap_or(given);
-        assert_eq!(found.unwrap().to_json().as_deref(), Ok(written));
-    } else {
-        assert_eq!(found, Err(error(it)));
-    }
-}
-
-// The JSON of a session is that of serde, whose errors are texts.
-#[cfg(feature = "serde")]
-fn session_json(it: &Value) {
-    let given = text(it, "text");
-    let found = serde_json::from_str::<Session>(given);
-    if is_valid(it) {
-        let written = it["written"].as_str().unwrap_or(given);
-        let found = serde_json::to_value(found.unwrap()).unwrap();
-        assert_eq!(found, serde_json::from_str::<Value>(written).unwrap());
-        return;
-    }
-    let error = found.unwrap_err();
-    let told = error.to_string();
-    assert!(!error.is_data() || text(it, "error") != "NotJson", "{told}");
-    let names = |rule| told.contains(&format!("(rule {rule})")) || told.contains(&format!("subtree: rule {rule}: "));
-    assert_eq!((1..=13).find(|&rule| names(rule)), it["rule"].as_u64(), "{told}");
-    let is_unfit = told.contains("has no position, is marked at an end, or leaves no gap after the runs before it");
-    assert_eq!(is_unfit, text(it, "error") == "InvalidArguments", "{told}");
-    assert_eq!(
-        told.contains("size overflow"),
-        text(it, "error") == "SizeOverflow",
-        "{told}"
-    );
-}
-
-#[cfg(not(feature = "serde"))]
-fn session_json(_: &Value) {}
-
-fn runs(session: &Session, it: &Value) {
-    let wanted = array(it, "runs");
-    assert_eq!(session.num_runs(), wanted.len());
-    for ((first, range), run) in session.runs().zip(wanted) {
-        assert_eq!(first, number(run, "first"));
-        check_subtree(&range, run);
-    }
-}
-
-fn session(it: &Value) {
-    let mut session = Session::new();
-    for call in array(it, "calls") {
-        let answered = |found: Result<DataHash, SessionFault>| {
-            assert_eq!(
-                found,
-                if is_valid(call) {
-                    Ok(hash(call, "hash"))
-                } else {
-                    Err(fault(call))
-                }
-            );
-        };
-        match text(call, "call") {
-            "put" => {
-                let found = session.put(number(call, "first"), &chunks(&call["list"]));
-                let new = || count(call, "newHashes") as u64;
-                assert_eq!(found, if is_valid(call) { Ok(new()) } else { Err(fault(call)) });
-            }
-            "taken" => assert_eq!(session.taken(number(call, "position")), truth(call, "taken")),
-            "runs" => runs(&session, call),
-            "root" => answered(session.root(number(call, "total"))),
-            "finish" => answered(session.finish(number(call, "total"))),
-            other => panic!("the call {other}"),
+// Runs the steps of a test, except calls that the crate lacks, and calls on what these would have made.
+fn run_test(test: &Value) {
+    let (mut objects, mut lacking) = (Objects::new(), Vec::new());
+    for step in array(&test["steps"]).map(|step| step.as_array().unwrap()) {
+        if is_absent(text(&step[0])) || array(&step[1]).any(|it| lacking.contains(&it)) {
+            lacking.extend(step.get(2).and_then(|answer| answer.get("as")));
+        } else {
+            run_step(&mut objects, step);
         }
     }
 }
 
-fn check(group: &Value, it: &Value) {
-    match text(group, "type") {
-        "MessageHash" => message_hash(group, it),
-        "PieceHash" => piece_hash(it),
-        "Key" => key(it),
-        "RandomFromSeed" => assert_eq!(DataHash::random_from_seed(number(it, "seed")), hash(it, "hash")),
-        "Hmac" => assert_eq!(hash(it, "hash").hmac(hash(it, "key")), hash(it, "hmac")),
-        "HashForms" => hash_forms(it),
-        "HexText" => read_text(DataHash::from_hex(text(it, "text")).ok(), it),
-        "Base64Text" => read_text(DataHash::from_base64(text(it, "text")).ok(), it),
-        "HashOrder" => hash_order(it),
-        "Root" => root(it),
-        "Parent" => parent(it),
-        "RootSteps" => root_steps(it),
-        "StablePoints" => stable_points(it),
-        "Subtree" if is_valid(it) => check_subtree(&subtree(it).unwrap(), it),
-        "Subtree" => assert_eq!(subtree(it), Err(error(it))),
-        "Merge" => merge(it),
-        "MergeRefused" => merge_refused(it),
-        "Bracketing" => bracketing(group, it),
-        "SubtreeJson" => subtree_json(it),
-        "Session" => session(it),
-        "SessionJson" => session_json(it),
-        "HashTree" => hash_tree(it),
-        "ProofRefused" => proof_refused(it),
-        "OpenProof" => open_proof(it),
-        "ProofJson" => proof_json(it),
-        "FlatProof" => flat_proof(it),
-        other => panic!("the type {other}"),
+// All tests of a script. Where one fails, it is named before.
+fn run_script(name: &str) {
+    let path = Path::new(env!("CARGO_MANIFEST_DIR"))
+        .join("tests/vectors/scripts")
+        .join(name);
+    let lines = fs::read_to_string(path).unwrap();
+    let mut values = lines.lines().map(|line| serde_json::from_str::<Value>(line).unwrap());
+    let head = values.next().unwrap();
+    let tests: Vec<Value> = values.collect();
+    for test in &tests {
+        println!("{name}: {}", test["test"]);
+        run_test(test);
     }
+    assert_eq!(json!(tests.len()), head["numberOfTests"]);
 }
 
-// All tests of a file. Where one fails, it is named before.
-fn check_file(name: &str) {
-    let folder = Path::new(env!("CARGO_MANIFEST_DIR")).join("tests/vectors");
-    let value: Value = serde_json::from_slice(&fs::read(folder.join(name)).unwrap()).unwrap();
-    let mut done = 0;
-    for group in array(&value, "testGroups") {
-        for it in array(group, "tests") {
-            println!("{name}, tcId {}: {}", it["tcId"], it["comment"]);
-            check(group, it);
-            done += 1;
+macro_rules! scripts {
+    ($($test:ident $name:literal)*) => {$(
+        #[test]
+        fn $test() {
+            run_script($name);
         }
-    }
-    assert_eq!(done, count(&value, "numberOfTests"));
+    )*};
 }
 
-#[test]
-fn hashes() {
-    check_file("hashes.json");
-}
-
-#[test]
-fn texts_of_hashes() {
-    check_file("texts.json");
-}
-
-#[test]
-fn roots() {
-    check_file("roots.json");
-}
-
-#[test]
-fn canonical_subtrees() {
-    check_file("subtrees.json");
-}
-
-#[test]
-fn merges() {
-    check_file("merges.json");
-}
-
-#[test]
-fn texts_of_subtrees() {
-    check_file("subtree_json.json");
-}
-
-#[test]
-fn sessions() {
-    check_file("sessions.json");
-}
-
-#[test]
-fn json_of_sessions() {
-    check_file("session_json.json");
-}
-
-#[test]
-fn proofs_of_parts_of_files() {
-    check_file("range_proofs.json");
-}
-
-#[test]
-fn lists_of_the_upstream() {
-    check_file("upstream.json");
+scripts! {
+    hashes "hashes.jsonl"
+    texts_of_hashes "texts.jsonl"
+    roots "roots.jsonl"
+    canonical_subtrees "subtrees.jsonl"
+    merges "merges.jsonl"
+    texts_of_subtrees "subtree_json.jsonl"
+    sessions "sessions.jsonl"
+    json_of_sessions "session_json.jsonl"
+    proofs_of_parts_of_files "range_proofs.jsonl"
+    lists_of_the_upstream "upstream.jsonl"
 }
 
 // Not of vectors, but of the repository, too: the manifest has the licences of the code that the crate compiles.

@@ -1,4 +1,4 @@
-// The test vectors of tests/vectors/, through the module.
+// The scripts of tests/vectors/, through the module: calls of the library with their answers.
 
 import assert from "node:assert/strict";
 import { readFileSync } from "node:fs";
@@ -6,272 +6,257 @@ import { test } from "node:test";
 import * as errors from "../yurewha/index.js";
 import { BYTES, ROOT, chunksOf } from "./support.js";
 
-const FILES = ["hashes", "texts", "roots", "subtrees", "merges", "subtree_json", "range_proofs", "sessions", "session_json", "upstream"];
-const ERRORS = {
-    SizeOverflow: errors.SizeOverflow,
-    InvalidArguments: errors.InvalidArguments,
-    NotJson: errors.InvalidText,
-    NoSession: errors.InvalidText,
-    InvalidJson: errors.InvalidJson,
-    Overlap: errors.SessionOverlap,
-    Positions: errors.SessionPositions,
-    Sizes: errors.SessionSizes,
-    Gap: errors.SessionGap,
-    Mismatch: errors.ProofMismatch,
-};
-const unhex = (text) => Uint8Array.from(Buffer.from(text, "hex"));
-const message = (length) => Uint8Array.from({ length }, (_, k) => k % 251);
+const NAMES = ["hashes", "texts", "roots", "subtrees", "merges", "subtree_json", "range_proofs", "sessions", "session_json", "upstream"];
+const y = await errors.load(BYTES);
 
-/** The check of each type of group; tests/vectors/README.md says what each asks for. */
-function checksOver(y) {
-    const subtreeOf = (it) => y.Subtree.fromChunks(it.atStart, chunksOf(y, it.list), it.atEnd);
-    const checkSubtree = (tree, it) => {
-        const text = tree.toJSON();
-        assert.deepEqual(tree.levels, it.levels);
-        assert.equal(tree.totalSize, BigInt(it.size));
-        assert.equal(y.dataHash(Buffer.from(text)).hex(), it.jsonHash);
-        assert.equal(tree.finalHash()?.hex() ?? null, it.finalHash);
-        assert.equal(it.json ?? text, text);
-    };
-    const plain = (nodes) => Array.from(nodes, ([hash, size]) => ({ hash: hash.hex(), size: `${size}` }));
-    const breaks = (rule) => (error) => error instanceof errors.InvalidProof && error.rule === rule;
-    const checkProof = (proof, it) => {
-        const { levels, nodes } = proof.toFlat();
-        const lines = Array.from(nodes, ([hash, size]) => `${hash} : ${size}\n`).join("");
-        const text = proof.toJSON();
-        assert.deepEqual(levels, it.levels);
-        assert.equal(y.dataHash(Buffer.from(lines)).hex(), it.flatHash);
-        assert.equal(y.dataHash(Buffer.from(text)).hex(), it.jsonHash);
-        assert.equal(it.json ?? text, text);
-        assert.deepEqual(it.flatNodes ?? plain(nodes), plain(nodes));
-        assert.ok(y.RangeProof.fromJSON(text).equals(proof));
-    };
-    const checkPlaces = (range, places, fileSize) => {
-        const found = Array.from({ length: range.numChunks }, (_, k) => [range.begins(k), range.ends(k)]);
-        assert.deepEqual(found, places.slice(1).map((place, k) => [BigInt(places[k]), BigInt(place)]));
-        assert.equal(range.fileSize, BigInt(fileSize));
-        assert.deepEqual([range.begins(range.numChunks), range.ends(range.numChunks)], [null, null]);
-    };
-    const readText = (read) => (_, it) => {
-        if (it.result === "valid") assert.equal(read(it.text).hex(), it.hash);
-        else assert.throws(() => read(it.text), errors.InvalidText);
-    };
-    const sessionCall = (session, call) => {
-        if (call.call === "put") return session.put(BigInt(call.first), chunksOf(y, call.list));
-        if (call.call === "taken") return session.taken(BigInt(call.position));
-        return session[call.call](BigInt(call.total)).hex();
-    };
-    return {
-        MessageHash({ keyName, keyBytes }, it) {
-            const data = message(it.length);
-            const keyed = y.Hasher.keyed(unhex(keyBytes)).update(data).digest();
-            assert.equal(keyed.hex(), it.hash);
-            assert.deepEqual(keyed.bytes, unhex(it.digestBytes));
-            const call = { data: y.dataHash, internal: y.internalNodeHash }[keyName];
-            if (call) assert.equal(call(data).hex(), it.hash);
-        },
-        PieceHash(_, it) {
-            const data = message(it.pieces.reduce((sum, length) => sum + length, 0));
-            const hasher = new y.Hasher();
-            for (const length of it.pieces) {
-                const at = Number(hasher.count);
-                hasher.update(data.subarray(at, at + length));
-            }
-            assert.equal(hasher.digest().hex(), it.hash);
-            assert.equal(y.dataHash(data).hex(), it.hash);
-        },
-        Key(_, it) {
-            const call = { data: y.dataHash, internal: y.internalNodeHash }[it.name];
-            assert.ok(call(message(3)).equals(y.Hasher.keyed(unhex(it.keyBytes)).update(message(3)).digest()));
-        },
-        RandomFromSeed: (_, it) => assert.equal(y.Hash.randomFromSeed(BigInt(it.seed)).hex(), it.hash),
-        Hmac: (_, it) => assert.equal(y.Hash.fromHex(it.hash).hmac(y.Hash.fromHex(it.key)).hex(), it.hmac),
-        HashForms(_, it) {
-            const hash = new y.Hash(unhex(it.hashBytes));
-            assert.deepEqual([hash.hex(), hash.base64(), hash.bytes], [it.hex, it.base64, unhex(it.hashBytes)]);
-            for (const row of it.remainders) assert.equal(hash.remainder(BigInt(row.divisor)), BigInt(row.remainder));
-            assert.equal(hash.remainder(4) === 0n, it.naturalCut);
-        },
-        HexText: readText(y.Hash.fromHex),
-        Base64Text: readText(y.Hash.fromBase64),
-        HashOrder(_, it) {
-            const [first, second] = [it.first, it.second].map(y.Hash.fromHex);
-            assert.equal(first.compare(second), it.order);
-            assert.equal(first.equals(second), it.order === 0);
-        },
-        Root(_, it) {
-            const chunks = chunksOf(y, it.list);
-            if (it.result === "invalid") {
-                for (const call of [y.xorbHash, y.fileHash, (list) => y.fileHash(list, new Uint8Array(32))]) {
-                    assert.throws(() => call(chunks), ERRORS[it.error]);
-                }
-                return;
-            }
-            const whole = y.Subtree.fromChunks(true, chunks, true);
-            const session = new y.Session();
-            session.put(0, chunks);
-            const files = (salt) => [y.fileHash(chunks, salt), whole.fileHash(salt), session.finish(chunks.length, salt)].map(String);
-            assert.deepEqual([y.xorbHash(chunks).hex(), ...files()], [it.root, it.fileHash, it.fileHash, it.fileHash]);
-            for (const row of it.salted ?? []) assert.deepEqual(files(unhex(row.saltBytes)), Array(3).fill(row.fileHash));
-            whole.free();
-            session.free();
-        },
-        Parent(_, it) {
-            const chunks = chunksOf(y, it.list);
-            assert.equal(chunks.map(([hash, size]) => `${hash} : ${size}\n`).join(""), it.text);
-            assert.equal(y.internalNodeHash(Buffer.from(it.text)).hex(), it.hash);
-        },
-        RootSteps(_, it) {
-            let nodes = chunksOf(y, it.list);
-            for (const step of it.steps) {
-                assert.equal(y.xorbHash(nodes).hex(), it.root);
-                nodes = chunksOf(y, { nodes: step.parents });
-            }
-            assert.deepEqual(nodes.map(([hash]) => hash.hex()), [it.root]);
-        },
-        StablePoints(_, it) {
-            const chunks = chunksOf(y, it.list);
-            assert.deepEqual([y.findStableStart(chunks), y.findStableEnd(chunks)], [it.first, it.last]);
-        },
-        Subtree(_, it) {
-            if (it.result === "invalid") assert.throws(() => subtreeOf(it), ERRORS[it.error]);
-            else checkSubtree(subtreeOf(it), it);
-        },
-        Merge(_, it) {
-            const chunks = chunksOf(y, it.list);
-            const front = y.Subtree.fromChunks(it.atStart, chunks.slice(0, it.cut), false);
-            const back = y.Subtree.fromChunks(false, chunks.slice(it.cut), it.atEnd);
-            checkSubtree(y.Subtree.merge([front, back]), it);
-            assert.equal(front.mergeInto(back), it.parents);
-            checkSubtree(front, it);
-        },
-        MergeRefused(_, it) {
-            const ranges = it.ranges.map(subtreeOf);
-            const before = ranges.map((range) => range.toJSON());
-            for (const call of [() => ranges[0].mergeInto(ranges[1]), () => y.Subtree.merge(ranges)]) {
-                assert.throws(call, ERRORS[it.error]);
-            }
-            assert.deepEqual(ranges.map((range) => range.toJSON()), before);
-        },
-        Bracketing(group, it) {
-            const ranges = group.ranges.map(subtreeOf);
-            const parents = [];
-            const merged = (places) => {
-                if (typeof places === "number") return ranges[places].clone();
-                const [front, back] = places.map(merged);
-                parents.push(front.mergeInto(back));
-                return front;
-            };
-            checkSubtree(merged(it.bracketing), group);
-            checkSubtree(y.Subtree.merge(ranges), group);
-            assert.deepEqual(parents, it.parents);
-        },
-        SubtreeJson(_, it) {
-            if (it.result === "valid") assert.equal(y.Subtree.fromJSON(it.text).toJSON(), it.written ?? it.text);
-            else if (it.error === "NotJson") assert.throws(() => y.Subtree.fromJSON(it.text), errors.InvalidText);
-            else assert.throws(() => y.Subtree.fromJSON(it.text), (error) => error instanceof errors.InvalidJson && error.rule === it.rule);
-        },
-        SessionJson(_, it) {
-            if (it.result === "valid") {
-                const session = y.Session.fromJSON(it.text);
-                assert.equal(session.toJSON(), it.written ?? it.text);
-                assert.deepStrictEqual(y.Session.fromJSON(Buffer.from(it.text)), session);
-                return;
-            }
-            assert.throws(() => y.Session.fromJSON(it.text), (error) => error instanceof ERRORS[it.error] && error.rule === it.rule);
-        },
-        HashTree(_, it) {
-            const chunks = chunksOf(y, it.list);
-            if (it.result === "invalid") return assert.throws(() => y.HashTree.fromChunks(chunks), ERRORS[it.error]);
-            const tree = y.HashTree.fromChunks(chunks);
-            assert.deepEqual([tree.root.hex(), tree.fileHash().hex()], [it.root, it.fileHash]);
-            assert.deepEqual([tree.numChunks, tree.totalSize], [chunks.length, BigInt(it.totalSize)]);
-            for (const row of it.salted ?? []) assert.equal(tree.fileHash(unhex(row.saltBytes)).hex(), row.fileHash);
-            for (const row of it.chunksAt) assert.deepEqual(tree.chunksAt(BigInt(row.start), BigInt(row.stop)), row.chunks);
-            for (const row of it.bytesOf) assert.deepEqual(tree.bytesOf(row.first, row.end), row.bytes && row.bytes.map(BigInt));
-            for (const row of it.proofs) {
-                const proof = tree.proof(row.first, row.end);
-                checkProof(proof, row);
-                if (chunks.length < 100) assert.ok(y.RangeProof.fromChunks(chunks, row.first, row.end).equals(proof));
-                const ranges = [proof.open(tree.fileHash())];
-                // The default hash may be the root of one chunk, but opens nothing.
-                if (it.root === "0".repeat(64)) assert.throws(() => proof.openRoot(tree.root), errors.ProofMismatch);
-                else ranges.push(proof.openRoot(tree.root));
-                for (const range of ranges) {
-                    checkPlaces(range, row.places, it.totalSize);
-                    range.free();
-                }
-            }
-            tree.free();
-        },
-        ProofRefused(_, it) {
-            const chunks = y.Chunks.from(chunksOf(y, it.list));
-            assert.throws(() => y.RangeProof.fromChunks(chunks, it.first, it.end), ERRORS[it.error]);
-            // A tree is refused for its sizes alone, before it has any range.
-            const fits = [...chunks].reduce((sum, [, size]) => sum + size, 0n) < 2n ** 64n;
-            assert.throws(() => y.HashTree.fromChunks(chunks).proof(it.first, it.end), fits ? ERRORS[it.error] : errors.SizeOverflow);
-        },
-        OpenProof(_, it) {
-            const proof = y.RangeProof.fromJSON(it.text);
-            const open = () => (it.root ? proof.openRoot(y.Hash.fromHex(it.root)) : proof.open(y.Hash.fromHex(it.fileHash), unhex(it.saltBytes)));
-            if (it.result === "invalid") return assert.throws(open, ERRORS[it.error]);
-            const range = open();
-            checkPlaces(range, it.places, it.fileSize);
-            for (const row of it.checks) assert.equal(range.check(row.number, unhex(row.dataBytes)), row.place && BigInt(row.place));
-            for (const row of it.reads) {
-                assert.deepEqual(range.read(BigInt(row.start), BigInt(row.stop), unhex(row.dataBytes)), row.readBytes === null ? null : unhex(row.readBytes));
-            }
-        },
-        ProofJson(_, it) {
-            if (it.result === "valid") assert.equal(y.RangeProof.fromJSON(it.text).toJSON(), it.written ?? it.text);
-            else if (it.error === "NotJson") assert.throws(() => y.RangeProof.fromJSON(it.text), errors.InvalidText);
-            else assert.throws(() => y.RangeProof.fromJSON(it.text), breaks(it.rule));
-        },
-        FlatProof(_, it) {
-            const flat = { levels: it.levels.map((level) => level.map(BigInt)), nodes: chunksOf(y, { nodes: it.nodes }) };
-            // Counts past 2^64 - 1 can't be given.
-            if (flat.levels.flat().some((count) => count >= 2n ** 64n)) return assert.throws(() => y.RangeProof.fromFlat(flat), RangeError);
-            if (it.result === "invalid") return assert.throws(() => y.RangeProof.fromFlat(flat), breaks(it.rule));
-            const proof = y.RangeProof.fromFlat(flat);
-            assert.equal(proof.toJSON(), it.json);
-            assert.deepEqual([proof.toFlat().levels, plain(proof.toFlat().nodes)], [it.levels.map((level) => level.map(Number)), it.nodes]);
-            assert.ok(new y.RangeProof(proof.bytes).equals(proof));
-        },
-        Session(_, it) {
-            const session = new y.Session();
-            for (const call of it.calls) {
-                if (call.call === "runs") {
-                    const runs = session.runs();
-                    assert.equal(session.numRuns, call.runs.length);
-                    runs.forEach(([first, , range], k) => {
-                        assert.equal(first, BigInt(call.runs[k].first));
-                        checkSubtree(range, call.runs[k]);
-                    });
-                } else if (call.result === "invalid") {
-                    assert.throws(() => sessionCall(session, call), ERRORS[call.fault]);
-                } else {
-                    assert.equal(sessionCall(session, call), call[{ put: "newHashes", taken: "taken" }[call.call] ?? "hash"]);
-                }
-            }
-        },
-    };
+// ---- Calls: what each call of the library is here
+
+function compare(one, other) {
+    assert.equal(one.equals(other), one.compare(other) === 0);
+    return one.compare(other);
+}
+const linesOf = (nodes) => Array.from(nodes, ([hash, size]) => `${hash} : ${size}\n`).join("");
+const orNull = (pair) => (pair.every((it) => it === null) ? null : pair);
+const CALLS = {
+    data_hash: (data) => y.dataHash(data),
+    data_hashes: (data, offsets) => y.dataHashes(data, offsets),
+    internal_node_hash: (data) => y.internalNodeHash(data),
+    hmac: (hash, key) => hash.hmac(key),
+    random_from_seed: (seed) => y.Hash.randomFromSeed(seed),
+    hash_to_bytes: (hash) => hash.bytes,
+    hash_from_bytes: (bytes) => new y.Hash(bytes),
+    compare,
+    remainder: (hash, divisor) => hash.remainder(divisor),
+    hex: (hash) => hash.hex(),
+    from_hex: (text) => y.Hash.fromHex(text),
+    base64: (hash) => hash.base64(),
+    from_base64: (text) => y.Hash.fromBase64(text),
+    hasher_begin_data: () => new y.Hasher(),
+    hasher_begin_internal: () => y.Hasher.internalNode(),
+    hasher_begin_keyed: (key) => y.Hasher.keyed(key),
+    hasher_count: (hasher) => hasher.count,
+    hasher_update: (hasher, data) => void hasher.update(data),
+    hasher_finalize: (hasher) => hasher.digest(),
+    chunks: (chunks) => chunks,
+    xorb_hash: (chunks) => y.xorbHash(chunks),
+    file_hash: (chunks) => y.fileHash(chunks),
+    file_hash_with_salt: (chunks, salt) => y.fileHash(chunks, salt),
+    find_stable_start: (chunks) => y.findStableStart(chunks),
+    find_stable_end: (chunks) => y.findStableEnd(chunks),
+    subtree_from_chunks: (atStart, chunks, atEnd) => y.Subtree.fromChunks(atStart, chunks, atEnd),
+    subtree_clone: (subtree) => subtree.clone(),
+    subtree_equal: (one, other) => one.equals(other),
+    subtree_marks: (subtree) => [subtree.atStart, subtree.atEnd],
+    subtree_levels: (subtree) => subtree.levels,
+    subtree_num_levels: (subtree) => subtree.numLevels,
+    subtree_num_nodes: (subtree) => subtree.numNodes,
+    subtree_nodes: (subtree) => linesOf(subtree.nodes),
+    subtree_total_size: (subtree) => subtree.totalSize,
+    subtree_merge_into: (front, back) => void front.mergeInto(back),
+    subtree_merge_into_counted: (front, back) => front.mergeInto(back),
+    subtree_merge: (subtrees) => y.Subtree.merge(subtrees),
+    subtree_final_hash: (subtree) => subtree.finalHash(),
+    subtree_file_hash: (subtree, salt) => subtree.fileHash(salt),
+    subtree_to_json: (subtree) => subtree.toJSON(),
+    subtree_from_json: (text) => y.Subtree.fromJSON(text),
+    subtree_from_flat: (atStart, levels, nodes, atEnd) => y.Subtree.fromFlat({ atStart, levels, nodes, atEnd }),
+    session_new: () => new y.Session(),
+    session_new_without_hashes: () => new y.Session({ keepHashes: false }),
+    session_keeps_hashes: (session) => session.keepsHashes,
+    session_put: (session, first, chunks) => session.put(first, chunks),
+    session_taken: (session, position) => session.taken(position),
+    session_num_chunks: (session) => session.numChunks,
+    session_total_size: (session) => session.totalSize,
+    session_num_runs: (session) => session.numRuns,
+    session_run: (session, place) => (([first, , subtree]) => [first, subtree])(session.run(place)),
+    session_run_from: (session, position) => ((run) => run && [run.slice(0, 2), run[2]])(session.runFrom(position)),
+    session_gaps: (session, total) => session.gaps(total),
+    session_root: (session, total) => session.root(total),
+    session_finish: (session, total) => session.finish(total),
+    session_finish_with_salt: (session, total, salt) => session.finish(total, salt),
+    session_copy: (session) => session.clone(),
+    session_push_run: (session, first, end, subtree) => session.pushRun(first, end, subtree),
+    session_keep_hashes: (session, hashes) => session.keepHashes(hashes),
+    session_num_known_hashes: (session) => session.knownHashes().length,
+    session_known_hashes: (session) => session.knownHashes().map(String).sort(),
+    session_knows: (session, hash) => session.knows(hash),
+    session_knows_each: (session, hashes) => hashes.map((hash) => session.knows(hash)),
+    session_to_json: (session) => session.toJSON(),
+    session_from_json: (text) => y.Session.fromJSON(text),
+    hash_tree_from_chunks: (chunks) => y.HashTree.fromChunks(chunks),
+    hash_tree_root: (tree) => tree.root,
+    hash_tree_file_hash: (tree, salt) => tree.fileHash(salt),
+    hash_tree_num_chunks: (tree) => tree.numChunks,
+    hash_tree_total_size: (tree) => tree.totalSize,
+    hash_tree_chunks_at: (tree, from, to) => tree.chunksAt(from, to),
+    hash_tree_bytes_of: (tree, first, end) => tree.bytesOf(first, end),
+    hash_tree_proof: (tree, first, end) => tree.proof(first, end),
+    range_proof_from_chunks: (chunks, first, end) => y.RangeProof.fromChunks(chunks, first, end),
+    range_proof_levels: (proof) => proof.toFlat().levels,
+    range_proof_nodes: (proof) => linesOf(proof.toFlat().nodes),
+    range_proof_to_json: (proof) => proof.toJSON(),
+    range_proof_from_json: (text) => y.RangeProof.fromJSON(text),
+    range_proof_from_flat: (levels, nodes) => y.RangeProof.fromFlat({ levels, nodes }),
+    range_proof_open: (proof, fileHash, salt) => proof.open(fileHash, salt),
+    range_proof_open_root: (proof, root) => proof.openRoot(root),
+    opened_range_file_size: (range) => range.fileSize,
+    opened_range_num_chunks: (range) => range.numChunks,
+    opened_range_bytes_of: (range, chunk) => orNull([range.begins(chunk), range.ends(chunk)]),
+    // Where the first form returns null, the second one throws.
+    opened_range_check: (range, chunk, data) => range.check(chunk, data) ?? range.checkOrThrow(chunk, data),
+    opened_range_read: (range, from, to, data) => range.read(from, to, data) ?? range.readOrThrow(from, to, data),
+};
+/** Calls of the library that the package doesn't have. */
+const ABSENT = new Set(["session_next_gap"]);
+const ERRORS = {
+    ARGUMENTS: errors.InvalidArguments,
+    SIZES: errors.SizeOverflow,
+    TEXT: errors.InvalidText,
+    RULE: errors.InvalidJson,
+    PROOF_RULE: errors.InvalidProof,
+    MISMATCH: errors.ProofMismatch,
+    SESSION_OVERLAP: errors.SessionOverlap,
+    SESSION_POSITIONS: errors.SessionPositions,
+    SESSION_GAP: errors.SessionGap,
+};
+/** Where the package has another error than ERRORS says, or returns null. */
+const OTHERWISE = {
+    "subtree_from_flat RULE": errors.InvalidLists,
+    "session_put SIZES": errors.SessionSizes,
+    "find_stable_start ARGUMENTS": null,
+    "find_stable_end ARGUMENTS": null,
+    "subtree_final_hash ARGUMENTS": null,
+    "session_run_from ARGUMENTS": null,
+    "hash_tree_chunks_at ARGUMENTS": null,
+    "hash_tree_bytes_of ARGUMENTS": null,
+    "opened_range_bytes_of ARGUMENTS": null,
+};
+/** The calls that answer with doubles. All others answer with bigints. */
+const DOUBLES = new Set([
+    "compare",
+    "find_stable_start",
+    "find_stable_end",
+    "subtree_levels",
+    "subtree_num_levels",
+    "subtree_num_nodes",
+    "subtree_merge_into_counted",
+    "session_put",
+    "session_num_runs",
+    "session_num_known_hashes",
+    "hash_tree_num_chunks",
+    "hash_tree_chunks_at",
+    "range_proof_levels",
+    "opened_range_num_chunks",
+]);
+
+// ---- Values: what a script says, and how it would say what the package returns
+
+const unhex = (text) => Uint8Array.from(Buffer.from(text, "hex"));
+const dataOf = (told) => {
+    if (typeof told === "string") return unhex(told);
+    const [start, end] = told.message;
+    return Uint8Array.from({ length: end - start }, (_, k) => (start + k) % 251);
+};
+const partOf = ({ part: [start, end] = [], ...rule }) => chunksOf(y, rule).slice(start, end);
+const hashOf = (hex) => y.Hash.fromHex(hex);
+const KINDS = {
+    number: BigInt,
+    numbers: (it) => it.map(BigInt),
+    bool: (it) => it,
+    text: (it) => it,
+    hash: hashOf,
+    bytes: unhex,
+    data: dataOf,
+    chunks: partOf,
+    hashes: (it) => it.map(hashOf),
+    levels: (it) => it.map((level) => level.map(BigInt)),
+};
+
+/** The value of a kind that a script says, or an object by its name. */
+function valueOf(kind, it, objects) {
+    if (kind === "subtrees") return it.map((name) => objects[name]);
+    const isName = typeof it === "string" && it in objects && kind !== "text" && kind !== "data";
+    return isName ? objects[it] : KINDS[kind](it);
 }
 
-const checks = checksOver(await errors.load(BYTES));
-for (const file of FILES) {
-    test(`wasm32 meets each vector of ${file}.json`, () => {
-        const { testGroups, numberOfTests } = JSON.parse(readFileSync(new URL(`tests/vectors/${file}.json`, ROOT)));
-        let done = 0;
-        for (const group of testGroups) {
-            for (const it of group.tests) {
-                try {
-                    checks[group.type](group, it);
-                } catch (error) {
-                    throw new Error(`tcId ${it.tcId}: ${it.comment}`, { cause: error });
-                }
-                done++;
+/** A returned value as a script says it. */
+function said(it, call) {
+    if (typeof it === "number" || typeof it === "bigint") {
+        assert.equal(typeof it, DOUBLES.has(call) ? "number" : "bigint");
+        return it <= Number.MAX_SAFE_INTEGER ? Number(it) : `${it}`;
+    }
+    if (it instanceof Uint8Array) return Buffer.from(it).toString("hex");
+    if (it instanceof y.Hash) return it.hex();
+    return Array.isArray(it) ? it.map((each) => said(each, call)) : it;
+}
+
+/** All that the objects say of themselves. */
+function state(it) {
+    if (it instanceof y.HashTree) return it.root.hex();
+    if (it instanceof y.OpenedRange) return it.proof.toJSON();
+    return it instanceof y.Hasher ? it.hash.hex() : (it.toJSON?.() ?? null);
+}
+const states = (objects) => Object.values(objects).map(state);
+
+// ---- Steps
+
+/** The class of the error with which a call is refused, or null. That there is no such chunk is of its own class. */
+function errorOf(call, answer) {
+    if (call === "opened_range_check" && !("chunk" in answer)) return errors.InvalidArguments;
+    const key = `${call} ${answer.error}`;
+    return key in OTHERWISE ? OTHERWISE[key] : ERRORS[answer.error];
+}
+
+/** Checks that a call is refused with its error, and with what the script says of it. */
+function refused(call, answer, make) {
+    const wanted = errorOf(call, answer);
+    if (wanted === null) return assert.equal(make(), null);
+    assert.throws(make, (error) => {
+        assert.equal(error.constructor, wanted);
+        assert.equal(error.rule, answer.rule);
+        if ("position" in answer) assert.match(error.message, new RegExp(`positions? (from )?${answer.position} `));
+        if (call === "opened_range_check" && "chunk" in answer) assert.match(error.message, new RegExp(`chunk ${answer.chunk} `));
+        return true;
+    });
+}
+
+/** Makes a call, and compares its answer. A refused call may change nothing. */
+function runStep(kinds, objects, [call, given, answer = {}]) {
+    const values = kinds[call].map((kind, k) => valueOf(kind, given[k], objects));
+    if ("error" in answer) {
+        const before = states(objects);
+        refused(call, answer, () => CALLS[call](...values));
+        assert.deepEqual(states(objects), before);
+        return;
+    }
+    let found = CALLS[call](...values);
+    if ("as" in answer) objects[answer.as]?.free?.();
+    if ("as" in answer) [found, objects[answer.as]] = "is" in answer ? found : [undefined, found];
+    if ("hash" in answer) assert.equal(y.dataHash(Buffer.from(found)).hex(), answer.hash, found);
+    else assert.deepEqual(said(found, call), answer.is);
+}
+
+/** Runs the steps of a test, except calls that the package lacks, and calls on what these would have made. */
+function runTest(kinds, steps) {
+    const [objects, lacking] = [{}, new Set()];
+    for (const step of steps) {
+        if (ABSENT.has(step[0]) || step[1].some((it) => lacking.has(it))) lacking.add(step[2]?.as);
+        else runStep(kinds, objects, step);
+    }
+    for (const it of Object.values(objects)) it.free?.();
+}
+
+for (const name of NAMES) {
+    test(`wasm32 answers as the script ${name} says`, () => {
+        const lines = readFileSync(new URL(`tests/vectors/scripts/${name}.jsonl`, ROOT), "utf8").trimEnd().split("\n");
+        const [head, ...tests] = lines.map((line) => JSON.parse(line));
+        for (const it of tests) {
+            try {
+                runTest(head.calls, it.steps);
+            } catch (error) {
+                throw new Error(`${it.test}: ${error.message}`, { cause: error });
             }
         }
-        assert.equal(done, numberOfTests);
+        assert.equal(tests.length, head.numberOfTests);
     });
 }

@@ -8,8 +8,9 @@ import json
 import sys
 from typing import Callable, Iterable
 
-from . import hashes, json_texts, merges, range_proofs, roots, schemas, session_texts, sessions, subtrees, texts, upstream
+from . import hashes, json_texts, merges, range_proofs, roots, schemas, session_scripts, session_texts, sessions, subtrees, texts, upstream
 from .files import FOLDER, File, differences
+from .steps import script_of
 
 Maker = Callable[[], File]
 # What makes each file, the longest ones first. The answers of upstream.json aren't the model's: they are kept, and compared.
@@ -20,19 +21,25 @@ FILES: dict[str, Maker] = {
 BY_MODEL = {**FILES, "upstream": upstream.model_file}
 
 
-def made(maker: Maker) -> tuple[str, str]:
-    """The name and the text of a file of vectors."""
+def made(maker: Maker) -> dict[str, str]:
+    """The texts of a file of vectors and of its script, by path."""
     file = maker()
-    return f"{file.name}.json", file.text()
+    script = session_scripts.script() if file.name == "sessions" else script_of(file)
+    return {f"{file.name}.json": file.text(), script_path(file.name): script.text()}
+
+
+def script_path(name: str) -> str:
+    """Where the script of a subject stands."""
+    return f"scripts/{name}.jsonl"
 
 
 def all_texts(makers: dict[str, Maker], jobs: int) -> dict[str, str]:
-    """The texts of files of vectors and of their schemas, by path."""
-    found = {f"schemas/{name}_schema.json": schemas.text(name) for name in makers}
-    if jobs == 1:
-        return {**dict(map(made, makers.values())), **found}
+    """The texts of files of vectors, of their scripts and of their schemas, by path."""
+    found = {f"schemas/{name}_schema.json": schemas.text(name) for name in (*makers, "scripts")}
     with concurrent.futures.ProcessPoolExecutor(jobs) as pool:
-        return {**dict(pool.map(made, makers.values())), **found}
+        for texts_made in pool.map(made, makers.values()):
+            found.update(texts_made)
+    return found
 
 
 def faults_of(name: str) -> Iterable[str]:
@@ -47,6 +54,24 @@ def faults_of(name: str) -> Iterable[str]:
     tests = [test for group in value["testGroups"] for test in group["tests"]]
     if [test["tcId"] for test in tests] != list(range(1, value["numberOfTests"] + 1)):
         yield f"{name}.json: the numbers of the tests aren't 1 to numberOfTests"
+
+
+def faults_of_script(name: str) -> Iterable[str]:
+    """What a stored script has against the schema of its lines, and whether its head says how many tests there are."""
+    import jsonschema
+
+    schema = json.loads((FOLDER / "schemas/scripts_schema.json").read_text())
+    line_is_valid = jsonschema.Draft202012Validator(schema).is_valid
+    # Each step is compared with what the schema says of its call alone, because its other alternatives would take minutes.
+    of_call = {called: jsonschema.Draft202012Validator({**step, "$defs": schema["$defs"]}).is_valid
+               for step in schemas.steps_of(schema) for called in step["prefixItems"][0]["enum"]}
+    head, *tests = (json.loads(line) for line in (FOLDER / script_path(name)).read_text().splitlines())
+    for number, test in enumerate([head, *tests]):
+        steps = test.get("steps", [])
+        if not line_is_valid({**test, "steps": steps[:1]} if steps else test) or not all(of_call[step[0]](step) for step in steps):
+            yield f"{script_path(name)}: test {number} isn't as schemas/scripts_schema.json says"
+    if [test["test"].split()[0] for test in tests] != [f"{number}" for number in range(1, head["numberOfTests"] + 1)]:
+        yield f"{script_path(name)}: the numbers of the tests aren't 1 to numberOfTests"
 
 
 def jobs_of(description: str, arguments: list[str]) -> int:
@@ -70,10 +95,10 @@ def check(arguments: list[str]) -> int:
     """Checks that the stored files are those that are made, and keep their schemas."""
     jobs = jobs_of("Makes the test vectors again, compares them with the stored ones, and validates those.", arguments)
     try:
-        faults = [fault for name in FILES for fault in faults_of(name)]
+        faults = [fault for name in FILES for of in (faults_of, faults_of_script) for fault in of(name)]
     except ImportError:
         print("tests/vectors/check: install jsonschema (Debian: python3-jsonschema)", file=sys.stderr)
         return 1
     faults += differences(all_texts(BY_MODEL, jobs))
-    print("\n".join(faults) or f"{len(FILES)} files are what the model says, and keep their schemas")
+    print("\n".join(faults) or f"{len(FILES)} files and their scripts are what the model says, and keep their schemas")
     return 1 if faults else 0

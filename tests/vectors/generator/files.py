@@ -35,13 +35,14 @@ class Group:
 
 @dataclasses.dataclass
 class File:
-    """A file of vectors. `notes` says what each flag means."""
+    """A file of vectors. `notes` says what each flag means, and `means` what its script tests, in the words of `header`."""
 
     name: str
     algorithm: str
     header: list[str]
     notes: dict[str, str]
     groups: list[Group]
+    means: list[str] = dataclasses.field(default_factory=list)
 
     def text(self) -> str:
         """The file's text: a line for each test."""
@@ -89,5 +90,5 @@ def differences(texts: dict[str, str]) -> Iterable[str]:
             lines = itertools.zip_longest(path.read_text().split("\n"), text.split("\n"))
             first = next(number for number, (old, new) in enumerate(lines, 1) if old != new)
             yield f"{name}: DIFFERENT from line {first} on"
-    stored = {str(path.relative_to(FOLDER)) for path in FOLDER.rglob("*.json")}
+    stored = {str(path.relative_to(FOLDER)) for path in FOLDER.rglob("*.json*")}
     yield from (f"{name}: nothing makes it" for name in sorted(stored - set(texts)))

@@ -15,8 +15,9 @@ PIECES = ((2049,), (1, 2048), (1023, 1026), (1024, 1025), (1025, 1024), (0, 2049
           (64, 64, 64, 1857), (63, 1, 65, 1920), (500, 500, 500, 549), (1,) * 70 + (1979,), (3072, 1), (3073,),
           (4096, 1), (1, 4096), (5120, 2073, 1000), (8192, 1), (7, 8186))
 
+MEANS = ["Byte i of a message of some length is i mod 251."]
 HEADER = [
-    "Byte i of a message of some length is i mod 251.",
+    *MEANS,
     "`hash` is the hex text of a hash: its 32 bytes as four little-endian 64-bit words, each written with the high digit "
     "first. `digestBytes` and every other field whose name ends in Bytes is the hex text of the bytes in order.",
     "Whole numbers below 2^64 are decimal strings; lengths and counts are JSON numbers.",
@@ -94,4 +95,4 @@ def file() -> File:
     """hashes.json."""
     groups = [of_lengths("data", m.DATA_KEY, LENGTHS), of_lengths("internal", m.INTERNAL_KEY, (*SHORT, 792)),
               of_lengths("given", GIVEN_KEY, SHORT), in_pieces(), keys(), seeds(), hmacs()]
-    return File("hashes", "keyed BLAKE3 with the keys of Xet", HEADER, NOTES, groups)
+    return File("hashes", "keyed BLAKE3 with the keys of Xet", HEADER, NOTES, groups, MEANS)

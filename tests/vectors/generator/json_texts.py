@@ -27,18 +27,17 @@ RULES = {
     13: "without `at_end`, the right nodes of each level below the top have their first natural cut at index 2 to 6, and have "
         "no stable point among them, even with a natural cut put in front of them",
 }
-HEADER = [
+MEANS = [
     "The JSON object of a subtree has four members. `at_start` and `at_end` are the marks. `levels` has an array of two numbers "
     "for each level, from the chunks up: its left and its right nodes. `nodes` has the left nodes of all levels, lowest level "
     "first, then the right nodes of all levels, highest level first. Each is an object with `hash`, hex text, and `size`, a "
     "number.",
     "It is written compactly, with the members in this order: `at_end`, `at_start`, `levels`, `nodes`; in a node `hash`, "
     "`size`.",
-    "If the result is valid, `written` is the text of the subtree that was read, unless it is the given text. If the result is "
-    "invalid, `error` is NotJson for a text that isn't JSON, and otherwise InvalidJson; then `rule` is the lowest rule that the "
-    "value breaks.",
+    "A text that isn't JSON is refused with NotJson, and a value that breaks a rule with InvalidJson and the lowest rule that it breaks.",
     *(f"Rule {number}: {text}." for number, text in RULES.items()),
 ]
+HEADER = [*MEANS, "If the result is valid, `written` is the text of the subtree that was read, unless it is the given text."]
 NOTES = {
     "Canonical": "The subtree of a list.",
     "FromNoList": "A value that keeps all rules, but comes from no list. It is read, and no promise says what it means.",
@@ -225,4 +224,4 @@ def drawn() -> Group:
 
 def file() -> File:
     """subtree_json.json."""
-    return File("subtree_json", "JSON of subtrees", HEADER, NOTES, [good(), not_json(), broken(), drawn()])
+    return File("subtree_json", "JSON of subtrees", HEADER, NOTES, [good(), not_json(), broken(), drawn()], MEANS)

@@ -73,9 +73,13 @@ def _nodes_of(chunks: Sequence[bytes]) -> tuple[m.Node, ...]:
 
 
 def of_rule(said: dict[str, Any]) -> Told:
-    """The list that an object describes by its rule, `pattern` or `drawn`."""
+    """The list that an object describes by its rule, one of the first four."""
     if "pattern" in said:
         return pattern(said["pattern"])
+    if "seeds" in said:
+        return seeds([int(seed) for seed in said["seeds"]])
+    if "nodes" in said:
+        return given([(hash_of_text(node["hash"]), int(node["size"])) for node in said["nodes"]])
     return drawn(int(said["drawn"]["firstSeed"]), said["drawn"]["count"])
 
 
@@ -137,6 +141,14 @@ def hash_of(data: bytes) -> m.Hash:
     value = m.from_bytes(data)
     if value is None:
         raise ValueError(data)
+    return value
+
+
+def hash_of_text(text: str) -> m.Hash:
+    """The hash of a hex text."""
+    value = m.from_hex(text)
+    if value is None:
+        raise ValueError(text)
     return value
 
 

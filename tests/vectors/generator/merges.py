@@ -14,11 +14,13 @@ NUMBERED = "...|" * 7
 RUST_ANSWER = "9c365f154bf2d0fa6438d8ccb65ff15e917e819ff384eec0b17f59fc5c250280"
 Places = Union[int, Sequence["Places"]]
 
+PARENTS = ("how many parents a merge has to hash. With only the subtrees, that many are enough. An implementation that hashes more can still "
+           "give the right result.")
+MEANS = [f"subtree_merge_into_counted answers {PARENTS}"]
 HEADER = [
     "A list is cut at `cut`. The left range has the nodes before it and the mark atStart, and the right range has the others "
     "and atEnd. Neither has a mark at the cut. Merging their canonical subtrees gives that of the whole list.",
-    "`parents` is how many parents a merge has to hash. With only the subtrees, that many are enough. An implementation that "
-    "hashes more can still give the right result.",
+    f"`parents` is {PARENTS}",
     "`bracketing` says which ranges are merged first: a number is a range, and a list of two merges both. `parents` then has a "
     "number for each merge. An inner merge comes before the one that takes its result, and the left one of two comes first.",
     "`levels`, `size`, `finalHash` and `jsonHash` are as in subtrees.json.",
@@ -208,4 +210,4 @@ def other_bracketings() -> list[Group]:
 def file() -> File:
     """merges.json."""
     return File("merges", "merging of canonical subtrees of adjacent ranges", HEADER, NOTES,
-                [every_cut(), short(), longer(), refusals(), of_the_rust_crate(), *other_bracketings()])
+                [every_cut(), short(), longer(), refusals(), of_the_rust_crate(), *other_bracketings()], MEANS)

@@ -244,4 +244,4 @@ def file() -> File:
     """range_proofs.json."""
     groups = [examples(), refusals(), of_sizes(), every_range(), drawn(), long_lists(), *opened_proofs.groups(),
               *proof_texts.groups()]
-    return File("range_proofs", "proofs of parts of files", HEADER, NOTES, groups)
+    return File("range_proofs", "proofs of parts of files", HEADER, NOTES, groups, HEADER)

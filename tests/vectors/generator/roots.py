@@ -14,15 +14,15 @@ SALT = bytes(range(100, 132))
 GAPS = ((3, 4, 5, 6, 7, 3, 5, 7), (3, 7), (2, 3, 7, 8), (3, 4, 5, 6, 8, 9, 10, 19), (1, 2, 3, 4, 5, 6, 7, 9),
         (1, 1, 2, 1, 1, 4))
 
-HEADER = [
-    "A rule gives a list of chunks: the object `list` with one member. README.md has the rules in words.",
+MEANS = [
     "A group ends at the first natural cut (a hash whose last word is a multiple of 4) at its indices 2 to 8, or else after 9 "
     "nodes, or else at the end of the list. Its text has a line for each node: the hex text, a space, a colon, a space, the "
     "size in decimal, a newline. Its parent has the hash of the text under the internal key, and the sum of the sizes.",
     "The root of no nodes is the default hash. The root of one node is its own hash. The root of more nodes is the root of the "
     "parents of the groups. The file hash of no nodes is the default hash. Otherwise it is the keyed BLAKE3 hash of the root's "
-    "bytes under the salt. For `fileHash` the salt is 32 zero bytes.",
+    "bytes under the salt, which is 32 zero bytes where there is no other.",
 ]
+HEADER = ["A rule gives a list of chunks: the object `list` with one member. README.md has the rules in words.", *MEANS]
 NOTES = {
     "NoChunk": "There are no chunks: both hashes are the default hash, whatever the salt.",
     "OneChunk": "There is one chunk: its own hash is the root, and isn't hashed again.",
@@ -70,19 +70,12 @@ def references() -> Group:
     """The reference lists of the Rust crate."""
     tests = []
     for number, (text, xorb, _, salted) in enumerate(test_model.REFERENCE_ROWS):
-        salts = tuple(m.to_bytes(_hash(salt)) for salt, _ in salted)
+        salts = tuple(m.to_bytes(lists.hash_of_text(salt)) for salt, _ in salted)
         test = root_of(f"reference list {number}", lists.seeds([int(digit) for digit in text.split()]), salts)
         if test["root"] != xorb or [it["fileHash"] for it in test["salted"]] != [file for _, file in salted]:
             raise ValueError(f"reference list {number} has another hash")
         tests.append(test)
     return Group("Root", "lists from the tests of the Rust crate xet-core-structures", tests)
-
-
-def _hash(text: str) -> m.Hash:
-    value = m.from_hex(text)
-    if value is None:
-        raise ValueError(text)
-    return value
 
 
 def every_pattern() -> Group:
@@ -147,4 +140,4 @@ def steps() -> Group:
 def file() -> File:
     """roots.json."""
     groups = [references(), parents(), steps(), of_sizes(), every_pattern(), shaped(), long_lists()]
-    return File("roots", "roots and file hashes of lists of chunks", HEADER, NOTES, groups)
+    return File("roots", "roots and file hashes of lists of chunks", HEADER, NOTES, groups, MEANS)

@@ -5,6 +5,8 @@ from __future__ import annotations
 import json
 from typing import Any
 
+from .scripts import CALLS
+
 Schema = dict[str, Any]
 
 HASH: Schema = {"type": "string", "pattern": "^[0-9a-f]{64}$", "description": "the hex text of a hash"}
@@ -250,4 +252,53 @@ def _used(value: Any) -> set[str]:
 
 def text(name: str) -> str:
     """The text of the schema of a file."""
-    return json.dumps(schema(name), indent=1) + "\n"
+    return json.dumps(script_schema() if name == "scripts" else schema(name), indent=1) + "\n"
+
+
+# ---- Scripts
+
+NAME: Schema = {"type": "string", "pattern": "^[a-z]+[0-9]*$", "description": "the name of an object of the test"}
+SAID: Schema = {"oneOf": [{"type": "integer", "minimum": 0, "maximum": 2**53 - 1}, {"type": "string", "pattern": "^[1-9][0-9]{15,19}$"}],
+                "description": "a whole number below 2^64, which is a text if it is 2^53 or more"}
+PART = array(COUNT, minItems=2, maxItems=2)
+KINDS: dict[str, Schema] = {
+    "object": NAME, "number": SAID, "bool": TRUTH, "text": TEXT, "hash": HASH, "bytes": KEY, "hashes": array(ref("hash")), "numbers": array(SAID),
+    "data": {"oneOf": [HEX, record({"message": PART})]},
+    "chunks": {"oneOf": [NAME, *({**rule, "properties": {**rule["properties"], "part": PART}} for rule in FILE["oneOf"])]},
+    "levels": array(array(SAID, minItems=2, maxItems=2)), "subtrees": array(NAME)}
+ANSWER: Schema = {"oneOf": [
+    record({}, {"as": NAME, "is": {}}), record({"hash": ref("hash")}),
+    record({"error": one_of("ARGUMENTS", "SIZES", "TEXT", "RULE", "PROOF_RULE", "MISMATCH", "SESSION_OVERLAP", "SESSION_POSITIONS",
+                            "SESSION_GAP")},
+           {"rule": COUNT, "position": SAID, "chunk": {"anyOf": [COUNT, {"type": "null"}]}, "place": {"anyOf": [SAID, {"type": "null"}]}})]}
+
+
+def kind(name: str) -> Schema:
+    """An argument of a kind. Those that aren't named above are objects."""
+    return {"$ref": f"#/$defs/kinds/{name if name in KINDS else 'object'}"}
+
+
+def step_of(kinds: str) -> Schema:
+    """A step whose call takes arguments of these kinds."""
+    names = [name for name, taken in CALLS.items() if taken == kinds]
+    given = list(map(kind, kinds.split()))
+    arguments: Schema = {"type": "array", "minItems": len(given), "maxItems": len(given), **({"prefixItems": given} if given else {})}
+    return {"type": "array", "minItems": 2, "maxItems": 3, "prefixItems": [one_of(*names), arguments, ref("answer")]}
+
+
+def script_schema() -> Schema:
+    """The schema of each line of a script."""
+    head = record({"script": TEXT, "version": {"type": "string", "pattern": "^[0-9]+[.][0-9]+[.][0-9]+$"}, "numberOfTests": COUNT,
+                   "header": array(TEXT), "notes": {"type": "object", "additionalProperties": TEXT},
+                   "calls": {"type": "object", "additionalProperties": array(TEXT)}})
+    steps = array({"anyOf": [step_of(kinds) for kinds in dict.fromkeys(CALLS.values())]}, minItems=1)
+    one_test = record({"test": TEXT, "steps": steps}, {"flags": array(TEXT, minItems=1), "words": array(TEXT), "rustFinalHash": HASH,
+                                                       "groups": array(array(COUNT))})
+    return {"$schema": "https://json-schema.org/draft/2020-12/schema", "title": "a line of a script", "oneOf": [head, one_test],
+            "$defs": {"hash": HASH, "number": NUMBER, "bytes": HEX, "answer": ANSWER, "kinds": KINDS}}
+
+
+def steps_of(schema_of_lines: Schema) -> list[Schema]:
+    """What the schema of the lines of scripts says of steps, one by one."""
+    test_line = schema_of_lines["oneOf"][1]
+    return list(test_line["properties"]["steps"]["items"]["anyOf"])

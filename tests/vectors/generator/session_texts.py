@@ -10,20 +10,20 @@ from .files import File, Group, Test, invalid, valid
 from .model import m
 
 MAX = m.MAX_U64
-HEADER = [
+MEANS = [
     "The JSON object of a session has two members. `runs` has an object for each run of adjacent taken positions, by rising "
     "position: `first` and `end`, its first position and the one after its last, and `chunks`, the subtree of its chunks, which is "
-    "open at both ends (subtree_json.json). `known_hashes` has the hashes that the session knows, each an array of its four words.",
+    "open at both ends (subtree_json). `known_hashes` has the hashes that the session knows, each an array of its four words.",
     "It is written compactly, with the members in this order, and known hashes by rising order, each once. The members of a subtree "
-    "have the order of subtree_json.json, or that of the fields of xet-core's struct: `nodes`, `levels`, `at_start`, `at_end`.",
-    "If the result is valid, `written` is the text of the session that was read, unless it is the given text. If the result is "
-    "invalid, `error` is NotJson for a text that isn't JSON; NoSession for a value of another form; InvalidJson for a subtree that "
-    "breaks the `rule` of subtree_json.json; InvalidArguments for a run without a position, marked at an end, or without a gap after "
-    "the runs before it; SizeOverflow if the sizes of all chunks add up to more than 2^64 - 1.",
+    "have the order of subtree_json, or that of the fields of xet-core's struct: `nodes`, `levels`, `at_start`, `at_end`.",
+    "A text is refused with NotJson if it isn't JSON; NoSession if the value has another form; InvalidJson for a subtree that breaks a "
+    "rule of subtree_json; InvalidArguments for a run without a position, marked at an end, or without a gap after the runs before it; "
+    "SizeOverflow if the sizes of all chunks add up to more than 2^64 - 1.",
     "A number is a whole one from 0 to 2^64 - 1, without a sign, a fraction or an exponent. Objects may have other members. None of "
-    "the members that are named here and in subtree_json.json may occur twice in one object. That a run has as many chunks as "
+    "the members that are named here and in subtree_json may occur twice in one object. That a run has as many chunks as "
     "positions can't be seen, and isn't asked.",
 ]
+HEADER = [*MEANS, "If the result is valid, `written` is the text of the session that was read, unless it is the given text."]
 NOTES = {
     "Above53Bits": "A number that a double can't have. It must not be rounded.",
     "OtherSpelling": "White space, another order of members, other members, escapes, or digits of the other case.",
@@ -259,4 +259,4 @@ def broken() -> Group:
 
 def file() -> File:
     """session_json.json."""
-    return File("session_json", "JSON of sessions", HEADER, NOTES, [good(), spellings(), not_json(), of_another_form(), broken()])
+    return File("session_json", "JSON of sessions", HEADER, NOTES, [good(), spellings(), not_json(), of_another_form(), broken()], MEANS)

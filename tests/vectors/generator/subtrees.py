@@ -13,16 +13,19 @@ NUMBERED = "...|" * 7
 CHOSEN = [NUMBERED[:20], NUMBERED[:24], NUMBERED, NUMBERED[:16], "|..|..|", "|......|......|", "|.......|.......|", "|.|.|",
           "|.|..|..|.|", "||...|...|...||", "." * 30, "|" * 30]
 
-HEADER = [
+MEANS = [
     "Take three natural cuts at a < b < c with no natural cut between them, and with b - a and c - b from 3 to 7. The place "
-    "b + 1 is a stable point. `first` and `last` are the first and the last stable point of a list, as the number of nodes "
-    "before it, or null.",
+    "b + 1 is a stable point. It is told as the number of nodes before it.",
     "The canonical subtree of a list under the marks atStart and atEnd: a list of at most one node is one level, with its "
     "nodes on the left. Otherwise lo is 0 with atStart, and else the first stable point. hi is the number of nodes with atEnd, "
     "and else the greatest stable point of a triple with a at or after lo. If one of them is missing, the list is one level, "
     "with all nodes on the left. Otherwise level 0 has the nodes before lo on the left and those from hi on the right, and the "
     "levels above are the canonical subtree of the parents of the groups from lo to hi.",
-    "`levels` has the numbers of left and right nodes of each level, from the chunks up. `jsonHash` is the data hash of the "
+    "The levels of a subtree are the numbers of left and right nodes of each level, from the chunks up.",
+]
+HEADER = [
+    *MEANS,
+    "`first` and `last` are the first and the last stable point of a list, or null. `levels` has the subtree's levels. `jsonHash` is the data hash of the "
     "compact JSON text in the form of subtree_json.json.",
 ]
 NOTES = {
@@ -102,4 +105,4 @@ def of_sizes() -> Group:
 def file() -> File:
     """subtrees.json."""
     return File("subtrees", "canonical subtrees", HEADER, NOTES,
-                [points(), whole_texts(), of_sizes(), every_pattern(), longer()])
+                [points(), whole_texts(), of_sizes(), every_pattern(), longer()], MEANS)

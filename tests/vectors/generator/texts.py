@@ -15,12 +15,15 @@ HASHES = [m.DEFAULT_HASH, MARKER, EXAMPLE, COUNTING, (1, 0, 0, 0), (0, 1, 0, 0),
           *map(m.random_from_seed, range(1, 8))]
 DIVISORS = (1, 2, 3, 4, 1000, 2**63, m.MAX_U64)
 
-HEADER = [
+MEANS = [
     "A hash has four words. Its 32 bytes are the words in order, each little-endian. Its hex text is the words in order, "
     "each as 16 lower-case digits with the high digit first. Its base64 text is that of the 32 bytes in the URL-safe "
     "alphabet of RFC 4648, section 5, without padding.",
-    "A text is any Unicode text. A reader gets its UTF-8 bytes. If the result is valid, `hash` is the hex text of what was "
-    "read.",
+    "A text is any Unicode text. A reader gets its UTF-8 bytes.",
+]
+HEADER = [
+    *MEANS,
+    "If the result is valid, `hash` is the hex text of what was read.",
     "Words, divisors and remainders are decimal strings.",
 ]
 NOTES = {
@@ -124,4 +127,4 @@ def order() -> Group:
 
 def file() -> File:
     """texts.json."""
-    return File("texts", "forms of a hash", HEADER, NOTES, [forms(), hex_texts(), base64_texts(), order()])
+    return File("texts", "forms of a hash", HEADER, NOTES, [forms(), hex_texts(), base64_texts(), order()], MEANS)

@@ -43,7 +43,7 @@ def file_with(answered: Callable[[str, Test], Test]) -> File:
               for group in stored]
     used = {flag for group in groups for test in group.tests for flag in test["flags"]}
     notes = {flag: note for flag, note in NOTES.items() if flag in used}
-    return File("upstream", "roots and canonical subtrees, by xet-core-structures 1.5.2", HEADER, notes, groups)
+    return File("upstream", "roots and canonical subtrees, by xet-core-structures 1.5.2", HEADER, notes, groups, HEADER[:1])
 
 
 def kept_file() -> File:
